@@ -1,0 +1,35 @@
+-- When an item is well formed. Statements that it does not need are not judged.
+use Rattle.std.specs.Prelude.{◌≡◌, ℕ, ◌<◌, Bool, true, ◌||◌, ◌==◌, List, [], ◌∷◌, length, Option, Some, None, slice_get}
+use Rattle.std.specs.List.{AllByRecursion}
+use Rattle.std.specs.Char.{is_ascii_alphanumeric}
+use Rattle.souper_graph.specs.Values.{PlainAssignment, PlainStatement, assigned, Ending, inferred, Item}
+use Rattle.souper_graph.specs.Uses.{Has, uses_of, walks_of, first_roots, NeededIn}
+
+-- a name character: a digit, a letter, `_` (95) or `.` (46)
+abbrev pub is_name_char : ℕ → Bool
+is_name_char c = (is_ascii_alphanumeric c || c == 95) || c == 46
+
+-- `%` (37) and one or more name characters
+abbrev pub IsName : List ℕ → Type 0
+IsName [] = ⊥
+IsName (c ∷ s) = (c ≡ 37) × (0 < length s) × AllByRecursion (λ d. is_name_char d ≡ true) s
+
+-- an assignment stands there
+abbrev pub IsAssigned : Option PlainStatement → Type 0
+IsAssigned None = ⊥
+IsAssigned (Some (assigned a)) = Unit {0}
+
+-- what the statement itself must be
+abbrev pub FitsStatement : PlainStatement → Type 0
+FitsStatement (assigned a) = IsName a.name
+
+-- the statement s may stand at position p: each use is an assignment that stands below it
+pub record Closed (ss : List PlainStatement) (p : ℕ) (s : PlainStatement) : Type 0 where
+  pub fits : FitsStatement s
+  pub below : (u : ℕ) → Has (uses_of s) u → u < p
+  pub assigned_uses : (u : ℕ) → Has (uses_of s) u → IsAssigned (slice_get ss u)
+
+pub record WellFormed (a : Item) : Type 0 where
+  pub roots : (i : ℕ) → Has (first_roots a.ending) i → IsAssigned (slice_get a.statements i)
+  pub closed : (p : ℕ) (s : PlainStatement) → NeededIn a p → slice_get a.statements p ≡ Some s → Closed a.statements p s
+  pub distinct : (p q : ℕ) (v w : PlainAssignment) → NeededIn a p → NeededIn a q → slice_get a.statements p ≡ Some (assigned v) → slice_get a.statements q ≡ Some (assigned w) → v.name ≡ w.name → p ≡ q

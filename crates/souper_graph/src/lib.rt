@@ -1,0 +1,5 @@
+//! Souper IR as values: the nodes of the syntax tree, and their text.
+#![tactic(auto)]
+
+pub mod ast;
+pub mod stringify;
