@@ -1,5 +1,6 @@
 pub mod Lending
 pub mod Values
+pub mod Names
 pub mod View
 pub mod Uses
 pub mod Order

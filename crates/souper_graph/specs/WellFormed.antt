@@ -1,18 +1,8 @@
 -- When an item is well formed. Statements that it does not need are not judged.
-use Rattle.std.specs.Prelude.{◌≡◌, ℕ, ◌<◌, Bool, true, ◌||◌, ◌==◌, List, [], ◌∷◌, length, Option, Some, None, slice_get}
-use Rattle.std.specs.List.{AllByRecursion}
-use Rattle.std.specs.Char.{is_ascii_alphanumeric}
+use Rattle.std.specs.Prelude.{◌≡◌, ℕ, ◌<◌, List, Option, Some, None, slice_get}
 use Rattle.souper_graph.specs.Values.{PlainAssignment, PlainStatement, assigned, Ending, inferred, Item}
+use Rattle.souper_graph.specs.Names.{IsName}
 use Rattle.souper_graph.specs.Uses.{Has, uses_of, walks_of, first_roots, NeededIn}
-
--- a name character: a digit, a letter, `_` (95) or `.` (46)
-abbrev pub is_name_char : ℕ → Bool
-is_name_char c = (is_ascii_alphanumeric c || c == 95) || c == 46
-
--- `%` (37) and one or more name characters
-abbrev pub IsName : List ℕ → Type 0
-IsName [] = ⊥
-IsName (c ∷ s) = (c ≡ 37) × (0 < length s) × AllByRecursion (λ d. is_name_char d ≡ true) s
 
 -- an assignment stands there
 abbrev pub IsAssigned : Option PlainStatement → Type 0

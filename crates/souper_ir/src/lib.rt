@@ -1,13 +1,8 @@
-// A library with one function.
+//! Souper IR: its syntax tree, its parser and its canonical text.
 #![tactic(auto)]
 
-ghost use Rattle.std.specs.Prelude.{◌≡◌};
-ghost use Rattle.souper_ir.specs.Echo.{echo_of};
+pub use souper_graph::ast;
+pub use souper_graph::stringify;
 
-// The `ensures` clause is the contract: what `echo` returns is `echo_of` of its argument, a definition
-// in `specs/Echo.antt`, which a caller's clause can cite too.
-pub fn echo(x: usize) -> usize
-    ensures { result ≡ echo_of x }
-{
-    x
-}
+pub mod laws;
+mod lexer;

@@ -1,0 +1,73 @@
+-- Which tokens spell a value, from the finished value. Tokens stand here without their offsets.
+use Rattle.std.specs.Prelude.{◌≡◌, ℕ, suc, List, [], ◌∷◌, ◌++◌, map, Option, Some, None, codes, bytes_eq, if◌then◌else◌}
+use Rattle.souper_graph.specs.Values.{PlainRhs, var, PlainAssignment, PlainStatement, assigned, PlainInfer, Ending, inferred, Item}
+use Rattle.souper_ir.specs.Tokens.{Lexeme, ident, val_name, equals, IsTextOf}
+
+-- tokens without their offsets
+abbrev pub kinds : List (ℕ × Lexeme) → List Lexeme
+kinds ts = map (λ t. t.1) ts
+
+-- the statements before a node, whose names it may use
+abbrev pub Scope : Type 0
+Scope = List PlainStatement
+
+-- the position of the assignment of a name, where the first statement stands at k
+abbrev pub position_from : ℕ → Scope → List ℕ → Option ℕ
+position_from k [] n = None
+position_from k (assigned a ∷ ss) n = if bytes_eq a.name n then Some k else position_from (suc k) ss n
+
+abbrev pub position_of : Scope → List ℕ → Option ℕ
+position_of s n = position_from 0 s n
+
+-- ---- nodes
+
+abbrev pub rhs_spells : Scope → PlainRhs → List Lexeme → Type 0
+rhs_spells s var ts = ts ≡ ident (codes "var") ∷ []
+
+-- its own name is not in the scope
+abbrev pub assignment_spells : Scope → PlainAssignment → List Lexeme → Type 0
+assignment_spells s a ts = (rhs : List Lexeme) × (ts ≡ val_name a.name ∷ equals ∷ rhs) × rhs_spells s a.value rhs × (position_of s a.name ≡ None)
+
+abbrev pub statement_spells : Scope → PlainStatement → List Lexeme → Type 0
+statement_spells s (assigned a) ts = assignment_spells s a ts
+
+abbrev pub infer_spells : Scope → PlainInfer → List Lexeme → Type 0
+infer_spells s i ts = (n : List ℕ) × (ts ≡ ident (codes "infer") ∷ val_name n ∷ []) × (position_of s n ≡ Some i.value)
+
+-- ---- items
+
+-- statements one after the other, each in the scope of those before it
+abbrev pub Statements : Scope → List PlainStatement → List Lexeme → Type 0
+Statements s [] ts = ts ≡ []
+Statements s (v ∷ vs) ts = (front : List Lexeme) × (back : List Lexeme) × (ts ≡ front ++ back) × statement_spells s v front × Statements (s ++ v ∷ []) vs back
+
+-- the types of items
+pub data ItemType : Type 0 where
+  left_hand_side : ItemType
+
+-- what stands in an item of the type behind its statements
+abbrev pub ending_spells : ItemType → Scope → Ending → List Lexeme → Type 0
+ending_spells left_hand_side s (inferred i) ts = infer_spells s i ts
+
+-- the item has the statements of the scope, and the tokens are its further statements and its ending
+abbrev pub item_spells_after : ItemType → Scope → Item → List Lexeme → Type 0
+item_spells_after k s a ts =
+    (new : List PlainStatement) × (front : List Lexeme) × (back : List Lexeme)
+    × (a.statements ≡ s ++ new) × (ts ≡ front ++ back) × Statements s new front × ending_spells k a.statements a.ending back
+
+-- an item is spelled where no name is taken
+abbrev pub item_spells : ItemType → Item → List Lexeme → Type 0
+item_spells k a ts = item_spells_after k [] a ts
+
+-- items of one type, one after the other
+abbrev pub list_spells : ItemType → List Item → List Lexeme → Type 0
+list_spells k [] ts = ts ≡ []
+list_spells k (a ∷ rest) ts = (front : List Lexeme) × (back : List Lexeme) × (ts ≡ front ++ back) × item_spells k a front × list_spells k rest back
+
+-- the text spells the items
+abbrev pub TextSpells : ItemType → List ℕ → List Item → Type 0
+TextSpells k bs items = (ts : List (ℕ × Lexeme)) × IsTextOf bs ts × list_spells k items (kinds ts)
+
+-- the text spells no list of items of the type
+abbrev pub SpellsNone : ItemType → List ℕ → Type 0
+SpellsNone k bs = (items : List Item) → TextSpells k bs items → ⊥

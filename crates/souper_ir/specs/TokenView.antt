@@ -1,0 +1,40 @@
+-- What contracts see of the code's tokens.
+use Rattle.std.specs.Prelude.{◌≡◌, ℕ, ◌<◌, Bool, true, false, List, [], ◌∷◌, Option, Some, None, Result, Ok, Err}
+use Rattle.std.specs.Char.{is_ascii_digit}
+use denote.Ref.{Bor}
+use Rattle.souper_ir.specs.declared.lexer.Token.{Token}
+use Rattle.souper_ir.specs.declared.lexer.Token.TheVariants.{Ident, ValName, KnownBits, Int, Comma, Colon, Eq, OpenParen, CloseParen, OpenBracket}
+use Rattle.souper_ir.specs.declared.lexer.Class.{Class}
+use Rattle.souper_ir.specs.declared.lexer.Class.TheVariants as classes
+use Rattle.souper_ir.specs.declared.lexer.Fault.{Fault}
+use Rattle.souper_ir.specs.Tokens.{Lexeme, ident, val_name, known_bits, int, comma, colon, equals, open_paren, close_paren, open_bracket, is_name, is_bit}
+use Rattle.souper_ir.specs.TokenReading.{Front, faulty, found, Lexed}
+
+-- the token by its content
+abbrev pub lexeme_of : Token → Lexeme
+lexeme_of (Ident s) = ident s.now
+lexeme_of (ValName s) = val_name s.now
+lexeme_of (KnownBits s) = known_bits s.now
+lexeme_of (Int s) = int s.now
+lexeme_of Comma = comma
+lexeme_of Colon = colon
+lexeme_of Eq = equals
+lexeme_of OpenParen = open_paren
+lexeme_of CloseParen = close_paren
+lexeme_of OpenBracket = open_bracket
+
+abbrev pub is_in : Class → ℕ → Bool
+is_in classes.Name c = is_name c
+is_in classes.Digit c = is_ascii_digit c
+is_in classes.Bit c = is_bit c
+
+-- the function returned what the text begins with
+abbrev pub Reads : Result (Token × Bor (List ℕ)) Fault → Front → Type 0
+Reads (Ok x) front = front ≡ found (lexeme_of x.0) x.1.now
+Reads (Err f) front = front ≡ faulty
+
+-- what a call of `next_token` on old gives: its first token, or that there is none, or that a fault stands there
+abbrev pub Yields : Lexed → Result (Option (ℕ × Token)) Fault → Lexed → Type 0
+Yields old (Ok (Some x)) new = (old.tokens ≡ (x.0, lexeme_of x.1) ∷ new.tokens) × (old.fault ≡ new.fault) × (old.len ≡ new.len) × (x.0 < old.len)
+Yields old (Ok None) new = (old.tokens ≡ []) × (old.fault ≡ false) × (new ≡ old)
+Yields old (Err f) new = (old.tokens ≡ []) × (old.fault ≡ true) × (new ≡ old)

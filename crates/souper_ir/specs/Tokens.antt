@@ -1,0 +1,153 @@
+-- Tokens by their contents, gaps, and the texts that a list of tokens has. All texts are lists of bytes.
+use Rattle.std.specs.Prelude.{◌≡◌, ◌≢◌, ℕ, ◌+◌, ◌<◌, Bool, true, false, ◌||◌, ◌==◌, List, [], ◌∷◌, ◌++◌, length, flat_map, codes, ◌↔◌, Contains}
+use Rattle.souper_graph.specs.Names.{is_name_char}
+use Rattle.std.specs.List.{AllByRecursion}
+use Rattle.std.specs.Char.{encode_utf8, is_whitespace, is_ascii_digit, is_ascii_alphabetic}
+
+-- a token by its content
+pub data Lexeme : Type 0 where
+  ident : List ℕ → Lexeme
+  val_name : List ℕ → Lexeme
+  known_bits : List ℕ → Lexeme
+  int : List ℕ → Lexeme
+  comma : Lexeme
+  colon : Lexeme
+  equals : Lexeme
+  open_paren : Lexeme
+  close_paren : Lexeme
+  open_bracket : Lexeme
+
+-- a name character
+abbrev pub is_name : ℕ → Bool
+is_name c = is_name_char c
+
+-- the white space characters: tab to carriage return, the blank, and 18 more
+abbrev pub white_space : List ℕ
+white_space =
+    0x09 ∷ 0x0a ∷ 0x0b ∷ 0x0c ∷ 0x0d ∷ 0x20 ∷ 0x85 ∷ 0xa0 ∷ 0x1680
+    ∷ 0x2000 ∷ 0x2001 ∷ 0x2002 ∷ 0x2003 ∷ 0x2004 ∷ 0x2005 ∷ 0x2006 ∷ 0x2007 ∷ 0x2008 ∷ 0x2009 ∷ 0x200a
+    ∷ 0x2028 ∷ 0x2029 ∷ 0x202f ∷ 0x205f ∷ 0x3000 ∷ []
+
+-- std's test of white space passes exactly these
+abbrev pub IsWhiteSpaceListed : Type 0
+IsWhiteSpaceListed = (c : ℕ) → (is_whitespace c ≡ true) ↔ Contains white_space c
+
+-- `0`, `1` or `x`
+abbrev pub is_bit : ℕ → Bool
+is_bit c = (c == 48 || c == 49) || c == 120
+
+-- a digit or `-`
+abbrev pub begins_int : ℕ → Bool
+begins_int c = is_ascii_digit c || c == 45
+
+-- the word that begins a `KnownBits`, and no `Ident`
+abbrev pub known_bits_word : List ℕ
+known_bits_word = codes "knownBits"
+
+-- how a token is written: 61 is `=`
+abbrev pub spelling : Lexeme → List ℕ
+spelling (ident s) = s
+spelling (val_name s) = s
+spelling (known_bits s) = known_bits_word ++ 61 ∷ s
+spelling (int s) = s
+spelling comma = 44 ∷ []
+spelling colon = 58 ∷ []
+spelling equals = 61 ∷ []
+spelling open_paren = 40 ∷ []
+spelling close_paren = 41 ∷ []
+spelling open_bracket = 91 ∷ []
+
+-- each of the bytes passes
+abbrev pub AllAre : (ℕ → Bool) → List ℕ → Type 0
+AllAre p s = AllByRecursion (λ c. p c ≡ true) s
+
+-- what a token of each kind may contain: 37 is `%`
+abbrev pub IsLexeme : Lexeme → Type 0
+IsLexeme (ident []) = ⊥
+IsLexeme (ident (c ∷ s)) = (is_ascii_alphabetic c ≡ true) × AllAre is_name s × (c ∷ s ≢ known_bits_word)
+IsLexeme (val_name []) = ⊥
+IsLexeme (val_name (c ∷ s)) = (c ≡ 37) × (0 < length s) × AllAre is_name s
+IsLexeme (known_bits s) = (0 < length s) × AllAre is_bit s
+IsLexeme (int []) = ⊥
+IsLexeme (int (c ∷ s)) = (begins_int c ≡ true) × AllAre is_ascii_digit s
+IsLexeme comma = Unit {0}
+IsLexeme colon = Unit {0}
+IsLexeme equals = Unit {0}
+IsLexeme open_paren = Unit {0}
+IsLexeme close_paren = Unit {0}
+IsLexeme open_bracket = Unit {0}
+
+-- the character c, right behind the token, would be part of it
+abbrev pub continues : Lexeme → ℕ → Bool
+continues (ident s) c = is_name c
+continues (val_name s) c = is_name c
+continues (known_bits s) c = is_bit c
+continues (int s) c = is_ascii_digit c
+continues comma c = false
+continues colon c = false
+continues equals c = false
+continues open_paren c = false
+continues close_paren c = false
+continues open_bracket c = false
+
+-- rest is empty, or its first byte fails
+abbrev pub Stops : (ℕ → Bool) → List ℕ → Type 0
+Stops p [] = Unit {0}
+Stops p (c ∷ rest) = p c ≡ false
+
+-- A gap consists of white space characters and of comments, each with the newline behind it: 59 is `;`, 10 the newline.
+pub data Piece : Type 0 where
+  space : ℕ → Piece
+  comment : List ℕ → Piece
+
+abbrev pub piece_text : Piece → List ℕ
+piece_text (space c) = encode_utf8 c
+piece_text (comment s) = 59 ∷ (s ++ 10 ∷ [])
+
+-- no newline in it
+abbrev pub IsOneLine : List ℕ → Type 0
+IsOneLine s = AllByRecursion (λ c. (c == 10) ≡ false) s
+
+abbrev pub IsPiece : Piece → Type 0
+IsPiece (space c) = is_whitespace c ≡ true
+IsPiece (comment s) = IsOneLine s
+
+abbrev pub IsGap : List ℕ → Type 0
+IsGap bs = (ps : List Piece) × AllByRecursion IsPiece ps × (bs ≡ flat_map piece_text ps)
+
+-- nothing, or a comment that the text ends in
+abbrev pub IsLastComment : List ℕ → Type 0
+IsLastComment [] = Unit {0}
+IsLastComment (c ∷ s) = (c ≡ 59) × IsOneLine s
+
+-- a gap up to the end of the text
+abbrev pub IsLastGap : List ℕ → Type 0
+IsLastGap bs = (gap : List ℕ) × (last : List ℕ) × IsGap gap × IsLastComment last × (bs ≡ gap ++ last)
+
+-- bs is a gap, the token t, which is over there, and rest
+pub record Stands (gap : List ℕ) (t : Lexeme) (rest : List ℕ) (bs : List ℕ) : Type 0 where
+  pub is_gap : IsGap gap
+  pub is_token : IsLexeme t
+  pub is_over : Stops (continues t) rest
+  pub text : bs ≡ gap ++ (spelling t ++ rest)
+
+-- bs, which begins at offset n of a text, is these tokens at their offsets, each after a gap, and then rest
+abbrev pub Begins : ℕ → List ℕ → List (ℕ × Lexeme) → List ℕ → Type 0
+Begins n bs [] rest = bs ≡ rest
+Begins n bs (t ∷ ts) rest = (gap : List ℕ) × (after : List ℕ) × Stands gap t.1 after bs × (t.0 ≡ n + length gap) × Begins (t.0 + length (spelling t.1)) after ts rest
+
+-- the text is these tokens, and a gap up to its end
+abbrev pub IsTextOf : List ℕ → List (ℕ × Lexeme) → Type 0
+IsTextOf bs ts = (rest : List ℕ) × Begins 0 bs ts rest × IsLastGap rest
+
+-- The tokens of any text: a front of it is they, each list that a front of it is begins them, and a fault follows where what is left is no gap.
+pub record AreTokensOf (bs : List ℕ) (ts : List (ℕ × Lexeme)) (fault : Bool) : Type 0 where
+  pub rest : List ℕ
+  pub front : Begins 0 bs ts rest
+  pub longest : (us : List (ℕ × Lexeme)) (other : List ℕ) → Begins 0 bs us other → (more : List (ℕ × Lexeme)) × (us ++ more ≡ ts)
+  pub ended : fault ≡ false → IsLastGap rest
+  pub faulty : fault ≡ true → IsLastGap rest → ⊥
+
+-- a text is of one list of tokens at most
+abbrev pub OneReading : Type 0
+OneReading = (bs : List ℕ) (ts us : List (ℕ × Lexeme)) → IsTextOf bs ts → IsTextOf bs us → ts ≡ us
