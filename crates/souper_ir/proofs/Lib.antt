@@ -7,3 +7,5 @@ pub mod TokenSound
 pub mod TokenLaws
 pub mod Literal
 pub mod WhiteSpace
+pub mod Options
+pub mod Lists

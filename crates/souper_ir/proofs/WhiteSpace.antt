@@ -1,10 +1,10 @@
 -- The white space characters are those of the list.
-use Rattle.std.proofs.Common.{◌≡◌, ℕ, zero, suc, ◌+◌, ◌-◌, ◌<◌, ◌≤◌, Bool, true, false, ◌||◌, ◌&&◌, ◌==◌, List, length, get_or, refl, sym, ◌∙◌, subst, arith, eqb-true, lit<, lit≤}
+use Rattle.std.proofs.Common.{◌≡◌, ℕ, zero, suc, ◌+◌, ◌-◌, ◌<◌, ◌≤◌, Bool, true, false, ◌||◌, ◌&&◌, ◌==◌, get_or, refl, sym, ◌∙◌, subst, arith, eqb-true, lit<, lit≤}
 use Rattle.std.specs.Prelude.{Contains, nat_lt}
 use Rattle.std.specs.Char.{is_whitespace}
 use Rattle.std.proofs.lemmas.List.Folds.{list_all_at}
 use borrow.Author.Tests.{ltb-true}
-use Rattle.souper_ir.specs.Tokens.{white_space, IsWhiteSpaceListed}
+use Rattle.souper_ir.specs.Tokens.{white_space}
 
 -- the element at k from the one at index a on
 tabs : (k d : ℕ) → k < 5 → get_or white_space k d ≡ 9 + k

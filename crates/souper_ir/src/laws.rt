@@ -7,9 +7,3 @@ pub fn law_of_tokens()
     ensures white_space { IsWhiteSpaceListed }
 {}
 
-ghost use Rattle.std.specs.Prelude.{◌≡◌};
-ghost use Rattle.souper_ir.specs.Spelling.{TextSpells, ItemType};
-/// x
-pub fn try_spelling()
-    ensures { (k : ItemType) → k ≡ k }
-{}

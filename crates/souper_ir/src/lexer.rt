@@ -326,4 +326,11 @@ impl<'a> Lexer<'a> {
         self.rest = rest;
         Ok(Some((offset, token)))
     }
+
+    /// The length of the whole text, in bytes.
+    pub fn len(&self) -> usize
+        ensures { result ≡ self.now.len }
+    {
+        self.offset + self.rest.len()
+    }
 }

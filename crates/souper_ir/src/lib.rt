@@ -6,3 +6,4 @@ pub use souper_graph::stringify;
 
 pub mod laws;
 mod lexer;
+pub mod parse;

@@ -1,0 +1,108 @@
+-- What it is to parse a value, whatever the value is.
+use Rattle.std.specs.Prelude.{◌≡◌, ℕ, Bool, true, false, List, [], ◌∷◌, ◌++◌, Option, Some, None, ◌⊎◌}
+use Rattle.std.specs.Global.{Vec}
+use Rattle.souper_ir.specs.declared.parse.error.ParseError.{ParseError}
+use Rattle.souper_ir.specs.Parsing.{Parsing}
+use Rattle.souper_ir.specs.Tokens.{Lexeme}
+use Rattle.souper_ir.specs.Spelling.{kinds, Scope}
+use Rattle.souper_ir.specs.Reading.{◌>>=◌, cause_of, IfRefused, Fails, look_at}
+
+-- no token that goes on stands next
+abbrev pub Free : (Lexeme → Type 0) → List Lexeme → Type 0
+Free goes_on [] = Unit {0}
+Free goes_on (t ∷ ts) = ¬ goes_on t
+
+-- a token that does not go on stands next, or the end of the text
+abbrev pub Stops : (Lexeme → Type 0) → Bool → List Lexeme → Type 0
+Stops goes_on faulty [] = faulty ≡ false
+Stops goes_on faulty (t ∷ ts) = ¬ goes_on t
+
+-- a token that starts a value stands next
+abbrev pub Starts : (Lexeme → Bool) → List Lexeme → Type 0
+Starts starts [] = ⊥
+Starts starts (t ∷ ts) = starts t ≡ true
+
+-- the tokens taken spell the value, and the next does not continue it
+pub record Took {V : Type 0} (spells : Scope → V → List Lexeme → Type 0) (continues : V → Lexeme → Type 0) (leaves : Scope → Scope) (v : V) (old new : Parsing) : Type 0 where
+  pub used : List (ℕ × Lexeme)
+  pub parts : old.tokens ≡ used ++ new.tokens
+  pub spelled : spells old.scope v (kinds used)
+  pub free : Free (continues v) (kinds new.tokens)
+  pub live : old.failed ≡ None
+  pub state : new ≡ record old { tokens = new.tokens; scope = leaves old.scope }
+
+-- no front of these tokens spells a value so that a token which does not continue it, or the end of the text, follows
+abbrev pub NoFrontOf : {V : Type 0} → (V → List Lexeme → Type 0) → (V → Lexeme → Type 0) → Bool → List Lexeme → Type 0
+NoFrontOf {V} spells continues faulty ts = (v : V) (front rest : List Lexeme) → ts ≡ front ++ rest → spells v front → Stops (continues v) faulty rest → ⊥
+
+-- no front of the tokens to come
+abbrev pub NoFront : {V : Type 0} → (Scope → V → List Lexeme → Type 0) → (V → Lexeme → Type 0) → Parsing → Type 0
+NoFront spells continues p = NoFrontOf (spells p.scope) continues p.faulty (kinds p.tokens)
+
+-- a parser that had not failed refuses only where nothing is spelled
+pub record Refusal {V : Type 0} (spells : Scope → V → List Lexeme → Type 0) (continues : V → Lexeme → Type 0) (e : ParseError) (old new : Parsing) : Type 0 where
+  pub failed : Fails e old new
+  pub nothing : IfRefused (cause_of e) (old.failed ≡ None → NoFront spells continues old)
+
+-- what a peek answers
+abbrev pub starts_next : (Lexeme → Bool) → Option Lexeme → Bool
+starts_next starts None = false
+starts_next starts (Some t) = starts t
+
+unfoldable pub peek_at : (Lexeme → Bool) → Parsing → Option (Bool × Parsing)
+peek_at starts p = look_at p >>= λ t. Some (starts_next starts t.0, t.1)
+
+-- ---- lists of values
+
+-- one spelling of each member after the other, none continued by the next
+abbrev pub Members : {V : Type 0} → (V → List Lexeme → Type 0) → (V → Lexeme → Type 0) → List V → List Lexeme → Type 0
+Members spells continues [] ts = ts ≡ []
+Members spells continues (v ∷ vs) ts = (a : List Lexeme) × (b : List Lexeme) × (ts ≡ a ++ b) × spells v a × Free (continues v) b × Members spells continues vs b
+
+-- the last member is continued
+abbrev pub LastGoesOn : {V : Type 0} → (V → Lexeme → Type 0) → List V → Lexeme → Type 0
+LastGoesOn continues [] t = ⊥
+LastGoesOn continues (v ∷ []) t = continues v t
+LastGoesOn continues (v ∷ (w ∷ vs)) t = LastGoesOn continues (w ∷ vs) t
+
+abbrev pub ListGoesOn : {V : Type 0} → (V → Lexeme → Type 0) → (Lexeme → Bool) → List V → Lexeme → Type 0
+ListGoesOn continues starts vs t = (starts t ≡ true) ⊎ LastGoesOn continues vs t
+
+-- members, and then a fault, or a token that starts one more where none is spelled
+pub record Stuck {V : Type 0} (spells : V → List Lexeme → Type 0) (continues : V → Lexeme → Type 0) (starts : Lexeme → Bool) (faulty : Bool) (ts : List Lexeme) : Type 0 where
+  pub members : List V
+  pub front : List Lexeme
+  pub rest : List Lexeme
+  pub parts : ts ≡ front ++ rest
+  pub spelled : Members spells continues members front
+  pub free : Free (λ t. LastGoesOn continues members t) rest
+  pub next : ((rest ≡ []) × (faulty ≡ true)) ⊎ (Starts starts rest × NoFrontOf spells continues faulty rest)
+
+abbrev pub AllAlike : {V : Type 0} → (V → V → Type 0) → List V → List V → Type 0
+AllAlike alike [] [] = Unit {0}
+AllAlike alike [] (w ∷ ws) = ⊥
+AllAlike alike (v ∷ vs) [] = ⊥
+AllAlike alike (v ∷ vs) (w ∷ ws) = alike v w × AllAlike alike vs ws
+
+-- the same of a Vec
+abbrev pub VecSpells : {V : Type 0} → (Scope → V → List Lexeme → Type 0) → (V → Lexeme → Type 0) → Scope → Vec V → List Lexeme → Type 0
+VecSpells spells continues s v ts = Members (spells s) continues v.items ts
+
+abbrev pub VecGoesOn : {V : Type 0} → (V → Lexeme → Type 0) → (Lexeme → Bool) → Vec V → Lexeme → Type 0
+VecGoesOn continues starts v t = ListGoesOn continues starts v.items t
+
+-- ---- a value or none
+
+abbrev pub OptionSpells : {V : Type 0} → (V → List Lexeme → Type 0) → Option V → List Lexeme → Type 0
+OptionSpells spells None ts = ts ≡ []
+OptionSpells spells (Some v) ts = spells v ts
+
+abbrev pub OptionGoesOn : {V : Type 0} → (V → Lexeme → Type 0) → (Lexeme → Bool) → Option V → Lexeme → Type 0
+OptionGoesOn continues starts None t = starts t ≡ true
+OptionGoesOn continues starts (Some v) t = continues v t
+
+abbrev pub OptionAlike : {V : Type 0} → (V → V → Type 0) → Option V → Option V → Type 0
+OptionAlike alike None None = Unit {0}
+OptionAlike alike None (Some w) = ⊥
+OptionAlike alike (Some v) None = ⊥
+OptionAlike alike (Some v) (Some w) = alike v w

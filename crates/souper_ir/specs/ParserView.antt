@@ -1,0 +1,47 @@
+-- What a parser is seen as.
+use Rattle.std.specs.Prelude.{◌≡◌, ℕ, ◌≤◌, List, ◌∷◌, map, Option, Some, None, option_map}
+use Rattle.std.specs.Borrow.{Bor}
+use Rattle.std.specs.BTreeMap.{BTreeMap, get_by}
+use Rattle.std.specs.Cmp.Lexicographic.{slice_cmp}
+use Rattle.std.specs.Ordering.{nat_cmp}
+use Rattle.souper_graph.specs.View.{view_statement}
+use Rattle.souper_ir.specs.declared.lexer.Token.{Token}
+use Rattle.souper_ir.specs.declared.parse.parser.Failure.{Failure}
+use Rattle.souper_ir.specs.declared.parse.parser.Parser.TheInside.{Inside}
+use Rattle.souper_ir.specs.Tokens.{Lexeme}
+use Rattle.souper_ir.specs.TokenView.{lexeme_of}
+use Rattle.souper_ir.specs.Spelling.{Scope, position_of}
+use Rattle.souper_ir.specs.Parsing.{Parsing}
+use Rattle.souper_ir.specs.FailureView.{cause_of_failure}
+use Rattle.souper_ir.specs.Reading.{IsWithin}
+
+abbrev pub placed_lexeme : ℕ × Token → ℕ × Lexeme
+placed_lexeme t = (t.0, lexeme_of t.1)
+
+-- the token that was looked at and not taken, before the others
+abbrev pub with_ahead : Option (ℕ × Token) → List (ℕ × Lexeme) → List (ℕ × Lexeme)
+with_ahead None ts = ts
+with_ahead (Some t) ts = placed_lexeme t ∷ ts
+
+abbrev pub parsing_of : Inside → Parsing
+parsing_of p = record {
+  tokens = with_ahead p.ahead p.lexer.tokens;
+  faulty = p.lexer.fault;
+  len = p.lexer.len;
+  scope = map view_statement p.statements;
+  failed = option_map cause_of_failure p.failed;
+}
+
+-- the map has each name of the scope at its position, and no other
+abbrev pub NamesAre : BTreeMap (Bor (List ℕ)) ℕ → Scope → Type 0
+NamesAre names s = (n : List ℕ) → get_by (λ (k : Bor (List ℕ)). slice_cmp nat_cmp n k.now) names ≡ position_of s n
+
+abbrev pub FailedWithin : ℕ → Option Failure → Type 0
+FailedWithin len None = Unit {0}
+FailedWithin len (Some f) = IsWithin len (cause_of_failure f)
+
+-- offsets lie within the text, and until the parser fails the map is that of the statements so far
+pub record IsParser (p : Inside) : Type 0 where
+  pub offset : p.offset ≤ p.lexer.len
+  pub failed : FailedWithin p.lexer.len p.failed
+  pub names : p.failed ≡ None → NamesAre p.names (map view_statement p.statements)

@@ -1,0 +1,20 @@
+-- What a parser has before it.
+use Rattle.std.specs.Prelude.{ℕ, Bool, List, Option}
+use Rattle.souper_ir.specs.Tokens.{Lexeme}
+use Rattle.souper_ir.specs.Spelling.{Scope}
+
+-- why a parser has failed
+pub data Cause : Type 0 where
+  refused : ℕ → Cause
+  no_memory : Cause
+
+pub record Parsing : Type 0 where
+  -- the tokens to come, with their offsets
+  pub tokens : List (ℕ × Lexeme)
+  -- whether a lexical fault follows them
+  pub faulty : Bool
+  -- the length of the text in bytes
+  pub len : ℕ
+  -- the statements so far
+  pub scope : Scope
+  pub failed : Option Cause

@@ -1,0 +1,70 @@
+-- What a peek tells.
+use Rattle.std.proofs.Common.{◌≡◌, ℕ, Bool, true, false, List, [], ◌∷◌, ◌++◌, Option, Some, None, refl, sym, ◌∙◌, ap}
+use Rattle.souper_ir.specs.Parsing.{Cause, Parsing}
+use Rattle.souper_ir.specs.Tokens.{Lexeme}
+use Rattle.souper_ir.specs.Spelling.{kinds, Scope}
+use Rattle.souper_ir.specs.Reading.{◌>>=◌, IfRefused, if_refused, look_in, look_at}
+use Rattle.souper_ir.specs.Grammar.{Stops, Starts, NoFront, starts_next, peek_at}
+
+-- the first token answers, and at the end no fault stands
+abbrev pub Answers : (Lexeme → Bool) → Bool → Bool → List (ℕ × Lexeme) → Type 0
+Answers starts b faulty [] = (b ≡ false) × (faulty ≡ false)
+Answers starts b faulty (t ∷ ts) = starts t.1 ≡ b
+
+pub some_is : {A : Type 0} {x y : A} → Some x ≡ Some y → x ≡ y
+some_is e = cc
+
+abbrev answer : (Lexeme → Bool) → Parsing → Option (Option Lexeme) → Option (Bool × Parsing)
+answer starts p seen =
+    let look : Option (Option Lexeme × Parsing) = seen >>= λ t. Some (t, p) in
+    look >>= λ t. Some (starts_next starts t.0, t.1)
+
+peeked_in : (starts : Lexeme → Bool) (p q : Parsing) (b : Bool) (failed : Option Cause) (faulty : Bool) (ts : List (ℕ × Lexeme))
+    → answer starts p (look_in failed faulty ts) ≡ Some (b, q)
+    → (q ≡ p) × (failed ≡ None) × Answers starts b faulty ts
+peeked_in starts p q b (Some c) faulty ts e = absurd cc
+peeked_in starts p q b None faulty (t ∷ ts) e =
+    let same : ◌≡◌ {A = Bool × Parsing} (starts t.1, p) (b, q) = some_is e in
+    (ap (λ (x : Bool × Parsing). x.1) (sym same), refl, ap (λ (x : Bool × Parsing). x.0) same)
+peeked_in starts p q b None true [] e = absurd cc
+peeked_in starts p q b None false [] e =
+    let same : ◌≡◌ {A = Bool × Parsing} (false, p) (b, q) = some_is e in
+    (ap (λ (x : Bool × Parsing). x.1) (sym same), refl, (ap (λ (x : Bool × Parsing). x.0) (sym same), refl))
+
+pub peeked : (starts : Lexeme → Bool) (p q : Parsing) (b : Bool) → peek_at starts p ≡ Some (b, q) → (q ≡ p) × (p.failed ≡ None) × Answers starts b p.faulty p.tokens
+unfolding peek_at look_at
+peeked starts p q b e = peeked_in starts p q b p.failed p.faulty p.tokens e
+
+pub peeked_yes : (starts : Lexeme → Bool) (faulty : Bool) (ts : List (ℕ × Lexeme)) → Answers starts true faulty ts → Starts starts (kinds ts)
+peeked_yes starts faulty [] h = absurd (let e : true ≡ false = h.0 in cc)
+peeked_yes starts faulty (t ∷ ts) h = h
+
+pub peeked_no : (starts : Lexeme → Bool) (faulty : Bool) (ts : List (ℕ × Lexeme)) → Answers starts false faulty ts → Stops (λ t. starts t ≡ true) faulty (kinds ts)
+peeked_no starts faulty [] h = h.1
+peeked_no starts faulty (t ∷ ts) h = λ y. let e : true ≡ false = sym y ∙ h in absurd cc
+
+unread_in : (starts : Lexeme → Bool) (p : Parsing) (failed : Option Cause) (faulty : Bool) (ts : List (ℕ × Lexeme))
+    → answer starts p (look_in failed faulty ts) ≡ None
+    → failed ≡ None → (kinds ts ≡ []) × (faulty ≡ true)
+unread_in starts p (Some c) faulty ts e live = absurd cc
+unread_in starts p None faulty (t ∷ ts) e live = absurd cc
+unread_in starts p None true [] e live = (refl, refl)
+unread_in starts p None false [] e live = absurd cc
+
+-- a peek is refused at a fault alone
+pub unread : (starts : Lexeme → Bool) (p : Parsing) → peek_at starts p ≡ None → p.failed ≡ None → (kinds p.tokens ≡ []) × (p.faulty ≡ true)
+unfolding peek_at look_at
+unread starts p e live = unread_in starts p p.failed p.faulty p.tokens e live
+
+-- at a fault nothing is spelled
+fault_after : (goes_on : Lexeme → Type 0) (faulty : Bool) (front rest : List Lexeme) → [] ≡ front ++ rest → faulty ≡ true → Stops goes_on faulty rest → ⊥
+fault_after goes_on faulty (t ∷ front) rest e f h = absurd cc
+fault_after goes_on faulty [] (t ∷ rest) e f h = absurd cc
+fault_after goes_on faulty [] [] e f h = absurd cc
+
+pub none_at_fault : {V : Type 0} (spells : Scope → V → List Lexeme → Type 0) (continues : V → Lexeme → Type 0) (p : Parsing) → (kinds p.tokens ≡ []) × (p.faulty ≡ true) → NoFront spells continues p
+none_at_fault spells continues p h v front rest e s st = fault_after (continues v) p.faulty front rest (sym h.0 ∙ e) h.1 st
+
+pub none_if_unread : {V : Type 0} (spells : Scope → V → List Lexeme → Type 0) (continues : V → Lexeme → Type 0) (starts : Lexeme → Bool) (p : Parsing) (f : Option Cause)
+    → IfRefused f (peek_at starts p ≡ None) → IfRefused f (p.failed ≡ None → NoFront spells continues p)
+none_if_unread spells continues starts p f = if_refused f (λ h live. none_at_fault spells continues p (unread starts p h live))

@@ -1,0 +1,88 @@
+-- Reading from left to right: a value and the parser behind it, or none.
+use Rattle.std.specs.Prelude.{◌≡◌, ℕ, ◌≤◌, ◌⊎◌, Bool, true, false, List, [], ◌∷◌, Option, Some, None, Result, Ok, Err, option_map}
+use Rattle.std.proofs.Common.{◌∙◌, subst}
+use Rattle.souper_ir.specs.declared.parse.error.ParseErrorKind.{ParseErrorKind}
+use Rattle.souper_ir.specs.declared.parse.error.ParseErrorKind.TheVariants.{Io, Parse, Memory}
+use Rattle.souper_ir.specs.declared.parse.error.ParseError.{ParseError}
+use Rattle.souper_ir.specs.Errors.{kind_of, offset_of}
+use Rattle.souper_ir.specs.Tokens.{Lexeme}
+use Rattle.souper_ir.specs.Parsing.{Cause, refused, no_memory, Parsing}
+
+infixl 10 ◌>>=◌
+abbrev pub ◌>>=◌ : {A B : Type 0} → Option A → (A → Option B) → Option B
+(Some x) >>= f = f x
+None >>= f = None
+
+abbrev pub cause_by : ParseErrorKind → Option ℕ → Option Cause
+cause_by Io o = None
+cause_by Parse o = option_map refused o
+cause_by Memory o = Some no_memory
+
+-- the cause of an error, unless it is an I/O error
+abbrev pub cause_of : ParseError → Option Cause
+cause_of e = cause_by (kind_of e) (offset_of e)
+
+-- of a refusal, whose offset lies within the text
+abbrev pub IsWithin : ℕ → Cause → Type 0
+IsWithin len (refused o) = o ≤ len
+IsWithin len no_memory = Unit {0}
+
+-- a parser that had failed fails by the same cause again, or for want of memory
+abbrev pub IsAgain : Option Cause → Cause → Type 0
+IsAgain None now = Unit {0}
+IsAgain (Some before) now = (now ≡ before) ⊎ (now ≡ no_memory)
+
+-- The error leaves the parser failed by its cause, which is no I/O error.
+pub record Fails (e : ParseError) (old new : Parsing) : Type 0 where
+  pub cause : Cause
+  pub caused : cause_of e ≡ Some cause
+  pub stays : new.failed ≡ Some cause
+  pub again : IsAgain old.failed cause
+  pub within : IsWithin old.len cause
+  pub len : new.len ≡ old.len
+
+-- the fact, where the parser refused the text
+abbrev pub IfRefused : Option Cause → Type 0 → Type 0
+IfRefused (Some (refused o)) fact = fact
+IfRefused (Some no_memory) fact = Unit {0}
+IfRefused None fact = Unit {0}
+
+pub if_refused : {P Q : Type 0} (f : Option Cause) → (P → Q) → IfRefused f P → IfRefused f Q
+if_refused (Some (refused o)) g h = g h
+if_refused (Some no_memory) g h = tt
+if_refused None g h = tt
+
+-- What a function returned, seen by view, is what reading gives, unless memory ran out.
+abbrev pub Gives : {X Y : Type 0} → (X → Y) → Result X ParseError → Option (Y × Parsing) → Parsing → Parsing → Type 0
+Gives view (Ok x) read old new = (read ≡ Some (view x, new)) × (old.failed ≡ None)
+Gives view (Err e) read old new = IfRefused (cause_of e) (read ≡ None) × Fails e old new
+
+-- the next token, or None at the end
+abbrev pub look_in : Option Cause → Bool → List (ℕ × Lexeme) → Option (Option Lexeme)
+look_in (Some c) faulty ts = None
+look_in None faulty (t ∷ ts) = Some (Some t.1)
+look_in None true [] = None
+look_in None false [] = Some None
+
+unfoldable pub look_at : Parsing → Option (Option Lexeme × Parsing)
+look_at p = look_in p.failed p.faulty p.tokens >>= λ t. Some (t, p)
+
+-- the next token, taken
+abbrev pub take_in : Option Cause → List (ℕ × Lexeme) → Option (Lexeme × List (ℕ × Lexeme))
+take_in (Some c) ts = None
+take_in None [] = None
+take_in None (t ∷ ts) = Some (t.1, ts)
+
+unfoldable pub take_at : Parsing → Option (Lexeme × Parsing)
+take_at p = take_in p.failed p.tokens >>= λ t. Some (t.0, record p { tokens = t.1 })
+
+-- a refusal behind steps that changed neither the cause nor the length
+pub fails_later : (e : ParseError) (p q r : Parsing) → q.failed ≡ p.failed → q.len ≡ p.len → Fails e q r → Fails e p r
+fails_later e p q r f l h = record {
+  cause = h.cause;
+  caused = h.caused;
+  stays = h.stays;
+  again = subst (λ (o : Option Cause). IsAgain o h.cause) f h.again;
+  within = subst (λ (n : ℕ). IsWithin n h.cause) l h.within;
+  len = h.len ∙ l;
+}

@@ -1,0 +1,76 @@
+-- From a reading that is sound and complete to what the traits ask.
+use Rattle.std.proofs.Common.{◌≡◌, ℕ, false, List, [], ◌∷◌, ◌++◌, map, Option, Some, None, Result, Ok, Err, refl, sym, ◌∙◌, ap}
+use Rattle.std.proofs.lemmas.List.{append_cancel_right}
+use Rattle.std.specs.Prelude.{IfOk, IfErr}
+use Rattle.souper_ir.specs.declared.parse.error.ParseError.{ParseError}
+use Rattle.souper_ir.specs.Parsing.{Cause, Parsing}
+use Rattle.souper_ir.specs.Tokens.{Lexeme}
+use Rattle.souper_ir.specs.Spelling.{kinds, Scope}
+use Rattle.souper_ir.specs.Reading.{Gives, cause_of, IfRefused, if_refused, Fails}
+use Rattle.souper_ir.specs.Grammar.{Free, Stops, Took, NoFront, Refusal}
+use Rattle.souper_ir.specs.Peeks.{some_is}
+use Rattle.souper_ir.specs.Steps.{Takes, At}
+
+module _ {Y : Type 0} (spells : Scope → Y → List Lexeme → Type 0) (continues : Y → Lexeme → Type 0) (read : Parsing → Option (Y × Parsing)) where
+  -- what is read is spelled so, and not continued
+  abbrev pub Sound : Type 0
+  Sound = (p q : Parsing) (y : Y) → read p ≡ Some (y, q) → (used : List Lexeme) × Takes p q used × spells p.scope y used × Free (continues y) (kinds q.tokens)
+
+  -- what is spelled so, and not continued, is read
+  abbrev pub Complete : Type 0
+  Complete = (p : Parsing) (y : Y) (front rest : List Lexeme) → At p (front ++ rest) → spells p.scope y front → Stops (continues y) p.faulty rest
+      → (q : Parsing) × (read p ≡ Some (y, q)) × At q rest × (q ≡ record p { tokens = q.tokens })
+
+  module _ {X : Type 0} (view : X → Y) where
+    pub is_taken : Sound → (x : X) (p q : Parsing) → (read p ≡ Some (view x, q)) × (p.failed ≡ None) → Took (λ s v ts. spells s (view v) ts) (λ v t. continues (view v) t) (λ s. s) x p q
+    is_taken sound x p q h =
+        let k = sound p q (view x) h.0 in
+        record {
+          used = k.1.places;
+          parts = k.1.parts;
+          spelled = rw k.1.kinds_are k.2;
+          free = k.3;
+          live = h.1;
+          state = k.1.state;
+        }
+
+    none_read : Complete → (p : Parsing) → read p ≡ None → p.failed ≡ None → NoFront (λ s (v : X) ts. spells s (view v) ts) (λ (v : X) t. continues (view v) t) p
+    none_read complete p unread live v front rest e s st =
+        let k = complete p (view v) front rest (record { kinds_are = e; live = live }) s st in
+        cc
+
+    none_if : Complete → (p : Parsing) (f : Option Cause) → IfRefused f (read p ≡ None) → IfRefused f (p.failed ≡ None → NoFront (λ s (v : X) ts. spells s (view v) ts) (λ (v : X) t. continues (view v) t) p)
+    none_if complete p f = if_refused f (λ h live. none_read complete p h live)
+
+    pub is_refused : Complete → (e : ParseError) (p q : Parsing) → IfRefused (cause_of e) (read p ≡ None) × Fails e p q → Refusal (λ s (v : X) ts. spells s (view v) ts) (λ (v : X) t. continues (view v) t) e p q
+    is_refused complete e p q h = record { failed = h.1; nothing = none_if complete p (cause_of e) h.0 }
+
+    pub taken : Sound → (r : Result X ParseError) (p q : Parsing) → Gives view r (read p) p q → IfOk r (λ x. Took (λ s v ts. spells s (view v) ts) (λ v t. continues (view v) t) (λ s. s) x p q)
+    taken sound (Ok x) p q h = is_taken sound x p q h
+    taken sound (Err e) p q h = tt
+
+    pub refused : Complete → (r : Result X ParseError) (p q : Parsing) → Gives view r (read p) p q → IfErr r (λ e. Refusal (λ s (v : X) ts. spells s (view v) ts) (λ (v : X) t. continues (view v) t) e p q)
+    refused complete (Ok x) p q h = tt
+    refused complete (Err e) p q h = is_refused complete e p q h
+
+    -- a parser of these tokens
+    places_of : List Lexeme → List (ℕ × Lexeme)
+    places_of ts = map (λ t. (0, t)) ts
+
+    kinds_of_places : (ts : List Lexeme) → kinds (map (λ t. (0, t)) ts) ≡ ts
+    kinds_of_places [] = refl
+    kinds_of_places (t ∷ ts) = ap (λ (x : List Lexeme). t ∷ x) (kinds_of_places ts)
+
+    stops : (goes_on : Lexeme → Type 0) (ts : List Lexeme) → Free goes_on ts → Stops goes_on false ts
+    stops goes_on [] h = refl
+    stops goes_on (t ∷ ts) h = h
+
+    pub one_alone : Complete → (s : Scope) (v w : X) (a b c d : List Lexeme) → a ++ c ≡ b ++ d → spells s (view v) a → spells s (view w) b → Free (λ t. continues (view v) t) c → Free (λ t. continues (view w) t) d
+        → (a ≡ b) × (view v ≡ view w)
+    one_alone complete s v w a b c d e m n f g =
+        let p : Parsing = record { tokens = map (λ t. (0, t)) (a ++ c); faulty = false; len = 0; scope = s; failed = None } in
+        let j = complete p (view v) a c (record { kinds_are = kinds_of_places (a ++ c); live = refl }) m (stops (λ t. continues (view v) t) c f) in
+        let k = complete p (view w) b d (record { kinds_are = kinds_of_places (a ++ c) ∙ e; live = refl }) n (stops (λ t. continues (view w) t) d g) in
+        let same : ◌≡◌ {A = Y × Parsing} (view v, j.0) (view w, k.0) = some_is (sym j.1 ∙ k.1) in
+        let rest : c ≡ d = sym j.2.kinds_are ∙ ap (λ (x : Y × Parsing). kinds x.1.tokens) same ∙ k.2.kinds_are in
+        (append_cancel_right a b c (e ∙ ap (λ (x : List Lexeme). b ++ x) (sym rest)), ap (λ (x : Y × Parsing). x.0) same)

@@ -1,0 +1,170 @@
+//! A parser with one token of lookahead.
+ghost use Rattle.std.specs.Prelude.{◌≡◌, ◌≤◌, ◌++◌, ◌∷◌, [], length, map, ℕ, List, false, Some, None, IfOk, OnOk, OnErr, IfErr, option_map, is_some, ◌≢◌};
+ghost use Rattle.std.specs.String.{string_bytes};
+ghost use Rattle.souper_graph.specs.View.{view_statement, view_assignment};
+ghost use Rattle.souper_graph.specs.Values.{assigned};
+ghost use Rattle.souper_ir.specs.Tokens.{Lexeme, AreTokensOf, IsTextOf};
+ghost use Rattle.souper_ir.specs.TokenView.{lexeme_of};
+ghost use Rattle.souper_ir.specs.Spelling.{position_of};
+ghost use Rattle.souper_ir.specs.Parsing.{Cause, refused, no_memory};
+ghost use Rattle.souper_ir.specs.FailureView.{cause_of_failure};
+ghost use Rattle.souper_ir.specs.Reading.{Fails, Gives, look_at, take_at};
+
+use crate::lexer::{Lexer, Token};
+use crate::parse::error::ParseError;
+use crate::parse::message::Message;
+use souper_graph::ast::{Arena, Assignment, Id, Statement, ValueId};
+use std::alloc::{AllocError, Global};
+use std::collections::BTreeMap;
+use std::marker::Model;
+use std::mem;
+
+/// What parsing answers.
+pub type Result<T> = std::result::Result<T, ParseError>;
+
+// Why a parser has failed.
+#[derive(Clone, Copy)]
+enum Failure {
+    Refused(usize),
+    Memory,
+}
+
+/// A parser of a text, with one token of lookahead.
+///
+/// After a refusal it stays failed: every later call answers the same offset, or want of memory.
+#[derive(Drop)]
+pub struct Parser<'a> {
+    alloc: Global,
+    lexer: Lexer<'a>,
+    // The token that was looked at and not taken.
+    ahead: Option<(usize, Token<'a>)>,
+    // The offset of the token last lexed.
+    offset: usize,
+    // The statements of the item so far.
+    statements: Arena<Statement>,
+    // The names that they define.
+    names: BTreeMap<&'a str, ValueId>,
+    failed: Option<Failure>,
+}
+
+impl<'a> Model for Parser<'a> {
+    ghost use Rattle.souper_ir.specs.Parsing.{Parsing};
+
+    ghost Value = { Parsing };
+
+    ghost use Rattle.souper_ir.specs.ParserView.{parsing_of, IsParser};
+
+    ghost view = { parsing_of };
+
+    ghost invariant = { IsParser };
+}
+
+impl<'a> Parser<'a> {
+    /// A parser of the whole text, with nothing in scope. It takes no memory.
+    pub fn new(alloc: Global, source: &'a str) -> Self
+        ensures tokens { AreTokensOf source.now result.tokens result.faulty }
+        ensures only { (ts : List (ℕ × Lexeme)) → IsTextOf source.now ts → (result.tokens ≡ ts) × (result.faulty ≡ false) }
+        ensures len { result.len ≡ length source.now }
+        ensures scope { result.scope ≡ [] }
+        ensures live { result.failed ≡ None }
+    {
+        Parser {
+            alloc,
+            lexer: Lexer::new(source),
+            ahead: None,
+            offset: 0,
+            statements: Arena::new(alloc),
+            names: BTreeMap::new(alloc),
+            failed: None,
+        }
+    }
+
+    pub(crate) fn alloc(&self) -> Global {
+        self.alloc
+    }
+}
+
+impl<'a> Parser<'a> {
+    // Fails at the offset, and from now on. Where there is no memory for the message, it fails for want of memory.
+    fn fail_at(&mut self, offset: usize, message: Message<'_>) -> ParseError
+        requires within { offset ≤ self.old.len }
+        requires again { (c : Cause) → self.old.failed ≡ Some c → c ≡ refused offset }
+        ensures { Fails result self.old self.new }
+    {
+        match message.to_string(self.alloc) {
+            Ok(text) => {
+                self.failed = Some(Failure::Refused(offset));
+                ParseError::refused(offset, text)
+            }
+            Err(_) => {
+                self.failed = Some(Failure::Memory);
+                ParseError::memory()
+            }
+        }
+    }
+
+    // Answers a parser that has failed the same again.
+    fn check_live(&mut self) -> Result<()>
+        ensures live { OnOk result (self.old.failed ≡ None) }
+        ensures kept { OnOk result (self.new ≡ self.old) }
+        ensures failed { OnErr result (self.old.failed ≢ None) }
+        ensures fails { IfErr result (λ error. Fails error self.old self.new) }
+    {
+        match self.failed {
+            None => Ok(()),
+            Some(Failure::Refused(offset)) => Err(self.fail_at(offset, Message::AlreadyFailed)),
+            Some(Failure::Memory) => Err(ParseError::memory()),
+        }
+    }
+
+    /// Refuses the token last lexed.
+    pub(crate) fn refuse(&mut self, message: Message<'_>) -> ParseError
+        requires { self.old.failed ≡ None }
+        ensures { Fails result self.old self.new }
+    {
+        self.fail_at(self.offset, message)
+    }
+
+    /// The next token, which is not taken, or `None` at the end of the text.
+    #[tactic(auto, unfolding(crate::specs::Reading::look_at))]
+    pub(crate) fn lookahead(&mut self) -> Result<Option<Token<'a>>>
+        ensures { Gives (option_map lexeme_of) result (look_at self.old) self.old self.new }
+    {
+        self.check_live()?;
+        if let Some((_, token)) = self.ahead {
+            return Ok(Some(token));
+        }
+        match self.lexer.next_token() {
+            Ok(Some((offset, token))) => {
+                self.offset = offset;
+                self.ahead = Some((offset, token));
+                Ok(Some(token))
+            }
+            Ok(None) => Ok(None),
+            Err(fault) => Err(self.fail_at(fault.offset, Message::Lexical(fault.kind))),
+        }
+    }
+
+    /// The next token, taken. The end of the text is refused.
+    #[tactic(auto, unfolding(crate::specs::Reading::take_at))]
+    pub(crate) fn token(&mut self) -> Result<Token<'a>>
+        ensures { Gives lexeme_of result (take_at self.old) self.old self.new }
+    {
+        self.check_live()?;
+        if let Some((_, token)) = self.ahead {
+            self.ahead = None;
+            return Ok(token);
+        }
+        match self.lexer.next_token() {
+            Ok(Some((offset, token))) => {
+                self.offset = offset;
+                Ok(token)
+            }
+            Ok(None) => {
+                let last = self.lexer.len().saturating_sub(1);
+                Err(self.fail_at(last, Message::UnexpectedEnd))
+            }
+            Err(fault) => Err(self.fail_at(fault.offset, Message::Lexical(fault.kind))),
+        }
+    }
+}
