@@ -9,3 +9,4 @@ pub mod Literal
 pub mod WhiteSpace
 pub mod Options
 pub mod Lists
+pub mod Names

@@ -1,4 +1,5 @@
 -- Values one after the other, while a peek tells of one more.
+use Rattle.souper_ir.specs.Readings.{of_memory, memory_refused}
 use Rattle.std.proofs.Common.{◌≡◌, ◌⊎◌, ℕ, ◌<◌, Bool, true, false, List, [], ◌∷◌, ◌++◌, length, Option, Some, None, refl, sym, ◌∙◌, ap, subst, inl, inr, append_assoc, arith}
 use Rattle.std.specs.Global.{Vec}
 use Rattle.std.proofs.lemmas.List.{append-nil, map-append, length-append}
@@ -6,7 +7,7 @@ use Rattle.souper_ir.specs.declared.parse.error.ParseError.{ParseError}
 use Rattle.souper_ir.specs.Parsing.{Cause, Parsing}
 use Rattle.souper_ir.specs.Tokens.{Lexeme}
 use Rattle.souper_ir.specs.Spelling.{kinds, Scope}
-use Rattle.souper_ir.specs.Reading.{cause_of, IfRefused, if_refused, Fails, fails_later}
+use Rattle.souper_ir.specs.Reading.{cause_of, IfRefused, if_refused, Fails, fails_later, FailsForMemory}
 use Rattle.souper_ir.specs.Grammar.{Free, Stops, Starts, Took, NoFront, NoFrontOf, Stuck, Refusal, peek_at, Members, LastGoesOn, ListGoesOn, VecSpells, VecGoesOn}
 use Rattle.souper_ir.specs.Unique as unique
 use Rattle.souper_ir.specs.Peeks.{peeked, peeked_yes, peeked_no, unread}
@@ -175,3 +176,9 @@ module _ {V : Type 0} (spells : Scope → V → List Lexeme → Type 0) (continu
       let here : Refusal spells continues e q r = subst (λ (x : Parsing). Refusal spells continues e x r) seen.0 bad in
       let k = member_stuck (cause_of e) vs p q so (peeked_yes starts q.faulty q.tokens seen.2) here.nothing in
       (record { failed = later vs e p q r so here.failed; nothing = nothing_if (cause_of e) p k }, k)
+
+  pub memory_ends : (vs : List V) (e : ParseError) (p q r : Parsing) → SoFar spells continues vs p q → FailsForMemory e q r → ListRefusal e p r
+  memory_ends vs e p q r so h = (
+    memory_refused (VecSpells spells continues) (VecGoesOn continues starts) e p q r (ap (λ (y : Parsing). y.failed) so.state) (ap (λ (y : Parsing). y.len) so.state) h,
+    of_memory _ e h.0,
+  )

@@ -41,6 +41,10 @@ pub record Fails (e : ParseError) (old new : Parsing) : Type 0 where
   pub within : IsWithin old.len cause
   pub len : new.len ≡ old.len
 
+-- the error is want of memory, and leaves the parser failed by it
+abbrev pub FailsForMemory : ParseError → Parsing → Parsing → Type 0
+FailsForMemory e old new = (cause_of e ≡ Some no_memory) × Fails e old new
+
 -- the fact, where the parser refused the text
 abbrev pub IfRefused : Option Cause → Type 0 → Type 0
 IfRefused (Some (refused o)) fact = fact
@@ -51,6 +55,11 @@ pub if_refused : {P Q : Type 0} (f : Option Cause) → (P → Q) → IfRefused f
 if_refused (Some (refused o)) g h = g h
 if_refused (Some no_memory) g h = tt
 if_refused None g h = tt
+
+pub if_refused_is : {P : Type 0} (f : Option Cause) → P → IfRefused f P
+if_refused_is (Some (refused o)) h = h
+if_refused_is (Some no_memory) h = tt
+if_refused_is None h = tt
 
 -- What a function returned, seen by view, is what reading gives, unless memory ran out.
 abbrev pub Gives : {X Y : Type 0} → (X → Y) → Result X ParseError → Option (Y × Parsing) → Parsing → Parsing → Type 0

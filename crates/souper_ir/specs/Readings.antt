@@ -1,12 +1,12 @@
 -- From a reading that is sound and complete to what the traits ask.
-use Rattle.std.proofs.Common.{◌≡◌, ℕ, false, List, [], ◌∷◌, ◌++◌, map, Option, Some, None, Result, Ok, Err, refl, sym, ◌∙◌, ap}
+use Rattle.std.proofs.Common.{◌≡◌, ℕ, false, List, [], ◌∷◌, ◌++◌, map, Option, Some, None, Result, Ok, Err, refl, sym, ◌∙◌, ap, subst}
 use Rattle.std.proofs.lemmas.List.{append_cancel_right}
 use Rattle.std.specs.Prelude.{IfOk, IfErr}
 use Rattle.souper_ir.specs.declared.parse.error.ParseError.{ParseError}
-use Rattle.souper_ir.specs.Parsing.{Cause, Parsing}
+use Rattle.souper_ir.specs.Parsing.{Cause, no_memory, Parsing}
 use Rattle.souper_ir.specs.Tokens.{Lexeme}
 use Rattle.souper_ir.specs.Spelling.{kinds, Scope}
-use Rattle.souper_ir.specs.Reading.{Gives, cause_of, IfRefused, if_refused, Fails}
+use Rattle.souper_ir.specs.Reading.{Gives, cause_of, IfRefused, if_refused, Fails, FailsForMemory, fails_later}
 use Rattle.souper_ir.specs.Grammar.{Free, Stops, Took, NoFront, Refusal}
 use Rattle.souper_ir.specs.Peeks.{some_is}
 use Rattle.souper_ir.specs.Steps.{Takes, At}
@@ -74,3 +74,11 @@ module _ {Y : Type 0} (spells : Scope → Y → List Lexeme → Type 0) (continu
         let same : ◌≡◌ {A = Y × Parsing} (view v, j.0) (view w, k.0) = some_is (sym j.1 ∙ k.1) in
         let rest : c ≡ d = sym j.2.kinds_are ∙ ap (λ (x : Y × Parsing). kinds x.1.tokens) same ∙ k.2.kinds_are in
         (append_cancel_right a b c (e ∙ ap (λ (x : List Lexeme). b ++ x) (sym rest)), ap (λ (x : Y × Parsing). x.0) same)
+
+-- want of memory refuses no text
+pub of_memory : (P : Type 0) (e : ParseError) → cause_of e ≡ Some no_memory → IfRefused (cause_of e) P
+of_memory P e h = subst (λ (o : Option Cause). IfRefused o P) (sym h) tt
+
+pub memory_refused : {V : Type 0} (spells : Scope → V → List Lexeme → Type 0) (continues : V → Lexeme → Type 0) (e : ParseError) (p q r : Parsing)
+    → q.failed ≡ p.failed → q.len ≡ p.len → FailsForMemory e q r → Refusal spells continues e p r
+memory_refused spells continues e p q r f l h = record { failed = fails_later e p q r f l h.1; nothing = of_memory _ e h.0 }

@@ -1,9 +1,10 @@
 -- Steps of a reading: what they took, and that they take what stands there.
+use Rattle.souper_ir.specs.declared.parse.error.ParseError.{ParseError}
 use Rattle.std.proofs.Common.{◌≡◌, ℕ, Bool, true, false, List, [], ◌∷◌, ◌++◌, Option, Some, None, refl, sym, ◌∙◌, ap, subst, append_assoc}
 use Rattle.souper_ir.specs.Parsing.{Cause, Parsing}
 use Rattle.souper_ir.specs.Tokens.{Lexeme}
 use Rattle.souper_ir.specs.Spelling.{kinds}
-use Rattle.souper_ir.specs.Reading.{◌>>=◌, look_in, look_at, take_in, take_at}
+use Rattle.souper_ir.specs.Reading.{◌>>=◌, look_in, look_at, take_in, take_at, cause_of, IfRefused, if_refused_is, Fails, fails_later}
 use Rattle.souper_ir.specs.Grammar.{peek_at}
 use Rattle.souper_ir.specs.NodeReadings.{accept}
 use Rattle.souper_ir.specs.Peeks.{some_is}
@@ -111,3 +112,14 @@ module _ (starts : Lexeme → Bool) where
   pub peeks_end : (p : Parsing) → At p [] → p.faulty ≡ false → peek_at starts p ≡ Some (false, p)
   unfolding peek_at look_at
   peeks_end p at f = rw (peeks_end_in p p.failed p.faulty p.tokens at.live f at.kinds_are) refl
+
+-- the token that was taken means nothing, and was refused
+pub refused_token : {A : Type 0} (meaning : Lexeme → Option A) (e : ParseError) (p q r : Parsing) (t : Lexeme)
+    → (take_at p ≡ Some (t, q)) × (p.failed ≡ None) → meaning t ≡ None → Fails e q r → IfRefused (cause_of e) (accept meaning p ≡ None) × Fails e p r
+unfolding accept
+refused_token meaning e p q r t h m f =
+    let k = took_one p q t h.0 in
+    (
+      if_refused_is (cause_of e) (rw (h.0, m) refl),
+      fails_later e p q r (ap (λ (x : Parsing). x.failed) k.state) (ap (λ (x : Parsing). x.len) k.state) f,
+    )

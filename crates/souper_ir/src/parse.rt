@@ -2,6 +2,9 @@
 mod error;
 mod message;
 mod parser;
+mod tokens;
+mod traits;
 
 pub use error::{ParseError, ParseErrorKind};
 pub use parser::{Parser, Result};
+pub use traits::{Parse, Peek};

@@ -8,7 +8,7 @@ ghost use Rattle.souper_ir.specs.TokenView.{lexeme_of};
 ghost use Rattle.souper_ir.specs.Spelling.{position_of};
 ghost use Rattle.souper_ir.specs.Parsing.{Cause, refused, no_memory};
 ghost use Rattle.souper_ir.specs.FailureView.{cause_of_failure};
-ghost use Rattle.souper_ir.specs.Reading.{Fails, Gives, look_at, take_at};
+ghost use Rattle.souper_ir.specs.Reading.{Fails, FailsForMemory, Gives, look_at, take_at};
 
 use crate::lexer::{Lexer, Token};
 use crate::parse::error::ParseError;
@@ -117,12 +117,22 @@ impl<'a> Parser<'a> {
         }
     }
 
-    /// Refuses the token last lexed.
+    /// Refuses the token last lexed. A parser that has failed fails as before.
     pub(crate) fn refuse(&mut self, message: Message<'_>) -> ParseError
-        requires { self.old.failed ≡ None }
         ensures { Fails result self.old self.new }
     {
-        self.fail_at(self.offset, message)
+        match self.check_live() {
+            Ok(()) => self.fail_at(self.offset, message),
+            Err(error) => error,
+        }
+    }
+
+    /// Fails for want of memory.
+    pub(crate) fn want_memory(&mut self) -> ParseError
+        ensures { FailsForMemory result self.old self.new }
+    {
+        self.failed = Some(Failure::Memory);
+        ParseError::memory()
     }
 
     /// The next token, which is not taken, or `None` at the end of the text.
@@ -166,5 +176,49 @@ impl<'a> Parser<'a> {
             }
             Err(fault) => Err(self.fail_at(fault.offset, Message::Lexical(fault.kind))),
         }
+    }
+}
+
+impl<'a> Parser<'a> {
+    /// The value that a name stands for.
+    pub(crate) fn value_named(&self, name: &str) -> Option<ValueId>
+        requires { self.now.failed ≡ None }
+        ensures { result ≡ position_of self.now.scope name.now }
+    {
+        self.names.get(name).copied()
+    }
+
+    /// Adds the definition of a name to the statements.
+    pub(crate) fn define(&mut self, name: &'a str, assignment: Assignment) -> Result<()>
+        requires live { self.old.failed ≡ None }
+        requires named { string_bytes assignment.name ≡ name.now }
+        requires fresh { position_of self.old.scope name.now ≡ None }
+        ensures ok { OnOk result (self.new ≡ record self.old { scope = self.old.scope ++ assigned (view_assignment assignment) ∷ [] }) }
+        ensures err { IfErr result (λ error. FailsForMemory error self.old self.new) }
+    {
+        let id = match self.statements.alloc(assignment.into()) {
+            Ok(id) => id,
+            Err(_) => {
+                self.failed = Some(Failure::Memory);
+                return Err(ParseError::memory());
+            }
+        };
+        match self.names.insert(name, id.into()) {
+            Ok(_) => Ok(()),
+            Err(_) => {
+                self.failed = Some(Failure::Memory);
+                Err(ParseError::memory())
+            }
+        }
+    }
+
+    /// Ends an item: hands its statements out, and empties the scope.
+    pub(crate) fn finish(&mut self) -> Arena<Statement>
+        requires { self.old.failed ≡ None }
+        ensures statements { map view_statement result ≡ self.old.scope }
+        ensures empty { self.new ≡ record self.old { scope = [] } }
+    {
+        self.names.clear();
+        mem::replace(&mut self.statements, Arena::new(self.alloc))
     }
 }
