@@ -7,7 +7,7 @@ use Rattle.souper_ir.specs.declared.parse.error.ParseError.{ParseError}
 use Rattle.souper_ir.specs.Parsing.{Cause, Parsing}
 use Rattle.souper_ir.specs.Tokens.{Lexeme}
 use Rattle.souper_ir.specs.Spelling.{kinds, Scope}
-use Rattle.souper_ir.specs.Reading.{cause_of, IfRefused, if_refused, Fails, fails_later, FailsForMemory}
+use Rattle.souper_ir.specs.Reading.{cause_of, IfRefused, if_refused, Fails, fails_later, FailsForMemory, IsRead}
 use Rattle.souper_ir.specs.Grammar.{Free, Stops, Starts, Took, NoFront, NoFrontOf, Stuck, Refusal, peek_at, Members, LastGoesOn, ListGoesOn, VecSpells, VecGoesOn}
 use Rattle.souper_ir.specs.Unique as unique
 use Rattle.souper_ir.specs.Peeks.{peeked, peeked_yes, peeked_no, unread}
@@ -73,7 +73,7 @@ module _ {V : Type 0} (spells : Scope → V → List Lexeme → Type 0) (continu
   free_both P Q (t ∷ ts) f g = elim [ inl h ↦ f h | inr h ↦ g h ]
 
   -- the loop is done
-  pub ends : (w : Vec V) (p q r : Parsing) → SoFar spells continues w.items p q → (peek_at starts q ≡ Some (false, r)) × (q.failed ≡ None)
+  pub ends : (w : Vec V) (p q r : Parsing) → SoFar spells continues w.items p q → IsRead (peek_at starts q) false q r
       → Took (VecSpells spells continues) (VecGoesOn continues starts) (λ s. s) w p r
   ends w p q r so h =
       let seen = peeked starts q r false h.0 in
@@ -169,7 +169,7 @@ module _ {V : Type 0} (spells : Scope → V → List Lexeme → Type 0) (continu
       let k = peek_stuck (cause_of e) vs p q so h.0 in
       (record { failed = later vs e p q r so h.1; nothing = nothing_if (cause_of e) p k }, k)
 
-  pub member_refused : (vs : List V) (e : ParseError) (p q m r : Parsing) → SoFar spells continues vs p q → (peek_at starts q ≡ Some (true, m)) × (q.failed ≡ None)
+  pub member_refused : (vs : List V) (e : ParseError) (p q m r : Parsing) → SoFar spells continues vs p q → IsRead (peek_at starts q) true q m
       → Refusal spells continues e m r → ListRefusal e p r
   member_refused vs e p q m r so h bad =
       let seen = peeked starts q m true h.0 in

@@ -4,7 +4,7 @@ use Rattle.souper_ir.specs.declared.parse.error.ParseError.{ParseError}
 use Rattle.souper_ir.specs.Parsing.{Cause, Parsing}
 use Rattle.souper_ir.specs.Tokens.{Lexeme}
 use Rattle.souper_ir.specs.Spelling.{kinds, Scope}
-use Rattle.souper_ir.specs.Reading.{cause_of, IfRefused, if_refused, Fails}
+use Rattle.souper_ir.specs.Reading.{cause_of, IfRefused, if_refused, Fails, IsRead}
 use Rattle.souper_ir.specs.Grammar.{Starts, Took, NoFront, Refusal, peek_at, OptionSpells, OptionGoesOn}
 use Rattle.souper_ir.specs.Unique.{clash_at, Free-from_Stops}
 use Rattle.std.proofs.lemmas.List.{append-nil}
@@ -28,13 +28,13 @@ module _ {V : Type 0} (spells : Scope → V → List Lexeme → Type 0) (continu
   pub peek_refused : (e : ParseError) (p q : Parsing) → IfRefused (cause_of e) (peek_at starts p ≡ None) × Fails e p q → Refusal some_spells some_goes_on e p q
   peek_refused e p q h = record { failed = h.1; nothing = none_if_unread some_spells some_goes_on starts p (cause_of e) h.0 }
 
-  pub member_refused : (e : ParseError) (p q r : Parsing) → (peek_at starts p ≡ Some (true, q)) × (p.failed ≡ None) → Refusal spells continues e q r → Refusal some_spells some_goes_on e p r
+  pub member_refused : (e : ParseError) (p q r : Parsing) → IsRead (peek_at starts p) true p q → Refusal spells continues e q r → Refusal some_spells some_goes_on e p r
   member_refused e p q r h k =
       let seen = peeked starts p q true h.0 in
       let k2 : Refusal spells continues e p r = subst (λ (x : Parsing). Refusal spells continues e x r) seen.0 k in
       record { failed = k2.failed; nothing = none_if p (cause_of e) (peeked_yes starts p.faulty p.tokens seen.2) k2.nothing }
 
-  pub some_taken : (leaves : Scope → Scope) (v : V) (p q r : Parsing) → ((s : Scope) → leaves s ≡ s) → (peek_at starts p ≡ Some (true, q)) × (p.failed ≡ None) → Took spells continues leaves v q r → Took some_spells some_goes_on (λ s. s) (Some v) p r
+  pub some_taken : (leaves : Scope → Scope) (v : V) (p q r : Parsing) → ((s : Scope) → leaves s ≡ s) → IsRead (peek_at starts p) true p q → Took spells continues leaves v q r → Took some_spells some_goes_on (λ s. s) (Some v) p r
   some_taken leaves v p q r stays h k =
       let seen = peeked starts p q true h.0 in
       let k2 : Took spells continues leaves v p r = subst (λ (x : Parsing). Took spells continues leaves v x r) seen.0 k in
@@ -47,7 +47,7 @@ module _ {V : Type 0} (spells : Scope → V → List Lexeme → Type 0) (continu
         state = k2.state ∙ ap (λ (s : Scope). record p { tokens = r.tokens; scope = s }) (stays p.scope);
       }
 
-  pub none_taken : (p q : Parsing) → (peek_at starts p ≡ Some (false, q)) × (p.failed ≡ None) → Took some_spells some_goes_on (λ s. s) None p q
+  pub none_taken : (p q : Parsing) → IsRead (peek_at starts p) false p q → Took some_spells some_goes_on (λ s. s) None p q
   none_taken p q h =
       let seen = peeked starts p q false h.0 in
       subst (λ (x : Parsing). Took some_spells some_goes_on (λ s. s) None p x) (sym seen.0)

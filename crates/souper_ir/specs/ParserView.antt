@@ -7,13 +7,13 @@ use Rattle.std.specs.Ordering.{nat_cmp}
 use Rattle.souper_graph.specs.View.{view_statement}
 use Rattle.souper_ir.specs.declared.lexer.Token.{Token}
 use Rattle.souper_ir.specs.declared.parse.parser.Failure.{Failure}
+use Rattle.souper_ir.specs.declared.parse.parser.Failure.TheVariants.{Refused, Memory}
 use Rattle.souper_ir.specs.declared.parse.parser.Parser.TheInside.{Inside}
 use Rattle.souper_ir.specs.Tokens.{Lexeme}
 use Rattle.souper_ir.specs.TokenView.{lexeme_of}
 use Rattle.souper_ir.specs.Spelling.{Scope, position_of}
 use Rattle.souper_ir.specs.Parsing.{Parsing}
 use Rattle.souper_ir.specs.FailureView.{cause_of_failure}
-use Rattle.souper_ir.specs.Reading.{IsWithin}
 
 abbrev pub placed_lexeme : ℕ × Token → ℕ × Lexeme
 placed_lexeme t = (t.0, lexeme_of t.1)
@@ -38,7 +38,8 @@ NamesAre names s = (n : List ℕ) → get_by (λ (k : Bor (List ℕ)). slice_cmp
 
 abbrev pub FailedWithin : ℕ → Option Failure → Type 0
 FailedWithin len None = Unit {0}
-FailedWithin len (Some f) = IsWithin len (cause_of_failure f)
+FailedWithin len (Some (Refused o)) = o ≤ len
+FailedWithin len (Some Memory) = Unit {0}
 
 -- offsets lie within the text, and until the parser fails the map is that of the statements so far
 pub record IsParser (p : Inside) : Type 0 where

@@ -1,5 +1,5 @@
 -- Reading from left to right: a value and the parser behind it, or none.
-use Rattle.std.specs.Prelude.{◌≡◌, ℕ, ◌≤◌, ◌⊎◌, Bool, true, false, List, [], ◌∷◌, Option, Some, None, Result, Ok, Err, option_map}
+use Rattle.std.specs.Prelude.{◌≡◌, ℕ, ◌≤◌, ◌≢◌, Bool, true, false, List, [], ◌∷◌, Option, Some, None, Result, Ok, Err, option_map}
 use Rattle.std.proofs.Common.{◌∙◌, subst}
 use Rattle.souper_ir.specs.declared.parse.error.ParseErrorKind.{ParseErrorKind}
 use Rattle.souper_ir.specs.declared.parse.error.ParseErrorKind.TheVariants.{Io, Parse, Memory}
@@ -22,23 +22,13 @@ cause_by Memory o = Some no_memory
 abbrev pub cause_of : ParseError → Option Cause
 cause_of e = cause_by (kind_of e) (offset_of e)
 
--- of a refusal, whose offset lies within the text
-abbrev pub IsWithin : ℕ → Cause → Type 0
-IsWithin len (refused o) = o ≤ len
-IsWithin len no_memory = Unit {0}
-
--- a parser that had failed fails by the same cause again, or for want of memory
-abbrev pub IsAgain : Option Cause → Cause → Type 0
-IsAgain None now = Unit {0}
-IsAgain (Some before) now = (now ≡ before) ⊎ (now ≡ no_memory)
-
--- The error leaves the parser failed by its cause, which is no I/O error.
+-- The error leaves the parser failed by its cause, which is no I/O error. A parser that had failed fails by the same cause again, or
+-- for want of memory. The offset of a refusal lies within the text.
 pub record Fails (e : ParseError) (old new : Parsing) : Type 0 where
-  pub cause : Cause
-  pub caused : cause_of e ≡ Some cause
-  pub stays : new.failed ≡ Some cause
-  pub again : IsAgain old.failed cause
-  pub within : IsWithin old.len cause
+  pub stays : new.failed ≡ cause_of e
+  pub caused : cause_of e ≢ None
+  pub again : (c : Cause) → old.failed ≡ Some c → cause_of e ≢ Some no_memory → cause_of e ≡ Some c
+  pub within : (o : ℕ) → cause_of e ≡ Some (refused o) → o ≤ new.len
   pub len : new.len ≡ old.len
 
 -- the error is want of memory, and leaves the parser failed by it
@@ -61,9 +51,13 @@ if_refused_is (Some (refused o)) h = h
 if_refused_is (Some no_memory) h = tt
 if_refused_is None h = tt
 
+-- the reading gives the value, and the parser goes on behind it
+abbrev pub IsRead : {Y : Type 0} → Option (Y × Parsing) → Y → Parsing → Parsing → Type 0
+IsRead read y old new = (read ≡ Some (y, new)) × (old.failed ≡ None) × (new.failed ≡ None) × (new.len ≡ old.len)
+
 -- What a function returned, seen by view, is what reading gives, unless memory ran out.
 abbrev pub Gives : {X Y : Type 0} → (X → Y) → Result X ParseError → Option (Y × Parsing) → Parsing → Parsing → Type 0
-Gives view (Ok x) read old new = (read ≡ Some (view x, new)) × (old.failed ≡ None)
+Gives view (Ok x) read old new = IsRead read (view x) old new
 Gives view (Err e) read old new = IfRefused (cause_of e) (read ≡ None) × Fails e old new
 
 -- the next token, or None at the end
@@ -88,10 +82,9 @@ take_at p = take_in p.failed p.tokens >>= λ t. Some (t.0, record p { tokens = t
 -- a refusal behind steps that changed neither the cause nor the length
 pub fails_later : (e : ParseError) (p q r : Parsing) → q.failed ≡ p.failed → q.len ≡ p.len → Fails e q r → Fails e p r
 fails_later e p q r f l h = record {
-  cause = h.cause;
-  caused = h.caused;
   stays = h.stays;
-  again = subst (λ (o : Option Cause). IsAgain o h.cause) f h.again;
-  within = subst (λ (n : ℕ). IsWithin n h.cause) l h.within;
+  caused = h.caused;
+  again = λ c x. h.again c (f ∙ x);
+  within = h.within;
   len = h.len ∙ l;
 }

@@ -6,7 +6,7 @@ use Rattle.souper_ir.specs.declared.parse.error.ParseError.{ParseError}
 use Rattle.souper_ir.specs.Parsing.{Cause, no_memory, Parsing}
 use Rattle.souper_ir.specs.Tokens.{Lexeme}
 use Rattle.souper_ir.specs.Spelling.{kinds, Scope}
-use Rattle.souper_ir.specs.Reading.{Gives, cause_of, IfRefused, if_refused, Fails, FailsForMemory, fails_later}
+use Rattle.souper_ir.specs.Reading.{Gives, cause_of, IfRefused, if_refused, Fails, FailsForMemory, fails_later, IsRead}
 use Rattle.souper_ir.specs.Grammar.{Free, Stops, Took, NoFront, Refusal}
 use Rattle.souper_ir.specs.Peeks.{some_is}
 use Rattle.souper_ir.specs.Steps.{Takes, At}
@@ -22,7 +22,7 @@ module _ {Y : Type 0} (spells : Scope → Y → List Lexeme → Type 0) (continu
       → (q : Parsing) × (read p ≡ Some (y, q)) × At q rest × (q ≡ record p { tokens = q.tokens })
 
   module _ {X : Type 0} (view : X → Y) where
-    pub is_taken : Sound → (x : X) (p q : Parsing) → (read p ≡ Some (view x, q)) × (p.failed ≡ None) → Took (λ s v ts. spells s (view v) ts) (λ v t. continues (view v) t) (λ s. s) x p q
+    pub is_taken : Sound → (x : X) (p q : Parsing) → IsRead (read p) (view x) p q → Took (λ s v ts. spells s (view v) ts) (λ v t. continues (view v) t) (λ s. s) x p q
     is_taken sound x p q h =
         let k = sound p q (view x) h.0 in
         record {

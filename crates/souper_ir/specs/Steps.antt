@@ -115,11 +115,11 @@ module _ (starts : Lexeme → Bool) where
 
 -- the token that was taken means nothing, and was refused
 pub refused_token : {A : Type 0} (meaning : Lexeme → Option A) (e : ParseError) (p q r : Parsing) (t : Lexeme)
-    → (take_at p ≡ Some (t, q)) × (p.failed ≡ None) → meaning t ≡ None → Fails e q r → IfRefused (cause_of e) (accept meaning p ≡ None) × Fails e p r
+    → take_at p ≡ Some (t, q) → meaning t ≡ None → Fails e q r → IfRefused (cause_of e) (accept meaning p ≡ None) × Fails e p r
 unfolding accept
 refused_token meaning e p q r t h m f =
-    let k = took_one p q t h.0 in
+    let k = took_one p q t h in
     (
-      if_refused_is (cause_of e) (rw (h.0, m) refl),
+      if_refused_is (cause_of e) (rw (h, m) refl),
       fails_later e p q r (ap (λ (x : Parsing). x.failed) k.state) (ap (λ (x : Parsing). x.len) k.state) f,
     )

@@ -1,4 +1,5 @@
 //! Parsing of Souper IR text.
+mod assignment;
 mod error;
 mod message;
 mod parser;

@@ -6,4 +6,4 @@ use Rattle.souper_ir.specs.Steps.{refused_token}
 use Rattle.souper_ir.proofs.parse.tokens.equals.Goals as goal
 
 pub returns-in_default : goal.returns-in_default
-returns-in_default c = refused_token equals_of c.refuse.result c.args.parser.now c.token.new.self c.refuse.new.self (lexeme_of c.in_ok-token.field-0) c.in_ok-token.ensures (search (rules, common_steps)) c.refuse.ensures
+returns-in_default c = refused_token equals_of c.refuse.result c.args.parser.now c.token.new.self c.refuse.new.self (lexeme_of c.in_ok-token.field-0) c.in_ok-token.ensures.0 (search (rules, common_steps)) c.refuse.ensures
