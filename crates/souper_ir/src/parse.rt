@@ -1,6 +1,7 @@
 //! Parsing of Souper IR text.
 mod assignment;
 mod error;
+mod infer;
 mod message;
 mod parser;
 mod tokens;
