@@ -4,12 +4,12 @@ use Rattle.std.specs.Prelude.{codes, bytes_eq, if◌then◌else◌}
 use Rattle.std.proofs.lemmas.Slice.Eq.{bytes_eq-Decides}
 use Rattle.souper_graph.specs.Values.{PlainRhs, var, PlainAssignment, PlainStatement, assigned, PlainInfer}
 use Rattle.souper_ir.specs.Tokens.{Lexeme, ident, val_name, known_bits, int, comma, colon, equals, open_paren, close_paren, open_bracket}
-use Rattle.souper_ir.specs.Spelling.{kinds, Scope, position_of, rhs_spells, assignment_spells, infer_spells}
-use Rattle.souper_ir.specs.Continuation.{rhs_continues, assignment_continues, infer_continues}
+use Rattle.souper_ir.specs.Spelling.{kinds, Scope, position_of, rhs_spells, assignment_spells, statement_spells, infer_spells}
+use Rattle.souper_ir.specs.Continuation.{rhs_continues, assignment_continues, statement_continues, infer_continues}
 use Rattle.souper_ir.specs.Parsing.{Parsing}
 use Rattle.souper_ir.specs.Reading.{◌>>=◌}
 use Rattle.souper_ir.specs.Grammar.{Free, Stops, Starts, peek_at}
-use Rattle.souper_ir.specs.NodeReadings.{accept, name_of, is_name, equals_of, is_word, word_of, rhs_by, rhs_at, fresh, assignment_at, infer_at}
+use Rattle.souper_ir.specs.NodeReadings.{accept, name_of, is_name, equals_of, is_word, word_of, rhs_by, rhs_at, fresh, assignment_at, statement_at, infer_at}
 use Rattle.souper_ir.specs.Peeks.{some_is, peeked}
 use Rattle.souper_ir.specs.Steps.{Takes, Takes-then, At, bind_some, accepted, accepts, peeks}
 use Rattle.souper_ir.specs.Readings.{Sound, Complete}
@@ -156,3 +156,24 @@ assignment_first s a ts h = subst (λ (x : List Lexeme). Starts is_name x) (sym 
 
 pub infer_first : (s : Scope) (i : PlainInfer) (ts : List Lexeme) → infer_spells s i ts → Starts (is_word (codes "infer")) ts
 infer_first s i ts h = subst (λ (x : List Lexeme). Starts (is_word (codes "infer")) x) (sym h.1) (word_is (codes "infer"))
+
+-- ---- statements
+
+abbrev StatementRead : Parsing → Parsing → PlainStatement → Type 0
+StatementRead p q v = (used : List Lexeme) × Takes p q used × statement_spells p.scope v used × Free (statement_continues v) (kinds q.tokens)
+
+pub statement_sound : Sound statement_spells statement_continues statement_at
+unfolding statement_at
+statement_sound p q v e =
+    let a = bind_some (assignment_at p) (λ a. Some (assigned a.0, a.1)) (v, q) e in
+    let same : ◌≡◌ {A = PlainStatement × Parsing} (assigned a.0.0, a.0.1) (v, q) = some_is a.2 in
+    subst (λ (x : PlainStatement × Parsing). StatementRead p x.1 x.0) same (assignment_sound p a.0.1 a.0.0 a.1)
+
+pub statement_complete : Complete statement_spells statement_continues statement_at
+unfolding statement_at
+statement_complete p (assigned a) front rest at s st =
+    let k = assignment_complete p a front rest at s st in
+    (k.0, rw k.1 refl, k.2, k.3)
+
+pub statement_first : (s : Scope) (v : PlainStatement) (ts : List Lexeme) → statement_spells s v ts → Starts is_name ts
+statement_first s (assigned a) ts h = assignment_first s a ts h

@@ -1,6 +1,6 @@
 -- How each node is read from the tokens to come.
 use Rattle.std.specs.Prelude.{ℕ, Bool, true, false, List, Option, Some, None, is_some, if◌then◌else◌, codes, bytes_eq}
-use Rattle.souper_graph.specs.Values.{PlainRhs, var, PlainAssignment, PlainInfer}
+use Rattle.souper_graph.specs.Values.{PlainRhs, var, PlainAssignment, PlainStatement, assigned, PlainInfer}
 use Rattle.souper_ir.specs.Tokens.{Lexeme, ident, val_name, equals}
 use Rattle.souper_ir.specs.Spelling.{position_of}
 use Rattle.souper_ir.specs.Parsing.{Parsing}
@@ -66,3 +66,8 @@ infer_at p = do
   n ← accept name_of k.1
   i ← position_of n.1.scope n.0
   Some (record { value = i }, n.1)
+
+unfoldable pub statement_at : Parsing → Option (PlainStatement × Parsing)
+statement_at p = do
+  a ← assignment_at p
+  Some (assigned a.0, a.1)
