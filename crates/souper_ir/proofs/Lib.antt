@@ -10,3 +10,6 @@ pub mod WhiteSpace
 pub mod Options
 pub mod Lists
 pub mod Names
+pub mod Placing
+pub mod Failing
+pub mod Stating

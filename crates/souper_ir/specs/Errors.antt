@@ -1,30 +1,82 @@
--- stub
-use Rattle.std.specs.Prelude.{ℕ, Option, Some, None}
-use Rattle.souper_ir.specs.declared.parse.error.ParseErrorKind.{ParseErrorKind}
-use Rattle.souper_ir.specs.declared.parse.error.ParseErrorKind.TheVariants as kinds
-use Rattle.souper_ir.specs.declared.parse.error.ParseError.{ParseError}
+-- What an error tells: its kind, its offset and the text that it shows.
+use Rattle.std.specs.Prelude.{◌≡◌, ℕ, List, ◌⊎◌, codes, Option, None, Some, IfSome, IsSomeAnd, option_map, string_bytes}
+use Rattle.std.specs.declared.io.Error.{Error}
 use Rattle.souper_ir.specs.declared.parse.error.Cause.{Cause}
-use Rattle.souper_ir.specs.declared.parse.error.Cause.TheVariants.{Io, Parse, Memory}
+use Rattle.souper_ir.specs.declared.parse.error.Cause.TheVariants.{Io as IoCause, Parse as ParseCause, Memory as MemoryCause}
+use Rattle.souper_ir.specs.declared.parse.error.ParseError.{ParseError}
+use Rattle.souper_ir.specs.declared.parse.error.ParseErrorKind.{ParseErrorKind}
+use Rattle.souper_ir.specs.declared.parse.error.ParseErrorKind.TheVariants.{Io, Parse, Memory}
+use Rattle.souper_ir.specs.declared.parse.place.Place.{Place}
+use Rattle.souper_ir.specs.Places.{IsPlace, IsRefusalText, direct_text, file_or_unknown, shown_refusal}
 
+-- one of three facts, by the kind: for `Io`, `Parse` and `Memory`
+abbrev pub OnKind : ParseErrorKind → Type 0 → Type 0 → Type 0 → Type 0
+OnKind Io io parse memory = io
+OnKind Parse io parse memory = parse
+OnKind Memory io parse memory = memory
+
+-- the kind of a cause
 abbrev pub kind_of_cause : Cause → ParseErrorKind
-kind_of_cause (Io e) = kinds.Io
-kind_of_cause (Parse r) = kinds.Parse
-kind_of_cause Memory = kinds.Memory
-
-abbrev pub offset_of_cause : Cause → Option ℕ
-offset_of_cause (Io e) = None
-offset_of_cause (Parse r) = Some r.offset
-offset_of_cause Memory = None
+kind_of_cause (IoCause fault) = Io
+kind_of_cause (ParseCause refusal) = Parse
+kind_of_cause MemoryCause = Memory
 
 -- `e.kind()`
 abbrev pub kind_of : ParseError → ParseErrorKind
 kind_of e = kind_of_cause e.cause
 
+-- the offset of a refusal
+abbrev pub offset_of_cause : Cause → Option ℕ
+offset_of_cause (ParseCause refusal) = Some refusal.offset
+offset_of_cause _ = None
+
 -- `e.offset()`
 abbrev pub offset_of : ParseError → Option ℕ
 offset_of e = offset_of_cause e.cause
 
-abbrev pub OnKind : ParseErrorKind → Type 0 → Type 0 → Type 0 → Type 0
-OnKind kinds.Io io parse memory = io
-OnKind kinds.Parse io parse memory = parse
-OnKind kinds.Memory io parse memory = memory
+-- the error of a read
+abbrev pub fault_of_cause : Cause → Option Error
+fault_of_cause (IoCause fault) = Some fault
+fault_of_cause _ = None
+
+-- the error of the read that failed
+abbrev pub fault_of : ParseError → Option Error
+fault_of e = fault_of_cause e.cause
+
+-- the text that shows a place, with a message
+abbrev pub shown_at : Place → List ℕ → List ℕ
+shown_at place message =
+    shown_refusal (file_or_unknown (option_map string_bytes place.file)) place.line place.column (string_bytes place.text) message
+
+-- the text that shows a refusal, with its place or without
+abbrev pub shown_by_place : Option Place → ℕ → List ℕ → List ℕ
+shown_by_place None offset message = direct_text offset message
+shown_by_place (Some place) offset message = shown_at place message
+
+-- the text that a cause shows
+abbrev pub shown_cause : Cause → Option (List ℕ)
+shown_cause (IoCause fault) = None
+shown_cause (ParseCause refusal) = Some (shown_by_place refusal.place refusal.offset (string_bytes refusal.message))
+shown_cause MemoryCause = Some (codes "out of memory")
+
+-- the text that the error shows, but for the text of an I/O error, of which nothing is said
+abbrev pub shown_error : ParseError → Option (List ℕ)
+shown_error e = shown_cause e.cause
+
+-- the place is that of the offset in the source, which has that file name
+abbrev pub IsPlaceIn : Option (List ℕ) → List ℕ → ℕ → Place → Type 0
+IsPlaceIn file source offset place =
+    (option_map string_bytes place.file ≡ file) × IsPlace source offset place.line place.column (string_bytes place.text)
+
+-- a refusal at that offset of the source, which shows its place
+abbrev pub IsRefusalAt : Option (List ℕ) → List ℕ → ℕ → ParseError → Type 0
+IsRefusalAt file source offset e =
+    (kind_of e ≡ Parse) × (offset_of e ≡ Some offset) × IsSomeAnd (shown_error e) (IsRefusalText file source offset)
+
+-- what became of an error when it was given its place in the source: a refusal at an offset shows its place there, or
+-- there was no memory for that, and any other error stayed as it was
+abbrev pub IsLocated : Option (List ℕ) → List ℕ → ParseError → ParseError → Type 0
+IsLocated file source old new = OnKind (kind_of old)
+    (new ≡ old)
+    (IfSome (offset_of old) (λ offset. (kind_of new ≡ Memory) ⊎ IsRefusalAt file source offset new))
+    (new ≡ old)

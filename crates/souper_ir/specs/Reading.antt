@@ -1,10 +1,11 @@
 -- Reading from left to right: a value and the parser behind it, or none.
-use Rattle.std.specs.Prelude.{◌≡◌, ℕ, ◌≤◌, ◌≢◌, Bool, true, false, List, [], ◌∷◌, Option, Some, None, Result, Ok, Err, option_map}
+use Rattle.std.specs.Prelude.{◌≡◌, ℕ, ◌≤◌, ◌≢◌, Bool, true, false, List, [], ◌∷◌, Option, Some, None, Result, Ok, Err, option_map, IsSomeAnd}
 use Rattle.std.proofs.Common.{◌∙◌, subst}
 use Rattle.souper_ir.specs.declared.parse.error.ParseErrorKind.{ParseErrorKind}
 use Rattle.souper_ir.specs.declared.parse.error.ParseErrorKind.TheVariants.{Io, Parse, Memory}
 use Rattle.souper_ir.specs.declared.parse.error.ParseError.{ParseError}
-use Rattle.souper_ir.specs.Errors.{kind_of, offset_of}
+use Rattle.souper_ir.specs.Errors.{kind_of, offset_of, shown_error}
+use Rattle.souper_ir.specs.Places.{IsDirectRefusalText}
 use Rattle.souper_ir.specs.Tokens.{Lexeme}
 use Rattle.souper_ir.specs.Parsing.{Cause, refused, no_memory, Parsing}
 
@@ -23,12 +24,13 @@ abbrev pub cause_of : ParseError → Option Cause
 cause_of e = cause_by (kind_of e) (offset_of e)
 
 -- The error leaves the parser failed by its cause, which is no I/O error. A parser that had failed fails by the same cause again, or
--- for want of memory. The offset of a refusal lies within the text.
+-- for want of memory. The offset of a refusal lies within the text, and it shows that offset and some message.
 pub record Fails (e : ParseError) (old new : Parsing) : Type 0 where
   pub stays : new.failed ≡ cause_of e
   pub caused : cause_of e ≢ None
   pub again : (c : Cause) → old.failed ≡ Some c → cause_of e ≢ Some no_memory → cause_of e ≡ Some c
   pub within : (o : ℕ) → cause_of e ≡ Some (refused o) → o ≤ new.len
+  pub shown : (o : ℕ) → cause_of e ≡ Some (refused o) → IsSomeAnd (shown_error e) (IsDirectRefusalText o)
   pub len : new.len ≡ old.len
 
 -- the error is want of memory, and leaves the parser failed by it
@@ -86,5 +88,6 @@ fails_later e p q r f l h = record {
   caused = h.caused;
   again = λ c x. h.again c (f ∙ x);
   within = h.within;
+  shown = h.shown;
   len = h.len ∙ l;
 }

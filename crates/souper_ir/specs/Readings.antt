@@ -82,3 +82,11 @@ of_memory P e h = subst (λ (o : Option Cause). IfRefused o P) (sym h) tt
 pub memory_refused : {V : Type 0} (spells : Scope → V → List Lexeme → Type 0) (continues : V → Lexeme → Type 0) (e : ParseError) (p q r : Parsing)
     → q.failed ≡ p.failed → q.len ≡ p.len → FailsForMemory e q r → Refusal spells continues e p r
 memory_refused spells continues e p q r f l h = record { failed = fails_later e p q r f l h.1; nothing = of_memory _ e h.0 }
+
+-- what holds of plain data holds of the nodes that are seen as it
+module _ {X Y : Type 0} (view : X → Y) (spells : Scope → Y → List Lexeme → Type 0) (continues : Y → Lexeme → Type 0) where
+  pub viewed_taken : (leaves : Scope → Scope) (x : X) (p q : Parsing) → Took spells continues leaves (view x) p q → Took (λ s v ts. spells s (view v) ts) (λ v t. continues (view v) t) leaves x p q
+  viewed_taken leaves x p q took = record { used = took.used; parts = took.parts; spelled = took.spelled; free = took.free; live = took.live; state = took.state }
+
+  pub viewed_refused : (e : ParseError) (p q : Parsing) → Refusal spells continues e p q → Refusal (λ s (v : X) ts. spells s (view v) ts) (λ (v : X) t. continues (view v) t) e p q
+  viewed_refused e p q h = record { failed = h.failed; nothing = if_refused (cause_of e) (λ f live v. f live (view v)) h.nothing }

@@ -2,8 +2,10 @@
 mod assignment;
 mod error;
 mod infer;
+mod item;
 mod message;
 mod parser;
+mod place;
 mod tokens;
 mod traits;
 

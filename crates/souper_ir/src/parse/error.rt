@@ -1,17 +1,32 @@
-//! Stub.
-ghost use Rattle.std.specs.Prelude.{◌≡◌, Some};
-ghost use Rattle.souper_ir.specs.Errors.{kind_of, offset_of};
-ghost use Rattle.souper_ir.specs.declared.parse.error.ParseErrorKind.TheVariants as kinds;
+//! The error of a parse.
+ghost use Rattle.std.specs.Prelude.{◌≡◌, ◌≤◌, ◌⊎◌, length, string_bytes, option_copied, IfSome, Some};
+ghost use Rattle.std.specs.Fmt.{WritesOnOk};
+ghost use Rattle.souper_ir.specs.Places.{direct_text};
+ghost use Rattle.souper_ir.specs.Errors.{kind_of, offset_of, fault_of, shown_error, shown_by_place, IsLocated, IsRefusalAt};
 
+use crate::parse::place::Place;
 use std::alloc::{AllocError, AllocFailed, Global};
-use std::fmt;
-use std::io;
+use std::error::Error;
+use std::{fmt, io};
 
+#[cfg(test)]
+mod tests;
+
+/// Why a parse failed.
 #[derive(Clone, Copy, Debug, PartialEq, Eq)]
 pub enum ParseErrorKind {
+    /// A read failed, or what was read is no text.
     Io,
+    /// The text was refused.
     Parse,
+    /// There was no memory for the result, or for the error.
     Memory,
+}
+
+/// The error of a parse. It shows why the parse failed and, for a text that was refused, where.
+#[derive(Drop)]
+pub struct ParseError {
+    cause: Cause,
 }
 
 #[derive(Drop)]
@@ -21,28 +36,162 @@ enum Cause {
     Memory,
 }
 
+// A refusal of a text. It has no place until its source is known.
 #[derive(Drop)]
 struct Refusal {
     offset: usize,
     message: String,
-}
-
-#[derive(Drop)]
-pub struct ParseError {
-    cause: Cause,
+    place: Option<Place>,
 }
 
 impl ParseError {
+    /// A refusal at an offset, in bytes.
     pub(crate) fn refused(offset: usize, message: String) -> ParseError
-        ensures kind { kind_of result ≡ kinds.Parse }
+        ensures kind { kind_of result ≡ ParseErrorKind.Parse }
         ensures offset { offset_of result ≡ Some offset }
+        ensures shown { shown_error result ≡ Some (direct_text offset (string_bytes message)) }
     {
-        ParseError { cause: Cause::Parse(Refusal { offset, message }) }
+        let place = None;
+        ParseError {
+            cause: Cause::Parse(Refusal {
+                offset,
+                message,
+                place,
+            }),
+        }
     }
 
+    /// Want of memory.
     pub(crate) fn memory() -> ParseError
-        ensures { kind_of result ≡ kinds.Memory }
+        ensures { kind_of result ≡ ParseErrorKind.Memory }
     {
-        ParseError { cause: Cause::Memory }
+        ParseError {
+            cause: Cause::Memory,
+        }
+    }
+
+    /// Gives a refusal its place in the source.
+    pub(crate) fn locate(self, alloc: Global, source: &str, file: Option<&str>) -> ParseError
+        requires { IfSome (offset_of self) (λ offset. offset ≤ length source.now) }
+        ensures { IsLocated (option_copied file.entry) source.now self result }
+    {
+        match self.cause {
+            Cause::Parse(refusal) => refusal.locate(alloc, source, file),
+            cause => ParseError { cause },
+        }
+    }
+
+    /// Why the parse failed.
+    pub fn kind(&self) -> ParseErrorKind
+        ensures { result ≡ kind_of self.now }
+    {
+        match &self.cause {
+            Cause::Io(_) => ParseErrorKind::Io,
+            Cause::Parse(_) => ParseErrorKind::Parse,
+            Cause::Memory => ParseErrorKind::Memory,
+        }
+    }
+
+    /// Where the text was refused: `Some` exactly for the kind `Parse`. An offset is a number of bytes from the text's
+    /// first byte, and lies in 0 to the text's length.
+    pub fn offset(&self) -> Option<usize>
+        ensures { result ≡ offset_of self.now }
+    {
+        match &self.cause {
+            Cause::Parse(refusal) => Some(refusal.offset),
+            _ => None,
+        }
+    }
+}
+
+impl Refusal {
+    fn locate(self, alloc: Global, source: &str, file: Option<&str>) -> ParseError
+        requires { self.offset ≤ length source.now }
+        ensures { (kind_of result ≡ ParseErrorKind.Memory) ⊎ IsRefusalAt (option_copied file.entry) source.now self.offset result }
+    {
+        match Place::new(alloc, source, self.offset, file) {
+            Ok(place) => ParseError {
+                cause: Cause::Parse(Refusal {
+                    offset: self.offset,
+                    message: self.message,
+                    place: Some(place),
+                }),
+            },
+            Err(refused) => ParseError::from(refused),
+        }
+    }
+
+    fn show<W: fmt::Write>(&self, f: &mut fmt::Formatter<W>) -> fmt::Result
+        ensures { WritesOnOk W.write_str_gives f.old result (shown_by_place self.now.place self.now.offset (string_bytes self.now.message)) f.new }
+    {
+        let message = self.message.as_str();
+        match &self.place {
+            Some(place) => place.show(f, message),
+            None => {
+                let offset = self.offset;
+                write!(
+                    f,
+                    "unknown:1:1: {message}\n     |\n   1 | byte offset {offset}\n     | ^"
+                )
+            }
+        }
+    }
+}
+
+impl fmt::Display for ParseError {
+    ghost output = { shown_error };
+
+    fn fmt<W: fmt::Write>(&self, f: &mut fmt::Formatter<W>) -> fmt::Result {
+        match &self.cause {
+            Cause::Io(fault) => write!(f, "IO error: {fault}"),
+            Cause::Parse(refusal) => refusal.show(f),
+            Cause::Memory => write!(f, "out of memory"),
+        }
+    }
+}
+
+impl fmt::Debug for ParseError {
+    ghost debug_output = { shown_error };
+
+    fn fmt<W: fmt::Write>(&self, f: &mut fmt::Formatter<W>) -> fmt::Result {
+        fmt::Display::fmt(self, f)
+    }
+}
+
+impl Error for ParseError {}
+
+impl From<io::Error> for ParseError {
+    ghost use Rattle.souper_ir.specs.declared.parse.error.ParseErrorKind.TheVariants.{Io};
+
+    ghost from_gives = { λ fault e. (kind_of e ≡ Io) × (fault_of e ≡ Some fault) };
+
+    fn from(fault: io::Error) -> ParseError {
+        ParseError {
+            cause: Cause::Io(fault),
+        }
+    }
+}
+
+impl From<AllocError> for ParseError {
+    ghost use Rattle.souper_ir.specs.declared.parse.error.ParseErrorKind.TheVariants.{Memory};
+
+    ghost from_gives = { λ _ e. kind_of e ≡ Memory };
+
+    fn from(_refused: AllocError) -> ParseError {
+        ParseError {
+            cause: Cause::Memory,
+        }
+    }
+}
+
+impl<T: Drop> From<AllocFailed<T>> for ParseError {
+    ghost use Rattle.souper_ir.specs.declared.parse.error.ParseErrorKind.TheVariants.{Memory};
+
+    ghost from_gives = { λ _ e. kind_of e ≡ Memory };
+
+    fn from(_refused: AllocFailed<T>) -> ParseError {
+        ParseError {
+            cause: Cause::Memory,
+        }
     }
 }
