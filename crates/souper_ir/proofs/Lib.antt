@@ -13,3 +13,5 @@ pub mod Names
 pub mod Placing
 pub mod Failing
 pub mod Stating
+pub mod ItemLists
+pub mod Viewing

@@ -35,6 +35,9 @@ is_word k _ = false
 abbrev pub word_of : List ℕ → Lexeme → Option (Unit {0})
 word_of k t = if is_word k t then Some tt else None
 
+abbrev pub is_any : Lexeme → Bool
+is_any t = true
+
 -- ---- nodes
 
 abbrev pub rhs_by : Bool → Parsing → Option (PlainRhs × Parsing)

@@ -1,15 +1,18 @@
 //! Whole items.
-ghost use Rattle.std.specs.Prelude.{◌≡◌, OnOk, IfErr, []};
+ghost use Rattle.std.specs.Prelude.{◌≡◌, map, false, None, IfOk, OnOk, IfErr, IsOkAnd, []};
 ghost use Rattle.souper_graph.specs.View.{view_left_hand_side};
-ghost use Rattle.souper_ir.specs.Spelling.{left_hand_side, item_spells_after};
+ghost use Rattle.souper_ir.specs.Spelling.{ItemType, left_hand_side, item_spells_after};
 ghost use Rattle.souper_ir.specs.Continuation.{item_continues};
 ghost use Rattle.souper_ir.specs.Items.{TakesStatements, StatedRefusal};
+ghost use Rattle.souper_graph.specs.Values.{Item};
+ghost use Rattle.souper_ir.specs.Grammar.{Took, Refusal};
 ghost use Rattle.souper_ir.specs.ItemLaws.{item_alone};
+ghost use Rattle.souper_ir.specs.ItemRuns.{SpellsAll, ListRefusal};
 
 use crate::parse::assignment::assignment;
 use crate::parse::infer::infer;
 use crate::parse::parser::{Parser, Result};
-use crate::parse::tokens::value_name_comes;
+use crate::parse::tokens::{token_comes, value_name_comes};
 use crate::parse::traits::Parse;
 use souper_graph::ast::LeftHandSide;
 
@@ -25,6 +28,30 @@ fn statements(parser: &mut Parser<'_>) -> Result<()>
     Ok(())
 }
 
+/// A whole item. The scope is empty behind it.
+pub(crate) trait WholeItem: Sized {
+    ghost item_type: { ItemType };
+
+    ghost view: { Self → Item };
+
+    fn item(parser: &mut Parser<'_>) -> Result<Self>
+        ensures ok { IfOk result (λ v. Took (item_spells_after item_type) item_continues (λ s. []) (view v) parser.old parser.new) }
+        ensures err { IfErr result (λ e. Refusal (item_spells_after item_type) item_continues e parser.old parser.new) };
+}
+
+impl WholeItem for LeftHandSide {
+    ghost item_type = { left_hand_side };
+
+    ghost view = { view_left_hand_side };
+
+    fn item(parser: &mut Parser<'_>) -> Result<Self> {
+        statements(parser)?;
+        let infer = infer(parser)?;
+        let statements = parser.finish();
+        Ok(LeftHandSide { statements, infer })
+    }
+}
+
 /// The scope is empty behind it.
 impl Parse for LeftHandSide {
     ghost spells = { λ s v ts. item_spells_after left_hand_side s (view_left_hand_side v) ts };
@@ -38,9 +65,25 @@ impl Parse for LeftHandSide {
     ghost alone = { λ s v w. item_alone left_hand_side s (view_left_hand_side v) (view_left_hand_side w) };
 
     fn parse<'a>(parser: &mut Parser<'a>) -> Result<Self> {
-        statements(parser)?;
-        let infer = infer(parser)?;
-        let statements = parser.finish();
-        Ok(LeftHandSide { statements, infer })
+        LeftHandSide::item(parser)
     }
+}
+
+// The items up to the end of the text.
+fn items<T: WholeItem + Drop>(parser: &mut Parser<'_>) -> Result<Vec<T>>
+    requires { parser.old.scope ≡ [] }
+    ensures ok { IfOk result (λ v. SpellsAll T.item_type (map T.view v.items) parser.old) }
+    ensures err { IfErr result (λ e. ListRefusal T.item_type e parser.old parser.new) }
+    // The end of the text needs no memory.
+    ensures ended { (parser.old.tokens ≡ []) → (parser.old.faulty ≡ false) → (parser.old.failed ≡ None) → IsOkAnd result (λ v. v.items ≡ []) }
+{
+    let mut items = Vec::new(parser.alloc());
+    while token_comes(parser)? {
+        let item = T::item(parser)?;
+        match items.push(item) {
+            Ok(()) => {}
+            Err(_) => return Err(parser.want_memory()),
+        }
+    }
+    Ok(items)
 }

@@ -1,5 +1,5 @@
 //! A parser with one token of lookahead.
-ghost use Rattle.std.specs.Prelude.{◌≡◌, ◌≤◌, ◌++◌, ◌∷◌, [], length, map, ℕ, List, false, Some, None, IfOk, OnOk, OnErr, IfErr, option_map, is_some, ◌≢◌};
+ghost use Rattle.std.specs.Prelude.{◌≡◌, ◌≤◌, ◌++◌, ◌∷◌, [], length, map, ℕ, List, false, Some, None, IfOk, OnOk, OnErr, IfErr, IsOk, option_map, is_some, ◌≢◌};
 ghost use Rattle.std.specs.String.{string_bytes};
 ghost use Rattle.souper_graph.specs.View.{view_statement, view_assignment};
 ghost use Rattle.souper_graph.specs.Values.{assigned};
@@ -138,7 +138,9 @@ impl<'a> Parser<'a> {
     /// The next token, which is not taken, or `None` at the end of the text.
     #[tactic(auto, unfolding(crate::specs::Reading::look_at))]
     pub(crate) fn lookahead(&mut self) -> Result<Option<Token<'a>>>
-        ensures { Gives (option_map lexeme_of) result (look_at self.old) self.old self.new }
+        ensures next { Gives (option_map lexeme_of) result (look_at self.old) self.old self.new }
+        // The end of the text needs no memory.
+        ensures ended { self.old.tokens ≡ [] → self.old.faulty ≡ false → self.old.failed ≡ None → IsOk result }
     {
         self.check_live()?;
         if let Some((_, token)) = self.ahead {

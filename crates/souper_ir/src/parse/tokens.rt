@@ -1,8 +1,8 @@
 //! Single tokens that a parser takes or sees to come.
-ghost use Rattle.std.specs.Prelude.{◌≡◌};
+ghost use Rattle.std.specs.Prelude.{◌≡◌, [], false, None, IsOk};
 ghost use Rattle.souper_ir.specs.Reading.{Gives};
 ghost use Rattle.souper_ir.specs.Grammar.{peek_at};
-ghost use Rattle.souper_ir.specs.NodeReadings.{accept, name_of, is_name, equals_of, is_word, word_of};
+ghost use Rattle.souper_ir.specs.NodeReadings.{accept, name_of, is_name, is_any, equals_of, is_word, word_of};
 
 use crate::lexer::Token;
 use crate::parse::message::Message;
@@ -53,4 +53,13 @@ pub(crate) fn word_comes(parser: &mut Parser<'_>, word: &str) -> Result<bool>
         Some(Token::Ident(next)) => Ok(next == word),
         _ => Ok(false),
     }
+}
+
+#[tactic(auto, unfolding(crate::specs::Grammar::peek_at))]
+pub(crate) fn token_comes(parser: &mut Parser<'_>) -> Result<bool>
+    ensures next { Gives (λ b. b) result (peek_at is_any parser.old) parser.old parser.new }
+    // The end of the text needs no memory.
+    ensures ended { parser.old.tokens ≡ [] → parser.old.faulty ≡ false → parser.old.failed ≡ None → IsOk result }
+{
+    Ok(parser.lookahead()?.is_some())
 }

@@ -1,34 +1,8 @@
-use Rattle.std.proofs.Common.{[]}
-use Rattle.std.proofs.lemmas.Result.{err_from_is_err_and}
-use Rattle.souper_graph.specs.declared.ast.LeftHandSide.{LeftHandSide}
-use Rattle.souper_graph.specs.Values.{PlainInfer}
-use Rattle.souper_graph.specs.View.{view_infer, view_left_hand_side}
-use Rattle.souper_ir.specs.Spelling.{left_hand_side, infer_spells, item_spells_after}
-use Rattle.souper_ir.specs.Continuation.{infer_continues, item_continues}
-use Rattle.souper_ir.specs.Grammar.{Took}
-use Rattle.souper_ir.specs.NodeReadings.{infer_at}
-use Rattle.souper_ir.specs.NodeLaws.{infer_sound, infer_complete}
-use Rattle.souper_ir.specs.Readings.{is_taken, is_refused, viewed_taken, viewed_refused}
-use Rattle.souper_ir.specs.ItemLaws.{statements_refused, ending_refused, infer_refused, item_taken}
+use Rattle.souper_graph.specs.View.{view_left_hand_side}
+use Rattle.souper_ir.specs.Spelling.{left_hand_side, item_spells_after}
+use Rattle.souper_ir.specs.Continuation.{item_continues}
+use Rattle.souper_ir.proofs.Viewing.{viewed_err}
 use Rattle.souper_ir.proofs.parse.item.LeftHandSideParse.parse.Goals as goal
 
-pub returns-in_err-statements-clause-err : goal.returns-in_err-statements-clause-err
-returns-in_err-statements-clause-err c =
-    let p = err_from_is_err_and c.from_residual.result c.from_residual.ensures.1 in
-    rw (p.1, p.2) (viewed_refused view_left_hand_side (item_spells_after left_hand_side) item_continues c.in_err-statements.field-0.0 c.args.parser.now c.statements.new.parser
-      (statements_refused left_hand_side c.in_err-statements.field-0.0 c.args.parser.now c.statements.new.parser c.in_err-statements.ensures.err))
-
-pub returns-in_err-infer-clause-err : goal.returns-in_err-infer-clause-err
-returns-in_err-infer-clause-err c =
-    let p = err_from_is_err_and c.from_residual-in_err-infer.result c.from_residual-in_err-infer.ensures.1 in
-    rw (p.1, p.2) (viewed_refused view_left_hand_side (item_spells_after left_hand_side) item_continues c.in_err-infer.field-0.0 c.args.parser.now c.infer.new.parser
-      (ending_refused left_hand_side c.in_ok-statements.ensures.ok.0 c.in_err-infer.field-0.0 c.args.parser.now c.statements.new.parser c.infer.new.parser c.in_ok-statements.ensures.ok.1
-      (infer_refused c.in_err-infer.field-0.0 c.statements.new.parser c.infer.new.parser (is_refused infer_spells infer_continues infer_at (λ (i : PlainInfer). i) infer_complete c.in_err-infer.field-0.0 c.statements.new.parser c.infer.new.parser c.in_err-infer.ensures))))
-
-pub returns-clause-ok : goal.returns-clause-ok
-returns-clause-ok c =
-    let took = is_taken infer_spells infer_continues infer_at view_infer infer_sound c.in_ok-infer.infer c.statements.new.parser c.infer.new.parser c.in_ok-infer.ensures in
-    let item : LeftHandSide = record { statements = c.finish-statements.result; infer = c.in_ok-infer.infer } in
-    viewed_taken view_left_hand_side (item_spells_after left_hand_side) item_continues (λ s. []) item c.args.parser.now c.finish-statements.new.self
-      (item_taken left_hand_side (view_left_hand_side item) c.in_ok-statements.ensures.ok.0 took.used
-        c.args.parser.now c.statements.new.parser c.infer.new.parser c.finish-statements.new.self c.in_ok-statements.ensures.ok.1 took.parts took.spelled took.free took.state c.finish-statements.ensures.statements c.finish-statements.ensures.empty)
+pub returns-clause-err : goal.returns-clause-err
+returns-clause-err c = viewed_err view_left_hand_side (item_spells_after left_hand_side) item_continues c.item.result c.args.parser.now c.item.new.parser c.item.ensures.err
