@@ -15,3 +15,5 @@ pub mod Failing
 pub mod Stating
 pub mod ItemLists
 pub mod Viewing
+pub mod TextItems
+pub mod WellFormedItems

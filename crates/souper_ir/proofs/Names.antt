@@ -11,7 +11,7 @@ use Rattle.souper_graph.specs.Values.{PlainAssignment, PlainStatement, assigned}
 use Rattle.souper_ir.specs.Spelling.{Scope, position_from, position_of}
 use Rattle.souper_ir.specs.ParserView.{NamesAre}
 
-abbrev or_else : Option ℕ → Option ℕ → Option ℕ
+abbrev pub or_else : Option ℕ → Option ℕ → Option ℕ
 or_else None o = o
 or_else (Some i) o = Some i
 
@@ -20,7 +20,7 @@ found_or true k o p q e = refl
 found_or false k o p q e = e
 
 -- the position of a name, after one more assignment
-position_push : (k : ℕ) (ss : Scope) (a : PlainAssignment) (n : List ℕ) → or_else (position_from k ss n) (if bytes_eq a.name n then Some (k + length ss) else None) ≡ position_from k (ss ++ assigned a ∷ []) n
+pub position_push : (k : ℕ) (ss : Scope) (a : PlainAssignment) (n : List ℕ) → or_else (position_from k ss n) (if bytes_eq a.name n then Some (k + length ss) else None) ≡ position_from k (ss ++ assigned a ∷ []) n
 position_push k [] a n = ap (λ (i : ℕ). if bytes_eq a.name n then Some i else None) (let e : k + 0 ≡ k = omega arith in e)
 position_push k (assigned b ∷ ss) a n =
     let count : suc k + length ss ≡ k + suc (length ss) = omega arith in

@@ -10,5 +10,6 @@ mod tokens;
 mod traits;
 
 pub use error::{ParseError, ParseErrorKind};
+pub use item::parse_left_hand_sides_str;
 pub use parser::{Parser, Result};
 pub use traits::{Parse, Peek};
