@@ -1,13 +1,8 @@
-// A library with one function.
+//! The functions of the formatter: it reads items of Souper IR and writes the canonical text of each.
 #![tactic(auto)]
 
-ghost use Rattle.std.specs.Prelude.{◌≡◌};
-ghost use Rattle.souper_format.specs.Echo.{echo_of};
-
-// The `ensures` clause is the contract: what `echo` returns is `echo_of` of its argument, a definition
-// in `specs/Echo.antt`, which a caller's clause can cite too.
-pub fn echo(x: usize) -> usize
-    ensures { result ≡ echo_of x }
-{
-    x
-}
+pub mod command;
+pub mod items;
+pub mod run;
+mod tell;
+pub mod watched;

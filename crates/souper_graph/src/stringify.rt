@@ -76,7 +76,11 @@ fn name_of_value(statements: &Arena<Statement>, value: ValueId) -> Result<&str, 
     }
 }
 
-fn append_rhs(statements: &Arena<Statement>, rhs: &AssignmentRhs, out: &mut String) -> Result<(), TextError>
+fn append_rhs(
+    statements: &Arena<Statement>,
+    rhs: &AssignmentRhs,
+    out: &mut String,
+) -> Result<(), TextError>
     ensures ok { OnOk result (string_bytes out.new ≡ string_bytes out.old ++ text_of_rhs (map view_statement statements.now) (view_rhs rhs.now)) }
     ensures memory { IfErr result (λ error. error ≡ OutOfMemory) }
 {
@@ -88,7 +92,11 @@ fn append_rhs(statements: &Arena<Statement>, rhs: &AssignmentRhs, out: &mut Stri
     }
 }
 
-fn append_assignment(statements: &Arena<Statement>, assignment: &Assignment, out: &mut String) -> Result<(), TextError>
+fn append_assignment(
+    statements: &Arena<Statement>,
+    assignment: &Assignment,
+    out: &mut String,
+) -> Result<(), TextError>
     ensures ok { OnOk result (string_bytes out.new ≡ string_bytes out.old ++ text_of_assignment (map view_statement statements.now) (view_assignment assignment.now)) }
     ensures memory { IfErr result (λ error. error ≡ OutOfMemory) }
 {
@@ -97,7 +105,11 @@ fn append_assignment(statements: &Arena<Statement>, assignment: &Assignment, out
     append_rhs(statements, &assignment.value, out)
 }
 
-fn append_statement(statements: &Arena<Statement>, statement: &Statement, out: &mut String) -> Result<(), TextError>
+fn append_statement(
+    statements: &Arena<Statement>,
+    statement: &Statement,
+    out: &mut String,
+) -> Result<(), TextError>
     ensures ok { OnOk result (string_bytes out.new ≡ string_bytes out.old ++ text_of_statement (map view_statement statements.now) (view_statement statement.now)) }
     ensures memory { IfErr result (λ error. error ≡ OutOfMemory) }
 {
@@ -109,7 +121,11 @@ fn append_statement(statements: &Arena<Statement>, statement: &Statement, out: &
 }
 
 // The line of the statement at a position.
-fn append_line(statements: &Arena<Statement>, id: Id<Statement>, out: &mut String) -> Result<(), TextError>
+fn append_line(
+    statements: &Arena<Statement>,
+    id: Id<Statement>,
+    out: &mut String,
+) -> Result<(), TextError>
     ensures ok { OnOk result (string_bytes out.new ≡ string_bytes out.old ++ line_at (map view_statement statements.now) id) }
     ensures refused { IfErr result (λ error. IsFaultAt (map view_statement statements.now) id error) }
 {
@@ -119,7 +135,11 @@ fn append_line(statements: &Arena<Statement>, id: Id<Statement>, out: &mut Strin
     }
 }
 
-fn append_infer(statements: &Arena<Statement>, infer: &Infer, out: &mut String) -> Result<(), TextError>
+fn append_infer(
+    statements: &Arena<Statement>,
+    infer: &Infer,
+    out: &mut String,
+) -> Result<(), TextError>
     ensures ok { OnOk result (string_bytes out.new ≡ string_bytes out.old ++ text_of_infer (map view_statement statements.now) (view_infer infer.now)) }
     ensures assigned { OnOk result (IsAssigned (slice_get (map view_statement statements.now) infer.now.value)) }
     ensures refused { IfErr result (λ error. IsFaultAt (map view_statement statements.now) infer.now.value error) }

@@ -19,6 +19,6 @@ refused_fails e p q o message k at shown bound before after l =
       again = λ c x not_memory. cause ∙ ap Some (sym (before c x));
       within = λ n x. let same : ◌≡◌ {A = Option Cause} (Some (refused o)) (Some (refused n)) = sym cause ∙ x in let e2 : o ≡ n = cc in omega arith;
       shown = λ n x. let same : ◌≡◌ {A = Option Cause} (Some (refused o)) (Some (refused n)) = sym cause ∙ x in let e2 : o ≡ n = cc in
-        subst (λ (s : Option (List ℕ)). IsSomeAnd s (IsDirectRefusalText n)) (sym shown) (message, ap (λ (i : ℕ). direct_text i message) e2);
+          subst (λ (s : Option (List ℕ)). IsSomeAnd s (IsDirectRefusalText n)) (sym shown) (message, ap (λ (i : ℕ). direct_text i message) e2);
       len = l;
     }

@@ -116,8 +116,8 @@ pub look_refused : (k : ItemType) (vs : List Item) (e : ParseError) (p q r : Par
 look_refused k vs e p q r so h = record {
   failed = fails_later e p q r (failed_same k vs p q so) (len_same k vs p q so) h.1;
   nothing = if_refused (cause_of e) (λ unseen live items sound spelled.
-    let fault = unread is_any q unseen (failed_same k vs p q so ∙ live) in
-    let clash : true ≡ false = sym fault.1 ∙ ap (λ (x : Parsing). x.faulty) so.state ∙ sound in absurd cc) h.0;
+      let fault = unread is_any q unseen (failed_same k vs p q so ∙ live) in
+      let clash : true ≡ false = sym fault.1 ∙ ap (λ (x : Parsing). x.faulty) so.state ∙ sound in absurd cc) h.0;
 }
 
 some_start : (ts : List Lexeme) → Starts is_any ts → ts ≡ [] → ⊥
@@ -143,11 +143,11 @@ item_refused k vs e p q m r so h bad =
     record {
       failed = fails_later e p q r (failed_same k vs p q so) (len_same k vs p q so) here.failed;
       nothing = if_refused (cause_of e) (λ none live items sound spelled.
-        let quiet : q.faulty ≡ false = ap (λ (x : Parsing). x.faulty) so.state ∙ sound in
-        let none_here : NoFrontOf (item_spells k) item_continues false (kinds q.tokens) =
+          let quiet : q.faulty ≡ false = ap (λ (x : Parsing). x.faulty) so.state ∙ sound in
+          let none_here : NoFrontOf (item_spells k) item_continues false (kinds q.tokens) =
           subst (λ (x : Bool). NoFrontOf (item_spells k) item_continues x (kinds q.tokens)) quiet
-            (subst (λ (x : List PlainStatement). NoFrontOf (λ v ts. item_spells_after k x v ts) item_continues q.faulty (kinds q.tokens)) scope (none (failed_same k vs p q so ∙ live))) in
-        no_list k vs items (kinds so.used) (kinds q.tokens) (kinds p.tokens) (ap kinds so.parts ∙ kinds-append so.used q.tokens) so.spelled (some_start (kinds q.tokens) (peeked_yes is_any q.faulty q.tokens seen.2)) none_here spelled) here.nothing;
+          (subst (λ (x : List PlainStatement). NoFrontOf (λ v ts. item_spells_after k x v ts) item_continues q.faulty (kinds q.tokens)) scope (none (failed_same k vs p q so ∙ live))) in
+          no_list k vs items (kinds so.used) (kinds q.tokens) (kinds p.tokens) (ap kinds so.parts ∙ kinds-append so.used q.tokens) so.spelled (some_start (kinds q.tokens) (peeked_yes is_any q.faulty q.tokens seen.2)) none_here spelled) here.nothing;
     }
 
 pub list_memory : (k : ItemType) (vs : List Item) (e : ParseError) (p q r : Parsing) → ItemsTaken k vs p q → FailsForMemory e q r → ListRefusal k e p r

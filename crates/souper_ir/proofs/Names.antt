@@ -26,15 +26,12 @@ position_push k (assigned b ∷ ss) a n =
     let count : suc k + length ss ≡ k + suc (length ss) = omega arith in
     let more = position_push (suc k) ss a n in
     found_or (bytes_eq b.name n) k (position_from (suc k) ss n) (if bytes_eq a.name n then Some (k + suc (length ss)) else None) (position_from (suc k) (ss ++ assigned a ∷ []) n)
-      (subst (λ (i : ℕ). or_else (position_from (suc k) ss n) (if bytes_eq a.name n then Some i else None) ≡ position_from (suc k) (ss ++ assigned a ∷ []) n) count more)
+    (subst (λ (i : ℕ). or_else (position_from (suc k) ss n) (if bytes_eq a.name n then Some i else None) ≡ position_from (suc k) (ss ++ assigned a ∷ []) n) count more)
 
 only_if : (b : Bool) (o : Option ℕ) (v : ℕ) → (b ≡ true → o ≡ None) → (if b then Some v else o) ≡ or_else o (if b then Some v else None)
 only_if true o v h = rw (h refl) refl
 only_if false None v h = refl
 only_if false (Some i) v h = refl
-
-
-
 
 -- one more name, which was not there
 pub names_push : (old new : BTreeMap (Bor (List ℕ)) ℕ) (ss : Scope) (key : Bor (List ℕ)) (a : PlainAssignment) (v : ℕ)

@@ -51,11 +51,11 @@ module _ {V : Type 0} (spells : Scope → V → List Lexeme → Type 0) (continu
   none_taken p q h =
       let seen = peeked starts p q false h.0 in
       subst (λ (x : Parsing). Took some_spells some_goes_on (λ s. s) None p x) (sym seen.0)
-        (record {
-          used = [];
-          parts = refl;
-          spelled = refl;
-          free = Free-from_Stops (λ t. starts t ≡ true) p.faulty (kinds p.tokens) (peeked_no starts p.faulty p.tokens seen.2);
-          live = h.1;
-          state = refl;
-        })
+      (record {
+        used = [];
+        parts = refl;
+        spelled = refl;
+        free = Free-from_Stops (λ t. starts t ≡ true) p.faulty (kinds p.tokens) (peeked_no starts p.faulty p.tokens seen.2);
+        live = h.1;
+        state = refl;
+      })

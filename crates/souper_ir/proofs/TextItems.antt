@@ -58,10 +58,9 @@ none_spelled k bs e p q o live only h cause items spelled =
     none items same.1 (subst (λ (x : List (ℕ × Lexeme)). list_spells k items (kinds x)) (sym same.0) spelled.2)
 
 module _ (k : ItemType) (file : Option (List ℕ)) (bs : List ℕ) (e new : ParseError) (p q : Parsing)
-  (live : p.failed ≡ None) (len : p.len ≡ length bs)
-  (only : (ts : List (ℕ × Lexeme)) → IsTextOf bs ts → (p.tokens ≡ ts) × (p.faulty ≡ false))
-  (h : ListRefusal k e p q) where
-
+    (live : p.failed ≡ None) (len : p.len ≡ length bs)
+    (only : (ts : List (ℕ × Lexeme)) → IsTextOf bs ts → (p.tokens ≡ ts) × (p.faulty ≡ false))
+    (h : ListRefusal k e p q) where
   memory_answer : kind_of new ≡ Memory → IsStrError k file bs new
   memory_answer m = rw m tt
 

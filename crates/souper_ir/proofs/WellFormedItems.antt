@@ -66,7 +66,7 @@ named_push ss a named fresh p v e = by_place (get_push ss (assigned a) (assigned
     by_place (inr h) =
         let same : a.name ≡ v.name = (let e2 : a ≡ v = cc in ap (λ (x : PlainAssignment). x.name) e2) in
         subst (λ (x : List ℕ). position_of (ss ++ assigned a ∷ []) x ≡ Some p) same
-          (sym (position_push 0 ss a a.name) ∙ rw (fresh, (bytes_eq-Decides a.name a.name).1 refl) (ap Some (let l = h.0 in let e3 : 0 + length ss ≡ p = omega arith in e3)))
+        (sym (position_push 0 ss a a.name) ∙ rw (fresh, (bytes_eq-Decides a.name a.name).1 refl) (ap Some (let l = h.0 in let e3 : 0 + length ss ≡ p = omega arith in e3)))
 
 stated_named : (s : Scope) (vs : List PlainStatement) (ts : List Lexeme) → Named s → Statements s vs ts → Named (s ++ vs)
 stated_named s [] ts named m = subst Named (sym (append-nil s)) named
@@ -117,7 +117,7 @@ item_well k a ts l m =
         assigned_uses = λ u h. absurd (no_use v u h);
       };
       distinct = λ p q v w np nq ep eq same.
-        some_same p q (position_of a.statements v.name) (named p v ep) (subst (λ (x : List ℕ). position_of a.statements x ≡ Some q) (sym same) (named q w eq));
+          some_same p q (position_of a.statements v.name) (named p v ep) (subst (λ (x : List ℕ). position_of a.statements x ≡ Some q) (sym same) (named q w eq));
     }
 
 all_well : (k : ItemType) (items : List Item) (ts : List Lexeme) → AllLexemes ts → list_spells k items ts → AllByRecursion WellFormed items

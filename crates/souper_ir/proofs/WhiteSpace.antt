@@ -55,20 +55,20 @@ tabs_at k d h = subst (λ (i : ℕ). get_or white_space i d ≡ 9 + k) (let e : 
 
 tab : (c : ℕ) → (nat_lt 8 c && nat_lt c 14) ≡ true → Contains white_space c
 tab c h = both (Contains white_space c) (nat_lt 8 c) (nat_lt c 14)
-  (λ a b. run 0 9 5 c (lit≤ tt) tabs_at (omega (arith, ltb-true 8 c a)) (omega (arith, ltb-true c 14 b))) h
+    (λ a b. run 0 9 5 c (lit≤ tt) tabs_at (omega (arith, ltb-true 8 c a)) (omega (arith, ltb-true c 14 b))) h
 
 spaces : (c : ℕ) → (nat_lt 8191 c && nat_lt c 8203) ≡ true → Contains white_space c
 spaces c h = both (Contains white_space c) (nat_lt 8191 c) (nat_lt c 8203)
-  (λ a b. run 9 8192 11 c (lit≤ tt) wide (omega (arith, ltb-true 8191 c a)) (omega (arith, ltb-true c 8203 b))) h
+    (λ a b. run 9 8192 11 c (lit≤ tt) wide (omega (arith, ltb-true 8191 c a)) (omega (arith, ltb-true c 8203 b))) h
 
 pub white_listed : (c : ℕ) → is_whitespace c ≡ true → Contains white_space c
 white_listed c =
     let P : Type 0 = Contains white_space c in
     either P _ (c == 12288) (either P _ (c == 8287) (either P _ (c == 8239) (either P _ (c == 8233) (either P _ (c == 8232)
-      (either P _ _ (either P _ (c == 5760) (either P _ (c == 160) (either P _ (c == 133) (either P _ (c == 32) (tab c)
-        (one 5 32 c (lit< tt) (λ d. refl))) (one 6 133 c (lit< tt) (λ d. refl))) (one 7 160 c (lit< tt) (λ d. refl))) (one 8 5760 c (lit< tt) (λ d. refl)))
-      (spaces c)) (one 20 8232 c (lit< tt) (λ d. refl))) (one 21 8233 c (lit< tt) (λ d. refl))) (one 22 8239 c (lit< tt) (λ d. refl)))
-      (one 23 8287 c (lit< tt) (λ d. refl))) (one 24 12288 c (lit< tt) (λ d. refl))
+    (either P _ _ (either P _ (c == 5760) (either P _ (c == 160) (either P _ (c == 133) (either P _ (c == 32) (tab c)
+    (one 5 32 c (lit< tt) (λ d. refl))) (one 6 133 c (lit< tt) (λ d. refl))) (one 7 160 c (lit< tt) (λ d. refl))) (one 8 5760 c (lit< tt) (λ d. refl)))
+    (spaces c)) (one 20 8232 c (lit< tt) (λ d. refl))) (one 21 8233 c (lit< tt) (λ d. refl))) (one 22 8239 c (lit< tt) (λ d. refl)))
+    (one 23 8287 c (lit< tt) (λ d. refl))) (one 24 12288 c (lit< tt) (λ d. refl))
 
 passes : (b : Bool) → (b ≡ false → ⊥) → b ≡ true
 passes true h = refl

@@ -196,12 +196,13 @@ module _ {Y : Type 0} (ending : Scope → Y → List Lexeme → Type 0) (continu
           free_clash f (g ++ (e ++ d)) [] (statement_first s w f first) tt (sym k.0 ∙ ahead)
       no_first faulty s w ws c f g e d y ahead (inl (inr k)) first more sp =
           k.1 w f (g ++ (e ++ d)) ahead (subst (λ (x : Scope). statement_spells x w f) (sym (append-nil s)) first)
-            (subst (λ (x : List Lexeme). Stops (statement_continues w) faulty x) (append_assoc g e d) (over (g ++ e) d (stops_over faulty (s ++ w ∷ []) w ws g e more (opens (s ++ (w ∷ ws)) y e sp)) (grown g e (opens (s ++ (w ∷ ws)) y e sp))))
+          (subst (λ (x : List Lexeme). Stops (statement_continues w) faulty x) (append_assoc g e d) (over (g ++ e) d (stops_over faulty (s ++ w ∷ []) w ws g e more (opens (s ++ (w ∷ ws)) y e sp)) (grown g e (opens (s ++ (w ∷ ws)) y e sp))))
         where
           grown : (g e : List Lexeme) → Opens e → g ++ e ≡ [] → ⊥
           grown [] [] o h = o
           grown [] (t ∷ e) o h = absurd cc
           grown (t ∷ g) e o h = absurd cc
+
           over : (x d : List Lexeme) → Stops (statement_continues w) faulty x → (x ≡ [] → ⊥) → Stops (statement_continues w) faulty (x ++ d)
           over [] d h no_end = absurd (no_end refl)
           over (t ∷ x) d h no_end = h
@@ -219,7 +220,7 @@ module _ {Y : Type 0} (ending : Scope → Y → List Lexeme → Type 0) (continu
       let sp2 : ending ((s ++ v ∷ []) ++ ws) y e = subst (λ (x : Scope). ending x y e) (ap (λ (x : PlainStatement). s ++ (x ∷ ws)) (sym here.1) ∙ sym (append_assoc s (v ∷ []) ws)) sp in
       let k2 : NoMore ending continues ((s ++ v ∷ []) ++ vs) faulty c = subst (λ (x : Scope). NoMore ending continues x faulty c) (sym (append_assoc s (v ∷ []) vs)) k in
       no_item faulty (s ++ v ∷ []) vs ws m.1 c n.1 e d y rest m.4
-        (Free-weaker (λ t. LastGoesOn statement_continues (v ∷ vs) t) (λ t. LastGoesOn statement_continues vs t) c (last_later v vs) f) k2 more sp2 st
+      (Free-weaker (λ t. LastGoesOn statement_continues (v ∷ vs) t) (λ t. LastGoesOn statement_continues vs t) c (last_later v vs) f) k2 more sp2 st
     where
       opens_ahead : (e d : List Lexeme) → Opens e → Opens (e ++ d)
       opens_ahead [] d o = absurd o
@@ -270,12 +271,11 @@ pub item_alone : (k : ItemType) (s : Scope) (v w : Item) (a b c d : List Lexeme)
 item_alone k s v w a b c d e m n f g =
     let whole : m.1 ++ (m.2 ++ c) ≡ n.1 ++ (n.2 ++ d) = sym (split a m.1 m.2 c m.4) ∙ e ∙ split b n.1 n.2 d n.4 in
     let stated = statements_alone s m.0 n.0 m.1 n.1 (m.2 ++ c) (n.2 ++ d) whole m.5 n.5
-      (opens_over m.2 c (ending_opens k v.statements v.ending m.2 m.6)) (opens_over n.2 d (ending_opens k w.statements w.ending n.2 n.6)) in
+    (opens_over m.2 c (ending_opens k v.statements v.ending m.2 m.6)) (opens_over n.2 d (ending_opens k w.statements w.ending n.2 n.6)) in
     let rest : m.2 ++ c ≡ n.2 ++ d = append_cancel_left n.1 (m.2 ++ c) (n.2 ++ d) (ap (λ (x : List Lexeme). x ++ (m.2 ++ c)) (sym stated.0) ∙ whole) in
     let statements : v.statements ≡ w.statements = m.3 ∙ ap (λ (x : List PlainStatement). s ++ x) stated.1 ∙ sym n.3 in
     let n-ending : ending_spells k v.statements w.ending n.2 = subst (λ (x : Scope). ending_spells k x w.ending n.2) (sym statements) n.6 in
-    let ended = ending_alone k v.statements v.ending w.ending m.2 n.2 c d rest m.6 n-ending f g in
-    (
+    let ended = ending_alone k v.statements v.ending w.ending m.2 n.2 c d rest m.6 n-ending f g in (
       m.4 ∙ ap (λ (x : List Lexeme). x ++ m.2) stated.0 ∙ ap (λ (x : List Lexeme). n.1 ++ x) ended.0 ∙ sym n.4,
       ap (λ (x : List PlainStatement). record { statements = x; ending = v.ending }) statements ∙ ap (λ (x : Ending). record { statements = w.statements; ending = x }) ended.1,
     )
@@ -301,7 +301,7 @@ none_if_stuck : (k : ItemType) (p : Parsing) → StuckAt (NoMore (ending_spells 
 none_if_stuck k p h a front rest e sp st =
     let ending_here : ending_spells k (p.scope ++ sp.0) a.ending sp.2 = subst (λ (x : Scope). ending_spells k x a.ending sp.2) sp.3 sp.6 in
     no_item (ending_spells k) ending_continues (ending_opens k) p.faulty p.scope h.members sp.0 h.front h.rest sp.1 sp.2 rest a.ending
-      (sym h.parts ∙ e ∙ split front sp.1 sp.2 rest sp.4) h.spelled h.free h.stuck sp.5 ending_here st
+    (sym h.parts ∙ e ∙ split front sp.1 sp.2 rest sp.4) h.spelled h.free h.stuck sp.5 ending_here st
 
 weaker : (k : ItemType) (s : Scope) (faulty : Bool) (ts : List Lexeme) → StuckAt NoStatement s faulty ts → StuckAt (NoMore (ending_spells k) ending_continues) s faulty ts
 weaker k s faulty ts h = record { members = h.members; front = h.front; rest = h.rest; parts = h.parts; spelled = h.spelled; free = h.free; stuck = inl h.stuck }
@@ -313,7 +313,7 @@ pub ending_refused : (k : ItemType) (new : List PlainStatement) (e : ParseError)
 ending_refused k new e p q r so h = record {
   failed = fails_later e p q r (failed_same new p q so.stated) (len_same new p q so.stated) h.failed;
   nothing = if_refused (cause_of e) (λ x live. none_if_stuck k p (stuck_at (NoMore (ending_spells k) ending_continues) new p q so.stated
-    (inr (Free-from_Stops (λ t. starts_statement t ≡ true) q.faulty (kinds q.tokens) so.quiet, x (failed_same new p q so.stated ∙ live))))) h.nothing;
+      (inr (Free-from_Stops (λ t. starts_statement t ≡ true) q.faulty (kinds q.tokens) so.quiet, x (failed_same new p q so.stated ∙ live))))) h.nothing;
 }
 
 -- a refused infer line is a refused ending

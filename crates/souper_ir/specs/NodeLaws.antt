@@ -65,7 +65,7 @@ rhs_by_sound true p q v e =
     let same : ◌≡◌ {A = PlainRhs × Parsing} (var, w.0.1) (v, q) = some_is w.2 in
     let t = accepted (word_of (codes "var")) p w.0.1 w.0.0 w.1 in
     subst (λ (x : PlainRhs × Parsing). RhsRead p x.1 x.0) same
-      (t.0 ∷ [], t.1, ap (λ (x : Lexeme). x ∷ []) (word_means (codes "var") t.0 t.2), never (kinds w.0.1.tokens))
+    (t.0 ∷ [], t.1, ap (λ (x : Lexeme). x ∷ []) (word_means (codes "var") t.0 t.2), never (kinds w.0.1.tokens))
 
 pub rhs_sound : Sound rhs_spells rhs_continues rhs_at
 unfolding rhs_at
@@ -137,7 +137,7 @@ infer_sound p q i e =
     let at : position_of p.scope n.0.0 ≡ Some v.0 = subst (λ (x : Parsing). position_of x.scope n.0.0 ≡ Some v.0) whole.state v.1 in
     let parts : k2.0 ∷ n2.0 ∷ [] ≡ ident (codes "infer") ∷ val_name n.0.0 ∷ [] = rw (word_means (codes "infer") k2.0 k2.2, name_means n2.0 n.0.0 n2.2) refl in
     subst (λ (x : PlainInfer × Parsing). (used : List Lexeme) × Takes p x.1 used × infer_spells p.scope x.0 used × Free (infer_continues x.0) (kinds x.1.tokens)) same
-      (k2.0 ∷ n2.0 ∷ [], whole, (n.0.0, parts, at), never (kinds n.0.1.tokens))
+    (k2.0 ∷ n2.0 ∷ [], whole, (n.0.0, parts, at), never (kinds n.0.1.tokens))
 
 pub infer_complete : Complete infer_spells infer_continues infer_at
 unfolding infer_at

@@ -118,8 +118,7 @@ pub refused_token : {A : Type 0} (meaning : Lexeme → Option A) (e : ParseError
     → take_at p ≡ Some (t, q) → meaning t ≡ None → Fails e q r → IfRefused (cause_of e) (accept meaning p ≡ None) × Fails e p r
 unfolding accept
 refused_token meaning e p q r t h m f =
-    let k = took_one p q t h in
-    (
+    let k = took_one p q t h in (
       if_refused_is (cause_of e) (rw (h, m) refl),
       fails_later e p q r (ap (λ (x : Parsing). x.failed) k.state) (ap (λ (x : Parsing). x.len) k.state) f,
     )

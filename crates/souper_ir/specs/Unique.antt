@@ -32,11 +32,10 @@ pub clash_at : (starts : Lexeme → Bool) (faulty : Bool) (b c d : List Lexeme) 
 clash_at starts faulty b c d st e f = clash starts b c d st e (Free-from_Stops (λ t. starts t ≡ true) faulty c f)
 
 module _ {V : Type 0} (spells : V → List Lexeme → Type 0) (continues : V → Lexeme → Type 0) (alike : V → V → Type 0) (starts : Lexeme → Bool)
-  (alone : (v w : V) (a b c d : List Lexeme) → a ++ c ≡ b ++ d → spells v a → spells w b → Free (continues v) c → Free (continues w) d → (a ≡ b) × alike v w)
-  (first : (v : V) (ts : List Lexeme) → spells v ts → Starts starts ts) where
-
+    (alone : (v w : V) (a b c d : List Lexeme) → a ++ c ≡ b ++ d → spells v a → spells w b → Free (continues v) c → Free (continues w) d → (a ≡ b) × alike v w)
+    (first : (v : V) (ts : List Lexeme) → spells v ts → Starts starts ts) where
   pub option_alone : (o q : Option V) (a b c d : List Lexeme) → a ++ c ≡ b ++ d → OptionSpells spells o a → OptionSpells spells q b
-    → Free (λ t. OptionGoesOn continues starts o t) c → Free (λ t. OptionGoesOn continues starts q t) d → (a ≡ b) × OptionAlike alike o q
+      → Free (λ t. OptionGoesOn continues starts o t) c → Free (λ t. OptionGoesOn continues starts q t) d → (a ≡ b) × OptionAlike alike o q
   option_alone None None a b c d e s r f g = (s ∙ sym r, tt)
   option_alone None (Some w) a b c d e s r f g =
       absurd (clash starts b c d (first w b r) (ap (λ (x : List Lexeme). x ++ c) (sym s) ∙ e) f)
@@ -75,22 +74,22 @@ module _ {V : Type 0} (spells : V → List Lexeme → Type 0) (continues : V →
   parts_equal a b a1 a2 b1 b2 c d p q e = sym (append_assoc a1 a2 c) ∙ ap (λ (x : List Lexeme). x ++ c) (sym p) ∙ e ∙ ap (λ (x : List Lexeme). x ++ d) q ∙ append_assoc b1 b2 d
 
   pub list_alone : (vs ws : List V) (a b c d : List Lexeme) → a ++ c ≡ b ++ d → Members spells continues vs a → Members spells continues ws b
-    → Free (λ t. ListGoesOn continues starts vs t) c → Free (λ t. ListGoesOn continues starts ws t) d → (a ≡ b) × AllAlike alike vs ws
+      → Free (λ t. ListGoesOn continues starts vs t) c → Free (λ t. ListGoesOn continues starts ws t) d → (a ≡ b) × AllAlike alike vs ws
   list_alone [] [] a b c d e m n f g = (m ∙ sym n, tt)
   list_alone [] (w ∷ ws) a b c d e m n f g =
       absurd (clash starts n.0 c (n.1 ++ d) (first w n.0 n.3)
-        (ap (λ (x : List Lexeme). x ++ c) (sym m) ∙ e ∙ ap (λ (x : List Lexeme). x ++ d) n.2 ∙ append_assoc n.0 n.1 d)
-        (Free-weaker (λ t. ListGoesOn continues starts [] t) (λ t. starts t ≡ true) c (λ t h. inl h) f))
+      (ap (λ (x : List Lexeme). x ++ c) (sym m) ∙ e ∙ ap (λ (x : List Lexeme). x ++ d) n.2 ∙ append_assoc n.0 n.1 d)
+      (Free-weaker (λ t. ListGoesOn continues starts [] t) (λ t. starts t ≡ true) c (λ t h. inl h) f))
   list_alone (v ∷ vs) [] a b c d e m n f g =
       absurd (clash starts m.0 d (m.1 ++ c) (first v m.0 m.3)
-        (ap (λ (x : List Lexeme). x ++ d) (sym n) ∙ sym e ∙ ap (λ (x : List Lexeme). x ++ c) m.2 ∙ append_assoc m.0 m.1 c)
-        (Free-weaker (λ t. ListGoesOn continues starts [] t) (λ t. starts t ≡ true) d (λ t h. inl h) g))
+      (ap (λ (x : List Lexeme). x ++ d) (sym n) ∙ sym e ∙ ap (λ (x : List Lexeme). x ++ c) m.2 ∙ append_assoc m.0 m.1 c)
+      (Free-weaker (λ t. ListGoesOn continues starts [] t) (λ t. starts t ≡ true) d (λ t h. inl h) g))
   list_alone (v ∷ vs) (w ∷ ws) a b c d e m n f g =
       let whole = parts_equal a b m.0 m.1 n.0 n.1 c d m.2 n.2 e in
       let here = alone v w m.0 n.0 (m.1 ++ c) (n.1 ++ d) whole m.3 n.3
-        (free_over v vs m.1 c m.4 m.5 (Free-weaker (λ t. ListGoesOn continues starts (v ∷ vs) t) (λ t. LastGoesOn continues (v ∷ vs) t) c (λ t h. inr h) f))
-        (free_over w ws n.1 d n.4 n.5 (Free-weaker (λ t. ListGoesOn continues starts (w ∷ ws) t) (λ t. LastGoesOn continues (w ∷ ws) t) d (λ t h. inr h) g)) in
+      (free_over v vs m.1 c m.4 m.5 (Free-weaker (λ t. ListGoesOn continues starts (v ∷ vs) t) (λ t. LastGoesOn continues (v ∷ vs) t) c (λ t h. inr h) f))
+      (free_over w ws n.1 d n.4 n.5 (Free-weaker (λ t. ListGoesOn continues starts (w ∷ ws) t) (λ t. LastGoesOn continues (w ∷ ws) t) d (λ t h. inr h) g)) in
       let there = list_alone vs ws m.1 n.1 c d (rest_equal m.0 m.1 n.0 n.1 c d here.0 whole) m.5 n.5
-        (Free-weaker (λ t. ListGoesOn continues starts (v ∷ vs) t) (λ t. ListGoesOn continues starts vs t) c (list_later v vs) f)
-        (Free-weaker (λ t. ListGoesOn continues starts (w ∷ ws) t) (λ t. ListGoesOn continues starts ws t) d (list_later w ws) g) in
+      (Free-weaker (λ t. ListGoesOn continues starts (v ∷ vs) t) (λ t. ListGoesOn continues starts vs t) c (list_later v vs) f)
+      (Free-weaker (λ t. ListGoesOn continues starts (w ∷ ws) t) (λ t. ListGoesOn continues starts ws t) d (list_later w ws) g) in
       (m.2 ∙ ap (λ (x : List Lexeme). x ++ m.1) here.0 ∙ ap (λ (x : List Lexeme). n.0 ++ x) there.0 ∙ sym n.2, (here.1, there.1))

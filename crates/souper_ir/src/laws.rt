@@ -6,4 +6,3 @@ pub fn law_of_tokens()
     ensures one_reading { OneReading }
     ensures white_space { IsWhiteSpaceListed }
 {}
-

@@ -1,8 +1,7 @@
 //! Souper IR: its syntax tree, its parser and its canonical text.
 #![tactic(auto)]
 
-pub use souper_graph::ast;
-pub use souper_graph::stringify;
+pub use souper_graph::{ast, stringify};
 
 pub mod laws;
 mod lexer;

@@ -94,7 +94,11 @@ fn items<T: WholeItem + Drop>(parser: &mut Parser<'_>) -> Result<Vec<T>>
 }
 
 // The items of a text.
-fn parse_str<T: WholeItem + Drop>(alloc: Global, source: &str, filename: Option<&str>) -> Result<Vec<T>>
+fn parse_str<T: WholeItem + Drop>(
+    alloc: Global,
+    source: &str,
+    filename: Option<&str>,
+) -> Result<Vec<T>>
     ensures spelled { IfOk result (λ v. TextSpells T.item_type source.now (map T.view v.items)) }
     ensures well_formed { IfOk result (λ v. AllByRecursion WellFormed (map T.view v.items)) }
     ensures refused { IfErr result (λ e. IsStrError T.item_type (option_copied filename.entry) source.now e) }

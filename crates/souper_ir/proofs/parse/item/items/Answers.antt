@@ -27,13 +27,13 @@ returns-in_err-item-clause-ended g c = λ e f l.
 pub loop-items-smaller : goal.loop-items-smaller
 loop-items-smaller g c =
     item_shorter g.T.WholeItem.item_type _ (g.T.WholeItem.view c.in_ok-item.item) c.args.parser.now c.loop-items.parser c.item.new.parser c.loop-items.invariant
-      (read_behind g.T.WholeItem.item_type (g.T.WholeItem.view c.in_ok-item.item) c.loop-items.parser c.token_comes.new.parser c.item.new.parser c.in_ok-token_comes.ensures.next c.in_ok-item.ensures.ok)
+    (read_behind g.T.WholeItem.item_type (g.T.WholeItem.view c.in_ok-item.item) c.loop-items.parser c.token_comes.new.parser c.item.new.parser c.in_ok-token_comes.ensures.next c.in_ok-item.ensures.ok)
 
 pub loop-items-preserved : goal.loop-items-preserved
 loop-items-preserved g c =
     rw (c.in-Ok.ensures.items, map-append)
-      (runs_on g.T.WholeItem.item_type _ (g.T.WholeItem.view c.in_ok-item.item) c.args.parser.now c.loop-items.parser c.item.new.parser c.loop-items.invariant
-        (read_behind g.T.WholeItem.item_type (g.T.WholeItem.view c.in_ok-item.item) c.loop-items.parser c.token_comes.new.parser c.item.new.parser c.in_ok-token_comes.ensures.next c.in_ok-item.ensures.ok))
+    (runs_on g.T.WholeItem.item_type _ (g.T.WholeItem.view c.in_ok-item.item) c.args.parser.now c.loop-items.parser c.item.new.parser c.loop-items.invariant
+    (read_behind g.T.WholeItem.item_type (g.T.WholeItem.view c.in_ok-item.item) c.loop-items.parser c.token_comes.new.parser c.item.new.parser c.in_ok-token_comes.ensures.next c.in_ok-item.ensures.ok))
 
 pub returns-in-Err-clause-ended : goal.returns-in-Err-clause-ended
 returns-in-Err-clause-ended g c = λ e f l.

@@ -20,7 +20,7 @@ returns-clause-gaps g c = λ h.
 pub returns-clause-refused : goal.returns-clause-refused
 returns-clause-refused g c =
     located_answer g.T.WholeItem.item_type (option_copied c.args.filename) c.args.source.now c.in-Err.error c.locate.result c.new-parser.result c.items.new.parser
-      c.new-parser.ensures.live c.new-parser.ensures.len c.new-parser.ensures.only c.in-Err.ensures.err c.locate.ensures
+    c.new-parser.ensures.live c.new-parser.ensures.len c.new-parser.ensures.only c.in-Err.ensures.err c.locate.ensures
 
 pub returns-in-Ok-clause-well_formed : goal.returns-in-Ok-clause-well_formed
 returns-in-Ok-clause-well_formed g c =

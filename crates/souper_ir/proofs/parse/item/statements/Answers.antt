@@ -18,21 +18,21 @@ returns-in_err-name-clause-err c =
 pub define-requires-clause-fresh : goal.define-requires-clause-fresh
 define-requires-clause-fresh c =
     is_fresh (view_assignment c.in_ok-name.assignment) c.in_ok-name.name.now c.loop-parser.parser c.assignment.new.parser
-      (read_at (view_assignment c.in_ok-name.assignment) c.loop-parser.parser c.value_name_comes.new.parser c.assignment.new.parser (rw c.if-branch.true at c.in_ok-value_name_comes.ensures) c.in_ok-name.ensures.reads)
-      c.in_ok-name.ensures.name
+    (read_at (view_assignment c.in_ok-name.assignment) c.loop-parser.parser c.value_name_comes.new.parser c.assignment.new.parser (rw c.if-branch.true at c.in_ok-value_name_comes.ensures) c.in_ok-name.ensures.reads)
+    c.in_ok-name.ensures.name
 
 pub loop-parser-smaller : goal.loop-parser-smaller
 loop-parser-smaller c =
     entered_shorter (view_assignment c.in_ok-name.assignment) c.loop-parser.parser c.assignment.new.parser c.define.new.self
-      (read_at (view_assignment c.in_ok-name.assignment) c.loop-parser.parser c.value_name_comes.new.parser c.assignment.new.parser (rw c.if-branch.true at c.in_ok-value_name_comes.ensures) c.in_ok-name.ensures.reads)
-      c.in_ok-define.ensures.ok
+    (read_at (view_assignment c.in_ok-name.assignment) c.loop-parser.parser c.value_name_comes.new.parser c.assignment.new.parser (rw c.if-branch.true at c.in_ok-value_name_comes.ensures) c.in_ok-name.ensures.reads)
+    c.in_ok-define.ensures.ok
 
 pub loop-parser-preserved : goal.loop-parser-preserved
 loop-parser-preserved c = (
   _,
   entered c.loop-parser.invariant.0 (view_assignment c.in_ok-name.assignment) c.args.parser.now c.loop-parser.parser c.assignment.new.parser c.define.new.self c.loop-parser.invariant.1
-    (read_at (view_assignment c.in_ok-name.assignment) c.loop-parser.parser c.value_name_comes.new.parser c.assignment.new.parser (rw c.if-branch.true at c.in_ok-value_name_comes.ensures) c.in_ok-name.ensures.reads)
-    c.in_ok-define.ensures.ok,
+      (read_at (view_assignment c.in_ok-name.assignment) c.loop-parser.parser c.value_name_comes.new.parser c.assignment.new.parser (rw c.if-branch.true at c.in_ok-value_name_comes.ensures) c.in_ok-name.ensures.reads)
+      c.in_ok-define.ensures.ok,
 )
 
 pub returns-clause-ok : goal.returns-clause-ok

@@ -21,11 +21,11 @@ pub returns-in_err-infer-clause-err : goal.returns-in_err-infer-clause-err
 returns-in_err-infer-clause-err c =
     let p = err_from_is_err_and c.from_residual-in_err-infer.result c.from_residual-in_err-infer.ensures.1 in
     rw (p.1, p.2) (ending_refused left_hand_side c.in_ok-statements.ensures.ok.0 c.in_err-infer.field-0.0 c.args.parser.now c.statements.new.parser c.infer.new.parser c.in_ok-statements.ensures.ok.1
-      (infer_refused c.in_err-infer.field-0.0 c.statements.new.parser c.infer.new.parser (is_refused infer_spells infer_continues infer_at (λ (i : PlainInfer). i) infer_complete c.in_err-infer.field-0.0 c.statements.new.parser c.infer.new.parser c.in_err-infer.ensures)))
+    (infer_refused c.in_err-infer.field-0.0 c.statements.new.parser c.infer.new.parser (is_refused infer_spells infer_continues infer_at (λ (i : PlainInfer). i) infer_complete c.in_err-infer.field-0.0 c.statements.new.parser c.infer.new.parser c.in_err-infer.ensures)))
 
 pub returns-clause-ok : goal.returns-clause-ok
 returns-clause-ok c =
     let took = is_taken infer_spells infer_continues infer_at view_infer infer_sound c.in_ok-infer.infer c.statements.new.parser c.infer.new.parser c.in_ok-infer.ensures in
     let item : LeftHandSide = record { statements = c.finish-statements.result; infer = c.in_ok-infer.infer } in
     (item_taken left_hand_side (view_left_hand_side item) c.in_ok-statements.ensures.ok.0 took.used
-        c.args.parser.now c.statements.new.parser c.infer.new.parser c.finish-statements.new.self c.in_ok-statements.ensures.ok.1 took.parts took.spelled took.free took.state c.finish-statements.ensures.statements c.finish-statements.ensures.empty)
+    c.args.parser.now c.statements.new.parser c.infer.new.parser c.finish-statements.new.self c.in_ok-statements.ensures.ok.1 took.parts took.spelled took.free took.state c.finish-statements.ensures.statements c.finish-statements.ensures.empty)

@@ -31,21 +31,21 @@ pub loop-values-smaller : goal.loop-values-smaller
 loop-values-smaller g c =
     let seen = peeked g.P.Peek.starts c.loop-values.parser c.peek.new.parser _ c.in_ok-peek.ensures.0 in
     let took : Took g.P.Parse.spells g.P.Parse.continues g.P.Parse.leaves c.in_ok-value.value c.loop-values.parser c.parse.new.parser =
-      subst (λ (x : Parsing). Took g.P.Parse.spells g.P.Parse.continues g.P.Parse.leaves c.in_ok-value.value x c.parse.new.parser) seen.0 c.in_ok-value.ensures.ok in
+    subst (λ (x : Parsing). Took g.P.Parse.spells g.P.Parse.continues g.P.Parse.leaves c.in_ok-value.value x c.parse.new.parser) seen.0 c.in_ok-value.ensures.ok in
     shorter g.P.Parse.spells g.P.Parse.continues g.P.Parse.alike g.P.Peek.starts g.met.P.Parse.alone g.met.P.Peek.first g.P.Parse.leaves c.in_ok-value.value c.loop-values.parser c.parse.new.parser took
 
 pub loop-values-preserved : goal.loop-values-preserved
 loop-values-preserved g c =
     let seen = peeked g.P.Peek.starts c.loop-values.parser c.peek.new.parser _ c.in_ok-peek.ensures.0 in
     let took : Took g.P.Parse.spells g.P.Parse.continues g.P.Parse.leaves c.in_ok-value.value c.loop-values.parser c.parse.new.parser =
-      subst (λ (x : Parsing). Took g.P.Parse.spells g.P.Parse.continues g.P.Parse.leaves c.in_ok-value.value x c.parse.new.parser) seen.0 c.in_ok-value.ensures.ok in
+    subst (λ (x : Parsing). Took g.P.Parse.spells g.P.Parse.continues g.P.Parse.leaves c.in_ok-value.value x c.parse.new.parser) seen.0 c.in_ok-value.ensures.ok in
     rw c.in-Ok.ensures.items (goes_on g.P.Parse.spells g.P.Parse.continues g.P.Parse.alike g.P.Peek.starts g.met.P.Parse.alone g.met.P.Peek.first g.P.Parse.leaves c.loop-values.values.items c.in_ok-value.value c.args.parser.now c.loop-values.parser c.parse.new.parser g.met.P.Peek.stays c.loop-values.invariant took)
 
 pub returns-in-Err-clause-err : goal.returns-in-Err-clause-err
 returns-in-Err-clause-err g c =
     let seen = peeked g.P.Peek.starts c.loop-values.parser c.peek.new.parser _ c.in_ok-peek.ensures.0 in
     let took : Took g.P.Parse.spells g.P.Parse.continues g.P.Parse.leaves c.in_ok-value.value c.loop-values.parser c.parse.new.parser =
-      subst (λ (x : Parsing). Took g.P.Parse.spells g.P.Parse.continues g.P.Parse.leaves c.in_ok-value.value x c.parse.new.parser) seen.0 c.in_ok-value.ensures.ok in
+    subst (λ (x : Parsing). Took g.P.Parse.spells g.P.Parse.continues g.P.Parse.leaves c.in_ok-value.value x c.parse.new.parser) seen.0 c.in_ok-value.ensures.ok in
     let so = goes_on g.P.Parse.spells g.P.Parse.continues g.P.Parse.alike g.P.Peek.starts g.met.P.Parse.alone g.met.P.Peek.first g.P.Parse.leaves c.loop-values.values.items c.in_ok-value.value c.args.parser.now c.loop-values.parser c.parse.new.parser g.met.P.Peek.stays c.loop-values.invariant took in
     (memory_ends g.P.Parse.spells g.P.Parse.continues g.P.Parse.alike g.P.Peek.starts g.met.P.Parse.alone g.met.P.Peek.first _ c.want_memory.result c.args.parser.now c.parse.new.parser c.want_memory.new.self so c.want_memory.ensures).0
 

@@ -1,0 +1,2 @@
+pub mod BadIds
+pub mod RunLemmas

@@ -1,0 +1,75 @@
+-- What an error of the parser makes of a run, and what a run says where the reader's bytes are known.
+use Rattle.std.proofs.Common.{◌≡◌, ◌≤◌, ℕ, List, [], ◌∷◌, ◌++◌, Option, zero, suc, None, Some, IfSome, ◌⊎◌, inl, inr, length, sym, ap, ◌∙◌, subst, append-nil}
+use Rattle.std.specs.Str.{IsUtf8}
+use Rattle.std.specs.Io.KnownBytes.{Consumes, IsAtEnd}
+use Rattle.souper_ir.specs.Spelling.{ItemType, SpellsNone}
+use Rattle.souper_ir.specs.Errors.{kind_of, offset_of, shown_error, OnKind}
+use Rattle.souper_ir.specs.Places.{IsRefusalText}
+use Rattle.souper_ir.specs.Answers.{IsStrError}
+use Rattle.souper_ir.specs.declared.parse.ParseError.{ParseError}
+use Rattle.souper_ir.specs.declared.parse.ParseErrorKind.{ParseErrorKind}
+use Rattle.souper_ir.specs.declared.parse.ParseErrorKind.TheVariants.{Io, Parse, Memory}
+use Rattle.souper_format.specs.Streams.{Stream, IsGiven, IsGivenNothing}
+use Rattle.souper_format.specs.Reading.{ReadAll}
+use Rattle.souper_format.specs.Telling.{ToldLine, StoppedByMemory, ErrorTold}
+use Rattle.souper_format.specs.Runs.{Formats, ToldRefusal, IsRun, IsKnownRun}
+
+-- a refusal at an offset of the source, as the parser answers it
+abbrev IsRefusal : ItemType → List ℕ → ParseError → Type 0
+IsRefusal k source e = (offset : ℕ) × (offset_of e ≡ Some offset) × (offset ≤ length source) × SpellsNone k source
+    × ((shown : List ℕ) × (shown_error e ≡ Some shown) × IsRefusalText None source offset shown)
+
+told_refusal : (k : ItemType) (source : List ℕ) (err : Stream) (e : ParseError)
+    → IsRefusal k source e → ToldLine err e → ToldRefusal source err
+told_refusal k source err e (offset, at, within, none, (shown, is_shown, is_text)) told works =
+    let (line, (bytes, are_shown, is_line), given) = told works in
+    let same = subst (λ o. IfSome o (λ s. bytes ≡ s)) is_shown are_shown in
+    (offset, shown, within, is_text, subst (IsGiven err) (is_line ∙ ap (λ (s : List ℕ). s ++ 10 ∷ []) same) given)
+
+stopped : (k : ItemType) (input out err : Stream) (status : ℕ)
+    → IsGivenNothing out → StoppedByMemory err status → IsRun k input out err status
+stopped k input out err status nothing told =
+    subst (IsRun k input out err) (sym told.0) (inr told.1, λ works. nothing)
+
+status_of_kind : (k : ItemType) (input out err : Stream) (source : List ℕ) (e : ParseError) (status : ℕ) (kind : ParseErrorKind)
+    → ReadAll input source → IsUtf8 source → IsGivenNothing out
+    → OnKind kind ⊥ (IsRefusal k source e) (Unit {0})
+    → OnKind kind (((status ≡ 3) × ToldLine err e) ⊎ StoppedByMemory err status) (((status ≡ 1) × ToldLine err e) ⊎ StoppedByMemory err status) (StoppedByMemory err status)
+    → IsRun k input out err status
+status_of_kind k input out err source e status Io read text nothing fault told = absurd fault
+status_of_kind k input out err source e status Parse read text nothing refusal (inl told) =
+    subst (IsRun k input out err) (sym told.0)
+    ((source, read, text, refusal.3, told_refusal k source err e refusal told.1), nothing)
+status_of_kind k input out err source e status Parse read text nothing refusal (inr told) = stopped k input out err status nothing told
+status_of_kind k input out err source e status Memory read text nothing fault told = stopped k input out err status nothing told
+
+-- an error that is told gives one of the statuses
+pub status_of_error : (k : ItemType) (input out err : Stream) (source : List ℕ) (e : ParseError) (status : ℕ)
+    → ReadAll input source → IsUtf8 source → IsGivenNothing out → IsStrError k None source e → ErrorTold err status e
+    → IsRun k input out err status
+status_of_error k input out err source e status read text nothing fault told =
+    status_of_kind k input out err source e status (kind_of e) read text nothing fault told
+
+-- where the reader's bytes are known, what holds of all that was read holds of them
+of_known : (P : List ℕ → Type 0) (before after : Option (List ℕ)) (source : List ℕ)
+    → Consumes before after source → IsAtEnd after → P source → IfSome before P
+of_known P None after source read ended held = tt
+of_known P (Some bytes) None source read ended held = absurd read
+of_known P (Some bytes) (Some rest) source read ended held =
+    subst P (sym (read ∙ ap (λ (l : List ℕ). source ++ l) ended ∙ append-nil source)) held
+
+of_any : (before : Option (List ℕ)) → IfSome before (λ source. Unit {0})
+of_any None = tt
+of_any (Some bytes) = tt
+
+pub known_of_run : (k : ItemType) (input out err : Stream) (status : ℕ)
+    → IsRun k input out err status → IsKnownRun k input.before out status
+known_of_run k input out err zero run =
+    let (source, read, written) = run.0 in
+    of_known (λ source. Formats k source out) input.before input.after source read.2 read.3 written
+known_of_run k input out err (suc zero) run =
+    let (source, read, text, none, told) = run.0 in
+    of_known (λ source. IsUtf8 source × SpellsNone k source) input.before input.after source read.2 read.3 (text, none)
+known_of_run k input out err (suc (suc zero)) run = absurd run
+known_of_run k input out err (suc (suc (suc zero))) run = of_any input.before
+known_of_run k input out err (suc (suc (suc (suc n)))) run = absurd run

@@ -1,0 +1,16 @@
+use Rattle.std.proofs.Common.{sym, subst}
+use Rattle.std.proofs.KnownBytes.{Keeps-refl}
+use Rattle.souper_format.specs.Kinds.{item_type_of}
+use Rattle.souper_format.specs.Streams.{stream}
+use Rattle.souper_format.specs.Reading.{ReadAll}
+use Rattle.souper_format.proofs.RunLemmas.{status_of_error}
+use Rattle.souper_format.proofs.run.run_to_status.Goals as goal
+
+pub returns : goal.returns
+returns g c =
+    let input = stream g.R.Read.remaining c.args.input.now c.read_text.new.input in
+    let out = stream g.W.Write.contents c.args.out.now c.args.out.now in
+    let err = stream g.E.Write.contents c.args.err.now c.tell_error.new.err in
+    let read = subst (ReadAll input) (sym c.as_str.ensures.value) c.in-Ok.ensures.text in
+    status_of_error (item_type_of c.args.kind) input out err c.as_str.result.now c.in-Err.error c.tell_error.result
+    read c.as_str.utf8 (Keeps-refl _) c.in-Err.ensures.refused c.tell_error.ensures

@@ -1,0 +1,21 @@
+-- A list of items of one kind, as plain data.
+use Rattle.std.specs.Prelude.{List, map}
+use Rattle.souper_graph.specs.Values.{Item}
+use Rattle.souper_graph.specs.View.{view_left_hand_side}
+use Rattle.souper_ir.specs.Spelling.{ItemType, left_hand_side}
+use Rattle.souper_format.specs.declared.command.Kind.{Kind}
+use Rattle.souper_format.specs.declared.command.Kind.TheVariants.{Lhs}
+use Rattle.souper_format.specs.declared.items.Items.{Items}
+use Rattle.souper_format.specs.declared.items.Items.TheVariants.{Lhs as lhs_items}
+
+-- the type of the items of a kind
+abbrev pub item_type_of : Kind → ItemType
+item_type_of Lhs = left_hand_side
+
+-- the kind of the items of a list
+abbrev pub kind_of_items : Items → Kind
+kind_of_items (lhs_items v) = Lhs
+
+-- the items of a list
+abbrev pub view_items : Items → List Item
+view_items (lhs_items v) = map view_left_hand_side v.items

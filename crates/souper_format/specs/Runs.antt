@@ -1,0 +1,53 @@
+-- What each status of a run says of the reader, of the writers and of what was read.
+use Rattle.std.specs.Prelude.{◌≡◌, ℕ, zero, suc, ◌≤◌, List, [], ◌∷◌, ◌++◌, true, false, length, Option, None, IfSome, ◌⊎◌}
+use Rattle.std.specs.Str.{IsUtf8}
+use Rattle.souper_ir.specs.Spelling.{ItemType, SpellsNone}
+use Rattle.souper_ir.specs.Places.{IsRefusalText}
+use Rattle.souper_format.specs.Formatted.{IsFormatted}
+use Rattle.souper_format.specs.Streams.{Stream, IsGiven, IsGivenNothing}
+use Rattle.souper_format.specs.Reading.{ReadAll, ReadNoText}
+use Rattle.souper_format.specs.Telling.{ToldMemory, ToldFault}
+
+-- `out` was given the formatted source, and nothing else
+abbrev pub Formats : ItemType → List ℕ → Stream → Type 0
+Formats k source out = (text : List ℕ) × IsFormatted k source text × IsGiven out text
+
+-- all that was read spells items, their texts were written, and nothing was told
+abbrev pub Done : ItemType → Stream → Stream → Stream → Type 0
+Done k input out err = ((source : List ℕ) × ReadAll input source × Formats k source out) × IsGivenNothing err
+
+-- unless the writer has failed, it was given the line of a refusal at an offset of the source, which has no file name
+abbrev pub ToldRefusal : List ℕ → Stream → Type 0
+ToldRefusal source err = err.failed ≡ false → (offset : ℕ) × (shown : List ℕ)
+    × (offset ≤ length source) × IsRefusalText None source offset shown × IsGiven err (shown ++ 10 ∷ [])
+
+-- all that was read is a text that spells no items, nothing was written, and the refusal was told
+abbrev pub Refused : ItemType → Stream → Stream → Stream → Type 0
+Refused k input out err =
+    ((source : List ℕ) × ReadAll input source × IsUtf8 source × SpellsNone k source × ToldRefusal source err)
+    × IsGivenNothing out
+
+-- the reader or `out` has failed, or what was read is no text, or memory was refused, and that was told; nothing was
+-- written, unless `out` has failed
+abbrev pub Stopped : Stream → Stream → Stream → Type 0
+Stopped input out err =
+    ((((input.failed ≡ true) ⊎ (out.failed ≡ true) ⊎ ReadNoText input) × ToldFault err) ⊎ ToldMemory err)
+    × (out.failed ≡ false → IsGivenNothing out)
+
+-- a fact for each status, of which there are three
+abbrev pub OnStatus : ℕ → Type 0 → Type 0 → Type 0 → Type 0
+OnStatus zero done refused stopped = done
+OnStatus (suc zero) done refused stopped = refused
+OnStatus (suc (suc (suc zero))) done refused stopped = stopped
+OnStatus _ done refused stopped = ⊥
+
+-- what the status of a run says
+abbrev pub IsRun : ItemType → Stream → Stream → Stream → ℕ → Type 0
+IsRun k input out err status = OnStatus status (Done k input out err) (Refused k input out err) (Stopped input out err)
+
+-- where the reader's bytes are known: what status 0 and status 1 say of them
+abbrev pub IsKnownRun : ItemType → Option (List ℕ) → Stream → ℕ → Type 0
+IsKnownRun k bytes out status = IfSome bytes (λ source. OnStatus status
+    (Formats k source out)
+    (IsUtf8 source × SpellsNone k source)
+    (Unit {0}))

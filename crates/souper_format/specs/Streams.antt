@@ -1,0 +1,30 @@
+-- What calls did to a stream.
+use Rattle.std.specs.Prelude.{ℕ, List, Bool, Option}
+use Rattle.std.specs.Io.KnownBytes.{Appends, Keeps}
+use Rattle.souper_format.specs.declared.watched.Watched.{Watched}
+use Rattle.souper_format.specs.Watching.{watched_inner, has_failed, has_ended}
+
+-- its bytes before and after, where they are known (of a reader those that it has left, of a writer those that it
+-- was given), and whether it has failed or ended by then
+pub record Stream : Type 0 where
+  pub before : Option (List ℕ)
+  pub after : Option (List ℕ)
+  pub failed : Bool
+  pub ended : Bool
+
+-- a watched stream, from how it was to how it is
+abbrev pub stream : {S : Type 0} → (S → Option (List ℕ)) → Watched S → Watched S → Stream
+stream bytes_of old new = record {
+  before = bytes_of (watched_inner old);
+  after = bytes_of (watched_inner new);
+  failed = has_failed new;
+  ended = has_ended new;
+}
+
+-- the writer was given the bytes, and nothing else
+abbrev pub IsGiven : Stream → List ℕ → Type 0
+IsGiven s bytes = Appends s.before s.after bytes
+
+-- the writer was given nothing
+abbrev pub IsGivenNothing : Stream → Type 0
+IsGivenNothing s = Keeps s.before s.after

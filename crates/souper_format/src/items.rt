@@ -1,0 +1,104 @@
+//! Items of one kind: reading them from a text, and their canonical texts.
+ghost use Rattle.std.specs.Prelude.{◌≡◌, ◌++◌, map, IfOk, IfErr, OnOk, option_copied};
+ghost use Rattle.std.specs.List.{AllByRecursion};
+ghost use Rattle.std.specs.String.{string_bytes};
+ghost use Rattle.souper_graph.specs.Faults.{HasBadId};
+ghost use Rattle.souper_graph.specs.View.{view_left_hand_side};
+ghost use Rattle.souper_graph.specs.WellFormed.{WellFormed};
+ghost use Rattle.souper_ir.specs.Spelling.{TextSpells};
+ghost use Rattle.souper_ir.specs.Answers.{IsStrError};
+ghost use Rattle.souper_format.specs.Kinds.{item_type_of, kind_of_items, view_items};
+ghost use Rattle.souper_format.specs.Formatted.{text_with_newline, texts_of, IsFormatted};
+
+use crate::command::Kind;
+use souper_ir::ast::LeftHandSide;
+use souper_ir::parse::{ParseError, parse_left_hand_sides_str};
+use souper_ir::stringify::TextError;
+use std::alloc::{AllocError, Global};
+
+/// A list of items of one kind.
+#[derive(Debug, Drop)]
+pub enum Items {
+    /// Left-hand sides, in the order in which they were read.
+    Lhs(Vec<LeftHandSide>),
+}
+
+/// The items of the kind that the text spells.
+///
+/// The error is that of the parser of the kind: the text spells no list of such items, or memory was refused.
+/// An error shows `filename` as the name of the text.
+pub fn read_items(
+    alloc: Global,
+    kind: Kind,
+    source: &str,
+    filename: Option<&str>,
+) -> Result<Items, ParseError>
+    ensures kind { IfOk result (λ items. kind_of_items items ≡ kind) }
+    ensures spelled { IfOk result (λ items. TextSpells (item_type_of kind) source.now (view_items items)) }
+    ensures well_formed { IfOk result (λ items. AllByRecursion WellFormed (view_items items)) }
+    ensures refused { IfErr result (λ e. IsStrError (item_type_of kind) (option_copied filename.entry) source.now e) }
+{
+    match kind {
+        Kind::Lhs => match parse_left_hand_sides_str(alloc, source, filename) {
+            Ok(items) => Ok(Items::Lhs(items)),
+            Err(refusal) => Err(refusal),
+        },
+    }
+}
+
+// Appends the text of the item and a newline.
+fn append_left_hand_side(item: &LeftHandSide, out: &mut String) -> Result<(), AllocError>
+    requires { ¬ HasBadId (view_left_hand_side item.now) }
+    ensures { OnOk result (string_bytes out.new ≡ string_bytes out.old ++ text_with_newline (view_left_hand_side item.now)) }
+{
+    match item.to_text() {
+        Ok(text) => {
+            out.push_str(&text)?;
+            out.push('\n')?;
+            Ok(())
+        }
+        Err(TextError::OutOfMemory) => Err(AllocError),
+        // A well formed item has no bad id.
+        Err(TextError::OutOfRange(_)) => unreachable!(),
+        Err(TextError::NotAnAssignment(_)) => unreachable!(),
+        Err(TextError::NotABlock(_)) => unreachable!(),
+    }
+}
+
+fn text_of_left_hand_sides(alloc: Global, items: &[LeftHandSide]) -> Result<String, AllocError>
+    requires { AllByRecursion WellFormed (map view_left_hand_side items.now) }
+    ensures { IfOk result (λ text. string_bytes text ≡ texts_of (map view_left_hand_side items.now)) }
+{
+    let mut out = String::new(alloc);
+    for item in items {
+        append_left_hand_side(item, &mut out)?;
+    }
+    Ok(out)
+}
+
+// The canonical text of each item, a newline after each.
+fn text_of_items(alloc: Global, items: &Items) -> Result<String, AllocError>
+    requires { AllByRecursion WellFormed (view_items items.now) }
+    ensures { IfOk result (λ text. string_bytes text ≡ texts_of (view_items items.now)) }
+{
+    match items {
+        Items::Lhs(list) => text_of_left_hand_sides(alloc, list),
+    }
+}
+
+/// The canonical text of each item that the text spells, a newline after each.
+///
+/// The errors are those of [`read_items`].
+pub fn format_text(
+    alloc: Global,
+    kind: Kind,
+    source: &str,
+    filename: Option<&str>,
+) -> Result<String, ParseError>
+    ensures formatted { IfOk result (λ text. IsFormatted (item_type_of kind) source.now (string_bytes text)) }
+    ensures refused { IfErr result (λ e. IsStrError (item_type_of kind) (option_copied filename.entry) source.now e) }
+{
+    let items = read_items(alloc, kind, source, filename)?;
+    let text = text_of_items(alloc, &items)?;
+    Ok(text)
+}

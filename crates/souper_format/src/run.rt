@@ -1,0 +1,155 @@
+//! One run of the formatter, over any reader and two writers.
+ghost use Rattle.std.specs.Prelude.{◌≡◌, false, true, codes, string_bytes, IfOk, IfErr, OnOk, OnErr};
+ghost use Rattle.souper_format.specs.Kinds.{item_type_of};
+ghost use Rattle.souper_format.specs.Watching.{watched_inner, has_failed, has_ended};
+ghost use Rattle.souper_format.specs.Streams.{stream, IsGiven};
+ghost use Rattle.souper_format.specs.Reading.{ReadAll, FaultMeans};
+ghost use Rattle.souper_format.specs.Telling.{ToldFault};
+ghost use Rattle.souper_format.specs.Runs.{IsRun, IsKnownRun};
+
+use crate::command::Kind;
+use crate::items::format_text;
+use crate::tell::{tell_error, tell_fault, tell_memory};
+use crate::watched::Watched;
+use std::alloc::Global;
+use std::io;
+use std::io::{ErrorKind, Read, Write};
+
+// Why no text was read.
+#[derive(Drop)]
+enum ReadFault {
+    Failed(io::Error),
+    NotText,
+    OutOfMemory,
+}
+
+// Reads to the end. It tries no failed read again.
+fn read_text<R: Read>(alloc: Global, input: &mut Watched<R>) -> Result<String, ReadFault>
+    requires works { has_failed input.old ≡ false }
+    requires begins { has_ended input.old ≡ false }
+    ensures text { IfOk result (λ text. ReadAll (stream R.remaining input.old input.new) (string_bytes text)) }
+    ensures fault { IfErr result (FaultMeans (stream R.remaining input.old input.new)) }
+{
+    let mut bytes = Vec::new(alloc);
+    let mut buffer = [0u8; 4096];
+    for _turn in 0..u64::MAX {
+        match input.read(&mut buffer) {
+            Ok(0) => {
+                match String::from_utf8(bytes) {
+                    Ok(text) => return Ok(text),
+                    Err(_) => return Err(ReadFault::NotText),
+                }
+            }
+            Ok(count) => {
+                if bytes.extend_from_slice(&buffer[..count]).is_err() {
+                    return Err(ReadFault::OutOfMemory);
+                }
+            }
+            Err(fault) => return Err(ReadFault::Failed(fault)),
+        }
+    }
+    // Each turn gave a byte, and a vector holds fewer bytes than there were turns.
+    unreachable!()
+}
+
+// Hands the whole text on.
+fn deliver<W: Write>(text: &str, out: &mut Watched<W>) -> io::Result<()>
+    ensures given { OnOk result (IsGiven (stream W.contents out.old out.new) text.now) }
+    ensures works { OnOk result (has_failed out.new ≡ has_failed out.old) }
+    ensures failed { OnErr result (has_failed out.new ≡ true) }
+{
+    out.write_all(text.as_bytes())?;
+    out.flush()
+}
+
+/// Reads items of the kind to the end of `input`, writes the canonical text of each and a newline to `out`, and
+/// answers the status of the program.
+///
+/// - 0: done, and `err` was given nothing.
+/// - 1: what was read spells no list of such items. `out` was given nothing, and `err` the refusal, which shows no
+///   file name, and a newline.
+/// - 3: the reader or `out` failed, what was read is no UTF-8, or memory was refused. `err` was given a line that
+///   says so, and `out`, unless it failed, nothing.
+///
+/// Where a write to `err` fails the status stays.
+pub fn format_run<R: Read, W: Write, E: Write>(
+    alloc: Global,
+    kind: Kind,
+    input: &mut Watched<R>,
+    out: &mut Watched<W>,
+    err: &mut Watched<E>,
+) -> u8
+    requires input_works { has_failed input.old ≡ false }
+    requires input_begins { has_ended input.old ≡ false }
+    requires out_works { has_failed out.old ≡ false }
+    requires err_works { has_failed err.old ≡ false }
+    ensures run { IsRun (item_type_of kind)
+        (stream R.remaining input.old input.new) (stream W.contents out.old out.new) (stream E.contents err.old err.new) result }
+    ensures known { IsKnownRun (item_type_of kind)
+        (R.remaining (watched_inner input.old)) (stream W.contents out.old out.new) result }
+{
+    run_to_status(alloc, kind, input, out, err)
+}
+
+// The run, by its first clause alone.
+fn run_to_status<R: Read, W: Write, E: Write>(
+    alloc: Global,
+    kind: Kind,
+    input: &mut Watched<R>,
+    out: &mut Watched<W>,
+    err: &mut Watched<E>,
+) -> u8
+    requires input_works { has_failed input.old ≡ false }
+    requires input_begins { has_ended input.old ≡ false }
+    requires out_works { has_failed out.old ≡ false }
+    requires err_works { has_failed err.old ≡ false }
+    ensures { IsRun (item_type_of kind)
+        (stream R.remaining input.old input.new) (stream W.contents out.old out.new) (stream E.contents err.old err.new) result }
+{
+    let source = match read_text(alloc, input) {
+        Ok(source) => source,
+        Err(ReadFault::Failed(fault)) => {
+            tell_fault(alloc, &fault, err);
+            return 3;
+        }
+        Err(ReadFault::NotText) => {
+            tell_fault(alloc, &io::Error::from(ErrorKind::InvalidData), err);
+            return 3;
+        }
+        Err(ReadFault::OutOfMemory) => {
+            tell_memory(err);
+            return 3;
+        }
+    };
+    match format_text(alloc, kind, source.as_str(), None) {
+        Ok(text) => match deliver(text.as_str(), out) {
+            Ok(()) => 0,
+            Err(fault) => {
+                tell_fault(alloc, &fault, err);
+                3
+            }
+        },
+        Err(error) => tell_error(alloc, &error, err),
+    }
+}
+
+/// Tells a fault that kept the program from its command, and answers the status of the program, which is 3.
+pub fn report<E: Write>(alloc: Global, fault: &io::Error, err: &mut Watched<E>) -> u8
+    ensures status { result ≡ 3 }
+    ensures told { ToldFault (stream E.contents err.old err.new) }
+{
+    tell_fault(alloc, fault, err);
+    3
+}
+
+/// Tells how the program is used, and answers the status of the program, which is 2.
+pub fn usage<E: Write>(err: &mut Watched<E>) -> u8
+    ensures status { result ≡ 2 }
+    ensures told { has_failed err.new ≡ false → IsGiven (stream E.contents err.old err.new)
+        (codes "usage: souper_fmt lhs|rhs|rep\n       souper_fmt same lhs|rhs|rep PATH PATH\n") }
+{
+    let _ = err.write_all(
+        b"usage: souper_fmt lhs|rhs|rep\n       souper_fmt same lhs|rhs|rep PATH PATH\n",
+    );
+    2
+}

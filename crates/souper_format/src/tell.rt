@@ -1,0 +1,72 @@
+//! The lines that are written of an error, each to a stream that may fail.
+ghost use Rattle.std.specs.Prelude.{◌≡◌, string_bytes, IfOk, ℕ, List};
+ghost use Rattle.souper_format.specs.Streams.{stream};
+ghost use Rattle.souper_format.specs.Telling.{fault_line, IsErrorLine, ToldMemory, ToldFault, ErrorTold};
+
+use crate::watched::Watched;
+use souper_ir::parse::{ParseError, ParseErrorKind};
+use std::alloc::{AllocError, Global};
+use std::io;
+use std::io::Write;
+
+/// Tells want of memory. It takes none.
+pub(crate) fn tell_memory<E: Write>(err: &mut Watched<E>)
+    ensures { ToldMemory (stream E.contents err.old err.new) }
+{
+    let _ = err.write_all(b"out of memory\n");
+}
+
+fn line_of_fault(alloc: Global, fault: &io::Error) -> Result<String, AllocError>
+    ensures { IfOk result (λ line. (shown : List ℕ) × (string_bytes line ≡ fault_line shown)) }
+{
+    let shown = fault.to_string(alloc)?;
+    let mut line = String::new(alloc);
+    line.push_str("IO error: ")?;
+    line.push_str(shown.as_str())?;
+    line.push('\n')?;
+    Ok(line)
+}
+
+/// Tells a fault of a stream.
+pub(crate) fn tell_fault<E: Write>(alloc: Global, fault: &io::Error, err: &mut Watched<E>)
+    ensures { ToldFault (stream E.contents err.old err.new) }
+{
+    match line_of_fault(alloc, fault) {
+        Ok(line) => {
+            let _ = err.write_all(line.as_bytes());
+        }
+        Err(_) => tell_memory(err),
+    }
+}
+
+fn line_of_error(alloc: Global, error: &ParseError) -> Result<String, AllocError>
+    ensures { IfOk result (λ line. IsErrorLine error.now (string_bytes line)) }
+{
+    let mut line = error.to_string(alloc)?;
+    line.push('\n')?;
+    Ok(line)
+}
+
+/// Tells an error of a parser, and answers the status of the program: 1 where it refused a text, else 3.
+pub(crate) fn tell_error<E: Write>(alloc: Global, error: &ParseError, err: &mut Watched<E>) -> u8
+    ensures { ErrorTold (stream E.contents err.old err.new) result error.now }
+{
+    let status = match error.kind() {
+        ParseErrorKind::Io => 3,
+        ParseErrorKind::Parse => 1,
+        ParseErrorKind::Memory => {
+            tell_memory(err);
+            return 3;
+        }
+    };
+    match line_of_error(alloc, error) {
+        Ok(line) => {
+            let _ = err.write_all(line.as_bytes());
+            status
+        }
+        Err(_) => {
+            tell_memory(err);
+            3
+        }
+    }
+}
