@@ -3,7 +3,7 @@ use Rattle.std.proofs.Common.{◌≡◌, ℕ, zero, suc, ◌+◌, ◌-◌, ◌<�
 use Rattle.std.specs.List.{AllByRecursion}
 use Rattle.std.proofs.lemmas.List.{take_at, drop_at}
 use Rattle.std.proofs.lemmas.Bool.{false≢true}
-use Rattle.souper_ir.specs.Tokens.{Lexeme, spelling, Begins, IsLastGap, IsTextOf, AreTokensOf, OneReading}
+use Rattle.souper_ir.specs.Tokens.{StandsAt, Lexeme, spelling, Begins, IsLastGap, IsTextOf, AreTokensOf, OneReading}
 use Rattle.souper_ir.specs.TokenReading.{Front, ends, faulty, found, next_of, gap_len, Lexed, before, lexed_within, lexed_of}
 use Rattle.souper_ir.proofs.TokenSteps.{found_shorter, within_ends, within_faulty, within_found, lexed_ends, lexed_found}
 use Rattle.souper_ir.proofs.TokenComplete.{next_found, next_gap, next_ends}
@@ -107,10 +107,7 @@ begins_append (t ∷ ts) us n bs mid rest h g =
     let e : n + (length bs - length mid) ≡ t.0 + length (spelling t.1) + (length h.1 - length mid) = omega (arith, h.3) in
     (h.0, h.1, h.2, h.3, begins_append ts us (t.0 + length (spelling t.1)) h.1 mid rest h.4 (subst (λ m. Begins m mid us rest) e g))
 
--- each token stands at its offset: n is the offset of bs, and xs what stands before bs in the text
-abbrev StandsAt : List ℕ → (ℕ × Lexeme) → Type 0
-StandsAt text t = take (length (spelling t.1)) (drop t.0 text) ≡ spelling t.1
-
+-- each token stands at its offset: xs is what stands before bs in the text
 in_place : (ts : List (ℕ × Lexeme)) (text xs bs rest : List ℕ) → text ≡ xs ++ bs → Begins (length xs) bs ts rest → AllByRecursion (StandsAt text) ts
 in_place [] text xs bs rest e h = tt
 in_place (t ∷ ts) text xs bs rest e h =

@@ -71,3 +71,7 @@ TextSpells k bs items = (ts : List (ℕ × Lexeme)) × IsTextOf bs ts × list_sp
 -- the text spells no list of items of the type
 abbrev pub SpellsNone : ItemType → List ℕ → Type 0
 SpellsNone k bs = (items : List Item) → TextSpells k bs items → ⊥
+
+-- a text spells one list of items of a type at most
+abbrev pub OneList : Type 0
+OneList = (k : ItemType) (bs : List ℕ) (a b : List Item) → TextSpells k bs a → TextSpells k bs b → a ≡ b

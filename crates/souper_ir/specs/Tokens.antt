@@ -1,5 +1,5 @@
 -- Tokens by their contents, gaps, and the texts that a list of tokens has. All texts are lists of bytes.
-use Rattle.std.specs.Prelude.{◌≡◌, ◌≢◌, ℕ, ◌+◌, ◌<◌, Bool, true, false, ◌||◌, ◌==◌, List, [], ◌∷◌, ◌++◌, length, flat_map, codes, ◌↔◌, Contains}
+use Rattle.std.specs.Prelude.{◌≡◌, ◌≢◌, ℕ, ◌+◌, ◌<◌, Bool, true, false, ◌||◌, ◌==◌, List, [], ◌∷◌, ◌++◌, length, take, drop, ◌-◌, flat_map, codes, ◌↔◌, Contains}
 use Rattle.souper_graph.specs.Names.{is_name_char}
 use Rattle.std.specs.List.{AllByRecursion}
 use Rattle.std.specs.Char.{encode_utf8, is_whitespace, is_ascii_digit, is_ascii_alphabetic}
@@ -151,3 +151,19 @@ pub record AreTokensOf (bs : List ℕ) (ts : List (ℕ × Lexeme)) (fault : Bool
 -- a text is of one list of tokens at most
 abbrev pub OneReading : Type 0
 OneReading = (bs : List ℕ) (ts us : List (ℕ × Lexeme)) → IsTextOf bs ts → IsTextOf bs us → ts ≡ us
+
+-- the token is the slice of the text at its offset
+abbrev pub StandsAt : List ℕ → ℕ × Lexeme → Type 0
+StandsAt bs t = take (length (spelling t.1)) (drop t.0 bs) ≡ spelling t.1
+
+-- each token that a front of a text is stands at its offset
+abbrev pub EachInText : Type 0
+EachInText = (bs : List ℕ) (ts : List (ℕ × Lexeme)) (rest : List ℕ) → Begins 0 bs ts rest → AllByRecursion (StandsAt bs) ts
+
+-- a gap that is not empty ends each token
+abbrev pub GapEndsToken : Type 0
+GapEndsToken = (t : Lexeme) (gap body : List ℕ) → IsGap gap → (length gap ≡ 0 → Stops (continues t) body) → Stops (continues t) (gap ++ body)
+
+-- a front of tokens, and behind it another, are a front of both
+abbrev pub FrontsJoin : Type 0
+FrontsJoin = (ts us : List (ℕ × Lexeme)) (n : ℕ) (bs mid rest : List ℕ) → Begins n bs ts mid → Begins (n + (length bs - length mid)) mid us rest → Begins n bs (ts ++ us) rest

@@ -12,26 +12,56 @@ mod tests;
 use std::fmt;
 use std::marker::Model;
 
+/// A token, with its content as a slice of the source.
 #[derive(Clone, Copy, Debug, PartialEq, Eq)]
 pub enum Token<'a> {
+    /// A letter and name characters, and not the word `knownBits`.
     Ident(&'a str),
+
+    /// `%` and one or more name characters, all of it.
     ValName(&'a str),
+
+    /// What stands behind `knownBits=`: one or more of `0`, `1`, `x`.
     KnownBits(&'a str),
+
+    /// A digit or `-`, and digits.
     Int(&'a str),
+
+    /// `,`
     Comma,
+
+    /// `:`
     Colon,
+
+    /// `=`
     Eq,
+
+    /// `(`
     OpenParen,
+
+    /// `)`
     CloseParen,
+
+    /// `[`
     OpenBracket,
 }
 
+/// Why no token stands at an offset.
 #[derive(Clone, Copy, Debug, PartialEq, Eq)]
 pub enum FaultKind {
+    /// No name character behind a `%`.
     ExpectedValueName,
+
+    /// This character behind `knownBits`.
     ExpectedEquals(char),
+
+    /// The end of the text behind `knownBits`.
     UnexpectedEnd,
+
+    /// No bit behind `knownBits=`.
     ExpectedBits,
+
+    /// A character that begins no token.
     Unexpected(char),
 }
 
@@ -47,7 +77,7 @@ impl fmt::Display for FaultKind {
     }
 }
 
-/// Where no token stands, and why.
+/// Where no token stands, in bytes from the source's first, and why.
 #[derive(Clone, Copy, Debug, PartialEq, Eq)]
 pub struct Fault {
     pub offset: usize,
@@ -55,7 +85,7 @@ pub struct Fault {
 }
 
 /// The tokens of a text from some offset on.
-#[derive(Drop)]
+#[derive(Debug, Drop)]
 pub struct Lexer<'a> {
     offset: usize,
     rest: &'a str,
@@ -299,6 +329,7 @@ impl<'a> Model for Lexer<'a> {
 }
 
 impl<'a> Lexer<'a> {
+    /// The tokens of the whole source.
     pub fn new(source: &'a str) -> Self
         ensures value { result ≡ lexed_of 0 source.now }
         ensures len { result.len ≡ length source.now }

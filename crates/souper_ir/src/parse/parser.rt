@@ -23,7 +23,7 @@ use std::mem;
 pub type Result<T> = std::result::Result<T, ParseError>;
 
 // Why a parser has failed.
-#[derive(Clone, Copy)]
+#[derive(Clone, Copy, Debug)]
 enum Failure {
     Refused(usize),
     Memory,
@@ -32,7 +32,7 @@ enum Failure {
 /// A parser of a text, with one token of lookahead.
 ///
 /// After a refusal it stays failed: every later call answers the same offset, or want of memory.
-#[derive(Drop)]
+#[derive(Debug, Drop)]
 pub struct Parser<'a> {
     alloc: Global,
     lexer: Lexer<'a>,
