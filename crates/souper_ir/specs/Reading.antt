@@ -48,11 +48,6 @@ if_refused (Some (refused o)) g h = g h
 if_refused (Some no_memory) g h = tt
 if_refused None g h = tt
 
-pub if_refused_is : {P : Type 0} (f : Option Cause) → P → IfRefused f P
-if_refused_is (Some (refused o)) h = h
-if_refused_is (Some no_memory) h = tt
-if_refused_is None h = tt
-
 -- the reading gives the value, and the parser goes on behind it
 abbrev pub IsRead : {Y : Type 0} → Option (Y × Parsing) → Y → Parsing → Parsing → Type 0
 IsRead read y old new = (read ≡ Some (y, new)) × (old.failed ≡ None) × (new.failed ≡ None) × (new.len ≡ old.len)

@@ -112,13 +112,3 @@ module _ (starts : Lexeme → Bool) where
   pub peeks_end : (p : Parsing) → At p [] → p.faulty ≡ false → peek_at starts p ≡ Some (false, p)
   unfolding peek_at look_at
   peeks_end p at f = rw (peeks_end_in p p.failed p.faulty p.tokens at.live f at.kinds_are) refl
-
--- the token that was taken means nothing, and was refused
-pub refused_token : {A : Type 0} (meaning : Lexeme → Option A) (e : ParseError) (p q r : Parsing) (t : Lexeme)
-    → take_at p ≡ Some (t, q) → meaning t ≡ None → Fails e q r → IfRefused (cause_of e) (accept meaning p ≡ None) × Fails e p r
-unfolding accept
-refused_token meaning e p q r t h m f =
-    let k = took_one p q t h in (
-      if_refused_is (cause_of e) (rw (h, m) refl),
-      fails_later e p q r (ap (λ (x : Parsing). x.failed) k.state) (ap (λ (x : Parsing). x.len) k.state) f,
-    )

@@ -1,7 +1,7 @@
-use Rattle.std.proofs.Common.{◌≡◌, false, true, map, rules}
+use Rattle.std.proofs.Common.{◌≡◌, false, true}
 use Rattle.std.proofs.lemmas.Result.{err_from_is_err_and}
 use Rattle.std.proofs.lemmas.List.{map-append}
-use Rattle.souper_ir.proofs.ItemLists.{runs_start, runs_on, item_shorter, all_taken, look_refused, item_refused, list_memory, nothing_taken, nothing_seen, still_sound, map_nil, read_behind}
+use Rattle.souper_ir.proofs.ItemLists.{runs_on, item_shorter, all_taken, look_refused, item_refused, nothing_taken, nothing_seen, still_sound, map_nil, read_behind}
 use Rattle.souper_ir.proofs.parse.item.items.Goals as goal
 
 pub returns-in_err-token_comes-clause-err : goal.returns-in_err-token_comes-clause-err

@@ -1,6 +1,6 @@
 use Rattle.std.proofs.Common.{[]}
 use Rattle.std.specs.Prelude.{option_copied}
-use Rattle.souper_ir.proofs.TextItems.{all_spelled, gap_text, located_answer, offset_bound}
+use Rattle.souper_ir.proofs.TextItems.{all_spelled, gap_text, located_answer}
 use Rattle.souper_ir.proofs.WellFormedItems.{text_well}
 use Rattle.souper_ir.proofs.parse.item.parse_str.Goals as goal
 

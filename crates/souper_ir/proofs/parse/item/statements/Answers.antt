@@ -1,8 +1,7 @@
 use Rattle.std.proofs.lemmas.Result.{err_from_is_err_and}
 use Rattle.souper_graph.specs.View.{view_assignment}
-use Rattle.souper_graph.specs.Values.{assigned}
-use Rattle.souper_ir.specs.ItemLaws.{begins, ends, peek_refused}
-use Rattle.souper_ir.proofs.Stating.{read_at, is_fresh, entered, entered_shorter, assignment_refused, memory_refused}
+use Rattle.souper_ir.specs.ItemLaws.{ends, peek_refused}
+use Rattle.souper_ir.proofs.Stating.{read_at, is_fresh, entered, entered_shorter, assignment_refused}
 use Rattle.souper_ir.proofs.parse.item.statements.Goals as goal
 
 pub returns-in_err-value_name_comes-clause-err : goal.returns-in_err-value_name_comes-clause-err

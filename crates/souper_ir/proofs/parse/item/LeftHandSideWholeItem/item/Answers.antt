@@ -1,14 +1,12 @@
-use Rattle.std.proofs.Common.{[]}
 use Rattle.std.proofs.lemmas.Result.{err_from_is_err_and}
 use Rattle.souper_graph.specs.declared.ast.LeftHandSide.{LeftHandSide}
 use Rattle.souper_graph.specs.Values.{PlainInfer}
 use Rattle.souper_graph.specs.View.{view_infer, view_left_hand_side}
-use Rattle.souper_ir.specs.Spelling.{left_hand_side, infer_spells, item_spells_after}
-use Rattle.souper_ir.specs.Continuation.{infer_continues, item_continues}
-use Rattle.souper_ir.specs.Grammar.{Took}
+use Rattle.souper_ir.specs.Spelling.{left_hand_side, infer_spells}
+use Rattle.souper_ir.specs.Continuation.{infer_continues}
 use Rattle.souper_ir.specs.NodeReadings.{infer_at}
 use Rattle.souper_ir.specs.NodeLaws.{infer_sound, infer_complete}
-use Rattle.souper_ir.specs.Readings.{is_taken, is_refused, viewed_taken, viewed_refused}
+use Rattle.souper_ir.specs.Readings.{is_taken, is_refused}
 use Rattle.souper_ir.specs.ItemLaws.{statements_refused, ending_refused, infer_refused, item_taken}
 use Rattle.souper_ir.proofs.parse.item.LeftHandSideWholeItem.item.Goals as goal
 

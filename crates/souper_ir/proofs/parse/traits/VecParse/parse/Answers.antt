@@ -1,8 +1,8 @@
 use Rattle.std.proofs.lemmas.Result.{err_from_is_err_and}
-use Rattle.std.proofs.Common.{subst, arith, ap}
+use Rattle.std.proofs.Common.{subst}
 use Rattle.souper_ir.specs.Parsing.{Parsing}
 use Rattle.souper_ir.specs.Grammar.{Took}
-use Rattle.souper_ir.proofs.Lists.{SoFar, peek_refused, member_refused, goes_on, shorter, ends, memory_ends}
+use Rattle.souper_ir.proofs.Lists.{peek_refused, member_refused, goes_on, shorter, ends, memory_ends}
 use Rattle.souper_ir.specs.Readings.{of_memory}
 use Rattle.souper_ir.specs.Peeks.{peeked}
 use Rattle.souper_ir.proofs.parse.traits.VecParse.parse.Goals as goal

@@ -1,9 +1,0 @@
-use Rattle.std.proofs.Common.{rules}
-use Rattle.std.proofs.lemmas.Grind.{common_steps}
-use Rattle.souper_ir.specs.TokenView.{lexeme_of}
-use Rattle.souper_ir.specs.NodeReadings.{equals_of}
-use Rattle.souper_ir.specs.Steps.{refused_token}
-use Rattle.souper_ir.proofs.parse.tokens.equals.Goals as goal
-
-pub returns-in_default : goal.returns-in_default
-returns-in_default c = refused_token equals_of c.refuse.result c.args.parser.now c.token.new.self c.refuse.new.self (lexeme_of c.in_ok-token.field-0) c.in_ok-token.ensures.0 (search (rules, common_steps)) c.refuse.ensures
