@@ -1,12 +1,12 @@
 -- Items in a row: one list of them at most is spelled, and none where the parser is refused.
-use Rattle.std.proofs.Common.{◌≡◌, ℕ, ◌<◌, Bool, true, false, List, [], ◌∷◌, ◌++◌, length, map, Option, Some, None, refl, sym, ◌∙◌, ap, subst, append_assoc, arith}
+use Rattle.std.proofs.Common.{◌≡◌, ℕ, ◌<◌, Bool, true, false, List, [], ◌∷◌, ◌++◌, length, map, None, refl, sym, ◌∙◌, ap, subst, append_assoc, arith}
 use Rattle.std.proofs.lemmas.List.{append-nil, append_cancel_left, length-append}
 use Rattle.souper_graph.specs.Values.{PlainStatement, Ending, inferred, Item}
 use Rattle.souper_ir.specs.declared.parse.error.ParseError.{ParseError}
-use Rattle.souper_ir.specs.Tokens.{Lexeme, IsTextOf}
-use Rattle.souper_ir.specs.Spelling.{kinds, ItemType, ending_spells, item_spells, item_spells_after, list_spells, TextSpells}
+use Rattle.souper_ir.specs.Tokens.{Lexeme}
+use Rattle.souper_ir.specs.Spelling.{kinds, ItemType, item_spells, item_spells_after, list_spells, TextSpells}
 use Rattle.souper_ir.specs.Continuation.{ending_continues, item_continues}
-use Rattle.souper_ir.specs.Parsing.{Cause, Parsing}
+use Rattle.souper_ir.specs.Parsing.{Parsing}
 use Rattle.souper_ir.specs.Reading.{cause_of, IfRefused, if_refused, IsRead, Fails, FailsForMemory, fails_later}
 use Rattle.souper_ir.specs.Grammar.{Free, Stops, Starts, Took, NoFrontOf, Refusal, peek_at}
 use Rattle.souper_ir.specs.Peeks.{peeked, peeked_yes, peeked_no, unread}

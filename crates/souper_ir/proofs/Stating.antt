@@ -1,8 +1,8 @@
 -- One turn of the loop over statements.
-use Rattle.std.proofs.Common.{◌≡◌, ℕ, ◌<◌, true, List, [], ◌∷◌, ◌++◌, length, Option, None, refl, sym, ◌∙◌, ap, subst}
+use Rattle.std.proofs.Common.{◌≡◌, ℕ, ◌<◌, true, List, [], ◌∷◌, ◌++◌, length, None, sym, ap, subst}
 use Rattle.souper_graph.specs.Values.{PlainAssignment, PlainStatement, assigned}
 use Rattle.souper_ir.specs.declared.parse.error.ParseError.{ParseError}
-use Rattle.souper_ir.specs.Spelling.{kinds, position_of, assignment_spells, statement_spells}
+use Rattle.souper_ir.specs.Spelling.{position_of, assignment_spells, statement_spells}
 use Rattle.souper_ir.specs.Continuation.{assignment_continues, statement_continues}
 use Rattle.souper_ir.specs.Parsing.{Parsing}
 use Rattle.souper_ir.specs.Reading.{cause_of, IfRefused, if_refused, IsRead, Fails, FailsForMemory}

@@ -1,5 +1,5 @@
 -- Texts of items: what they spell, and what is answered where they spell none.
-use Rattle.std.proofs.Common.{◌≡◌, ◌⊎◌, ℕ, ◌+◌, ◌≤◌, Bool, true, false, List, [], ◌∷◌, ◌++◌, length, Option, Some, None, refl, sym, ◌∙◌, ap, subst, inl, inr, arith}
+use Rattle.std.proofs.Common.{◌≡◌, ◌⊎◌, ℕ, ◌≤◌, Bool, false, List, [], length, Option, Some, None, refl, sym, ◌∙◌, ap, subst, inl, inr, arith}
 use Rattle.std.specs.Prelude.{IsSomeAnd, IfSome}
 use Rattle.souper_graph.specs.Values.{Item}
 use Rattle.souper_ir.specs.declared.parse.error.ParseError.{ParseError}
@@ -13,7 +13,7 @@ use Rattle.souper_ir.specs.Places.{IsRefusalText}
 use Rattle.souper_ir.specs.Errors.{OnKind, kind_of, kind_of_cause, offset_of, offset_of_cause, shown_error, IsRefusalAt, IsLocated}
 use Rattle.souper_ir.specs.Answers.{IsStrError}
 use Rattle.souper_ir.specs.Parsing.{Cause, refused, Parsing}
-use Rattle.souper_ir.specs.Reading.{cause_by, cause_of, IfRefused, Fails}
+use Rattle.souper_ir.specs.Reading.{cause_of, IfRefused, Fails}
 use Rattle.souper_ir.specs.ItemRuns.{SpellsAll, NoList, ListRefusal}
 
 -- the tokens of a text without a fault are those that it is a text of

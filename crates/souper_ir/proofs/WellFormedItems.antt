@@ -1,15 +1,15 @@
 -- The items that a text spells are well formed.
-use Rattle.std.proofs.Common.{◌≡◌, ◌⊎◌, ℕ, zero, suc, ◌+◌, ◌<◌, ◌≤◌, Bool, true, false, List, [], ◌∷◌, ◌++◌, length, map, Option, Some, None, refl, sym, ◌∙◌, ap, subst, inl, inr, arith, append_assoc}
+use Rattle.std.proofs.Common.{◌≡◌, ◌⊎◌, ℕ, zero, suc, ◌+◌, Bool, true, false, List, [], ◌∷◌, ◌++◌, length, Option, Some, None, refl, sym, ◌∙◌, ap, subst, inl, inr, arith, append_assoc}
 use Rattle.std.specs.Prelude.{bytes_eq, slice_get, if◌then◌else◌}
 use Rattle.std.specs.List.{AllByRecursion}
 use Rattle.std.proofs.lemmas.List.{append-nil}
 use Rattle.std.proofs.lemmas.Slice.Eq.{bytes_eq-Decides}
-use Rattle.souper_graph.specs.Values.{PlainRhs, var, PlainAssignment, PlainStatement, assigned, PlainInfer, Ending, inferred, Item}
+use Rattle.souper_graph.specs.Values.{PlainRhs, var, PlainAssignment, PlainStatement, assigned, Ending, inferred, Item}
 use Rattle.souper_graph.specs.Names.{IsName}
 use Rattle.souper_graph.specs.Uses.{Has, uses_of_rhs, uses_of, first_roots}
-use Rattle.souper_graph.specs.WellFormed.{IsAssigned, FitsStatement, Closed, WellFormed}
+use Rattle.souper_graph.specs.WellFormed.{IsAssigned, FitsStatement, WellFormed}
 use Rattle.souper_ir.specs.Tokens.{Lexeme, val_name, spelling, IsLexeme, Begins}
-use Rattle.souper_ir.specs.Spelling.{kinds, Scope, position_from, position_of, statement_spells, infer_spells, Statements, ItemType, left_hand_side, ending_spells, item_spells, list_spells, TextSpells}
+use Rattle.souper_ir.specs.Spelling.{kinds, Scope, position_from, position_of, statement_spells, Statements, ItemType, left_hand_side, ending_spells, item_spells, list_spells, TextSpells}
 use Rattle.souper_ir.proofs.Names.{position_push}
 
 abbrev AllLexemes : List Lexeme → Type 0

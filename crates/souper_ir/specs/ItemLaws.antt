@@ -1,22 +1,22 @@
 -- Items: what the statements' loop keeps, and that nothing is spelled where it is stuck.
-use Rattle.std.proofs.Common.{◌≡◌, ◌⊎◌, ℕ, suc, ◌+◌, ◌<◌, Bool, true, false, List, [], ◌∷◌, ◌++◌, length, Option, Some, None, refl, sym, ◌∙◌, ap, subst, inl, inr, append_assoc, arith}
+use Rattle.std.proofs.Common.{◌≡◌, ℕ, ◌<◌, Bool, true, false, List, [], ◌∷◌, ◌++◌, length, None, refl, sym, ◌∙◌, ap, subst, inl, inr, append_assoc, arith}
 use Rattle.std.specs.Prelude.{codes}
 use Rattle.std.proofs.lemmas.List.{append-nil, append_cancel_left, length-append}
-use Rattle.souper_graph.specs.Values.{PlainRhs, var, PlainAssignment, PlainStatement, assigned, PlainInfer, Ending, inferred, Item}
+use Rattle.souper_graph.specs.Values.{PlainRhs, var, PlainStatement, assigned, PlainInfer, Ending, inferred, Item}
 use Rattle.souper_ir.specs.declared.parse.error.ParseError.{ParseError}
 use Rattle.souper_ir.specs.Tokens.{Lexeme, ident}
 use Rattle.souper_ir.specs.Spelling.{kinds, Scope, statement_spells, infer_spells, Statements, ItemType, left_hand_side, ending_spells, item_spells_after}
 use Rattle.souper_ir.specs.Continuation.{rhs_continues, statement_continues, infer_continues, ending_continues, item_continues}
-use Rattle.souper_ir.specs.Parsing.{Cause, Parsing}
+use Rattle.souper_ir.specs.Parsing.{Parsing}
 use Rattle.souper_ir.specs.Reading.{cause_of, IfRefused, if_refused, IsRead, Fails, FailsForMemory, fails_later}
-use Rattle.souper_ir.specs.Grammar.{Free, Stops, Starts, Took, NoFront, NoFrontOf, LastGoesOn, Refusal, peek_at}
-use Rattle.souper_ir.specs.Unique.{Free-weaker, Free-front, Free-from_Stops}
+use Rattle.souper_ir.specs.Grammar.{Free, Stops, Starts, Took, NoFront, LastGoesOn, Refusal, peek_at}
+use Rattle.souper_ir.specs.Unique.{Free-weaker, Free-from_Stops}
 use Rattle.souper_ir.specs.NodeReadings.{is_name, statement_at, infer_at}
 use Rattle.souper_ir.specs.Peeks.{peeked, peeked_yes, peeked_no, unread}
 use Rattle.souper_ir.specs.Steps.{kinds-append}
 use Rattle.souper_ir.specs.Readings.{one_alone, of_memory}
 use Rattle.souper_ir.specs.NodeLaws.{never, statement_complete, statement_first, infer_complete}
-use Rattle.souper_ir.specs.Items.{starts_statement, EndsStatements, Opens, Stated, AllStated, NoStatement, NoMore, StuckAt, StatedRefusal}
+use Rattle.souper_ir.specs.Items.{starts_statement, Opens, Stated, AllStated, NoStatement, NoMore, StuckAt, StatedRefusal}
 
 -- ---- statements
 

@@ -1,6 +1,6 @@
 -- Reading from left to right: a value and the parser behind it, or none.
 use Rattle.std.specs.Prelude.{◌≡◌, ℕ, ◌≤◌, ◌≢◌, Bool, true, false, List, [], ◌∷◌, Option, Some, None, Result, Ok, Err, option_map, IsSomeAnd}
-use Rattle.std.proofs.Common.{◌∙◌, subst}
+use Rattle.std.proofs.Common.{◌∙◌}
 use Rattle.souper_ir.specs.declared.parse.error.ParseErrorKind.{ParseErrorKind}
 use Rattle.souper_ir.specs.declared.parse.error.ParseErrorKind.TheVariants.{Io, Parse, Memory}
 use Rattle.souper_ir.specs.declared.parse.error.ParseError.{ParseError}
