@@ -1,0 +1,65 @@
+//! What the program is asked, and its lines that tell of no text.
+use souper_format::command::{Command, Kind, read_command};
+use souper_format::run::{report, usage};
+use souper_format::watched::Watched;
+use std::alloc::{AllocError, Global};
+use std::io;
+use std::io::ErrorKind;
+use std::test::Fail;
+
+fn command(alloc: Global, words: &[&str]) -> Result<Option<Command>, AllocError> {
+    let mut args = Vec::new(alloc);
+    for word in words {
+        args.push(String::from_str(alloc, word)?)?;
+    }
+    Ok(read_command(args))
+}
+
+#[test]
+fn lhs_is_a_command(rt: HostRuntime) -> Result<(), Fail> {
+    let asked = command(rt.alloc(), &["lhs"])?;
+    assert_eq!(rt; asked, Some(Command::Format(Kind::Lhs)));
+    Ok(())
+}
+
+#[test]
+fn other_words_are_no_command(rt: HostRuntime) -> Result<(), Fail> {
+    let rows: [&[&str]; 11] = [
+        &[],
+        &["rhs"],
+        &["rep"],
+        &["same"],
+        &["same", "lhs"],
+        &["same", "lhs", "a", "b"],
+        &["lhs", "x"],
+        &["lhs", "lhs"],
+        &["x", "lhs"],
+        &["LHS"],
+        &[""],
+    ];
+    for words in rows {
+        assert_eq!(rt; command(rt.alloc(), words)?, None, "for {words:?}");
+    }
+    Ok(())
+}
+
+#[test]
+fn usage_is_told(rt: HostRuntime) {
+    let mut told = Vec::new(rt.alloc());
+    let mut err = Watched::new(&mut told);
+    assert_eq!(rt; usage(&mut err), 2);
+    assert!(rt; !err.failed());
+    let want = "usage: souper_fmt lhs|rhs|rep\n       souper_fmt same lhs|rhs|rep PATH PATH\n";
+    assert_eq!(rt; told.as_slice(), want.as_bytes());
+}
+
+#[test]
+fn fault_is_reported(rt: HostRuntime) {
+    let mut told = Vec::new(rt.alloc());
+    let mut err = Watched::new(&mut told);
+    let fault = io::Error::from(ErrorKind::NotFound);
+    assert_eq!(rt; report(rt.alloc(), &fault, &mut err), 3);
+    assert!(rt; !err.failed());
+    assert!(rt; told.as_slice().starts_with(b"IO error: "));
+    assert!(rt; told.as_slice().ends_with(b"\n"));
+}

@@ -1,0 +1,70 @@
+//! A reader and a writer that fail at one call.
+use std::io;
+use std::io::{ErrorKind, Read, Write};
+
+// A call that fails once, after so many that work.
+#[derive(Clone, Copy)]
+struct Fault {
+    after: usize,
+}
+
+impl Fault {
+    fn call(&mut self) -> io::Result<()> {
+        if self.after == 0 {
+            self.after = usize::MAX;
+            return Err(io::Error::from(ErrorKind::Interrupted));
+        }
+        self.after -= 1;
+        Ok(())
+    }
+}
+
+/// Gives at most so many bytes a read. One read fails, and those after it go on.
+#[derive(Drop)]
+pub struct FaultyReader<'a> {
+    rest: &'a [u8],
+    most: usize,
+    fault: Fault,
+}
+
+impl<'a> FaultyReader<'a> {
+    /// A reader that fails after so many reads.
+    pub fn new(rest: &'a [u8], most: usize, after: usize) -> FaultyReader<'a> {
+        let fault = Fault { after };
+        FaultyReader { rest, most, fault }
+    }
+}
+
+impl Read for FaultyReader<'_> {
+    fn read(&mut self, buf: &mut [u8]) -> io::Result<usize> {
+        self.fault.call()?;
+        let most = buf.len().min(self.most);
+        self.rest.read(&mut buf[..most])
+    }
+}
+
+/// Takes at most so many bytes a write. One call fails, and those after it go on.
+#[derive(Drop)]
+pub struct FaultyWriter {
+    most: usize,
+    fault: Fault,
+}
+
+impl FaultyWriter {
+    /// A writer that fails after so many calls.
+    pub fn new(most: usize, after: usize) -> FaultyWriter {
+        let fault = Fault { after };
+        FaultyWriter { most, fault }
+    }
+}
+
+impl Write for FaultyWriter {
+    fn write(&mut self, buf: &[u8]) -> io::Result<usize> {
+        self.fault.call()?;
+        Ok(buf.len().min(self.most))
+    }
+
+    fn flush(&mut self) -> io::Result<()> {
+        self.fault.call()
+    }
+}

@@ -1,0 +1,131 @@
+//! Texts that are read, and the texts of their items.
+use souper_format::command::Kind;
+use souper_format::items::format_text;
+use souper_ir::parse::parse_left_hand_sides_str;
+use std::alloc::{AllocError, Global};
+use std::process::Abort;
+use std::test::Fail;
+
+// The source is read as items with these texts.
+fn reads(rt: &impl Abort, alloc: Global, source: &str, texts: &[&str]) -> Result<(), Fail> {
+    let items = parse_left_hand_sides_str(alloc, source, None)?;
+    assert_eq!(rt; items.len(), texts.len(), "in {source:?}");
+    let mut joined = String::new(alloc);
+    for (item, want) in items.iter().zip(texts) {
+        let text = item.to_text()?;
+        assert_eq!(rt; text.as_str(), *want, "in {source:?}");
+        let shown = item.to_string(alloc)?;
+        assert_eq!(rt; shown.as_str(), *want, "in {source:?}");
+        joined.push_str(want)?;
+        joined.push('\n')?;
+    }
+    let formatted = format_text(alloc, Kind::Lhs, source, None)?;
+    assert_eq!(rt; formatted.as_str(), joined.as_str(), "in {source:?}");
+    Ok(())
+}
+
+#[test]
+fn only_needed_statements_are_printed(rt: HostRuntime) -> Result<(), Fail> {
+    let source = "%a = var\n%b = var\ninfer %b";
+    reads(&rt, rt.alloc(), source, &["%b = var\ninfer %b\n"])?;
+    let formatted = format_text(rt.alloc(), Kind::Lhs, source, None)?;
+    assert_eq!(rt; formatted.as_str(), "%b = var\ninfer %b\n\n");
+    Ok(())
+}
+
+#[test]
+fn each_item_has_a_scope_of_its_own(rt: HostRuntime) -> Result<(), Fail> {
+    let text = "%x = var\ninfer %x\n";
+    let source = "%x = var\ninfer %x\n%x = var\ninfer %x";
+    reads(&rt, rt.alloc(), source, &[text, text])
+}
+
+#[test]
+fn gaps_alone_hold_no_items(rt: HostRuntime) -> Result<(), Fail> {
+    for source in [
+        "",
+        ";;",
+        " ",
+        "\n",
+        "  \t\r\n\n ",
+        "\u{3000}",
+        "\u{b}\u{c}\u{85}\u{a0}\u{1680}\u{2000}\u{200a}\u{2028}\u{2029}\u{202f}\u{205f}",
+        "; one\n\u{3000}; é two",
+    ] {
+        reads(&rt, rt.alloc(), source, &[])?;
+    }
+    Ok(())
+}
+
+#[test]
+fn gaps_between_tokens_are_dropped(rt: HostRuntime) -> Result<(), Fail> {
+    for source in [
+        "%x = var\ninfer %x",
+        "%x = var infer %x",
+        "%x=var infer%x",
+        "%x\u{3000}=\u{3000}var\u{3000}infer\u{3000}%x\u{3000}",
+        ";é\n%x = var\ninfer %x",
+        "%x = var;c\ninfer %x;end",
+        "%x;a\n=;b;c\n;\nvar;%x = var\ninfer;\u{feff}\n%x;\n",
+        "%x = var\r\ninfer %x\r\n",
+    ] {
+        reads(&rt, rt.alloc(), source, &["%x = var\ninfer %x\n"])?;
+    }
+    Ok(())
+}
+
+#[test]
+fn names_are_longest(rt: HostRuntime) -> Result<(), Fail> {
+    for (source, text) in [
+        (
+            "%0.aZ_9 = var infer %0.aZ_9",
+            "%0.aZ_9 = var\ninfer %0.aZ_9\n",
+        ),
+        ("%var = var infer %var", "%var = var\ninfer %var\n"),
+        (
+            "%knownBits = var infer %knownBits",
+            "%knownBits = var\ninfer %knownBits\n",
+        ),
+    ] {
+        reads(&rt, rt.alloc(), source, &[text])?;
+    }
+    Ok(())
+}
+
+// A thousand definitions, from `%0` to `%999`, a line each.
+fn thousand(alloc: Global) -> Result<String, AllocError> {
+    let mut lines = String::new(alloc);
+    for k in 0..1000u32 {
+        let line = format!(in alloc; "%{k} = var\n")?;
+        lines.push_str(line.as_str())?;
+    }
+    Ok(lines)
+}
+
+#[test]
+fn thousand_statements_are_read(rt: HostRuntime) -> Result<(), Fail> {
+    let mut source = thousand(rt.alloc())?;
+    source.push_str("infer %999")?;
+    reads(
+        &rt,
+        rt.alloc(),
+        source.as_str(),
+        &["%999 = var\ninfer %999\n"],
+    )
+}
+
+#[test]
+fn second_definition_among_a_thousand_is_refused(rt: HostRuntime) -> Result<(), Fail> {
+    let mut source = thousand(rt.alloc())?;
+    source.push_str("%500 = var\ninfer %999")?;
+    let error = parse_left_hand_sides_str(rt.alloc(), source.as_str(), None)
+        .err()
+        .ok_or("no refusal")?;
+    assert_eq!(rt; error.offset(), Some(10890));
+    let shown = error.to_string(rt.alloc())?;
+    // The first byte of a line stands one past the text of the line before.
+    let want =
+        "unknown:1000:11: cannot redefine '%500'\n     |\n1000 | %999 = var\n     |           ^";
+    assert_eq!(rt; shown.as_str(), want);
+    Ok(())
+}
