@@ -29,7 +29,7 @@ pub struct FaultyReader<'a> {
 
 impl<'a> FaultyReader<'a> {
     /// A reader that fails after so many reads.
-    pub fn new(rest: &'a [u8], most: usize, after: usize) -> FaultyReader<'a> {
+    pub(crate) fn new(rest: &'a [u8], most: usize, after: usize) -> FaultyReader<'a> {
         let fault = Fault { after };
         FaultyReader { rest, most, fault }
     }
@@ -52,7 +52,7 @@ pub struct FaultyWriter {
 
 impl FaultyWriter {
     /// A writer that fails after so many calls.
-    pub fn new(most: usize, after: usize) -> FaultyWriter {
+    pub(crate) fn new(most: usize, after: usize) -> FaultyWriter {
         let fault = Fault { after };
         FaultyWriter { most, fault }
     }
