@@ -1,11 +1,11 @@
 -- The printed order of items whose statements use nothing.
-use Rattle.std.proofs.Common.{◌≡◌, ℕ, suc, List, [], ◌∷◌, ◌++◌, Option, Some, None, refl, ap, flat_map}
+use Rattle.std.proofs.Common.{◌≡◌, ℕ, suc, List, [], ◌∷◌, ◌++◌, Option, Some, None, refl, ap}
 use Rattle.std.proofs.lemmas.List.{append-nil}
-use Rattle.std.specs.Prelude.{slice_get, filter}
-use Rattle.souper_graph.specs.Values.{PlainRhs, var, PlainAssignment, PlainStatement, assigned, PlainInfer, inferred, Item}
+use Rattle.std.specs.Prelude.{slice_get}
+use Rattle.souper_graph.specs.Values.{PlainRhs, var, PlainStatement, assigned, PlainInfer, inferred}
 use Rattle.souper_graph.specs.Uses.{uses_of_rhs, uses_of, uses_of_optional, uses_at, conditions_from}
 use Rattle.souper_graph.specs.Order.{unfolding_of, printed_order}
-use Rattle.souper_graph.specs.Text.{line_at, text_of_ending, text_of_infer, text_of}
+use Rattle.souper_graph.specs.Text.{line_at, text_of_infer, text_of}
 
 no_uses_of_rhs : (v : PlainRhs) → uses_of_rhs v ≡ []
 no_uses_of_rhs var = refl

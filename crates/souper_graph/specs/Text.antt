@@ -1,5 +1,5 @@
 -- The canonical text of an item: the lines of its needed statements in printed order, and its last line.
-use Rattle.std.specs.Prelude.{ℕ, List, [], ◌∷◌, ◌++◌, flat_map, codes, Option, Some, None, slice_get}
+use Rattle.std.specs.Prelude.{ℕ, List, [], ◌++◌, flat_map, codes, Option, Some, None, slice_get}
 use Rattle.souper_graph.specs.Values.{PlainRhs, var, PlainAssignment, PlainStatement, assigned, PlainInfer, Ending, inferred, Item}
 use Rattle.souper_graph.specs.Order.{printed_order}
 

@@ -1,6 +1,6 @@
 -- Which positions a node names.
-use Rattle.std.specs.Prelude.{◌≡◌, ℕ, zero, suc, ◌⊎◌, Bool, false, List, [], ◌∷◌, ◌++◌, Option, Some, None, if◌then◌else◌, slice_get}
-use Rattle.souper_graph.specs.Values.{PlainRhs, var, PlainAssignment, PlainStatement, assigned, PlainInfer, Ending, inferred, Item}
+use Rattle.std.specs.Prelude.{◌≡◌, ℕ, suc, ◌⊎◌, Bool, false, List, [], ◌∷◌, ◌++◌, Option, Some, None, if◌then◌else◌, slice_get}
+use Rattle.souper_graph.specs.Values.{PlainRhs, var, PlainStatement, assigned, Ending, inferred, Item}
 
 -- the list has the number
 abbrev pub Has : List ℕ → ℕ → Type 0

@@ -8,7 +8,7 @@ use Rattle.souper_graph.specs.declared.ast.Statement.{Statement}
 use Rattle.souper_graph.specs.declared.ast.Statement.TheVariants.{Assignment as assignment_variant}
 use Rattle.souper_graph.specs.declared.ast.Infer.{Infer}
 use Rattle.souper_graph.specs.declared.ast.LeftHandSide.{LeftHandSide}
-use Rattle.souper_graph.specs.Values.{PlainRhs, var, PlainAssignment, PlainStatement, assigned, PlainInfer, Ending, inferred, Item}
+use Rattle.souper_graph.specs.Values.{PlainRhs, var, PlainAssignment, PlainStatement, assigned, PlainInfer, inferred, Item}
 
 abbrev pub view_rhs : AssignmentRhs → PlainRhs
 view_rhs Var = var

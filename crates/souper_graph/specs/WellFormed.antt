@@ -1,8 +1,8 @@
 -- When an item is well formed. Statements that it does not need are not judged.
 use Rattle.std.specs.Prelude.{◌≡◌, ℕ, ◌<◌, List, Option, Some, None, slice_get}
-use Rattle.souper_graph.specs.Values.{PlainAssignment, PlainStatement, assigned, Ending, inferred, Item}
+use Rattle.souper_graph.specs.Values.{PlainAssignment, PlainStatement, assigned, Item}
 use Rattle.souper_graph.specs.Names.{IsName}
-use Rattle.souper_graph.specs.Uses.{Has, uses_of, walks_of, first_roots, NeededIn}
+use Rattle.souper_graph.specs.Uses.{Has, uses_of, first_roots, NeededIn}
 
 -- an assignment stands there
 abbrev pub IsAssigned : Option PlainStatement → Type 0
