@@ -1,31 +1,60 @@
 -- Ids that name nothing that they may name, and what is answered for them.
-use Rattle.std.specs.Prelude.{◌≡◌, ℕ, ◌<◌, ◌≤◌, ◌⊎◌, ◌++◌, length, List, slice_get, codes, decimal}
-use Rattle.souper_graph.specs.declared.stringify.TextError.{TextError}
-use Rattle.souper_graph.specs.declared.stringify.TextError.TheVariants.{OutOfRange, NotAnAssignment, NotABlock, OutOfMemory}
-use Rattle.souper_graph.specs.Values.{PlainStatement, Item}
-use Rattle.souper_graph.specs.Uses.{Has, uses_at, first_roots, NeededIn}
-use Rattle.souper_graph.specs.WellFormed.{IsAssigned}
+use Rattle.std.specs.Prelude.{ℕ, ◌<◌, ◌≤◌, ◌⊎◌, ◌++◌, length, List, Option, Some, None, slice_get, codes, decimal}
+use Rattle.souper_graph.specs.declared.stringify.errors.TextError.{TextError}
+use Rattle.souper_graph.specs.declared.stringify.errors.TextError.TheVariants.{OutOfRange, NotAnAssignment, NotABlock, OutOfMemory}
+use Rattle.souper_graph.specs.Values.{PlainRhs, var, block, phi, reserved_inst, reserved_const, instruction, PlainStatement, assigned, condition, block_condition, Item}
+use Rattle.souper_graph.specs.Uses.{Has, Use, value_use, block_use, uses_at, roots_of, NeededIn}
 
--- a root names the position as a value, or a needed statement does
-abbrev pub NamesValue : Item → ℕ → Type 0
-NamesValue a i = Has (first_roots a.ending) i ⊎ ((p : ℕ) × NeededIn a p × Has (uses_at a.statements p) i)
+-- an assignment stands there
+abbrev pub IsAssigned : Option PlainStatement → Type 0
+IsAssigned None = ⊥
+IsAssigned (Some (assigned a)) = Unit {0}
+IsAssigned (Some (condition p)) = ⊥
+IsAssigned (Some (block_condition p)) = ⊥
 
--- a root or a needed statement names a position where no assignment stands
+abbrev pub IsBlockRhs : PlainRhs → Type 0
+IsBlockRhs var = ⊥
+IsBlockRhs (block b) = Unit {0}
+IsBlockRhs (phi p) = ⊥
+IsBlockRhs reserved_inst = ⊥
+IsBlockRhs reserved_const = ⊥
+IsBlockRhs (instruction i) = ⊥
+
+-- the assignment of a block stands there
+abbrev pub IsBlock : Option PlainStatement → Type 0
+IsBlock None = ⊥
+IsBlock (Some (assigned a)) = IsBlockRhs a.value
+IsBlock (Some (condition p)) = ⊥
+IsBlock (Some (block_condition p)) = ⊥
+
+-- what stands at the position is what the use asks for
+abbrev pub IsMet : List PlainStatement → Use → Type 0
+IsMet ss (value_use i) = IsAssigned (slice_get ss i)
+IsMet ss (block_use i) = IsBlock (slice_get ss i)
+
+abbrev pub AreMet : List PlainStatement → List Use → Type 0
+AreMet ss us = (u : Use) → Has us u → IsMet ss u
+
+-- the error tells what is wrong with one of the uses, or want of memory
+abbrev pub IsFaultAmong : List PlainStatement → List Use → TextError → Type 0
+IsFaultAmong ss us (OutOfRange i) = (Has us (value_use i) ⊎ Has us (block_use i)) × (length ss ≤ i)
+IsFaultAmong ss us (NotAnAssignment i) = Has us (value_use i) × (i < length ss) × ¬ IsAssigned (slice_get ss i)
+IsFaultAmong ss us (NotABlock i) = Has us (block_use i) × (i < length ss) × ¬ IsBlock (slice_get ss i)
+IsFaultAmong ss us OutOfMemory = Unit {0}
+
+-- a root, or a needed statement, names the position so
+abbrev pub NamedIn : Item → Use → Type 0
+NamedIn a u = Has (roots_of a.ending) u ⊎ ((p : ℕ) × NeededIn a p × Has (uses_at a.statements p) u)
+
+-- a root or a needed statement names a position where nothing stands that it may name
 abbrev pub HasBadId : Item → Type 0
-HasBadId a = (i : ℕ) × NamesValue a i × ¬ IsAssigned (slice_get a.statements i)
-
--- the error tells what is wrong at the position, or want of memory
-abbrev pub IsFaultAt : List PlainStatement → ℕ → TextError → Type 0
-IsFaultAt ss i (OutOfRange j) = (j ≡ i) × (length ss ≤ i)
-IsFaultAt ss i (NotAnAssignment j) = (j ≡ i) × (i < length ss) × ¬ IsAssigned (slice_get ss i)
-IsFaultAt ss i (NotABlock j) = ⊥
-IsFaultAt ss i OutOfMemory = Unit {0}
+HasBadId a = (u : Use) × NamedIn a u × ¬ IsMet a.statements u
 
 -- the error tells a bad id of the item under its own fault, or want of memory
 abbrev pub IsFaultOf : Item → TextError → Type 0
-IsFaultOf a (OutOfRange i) = NamesValue a i × (length a.statements ≤ i)
-IsFaultOf a (NotAnAssignment i) = NamesValue a i × (i < length a.statements) × ¬ IsAssigned (slice_get a.statements i)
-IsFaultOf a (NotABlock i) = ⊥
+IsFaultOf a (OutOfRange i) = (NamedIn a (value_use i) ⊎ NamedIn a (block_use i)) × (length a.statements ≤ i)
+IsFaultOf a (NotAnAssignment i) = NamedIn a (value_use i) × (i < length a.statements) × ¬ IsAssigned (slice_get a.statements i)
+IsFaultOf a (NotABlock i) = NamedIn a (block_use i) × (i < length a.statements) × ¬ IsBlock (slice_get a.statements i)
 IsFaultOf a OutOfMemory = Unit {0}
 
 -- how an error is shown

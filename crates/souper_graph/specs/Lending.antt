@@ -1,7 +1,7 @@
 -- What an arena ends as, where a `&mut` to one of its items is returned.
 use Rattle.std.specs.Prelude.{ℕ, List, Option, slice_set}
 use Rattle.std.specs.Borrow.{LendsIf, Fml, RattleType, MutBor}
-use Rattle.souper_graph.specs.contracts.ast.Arena.{the_row}
+use Rattle.souper_graph.specs.contracts.ast.arenas.Arena.{the_row}
 
 -- once the borrow r ends, the item at the position is the last value written through r, and where there is no r all stays
 abbrev pub LendsItem : (T : RattleType) → MutBor (List T.Denot) → ℕ → Option (MutBor T.Denot) → Fml

@@ -1,9 +1,12 @@
 pub mod Lending
+pub mod Instructions
 pub mod Values
 pub mod Names
 pub mod View
 pub mod Uses
 pub mod Order
-pub mod WellFormed
+pub mod Leaves
 pub mod Text
 pub mod Faults
+pub mod WellFormed
+pub mod Sameness

@@ -1,12 +1,12 @@
--- The printed order of an item, by full unfoldings.
-use Rattle.std.specs.Prelude.{ℕ, zero, suc, ◌++◌, not, nat_lt, nat_eq, List, [], ◌∷◌, flat_map, filter}
+-- The printed order of an item, by full unfoldings, and what it costs to find it.
+use Rattle.std.specs.Prelude.{◌≡◌, ℕ, zero, suc, ◌+◌, ◌-◌, ◌^◌, min, ◌++◌, not, nat_lt, nat_eq, List, [], ◌∷◌, flat_map, filter, length}
 use Rattle.souper_graph.specs.Values.{PlainStatement, Item}
-use Rattle.souper_graph.specs.Uses.{uses_at, walks_of}
+use Rattle.souper_graph.specs.Uses.{Has, used_at, first_walks, walks_of}
 
 -- the unfolding of p to a depth: those of its uses below it, in order, and then p
 abbrev pub unfold_to : List PlainStatement → ℕ → ℕ → List ℕ
 unfold_to ss zero p = []
-unfold_to ss (suc n) p = flat_map (unfold_to ss n) (filter (λ u. nat_lt u p) (uses_at ss p)) ++ p ∷ []
+unfold_to ss (suc n) p = flat_map (unfold_to ss n) (filter (λ u. nat_lt u p) (used_at ss p)) ++ p ∷ []
 
 -- each use that is taken is lower, so a depth of p + 1 is always enough
 abbrev pub unfolding_of : List PlainStatement → ℕ → List ℕ
@@ -18,5 +18,30 @@ firsts [] = []
 firsts (x ∷ xs) = x ∷ filter (λ y. not (nat_eq x y)) (firsts xs)
 
 -- the first occurrences in the unfoldings of the walks, one after the other
+abbrev pub order_of_walks : List PlainStatement → List ℕ → List ℕ
+order_of_walks ss walks = firsts (flat_map (unfolding_of ss) walks)
+
 abbrev pub printed_order : Item → List ℕ
-printed_order a = firsts (flat_map (unfolding_of a.statements) (walks_of a))
+printed_order a = order_of_walks a.statements (walks_of a)
+
+-- how many statements stand before the infer line; in an item without a result behind it, all
+abbrev pub lead_of : Item → ℕ
+lead_of a = length (order_of_walks a.statements (first_walks a))
+
+-- no number stands twice
+abbrev pub Distinct : List ℕ → Type 0
+Distinct [] = Unit {0}
+Distinct (x ∷ xs) = (¬ Has xs x) × Distinct xs
+
+-- before each statement of the list stand all its uses
+abbrev pub EachAfterItsUses : List PlainStatement → List ℕ → Type 0
+EachAfterItsUses ss ids = (front back : List ℕ) (i u : ℕ) → ids ≡ front ++ i ∷ back → Has (used_at ss i) u → Has front u
+
+-- for each of these statements 1, and the length of its list of uses
+abbrev pub cost : List PlainStatement → List ℕ → ℕ
+cost ss [] = 0
+cost ss (i ∷ is) = 1 + length (used_at ss i) + cost ss is
+
+-- how many entries leave the work stack: for each walk 1, and the cost of the needed statements; a `u128` holds no more
+abbrev pub turns_of : Item → List ℕ → ℕ
+turns_of a ids = min (2 ^ 128 - 1) (length (walks_of a) + cost a.statements ids)

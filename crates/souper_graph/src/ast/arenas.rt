@@ -1,0 +1,121 @@
+//! Lists of items in which each item keeps its position.
+
+ghost use Rattle.std.specs.Prelude.{◌≡◌, ◌++◌, ◌∷◌, [], length, slice_get, IfOk, OnErr, option_copied};
+ghost use Rattle.std.specs.List.{enumerate_from};
+ghost use Rattle.std.specs.Option.{option_copied_mut};
+ghost use Rattle.std.specs.Borrow.{sem};
+ghost use Rattle.std.specs.Iterator.{YieldsFirstBy, item_count};
+ghost use Rattle.souper_graph.specs.Lending.{LendsItem};
+
+use crate::ast::ids::Id;
+use std::alloc::{AllocError, Global};
+use std::marker::Model;
+
+/// A list of items that grows at its end, so that each item keeps its position.
+#[derive(Debug, Drop)]
+pub struct Arena<T: Drop> {
+    items: Vec<T>,
+}
+
+impl<T: Drop> Model for Arena<T> {
+    ghost use Rattle.std.specs.Prelude.{List};
+
+    ghost Value = { List T };
+
+    ghost view = { λ arena. arena.items.items };
+}
+
+impl<T: Drop> Arena<T> {
+    /// An empty arena. It takes no memory.
+    pub fn new(alloc: Global) -> Self
+        ensures { result ≡ [] }
+    {
+        Arena {
+            items: Vec::new(alloc),
+        }
+    }
+
+    /// Puts the item at the end and answers its position.
+    pub fn alloc(&mut self, item: T) -> Result<Id<T>, AllocError>
+        ensures position { IfOk result (λ id. id ≡ length self.old) }
+        ensures grows { IfOk result (λ _. self.new ≡ self.old ++ item ∷ []) }
+        ensures err { OnErr result (self.new ≡ self.old) }
+    {
+        let index = self.items.len();
+        self.items.push(item)?;
+        Ok(Id::at(index))
+    }
+
+    /// The item at the position, or `None` at or past the end.
+    pub fn get(&self, id: Id<T>) -> Option<&T>
+        ensures { option_copied result ≡ slice_get self.now id }
+    {
+        self.items.get(id.index())
+    }
+
+    /// The item at the position, for writing, or `None` at or past the end.
+    ///
+    /// A write changes that item alone.
+    pub fn get_mut(&mut self, id: Id<T>) -> Option<&mut T>
+        ensures* writes_back { sem 𝓛 (LendsItem T.row self.entry id result) }
+        ensures value { option_copied_mut result ≡ slice_get self.old id }
+    {
+        self.items.get_mut(id.index())
+    }
+
+    /// How many items there are.
+    pub fn len(&self) -> usize
+        ensures { result ≡ length self.now }
+    {
+        self.items.len()
+    }
+
+    /// Each item with its position, in order.
+    pub fn iter(&self) -> Iter<'_, T>
+        ensures { result ≡ enumerate_from 0 self.now }
+    {
+        Iter {
+            rest: self.items.as_slice(),
+            index: 0,
+        }
+    }
+
+    pub(crate) fn allocator(&self) -> Global {
+        *self.items.allocator()
+    }
+}
+
+/// The items of an [`Arena`] with their positions, in order.
+#[derive(Drop)]
+pub struct Iter<'a, T> {
+    rest: &'a [T],
+    // The position of the first of `rest`.
+    index: usize,
+}
+
+impl<'a, T> Model for Iter<'a, T> {
+    ghost use Rattle.std.specs.Prelude.{ℕ, List, length, ◌+◌, ◌<◌, ◌^◌};
+    ghost use Rattle.std.specs.List.{enumerate_from};
+
+    ghost Value = { List (ℕ × T) };
+
+    ghost view = { λ it. enumerate_from it.index it.rest.now };
+
+    ghost invariant = { λ it. it.index + length it.rest.now < 2 ^ 64 };
+}
+
+impl<'a, T> Iterator for Iter<'a, T> {
+    type Item = (Id<T>, &'a T);
+
+    ghost next_gives = { YieldsFirstBy (λ item. (item.0, item.1.now)) (λ rest. rest) };
+
+    ghost remaining = { item_count (λ rest. rest) };
+
+    fn next(&mut self) -> Option<(Id<T>, &'a T)> {
+        let (first, rest) = self.rest.split_first()?;
+        let id = Id::at(self.index);
+        self.rest = rest;
+        self.index += 1;
+        Some((id, first))
+    }
+}
