@@ -1,7 +1,7 @@
 -- Items in a row: one list of them at most is spelled, and none where the parser is refused.
 use Rattle.std.proofs.Common.{◌≡◌, ℕ, ◌<◌, Bool, true, false, List, [], ◌∷◌, ◌++◌, length, map, None, refl, sym, ◌∙◌, ap, subst, append_assoc, arith}
 use Rattle.std.proofs.lemmas.List.{append-nil, append_cancel_left, length-append}
-use Rattle.souper_graph.specs.Values.{PlainStatement, Ending, inferred, Item}
+use Rattle.souper_graph.specs.Values.{PlainStatement, Ending, inferred, resulting, replaced, candidate, Item}
 use Rattle.souper_ir.specs.declared.parse.error.ParseError.{ParseError}
 use Rattle.souper_ir.specs.Tokens.{Lexeme}
 use Rattle.souper_ir.specs.Spelling.{kinds, ItemType, item_spells, item_spells_after, list_spells, TextSpells}
@@ -20,6 +20,9 @@ use Rattle.souper_ir.proofs.TokenLaws.{one_reading}
 
 ending_quiet : (y : Ending) (t : Lexeme) → ending_continues y t → ⊥
 ending_quiet (inferred i) t h = h
+ending_quiet (resulting r) t h = h
+ending_quiet (replaced i r) t h = h
+ending_quiet (candidate c) t h = h
 
 -- no token continues an item
 item_free : (a : Item) (ts : List Lexeme) → Free (item_continues a) ts

@@ -7,7 +7,7 @@ use Rattle.std.specs.Cmp.Lexicographic.{slice_cmp}
 use Rattle.std.specs.Ordering.{nat_cmp}
 use Rattle.std.proofs.lemmas.Slice.Eq.{bytes_eq-Decides}
 use Rattle.std.proofs.lemmas.Map.Text.{is_eq-slice_cmp}
-use Rattle.souper_graph.specs.Values.{PlainAssignment, assigned}
+use Rattle.souper_graph.specs.Values.{PlainAssignment, assigned, condition, block_condition}
 use Rattle.souper_ir.specs.Spelling.{Scope, position_from, position_of}
 use Rattle.souper_ir.specs.ParserView.{NamesAre}
 
@@ -19,6 +19,10 @@ found_or : (b : Bool) (k : ℕ) (o p : Option ℕ) (q : Option ℕ) → or_else 
 found_or true k o p q e = refl
 found_or false k o p q e = e
 
+-- one further on
+past : (k : ℕ) (n : ℕ) → suc k + n ≡ k + suc n
+past k n = omega arith
+
 -- the position of a name, after one more assignment
 pub position_push : (k : ℕ) (ss : Scope) (a : PlainAssignment) (n : List ℕ) → or_else (position_from k ss n) (if bytes_eq a.name n then Some (k + length ss) else None) ≡ position_from k (ss ++ assigned a ∷ []) n
 position_push k [] a n = ap (λ (i : ℕ). if bytes_eq a.name n then Some i else None) (let e : k + 0 ≡ k = omega arith in e)
@@ -27,6 +31,10 @@ position_push k (assigned b ∷ ss) a n =
     let more = position_push (suc k) ss a n in
     found_or (bytes_eq b.name n) k (position_from (suc k) ss n) (if bytes_eq a.name n then Some (k + suc (length ss)) else None) (position_from (suc k) (ss ++ assigned a ∷ []) n)
     (subst (λ (i : ℕ). or_else (position_from (suc k) ss n) (if bytes_eq a.name n then Some i else None) ≡ position_from (suc k) (ss ++ assigned a ∷ []) n) count more)
+position_push k (condition p ∷ ss) a n =
+    subst (λ (i : ℕ). or_else (position_from (suc k) ss n) (if bytes_eq a.name n then Some i else None) ≡ position_from (suc k) (ss ++ assigned a ∷ []) n) (past k (length ss)) (position_push (suc k) ss a n)
+position_push k (block_condition p ∷ ss) a n =
+    subst (λ (i : ℕ). or_else (position_from (suc k) ss n) (if bytes_eq a.name n then Some i else None) ≡ position_from (suc k) (ss ++ assigned a ∷ []) n) (past k (length ss)) (position_push (suc k) ss a n)
 
 only_if : (b : Bool) (o : Option ℕ) (v : ℕ) → (b ≡ true → o ≡ None) → (if b then Some v else o) ≡ or_else o (if b then Some v else None)
 only_if true o v h = rw (h refl) refl

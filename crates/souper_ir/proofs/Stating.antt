@@ -1,6 +1,6 @@
 -- One turn of the loop over statements.
 use Rattle.std.proofs.Common.{◌≡◌, ℕ, ◌<◌, true, List, [], ◌∷◌, ◌++◌, length, None, sym, ap, subst}
-use Rattle.souper_graph.specs.Values.{PlainAssignment, PlainStatement, assigned}
+use Rattle.souper_graph.specs.Values.{PlainAssignment, PlainStatement, assigned, condition, block_condition}
 use Rattle.souper_ir.specs.declared.parse.error.ParseError.{ParseError}
 use Rattle.souper_ir.specs.Spelling.{position_of, assignment_spells, statement_spells}
 use Rattle.souper_ir.specs.Continuation.{assignment_continues, statement_continues}
@@ -45,6 +45,8 @@ assignment_refused vs e p q h r so seen bad =
       where
         none : NoFront assignment_spells assignment_continues h → NoFront statement_spells statement_continues h
         none f (assigned a) front rest eq sp st = f a front rest eq sp st
+        none f (condition p) front rest eq sp st = sp
+        none f (block_condition p) front rest eq sp st = sp
 
 pub memory_refused : (vs : List PlainStatement) (a : PlainAssignment) (e : ParseError) (p q m r : Parsing) → Stated vs p q → TookAssignment a q m → FailsForMemory e m r → StatedRefusal e p r
 memory_refused vs a e p q m r so took h = memory_stated vs e p q m r so (ap (λ (x : Parsing). x.failed) took.state) (ap (λ (x : Parsing). x.len) took.state) h

@@ -2,7 +2,7 @@
 use Rattle.std.proofs.Common.{◌≡◌, ℕ, ◌<◌, Bool, true, false, List, [], ◌∷◌, ◌++◌, length, None, refl, sym, ◌∙◌, ap, subst, inl, inr, append_assoc, arith}
 use Rattle.std.specs.Prelude.{codes}
 use Rattle.std.proofs.lemmas.List.{append-nil, append_cancel_left, length-append}
-use Rattle.souper_graph.specs.Values.{PlainRhs, var, PlainStatement, assigned, PlainInfer, Ending, inferred, Item}
+use Rattle.souper_graph.specs.Values.{PlainRhs, PlainStatement, assigned, condition, block_condition, PlainInfer, Ending, inferred, resulting, replaced, candidate, Item}
 use Rattle.souper_ir.specs.declared.parse.error.ParseError.{ParseError}
 use Rattle.souper_ir.specs.Tokens.{Lexeme, ident}
 use Rattle.souper_ir.specs.Spelling.{kinds, Scope, statement_spells, infer_spells, Statements, ItemType, left_hand_side, ending_spells, item_spells_after}
@@ -21,11 +21,13 @@ use Rattle.souper_ir.specs.Items.{starts_statement, Opens, Stated, AllStated, No
 -- ---- statements
 
 rhs_quiet : (v : PlainRhs) (t : Lexeme) → rhs_continues v t → ⊥
-rhs_quiet var t h = h
+rhs_quiet v t h = h
 
 -- the first token of a statement continues no statement
 pub start_ends : (v : PlainStatement) (t : Lexeme) → starts_statement t ≡ true → statement_continues v t → ⊥
 start_ends (assigned a) t e h = rhs_quiet a.value t h
+start_ends (condition c) t e h = h
+start_ends (block_condition c) t e h = h
 
 pub statement_alone : (s : Scope) (v w : PlainStatement) (a b c d : List Lexeme) → a ++ c ≡ b ++ d → statement_spells s v a → statement_spells s w b
     → Free (statement_continues v) c → Free (statement_continues w) d → (a ≡ b) × (v ≡ w)
@@ -254,15 +256,26 @@ infer_opens s i ts h = subst Opens (sym h.1) (refl, λ v c. no_word v c)
   where
     no_word : (v : PlainStatement) → statement_continues v (ident (codes "infer")) → ⊥
     no_word (assigned a) c = rhs_quiet a.value (ident (codes "infer")) c
+    no_word (condition p) c = c
+    no_word (block_condition p) c = c
 
 pub ending_opens : (k : ItemType) (s : Scope) (y : Ending) (ts : List Lexeme) → ending_spells k s y ts → Opens ts
 ending_opens left_hand_side s (inferred i) ts h = infer_opens s i ts h
+ending_opens left_hand_side s (resulting r) ts h = absurd h
+ending_opens left_hand_side s (replaced i r) ts h = absurd h
+ending_opens left_hand_side s (candidate c) ts h = absurd h
 
 ending_alone : (k : ItemType) (s : Scope) (y z : Ending) (a b c d : List Lexeme) → a ++ c ≡ b ++ d → ending_spells k s y a → ending_spells k s z b
     → Free (ending_continues y) c → Free (ending_continues z) d → (a ≡ b) × (y ≡ z)
 ending_alone left_hand_side s (inferred i) (inferred j) a b c d e m n f g =
     let same = one_alone infer_spells infer_continues infer_at (λ (x : PlainInfer). x) infer_complete s i j a b c d e m n f g in
     (same.0, ap inferred same.1)
+ending_alone left_hand_side s (inferred i) (resulting r) a b c d e m n f g = absurd n
+ending_alone left_hand_side s (inferred i) (replaced j r) a b c d e m n f g = absurd n
+ending_alone left_hand_side s (inferred i) (candidate o) a b c d e m n f g = absurd n
+ending_alone left_hand_side s (resulting r) z a b c d e m n f g = absurd m
+ending_alone left_hand_side s (replaced j r) z a b c d e m n f g = absurd m
+ending_alone left_hand_side s (candidate o) z a b c d e m n f g = absurd m
 
 -- ---- items
 
@@ -322,3 +335,6 @@ infer_refused e p q h = record { failed = h.failed; nothing = if_refused (cause_
   where
     none : NoFront infer_spells infer_continues p → NoFront (ending_spells left_hand_side) ending_continues p
     none f (inferred i) front rest eq sp st = f i front rest eq sp st
+    none f (resulting r) front rest eq sp st = sp
+    none f (replaced i r) front rest eq sp st = sp
+    none f (candidate c) front rest eq sp st = sp

@@ -2,7 +2,8 @@
 use Rattle.std.proofs.Common.{◌≡◌, ℕ, Bool, true, false, List, [], ◌∷◌, ◌++◌, Option, Some, None, refl, sym, ◌∙◌, ap, subst}
 use Rattle.std.specs.Prelude.{codes, if◌then◌else◌}
 use Rattle.std.proofs.lemmas.Slice.Eq.{bytes_eq-Decides}
-use Rattle.souper_graph.specs.Values.{PlainRhs, var, PlainAssignment, PlainStatement, assigned, PlainInfer}
+use Rattle.souper_graph.specs.Values.{PlainAttribute, PlainRootAttribute, PlainRhs, var, block, phi, reserved_inst, reserved_const, instruction, PlainAssignment, PlainStatement, assigned, condition, block_condition, PlainInfer}
+use Rattle.souper_graph.specs.declared.ast.operands.«Type».{«Type» as Ty}
 use Rattle.souper_ir.specs.Tokens.{Lexeme, ident, val_name, equals}
 use Rattle.souper_ir.specs.Spelling.{kinds, Scope, position_of, rhs_spells, assignment_spells, statement_spells, infer_spells}
 use Rattle.souper_ir.specs.Continuation.{rhs_continues, assignment_continues, statement_continues, infer_continues}
@@ -51,7 +52,7 @@ never [] = tt
 never (t ∷ ts) = λ h. h
 
 rhs_ends : (v : PlainRhs) (ts : List Lexeme) → Free (rhs_continues v) ts
-rhs_ends var ts = never ts
+rhs_ends v ts = never ts
 
 -- ---- right sides
 
@@ -80,6 +81,11 @@ rhs_complete p var front rest at s st =
     let ahead : At p (ident (codes "var") ∷ rest) = subst (λ (x : List Lexeme). At p (x ++ rest)) s at in
     let t = accepts (word_of (codes "var")) p (ident (codes "var")) tt rest ahead (word_of_is (codes "var")) in
     (t.0, rw (peeks (is_word (codes "var")) p (ident (codes "var")) rest ahead, t.1) refl, t.2, t.3)
+rhs_complete p (block b) front rest at s st = absurd s
+rhs_complete p (phi f) front rest at s st = absurd s
+rhs_complete p reserved_inst front rest at s st = absurd s
+rhs_complete p reserved_const front rest at s st = absurd s
+rhs_complete p (instruction i) front rest at s st = absurd s
 
 -- ---- assignments
 
@@ -87,7 +93,7 @@ abbrev AssignmentRead : Parsing → Parsing → PlainAssignment → Type 0
 AssignmentRead p q a = (used : List Lexeme) × Takes p q used × assignment_spells p.scope a used × Free (assignment_continues a) (kinds q.tokens)
 
 abbrev done : List ℕ → PlainRhs × Parsing → Option (PlainAssignment × Parsing)
-done n r = Some (record { name = n; value = r.0 }, r.1)
+done n r = Some (record { name = n; ty = None; value = r.0; attributes = [] }, r.1)
 
 pub assignment_sound : Sound assignment_spells assignment_continues assignment_at
 unfolding assignment_at
@@ -96,7 +102,7 @@ assignment_sound p q a e =
     let f = bind_some (fresh (position_of n.0.1.scope n.0.0)) (λ f. accept equals_of n.0.1 >>= λ k. (rhs_at k.1 >>= λ r. done n.0.0 r)) (a, q) n.2 in
     let k = bind_some (accept equals_of n.0.1) (λ k. rhs_at k.1 >>= λ r. done n.0.0 r) (a, q) f.2 in
     let r = bind_some (rhs_at k.0.1) (λ r. done n.0.0 r) (a, q) k.2 in
-    let same : ◌≡◌ {A = PlainAssignment × Parsing} (record { name = n.0.0; value = r.0.0 }, r.0.1) (a, q) = some_is r.2 in
+    let same : ◌≡◌ {A = PlainAssignment × Parsing} (record { name = n.0.0; ty = None; value = r.0.0; attributes = [] }, r.0.1) (a, q) = some_is r.2 in
     let n2 = accepted name_of p n.0.1 n.0.0 n.1 in
     let k2 = accepted equals_of n.0.1 k.0.1 k.0.0 k.1 in
     let r2 = rhs_sound k.0.1 r.0.1 r.0.0 r.1 in
@@ -105,10 +111,14 @@ assignment_sound p q a e =
     let free_name : position_of p.scope n.0.0 ≡ None = subst (λ (x : Parsing). position_of x.scope n.0.0 ≡ None) n2.1.state (fresh_means (position_of n.0.1.scope n.0.0) f.0 f.1) in
     let parts : n2.0 ∷ k2.0 ∷ r2.0 ≡ val_name n.0.0 ∷ equals ∷ r2.0 = rw (name_means n2.0 n.0.0 n2.2, equals_means k2.0 k2.2) refl in
     let in_scope : rhs_spells p.scope r.0.0 r2.0 = subst (λ (x : Parsing). rhs_spells x.scope r.0.0 r2.0) front.state r2.2 in
-    subst (λ (x : PlainAssignment × Parsing). AssignmentRead p x.1 x.0) same (n2.0 ∷ k2.0 ∷ r2.0, whole, (r2.0, parts, in_scope, free_name), r2.3)
+    subst (λ (x : PlainAssignment × Parsing). AssignmentRead p x.1 x.0) same (n2.0 ∷ k2.0 ∷ r2.0, whole, (r2.0, parts, in_scope, free_name, refl, refl), r2.3)
 
 stops_at : (v : PlainRhs) (p q : Parsing) (rest : List Lexeme) → q ≡ record p { tokens = q.tokens } → Stops (rhs_continues v) p.faulty rest → Stops (rhs_continues v) q.faulty rest
 stops_at v p q rest e st = subst (λ (x : Parsing). Stops (rhs_continues v) x.faulty rest) (sym e) st
+
+-- an assignment without a type and without attributes
+bare : (a : PlainAssignment) → a.ty ≡ None → a.attributes ≡ [] → record { name = a.name; ty = None; value = a.value; attributes = [] } ≡ a
+bare a t e = ap (λ (x : Option Ty). record { name = a.name; ty = x; value = a.value; attributes = [] }) (sym t) ∙ ap (λ (x : List PlainAttribute). record { name = a.name; ty = a.ty; value = a.value; attributes = x }) (sym e)
 
 pub assignment_complete : Complete assignment_spells assignment_continues assignment_at
 unfolding assignment_at
@@ -120,24 +130,24 @@ assignment_complete p a front rest at s st =
     let before : k.0 ≡ record p { tokens = k.0.tokens } = k.3 ∙ ap (λ (x : Parsing). record x { tokens = k.0.tokens }) n.3 in
     let in_scope : rhs_spells k.0.scope a.value s.0 = subst (λ (x : Parsing). rhs_spells x.scope a.value s.0) (sym before) s.2 in
     let r = rhs_complete k.0 a.value s.0 rest k.2 in_scope (stops_at a.value p k.0 rest before st) in
-    (r.0, rw (n.1, unknown, k.1, r.1) refl, r.2, r.3 ∙ ap (λ (x : Parsing). record x { tokens = r.0.tokens }) before)
+    (r.0, rw (n.1, unknown, k.1, r.1) (ap (λ (x : PlainAssignment). Some (x, r.0)) (bare a s.4 s.5)), r.2, r.3 ∙ ap (λ (x : Parsing). record x { tokens = r.0.tokens }) before)
 
 -- ---- the infer line
 
 pub infer_sound : Sound infer_spells infer_continues infer_at
 unfolding infer_at
 infer_sound p q i e =
-    let k = bind_some (accept (word_of (codes "infer")) p) (λ k. accept name_of k.1 >>= λ n. (position_of n.1.scope n.0 >>= λ v. Some (record { value = v }, n.1))) (i, q) e in
-    let n = bind_some (accept name_of k.0.1) (λ n. position_of n.1.scope n.0 >>= λ v. Some (record { value = v }, n.1)) (i, q) k.2 in
-    let v = bind_some (position_of n.0.1.scope n.0.0) (λ v. Some (record { value = v }, n.0.1)) (i, q) n.2 in
-    let same : ◌≡◌ {A = PlainInfer × Parsing} (record { value = v.0 }, n.0.1) (i, q) = some_is v.2 in
+    let k = bind_some (accept (word_of (codes "infer")) p) (λ k. accept name_of k.1 >>= λ n. (position_of n.1.scope n.0 >>= λ v. Some (record { value = v; attributes = [] }, n.1))) (i, q) e in
+    let n = bind_some (accept name_of k.0.1) (λ n. position_of n.1.scope n.0 >>= λ v. Some (record { value = v; attributes = [] }, n.1)) (i, q) k.2 in
+    let v = bind_some (position_of n.0.1.scope n.0.0) (λ v. Some (record { value = v; attributes = [] }, n.0.1)) (i, q) n.2 in
+    let same : ◌≡◌ {A = PlainInfer × Parsing} (record { value = v.0; attributes = [] }, n.0.1) (i, q) = some_is v.2 in
     let k2 = accepted (word_of (codes "infer")) p k.0.1 k.0.0 k.1 in
     let n2 = accepted name_of k.0.1 n.0.1 n.0.0 n.1 in
     let whole : Takes p n.0.1 (k2.0 ∷ n2.0 ∷ []) = Takes-then p k.0.1 n.0.1 (k2.0 ∷ []) (n2.0 ∷ []) k2.1 n2.1 in
     let at : position_of p.scope n.0.0 ≡ Some v.0 = subst (λ (x : Parsing). position_of x.scope n.0.0 ≡ Some v.0) whole.state v.1 in
     let parts : k2.0 ∷ n2.0 ∷ [] ≡ ident (codes "infer") ∷ val_name n.0.0 ∷ [] = rw (word_means (codes "infer") k2.0 k2.2, name_means n2.0 n.0.0 n2.2) refl in
     subst (λ (x : PlainInfer × Parsing). (used : List Lexeme) × Takes p x.1 used × infer_spells p.scope x.0 used × Free (infer_continues x.0) (kinds x.1.tokens)) same
-    (k2.0 ∷ n2.0 ∷ [], whole, (n.0.0, parts, at), never (kinds n.0.1.tokens))
+    (k2.0 ∷ n2.0 ∷ [], whole, (n.0.0, parts, at, refl), never (kinds n.0.1.tokens))
 
 pub infer_complete : Complete infer_spells infer_continues infer_at
 unfolding infer_at
@@ -147,7 +157,7 @@ infer_complete p i front rest at s st =
     let n = accepts name_of k.0 (val_name s.0) s.0 rest k.2 refl in
     let state : n.0 ≡ record p { tokens = n.0.tokens } = n.3 ∙ ap (λ (x : Parsing). record x { tokens = n.0.tokens }) k.3 in
     let found : position_of n.0.scope s.0 ≡ Some i.value = subst (λ (x : Parsing). position_of x.scope s.0 ≡ Some i.value) (sym state) s.2 in
-    (n.0, rw (k.1, n.1, found) refl, n.2, state)
+    (n.0, rw (k.1, n.1, found) (ap (λ (x : List PlainRootAttribute). Some (record { value = i.value; attributes = x }, n.0)) (sym s.3)), n.2, state)
 
 -- ---- first tokens
 
@@ -174,6 +184,10 @@ unfolding statement_at
 statement_complete p (assigned a) front rest at s st =
     let k = assignment_complete p a front rest at s st in
     (k.0, rw k.1 refl, k.2, k.3)
+statement_complete p (condition c) front rest at s st = absurd s
+statement_complete p (block_condition c) front rest at s st = absurd s
 
 pub statement_first : (s : Scope) (v : PlainStatement) (ts : List Lexeme) → statement_spells s v ts → Starts is_name ts
 statement_first s (assigned a) ts h = assignment_first s a ts h
+statement_first s (condition c) ts h = absurd h
+statement_first s (block_condition c) ts h = absurd h

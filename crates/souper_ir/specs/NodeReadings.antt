@@ -1,5 +1,5 @@
 -- How each node is read from the tokens to come.
-use Rattle.std.specs.Prelude.{ℕ, Bool, true, false, List, Option, Some, None, is_some, if◌then◌else◌, codes, bytes_eq}
+use Rattle.std.specs.Prelude.{ℕ, Bool, true, false, List, [], Option, Some, None, is_some, if◌then◌else◌, codes, bytes_eq}
 use Rattle.souper_graph.specs.Values.{PlainRhs, var, PlainAssignment, PlainStatement, assigned, PlainInfer}
 use Rattle.souper_ir.specs.Tokens.{Lexeme, ident, val_name, equals}
 use Rattle.souper_ir.specs.Spelling.{position_of}
@@ -61,14 +61,14 @@ assignment_at p = do
   f ← fresh (position_of n.1.scope n.0)
   e ← accept equals_of n.1
   r ← rhs_at e.1
-  Some (record { name = n.0; value = r.0 }, r.1)
+  Some (record { name = n.0; ty = None; value = r.0; attributes = [] }, r.1)
 
 unfoldable pub infer_at : Parsing → Option (PlainInfer × Parsing)
 infer_at p = do
   k ← accept (word_of (codes "infer")) p
   n ← accept name_of k.1
   i ← position_of n.1.scope n.0
-  Some (record { value = i }, n.1)
+  Some (record { value = i; attributes = [] }, n.1)
 
 unfoldable pub statement_at : Parsing → Option (PlainStatement × Parsing)
 statement_at p = do

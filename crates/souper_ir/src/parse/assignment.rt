@@ -40,7 +40,15 @@ pub(crate) fn assignment<'a>(parser: &mut Parser<'a>) -> Result<(&'a str, Assign
     equals(parser)?;
     let value = rhs(parser)?;
     match String::from_str(parser.alloc(), name) {
-        Ok(text) => Ok((name, Assignment { name: text, value })),
+        Ok(text) => {
+            let assignment = Assignment {
+                name: text,
+                ty: None,
+                value,
+                attributes: Vec::new(parser.alloc()),
+            };
+            Ok((name, assignment))
+        }
         Err(_) => Err(parser.want_memory()),
     }
 }

@@ -21,7 +21,10 @@ pub(crate) fn infer(parser: &mut Parser<'_>) -> Result<Infer>
     keyword(parser, "infer")?;
     let name = value_name(parser)?;
     match parser.value_named(name) {
-        Some(value) => Ok(Infer { value }),
+        Some(value) => {
+            let attributes = Vec::new(parser.alloc());
+            Ok(Infer { value, attributes })
+        }
         None => Err(parser.refuse(Message::NoValueNamed(name))),
     }
 }

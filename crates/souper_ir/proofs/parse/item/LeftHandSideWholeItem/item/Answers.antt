@@ -1,5 +1,5 @@
 use Rattle.std.proofs.lemmas.Result.{err_from_is_err_and}
-use Rattle.souper_graph.specs.declared.ast.LeftHandSide.{LeftHandSide}
+use Rattle.souper_graph.specs.declared.ast.items.LeftHandSide.{LeftHandSide}
 use Rattle.souper_graph.specs.Values.{PlainInfer}
 use Rattle.souper_graph.specs.View.{view_infer, view_left_hand_side}
 use Rattle.souper_ir.specs.Spelling.{left_hand_side, infer_spells}
