@@ -1,0 +1,4 @@
+pub mod Lists
+pub mod Added
+pub mod InstructionMaps
+pub mod Carrying
