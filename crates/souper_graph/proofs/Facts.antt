@@ -92,7 +92,7 @@ pub printed-needed : (g : List PlainStatement) (w : List ℕ) (j : ℕ) → Has 
 printed-needed g w j h = gathered-needed g w j (subst (λ (z : List ℕ). Has z j) (printed-is g w) h)
 
 pub needed-printed : (g : List PlainStatement) (w : List ℕ) {j : ℕ} → Below g w → Needed g w j → Has (order_of_walks g w) j
-needed-order_of_walks g w {j = j} ub n = subst (λ (z : List ℕ). Has z j) (sym (printed-is g w)) (needed-gathered g w ub n)
+needed-printed g w {j = j} ub n = subst (λ (z : List ℕ). Has z j) (sym (printed-is g w)) (needed-gathered g w ub n)
 
 pub printed-once : (g : List PlainStatement) (w : List ℕ) → Distinct (order_of_walks g w)
 printed-once g w = subst (λ (z : List ℕ). Distinct z) (sym (printed-is g w)) (gathered-once g w)
