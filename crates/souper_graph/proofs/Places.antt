@@ -254,3 +254,10 @@ place-joined [] i ys h = place-here i ys
 place-joined (x ∷ xs) i ys h =
     place-later x i (xs ++ i ∷ ys) (λ e. h (subst (λ (z : ℕ). Has (x ∷ xs) z) e (Has-here x xs)))
     ∙ ap suc (place-joined xs i ys (λ a. h (Has-later x i xs a)))
+
+pub place-front : (xs ys : List ℕ) (i : ℕ) → place (xs ++ ys) i < length xs → Has xs i
+place-front [] ys i l = absurd (omega arith)
+place-front (x ∷ xs) ys i l = elim (cases_eq x i) [
+  | inl e ↦ subst (λ (z : ℕ). Has (x ∷ xs) z) e (Has-here x xs)
+  | inr ne ↦ Has-later x i xs (place-front xs ys i (let q = place-later x i (xs ++ ys) ne in omega arith))
+]

@@ -4,15 +4,15 @@ use Rattle.std.specs.List.{flat_map, filter, slice_get}
 use Rattle.std.proofs.lemmas.List.{map-append, length-map, length_push, get_or-map, ext_get_or}
 use Rattle.souper_graph.specs.Values.{PlainAssignment, PlainStatement, assigned, Ending, Item}
 use Rattle.souper_graph.specs.Uses.{Has, Use, value_use, block_use, position_of, uses_of, uses_of_optional, uses_at, used_at, is_condition, conditions_from, conditions, first_roots, last_roots, roots_of, walks_of, walked, used, NeededIn, UsesBelow}
-use Rattle.souper_graph.specs.Order.{unfold_to, unfolding_of, order_of_walks, printed_order, Distinct}
+use Rattle.souper_graph.specs.Order.{unfold_to, unfolding_of, order_of_walks, printed_order, Distinct, EachAfterItsUses}
 use Rattle.souper_graph.specs.Faults.{IsAssigned, IsBlock, IsMet}
 use Rattle.souper_graph.specs.WellFormed.{FitsEnding, predecessors_of, predecessors_at, Closed, WellFormed}
-use Rattle.souper_graph.specs.Sameness.{carried, carried_ending, carried_optional, SameGraph, place, taken, renumbered, SameNeeded}
+use Rattle.souper_graph.specs.Sameness.{carried, carried_ending, carried_optional, SameGraph, place, taken, renumbered, SameNeeded, OrdersNeeded}
 use Rattle.souper_graph.proofs.Added.{with_new, printed-is}
-use Rattle.souper_graph.proofs.Lists.{Has-none, Has-here, Has-later, Has-head, Has-map, Has-mapped}
+use Rattle.souper_graph.proofs.Lists.{Has-right, Has-none, Has-here, Has-later, Has-head, Has-map, Has-mapped}
 use Rattle.souper_graph.proofs.Orders.{below-all, lower, apart}
 use Rattle.souper_graph.proofs.Carrying.{map-same, map-map, carried_use, positions-carried, uses-carried, first-carried, last-carried, roots-carried, carried-same, ending-same, carried-twice, ending-twice, carried-itself, ending-itself, carried-still, ending-still, condition-carried, is_assigned-carried, is_block-carried, predecessors-carried, named-carried, fits-carried, fits_ending-carried, agrees-carried}
-use Rattle.souper_graph.proofs.Places.{flat-map, with-has, with-map, filter-map, place-inside, at-place, Has-at, place-at, place-map, place-joined}
+use Rattle.souper_graph.proofs.Places.{flat-map, with-has, with-map, filter-map, place-inside, at-place, Has-at, place-at, place-map, place-joined, place-front}
 use Rattle.souper_graph.proofs.Closedness.{stood, statement_at, stands, uses-stood, met-stands, first_of, last_of, in-first, in-conditions, in-last, root-walked, use-needed, well_formed_below, well_formed_inside, well_formed_stands}
 use Rattle.souper_graph.proofs.Facts.{printed-needed, needed-printed, printed-once, use-place, conditions-printed, condition_at, is-condition, condition-holds, Increasing, from-increasing, same-increasing}
 
@@ -477,3 +477,22 @@ unneeded-well a b wa s =
 
 pub unneeded-same : (a b : Item) → WellFormed a → SameNeeded a b → renumbered b ≡ renumbered a
 unneeded-same a b wa s = sym (renumbered-same a b wa (unneeded-well a b wa s) (unneeded-graph a b s))
+
+-- the printed order is that of the needed statements
+
+printed-after : (a : Item) → WellFormed a → EachAfterItsUses a.statements (printed_order a)
+printed-after a wa front back i u e h =
+    let P = printed_order a in
+    let once : Distinct (front ++ i ∷ back) = subst (λ (z : List ℕ). Distinct z) e (printed-once a.statements (walks_of a)) in
+    let d : NeededIn a i = needs a i (subst (λ (z : List ℕ). Has z i) (sym e) (Has-right front (i ∷ back) i (Has-here i back))) in
+    let l : place P u < place P i = use-place a.statements (walks_of a) i u (well_formed_below a wa) d h in
+    let at : place P i ≡ length front = ap (λ z. place z i) e ∙ place-joined front i back (apart front i back once) in
+    place-front front (i ∷ back) u (subst (λ (z : List ℕ). place z u < length front) e (subst (λ (z : ℕ). place P u < z) at l))
+
+pub printed-exact : (a : Item) → WellFormed a → OrdersNeeded a (printed_order a)
+printed-exact a wa = record {
+  needed = λ i. (needs a i, inside a wa i);
+  once = printed-once a.statements (walks_of a);
+  after_uses = printed-after a wa;
+  condition_order = place-increasing a wa;
+}

@@ -1,4 +1,4 @@
-use Rattle.souper_graph.proofs.Sameness.{same-renumbered, renumbered-same, renumbered-well, renumbered-again, renumbered-graph, unneeded-well, unneeded-same}
+use Rattle.souper_graph.proofs.Sameness.{same-renumbered, renumbered-same, renumbered-well, renumbered-again, renumbered-graph, unneeded-well, unneeded-same, printed-exact}
 use Rattle.souper_graph.proofs.laws.law_of_sameness.Goals as goal
 
 pub returns-clause-same : goal.returns-clause-same
@@ -15,3 +15,6 @@ returns-clause-graph c = renumbered-graph
 
 pub returns-clause-unneeded : goal.returns-clause-unneeded
 returns-clause-unneeded c = λ a b wa s. (unneeded-well a b wa s, unneeded-same a b wa s)
+
+pub returns-clause-exact : goal.returns-clause-exact
+returns-clause-exact c = printed-exact
