@@ -1,19 +1,18 @@
 -- Nodes whose positions are carried: their uses, their kinds, and what they must be.
-use Rattle.std.proofs.Common.{◌≡◌, ℕ, ◌<◌, ◌++◌, inl, inr, length, map, List, [], ◌∷◌, Bool, Option, Some, None, refl, sym, ap, ◌∙◌, subst}
-use Rattle.std.specs.List.{flat_map, AllByRecursion}
+use Rattle.std.proofs.Common.{◌≡◌, ℕ, ◌<◌, ◌++◌, inl, inr, map, List, [], ◌∷◌, Some, refl, sym, ap, ◌∙◌, subst}
+use Rattle.std.specs.List.{AllByRecursion}
 use Rattle.std.proofs.lemmas.List.{map-append, length-map}
 use Rattle.souper_graph.specs.declared.ast.operands.Operand.{Operand}
 use Rattle.souper_graph.specs.declared.ast.operands.Operand.TheVariants.{Value, Constant}
-use Rattle.souper_graph.specs.Values.{PlainPhi, PlainRhs, var, block, phi, reserved_inst, reserved_const, instruction, PlainAssignment, PlainStatement, assigned, condition, block_condition, PlainInfer, PlainCand, Ending, inferred, resulting, replaced, candidate}
-use Rattle.souper_graph.specs.declared.ast.instructions.Instruction.{Instruction}
+use Rattle.souper_graph.specs.Values.{PlainRhs, var, block, phi, reserved_inst, reserved_const, instruction, PlainAssignment, PlainStatement, assigned, condition, block_condition, PlainInfer, PlainCand, Ending, inferred, resulting, replaced, candidate}
 use Rattle.souper_graph.specs.declared.ast.statements.Pc.{Pc}
 use Rattle.souper_graph.specs.declared.ast.statements.BlockPc.{BlockPc}
-use Rattle.souper_graph.specs.Instructions.{operands_of, instruction_map}
+use Rattle.souper_graph.specs.Instructions.{operands_of}
 use Rattle.souper_graph.specs.Uses.{Has, Use, value_use, block_use, position_of, uses_of_operand, uses_of_operands, uses_of_rhs, uses_of, is_condition, first_roots, last_roots, roots_of}
 use Rattle.souper_graph.specs.Faults.{IsAssigned, IsBlock}
-use Rattle.souper_graph.specs.WellFormed.{FitsOperand, FitsRhs, FitsAssignment, FitsStatement, FitsEnding, predecessors_of, predecessors_at, AgreesRhs, AgreesWithBlock}
-use Rattle.souper_graph.specs.Sameness.{carried_operand, carried_rhs, carried, carried_infer, carried_cand, carried_ending}
-use Rattle.souper_graph.proofs.Lists.{Has-left, Has-right, Has-cases, Has-none, Has-here, Has-later, Has-head}
+use Rattle.souper_graph.specs.WellFormed.{FitsOperand, FitsRhs, FitsStatement, FitsEnding, predecessors_of, predecessors_at, AgreesRhs, AgreesWithBlock}
+use Rattle.souper_graph.specs.Sameness.{carried_operand, carried_rhs, carried, carried_ending}
+use Rattle.souper_graph.proofs.Lists.{Has-left, Has-right, Has-none, Has-here, Has-later, Has-head}
 use Rattle.souper_graph.proofs.InstructionMaps.{operands-map, instruction-twice, instruction-itself, instruction-same}
 
 -- `map`

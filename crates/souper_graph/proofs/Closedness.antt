@@ -1,12 +1,12 @@
 -- What well-formedness says of each needed position: it is in range, its uses lie below it, and each use is met.
-use Rattle.std.proofs.Common.{◌≡◌, ℕ, zero, suc, ◌+◌, ◌<◌, ◌≤◌, ◌++◌, ◌⊎◌, inl, inr, length, map, List, [], ◌∷◌, Bool, true, false, cond, Option, Some, None, refl, sym, ap, ◌∙◌, subst, arith}
+use Rattle.std.proofs.Common.{◌≡◌, ℕ, zero, suc, ◌+◌, ◌<◌, ◌⊎◌, inl, inr, length, map, List, [], ◌∷◌, Bool, true, false, cond, Option, Some, None, refl, sym, ap, ◌∙◌, subst, arith}
 use Rattle.std.specs.List.{slice_get}
-use Rattle.std.proofs.lemmas.Option.{slice_get_within, slice_get_past}
-use Rattle.souper_graph.specs.Values.{var, PlainRhs, block, phi, reserved_inst, reserved_const, instruction, PlainAssignment, PlainStatement, assigned, condition, block_condition, Item}
+use Rattle.std.proofs.lemmas.Option.{slice_get_within}
+use Rattle.souper_graph.specs.Values.{var, PlainStatement, assigned, condition, block_condition, Item}
 use Rattle.souper_graph.specs.Uses.{Has, Use, value_use, block_use, position_of, uses_of, uses_of_optional, uses_at, used_at, is_condition, conditions_from, conditions, first_roots, last_roots, roots_of, first_walks, walks_of, walked, used, NeededIn, UsesBelow}
-use Rattle.souper_graph.specs.Faults.{IsAssigned, IsBlock, IsMet, AreMet, NamedIn, HasBadId}
-use Rattle.souper_graph.specs.WellFormed.{WellFormed, Closed}
-use Rattle.souper_graph.proofs.Lists.{Has-left, Has-right, Has-cases, Has-none, Has-here, Has-later, Has-head, Has-map, Has-mapped}
+use Rattle.souper_graph.specs.Faults.{IsAssigned, IsBlock, IsMet, HasBadId}
+use Rattle.souper_graph.specs.WellFormed.{WellFormed}
+use Rattle.souper_graph.proofs.Lists.{Has-left, Has-right, Has-cases, Has-none, Has-head, Has-map, Has-mapped}
 
 -- the statement that stands there, where one does, and an input variable with no name where none does
 abbrev pub stood : Option PlainStatement → PlainStatement

@@ -8,11 +8,11 @@ use Rattle.souper_graph.specs.Order.{unfold_to, unfolding_of, order_of_walks, pr
 use Rattle.souper_graph.specs.WellFormed.{WellFormed}
 use Rattle.souper_graph.specs.Sameness.{place}
 use Rattle.souper_graph.proofs.Added.{with_new, has_tells, gathered, printed-is}
-use Rattle.souper_graph.proofs.Lists.{Has-left, Has-right, Has-cases, Has-none, Has-here, Has-later, Has-head}
+use Rattle.souper_graph.proofs.Lists.{Has-right, Has-cases, Has-none, Has-here, Has-later, Has-head}
 use Rattle.souper_graph.proofs.Run.{Below}
 use Rattle.souper_graph.proofs.Orders.{below-has, below-from, lower, flat-has, flat-from, unfold-self, Steady, steady_more, steady_push, steady_has, steady_flat, steady_unfold, flat-join}
 use Rattle.souper_graph.proofs.Places.{with-has, with-from, with-distinct, with-all, filter-none, filter-join, filter-with, place-here, place-later}
-use Rattle.souper_graph.proofs.Closedness.{statement_at, first_of, last_of, in-first, in-conditions, in-last, plain_first, plain_last, plain_uses}
+use Rattle.souper_graph.proofs.Closedness.{statement_at, first_of, last_of, in-first, in-conditions, plain_first, plain_last, plain_uses}
 
 -- what an unfolding has is needed
 unfold-needed : (g : List PlainStatement) (w : List ℕ) (n p j : ℕ) → Needed g w p → Has (unfold_to g n p) j → Needed g w j

@@ -2,18 +2,18 @@
 use Rattle.std.proofs.Common.{◌≡◌, ℕ, zero, suc, ◌<◌, ◌++◌, inl, inr, length, map, List, [], ◌∷◌, Bool, true, false, cond, Option, Some, None, refl, sym, ap, ◌∙◌, subst, arith, get_or, append_assoc}
 use Rattle.std.specs.List.{flat_map, filter, slice_get}
 use Rattle.std.proofs.lemmas.List.{map-append, length-map, length_push, get_or-map, ext_get_or}
-use Rattle.souper_graph.specs.Values.{PlainAssignment, PlainStatement, assigned, Ending, Item}
+use Rattle.souper_graph.specs.Values.{PlainStatement, Ending, Item}
 use Rattle.souper_graph.specs.Uses.{Has, Use, value_use, block_use, position_of, uses_of, uses_of_optional, uses_at, used_at, is_condition, conditions_from, conditions, first_roots, last_roots, roots_of, walks_of, walked, used, NeededIn, UsesBelow}
 use Rattle.souper_graph.specs.Order.{unfold_to, unfolding_of, order_of_walks, printed_order, Distinct, EachAfterItsUses}
 use Rattle.souper_graph.specs.Faults.{IsAssigned, IsBlock, IsMet}
 use Rattle.souper_graph.specs.WellFormed.{FitsEnding, predecessors_of, predecessors_at, Closed, WellFormed}
-use Rattle.souper_graph.specs.Sameness.{carried, carried_ending, carried_optional, SameGraph, place, taken, renumbered, SameNeeded, OrdersNeeded}
+use Rattle.souper_graph.specs.Sameness.{carried, carried_ending, carried_optional, SameGraph, place, renumbered, SameNeeded, OrdersNeeded}
 use Rattle.souper_graph.proofs.Added.{with_new, printed-is}
 use Rattle.souper_graph.proofs.Lists.{Has-right, Has-none, Has-here, Has-later, Has-head, Has-map, Has-mapped}
 use Rattle.souper_graph.proofs.Orders.{below-all, lower, apart}
 use Rattle.souper_graph.proofs.Carrying.{map-same, map-map, carried_use, positions-carried, uses-carried, first-carried, last-carried, roots-carried, carried-same, ending-same, carried-twice, ending-twice, carried-itself, ending-itself, carried-still, ending-still, condition-carried, is_assigned-carried, is_block-carried, predecessors-carried, named-carried, fits-carried, fits_ending-carried, agrees-carried}
 use Rattle.souper_graph.proofs.Places.{flat-map, with-has, with-map, filter-map, place-inside, at-place, Has-at, place-at, place-map, place-joined, place-front}
-use Rattle.souper_graph.proofs.Closedness.{stood, statement_at, stands, uses-stood, met-stands, first_of, last_of, in-first, in-conditions, in-last, root-walked, use-needed, well_formed_below, well_formed_inside, well_formed_stands}
+use Rattle.souper_graph.proofs.Closedness.{stood, statement_at, stands, uses-stood, met-stands, first_of, last_of, in-conditions, root-walked, use-needed, well_formed_below, well_formed_inside, well_formed_stands}
 use Rattle.souper_graph.proofs.Facts.{printed-needed, needed-printed, printed-once, use-place, conditions-printed, condition_at, is-condition, condition-holds, Increasing, from-increasing, same-increasing}
 
 -- what a map of the same graph says of the statements at two positions

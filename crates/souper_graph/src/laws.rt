@@ -9,8 +9,8 @@ ghost use Rattle.souper_graph.specs.Sameness.{OrdersNeeded, SameGraph, SameNeede
 /// Two well-formed items are renumbered to one value exactly where they are the same graph.
 ///
 /// The renumbered item is itself well formed, the same graph as the item, and renumbered to itself. Statements that
-/// an item does not need do not change it. What its numbers come from, the printed order, has exactly the needed
-/// statements.
+/// an item does not need do not change it. The printed order, by which it is renumbered, has the needed statements
+/// alone, each once and after all its uses, and the path conditions in the order in which the item has them.
 pub fn law_of_sameness()
     ensures same { (a b : Item) → WellFormed a → WellFormed b → (renumbered a ≡ renumbered b) ↔ SameGraph a b }
     ensures well_formed { (a : Item) → WellFormed a → WellFormed (renumbered a) }
