@@ -1,0 +1,11 @@
+pub mod Lists
+pub mod Added
+pub mod Run
+pub mod Needs
+pub mod Orders
+pub mod InstructionMaps
+pub mod Carrying
+pub mod Places
+pub mod Closedness
+pub mod Facts
+pub mod Sameness

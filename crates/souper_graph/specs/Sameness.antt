@@ -1,11 +1,11 @@
 -- When two items are the same graph, and an item renumbered.
-use Rattle.std.specs.Prelude.{◌≡◌, ℕ, suc, ◌<◌, List, [], ◌∷◌, map, flat_map, if◌then◌else◌, nat_eq, Option, Some, None, slice_get}
+use Rattle.std.specs.Prelude.{◌≡◌, ◌↔◌, ℕ, suc, ◌<◌, List, [], ◌∷◌, map, flat_map, if◌then◌else◌, nat_eq, Option, Some, None, slice_get}
 use Rattle.souper_graph.specs.declared.ast.operands.Operand.{Operand}
 use Rattle.souper_graph.specs.declared.ast.operands.Operand.TheVariants.{Value, Constant}
 use Rattle.souper_graph.specs.Instructions.{instruction_map}
 use Rattle.souper_graph.specs.Values.{PlainRhs, var, block, phi, reserved_inst, reserved_const, instruction, PlainStatement, assigned, condition, block_condition, PlainInfer, PlainCand, Ending, inferred, resulting, replaced, candidate, Item}
 use Rattle.souper_graph.specs.Uses.{Has, conditions, NeededIn}
-use Rattle.souper_graph.specs.Order.{printed_order}
+use Rattle.souper_graph.specs.Order.{printed_order, Distinct, EachAfterItsUses}
 
 -- nodes in which f carries each position
 abbrev pub carried_operand : (ℕ → ℕ) → Operand → Operand
@@ -72,3 +72,10 @@ pub record SameNeeded (a b : Item) : Type 0 where
   pub same_ending : b.ending ≡ a.ending
   pub same_conditions : conditions b ≡ conditions a
   pub same_statements : (i : ℕ) → NeededIn a i → slice_get b.statements i ≡ slice_get a.statements i
+
+-- the positions are the needed ones, each once and after all its uses, and path conditions stand in their own order
+pub record OrdersNeeded (a : Item) (ids : List ℕ) : Type 0 where
+  pub needed : (i : ℕ) → Has ids i ↔ NeededIn a i
+  pub once : Distinct ids
+  pub after_uses : EachAfterItsUses a.statements ids
+  pub condition_order : (i j : ℕ) → Has (conditions a) i → Has (conditions a) j → i < j → place ids i < place ids j

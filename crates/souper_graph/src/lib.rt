@@ -2,4 +2,5 @@
 #![tactic(auto)]
 
 pub mod ast;
+pub mod laws;
 pub mod stringify;
