@@ -1,2 +1,5 @@
 pub mod Lists
 pub mod Added
+pub mod Run
+pub mod Needs
+pub mod Orders
