@@ -3,3 +3,7 @@ pub mod Added
 pub mod Run
 pub mod Needs
 pub mod Orders
+pub mod Conditions
+pub mod Stack
+pub mod Ends
+pub mod Bits
