@@ -9,3 +9,7 @@ pub mod Places
 pub mod Closedness
 pub mod Facts
 pub mod Sameness
+pub mod Conditions
+pub mod Stack
+pub mod Ends
+pub mod Bits

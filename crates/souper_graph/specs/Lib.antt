@@ -10,3 +10,5 @@ pub mod Text
 pub mod Faults
 pub mod WellFormed
 pub mod Sameness
+pub mod Marks
+pub mod Walks
