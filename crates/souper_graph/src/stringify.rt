@@ -1,8 +1,11 @@
 //! The canonical text of items, and the text of their nodes.
 
 mod append;
+mod context;
 mod errors;
 mod leaves;
 mod names;
+mod nodes;
 
+pub use context::DisplayWithContext;
 pub use errors::TextError;

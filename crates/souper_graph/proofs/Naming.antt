@@ -1,0 +1,55 @@
+-- Uses that are met, faults among uses, and texts that grow part by part.
+use Rattle.std.proofs.Common.{◌≡◌, ℕ, zero, suc, ◌+◌, ◌<◌, inl, inr, List, [], ◌∷◌, ◌++◌, length, get_or, take, sym, ap, subst, ◌∙◌, arith, append_assoc}
+use Rattle.std.specs.Prelude.{flat_map}
+use Rattle.std.proofs.lemmas.List.{take_more, flat_map_more}
+use Rattle.souper_graph.specs.declared.stringify.errors.TextError.{TextError}
+use Rattle.souper_graph.specs.declared.stringify.errors.TextError.TheVariants.{OutOfRange, NotAnAssignment, NotABlock, OutOfMemory}
+use Rattle.souper_graph.specs.Values.{PlainStatement}
+use Rattle.souper_graph.specs.Uses.{Has, Use, value_use, block_use}
+use Rattle.souper_graph.specs.Faults.{AreMet, IsFaultAmong}
+use Rattle.souper_graph.proofs.Lists.{Has-left, Has-right, Has-cases}
+
+pub AreMet-append : (ss : List PlainStatement) (us vs : List Use) → AreMet ss us → AreMet ss vs → AreMet ss (us ++ vs)
+AreMet-append ss us vs a b = λ u h. elim (Has-cases us vs u h) [ inl l ↦ a u l | inr r ↦ b u r ]
+
+-- a fault among some uses is one among more
+pub IsFaultAmong-more : (ss : List PlainStatement) (us vs : List Use) (e : TextError) → ((u : Use) → Has us u → Has vs u) → IsFaultAmong ss us e → IsFaultAmong ss vs e
+IsFaultAmong-more ss us vs (OutOfRange i) m h = (elim h.0 [ inl a ↦ inl (m (value_use i) a) | inr b ↦ inr (m (block_use i) b) ], h.1)
+IsFaultAmong-more ss us vs (NotAnAssignment i) m h = (m (value_use i) h.0, h.1, h.2)
+IsFaultAmong-more ss us vs (NotABlock i) m h = (m (block_use i) h.0, h.1, h.2)
+IsFaultAmong-more ss us vs OutOfMemory m h = tt
+
+pub IsFaultAmong-left : (ss : List PlainStatement) (us vs : List Use) (e : TextError) → IsFaultAmong ss us e → IsFaultAmong ss (us ++ vs) e
+IsFaultAmong-left ss us vs e h = IsFaultAmong-more ss us (us ++ vs) e (Has-left us vs) h
+
+pub IsFaultAmong-right : (ss : List PlainStatement) (us vs : List Use) (e : TextError) → IsFaultAmong ss vs e → IsFaultAmong ss (us ++ vs) e
+IsFaultAmong-right ss us vs e h = IsFaultAmong-more ss vs (us ++ vs) e (Has-right us vs) h
+
+-- what one of the parts has
+pub Has-part : {X U : Type 0} (f : X → List U) (xs : List X) (k : ℕ) (d : X) (u : U) → k < length xs → Has (f (get_or xs k d)) u → Has (flat_map f xs) u
+Has-part f [] k d u l h = absurd (omega arith)
+Has-part f (x ∷ xs) zero d u l h = Has-left (f x) (flat_map f xs) u h
+Has-part f (x ∷ xs) (suc k) d u l h = Has-right (f x) (flat_map f xs) u (Has-part f xs k d u (omega arith) h)
+
+-- a fault among the uses of one is one among the uses of all
+pub IsFaultAmong-part : {X : Type 0} (ss : List PlainStatement) (f : X → List Use) (xs : List X) (k : ℕ) (d : X) (e : TextError) → k < length xs → d ≡ get_or xs k d → IsFaultAmong ss (f d) e → IsFaultAmong ss (flat_map f xs) e
+IsFaultAmong-part ss f xs k d e l at h =
+    IsFaultAmong-more ss (f (get_or xs k d)) (flat_map f xs) e (λ u. Has-part f xs k d u l) (subst (λ x. IsFaultAmong ss (f x) e) at h)
+
+flat_map_front : {X A : Type 0} (f : X → List A) (xs : List X) (k : ℕ) (d : X) → k < length xs → d ≡ get_or xs k d → flat_map f (take k xs) ++ f d ≡ flat_map f (take (k + 1) xs)
+flat_map_front f xs k d l at =
+    flat_map_more f [] (take k xs) d ∙ ap (flat_map f) (ap (λ x. take k xs ++ x ∷ []) at ∙ sym (take_more xs k d l))
+
+-- one more whose uses are met
+pub AreMet-more : {X : Type 0} (ss : List PlainStatement) (f : X → List Use) (xs : List X) (k : ℕ) (d : X) → k < length xs → d ≡ get_or xs k d → AreMet ss (flat_map f (take k xs)) → AreMet ss (f d) → AreMet ss (flat_map f (take (k + 1) xs))
+AreMet-more ss f xs k d l at a b = subst (AreMet ss) (flat_map_front f xs k d l at) (AreMet-append ss (flat_map f (take k xs)) (f d) a b)
+
+-- one more text at the end of those of the front
+pub texts_more : {X : Type 0} (f : X → List ℕ) (xs : List X) (k : ℕ) (d : X) (a b t c : List ℕ) → k < length xs → d ≡ get_or xs k d → b ≡ a ++ flat_map f (take k xs) → t ≡ f d → c ≡ b ++ t → c ≡ a ++ flat_map f (take (k + 1) xs)
+texts_more f xs k d a b t c l at e u g =
+    g ∙ (λ j. e j ++ u j) ∙ append_assoc a (flat_map f (take k xs)) (f d) ∙ ap (λ x. a ++ x) (flat_map_front f xs k d l at)
+
+-- eight parts, one after the other
+pub eight_parts : (t t1 t2 t3 t4 t5 t6 t7 t8 a b c d e f g h : List ℕ) → t1 ≡ t ++ a → t2 ≡ t1 ++ b → t3 ≡ t2 ++ c → t4 ≡ t3 ++ d → t5 ≡ t4 ++ e → t6 ≡ t5 ++ f → t7 ≡ t6 ++ g → t8 ≡ t7 ++ h
+    → t8 ≡ t ++ (a ++ (b ++ (c ++ (d ++ (e ++ (f ++ (g ++ h)))))))
+eight_parts t t1 t2 t3 t4 t5 t6 t7 t8 a b c d e f g h p1 p2 p3 p4 p5 p6 p7 p8 = rw (p8, p7, p6, p5, p4, p3, p2, p1) (simp append_assoc)
