@@ -1,6 +1,7 @@
 -- Uses that are met, faults among uses, and texts that grow part by part.
 use Rattle.std.proofs.Common.{◌≡◌, ℕ, zero, suc, ◌+◌, ◌<◌, inl, inr, List, [], ◌∷◌, ◌++◌, length, get_or, take, sym, ap, subst, ◌∙◌, arith, append_assoc}
 use Rattle.std.specs.Prelude.{flat_map}
+use Rattle.std.proofs.lemmas.Grind.{flat_map-append}
 use Rattle.std.proofs.lemmas.List.{take_more, flat_map_more}
 use Rattle.souper_graph.specs.declared.stringify.errors.TextError.{TextError}
 use Rattle.souper_graph.specs.declared.stringify.errors.TextError.TheVariants.{OutOfRange, NotAnAssignment, NotABlock, OutOfMemory}
@@ -48,6 +49,27 @@ AreMet-more ss f xs k d l at a b = subst (AreMet ss) (flat_map_front f xs k d l 
 pub texts_more : {X : Type 0} (f : X → List ℕ) (xs : List X) (k : ℕ) (d : X) (a b t c : List ℕ) → k < length xs → d ≡ get_or xs k d → b ≡ a ++ flat_map f (take k xs) → t ≡ f d → c ≡ b ++ t → c ≡ a ++ flat_map f (take (k + 1) xs)
 texts_more f xs k d a b t c l at e u g =
     g ∙ (λ j. e j ++ u j) ∙ append_assoc a (flat_map f (take k xs)) (f d) ∙ ap (λ x. a ++ x) (flat_map_front f xs k d l at)
+
+-- a list in two parts, and roots before it
+flat_map_parts : {X A : Type 0} (f : X → List A) (xs ys zs : List X) → zs ≡ xs ++ ys → flat_map f xs ++ flat_map f ys ≡ flat_map f zs
+flat_map_parts f xs ys zs p = sym (ap (flat_map f) p ∙ flat_map-append f xs ys)
+
+pub AreMet-parts : {X : Type 0} (ss : List PlainStatement) (f : X → List Use) (roots : List Use) (xs ys zs : List X) → zs ≡ xs ++ ys → AreMet ss roots → AreMet ss (flat_map f xs) → AreMet ss (flat_map f ys)
+    → AreMet ss (roots ++ flat_map f zs)
+AreMet-parts ss f roots xs ys zs p r a b =
+    AreMet-append ss roots (flat_map f zs) r (subst (AreMet ss) (flat_map_parts f xs ys zs p) (AreMet-append ss (flat_map f xs) (flat_map f ys) a b))
+
+pub IsFaultAmong-first : {X : Type 0} (ss : List PlainStatement) (f : X → List Use) (roots : List Use) (xs ys zs : List X) (e : TextError) → zs ≡ xs ++ ys → IsFaultAmong ss (flat_map f xs) e
+    → IsFaultAmong ss (roots ++ flat_map f zs) e
+IsFaultAmong-first ss f roots xs ys zs e p h =
+    IsFaultAmong-right ss roots (flat_map f zs) e
+    (subst (λ us. IsFaultAmong ss us e) (flat_map_parts f xs ys zs p) (IsFaultAmong-left ss (flat_map f xs) (flat_map f ys) e h))
+
+pub IsFaultAmong-second : {X : Type 0} (ss : List PlainStatement) (f : X → List Use) (roots : List Use) (xs ys zs : List X) (e : TextError) → zs ≡ xs ++ ys → IsFaultAmong ss (flat_map f ys) e
+    → IsFaultAmong ss (roots ++ flat_map f zs) e
+IsFaultAmong-second ss f roots xs ys zs e p h =
+    IsFaultAmong-right ss roots (flat_map f zs) e
+    (subst (λ us. IsFaultAmong ss us e) (flat_map_parts f xs ys zs p) (IsFaultAmong-right ss (flat_map f xs) (flat_map f ys) e h))
 
 -- eight parts, one after the other
 pub eight_parts : (t t1 t2 t3 t4 t5 t6 t7 t8 a b c d e f g h : List ℕ) → t1 ≡ t ++ a → t2 ≡ t1 ++ b → t3 ≡ t2 ++ c → t4 ≡ t3 ++ d → t5 ≡ t4 ++ e → t6 ≡ t5 ++ f → t7 ≡ t6 ++ g → t8 ≡ t7 ++ h

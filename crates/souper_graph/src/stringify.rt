@@ -4,6 +4,7 @@ mod append;
 mod context;
 mod errors;
 mod leaves;
+mod lines;
 mod names;
 mod nodes;
 
