@@ -1,13 +1,13 @@
 -- Uses that are met, faults among uses, and texts that grow part by part.
-use Rattle.std.proofs.Common.{◌≡◌, ℕ, zero, suc, ◌+◌, ◌<◌, inl, inr, List, [], ◌∷◌, ◌++◌, length, get_or, take, sym, ap, subst, ◌∙◌, arith, append_assoc}
+use Rattle.std.proofs.Common.{◌≡◌, ℕ, zero, suc, ◌+◌, ◌<◌, inl, inr, List, [], ◌∷◌, ◌++◌, length, get_or, take, refl, sym, ap, subst, ◌∙◌, arith, append_assoc}
 use Rattle.std.specs.Prelude.{flat_map}
 use Rattle.std.proofs.lemmas.Grind.{flat_map-append}
 use Rattle.std.proofs.lemmas.List.{take_more, flat_map_more}
 use Rattle.souper_graph.specs.declared.stringify.errors.TextError.{TextError}
 use Rattle.souper_graph.specs.declared.stringify.errors.TextError.TheVariants.{OutOfRange, NotAnAssignment, NotABlock, OutOfMemory}
-use Rattle.souper_graph.specs.Values.{PlainStatement}
-use Rattle.souper_graph.specs.Uses.{Has, Use, value_use, block_use}
-use Rattle.souper_graph.specs.Faults.{AreMet, IsFaultAmong}
+use Rattle.souper_graph.specs.Values.{PlainStatement, Item}
+use Rattle.souper_graph.specs.Uses.{Has, Use, value_use, block_use, uses_at, roots_of, NeededIn}
+use Rattle.souper_graph.specs.Faults.{AreMet, IsFaultAmong, NamedIn, HasBadId, IsFaultOf}
 use Rattle.souper_graph.proofs.Lists.{Has-left, Has-right, Has-cases}
 
 pub AreMet-append : (ss : List PlainStatement) (us vs : List Use) → AreMet ss us → AreMet ss vs → AreMet ss (us ++ vs)
@@ -75,3 +75,42 @@ IsFaultAmong-second ss f roots xs ys zs e p h =
 pub eight_parts : (t t1 t2 t3 t4 t5 t6 t7 t8 a b c d e f g h : List ℕ) → t1 ≡ t ++ a → t2 ≡ t1 ++ b → t3 ≡ t2 ++ c → t4 ≡ t3 ++ d → t5 ≡ t4 ++ e → t6 ≡ t5 ++ f → t7 ≡ t6 ++ g → t8 ≡ t7 ++ h
     → t8 ≡ t ++ (a ++ (b ++ (c ++ (d ++ (e ++ (f ++ (g ++ h)))))))
 eight_parts t t1 t2 t3 t4 t5 t6 t7 t8 a b c d e f g h p1 p2 p3 p4 p5 p6 p7 p8 = rw (p8, p7, p6, p5, p4, p3, p2, p1) (simp append_assoc)
+
+-- what the roots and the needed statements name, where ids are the needed statements
+pub Has-flat_map : {X U : Type 0} (f : X → List U) (xs : List X) (u : U) → Has (flat_map f xs) u → (x : X) × Has xs x × Has (f x) u
+Has-flat_map f [] u h = absurd h
+Has-flat_map f (x ∷ xs) u h =
+    elim (Has-cases (f x) (flat_map f xs) u h) [
+      | inl a ↦ (x, inl refl, a)
+      | inr b ↦ (let r = Has-flat_map f xs u b in (r.0, inr r.1, r.2))
+    ]
+
+pub Has-in_flat_map : {X U : Type 0} (f : X → List U) (xs : List X) (x : X) (u : U) → Has xs x → Has (f x) u → Has (flat_map f xs) u
+Has-in_flat_map f [] x u h k = absurd h
+Has-in_flat_map f (y ∷ xs) x u (inl e) k = Has-left (f y) (flat_map f xs) u (subst (λ z. Has (f z) u) (sym e) k)
+Has-in_flat_map f (y ∷ xs) x u (inr h) k = Has-right (f y) (flat_map f xs) u (Has-in_flat_map f xs x u h k)
+
+NamedIn-among : (a : Item) (ids : List ℕ) (u : Use) → ((p : ℕ) → Has ids p → NeededIn a p) → Has (roots_of a.ending ++ flat_map (uses_at a.statements) ids) u → NamedIn a u
+NamedIn-among a ids u needed h =
+    elim (Has-cases (roots_of a.ending) (flat_map (uses_at a.statements) ids) u h) [
+      | inl r ↦ inl r
+      | inr k ↦ (let w = Has-flat_map (uses_at a.statements) ids u k in inr (w.0, needed w.0 w.1, w.2))
+    ]
+
+-- a fault of the roots and of needed statements is a fault of the item
+pub IsFaultOf-among : (a : Item) (ids : List ℕ) (e : TextError) → ((p : ℕ) → Has ids p → NeededIn a p) → IsFaultAmong a.statements (roots_of a.ending ++ flat_map (uses_at a.statements) ids) e → IsFaultOf a e
+IsFaultOf-among a ids (OutOfRange i) n h =
+    (elim h.0 [ inl v ↦ inl (NamedIn-among a ids (value_use i) n v) | inr b ↦ inr (NamedIn-among a ids (block_use i) n b) ], h.1)
+IsFaultOf-among a ids (NotAnAssignment i) n h = (NamedIn-among a ids (value_use i) n h.0, h.1, h.2)
+IsFaultOf-among a ids (NotABlock i) n h = (NamedIn-among a ids (block_use i) n h.0, h.1, h.2)
+IsFaultOf-among a ids OutOfMemory n h = tt
+
+-- where the roots and all needed statements are met, the item has no bad id
+pub HasBadId-none : (a : Item) (ids : List ℕ) → ((p : ℕ) → NeededIn a p → Has ids p) → AreMet a.statements (roots_of a.ending ++ flat_map (uses_at a.statements) ids) → ¬ HasBadId a
+HasBadId-none a ids all met = λ bad.
+    let roots = roots_of a.ending in
+    let uses = flat_map (uses_at a.statements) ids in
+    bad.2 (met bad.0 (elim bad.1 [
+      | inl r ↦ Has-left roots uses bad.0 r
+      | inr w ↦ Has-right roots uses bad.0 (Has-in_flat_map (uses_at a.statements) ids w.0 bad.0 (all w.0 w.1) w.2)
+    ]))
