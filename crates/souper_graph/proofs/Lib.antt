@@ -13,3 +13,4 @@ pub mod Conditions
 pub mod Stack
 pub mod Ends
 pub mod Bits
+pub mod Naming

@@ -1,0 +1,152 @@
+//! Whole items, their statements in a given order, put at the end of a text. A refusal may leave a part of them there.
+
+ghost use Rattle.std.specs.Prelude.{◌≡◌, ◌++◌, ◌≤◌, length, map, flat_map, OnOk, IfErr};
+ghost use Rattle.std.specs.String.{string_bytes};
+ghost use Rattle.souper_graph.specs.Values.{Item, replaced};
+ghost use Rattle.souper_graph.specs.View.{view_statement, view_infer, view_left_hand_side, view_right_hand_side, view_replacement};
+ghost use Rattle.souper_graph.specs.Uses.{uses_of_operand, uses_at, roots_of};
+ghost use Rattle.souper_graph.specs.Text.{text_of_result, line_at, lines_of, text_in_order};
+ghost use Rattle.souper_graph.specs.Faults.{AreMet, IsFaultAmong};
+
+use crate::ast::{Arena, Id, Infer, LeftHandSide, Operand, Replacement, RightHandSide, Statement};
+use crate::stringify::errors::TextError;
+use crate::stringify::nodes::Append;
+
+// The line of the statement at the position; none past the end.
+fn append_line(
+    statements: &Arena<Statement>,
+    id: Id<Statement>,
+    out: &mut String,
+) -> Result<(), TextError>
+    ensures ok { OnOk result (string_bytes out.new ≡ string_bytes out.old ++ line_at (map view_statement statements.now) id) }
+    ensures met { OnOk result (AreMet (map view_statement statements.now) (uses_at (map view_statement statements.now) id)) }
+    ensures refused { IfErr result (λ error. IsFaultAmong (map view_statement statements.now) (uses_at (map view_statement statements.now) id) error) }
+{
+    match statements.get(id) {
+        None => Ok(()),
+        Some(statement) => statement.append(statements, out),
+    }
+}
+
+// The lines of the statements at these positions, in order; none for a position past the end.
+pub(crate) fn append_lines(
+    statements: &Arena<Statement>,
+    ids: &[Id<Statement>],
+    out: &mut String,
+) -> Result<(), TextError>
+    ensures ok { OnOk result (string_bytes out.new ≡ string_bytes out.old ++ lines_of (map view_statement statements.now) ids.now) }
+    ensures met { OnOk result (AreMet (map view_statement statements.now) (flat_map (uses_at (map view_statement statements.now)) ids.now)) }
+    ensures refused { IfErr result (λ error. IsFaultAmong (map view_statement statements.now) (flat_map (uses_at (map view_statement statements.now)) ids.now) error) }
+{
+    for id in ids {
+        append_line(statements, *id, out)?;
+    }
+    Ok(())
+}
+
+// The result line, without a newline.
+pub(crate) fn append_result(
+    statements: &Arena<Statement>,
+    operand: &Operand,
+    out: &mut String,
+) -> Result<(), TextError>
+    ensures ok { OnOk result (string_bytes out.new ≡ string_bytes out.old ++ text_of_result (map view_statement statements.now) operand.now) }
+    ensures met { OnOk result (AreMet (map view_statement statements.now) (uses_of_operand operand.now)) }
+    ensures refused { IfErr result (λ error. IsFaultAmong (map view_statement statements.now) (uses_of_operand operand.now) error) }
+{
+    out.push_str("result ")?;
+    operand.append(statements, out)
+}
+
+// An item whose lines are put at the end of a text, its statements in a given order.
+pub(crate) trait AppendInOrder {
+    // The item as plain data.
+    ghost item: { Self → Item };
+
+    // The statements at these positions and the last lines; an infer line that a result follows stands behind the
+    // first `lead` of the statements.
+    fn append_in_order(
+        &self,
+        ids: &[Id<Statement>],
+        lead: usize,
+        out: &mut String,
+    ) -> Result<(), TextError>
+        requires { lead ≤ length ids.now }
+        ensures ok { OnOk result (string_bytes out.new ≡ string_bytes out.old ++ text_in_order (item self.now).statements (item self.now).ending ids.now lead) }
+        ensures met { OnOk result (AreMet (item self.now).statements (roots_of (item self.now).ending ++ flat_map (uses_at (item self.now).statements) ids.now)) }
+        ensures refused { IfErr result (λ error. IsFaultAmong (item self.now).statements (roots_of (item self.now).ending ++ flat_map (uses_at (item self.now).statements) ids.now) error) };
+}
+
+impl AppendInOrder for LeftHandSide {
+    ghost item = { λ lhs. view_left_hand_side lhs };
+
+    fn append_in_order(
+        &self,
+        ids: &[Id<Statement>],
+        _lead: usize,
+        out: &mut String,
+    ) -> Result<(), TextError> {
+        append_lines(&self.statements, ids, out)?;
+        self.infer.append(&self.statements, out)
+    }
+}
+
+impl AppendInOrder for RightHandSide {
+    ghost item = { λ rhs. view_right_hand_side rhs };
+
+    fn append_in_order(
+        &self,
+        ids: &[Id<Statement>],
+        _lead: usize,
+        out: &mut String,
+    ) -> Result<(), TextError> {
+        append_lines(&self.statements, ids, out)?;
+        append_result(&self.statements, &self.result, out)
+    }
+}
+
+// A left-hand side and the result that replaces it.
+fn append_lhs_rhs(
+    statements: &Arena<Statement>,
+    lhs: &Infer,
+    rhs: &Operand,
+    ids: &[Id<Statement>],
+    lead: usize,
+    out: &mut String,
+) -> Result<(), TextError>
+    requires { lead ≤ length ids.now }
+    ensures ok { OnOk result (string_bytes out.new ≡ string_bytes out.old ++ text_in_order (map view_statement statements.now) (replaced (view_infer lhs.now) rhs.now) ids.now lead) }
+    ensures met { OnOk result (AreMet (map view_statement statements.now) (roots_of (replaced (view_infer lhs.now) rhs.now) ++ flat_map (uses_at (map view_statement statements.now)) ids.now)) }
+    ensures refused { IfErr result (λ error. IsFaultAmong (map view_statement statements.now) (roots_of (replaced (view_infer lhs.now) rhs.now) ++ flat_map (uses_at (map view_statement statements.now)) ids.now) error) }
+{
+    let (leading, following) = ids.split_at(lead);
+    append_lines(statements, leading, out)?;
+    lhs.append(statements, out)?;
+    append_lines(statements, following, out)?;
+    append_result(statements, rhs, out)?;
+    out.push_str("\n")?;
+    Ok(())
+}
+
+impl AppendInOrder for Replacement {
+    ghost item = { λ replacement. view_replacement replacement };
+
+    fn append_in_order(
+        &self,
+        ids: &[Id<Statement>],
+        lead: usize,
+        out: &mut String,
+    ) -> Result<(), TextError> {
+        match self {
+            Replacement::LhsRhs {
+                statements,
+                lhs,
+                rhs,
+            } => append_lhs_rhs(statements, lhs, rhs, ids, lead, out),
+            Replacement::Cand { statements, cand } => {
+                append_lines(statements, ids, out)?;
+                cand.append(statements, out)
+            }
+        }
+    }
+}
