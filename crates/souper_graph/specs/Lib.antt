@@ -10,3 +10,4 @@ pub mod Text
 pub mod Faults
 pub mod WellFormed
 pub mod Sameness
+pub mod Building

@@ -2,6 +2,8 @@
 
 mod arenas;
 mod attributes;
+mod builders;
+mod clones;
 mod ids;
 mod instructions;
 mod items;
@@ -10,6 +12,7 @@ mod statements;
 
 pub use arenas::{Arena, Iter};
 pub use attributes::{Attribute, RootAttribute};
+pub use builders::{LeftHandSideBuilder, ReplacementBuilder};
 pub use ids::{BlockId, Id, ValueId};
 pub use instructions::Instruction;
 pub use items::{Cand, Infer, LeftHandSide, Replacement, RightHandSide};
