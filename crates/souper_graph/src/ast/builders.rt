@@ -20,11 +20,7 @@ use std::alloc::{AllocError, Global};
 use std::marker::Model;
 
 // The name that is given, or `%` and the count.
-fn name_or_count(
-    alloc: Global,
-    name: Option<String>,
-    count: usize,
-) -> Result<String, AllocError>
+fn name_or_count(alloc: Global, name: Option<String>, count: usize) -> Result<String, AllocError>
     ensures { IfOk result (λ chosen. string_bytes chosen ≡ chosen_name name count) }
 {
     match name {
@@ -73,8 +69,8 @@ fn put_block(
         value: Block { predecessors }.into(),
         attributes: Vec::new(statements.allocator()),
     };
-    let id = statements.alloc(assignment.into())?;
-    Ok(id.into())
+    let block = statements.alloc(assignment.into())?;
+    Ok(block.into())
 }
 
 fn put_pc(statements: &mut Arena<Statement>, x: Operand, y: Operand) -> Result<(), AllocError>
@@ -207,12 +203,14 @@ impl ReplacementBuilder {
     pub fn finish(self, lhs: ValueId, rhs: Operand, attributes: Vec<RootAttribute>) -> Replacement
         ensures { result ≡ LhsRhs self (record { value = lhs; attributes = attributes }) rhs }
     {
+        let ReplacementBuilder { statements } = self;
+        let lhs = Infer {
+            value: lhs,
+            attributes,
+        };
         Replacement::LhsRhs {
-            statements: self.statements,
-            lhs: Infer {
-                value: lhs,
-                attributes,
-            },
+            statements,
+            lhs,
             rhs,
         }
     }
@@ -329,13 +327,12 @@ impl LeftHandSideBuilder {
     pub fn finish(self, lhs: ValueId, attributes: Vec<RootAttribute>) -> LeftHandSide
         ensures { result ≡ record { statements = self; infer = record { value = lhs; attributes = attributes } } }
     {
-        LeftHandSide {
-            statements: self.statements,
-            infer: Infer {
-                value: lhs,
-                attributes,
-            },
-        }
+        let LeftHandSideBuilder { statements } = self;
+        let infer = Infer {
+            value: lhs,
+            attributes,
+        };
+        LeftHandSide { statements, infer }
     }
 
     /// The assignment that defines the value.

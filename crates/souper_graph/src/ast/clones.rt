@@ -50,15 +50,13 @@ fn clone_attributes(attributes: &Vec<Attribute>) -> Result<Vec<Attribute>, Alloc
     Ok(copies)
 }
 
-fn clone_root_attributes(
-    attributes: &Vec<RootAttribute>,
-) -> Result<Vec<RootAttribute>, AllocError>
+fn clone_root_attributes(attributes: &Vec<RootAttribute>) -> Result<Vec<RootAttribute>, AllocError>
     ensures { IfOk result
         (λ copies. map view_root_attribute copies.items ≡ map view_root_attribute attributes.now.items) }
 {
     let mut copies = Vec::new(*attributes.allocator());
-    for attribute in attributes {
-        copies.push(attribute.clone()?)?;
+    for root_attribute in attributes {
+        copies.push(root_attribute.clone()?)?;
     }
     Ok(copies)
 }
