@@ -11,3 +11,4 @@ pub mod Faults
 pub mod WellFormed
 pub mod Sameness
 pub mod Building
+pub mod Judging

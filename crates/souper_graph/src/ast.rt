@@ -9,6 +9,7 @@ mod instructions;
 mod items;
 mod operands;
 mod statements;
+mod well_formed;
 
 pub use arenas::{Arena, Iter};
 pub use attributes::{Attribute, RootAttribute};

@@ -1,0 +1,4 @@
+//! Whether items are well formed.
+
+mod closed;
+mod fitting;
