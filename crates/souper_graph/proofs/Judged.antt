@@ -1,13 +1,16 @@
 -- From what the judges answer to when an item is well formed, and back.
-use Rattle.std.proofs.Common.{◌≡◌, ℕ, zero, suc, ◌+◌, ◌<◌, ◌≤◌, ◌⊎◌, inl, inr, ◌++◌, length, map, get_or, take, List, [], ◌∷◌, Option, Some, None, refl, sym, ap, subst, arith, rules}
-use Rattle.std.specs.Prelude.{slice_get}
+use Rattle.std.proofs.Common.{◌≡◌, ℕ, zero, suc, ◌+◌, ◌<◌, ◌≤◌, ◌⊎◌, inl, inr, ◌++◌, ◌∙◌, ◌↔◌, length, map, get_or, take, List, [], ◌∷◌, Option, Some, None, Bool, true, false, Result, Ok, Err, refl, sym, ap, subst, arith, rules}
+use Rattle.std.specs.Prelude.{slice_get, IsTrue, IfOk, IfErr, MatchResult}
+use Rattle.std.proofs.lemmas.List.{take_all}
 use Rattle.std.specs.List.{AllByRecursion, flat_map}
 use Rattle.souper_graph.specs.declared.ast.operands.Operand.{Operand}
-use Rattle.souper_graph.specs.Values.{PlainStatement}
-use Rattle.souper_graph.specs.Uses.{Has, Use, value_use, block_use, position_of, uses_of, uses_of_operand, uses_of_operands}
-use Rattle.souper_graph.specs.Faults.{IsAssigned, IsBlock, IsMet, AreMet}
-use Rattle.souper_graph.specs.WellFormed.{Closed}
-use Rattle.souper_graph.specs.Judging.{IsMetBelow, AreMetBelow, MayStand, MayStandAt}
+use Rattle.souper_graph.specs.declared.stringify.errors.TextError.{TextError}
+use Rattle.souper_graph.specs.declared.stringify.errors.TextError.TheVariants.{OutOfRange, NotAnAssignment, NotABlock, OutOfMemory}
+use Rattle.souper_graph.specs.Values.{PlainStatement, Item}
+use Rattle.souper_graph.specs.Uses.{Has, Use, value_use, block_use, position_of, uses_of, uses_of_optional, uses_of_operand, uses_of_operands, uses_at, roots_of, NeededIn}
+use Rattle.souper_graph.specs.Faults.{IsAssigned, IsBlock, IsMet, AreMet, NamedIn, IsFaultOf}
+use Rattle.souper_graph.specs.WellFormed.{Closed, AreNamedApart, WellFormed}
+use Rattle.souper_graph.specs.Judging.{IsMetBelow, AreMetBelow, MayStand, MayStandAt, StandsEnding, AllStand}
 
 -- what holds of each image holds of that of the element at i
 pub All-map_at : {A B : Type 0} (P : B → Type 0) (f : A → B) (xs : List A) (i : ℕ) (x : A) → i < length xs → x ≡ get_or xs i x → AllByRecursion P (map f xs) → P (f x)
@@ -21,9 +24,7 @@ All-at P (y ∷ ys) zero x lt e h = subst P (sym e) h.0
 All-at P (y ∷ ys) (suc i) x lt e h = All-at P ys i x (omega arith) e h.1
 
 pub All-taken : {A : Type 0} (P : A → Type 0) (xs : List A) (i : ℕ) → length xs ≤ i → AllByRecursion P (take i xs) → AllByRecursion P xs
-All-taken P [] i le h = search rules
-All-taken P (x ∷ xs) zero le h = absurd (omega arith)
-All-taken P (x ∷ xs) (suc i) le h = (h.0, All-taken P xs i (omega arith) h.1)
+All-taken P xs i le h = subst (AllByRecursion P) (take_all i xs le) h
 
 pub All-both : {A : Type 0} (P : A → Type 0) (xs ys : List A) → AllByRecursion P xs → AllByRecursion P ys → AllByRecursion P (xs ++ ys)
 All-both P [] ys h k = k
@@ -95,3 +96,41 @@ stands_any ss p (Some s) h =
 
 pub stands_of_closed : (ss : List PlainStatement) (p : ℕ) → ((s : PlainStatement) → slice_get ss p ≡ Some s → Closed ss p s) → MayStandAt ss p
 stands_of_closed ss p h = stands_any ss p (slice_get ss p) h
+
+pub ending_of_well_formed : (a : Item) → WellFormed a → StandsEnding a.statements a.ending
+ending_of_well_formed a w = (AreMet-below a.statements (roots_of a.ending) w.roots_met, w.ending_fits)
+
+-- the statements at the needed positions stand, and their names are apart
+pub stand_of_well_formed : (a : Item) (ids : List ℕ) → ((i : ℕ) → Has ids i ↔ NeededIn a i) → WellFormed a → AllStand a.statements ids
+stand_of_well_formed a ids exact w = (
+  All-from_has (MayStandAt a.statements) ids (λ p h. stands_of_closed a.statements p (λ s e. w.closed p s ((exact p).0 h) e)),
+  (λ p q v x hp hq. w.named_apart p q v x ((exact p).0 hp) ((exact q).0 hq)),
+)
+
+pub well_formed_of_stand : (a : Item) (ids : List ℕ) → ((i : ℕ) → Has ids i ↔ NeededIn a i) → StandsEnding a.statements a.ending → AllStand a.statements ids → WellFormed a
+well_formed_of_stand a ids exact ending stand = record {
+  roots_met = AreMet-from_below a.statements (length a.statements) (roots_of a.ending) ending.0;
+  ending_fits = ending.1;
+  closed = λ p s needed e. closed_of_stands a.statements p s e (All-has (MayStandAt a.statements) ids p stand.0 ((exact p).1 needed));
+  named_apart = λ p q v x np nq. stand.1 p q v x ((exact p).1 np) ((exact q).1 nq);
+}
+
+-- what stands at a use of a well formed item is what the use asks for
+met_of_optional : (a : Item) (p : ℕ) (o : Option PlainStatement) (u : Use) → WellFormed a → NeededIn a p → slice_get a.statements p ≡ o → Has (uses_of_optional o) u → IsMet a.statements u
+met_of_optional a p None u w needed e h = absurd h
+met_of_optional a p (Some s) u w needed e h = (w.closed p s needed e).met u h
+
+met_of_named : (a : Item) (u : Use) → WellFormed a → NamedIn a u → IsMet a.statements u
+met_of_named a u w (inl root) = w.roots_met u root
+met_of_named a u w (inr other) = met_of_optional a other.0 (slice_get a.statements other.0) u w other.1 refl other.2
+
+-- nothing but want of memory can be told of a well formed item
+pub fault_of_well_formed : (a : Item) (e : TextError) → WellFormed a → IsFaultOf a e → e ≡ OutOfMemory
+fault_of_well_formed a (OutOfRange i) w fault =
+    elim fault.0 [
+      | inl named ↦ let below = assigned_below a.statements i (met_of_named a (value_use i) w named) in absurd (omega (arith, fault.1))
+      | inr named ↦ let below = block_below a.statements i (met_of_named a (block_use i) w named) in absurd (omega (arith, fault.1))
+    ]
+fault_of_well_formed a (NotAnAssignment i) w fault = absurd (fault.2 (met_of_named a (value_use i) w fault.0))
+fault_of_well_formed a (NotABlock i) w fault = absurd (fault.2 (met_of_named a (block_use i) w fault.0))
+fault_of_well_formed a OutOfMemory w fault = refl

@@ -1,2 +1,4 @@
 pub mod Lists
 pub mod Judged
+pub mod Apart
+pub mod JudgedOrders

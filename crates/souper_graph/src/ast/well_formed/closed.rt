@@ -1,8 +1,9 @@
 //! Judges of uses: whether they lie below the statement, and what stands there.
 
 ghost use Rattle.std.specs.Prelude.{◌≡◌, ◌<◌, ◌↔◌, ◌∷◌, [], map, length, slice_get, Some, None, IsTrue, MatchOption};
+ghost use Rattle.std.specs.List.{AllByRecursion};
 ghost use Rattle.souper_graph.specs.View.{view_rhs, view_statement, view_infer, view_cand};
-ghost use Rattle.souper_graph.specs.Values.{inferred, resulting, candidate};
+ghost use Rattle.souper_graph.specs.Values.{inferred, resulting, replaced, candidate};
 ghost use Rattle.souper_graph.specs.Uses.{value_use, block_use, uses_of_operand, uses_of_operands, uses_of_rhs, uses_of};
 ghost use Rattle.souper_graph.specs.Faults.{IsAssigned, IsBlock};
 ghost use Rattle.souper_graph.specs.WellFormed.{predecessors_at, AgreesRhs, AgreesWithBlock};
@@ -126,7 +127,7 @@ fn statement_is_met(statements: &Arena<Statement>, statement: &Statement, limit:
 }
 
 // Whether the statement at the position may stand there.
-pub(crate) fn may_stand(statements: &Arena<Statement>, id: Id<Statement>) -> bool
+fn may_stand(statements: &Arena<Statement>, id: Id<Statement>) -> bool
     ensures { IsTrue result ↔ MayStandAt (map view_statement statements.now) id }
 {
     match statements.get(id) {
@@ -135,6 +136,18 @@ pub(crate) fn may_stand(statements: &Arena<Statement>, id: Id<Statement>) -> boo
         }
         None => true,
     }
+}
+
+pub(crate) fn may_all_stand(statements: &Arena<Statement>, ids: &[Id<Statement>]) -> bool
+    ensures { IsTrue result
+        ↔ AllByRecursion (MayStandAt (map view_statement statements.now)) ids.now }
+{
+    for id in ids {
+        if !may_stand(statements, *id) {
+            return false;
+        }
+    }
+    true
 }
 
 pub(crate) fn infer_stands(statements: &Arena<Statement>, infer: &Infer) -> bool
@@ -150,6 +163,17 @@ pub(crate) fn result_stands(statements: &Arena<Statement>, operand: &Operand) ->
         ↔ StandsEnding (map view_statement statements.now) (resulting operand.now) }
 {
     operand_is_met(statements, *operand, statements.len()) && operand_fits(*operand)
+}
+
+pub(crate) fn replaced_stands(
+    statements: &Arena<Statement>,
+    infer: &Infer,
+    operand: &Operand,
+) -> bool
+    ensures { IsTrue result
+        ↔ StandsEnding (map view_statement statements.now) (replaced (view_infer infer.now) operand.now) }
+{
+    infer_stands(statements, infer) && result_stands(statements, operand)
 }
 
 pub(crate) fn cand_stands(statements: &Arena<Statement>, cand: &Cand) -> bool
