@@ -2,3 +2,11 @@ pub mod Lists
 pub mod Judged
 pub mod Apart
 pub mod JudgedOrders
+pub mod Added
+pub mod Run
+pub mod Needs
+pub mod Orders
+pub mod Conditions
+pub mod Stack
+pub mod Ends
+pub mod Bits

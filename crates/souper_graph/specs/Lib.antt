@@ -12,3 +12,5 @@ pub mod WellFormed
 pub mod Sameness
 pub mod Building
 pub mod Judging
+pub mod Marks
+pub mod Walks

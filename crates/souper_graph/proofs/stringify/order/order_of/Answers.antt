@@ -1,0 +1,114 @@
+use Rattle.std.proofs.Common.{◌<◌, ◌+◌, List, map, length, true, sym, ap, subst, ◌∙◌, arith, get_or, take}
+use Rattle.std.proofs.Math.ListN.{set}
+use Rattle.std.proofs.lemmas.Result.{err_from_is_err_and}
+use Rattle.std.proofs.lemmas.List.{length-map, length_push}
+use Rattle.souper_graph.specs.declared.stringify.order.Target.{Target}
+use Rattle.souper_graph.specs.View.{view_statement}
+use Rattle.souper_graph.proofs.Ends.{start_at, mark_there, walk_next, dropped_next, finished_next, entered_next, entered_smaller, popped_none, lead_start, lead_next, refused_names, ordered_item}
+use Rattle.souper_graph.proofs.stringify.order.order_of.Goals as goal
+use Rattle.souper_graph.proofs.stringify.order.order_of.Goals.{then-k-walks, else-k-walks}
+
+pub loop-k-init : goal.loop-k-init
+loop-k-init c = (
+  c.new-stack.ensures.items,
+  start_at (map view_statement c.args.statements.now) c.len.result c.new-stack.result.items c.in_ok-marks.marks c.new-ids.result.items
+      c.new-stack.ensures.items c.in_ok-marks.ensures (c.len.ensures ∙ sym (length-map c.args.statements.now view_statement)) c.new-ids.ensures.items,
+  omega arith,
+  lead_start (map view_statement c.args.statements.now) c.args.walks.now.targets.items c.args.walks.now.before,
+)
+
+pub loop-entry-init : goal.loop-entry-init
+loop-entry-init c = (
+  walk_next (map view_statement c.args.statements.now) c.args.walks.now.targets.items c.loop-k.k c.walk-item.result c.loop-k.stack.items c.push.new.self.items
+      c.loop-k.marks c.loop-k.ids.items c.loop-k.turns c.loop-k.invariant.1 c.loop-k.invariant.0
+      (subst (λ (z : List Target). c.loop-k.k < length z) c.deref-walk-items.ensures.value c.loop-k-test.true)
+      (c.walk-item.is ∙ ap (λ (z : List Target). get_or z c.loop-k.k c.walk-item.result) c.deref-walk-items.ensures.value)
+      c.in_ok-push.ensures.items,
+  c.loop-k.invariant.2,
+)
+
+pub loop-entry-preserved-in-Continue-branch-3 : goal.loop-entry-preserved-in-Continue-branch-3
+loop-entry-preserved-in-Continue-branch-3 c = (
+  finished_next (map view_statement c.args.statements.now) (take (c.loop-k.k + 1) c.args.walks.now.targets.items) c.loop-entry.stack.items c.pop.new.self.items
+      c.loop-entry.marks c.loop-entry.ids.items c.push-in-Finished.new.self.items c.loop-entry.turns c.saturating_add-turns.result c.in-Finished.id c.in-Some.entry
+      c.loop-entry.invariant.0 c.in-Some.ensures.items c.in-Finished.is c.in_ok-push-in-Finished.ensures.items c.saturating_add-turns.ensures,
+  (let longer = ap length c.in_ok-push-in-Finished.ensures.items ∙ length_push c.loop-entry.ids.items c.in-Finished.id in
+      let within = c.loop-entry.invariant.1 in
+      omega arith),
+)
+
+pub returns-in_err-statement-in-Trace-clause-refused : goal.returns-in_err-statement-in-Trace-clause-refused
+returns-in_err-statement-in-Trace-clause-refused c a w =
+    let fault = refused_names a (map view_statement c.args.statements.now) c.args.walks.now.targets.items c.args.walks.now.before (c.loop-k.k + 1)
+    c.loop-entry.stack.items c.pop.new.self.items c.loop-entry.marks c.loop-entry.ids.items c.loop-entry.turns c.in-Some.entry c.in-Trace.target
+    c.in_err-statement-in-Trace.field-0.0 w c.loop-entry.invariant.0 c.in-Some.ensures.items c.in-Trace.is c.in_err-statement-in-Trace.ensures.err in
+    let p = err_from_is_err_and c.from_residual-in_err-statement-in-Trace.result c.from_residual-in_err-statement-in-Trace.ensures.1 in
+    rw (p.1, p.2) fault
+
+pub is_marked-requires : goal.is_marked-requires
+is_marked-requires c =
+    mark_there c.args.statements.now _ _ c.loop-entry.marks _ _ c.index.result _ c.in_ok-statement-in-Trace.statement.now c.loop-entry.invariant.0
+    c.in_ok-statement-in-Trace.ensures.there (c.index.ensures ∙ c.position-id.ensures)
+
+pub mark-requires : goal.mark-requires
+mark-requires c =
+    mark_there c.args.statements.now _ _ c.loop-entry.marks _ _ c.index-then-not-is_marked.result _ c.in_ok-statement-in-Trace.statement.now c.loop-entry.invariant.0
+    c.in_ok-statement-in-Trace.ensures.there (c.index-then-not-is_marked.ensures ∙ c.position-id.ensures)
+
+pub loop-entry-smaller-in-Continue-branch-6 : goal.loop-entry-smaller-in-Continue-branch-6
+loop-entry-smaller-in-Continue-branch-6 c =
+    entered_smaller c.args.statements.now (take (c.loop-k.k + 1) c.args.walks.now.targets.items) c.loop-entry.stack.items c.pop.new.self.items
+    c.push-then-not-is_marked.new.self.items c.push_uses.new.stack.items c.loop-entry.marks c.mark.new.self c.loop-entry.ids.items c.loop-entry.turns
+    c.position-id.result c.index.result c.in-Some.entry c.in-Trace.target c.in_ok-statement-in-Trace.statement.now c.is_marked.result
+    c.loop-entry.invariant.0 c.in-Some.ensures.items c.in_ok-statement-in-Trace.ensures.there
+    c.position-id.ensures (c.index.ensures ∙ c.position-id.ensures) c.is_marked.ensures c.if-not-is_marked.true
+    (c.mark.ensures ∙ ap (λ z. set c.loop-entry.marks z true) c.index-then-not-is_marked.ensures) c.in_ok-push-in-Trace.ensures.items c.in_ok-push_uses-in-Trace.ensures.ok
+
+pub loop-entry-preserved-in-Continue-branch-6 : goal.loop-entry-preserved-in-Continue-branch-6
+loop-entry-preserved-in-Continue-branch-6 c = (
+  entered_next c.args.statements.now (take (c.loop-k.k + 1) c.args.walks.now.targets.items) c.loop-entry.stack.items c.pop.new.self.items
+      c.push-then-not-is_marked.new.self.items c.push_uses.new.stack.items c.loop-entry.marks c.mark.new.self c.loop-entry.ids.items c.loop-entry.turns c.saturating_add-turns.result
+      c.position-id.result c.index.result c.in-Some.entry c.in-Trace.target c.in_ok-statement-in-Trace.statement.now c.is_marked.result
+      c.loop-entry.invariant.0 c.in-Some.ensures.items c.in-Trace.is c.in_ok-statement-in-Trace.ensures.met c.in_ok-statement-in-Trace.ensures.there
+      c.position-id.ensures (c.index.ensures ∙ c.position-id.ensures) c.is_marked.ensures c.if-not-is_marked.true
+      (c.mark.ensures ∙ ap (λ z. set c.loop-entry.marks z true) c.index-then-not-is_marked.ensures) c.in_ok-push-in-Trace.ensures.items c.in_ok-push_uses-in-Trace.ensures.ok c.saturating_add-turns.ensures,
+  c.loop-entry.invariant.1,
+)
+
+pub loop-entry-preserved : goal.loop-entry-preserved
+loop-entry-preserved c = (
+  dropped_next (map view_statement c.args.statements.now) (take (c.loop-k.k + 1) c.args.walks.now.targets.items) c.loop-entry.stack.items c.pop.new.self.items
+      c.loop-entry.marks c.loop-entry.ids.items c.loop-entry.turns c.saturating_add-turns.result c.index.result c.in-Some.entry c.in-Trace.target c.is_marked.result
+      c.loop-entry.invariant.0 c.in-Some.ensures.items c.in-Trace.is c.in_ok-statement-in-Trace.ensures.met (c.index.ensures ∙ c.position-id.ensures)
+      c.is_marked.ensures c.if-not-is_marked.false c.saturating_add-turns.ensures,
+  c.loop-entry.invariant.1,
+)
+
+pub loop-k-preserved : goal.loop-k-preserved
+loop-k-preserved c =
+    let over = popped_none (map view_statement c.args.statements.now) (take (c.loop-k.k + 1) c.args.walks.now.targets.items) c.loop-entry.stack.items c.pop.new.self.items
+    c.loop-entry.marks c.loop-entry.ids.items c.loop-entry.turns _
+    c.loop-entry.invariant.0 c.in_default.ensures.items c.in_default.ensures.rest c.in_default.ensures.cases.0 in
+    let within = c.loop-entry.invariant.1 in (
+      over.0,
+      over.1,
+      elim c.if-k-walks.branch [
+        | then-k-walks w ↦ (let a = w.lead-is in let b = w.len-lead.ensures in let d = c.loop-entry.ids.ok in omega arith)
+        | else-k-walks w ↦ (let a = w.lead-is in omega arith)
+      ],
+      lead_next (map view_statement c.args.statements.now) c.args.walks.now.targets.items c.loop-k.k c.args.walks.now.before c.pop.new.self.items
+          c.loop-entry.marks c.loop-entry.ids.items c.loop-entry.turns c.loop-k.lead c.if-k-walks.lead
+          over.1 over.0 c.loop-k.invariant.3
+          (λ l. elim c.if-k-walks.branch [
+            | then-k-walks w ↦ (let a = w.lead-is in let b = w.len-lead.ensures in let d = c.loop-entry.ids.ok in omega arith)
+            | else-k-walks w ↦ (let h = w.if-k-walks.false in absurd (omega arith))
+          ])
+          (λ l. elim c.if-k-walks.branch [ then-k-walks w ↦ (let h = w.if-k-walks.true in absurd (omega arith)) | else-k-walks w ↦ w.lead-is ]),
+    )
+
+pub returns-clause-ordered : goal.returns-clause-ordered
+returns-clause-ordered c a w =
+    ordered_item a (map view_statement c.args.statements.now) c.args.walks.now.targets.items c.args.walks.now.before c.loop-k.k c.loop-k.stack.items c.loop-k.marks
+    c.loop-k.ids.items c.loop-k.turns c.loop-k.lead w c.loop-k.invariant.1 c.loop-k.invariant.0
+    (let past = c.loop-k-test.false in let same = ap length c.deref-walk-items.ensures.value in omega arith)
+    c.loop-k.invariant.2 c.loop-k.invariant.3

@@ -1,0 +1,58 @@
+-- What the walks over a graph trace: its roots, its path conditions, and what these lead to.
+use Rattle.std.specs.Prelude.{◌≡◌, ℕ, ◌<◌, ◌≤◌, ◌++◌, ◌↔◌, length, List, map, slice_get}
+use Rattle.souper_graph.specs.declared.stringify.errors.TextError.{TextError}
+use Rattle.souper_graph.specs.declared.stringify.errors.TextError.TheVariants.{OutOfRange, NotAnAssignment, NotABlock, OutOfMemory}
+use Rattle.souper_graph.specs.declared.stringify.order.Target.{Target}
+use Rattle.souper_graph.specs.declared.stringify.order.Target.TheVariants.{Value, Block, Condition}
+use Rattle.souper_graph.specs.Values.{PlainStatement, Item}
+use Rattle.souper_graph.specs.Uses.{Has, Use, value_use, block_use, conditions, first_roots, last_roots, NeededIn, UsesBelow}
+use Rattle.souper_graph.specs.Order.{printed_order, lead_of, Distinct, EachAfterItsUses, turns_of}
+use Rattle.souper_graph.specs.Faults.{IsAssigned, IsBlock, HasBadId}
+
+abbrev pub position_of_target : Target → ℕ
+position_of_target (Value i) = i
+position_of_target (Block i) = i
+position_of_target (Condition i) = i
+
+abbrev pub target_of : Use → Target
+target_of (value_use i) = Value i
+target_of (block_use i) = Block i
+
+-- what stands at the position is what the target asks for
+abbrev pub IsMetTarget : List PlainStatement → Target → Type 0
+IsMetTarget ss (Value i) = IsAssigned (slice_get ss i)
+IsMetTarget ss (Block i) = IsBlock (slice_get ss i)
+IsMetTarget ss (Condition i) = i < length ss
+
+-- the error tells what is wrong with the target, or want of memory
+abbrev pub IsFaultAt : List PlainStatement → Target → TextError → Type 0
+IsFaultAt ss t (OutOfRange i) = (position_of_target t ≡ i) × (length ss ≤ i)
+IsFaultAt ss t (NotAnAssignment i) = (t ≡ Value i) × (i < length ss) × ¬ IsAssigned (slice_get ss i)
+IsFaultAt ss t (NotABlock i) = (t ≡ Block i) × (i < length ss) × ¬ IsBlock (slice_get ss i)
+IsFaultAt ss t OutOfMemory = Unit {0}
+
+-- where the walks of an item begin, in order, up to its infer line
+abbrev pub first_targets : Item → List Target
+first_targets a = map target_of (first_roots a.ending) ++ map (λ i. Condition i) (conditions a)
+
+-- where all its walks begin, in order
+abbrev pub targets_of : Item → List Target
+targets_of a = first_targets a ++ map target_of (last_roots a.ending)
+
+-- the item has these statements, and these are its walks, of which so many come before its infer line
+pub record IsWalkedBy (a : Item) (ss : List PlainStatement) (walks : List Target) (before : ℕ) : Type 0 where
+  pub same_statements : a.statements ≡ ss
+  pub same_walks : walks ≡ targets_of a
+  pub same_before : before ≡ length (first_targets a)
+
+-- what an answered order of the item is
+pub record IsOrderOf (a : Item) (ids : List ℕ) (lead turns : ℕ) : Type 0 where
+  pub no_bad_id : ¬ HasBadId a
+  pub inside : (i : ℕ) → Has ids i → i < length a.statements
+  pub exact : (i : ℕ) → Has ids i ↔ NeededIn a i
+  pub once : Distinct ids
+  pub lead_within : lead ≤ length ids
+  pub turned : turns ≡ turns_of a ids
+  pub printed : UsesBelow a → ids ≡ printed_order a
+  pub led : UsesBelow a → lead ≡ lead_of a
+  pub after : UsesBelow a → EachAfterItsUses a.statements ids

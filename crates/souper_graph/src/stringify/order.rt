@@ -1,0 +1,322 @@
+//! The printed order of the statements of an item.
+
+ghost use Rattle.std.specs.Prelude.{◌≡◌, ℕ, ◌<◌, ◌≤◌, ◌++◌, ◌↔◌, length, map, reverse, slice_get, Some, IfOk, IfErr, OnOk, IsTrue};
+ghost use Rattle.souper_graph.specs.declared.stringify.errors.TextError.TheVariants.{OutOfMemory};
+ghost use Rattle.souper_graph.specs.declared.stringify.order.Entry.TheVariants.{Trace};
+ghost use Rattle.souper_graph.specs.declared.stringify.order.Target.TheVariants.{Condition};
+ghost use Rattle.souper_graph.specs.Values.{Item};
+ghost use Rattle.souper_graph.specs.View.{view_rhs, view_statement, view_left_hand_side, view_right_hand_side, view_replacement};
+ghost use Rattle.souper_graph.specs.Uses.{Has, uses_of_operand, uses_of_operands, uses_of_rhs, uses_of, conditions_from, first_roots, last_roots, NeededIn, UsesBelow};
+ghost use Rattle.souper_graph.specs.Order.{printed_order, lead_of, turns_of, Distinct, EachAfterItsUses};
+ghost use Rattle.souper_graph.specs.Faults.{IsAssigned, IsBlock, HasBadId, IsFaultOf};
+ghost use Rattle.souper_graph.specs.Walks.{position_of_target, target_of, IsMetTarget, IsFaultAt, IsWalkedBy, IsOrderOf};
+
+use crate::ast::{
+    Arena, Assignment, AssignmentRhs, BlockId, Id, LeftHandSide, Operand, Replacement,
+    RightHandSide, Statement, ValueId,
+};
+use crate::stringify::errors::TextError;
+use crate::stringify::marks::Marks;
+
+/// The needed statements of an item, in the order in which its text has them.
+#[derive(Debug, Drop)]
+pub struct Order {
+    /// The statements, each once, in printed order.
+    pub ids: Vec<Id<Statement>>,
+
+    /// How many of them stand before the infer line of a [`Replacement::LhsRhs`]. In every other item all of them.
+    pub lead: usize,
+
+    /// How many entries left the work stack on the way, or `u128::MAX` where that is less.
+    pub turns: u128,
+}
+
+impl LeftHandSide {
+    /// The statements that the text has, in its order.
+    ///
+    /// Refused is a root or a needed statement that names a position where nothing stands that it may name, and want of
+    /// memory.
+    pub fn print_order(&self) -> Result<Order, TextError>
+        ensures refused { IfErr result (λ error. IsFaultOf (view_left_hand_side self.now) error) }
+        ensures no_bad_id { OnOk result (¬ HasBadId (view_left_hand_side self.now)) }
+        ensures inside { IfOk result (λ order. (i : ℕ) → Has order.ids.items i → i < length (view_left_hand_side self.now).statements) }
+        ensures exact { IfOk result (λ order. (i : ℕ) → Has order.ids.items i ↔ NeededIn (view_left_hand_side self.now) i) }
+        ensures once { IfOk result (λ order. Distinct order.ids.items) }
+        ensures lead_within { IfOk result (λ order. order.lead ≤ length order.ids.items) }
+        ensures turns { IfOk result (λ order. order.turns ≡ turns_of (view_left_hand_side self.now) order.ids.items) }
+        ensures printed { UsesBelow (view_left_hand_side self.now) → IfOk result (λ order. order.ids.items ≡ printed_order (view_left_hand_side self.now)) }
+        ensures lead { UsesBelow (view_left_hand_side self.now) → IfOk result (λ order. order.lead ≡ lead_of (view_left_hand_side self.now)) }
+        ensures after { UsesBelow (view_left_hand_side self.now) → IfOk result (λ order. EachAfterItsUses (view_left_hand_side self.now).statements order.ids.items) }
+    {
+        order_between(&self.statements, &[Operand::Value(self.infer.value)], &[])
+    }
+}
+
+impl RightHandSide {
+    /// The statements that the text has, in its order.
+    ///
+    /// Refused is a root or a needed statement that names a position where nothing stands that it may name, and want of
+    /// memory.
+    pub fn print_order(&self) -> Result<Order, TextError>
+        ensures refused { IfErr result (λ error. IsFaultOf (view_right_hand_side self.now) error) }
+        ensures no_bad_id { OnOk result (¬ HasBadId (view_right_hand_side self.now)) }
+        ensures inside { IfOk result (λ order. (i : ℕ) → Has order.ids.items i → i < length (view_right_hand_side self.now).statements) }
+        ensures exact { IfOk result (λ order. (i : ℕ) → Has order.ids.items i ↔ NeededIn (view_right_hand_side self.now) i) }
+        ensures once { IfOk result (λ order. Distinct order.ids.items) }
+        ensures lead_within { IfOk result (λ order. order.lead ≤ length order.ids.items) }
+        ensures turns { IfOk result (λ order. order.turns ≡ turns_of (view_right_hand_side self.now) order.ids.items) }
+        ensures printed { UsesBelow (view_right_hand_side self.now) → IfOk result (λ order. order.ids.items ≡ printed_order (view_right_hand_side self.now)) }
+        ensures lead { UsesBelow (view_right_hand_side self.now) → IfOk result (λ order. order.lead ≡ lead_of (view_right_hand_side self.now)) }
+        ensures after { UsesBelow (view_right_hand_side self.now) → IfOk result (λ order. EachAfterItsUses (view_right_hand_side self.now).statements order.ids.items) }
+    {
+        order_between(&self.statements, &[self.result], &[])
+    }
+}
+
+impl Replacement {
+    /// The statements that the text has, in its order.
+    ///
+    /// Refused is a root or a needed statement that names a position where nothing stands that it may name, and want of
+    /// memory.
+    pub fn print_order(&self) -> Result<Order, TextError>
+        ensures refused { IfErr result (λ error. IsFaultOf (view_replacement self.now) error) }
+        ensures no_bad_id { OnOk result (¬ HasBadId (view_replacement self.now)) }
+        ensures inside { IfOk result (λ order. (i : ℕ) → Has order.ids.items i → i < length (view_replacement self.now).statements) }
+        ensures exact { IfOk result (λ order. (i : ℕ) → Has order.ids.items i ↔ NeededIn (view_replacement self.now) i) }
+        ensures once { IfOk result (λ order. Distinct order.ids.items) }
+        ensures lead_within { IfOk result (λ order. order.lead ≤ length order.ids.items) }
+        ensures turns { IfOk result (λ order. order.turns ≡ turns_of (view_replacement self.now) order.ids.items) }
+        ensures printed { UsesBelow (view_replacement self.now) → IfOk result (λ order. order.ids.items ≡ printed_order (view_replacement self.now)) }
+        ensures lead { UsesBelow (view_replacement self.now) → IfOk result (λ order. order.lead ≡ lead_of (view_replacement self.now)) }
+        ensures after { UsesBelow (view_replacement self.now) → IfOk result (λ order. EachAfterItsUses (view_replacement self.now).statements order.ids.items) }
+    {
+        match self {
+            Replacement::LhsRhs {
+                statements,
+                lhs,
+                rhs,
+            } => order_between(statements, &[Operand::Value(lhs.value)], &[*rhs]),
+            Replacement::Cand { statements, cand } => {
+                order_between(statements, &[cand.lhs, cand.rhs], &[])
+            }
+        }
+    }
+}
+
+// What a trace entry names: a use, or a path condition for its own sake.
+#[derive(Clone, Copy)]
+enum Target {
+    Value(ValueId),
+    Block(BlockId),
+    Condition(Id<Statement>),
+}
+
+impl Target {
+    fn position(&self) -> Id<Statement>
+        ensures { result ≡ position_of_target self.now }
+    {
+        match self {
+            Target::Value(id) => Id::from(*id),
+            Target::Block(id) => Id::from(*id),
+            Target::Condition(id) => *id,
+        }
+    }
+}
+
+// An entry of the work stack.
+#[derive(Clone, Copy)]
+enum Entry {
+    // What is to be walked.
+    Trace(Target),
+    // A statement whose uses stand in the order when the entry leaves the stack.
+    Finished(Id<Statement>),
+}
+
+// Where walks begin, and how many of them come before the infer line.
+#[derive(Drop)]
+struct Walks {
+    targets: Vec<Target>,
+    before: usize,
+}
+
+// The order of an item that has these roots before and after its path conditions.
+fn order_between(
+    statements: &Arena<Statement>,
+    first: &[Operand],
+    last: &[Operand],
+) -> Result<Order, TextError>
+    ensures refused { (a : Item) → a.statements ≡ map view_statement statements.now → first_roots a.ending ≡ uses_of_operands first.now → last_roots a.ending ≡ uses_of_operands last.now → IfErr result (λ error. IsFaultOf a error) }
+    ensures ordered { (a : Item) → a.statements ≡ map view_statement statements.now → first_roots a.ending ≡ uses_of_operands first.now → last_roots a.ending ≡ uses_of_operands last.now → IfOk result (λ order. IsOrderOf a order.ids.items order.lead order.turns) }
+{
+    let mut targets = Vec::new(statements.allocator());
+    push_roots(&mut targets, first)?;
+    push_conditions(&mut targets, statements)?;
+    let before = targets.len();
+    push_roots(&mut targets, last)?;
+    order_of(statements, &Walks { targets, before })
+}
+
+// Puts the roots that name a value at the end.
+fn push_roots(targets: &mut Vec<Target>, roots: &[Operand]) -> Result<(), TextError>
+    ensures ok { OnOk result (targets.new.items ≡ targets.old.items ++ map target_of (uses_of_operands roots.now)) }
+    ensures err { IfErr result (λ error. error ≡ OutOfMemory) }
+{
+    for root in roots {
+        if let Operand::Value(id) = *root {
+            targets.push(Target::Value(id))?;
+        }
+    }
+    Ok(())
+}
+
+// Puts the path conditions at the end.
+fn push_conditions(
+    targets: &mut Vec<Target>,
+    statements: &Arena<Statement>,
+) -> Result<(), TextError>
+    ensures ok { OnOk result (targets.new.items ≡ targets.old.items ++ map (λ i. Condition i) (conditions_from 0 (map view_statement statements.now))) }
+    ensures err { IfErr result (λ error. error ≡ OutOfMemory) }
+{
+    for index in 0..statements.len() {
+        let id = Id::at(index);
+        if let Some(statement) = statements.get(id) {
+            if !is_assignment(statement) {
+                targets.push(Target::Condition(id))?;
+            }
+        }
+    }
+    Ok(())
+}
+
+// Walks from each target in turn, and puts each statement behind all that it uses, where that is possible.
+fn order_of(statements: &Arena<Statement>, walks: &Walks) -> Result<Order, TextError>
+    ensures refused { (a : Item) → IsWalkedBy a (map view_statement statements.now) walks.now.targets.items walks.now.before → IfErr result (λ error. IsFaultOf a error) }
+    ensures ordered { (a : Item) → IsWalkedBy a (map view_statement statements.now) walks.now.targets.items walks.now.before → IfOk result (λ order. IsOrderOf a order.ids.items order.lead order.turns) }
+{
+    let alloc = statements.allocator();
+    let mut stack: Vec<Entry> = Vec::new(alloc);
+    let mut marks = Marks::none(alloc, statements.len())?;
+    let mut ids: Vec<Id<Statement>> = Vec::new(alloc);
+    let mut turns: u128 = 0;
+    let mut lead = 0;
+    for (k, walk) in walks.targets.iter().enumerate() {
+        stack.push(Entry::Trace(*walk))?;
+        while let Some(entry) = stack.pop() {
+            turns = turns.saturating_add(1);
+            match entry {
+                Entry::Finished(id) => ids.push(id)?,
+                Entry::Trace(target) => {
+                    let statement = judged(statements, &target)?;
+                    let id = target.position();
+                    if !marks.is_marked(id.index()) {
+                        marks.mark(id.index());
+                        stack.push(Entry::Finished(id))?;
+                        push_uses(&mut stack, statement)?;
+                    }
+                }
+            }
+        }
+        if k < walks.before {
+            lead = ids.len();
+        }
+    }
+    Ok(Order { ids, lead, turns })
+}
+
+// The statement that the target names, where it is what the target asks for.
+fn judged<'a>(
+    statements: &'a Arena<Statement>,
+    target: &Target,
+) -> Result<&'a Statement, TextError>
+    ensures there { IfOk result (λ statement. slice_get statements.now (position_of_target target.now) ≡ Some statement.now) }
+    ensures met { OnOk result (IsMetTarget (map view_statement statements.now) target.now) }
+    ensures err { IfErr result (λ error. IsFaultAt (map view_statement statements.now) target.now error) }
+{
+    let id = target.position();
+    let Some(statement) = statements.get(id) else {
+        return Err(TextError::OutOfRange(id));
+    };
+    match target {
+        Target::Value(_) if !is_assignment(statement) => Err(TextError::NotAnAssignment(id)),
+        Target::Block(_) if !is_block(statement) => Err(TextError::NotABlock(id)),
+        _ => Ok(statement),
+    }
+}
+
+fn is_assignment(statement: &Statement) -> bool
+    ensures { IsTrue result ↔ IsAssigned (Some (view_statement statement.now)) }
+{
+    matches!(statement, Statement::Assignment(_))
+}
+
+fn is_block(statement: &Statement) -> bool
+    ensures { IsTrue result ↔ IsBlock (Some (view_statement statement.now)) }
+{
+    matches!(
+        statement,
+        Statement::Assignment(Assignment {
+            value: AssignmentRhs::Block(_),
+            ..
+        })
+    )
+}
+
+// Puts a trace entry for each use of the statement on the stack, the last one first.
+fn push_uses(stack: &mut Vec<Entry>, statement: &Statement) -> Result<(), TextError>
+    ensures ok { OnOk result (reverse stack.new.items ≡ map (λ named. Trace (target_of named)) (uses_of (view_statement statement.now)) ++ reverse stack.old.items) }
+    ensures err { IfErr result (λ error. error ≡ OutOfMemory) }
+{
+    match statement {
+        Statement::Assignment(assignment) => push_uses_of_rhs(stack, &assignment.value),
+        Statement::Pc(pc) => {
+            push_operand(stack, pc.y)?;
+            push_operand(stack, pc.x)
+        }
+        Statement::BlockPc(block_pc) => {
+            push_operand(stack, block_pc.y)?;
+            push_operand(stack, block_pc.x)?;
+            Ok(stack.push(Entry::Trace(Target::Block(block_pc.block)))?)
+        }
+    }
+}
+
+fn push_uses_of_rhs(stack: &mut Vec<Entry>, rhs: &AssignmentRhs) -> Result<(), TextError>
+    ensures ok { OnOk result (reverse stack.new.items ≡ map (λ named. Trace (target_of named)) (uses_of_rhs (view_rhs rhs.now)) ++ reverse stack.old.items) }
+    ensures err { IfErr result (λ error. error ≡ OutOfMemory) }
+{
+    match rhs {
+        AssignmentRhs::Var => Ok(()),
+        AssignmentRhs::Block(_) => Ok(()),
+        AssignmentRhs::ReservedInst => Ok(()),
+        AssignmentRhs::ReservedConst => Ok(()),
+        AssignmentRhs::Phi(phi) => {
+            push_operands(stack, &phi.values)?;
+            Ok(stack.push(Entry::Trace(Target::Block(phi.block)))?)
+        }
+        AssignmentRhs::Instruction(instruction) => {
+            push_operands(stack, &instruction.operands())
+        }
+    }
+}
+
+fn push_operands(stack: &mut Vec<Entry>, operands: &[Operand]) -> Result<(), TextError>
+    ensures ok { OnOk result (reverse stack.new.items ≡ map (λ named. Trace (target_of named)) (uses_of_operands operands.now) ++ reverse stack.old.items) }
+    ensures err { IfErr result (λ error. error ≡ OutOfMemory) }
+{
+    let mut left = operands.len();
+    while left > 0 {
+        left -= 1;
+        push_operand(stack, operands[left])?;
+    }
+    Ok(())
+}
+
+fn push_operand(stack: &mut Vec<Entry>, operand: Operand) -> Result<(), TextError>
+    ensures ok { OnOk result (reverse stack.new.items ≡ map (λ named. Trace (target_of named)) (uses_of_operand operand) ++ reverse stack.old.items) }
+    ensures err { IfErr result (λ error. error ≡ OutOfMemory) }
+{
+    match operand {
+        Operand::Value(id) => Ok(stack.push(Entry::Trace(Target::Value(id)))?),
+        Operand::Constant(_) => Ok(()),
+    }
+}
