@@ -1,4 +1,7 @@
 pub mod Lists
+pub mod Judged
+pub mod Apart
+pub mod JudgedOrders
 pub mod Added
 pub mod Run
 pub mod Needs

@@ -10,5 +10,7 @@ pub mod Text
 pub mod Faults
 pub mod WellFormed
 pub mod Sameness
+pub mod Building
+pub mod Judging
 pub mod Marks
 pub mod Walks

@@ -2,14 +2,18 @@
 
 mod arenas;
 mod attributes;
+mod builders;
+mod clones;
 mod ids;
 mod instructions;
 mod items;
 mod operands;
 mod statements;
+mod well_formed;
 
 pub use arenas::{Arena, Iter};
 pub use attributes::{Attribute, RootAttribute};
+pub use builders::{LeftHandSideBuilder, ReplacementBuilder};
 pub use ids::{BlockId, Id, ValueId};
 pub use instructions::Instruction;
 pub use items::{Cand, Infer, LeftHandSide, Replacement, RightHandSide};

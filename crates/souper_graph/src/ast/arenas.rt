@@ -83,6 +83,12 @@ impl<T: Drop> Arena<T> {
     pub(crate) fn allocator(&self) -> Global {
         *self.items.allocator()
     }
+
+    pub(crate) fn as_slice(&self) -> &[T]
+        ensures { result.now ≡ self.now }
+    {
+        self.items.as_slice()
+    }
 }
 
 /// The items of an [`Arena`] with their positions, in order.

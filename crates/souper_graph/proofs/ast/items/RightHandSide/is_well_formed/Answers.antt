@@ -1,0 +1,13 @@
+use Rattle.std.proofs.Common.{refl}
+use Rattle.souper_graph.specs.View.{view_right_hand_side}
+use Rattle.souper_graph.proofs.Judged.{ending_of_well_formed}
+use Rattle.souper_graph.proofs.JudgedOrders.{judged}
+use Rattle.souper_graph.proofs.ast.items.RightHandSide.is_well_formed.Goals as goal
+
+pub returns-then-not-result_stands : goal.returns-then-not-result_stands
+returns-then-not-result_stands c = ((λ e. absurd (cc)), (λ w. c.if-not-result_stands.ensures.1 (ending_of_well_formed (view_right_hand_side c.args.self.now) w)))
+
+pub returns : goal.returns
+returns c =
+    judged (view_right_hand_side c.args.self.now) c.print_order.result c.ordered_stand.result
+    c.print_order.ensures.refused c.print_order.ensures.exact (c.if-not-result_stands.ensures.0 refl) c.ordered_stand.ensures

@@ -1,0 +1,30 @@
+-- What the builders add to their arenas, and what they ask for.
+use Rattle.std.specs.Prelude.{◌≡◌, ℕ, List, ◌∷◌, [], map, decimal, Option, Some, None, slice_get}
+use Rattle.std.specs.declared.alloc.Global.{Global}
+use Rattle.std.specs.declared.string.String.{String}
+use Rattle.std.specs.String.{string_bytes}
+use Rattle.souper_graph.specs.declared.ast.attributes.Attribute.{Attribute}
+use Rattle.souper_graph.specs.declared.ast.operands.«Type».{«Type» as Ty}
+use Rattle.souper_graph.specs.declared.ast.statements.AssignmentRhs.{AssignmentRhs}
+use Rattle.souper_graph.specs.declared.ast.statements.Statement.{Statement}
+use Rattle.souper_graph.specs.declared.ast.items.Replacement.{Replacement}
+use Rattle.souper_graph.specs.declared.ast.items.Replacement.TheVariants.{LhsRhs, Cand}
+use Rattle.souper_graph.specs.Values.{PlainStatement, PlainRhs, PlainAttribute, assigned}
+
+-- a name that is given begins with `%` (37)
+abbrev pub BeginsWithPercent : Option (String Global) → Type 0
+BeginsWithPercent None = Unit {0}
+BeginsWithPercent (Some name) = slice_get (string_bytes name) 0 ≡ Some 37
+
+-- the name that is given, or `%` (37) and the number in decimal
+abbrev pub chosen_name : Option (String Global) → ℕ → List ℕ
+chosen_name None n = 37 ∷ decimal n
+chosen_name (Some name) n = string_bytes name
+
+-- the assignment that is added behind n statements
+abbrev pub added_assignment : Option (String Global) → ℕ → Option Ty → PlainRhs → List PlainAttribute → PlainStatement
+added_assignment name n ty value attributes = assigned (record { name = chosen_name name n; ty = ty; value = value; attributes = attributes })
+
+abbrev pub statements_of : Replacement → List Statement
+statements_of (LhsRhs ss l r) = ss
+statements_of (Cand ss c) = ss

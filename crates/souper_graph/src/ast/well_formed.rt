@@ -1,0 +1,118 @@
+//! Whether items are well formed.
+
+ghost use Rattle.std.specs.Prelude.{◌≡◌, ◌≢◌, ◌↔◌, map, false, IsTrue, IfOk, MatchResult};
+ghost use Rattle.std.specs.Result.{ForOk};
+ghost use Rattle.souper_graph.specs.declared.stringify.errors.TextError.TheVariants.{OutOfMemory};
+ghost use Rattle.souper_graph.specs.View.{view_statement, view_left_hand_side, view_right_hand_side, view_replacement};
+ghost use Rattle.souper_graph.specs.Order.{Distinct};
+ghost use Rattle.souper_graph.specs.WellFormed.{WellFormed};
+ghost use Rattle.souper_graph.specs.Judging.{AllStand};
+
+mod apart;
+mod closed;
+mod fitting;
+
+use crate::ast::arenas::Arena;
+use crate::ast::ids::Id;
+use crate::ast::items::{LeftHandSide, Replacement, RightHandSide};
+use crate::ast::statements::Statement;
+use crate::ast::well_formed::apart::are_named_apart;
+use crate::ast::well_formed::closed::{
+    cand_stands, infer_stands, may_all_stand, replaced_stands, result_stands,
+};
+use crate::stringify::{Order, TextError};
+use std::alloc::AllocError;
+
+fn all_stand(statements: &Arena<Statement>, ids: &[Id<Statement>]) -> Result<bool, AllocError>
+    requires { Distinct ids.now }
+    ensures { IfOk result
+        (λ answer. IsTrue answer ↔ AllStand (map view_statement statements.now) ids.now) }
+{
+    if !may_all_stand(statements, ids) {
+        return Ok(false);
+    }
+    are_named_apart(statements, ids)
+}
+
+// Whether an order was found, and the statements in it stand.
+fn ordered_stand(
+    statements: &Arena<Statement>,
+    order: Result<Order, TextError>,
+) -> Result<bool, AllocError>
+    requires { ForOk order (λ order. Distinct order.ids.items) }
+    ensures { IfOk result (λ answer. MatchResult order (λ order. IsTrue answer ↔ AllStand (map view_statement statements.now) order.ids.items) (λ error. (error ≢ OutOfMemory) × (answer ≡ false))) }
+{
+    match order {
+        Ok(order) => all_stand(statements, &order.ids),
+        Err(TextError::OutOfMemory) => Err(AllocError),
+        Err(TextError::OutOfRange(_) | TextError::NotAnAssignment(_) | TextError::NotABlock(_)) =>
+            Ok(false),
+    }
+}
+
+impl LeftHandSide {
+    /// Whether the item is well formed, by the conditions of [`Replacement::is_well_formed`].
+    ///
+    /// An error is a refused growth.
+    pub fn is_well_formed(&self) -> Result<bool, AllocError>
+        ensures { IfOk result
+            (λ answer. IsTrue answer ↔ WellFormed (view_left_hand_side self.now)) }
+    {
+        if !infer_stands(&self.statements, &self.infer) {
+            return Ok(false);
+        }
+        ordered_stand(&self.statements, self.print_order())
+    }
+}
+
+impl RightHandSide {
+    /// Whether the item is well formed, by the conditions of [`Replacement::is_well_formed`].
+    ///
+    /// An error is a refused growth.
+    pub fn is_well_formed(&self) -> Result<bool, AllocError>
+        ensures { IfOk result
+            (λ answer. IsTrue answer ↔ WellFormed (view_right_hand_side self.now)) }
+    {
+        if !result_stands(&self.statements, &self.result) {
+            return Ok(false);
+        }
+        ordered_stand(&self.statements, self.print_order())
+    }
+}
+
+impl Replacement {
+    /// Whether the item is well formed. It is where each of these holds:
+    ///
+    /// - Each root is a constant, or names an assignment.
+    /// - In each statement that the item needs, each use lies at a lower position and names an assignment, and that of
+    ///   a block the assignment of a block.
+    /// - There a phi has as many values as ways lead into its block, and a condition on a way into a block names one of
+    ///   these ways.
+    /// - There and in the roots widths are above 0, and lists of bits are not empty.
+    /// - The name of each needed assignment is `%` and one or more letters, digits, `_` or `.`, and no two have one name.
+    ///
+    /// Statements that the item does not need are not judged. An error is a refused growth.
+    pub fn is_well_formed(&self) -> Result<bool, AllocError>
+        ensures { IfOk result
+            (λ answer. IsTrue answer ↔ WellFormed (view_replacement self.now)) }
+    {
+        match self {
+            Replacement::LhsRhs {
+                statements,
+                lhs,
+                rhs,
+            } => {
+                if !replaced_stands(statements, lhs, rhs) {
+                    return Ok(false);
+                }
+                ordered_stand(statements, self.print_order())
+            }
+            Replacement::Cand { statements, cand } => {
+                if !cand_stands(statements, cand) {
+                    return Ok(false);
+                }
+                ordered_stand(statements, self.print_order())
+            }
+        }
+    }
+}

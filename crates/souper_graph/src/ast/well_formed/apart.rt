@@ -1,0 +1,43 @@
+//! A judge of names: whether no two assignments share one.
+
+ghost use Rattle.std.specs.Prelude.{◌≡◌, ◌↔◌, map, IsTrue, IfOk, option_copied};
+ghost use Rattle.souper_graph.specs.View.{view_statement};
+ghost use Rattle.souper_graph.specs.Uses.{Has};
+ghost use Rattle.souper_graph.specs.Order.{Distinct};
+ghost use Rattle.souper_graph.specs.WellFormed.{AreNamedApart};
+ghost use Rattle.souper_graph.specs.Judging.{assigned_name_at};
+
+use crate::ast::arenas::Arena;
+use crate::ast::ids::Id;
+use crate::ast::statements::Statement;
+use std::alloc::AllocError;
+use std::collections::BTreeSet;
+
+fn name_at(statements: &Arena<Statement>, id: Id<Statement>) -> Option<&str>
+    ensures { option_copied result ≡ assigned_name_at (map view_statement statements.now) id }
+{
+    match statements.get(id) {
+        Some(Statement::Assignment(assignment)) => Some(assignment.name.as_str()),
+        Some(Statement::Pc(_) | Statement::BlockPc(_)) | None => None,
+    }
+}
+
+// Whether no two of the assignments at these positions have one name.
+pub(crate) fn are_named_apart(
+    statements: &Arena<Statement>,
+    ids: &[Id<Statement>],
+) -> Result<bool, AllocError>
+    requires { Distinct ids.now }
+    ensures { IfOk result (λ answer. IsTrue answer
+        ↔ AreNamedApart (map view_statement statements.now) (Has ids.now)) }
+{
+    let mut names = BTreeSet::new(statements.allocator());
+    for id in ids {
+        if let Some(name) = name_at(statements, *id) {
+            if !names.insert(name)? {
+                return Ok(false);
+            }
+        }
+    }
+    Ok(true)
+}

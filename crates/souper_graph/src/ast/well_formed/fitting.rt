@@ -1,0 +1,157 @@
+//! Judges of nodes by themselves: widths, bit lists and names.
+
+ghost use Rattle.std.specs.Prelude.{◌≡◌, ◌↔◌, map, true, IsTrue};
+ghost use Rattle.std.specs.List.{AllByRecursion};
+ghost use Rattle.souper_graph.specs.Names.{is_name_char, IsName};
+ghost use Rattle.souper_graph.specs.View.{view_attribute, view_root_attribute, view_rhs, view_assignment, view_statement};
+ghost use Rattle.souper_graph.specs.WellFormed.{FitsOptionalType, FitsOperand, FitsAttribute, FitsRootAttribute, FitsRhs, FitsAssignment, FitsStatement};
+
+use crate::ast::attributes::{Attribute, RootAttribute};
+use crate::ast::operands::{Operand, Type};
+use crate::ast::statements::{Assignment, AssignmentRhs, Statement};
+
+fn optional_type_fits(ty: Option<Type>) -> bool
+    ensures { IsTrue result ↔ FitsOptionalType ty }
+{
+    match ty {
+        Some(ty) => ty.width > 0,
+        None => true,
+    }
+}
+
+pub(crate) fn operand_fits(operand: Operand) -> bool
+    ensures { IsTrue result ↔ FitsOperand operand }
+{
+    match operand {
+        Operand::Value(_) => true,
+        Operand::Constant(constant) => optional_type_fits(constant.ty),
+    }
+}
+
+fn operands_fit(operands: &[Operand]) -> bool
+    ensures { IsTrue result ↔ AllByRecursion FitsOperand operands.now }
+{
+    for operand in operands {
+        if !operand_fits(*operand) {
+            return false;
+        }
+    }
+    true
+}
+
+fn attribute_fits(attribute: &Attribute) -> bool
+    ensures { IsTrue result ↔ FitsAttribute (view_attribute attribute.now) }
+{
+    match attribute {
+        Attribute::KnownBits(bits) => !bits.is_empty(),
+        Attribute::PowerOfTwo
+        | Attribute::Negative
+        | Attribute::NonNegative
+        | Attribute::NonZero
+        | Attribute::HasExternalUses => true,
+
+        // Each number of their types fits: a read tells the proof that they are such.
+        Attribute::SignBits(count) => {
+            let _count = *count;
+            true
+        }
+        Attribute::Range(low, high) => {
+            let (_low, _high) = (*low, *high);
+            true
+        }
+    }
+}
+
+fn attributes_fit(attributes: &[Attribute]) -> bool
+    ensures { IsTrue result ↔ AllByRecursion FitsAttribute (map view_attribute attributes.now) }
+{
+    for attribute in attributes {
+        if !attribute_fits(attribute) {
+            return false;
+        }
+    }
+    true
+}
+
+fn root_attribute_fits(attribute: &RootAttribute) -> bool
+    ensures { IsTrue result ↔ FitsRootAttribute (view_root_attribute attribute.now) }
+{
+    match attribute {
+        RootAttribute::DemandedBits(bits) => !bits.is_empty(),
+        RootAttribute::HarvestedFromUse => true,
+    }
+}
+
+pub(crate) fn root_attributes_fit(attributes: &[RootAttribute]) -> bool
+    ensures { IsTrue result
+        ↔ AllByRecursion FitsRootAttribute (map view_root_attribute attributes.now) }
+{
+    for attribute in attributes {
+        if !root_attribute_fits(attribute) {
+            return false;
+        }
+    }
+    true
+}
+
+fn rhs_fits(value: &AssignmentRhs) -> bool
+    ensures { IsTrue result ↔ FitsRhs (view_rhs value.now) }
+{
+    match value {
+        AssignmentRhs::Phi(phi) => operands_fit(phi.values.as_slice()),
+        AssignmentRhs::Instruction(instruction) => operands_fit(instruction.operands().as_slice()),
+        AssignmentRhs::Block(block) => {
+            let _predecessors = block.predecessors;
+            true
+        }
+        AssignmentRhs::Var | AssignmentRhs::ReservedInst | AssignmentRhs::ReservedConst => true,
+    }
+}
+
+fn is_name_byte(byte: u8) -> bool
+    ensures { result ≡ is_name_char byte }
+{
+    byte.is_ascii_alphanumeric() || byte == b'_' || byte == b'.'
+}
+
+fn are_name_bytes(bytes: &[u8]) -> bool
+    ensures { IsTrue result ↔ AllByRecursion (λ byte. is_name_char byte ≡ true) bytes.now }
+{
+    for byte in bytes {
+        if !is_name_byte(*byte) {
+            return false;
+        }
+    }
+    true
+}
+
+fn is_name(name: &str) -> bool
+    ensures { IsTrue result ↔ IsName name.now }
+{
+    match name.as_bytes().split_first() {
+        Some((first, rest)) => *first == b'%' && !rest.is_empty() && are_name_bytes(rest),
+        None => false,
+    }
+}
+
+fn assignment_fits(assignment: &Assignment) -> bool
+    ensures { IsTrue result ↔ FitsAssignment (view_assignment assignment.now) }
+{
+    is_name(&assignment.name)
+        && optional_type_fits(assignment.ty)
+        && rhs_fits(&assignment.value)
+        && attributes_fit(&assignment.attributes)
+}
+
+pub(crate) fn statement_fits(statement: &Statement) -> bool
+    ensures { IsTrue result ↔ FitsStatement (view_statement statement.now) }
+{
+    match statement {
+        Statement::Assignment(assignment) => assignment_fits(assignment),
+        Statement::Pc(pc) => operand_fits(pc.x) && operand_fits(pc.y),
+        Statement::BlockPc(block_pc) => {
+            let _predecessor = block_pc.predecessor;
+            operand_fits(block_pc.x) && operand_fits(block_pc.y)
+        }
+    }
+}
