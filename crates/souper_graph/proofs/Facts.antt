@@ -94,6 +94,16 @@ printed-needed g w j h = gathered-needed g w j (subst (λ (z : List ℕ). Has z 
 pub needed-printed : (g : List PlainStatement) (w : List ℕ) {j : ℕ} → Below g w → Needed g w j → Has (order_of_walks g w) j
 needed-printed g w {j = j} ub n = subst (λ (z : List ℕ). Has z j) (sym (printed-is g w)) (needed-gathered g w ub n)
 
+-- whatever uses lie below their users
+pub walks-printed : (g : List PlainStatement) (w : List ℕ) (j : ℕ) → Has w j → Has (order_of_walks g w) j
+walks-printed g w j h =
+    subst (λ (z : List ℕ). Has z j) (sym (printed-is g w)) (with-has [] (flat_map (unfolding_of g) w) j (inr (flat-has (unfolding_of g) w j j h (unfold-self g (suc j) j (omega arith)))))
+
+pub printed-closed : (g : List PlainStatement) (w : List ℕ) (i u : ℕ) → Has (order_of_walks g w) i → Has (used_at g i) u → u < i → Has (order_of_walks g w) u
+printed-closed g w i u h k l =
+    subst (λ (z : List ℕ). Has z u) (sym (printed-is g w))
+    (steady_has g [] (gathered g w) (gathered-steady g w) i u (subst (λ (z : List ℕ). Has z i) (printed-is g w) h) (below-has i (used_at g i) u k l))
+
 pub printed-once : (g : List PlainStatement) (w : List ℕ) → Distinct (order_of_walks g w)
 printed-once g w = subst (λ (z : List ℕ). Distinct z) (sym (printed-is g w)) (gathered-once g w)
 

@@ -17,3 +17,4 @@ pub mod Stack
 pub mod Ends
 pub mod Bits
 pub mod Naming
+pub mod Lower

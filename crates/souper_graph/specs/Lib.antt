@@ -7,6 +7,7 @@ pub mod Uses
 pub mod Order
 pub mod Leaves
 pub mod Text
+pub mod Shown
 pub mod Faults
 pub mod WellFormed
 pub mod Sameness

@@ -1,5 +1,5 @@
 -- The printed order of an item, by full unfoldings, and what it costs to find it.
-use Rattle.std.specs.Prelude.{◌≡◌, ℕ, zero, suc, ◌+◌, ◌-◌, ◌^◌, min, ◌++◌, not, nat_lt, nat_eq, List, [], ◌∷◌, flat_map, filter, length}
+use Rattle.std.specs.Prelude.{◌≡◌, ℕ, zero, suc, ◌+◌, ◌-◌, ◌^◌, min, ◌++◌, not, nat_lt, nat_eq, Bool, true, ◌&&◌, List, [], ◌∷◌, flat_map, filter, length}
 use Rattle.souper_graph.specs.Values.{PlainStatement, Item}
 use Rattle.souper_graph.specs.Uses.{Has, used_at, first_walks, walks_of}
 
@@ -23,6 +23,20 @@ order_of_walks ss walks = firsts (flat_map (unfolding_of ss) walks)
 
 abbrev pub printed_order : Item → List ℕ
 printed_order a = order_of_walks a.statements (walks_of a)
+
+-- each of the positions is below i
+abbrev pub are_below : ℕ → List ℕ → Bool
+are_below i [] = true
+are_below i (u ∷ us) = nat_lt u i && are_below i us
+
+-- each of these statements uses positions below it alone
+abbrev pub use_below : List PlainStatement → List ℕ → Bool
+use_below ss [] = true
+use_below ss (i ∷ is) = are_below i (used_at ss i) && use_below ss is
+
+-- Each needed statement uses positions below it alone. Where those of the printed order do, it has all that are needed.
+abbrev pub uses_below : Item → Bool
+uses_below a = use_below a.statements (printed_order a)
 
 -- how many statements stand before the infer line; in an item without a result behind it, all
 abbrev pub lead_of : Item → ℕ

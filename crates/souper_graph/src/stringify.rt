@@ -5,6 +5,7 @@ mod context;
 mod errors;
 mod marks;
 mod order;
+mod text;
 mod leaves;
 mod lines;
 mod names;
