@@ -1,2 +1,2 @@
-pub mod BadIds
+pub mod Listed
 pub mod RunLemmas

@@ -3,6 +3,7 @@ ghost use Rattle.std.specs.Prelude.{◌≡◌, ◌++◌, map, IfOk, IfErr, OnOk,
 ghost use Rattle.std.specs.List.{AllByRecursion};
 ghost use Rattle.std.specs.String.{string_bytes};
 ghost use Rattle.souper_graph.specs.Faults.{HasBadId};
+ghost use Rattle.souper_graph.specs.Uses.{UsesBelow};
 ghost use Rattle.souper_graph.specs.View.{view_left_hand_side};
 ghost use Rattle.souper_graph.specs.WellFormed.{WellFormed};
 ghost use Rattle.souper_ir.specs.Spelling.{TextSpells};
@@ -48,7 +49,8 @@ pub fn read_items(
 
 // Appends the text of the item and a newline.
 fn append_left_hand_side(item: &LeftHandSide, out: &mut String) -> Result<(), AllocError>
-    requires { ¬ HasBadId (view_left_hand_side item.now) }
+    requires named { ¬ HasBadId (view_left_hand_side item.now) }
+    requires below { UsesBelow (view_left_hand_side item.now) }
     ensures { OnOk result (string_bytes out.new ≡ string_bytes out.old ++ text_with_newline (view_left_hand_side item.now)) }
 {
     match item.to_text() {

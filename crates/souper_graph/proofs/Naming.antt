@@ -1,6 +1,6 @@
 -- Uses that are met, faults among uses, and texts that grow part by part.
 use Rattle.std.proofs.Common.{◌≡◌, ℕ, zero, suc, ◌+◌, ◌<◌, inl, inr, List, [], ◌∷◌, ◌++◌, length, get_or, take, refl, sym, ap, subst, ◌∙◌, arith, append_assoc}
-use Rattle.std.specs.Prelude.{flat_map}
+use Rattle.std.specs.Prelude.{flat_map, Result, Ok, Err, IfErr, ◌↔◌}
 use Rattle.std.proofs.lemmas.Grind.{flat_map-append}
 use Rattle.std.proofs.lemmas.List.{take_more, flat_map_more}
 use Rattle.souper_graph.specs.declared.stringify.errors.TextError.{TextError}
@@ -114,3 +114,9 @@ HasBadId-none a ids all met = λ bad.
       | inl r ↦ Has-left roots uses bad.0 r
       | inr w ↦ Has-right roots uses bad.0 (Has-in_flat_map (uses_at a.statements) ids w.0 bad.0 (all w.0 w.1) w.2)
     ]))
+
+-- the same of an answer
+pub IsFaultOf-answered : {T : Type 0} (a : Item) (ids : List ℕ) (r : Result T TextError) → ((p : ℕ) → Has ids p ↔ NeededIn a p)
+    → IfErr r (λ e. IsFaultAmong a.statements (roots_of a.ending ++ flat_map (uses_at a.statements) ids) e) → IfErr r (λ e. IsFaultOf a e)
+IsFaultOf-answered a ids (Ok text) n h = tt
+IsFaultOf-answered a ids (Err e) n h = IsFaultOf-among a ids e (λ p k. (n p).0 k) h

@@ -1,10 +1,21 @@
 //! Laws of the definitions that the contracts of this crate cite. No function here does anything.
 
-ghost use Rattle.std.specs.Prelude.{◌≡◌, ◌↔◌};
+ghost use Rattle.std.specs.Prelude.{◌≡◌, ◌↔◌, IsTrue};
 ghost use Rattle.souper_graph.specs.Values.{Item};
 ghost use Rattle.souper_graph.specs.WellFormed.{WellFormed};
-ghost use Rattle.souper_graph.specs.Order.{printed_order};
+ghost use Rattle.souper_graph.specs.Uses.{UsesBelow};
+ghost use Rattle.souper_graph.specs.Faults.{HasBadId};
+ghost use Rattle.souper_graph.specs.Order.{printed_order, uses_below};
 ghost use Rattle.souper_graph.specs.Sameness.{OrdersNeeded, SameGraph, SameNeeded, renumbered};
+
+/// A well-formed item names no bad id, and each use of a needed statement lies below it.
+///
+/// Whether the latter holds of an item, well formed or not, is told by the printed order.
+pub fn law_of_well_formedness()
+    ensures no_bad_id { (a : Item) → WellFormed a → ¬ HasBadId a }
+    ensures below { (a : Item) → WellFormed a → UsesBelow a }
+    ensures told { (a : Item) → IsTrue (uses_below a) ↔ UsesBelow a }
+{}
 
 /// Two well-formed items are renumbered to one value exactly where they are the same graph.
 ///

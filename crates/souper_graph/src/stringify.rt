@@ -3,13 +3,13 @@
 mod append;
 mod context;
 mod errors;
-mod marks;
-mod order;
-mod text;
 mod leaves;
 mod lines;
+mod marks;
 mod names;
 mod nodes;
+mod order;
+mod text;
 
 pub use context::DisplayWithContext;
 pub use errors::TextError;

@@ -1,7 +1,7 @@
 //! The canonical text of items.
 
-ghost use Rattle.std.specs.Prelude.{◌≡◌, ◌≤◌, ◌<◌, ◌++◌, length, flat_map, IfOk, IfErr, OnOk};
-ghost use Rattle.std.specs.Fmt.{DisplaysOnOk, DisplaysStyledOnOk, formatter_spec};
+ghost use Rattle.std.specs.Prelude.{◌≡◌, ◌≤◌, ◌++◌, length, flat_map, None, IfOk, IfErr, OnOk};
+ghost use Rattle.std.specs.Fmt.{DisplaysOnOk, DisplaysStyledOnOk};
 ghost use Rattle.souper_graph.specs.Shown.{ShowsLines};
 ghost use Rattle.std.specs.String.{string_bytes};
 ghost use Rattle.souper_graph.specs.Values.{Item};
@@ -93,7 +93,7 @@ impl fmt::Display for LeftHandSide {
 
     fn fmt<W: fmt::Write>(&self, f: &mut fmt::Formatter<W>) -> fmt::Result
         ensures writes { DisplaysOnOk W.write_str_gives f.old result (shown_text (view_left_hand_side self.now)) f.new }
-        ensures styled { DisplaysStyledOnOk W.write_str_gives f.old result (Self.styled_output self.now (formatter_spec f.old)) f.new }
+        ensures styled { DisplaysStyledOnOk W.write_str_gives f.old result None f.new }
         ensures lines { ShowsLines W.write_str_gives (view_left_hand_side self.now) f.old result f.new }
     {
         match self.to_text() {
@@ -112,7 +112,7 @@ impl fmt::Display for RightHandSide {
 
     fn fmt<W: fmt::Write>(&self, f: &mut fmt::Formatter<W>) -> fmt::Result
         ensures writes { DisplaysOnOk W.write_str_gives f.old result (shown_text (view_right_hand_side self.now)) f.new }
-        ensures styled { DisplaysStyledOnOk W.write_str_gives f.old result (Self.styled_output self.now (formatter_spec f.old)) f.new }
+        ensures styled { DisplaysStyledOnOk W.write_str_gives f.old result None f.new }
         ensures lines { ShowsLines W.write_str_gives (view_right_hand_side self.now) f.old result f.new }
     {
         match self.to_text() {
@@ -131,7 +131,7 @@ impl fmt::Display for Replacement {
 
     fn fmt<W: fmt::Write>(&self, f: &mut fmt::Formatter<W>) -> fmt::Result
         ensures writes { DisplaysOnOk W.write_str_gives f.old result (shown_text (view_replacement self.now)) f.new }
-        ensures styled { DisplaysStyledOnOk W.write_str_gives f.old result (Self.styled_output self.now (formatter_spec f.old)) f.new }
+        ensures styled { DisplaysStyledOnOk W.write_str_gives f.old result None f.new }
         ensures lines { ShowsLines W.write_str_gives (view_replacement self.now) f.old result f.new }
     {
         match self.to_text() {

@@ -1,0 +1,12 @@
+use Rattle.souper_graph.proofs.Closedness.{well_formed_below, well_formed_no_bad_id}
+use Rattle.souper_graph.proofs.Lower.{below_if_lower, lower_if_below}
+use Rattle.souper_graph.proofs.laws.law_of_well_formedness.Goals as goal
+
+pub returns-clause-no_bad_id : goal.returns-clause-no_bad_id
+returns-clause-no_bad_id c = well_formed_no_bad_id
+
+pub returns-clause-below : goal.returns-clause-below
+returns-clause-below c = well_formed_below
+
+pub returns-clause-told : goal.returns-clause-told
+returns-clause-told c = λ a. (below_if_lower a, lower_if_below a)
