@@ -15,6 +15,7 @@ pub mod Sameness
 pub mod Conditions
 pub mod Stack
 pub mod Ends
+pub mod Answered
 pub mod Bits
 pub mod Naming
 pub mod Lower
