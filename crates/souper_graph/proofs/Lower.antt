@@ -1,6 +1,10 @@
 -- Where the statements of the printed order use positions below them alone, all needed statements do.
 use Rattle.std.proofs.Common.{◌≡◌, ℕ, ◌<◌, ◌↔◌, inl, inr, List, [], ◌∷◌, Bool, true, false, refl, sym, ap, ◌∙◌, subst, arith, lt-ltb, le-ltb, nat_lt}
-use Rattle.std.specs.Prelude.{◌&&◌}
+use Rattle.std.specs.Prelude.{◌&&◌, Result, Some, None, if◌then◌else◌}
+use Rattle.std.specs.Fmt.{WritesOnOk, DisplaysOnOk}
+use Rattle.std.specs.declared.fmt.Error.{Error}
+use Rattle.std.specs.declared.fmt.Formatter.{Formatter}
+use Rattle.souper_graph.specs.Text.{text_of, shown_text}
 use Rattle.std.proofs.lemmas.Bool.{cases_lt}
 use Rattle.souper_graph.specs.Values.{PlainStatement, Item}
 use Rattle.souper_graph.specs.Uses.{Has, used_at, walks_of, Needed, walked, used, NeededIn, UsesBelow}
@@ -54,3 +58,14 @@ below_if_lower a e i u n h = use_from a.statements (printed_order a) i u e (need
 
 pub lower_if_below : (a : Item) → UsesBelow a → uses_below a ≡ true
 lower_if_below a b = use_to a.statements (printed_order a) (λ i u h k. b i u (printed-needed a.statements (walks_of a) i h) k)
+
+-- ---- what `Display` writes
+
+if_shown : {W : Type 0} (took : W → List ℕ → W → Type 0) (a : Item) (b : Bool) (text : List ℕ) (f g : Formatter W) (r : Result (Unit {0}) Error)
+    → (b ≡ true → text ≡ text_of a) → WritesOnOk took f r text g → DisplaysOnOk took f r (if b then Some (text_of a) else None) g
+if_shown took a true text f g r same h = subst (λ (x : List ℕ). WritesOnOk took f r x g) (same refl) h
+if_shown took a false text f g r same h = tt
+
+pub shown : {W : Type 0} (took : W → List ℕ → W → Type 0) (a : Item) (text : List ℕ) (f g : Formatter W) (r : Result (Unit {0}) Error)
+    → (UsesBelow a → text ≡ text_of a) → WritesOnOk took f r text g → DisplaysOnOk took f r (shown_text a) g
+shown took a text f g r same h = if_shown took a (uses_below a) text f g r (λ e. same (below_if_lower a e)) h
