@@ -12,7 +12,9 @@ fn variables(alloc: Global, names: &[&str]) -> Result<Arena<Statement>, AllocErr
     for name in names {
         let assignment = Assignment {
             name: String::from_str(alloc, name)?,
+            ty: None,
             value: AssignmentRhs::Var,
+            attributes: Vec::new(alloc),
         };
         statements.alloc(assignment.into())?;
     }
@@ -102,7 +104,10 @@ fn ids_convert_by_position(rt: HostRuntime) -> Result<(), Fail> {
 // Two variables with the root at the id.
 fn rooted(alloc: Global, id: Id<Statement>) -> Result<LeftHandSide, AllocError> {
     let statements = variables(alloc, &["%a", "%b"])?;
-    let infer = Infer { value: id.into() };
+    let infer = Infer {
+        value: id.into(),
+        attributes: Vec::new(alloc),
+    };
     Ok(LeftHandSide { statements, infer })
 }
 

@@ -4,11 +4,17 @@
 #[cfg(test)]
 mod arenas;
 #[cfg(test)]
+mod builders;
+#[cfg(test)]
+mod building;
+#[cfg(test)]
 mod commands;
 #[cfg(test)]
 mod cuts;
 #[cfg(test)]
 mod errors;
+#[cfg(test)]
+mod nodes;
 #[cfg(test)]
 mod parsers;
 #[cfg(test)]
@@ -17,5 +23,7 @@ mod runs;
 mod streams;
 #[cfg(test)]
 mod texts;
+#[cfg(test)]
+mod texts_of_graphs;
 #[cfg(test)]
 mod watched;

@@ -64,13 +64,21 @@ fn items_follow_one_another(rt: HostRuntime) -> Result<(), Fail> {
     tells(&rt, rt.alloc(), error, 34, "unexpected EOF")
 }
 
+// The name that a statement defines.
+fn defined(statement: &Statement) -> Option<&str> {
+    match statement {
+        Statement::Assignment(assignment) => Some(assignment.name.as_str()),
+        _ => None,
+    }
+}
+
 #[test]
 fn parts_alone_add_no_name(rt: HostRuntime) -> Result<(), Fail> {
     let mut parser = Parser::new(rt.alloc(), "%x = var %x = var infer %x");
     let assignment = Assignment::parse(&mut parser)?;
     assert_eq!(rt; assignment.name.as_str(), "%x");
-    let Statement::Assignment(assignment) = Statement::parse(&mut parser)?;
-    assert_eq!(rt; assignment.name.as_str(), "%x");
+    let statement = Statement::parse(&mut parser)?;
+    assert_eq!(rt; defined(&statement), Some("%x"));
     assert!(rt; Infer::peek(&mut parser)?);
     let error = Infer::parse(&mut parser).err();
     let unnamed = "no value named '%x' in scope";
@@ -79,11 +87,12 @@ fn parts_alone_add_no_name(rt: HostRuntime) -> Result<(), Fail> {
 
 #[test]
 fn each_type_is_parsed(rt: HostRuntime) -> Result<(), Fail> {
-    let AssignmentRhs::Var = parsed::<AssignmentRhs>(rt.alloc(), "var infer")?;
+    let rhs = parsed::<AssignmentRhs>(rt.alloc(), "var infer")?;
+    assert!(rt; matches!(rhs, AssignmentRhs::Var));
     let assignment = parsed::<Assignment>(rt.alloc(), "%x = var")?;
     assert_eq!(rt; assignment.name.as_str(), "%x");
-    let Statement::Assignment(assignment) = parsed::<Statement>(rt.alloc(), "%y = var %z")?;
-    assert_eq!(rt; assignment.name.as_str(), "%y");
+    let statement = parsed::<Statement>(rt.alloc(), "%y = var %z")?;
+    assert_eq!(rt; defined(&statement), Some("%y"));
     let item = parsed::<LeftHandSide>(rt.alloc(), "%x = var infer %x )")?;
     assert_eq!(rt; item.statements.len(), 1);
     Ok(())

@@ -1,0 +1,162 @@
+//! Arenas that tests build.
+use souper_ir::ast::{
+    Arena, Assignment, AssignmentRhs, Attribute, Block, BlockId, BlockPc, Cand, Constant, Id,
+    Infer, Instruction, LeftHandSide, Operand, Pc, Phi, Replacement, RightHandSide, Statement,
+    Type, ValueId,
+};
+use std::alloc::{AllocError, Global};
+
+// An arena that grows statement by statement.
+#[derive(Drop)]
+pub struct Graph {
+    pub statements: Arena<Statement>,
+    alloc: Global,
+}
+
+impl Graph {
+    pub fn new(alloc: Global) -> Self {
+        Graph {
+            statements: Arena::new(alloc),
+            alloc,
+        }
+    }
+
+    // The assignment of any right side.
+    pub fn assign(
+        &mut self,
+        name: &str,
+        ty: Option<Type>,
+        value: AssignmentRhs,
+        attributes: Vec<Attribute>,
+    ) -> Result<ValueId, AllocError> {
+        let name = String::from_str(self.alloc, name)?;
+        let assignment = Assignment {
+            name,
+            ty,
+            value,
+            attributes,
+        };
+        let id = self.statements.alloc(assignment.into())?;
+        Ok(id.into())
+    }
+
+    pub fn rhs(&mut self, name: &str, value: AssignmentRhs) -> Result<ValueId, AllocError> {
+        let attributes = Vec::new(self.alloc);
+        self.assign(name, None, value, attributes)
+    }
+
+    pub fn var(&mut self, name: &str) -> Result<ValueId, AllocError> {
+        self.rhs(name, AssignmentRhs::Var)
+    }
+
+    pub fn typed_var(&mut self, name: &str, width: u16) -> Result<ValueId, AllocError> {
+        let attributes = Vec::new(self.alloc);
+        self.assign(name, Some(Type { width }), AssignmentRhs::Var, attributes)
+    }
+
+    pub fn block(&mut self, name: &str, predecessors: u32) -> Result<BlockId, AllocError> {
+        let id = self.rhs(name, Block { predecessors }.into())?;
+        Ok(Id::from(id).into())
+    }
+
+    pub fn phi(
+        &mut self,
+        name: &str,
+        block: BlockId,
+        values: &[Operand],
+    ) -> Result<ValueId, AllocError> {
+        let values = Vec::from_slice(self.alloc, values)?;
+        self.rhs(name, Phi { block, values }.into())
+    }
+
+    pub fn add(&mut self, name: &str, a: Operand, b: Operand) -> Result<ValueId, AllocError> {
+        self.rhs(name, Instruction::Add { a, b }.into())
+    }
+
+    pub fn instruction(
+        &mut self,
+        name: &str,
+        instruction: Instruction,
+    ) -> Result<ValueId, AllocError> {
+        self.rhs(name, instruction.into())
+    }
+
+    pub fn pc(&mut self, x: Operand, y: Operand) -> Result<(), AllocError> {
+        self.statements.alloc(Pc { x, y }.into())?;
+        Ok(())
+    }
+
+    pub fn block_pc(
+        &mut self,
+        block: BlockId,
+        predecessor: u32,
+        x: Operand,
+        y: Operand,
+    ) -> Result<(), AllocError> {
+        let block_pc = BlockPc {
+            block,
+            predecessor,
+            x,
+            y,
+        };
+        self.statements.alloc(block_pc.into())?;
+        Ok(())
+    }
+
+    pub fn infer(self, value: ValueId) -> LeftHandSide {
+        let attributes = Vec::new(self.alloc);
+        LeftHandSide {
+            statements: self.statements,
+            infer: Infer { value, attributes },
+        }
+    }
+
+    pub fn result(self, root: Operand) -> RightHandSide {
+        RightHandSide {
+            statements: self.statements,
+            result: root,
+        }
+    }
+
+    pub fn replaced(self, value: ValueId, rhs: Operand) -> Replacement {
+        let attributes = Vec::new(self.alloc);
+        Replacement::LhsRhs {
+            statements: self.statements,
+            lhs: Infer { value, attributes },
+            rhs,
+        }
+    }
+
+    pub fn cand(self, lhs: Operand, rhs: Operand) -> Replacement {
+        let attributes = Vec::new(self.alloc);
+        Replacement::Cand {
+            statements: self.statements,
+            cand: Cand {
+                lhs,
+                rhs,
+                attributes,
+            },
+        }
+    }
+}
+
+// A constant without a type.
+pub fn number(value: i128) -> Operand {
+    Constant { value, ty: None }.into()
+}
+
+// A constant of a type.
+pub fn typed(value: i128, width: u16) -> Operand {
+    let ty = Some(Type { width });
+    Constant { value, ty }.into()
+}
+
+// The id of the position, of an arena that is not at hand.
+pub fn foreign_id(alloc: Global, index: usize) -> Result<ValueId, AllocError> {
+    let mut other = Graph::new(alloc);
+    let mut id = other.var("%0")?;
+    for _ in 0..index {
+        id = other.var("%0")?;
+    }
+    Ok(id)
+}
