@@ -1,5 +1,5 @@
 -- Marks as bits of words.
-use Rattle.std.proofs.Common.{◌≡◌, ◌≢◌, ℕ, ◌+◌, ◌*◌, ◌/◌, ◌%◌, ◌^◌, ◌<◌, ◌≤◌, inl, inr, length, List, Bool, true, false, nat_eq, refl, sym, ap, ◌∙◌, subst, get_or, arith, bit_and, bit_or, w64, map, get_or-set_same, get_or-set_other, zero-add}
+use Rattle.std.proofs.Common.{◌≡◌, ◌≢◌, ℕ, ◌*◌, ◌/◌, ◌%◌, ◌^◌, ◌<◌, ◌≤◌, inl, inr, length, List, Bool, true, false, nat_eq, sym, ap, ◌∙◌, get_or, arith, bit_and, bit_or, w64, get_or-set_same, get_or-set_other}
 use Rattle.std.proofs.Math.ListN.{replicate, set, length-set, length-replicate}
 use Rattle.std.proofs.lemmas.List.{get_or_read, get_or-replicate}
 use Rattle.std.proofs.lemmas.List.FromFn.{length-map-range_with_len, get_or-map-range_with_len, fill_by_all}

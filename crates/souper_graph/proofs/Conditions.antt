@@ -1,5 +1,5 @@
 -- The path conditions of a list of statements, found one by one.
-use Rattle.std.proofs.Common.{◌≡◌, ℕ, zero, suc, ◌+◌, ◌<◌, ◌≤◌, ◌++◌, ◌⊎◌, ◌↔◌, inl, inr, length, map, List, [], ◌∷◌, Bool, true, false, cond, not, IsTrue, refl, sym, ap, ◌∙◌, subst, append_assoc, append-nil, arith, take, Some, None, slice_get}
+use Rattle.std.proofs.Common.{◌≡◌, ℕ, zero, suc, ◌+◌, ◌<◌, ◌++◌, ◌⊎◌, ◌↔◌, inl, inr, length, map, List, [], ◌∷◌, Bool, true, false, cond, IsTrue, refl, sym, ap, ◌∙◌, append_assoc, append-nil, arith, take, Some, None, slice_get}
 use Rattle.std.proofs.lemmas.List.{map-append}
 use Rattle.std.proofs.lemmas.Option.{slice_get-map, slice_get_cases}
 use Rattle.std.specs.Option.{option_map}

@@ -1,6 +1,6 @@
 -- The work stack's loops: what each turn does to a run, and what a run that is over says of the item.
-use Rattle.std.proofs.Common.{◌≡◌, ℕ, ◌+◌, ◌<◌, ◌≤◌, ◌++◌, ◌-◌, ◌^◌, ◌↔◌, ◌⊎◌, inl, inr, min, length, map, reverse, List, [], ◌∷◌, Bool, true, false, refl, sym, ap, ◌∙◌, subst, get_or, arith, length-append, append-nil, append_assoc, take, drop, take-append-drop, Some, slice_get}
-use Rattle.std.proofs.Math.ListN.{replicate, set, length-set, length-replicate}
+use Rattle.std.proofs.Common.{◌≡◌, ℕ, ◌+◌, ◌<◌, ◌≤◌, ◌++◌, ◌-◌, ◌^◌, ◌↔◌, ◌⊎◌, inl, inr, min, length, map, reverse, List, [], ◌∷◌, Bool, true, false, refl, sym, ap, ◌∙◌, subst, get_or, arith, length-append, append-nil, take, drop, take-append-drop, Some, slice_get}
+use Rattle.std.proofs.Math.ListN.{replicate, set}
 use Rattle.std.proofs.Math.Seq.{take-append_seam}
 use Rattle.std.proofs.lemmas.List.{reverse-append, length-map, map-append, length_push, length-reverse, take_more, take_all}
 use Rattle.std.proofs.lemmas.Option.{slice_get-map, slice_get_within}
@@ -15,16 +15,16 @@ use Rattle.souper_graph.specs.declared.stringify.order.Entry.{Entry}
 use Rattle.souper_graph.specs.declared.stringify.order.Entry.TheVariants.{Trace, Finished}
 use Rattle.souper_graph.specs.Values.{PlainStatement, Item}
 use Rattle.souper_graph.specs.View.{view_statement}
-use Rattle.souper_graph.specs.Uses.{Has, Use, value_use, block_use, position_of, uses_of, uses_of_optional, uses_at, used_at, Needed, conditions, first_roots, last_roots, roots_of, first_walks, walks_of, NeededIn, UsesBelow}
-use Rattle.souper_graph.specs.Order.{Distinct, EachAfterItsUses, cost, order_of_walks, turns_of, lead_of, printed_order}
-use Rattle.souper_graph.specs.Faults.{IsAssigned, IsBlock, IsMet, NamedIn, HasBadId, IsFaultOf}
+use Rattle.souper_graph.specs.Uses.{Has, Use, value_use, block_use, position_of, uses_of, uses_of_optional, uses_at, used_at, Needed, conditions, first_roots, last_roots, roots_of, first_walks, walks_of, NeededIn}
+use Rattle.souper_graph.specs.Order.{Distinct, EachAfterItsUses, cost, order_of_walks}
+use Rattle.souper_graph.specs.Faults.{IsMet, NamedIn, HasBadId, IsFaultOf}
 use Rattle.souper_graph.specs.Walks.{position_of_target, target_of, IsMetTarget, IsFaultAt, first_targets, targets_of, IsWalkedBy, IsOrderOf}
 use Rattle.souper_graph.proofs.Lists.{Has-left, Has-right, Has-cases, Has-none, Has-here, Has-map, Has-mapped}
 use Rattle.souper_graph.proofs.Conditions.{conditions-inside}
-use Rattle.souper_graph.proofs.Run.{Below, Reached, work, work-set}
+use Rattle.souper_graph.proofs.Run.{Below, work, work-set}
 use Rattle.souper_graph.proofs.Needs.{kept, over, needed_held, needed_more}
 use Rattle.souper_graph.proofs.Orders.{over_printed, over_after}
-use Rattle.souper_graph.proofs.Stack.{step_of, positions, traces_of, use_position, IsNamed, Judged, Running, running_start, running_walk, running_dropped, running_finished, running_entered}
+use Rattle.souper_graph.proofs.Stack.{positions, traces_of, use_position, Running, running_start, running_walk, running_dropped, running_finished, running_entered}
 
 -- the turns of the loops
 

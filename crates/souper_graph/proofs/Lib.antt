@@ -9,4 +9,5 @@ pub mod Orders
 pub mod Conditions
 pub mod Stack
 pub mod Ends
+pub mod Answered
 pub mod Bits

@@ -1,20 +1,16 @@
 -- The runs of the code's work stack: runs over positions, on which each target that left the stack was met.
-use Rattle.std.proofs.Common.{◌≡◌, ℕ, zero, suc, ◌+◌, ◌<◌, ◌≤◌, ◌++◌, ◌-◌, ◌^◌, ◌⊎◌, inl, inr, min, length, map, reverse, List, [], ◌∷◌, Bool, true, false, refl, sym, ap, ◌∙◌, subst, get_or, arith, length-append, append-nil, take, Some, slice_get, get_or-set_same, get_or-set_other}
+use Rattle.std.proofs.Common.{◌≡◌, ℕ, ◌+◌, ◌<◌, ◌++◌, ◌-◌, ◌^◌, ◌⊎◌, inl, inr, min, length, map, List, [], ◌∷◌, Bool, true, false, refl, sym, ap, ◌∙◌, subst, get_or, arith, get_or-set_same, get_or-set_other}
 use Rattle.std.proofs.Math.ListN.{replicate, set, length-set, length-replicate}
-use Rattle.std.proofs.lemmas.List.{reverse-append, length-map, map-append, length_push, length-reverse, get_or-replicate, get_or_past}
-use Rattle.std.proofs.lemmas.Option.{slice_get-map, slice_get_within}
+use Rattle.std.proofs.lemmas.List.{map-append, get_or-replicate, get_or_past}
 use Rattle.std.proofs.lemmas.Bool.{cases_lt, cases_eq}
-use Rattle.std.specs.Option.{option_map}
-use Rattle.souper_graph.specs.declared.ast.statements.Statement.{Statement}
 use Rattle.souper_graph.specs.declared.stringify.order.Target.{Target}
 use Rattle.souper_graph.specs.declared.stringify.order.Entry.{Entry}
 use Rattle.souper_graph.specs.declared.stringify.order.Entry.TheVariants.{Trace, Finished}
 use Rattle.souper_graph.specs.Values.{PlainStatement}
-use Rattle.souper_graph.specs.View.{view_statement}
-use Rattle.souper_graph.specs.Uses.{Has, Use, value_use, block_use, position_of, uses_of, uses_of_optional, uses_at, used_at, Needed}
+use Rattle.souper_graph.specs.Uses.{Has, Use, value_use, block_use, position_of, uses_at}
 use Rattle.souper_graph.specs.Walks.{position_of_target, target_of, IsMetTarget}
 use Rattle.souper_graph.proofs.Lists.{Has-left, Has-right, Has-cases, Has-none, Has-here, Has-later, Has-head, Has-map, Has-mapped}
-use Rattle.souper_graph.proofs.Run.{Step, trace, finish, Reached, start, walk, dropped, entered, finished, work, work-set}
+use Rattle.souper_graph.proofs.Run.{Step, trace, finish, Reached, start, walk, dropped, entered, finished, work}
 
 -- an entry, and a list of targets, as positions
 abbrev pub step_of : Entry → Step

@@ -224,10 +224,7 @@ fn order_of(statements: &Arena<Statement>, walks: &Walks) -> Result<Order, TextE
 }
 
 // The statement that the target names, where it is what the target asks for.
-fn judged<'a>(
-    statements: &'a Arena<Statement>,
-    target: &Target,
-) -> Result<&'a Statement, TextError>
+fn judged<'a>(statements: &'a Arena<Statement>, target: &Target) -> Result<&'a Statement, TextError>
     ensures there { IfOk result (λ statement. slice_get statements.now (position_of_target target.now) ≡ Some statement.now) }
     ensures met { OnOk result (IsMetTarget (map view_statement statements.now) target.now) }
     ensures err { IfErr result (λ error. IsFaultAt (map view_statement statements.now) target.now error) }
@@ -293,9 +290,7 @@ fn push_uses_of_rhs(stack: &mut Vec<Entry>, rhs: &AssignmentRhs) -> Result<(), T
             push_operands(stack, &phi.values)?;
             Ok(stack.push(Entry::Trace(Target::Block(phi.block)))?)
         }
-        AssignmentRhs::Instruction(instruction) => {
-            push_operands(stack, &instruction.operands())
-        }
+        AssignmentRhs::Instruction(instruction) => { push_operands(stack, &instruction.operands()) }
     }
 }
 
