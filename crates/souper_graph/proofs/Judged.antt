@@ -1,15 +1,15 @@
 -- From what the judges answer to when an item is well formed, and back.
-use Rattle.std.proofs.Common.{◌≡◌, ℕ, zero, suc, ◌+◌, ◌<◌, ◌≤◌, ◌⊎◌, inl, inr, ◌++◌, ◌∙◌, ◌↔◌, length, map, get_or, take, List, [], ◌∷◌, Option, Some, None, Bool, true, false, Result, Ok, Err, refl, sym, ap, subst, arith, rules}
-use Rattle.std.specs.Prelude.{slice_get, IsTrue, IfOk, IfErr, MatchResult}
+use Rattle.std.proofs.Common.{◌≡◌, ℕ, zero, suc, ◌<◌, ◌≤◌, inl, inr, ◌++◌, ◌↔◌, length, map, get_or, take, List, [], ◌∷◌, Option, Some, None, refl, sym, subst, arith, rules}
+use Rattle.std.specs.Prelude.{slice_get}
 use Rattle.std.proofs.lemmas.List.{take_all}
-use Rattle.std.specs.List.{AllByRecursion, flat_map}
+use Rattle.std.specs.List.{AllByRecursion}
 use Rattle.souper_graph.specs.declared.ast.operands.Operand.{Operand}
 use Rattle.souper_graph.specs.declared.stringify.errors.TextError.{TextError}
 use Rattle.souper_graph.specs.declared.stringify.errors.TextError.TheVariants.{OutOfRange, NotAnAssignment, NotABlock, OutOfMemory}
 use Rattle.souper_graph.specs.Values.{PlainStatement, Item}
-use Rattle.souper_graph.specs.Uses.{Has, Use, value_use, block_use, position_of, uses_of, uses_of_optional, uses_of_operand, uses_of_operands, uses_at, roots_of, NeededIn}
+use Rattle.souper_graph.specs.Uses.{Has, Use, value_use, block_use, uses_of, uses_of_optional, uses_of_operand, uses_of_operands, roots_of, NeededIn}
 use Rattle.souper_graph.specs.Faults.{IsAssigned, IsBlock, IsMet, AreMet, NamedIn, IsFaultOf}
-use Rattle.souper_graph.specs.WellFormed.{Closed, AreNamedApart, WellFormed}
+use Rattle.souper_graph.specs.WellFormed.{Closed, WellFormed}
 use Rattle.souper_graph.specs.Judging.{IsMetBelow, AreMetBelow, MayStand, MayStandAt, StandsEnding, AllStand}
 
 -- what holds of each image holds of that of the element at i

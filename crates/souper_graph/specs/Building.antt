@@ -1,11 +1,9 @@
 -- What the builders add to their arenas, and what they ask for.
-use Rattle.std.specs.Prelude.{◌≡◌, ℕ, List, ◌∷◌, [], map, decimal, Option, Some, None, slice_get}
+use Rattle.std.specs.Prelude.{◌≡◌, ℕ, List, ◌∷◌, decimal, Option, Some, None, slice_get}
 use Rattle.std.specs.declared.alloc.Global.{Global}
 use Rattle.std.specs.declared.string.String.{String}
 use Rattle.std.specs.String.{string_bytes}
-use Rattle.souper_graph.specs.declared.ast.attributes.Attribute.{Attribute}
 use Rattle.souper_graph.specs.declared.ast.operands.«Type».{«Type» as Ty}
-use Rattle.souper_graph.specs.declared.ast.statements.AssignmentRhs.{AssignmentRhs}
 use Rattle.souper_graph.specs.declared.ast.statements.Statement.{Statement}
 use Rattle.souper_graph.specs.declared.ast.items.Replacement.{Replacement}
 use Rattle.souper_graph.specs.declared.ast.items.Replacement.TheVariants.{LhsRhs, Cand}

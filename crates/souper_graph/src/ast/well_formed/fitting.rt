@@ -50,7 +50,7 @@ fn attribute_fits(attribute: &Attribute) -> bool
         | Attribute::NonZero
         | Attribute::HasExternalUses => true,
 
-        // Each number of their types fits: a read tells the proof that they are such.
+        // Any number of its type fits. The read tells the proof that it is one.
         Attribute::SignBits(count) => {
             let _count = *count;
             true
@@ -100,6 +100,7 @@ fn rhs_fits(value: &AssignmentRhs) -> bool
     match value {
         AssignmentRhs::Phi(phi) => operands_fit(phi.values.as_slice()),
         AssignmentRhs::Instruction(instruction) => operands_fit(instruction.operands().as_slice()),
+        // Any count of its type fits. The read tells the proof that it is one.
         AssignmentRhs::Block(block) => {
             let _predecessors = block.predecessors;
             true
@@ -149,6 +150,7 @@ pub(crate) fn statement_fits(statement: &Statement) -> bool
     match statement {
         Statement::Assignment(assignment) => assignment_fits(assignment),
         Statement::Pc(pc) => operand_fits(pc.x) && operand_fits(pc.y),
+        // Any predecessor fits by itself. The read tells the proof that it is a number of its type.
         Statement::BlockPc(block_pc) => {
             let _predecessor = block_pc.predecessor;
             operand_fits(block_pc.x) && operand_fits(block_pc.y)
