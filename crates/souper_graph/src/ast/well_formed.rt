@@ -11,8 +11,6 @@ ghost use Rattle.souper_graph.specs.Judging.{AllStand};
 mod apart;
 mod closed;
 mod fitting;
-#[cfg(test)]
-mod tests;
 
 use crate::ast::arenas::Arena;
 use crate::ast::ids::Id;
