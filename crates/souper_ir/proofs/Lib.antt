@@ -12,8 +12,3 @@ pub mod Lists
 pub mod Names
 pub mod Placing
 pub mod Failing
-pub mod Stating
-pub mod ItemLists
-pub mod Viewing
-pub mod TextItems
-pub mod WellFormedItems
