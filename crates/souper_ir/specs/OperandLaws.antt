@@ -326,7 +326,7 @@ operands_sound (suc k) p q xs live e =
     let k2 = further_behind k y.0.1 ys.0.1 y.0.0 ys.0.0 (live_still p y.0.1 y2.0 y2.1) y2.3 ys.1 in
     let there : further_spells p.scope ys.0.0 k2.0 = subst (λ (s : Scope). further_spells s ys.0.0 k2.0) (scope_is p y.0.1 y2.0 y2.1) k2.2 in
     moved (λ (r : List Operand × Parsing). (used : List Lexeme) × Takes p r.1 used × operands_spells p.scope r.0 used × (length r.0 ≡ suc k) × Free (operands_continue r.0) (kinds r.1.tokens)) (y.0.0 ∷ ys.0.0, ys.0.1) (xs, q) ys.2
-      (y2.0 ++ k2.0, Takes-then p y.0.1 ys.0.1 y2.0 k2.0 y2.1 k2.1, (y2.0, k2.0, refl, y2.2, there), ap suc k2.3, k2.4)
+      (y2.0 ++ k2.0, Takes-then p y.0.1 ys.0.1 y2.0 k2.0 y2.1 k2.1, (y2.0, k2.0, refl {a = y2.0 ++ k2.0}, y2.2, there), ap suc k2.3, k2.4)
 
 operands_are : (p y q : Parsing) (x : Operand) (xs : List Operand) → operand_at p ≡ Some (x, y) → further_at (length xs) y ≡ Some (xs, q) → operands_at (suc (length xs)) p ≡ Some (x ∷ xs, q)
 operands_are p y q x xs d e = rw (d, e) refl
