@@ -12,3 +12,4 @@ pub mod Lists
 pub mod Names
 pub mod Placing
 pub mod Failing
+pub mod Operands
