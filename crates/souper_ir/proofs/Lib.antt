@@ -12,3 +12,5 @@ pub mod Lists
 pub mod Names
 pub mod Placing
 pub mod Failing
+pub mod Numerals
+pub mod BitLists
