@@ -2,6 +2,7 @@
 
 ghost use Rattle.std.specs.Prelude.{◌≡◌, None, IfOk, refl};
 ghost use Rattle.souper_ir.specs.Reading.{Gives};
+ghost use Rattle.souper_ir.specs.OperandLaws.{constant_complete, constant_first};
 ghost use Rattle.souper_ir.specs.NodeReadings.{type_at, optional_type_at, constant_at, operand_at, further_at, operands_at};
 
 use crate::lexer::Token;
