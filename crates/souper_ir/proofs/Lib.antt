@@ -13,3 +13,5 @@ pub mod Names
 pub mod Placing
 pub mod Failing
 pub mod Operands
+pub mod Numerals
+pub mod BitLists

@@ -1,7 +1,9 @@
 //! The numbers, widths and bit lists that words spell.
 
 ghost use Rattle.std.specs.Prelude.{◌≡◌, ◌^◌, Some, None, MatchResult, IfOk, option_map};
-ghost use Rattle.souper_ir.specs.Numbers.{number_of, count_of, width_of, bits_of, known_bits_of};
+ghost use Rattle.std.specs.Char.{is_ascii_digit};
+ghost use Rattle.std.specs.List.{list_all};
+ghost use Rattle.souper_ir.specs.Numbers.{number_of, count_of, width_of, bit_of, known_bit_of, bits_of, known_bits_of};
 
 use std::alloc::{AllocError, Global};
 use std::num::IntErrorKind;
@@ -47,12 +49,18 @@ pub(crate) fn small_count(word: &str) -> Result<u8, IntErrorKind>
     }
 }
 
+fn are_digits(text: &str) -> bool
+    ensures { result ≡ list_all is_ascii_digit text.now }
+{
+    text.bytes().all(|byte| byte.is_ascii_digit())
+}
+
 /// The width that a word spells: `i` and digits of 1 to 65535.
 pub(crate) fn width(word: &str) -> Option<u16>
     ensures { result ≡ width_of word.now }
 {
-    let digits = word.strip_prefix("i")?;
-    if !digits.bytes().all(|byte| byte.is_ascii_digit()) {
+    let digits = word.strip_prefix('i')?;
+    if !are_digits(digits) {
         return None;
     }
     match digits.parse::<u16>() {
@@ -62,16 +70,36 @@ pub(crate) fn width(word: &str) -> Option<u16>
     }
 }
 
+fn bit(byte: u8) -> Option<bool>
+    ensures { result ≡ bit_of byte }
+{
+    match byte {
+        b'0' => Some(false),
+        b'1' => Some(true),
+        _ => None,
+    }
+}
+
+fn known_bit(byte: u8) -> Option<Option<bool>>
+    ensures { result ≡ known_bit_of byte }
+{
+    match byte {
+        b'x' => Some(None),
+        b'0' => Some(Some(false)),
+        b'1' => Some(Some(true)),
+        _ => None,
+    }
+}
+
 /// The entries of a pattern of `0` and `1`, or `None` where it is empty or has another character.
 pub(crate) fn bits(alloc: Global, pattern: &str) -> Result<Option<Vec<bool>>, AllocError>
     ensures { IfOk result (λ bits. option_map (λ v. v.items) bits ≡ bits_of pattern.now) }
 {
     let mut bits = Vec::new(alloc);
     for byte in pattern.as_bytes() {
-        match byte {
-            b'0' => bits.push(false)?,
-            b'1' => bits.push(true)?,
-            _ => return Ok(None),
+        match bit(*byte) {
+            Some(bit) => bits.push(bit)?,
+            None => return Ok(None),
         }
     }
     Ok(if bits.is_empty() { None } else { Some(bits) })
@@ -86,11 +114,9 @@ pub(crate) fn known_bits(
 {
     let mut bits = Vec::new(alloc);
     for byte in pattern.as_bytes() {
-        match byte {
-            b'x' => bits.push(None)?,
-            b'0' => bits.push(Some(false))?,
-            b'1' => bits.push(Some(true))?,
-            _ => return Ok(None),
+        match known_bit(*byte) {
+            Some(bit) => bits.push(bit)?,
+            None => return Ok(None),
         }
     }
     Ok(if bits.is_empty() { None } else { Some(bits) })

@@ -1,12 +1,12 @@
 //! A parser with one token of lookahead.
 ghost use Rattle.std.specs.Prelude.{◌≡◌, ◌≤◌, ◌++◌, ◌∷◌, [], length, map, ℕ, List, true, false, Some, None, IfOk, OnOk, OnErr, IfErr, IsOk, option_map, is_some, ◌≢◌};
 ghost use Rattle.std.specs.String.{string_bytes};
-ghost use Rattle.souper_graph.specs.View.{view_statement, view_assignment};
+ghost use Rattle.souper_graph.specs.View.{view_rhs, view_statement, view_assignment};
 ghost use Rattle.souper_graph.specs.Values.{assigned};
 ghost use Rattle.souper_ir.specs.Tokens.{Lexeme, AreTokensOf, IsTextOf};
 ghost use Rattle.souper_ir.specs.TokenView.{lexeme_of};
 ghost use Rattle.souper_graph.specs.Uses.{is_condition};
-ghost use Rattle.souper_ir.specs.Spelling.{entry_of, position_of};
+ghost use Rattle.souper_ir.specs.Spelling.{ways_of, entry_of, position_of};
 ghost use Rattle.souper_ir.specs.Parsing.{Cause, refused, no_memory};
 ghost use Rattle.souper_ir.specs.FailureView.{cause_of_failure};
 ghost use Rattle.souper_ir.specs.Reading.{Fails, FailsForMemory, Gives, look_at, take_at};
@@ -182,6 +182,16 @@ impl<'a> Parser<'a> {
     }
 }
 
+// How many ways lead into a block.
+fn ways(rhs: &AssignmentRhs) -> Option<u32>
+    ensures { result ≡ ways_of (view_rhs rhs.now) }
+{
+    match rhs {
+        AssignmentRhs::Block(block) => Some(block.predecessors),
+        _ => None,
+    }
+}
+
 impl<'a> Parser<'a> {
     /// The value that a name stands for, and the number of ways into it where it is that of a block.
     pub(crate) fn entry(&self, name: &str) -> Option<(ValueId, Option<u32>)>
@@ -210,10 +220,7 @@ impl<'a> Parser<'a> {
         ensures ok { OnOk result (self.new ≡ record self.old { scope = self.old.scope ++ assigned (view_assignment assignment) ∷ [] }) }
         ensures err { IfErr result (λ error. FailsForMemory error self.old self.new) }
     {
-        let ways = match &assignment.value {
-            AssignmentRhs::Block(block) => Some(block.predecessors),
-            _ => None,
-        };
+        let ways = ways(&assignment.value);
         let id = match self.statements.alloc(assignment.into()) {
             Ok(id) => id,
             Err(_) => {

@@ -1,18 +1,23 @@
 //! Right sides: blocks, phis and instructions.
 
-ghost use Rattle.std.specs.Prelude.{◌≡◌, ◌≤◌, None, codes};
+ghost use Rattle.std.specs.Prelude.{◌≡◌, None, codes, refl};
 ghost use Rattle.souper_graph.specs.View.{view_phi, view_rhs};
 ghost use Rattle.souper_ir.specs.Reading.{Gives};
-ghost use Rattle.souper_ir.specs.NodeReadings.{further_at, operands_at, block_at, block_name_at, phi_at, instruction_at, rhs_at};
+ghost use Rattle.souper_ir.specs.Grammar.{peek_at};
+ghost use Rattle.souper_ir.specs.Spelling.{block_spells, phi_spells, instruction_spells, rhs_spells};
+ghost use Rattle.souper_ir.specs.Continuation.{phi_continues, instruction_continues, rhs_continues};
+ghost use Rattle.souper_ir.specs.NodeReadings.{is_word, starts_instruction, block_at, block_name_at, phi_at, instruction_at, rhs_at};
+ghost use Rattle.souper_ir.specs.Readings.{one_alone};
+ghost use Rattle.souper_ir.specs.RhsLaws.{block_complete, block_first, phi_complete, phi_first, instruction_complete, instruction_first, rhs_complete};
 
 use crate::lexer::Token;
 use crate::parse::message::Message;
-use crate::parse::operands::operand;
+use crate::parse::operands::{further, operands};
 use crate::parse::parser::{Parser, Result};
-use crate::parse::tokens::{keyword, punctuation, value_name, way_count, Mark};
+use crate::parse::tokens::{keyword, value_name, way_count, word_comes};
+use crate::parse::traits::{Parse, Peek};
 use crate::parse::words::{instruction_with, operand_count};
-use arrayvec::ArrayVec;
-use souper_graph::ast::{AssignmentRhs, Block, BlockId, Id, Instruction, Operand, Phi};
+use souper_graph::ast::{AssignmentRhs, Block, BlockId, Id, Instruction, Phi};
 
 #[tactic(auto, unfolding(crate::specs::NodeReadings::block_at))]
 pub(crate) fn block(parser: &mut Parser<'_>) -> Result<Block>
@@ -35,22 +40,6 @@ pub(crate) fn block_name<'a>(parser: &mut Parser<'a>) -> Result<(BlockId, u32, &
     }
 }
 
-// So many operands, each behind a comma.
-fn further(parser: &mut Parser<'_>, count: u32) -> Result<Vec<Operand>>
-    ensures { Gives (λ v. v.items) result (further_at count parser.old) parser.old parser.new }
-{
-    let mut operands = Vec::new(parser.alloc());
-    for _ in 0..count {
-        punctuation(parser, Mark::Comma)?;
-        let operand = operand(parser)?;
-        match operands.push(operand) {
-            Ok(()) => {}
-            Err(_) => return Err(parser.want_memory()),
-        }
-    }
-    Ok(operands)
-}
-
 #[tactic(auto, unfolding(crate::specs::NodeReadings::phi_at))]
 pub(crate) fn phi(parser: &mut Parser<'_>) -> Result<Phi>
     ensures { Gives view_phi result (phi_at parser.old) parser.old parser.new }
@@ -59,21 +48,6 @@ pub(crate) fn phi(parser: &mut Parser<'_>) -> Result<Phi>
     let (block, ways, _) = block_name(parser)?;
     let values = further(parser, ways)?;
     Ok(Phi { block, values })
-}
-
-// So many operands with commas between them.
-fn operands(parser: &mut Parser<'_>, count: usize) -> Result<ArrayVec<Operand, 3>>
-    requires { count ≤ 3 }
-    ensures { Gives (λ v. v.items) result (operands_at count parser.old) parser.old parser.new }
-{
-    let mut operands = ArrayVec::new();
-    for index in 0..count {
-        if index > 0 {
-            punctuation(parser, Mark::Comma)?;
-        }
-        operands.push(operand(parser)?);
-    }
-    Ok(operands)
 }
 
 #[tactic(auto, unfolding(crate::specs::NodeReadings::instruction_at))]
@@ -121,5 +95,102 @@ pub(crate) fn rhs(parser: &mut Parser<'_>) -> Result<AssignmentRhs>
             Ok(AssignmentRhs::Instruction(instruction(parser)?))
         }
         _ => Err(parser.refuse(Message::ExpectedRhs)),
+    }
+}
+
+impl Parse for Block {
+    ghost spells = { λ s. block_spells };
+
+    ghost continues = { λ b t. ⊥ };
+
+    ghost alike = { λ v w. v ≡ w };
+
+    ghost alone = { one_alone (λ s. block_spells) (λ b t. ⊥) block_at (λ b. b) block_complete };
+
+    fn parse<'a>(parser: &mut Parser<'a>) -> Result<Self> {
+        block(parser)
+    }
+}
+
+impl Peek for Block {
+    ghost starts = { is_word (codes "block") };
+
+    ghost first = { block_first };
+
+    ghost stays = { λ s. refl };
+
+    fn peek<'a>(parser: &mut Parser<'a>) -> Result<bool> {
+        word_comes(parser, "block")
+    }
+}
+
+/// Its name has to stand for a block in scope, and it has a value for each way into that.
+impl Parse for Phi {
+    ghost spells = { λ s v ts. phi_spells s (view_phi v) ts };
+
+    ghost continues = { λ v t. phi_continues (view_phi v) t };
+
+    ghost alike = { λ v w. view_phi v ≡ view_phi w };
+
+    ghost alone = { one_alone phi_spells phi_continues phi_at view_phi phi_complete };
+
+    fn parse<'a>(parser: &mut Parser<'a>) -> Result<Self> {
+        phi(parser)
+    }
+}
+
+impl Peek for Phi {
+    ghost starts = { is_word (codes "phi") };
+
+    ghost first = { λ s v ts h. phi_first s (view_phi v) ts h };
+
+    ghost stays = { λ s. refl };
+
+    fn peek<'a>(parser: &mut Parser<'a>) -> Result<bool> {
+        word_comes(parser, "phi")
+    }
+}
+
+impl Parse for Instruction {
+    ghost spells = { instruction_spells };
+
+    ghost continues = { instruction_continues };
+
+    ghost alike = { λ v w. v ≡ w };
+
+    ghost alone = { one_alone instruction_spells instruction_continues instruction_at (λ i. i) instruction_complete };
+
+    fn parse<'a>(parser: &mut Parser<'a>) -> Result<Self> {
+        instruction(parser)
+    }
+}
+
+impl Peek for Instruction {
+    ghost starts = { starts_instruction };
+
+    ghost first = { instruction_first };
+
+    ghost stays = { λ s. refl };
+
+    #[tactic(auto, unfolding(crate::specs::Grammar::peek_at))]
+    fn peek<'a>(parser: &mut Parser<'a>) -> Result<bool> {
+        match parser.lookahead()? {
+            Some(Token::Ident(word)) => Ok(operand_count(word).is_some()),
+            _ => Ok(false),
+        }
+    }
+}
+
+impl Parse for AssignmentRhs {
+    ghost spells = { λ s v ts. rhs_spells s (view_rhs v) ts };
+
+    ghost continues = { λ v t. rhs_continues (view_rhs v) t };
+
+    ghost alike = { λ v w. view_rhs v ≡ view_rhs w };
+
+    ghost alone = { one_alone rhs_spells rhs_continues rhs_at view_rhs rhs_complete };
+
+    fn parse<'a>(parser: &mut Parser<'a>) -> Result<Self> {
+        rhs(parser)
     }
 }
