@@ -1,12 +1,12 @@
 //! Right sides: blocks, phis and instructions.
 
-ghost use Rattle.std.specs.Prelude.{◌≡◌, None, codes, refl};
+ghost use Rattle.std.specs.Prelude.{◌≡◌, ◌≤◌, None, codes, refl, IfOk};
 ghost use Rattle.souper_graph.specs.View.{view_phi, view_rhs};
 ghost use Rattle.souper_ir.specs.Reading.{Gives};
 ghost use Rattle.souper_ir.specs.Grammar.{peek_at};
 ghost use Rattle.souper_ir.specs.Spelling.{block_spells, phi_spells, instruction_spells, rhs_spells};
 ghost use Rattle.souper_ir.specs.Continuation.{phi_continues, instruction_continues, rhs_continues};
-ghost use Rattle.souper_ir.specs.NodeReadings.{is_word, starts_instruction, block_at, block_name_at, phi_at, instruction_at, rhs_at};
+ghost use Rattle.souper_ir.specs.NodeReadings.{accept, ident_by, counted_word, is_word, starts_instruction, block_at, block_name_at, phi_at, instruction_at, rhs_at};
 ghost use Rattle.souper_ir.specs.Readings.{one_alone};
 ghost use Rattle.souper_ir.specs.RhsLaws.{block_complete, block_first, phi_complete, phi_first, instruction_complete, instruction_first, rhs_complete};
 
@@ -34,7 +34,8 @@ pub(crate) fn block_name<'a>(parser: &mut Parser<'a>) -> Result<(BlockId, u32, &
     ensures { Gives (λ r. (r.0, r.1)) result (block_name_at parser.old) parser.old parser.new }
 {
     let name = value_name(parser)?;
-    match parser.entry(name) {
+    let entry = parser.entry(name);
+    match entry {
         Some((value, Some(ways))) => Ok((Id::from(value).into(), ways, name)),
         _ => Err(parser.refuse(Message::UnknownBlock(name))),
     }
@@ -50,17 +51,26 @@ pub(crate) fn phi(parser: &mut Parser<'_>) -> Result<Phi>
     Ok(Phi { block, values })
 }
 
+// The word of an instruction, and how many operands it has.
+#[tactic(auto, unfolding(crate::specs::NodeReadings::accept))]
+fn instruction_word<'a>(parser: &mut Parser<'a>) -> Result<(&'a str, usize)>
+    ensures reads { Gives (λ r. (r.0.now, r.1)) result (accept (ident_by counted_word) parser.old) parser.old parser.new }
+    ensures few { IfOk result (λ r. r.1 ≤ 3) }
+{
+    match parser.token()? {
+        Token::Ident(word) => match operand_count(word) {
+            Some(count) => Ok((word, count)),
+            None => Err(parser.refuse(Message::ExpectedInstruction)),
+        },
+        _ => Err(parser.refuse(Message::ExpectedInstruction)),
+    }
+}
+
 #[tactic(auto, unfolding(crate::specs::NodeReadings::instruction_at))]
 pub(crate) fn instruction(parser: &mut Parser<'_>) -> Result<Instruction>
     ensures { Gives (λ i. i) result (instruction_at parser.old) parser.old parser.new }
 {
-    let (word, count) = match parser.token()? {
-        Token::Ident(word) => match operand_count(word) {
-            Some(count) => (word, count),
-            None => return Err(parser.refuse(Message::ExpectedInstruction)),
-        },
-        _ => return Err(parser.refuse(Message::ExpectedInstruction)),
-    };
+    let (word, count) = instruction_word(parser)?;
     let operands = operands(parser, count)?;
     match instruction_with(word, operands.as_slice()) {
         Some(instruction) => Ok(instruction),
