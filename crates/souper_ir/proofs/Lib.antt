@@ -15,3 +15,4 @@ pub mod Failing
 pub mod Operands
 pub mod Numerals
 pub mod BitLists
+pub mod RightSides

@@ -17,7 +17,7 @@ use crate::parse::parser::{Parser, Result};
 use crate::parse::tokens::{keyword, value_name, way_count, word_comes};
 use crate::parse::traits::{Parse, Peek};
 use crate::parse::words::{instruction_with, operand_count};
-use souper_graph::ast::{AssignmentRhs, Block, BlockId, Id, Instruction, Phi};
+use souper_graph::ast::{AssignmentRhs, Block, BlockId, Instruction, Phi};
 
 #[tactic(auto, unfolding(crate::specs::NodeReadings::block_at))]
 pub(crate) fn block(parser: &mut Parser<'_>) -> Result<Block>
@@ -34,10 +34,9 @@ pub(crate) fn block_name<'a>(parser: &mut Parser<'a>) -> Result<(BlockId, u32, &
     ensures { Gives (λ r. (r.0, r.1)) result (block_name_at parser.old) parser.old parser.new }
 {
     let name = value_name(parser)?;
-    let entry = parser.entry(name);
-    match entry {
-        Some((value, Some(ways))) => Ok((Id::from(value).into(), ways, name)),
-        _ => Err(parser.refuse(Message::UnknownBlock(name))),
+    match parser.block_named(name) {
+        Some((block, ways)) => Ok((block, ways, name)),
+        None => Err(parser.refuse(Message::UnknownBlock(name))),
     }
 }
 
