@@ -12,8 +12,7 @@ pub mod Lists
 pub mod Names
 pub mod Placing
 pub mod Failing
-pub mod Stating
-pub mod ItemLists
-pub mod Viewing
-pub mod TextItems
-pub mod WellFormedItems
+pub mod Operands
+pub mod Numerals
+pub mod BitLists
+pub mod RightSides

@@ -5,7 +5,8 @@ use Rattle.souper_ir.specs.declared.parse.error.ParseError.{ParseError}
 use Rattle.souper_ir.specs.Parsing.{Parsing}
 use Rattle.souper_ir.specs.Tokens.{Lexeme}
 use Rattle.souper_ir.specs.Spelling.{kinds, Scope}
-use Rattle.souper_ir.specs.Reading.{◌>>=◌, cause_of, IfRefused, Fails, look_at}
+use Rattle.souper_ir.specs.Optional.{◌>>=◌}
+use Rattle.souper_ir.specs.Reading.{cause_of, IfRefused, Fails, look_at}
 
 -- no token that goes on stands next
 abbrev pub Free : (Lexeme → Type 0) → List Lexeme → Type 0

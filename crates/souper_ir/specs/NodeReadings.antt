@@ -1,10 +1,21 @@
 -- How each node is read from the tokens to come.
-use Rattle.std.specs.Prelude.{ℕ, Bool, true, false, List, [], Option, Some, None, is_some, if◌then◌else◌, codes, bytes_eq}
-use Rattle.souper_graph.specs.Values.{PlainRhs, var, PlainAssignment, PlainStatement, assigned, PlainInfer}
-use Rattle.souper_ir.specs.Tokens.{Lexeme, ident, val_name, equals}
-use Rattle.souper_ir.specs.Spelling.{position_of}
+use Rattle.std.specs.Prelude.{ℕ, zero, suc, ◌^◌, ℤ, Bool, true, false, List, [], ◌∷◌, length, Option, Some, None, is_some, if◌then◌else◌, codes, bytes_eq, nat_lt}
+use Rattle.souper_graph.specs.declared.ast.operands.«Type».{«Type» as Ty}
+use Rattle.souper_graph.specs.declared.ast.operands.Constant.{Constant}
+use Rattle.souper_graph.specs.declared.ast.operands.Operand.{Operand}
+use Rattle.souper_graph.specs.declared.ast.operands.Operand.TheVariants.{Value, Constant as constant_variant}
+use Rattle.souper_graph.specs.declared.ast.instructions.Instruction.{Instruction}
+use Rattle.souper_graph.specs.declared.ast.statements.Block.{Block}
+use Rattle.souper_graph.specs.declared.ast.statements.Pc.{Pc}
+use Rattle.souper_graph.specs.declared.ast.statements.BlockPc.{BlockPc}
+use Rattle.souper_graph.specs.Values.{PlainAttribute, known_bits as known_bits_attribute, power_of_two, negative, non_negative, non_zero, has_external_uses, sign_bits, range, PlainRootAttribute, demanded_bits, harvested_from_use, PlainPhi, PlainRhs, var, block, phi, reserved_inst, reserved_const, instruction}
+use Rattle.souper_ir.specs.Tokens.{Lexeme, ident, val_name, known_bits, int, comma, colon, equals, open_paren, close_paren, open_bracket}
+use Rattle.souper_ir.specs.Numbers.{number_of, count_of, width_of, bits_of, known_bits_of}
+use Rattle.souper_ir.specs.Words.{instruction_of, operand_count_of}
+use Rattle.souper_ir.specs.Spelling.{entry_of, position_of}
 use Rattle.souper_ir.specs.Parsing.{Parsing}
-use Rattle.souper_ir.specs.Reading.{◌>>=◌, take_at}
+use Rattle.souper_ir.specs.Optional.{◌>>=◌}
+use Rattle.souper_ir.specs.Reading.{take_at, look_at}
 use Rattle.souper_ir.specs.Grammar.{peek_at}
 
 -- a token that means something
@@ -24,9 +35,18 @@ abbrev pub is_name : Lexeme → Bool
 is_name (val_name n) = true
 is_name _ = false
 
-abbrev pub equals_of : Lexeme → Option (Unit {0})
-equals_of equals = Some tt
-equals_of _ = None
+-- the punctuation marks, each a token of its own
+abbrev pub mark_of : Lexeme → Lexeme → Option (Unit {0})
+mark_of comma comma = Some tt
+mark_of colon colon = Some tt
+mark_of equals equals = Some tt
+mark_of open_paren open_paren = Some tt
+mark_of close_paren close_paren = Some tt
+mark_of open_bracket open_bracket = Some tt
+mark_of _ _ = None
+
+abbrev pub is_mark : Lexeme → Lexeme → Bool
+is_mark m t = is_some (mark_of m t)
 
 abbrev pub is_word : List ℕ → Lexeme → Bool
 is_word k (ident w) = bytes_eq w k
@@ -35,42 +55,315 @@ is_word k _ = false
 abbrev pub word_of : List ℕ → Lexeme → Option (Unit {0})
 word_of k t = if is_word k t then Some tt else None
 
+-- any word
+abbrev pub ident_of : Lexeme → Option (List ℕ)
+ident_of (ident w) = Some w
+ident_of _ = None
+
+abbrev pub is_int : Lexeme → Bool
+is_int (int w) = true
+is_int _ = false
+
 abbrev pub is_any : Lexeme → Bool
 is_any t = true
 
--- ---- nodes
+-- the number of an integer, from whatever reads the digits
+abbrev pub int_by : {A : Type 0} → (List ℕ → Option A) → Lexeme → Option A
+int_by read (int w) = read w
+int_by read _ = None
 
-abbrev pub rhs_by : Bool → Parsing → Option (PlainRhs × Parsing)
-rhs_by false p = None
-rhs_by true p = do
-  v ← accept (word_of (codes "var")) p
-  Some (var, v.1)
+abbrev pub ident_by : {A : Type 0} → (List ℕ → Option A) → Lexeme → Option A
+ident_by read (ident w) = read w
+ident_by read _ = None
+
+abbrev pub type_of_word : List ℕ → Option Ty
+type_of_word w = width_of w >>= λ n. Some (record { width = n })
+
+-- ---- operands
+
+abbrev pub type_at : Parsing → Option (Ty × Parsing)
+type_at p = accept (ident_by type_of_word) p
+
+abbrev pub optional_type_by : Bool → Parsing → Option (Option Ty × Parsing)
+optional_type_by false p = Some (None, p)
+optional_type_by true p = do
+  c ← accept (mark_of colon) p
+  t ← type_at c.1
+  Some (Some t.0, t.1)
+
+unfoldable pub optional_type_at : Parsing → Option (Option Ty × Parsing)
+optional_type_at p = do
+  b ← peek_at (is_mark colon) p
+  optional_type_by b.0 b.1
+
+unfoldable pub constant_at : Parsing → Option (Constant × Parsing)
+constant_at p = do
+  n ← accept (int_by number_of) p
+  t ← optional_type_at n.1
+  Some (record { value = n.0; ty = t.0 }, t.1)
+
+abbrev pub operand_by : Bool → Parsing → Option (Operand × Parsing)
+operand_by true p = do
+  n ← accept name_of p
+  i ← position_of n.1.scope n.0
+  Some (Value i, n.1)
+operand_by false p = do
+  c ← constant_at p
+  Some (constant_variant c.0, c.1)
+
+unfoldable pub operand_at : Parsing → Option (Operand × Parsing)
+operand_at p = do
+  b ← peek_at is_name p
+  operand_by b.0 b.1
+
+-- an operand with a comma before it
+unfoldable pub next_operand_at : Parsing → Option (Operand × Parsing)
+next_operand_at p = do
+  c ← accept (mark_of comma) p
+  operand_at c.1
+
+-- so many, each with a comma before it
+abbrev pub further_at : ℕ → Parsing → Option (List Operand × Parsing)
+further_at zero p = Some ([], p)
+further_at (suc k) p = do
+  c ← accept (mark_of comma) p
+  x ← operand_at c.1
+  xs ← further_at k x.1
+  Some (x.0 ∷ xs.0, xs.1)
+
+-- so many, with commas between them
+abbrev pub operands_at : ℕ → Parsing → Option (List Operand × Parsing)
+operands_at zero p = Some ([], p)
+operands_at (suc k) p = do
+  x ← operand_at p
+  xs ← further_at k x.1
+  Some (x.0 ∷ xs.0, xs.1)
+
+-- ---- right sides
+
+unfoldable pub block_at : Parsing → Option (Block × Parsing)
+block_at p = do
+  k ← accept (word_of (codes "block")) p
+  n ← accept (int_by (count_of (2 ^ 32))) k.1
+  Some (record { predecessors = n.0 }, n.1)
+
+-- the block of a name, with the ways into it
+abbrev pub block_entry : Option (ℕ × Option ℕ) → Option (ℕ × ℕ)
+block_entry e = e >>= λ x. (x.1 >>= λ ways. Some (x.0, ways))
+
+unfoldable pub block_name_at : Parsing → Option ((ℕ × ℕ) × Parsing)
+block_name_at p = do
+  n ← accept name_of p
+  b ← block_entry (entry_of n.1.scope n.0)
+  Some (b, n.1)
+
+unfoldable pub phi_at : Parsing → Option (PlainPhi × Parsing)
+phi_at p = do
+  k ← accept (word_of (codes "phi")) p
+  b ← block_name_at k.1
+  xs ← further_at b.0.1 b.1
+  Some (record { block = b.0.0; values = xs.0 }, xs.1)
+
+-- the word of an instruction, and how many operands it has
+abbrev pub counted_word : List ℕ → Option (List ℕ × ℕ)
+counted_word w = operand_count_of w >>= λ n. Some (w, n)
+
+unfoldable pub instruction_at : Parsing → Option (Instruction × Parsing)
+instruction_at p = do
+  w ← accept (ident_by counted_word) p
+  xs ← operands_at w.0.1 w.1
+  i ← instruction_of w.0.0 xs.0
+  Some (i, xs.1)
+
+abbrev pub starts_instruction : Lexeme → Bool
+starts_instruction t = is_some (ident_by counted_word t)
+
+-- what a right side begins with
+pub data RhsKind : Type 0 where
+  is_var : RhsKind
+  is_block : RhsKind
+  is_phi : RhsKind
+  is_reserved_inst : RhsKind
+  is_reserved_const : RhsKind
+  is_instruction : RhsKind
+
+abbrev pub rhs_kind_of_word : List ℕ → Option RhsKind
+rhs_kind_of_word w =
+    if bytes_eq w (codes "var") then Some is_var else (
+    if bytes_eq w (codes "block") then Some is_block else (
+    if bytes_eq w (codes "phi") then Some is_phi else (
+    if bytes_eq w (codes "reservedinst") then Some is_reserved_inst else (
+    if bytes_eq w (codes "reservedconst") then Some is_reserved_const else (
+    if is_some (operand_count_of w) then Some is_instruction else None)))))
+
+abbrev pub rhs_kind_of : Option Lexeme → Option RhsKind
+rhs_kind_of None = None
+rhs_kind_of (Some t) = ident_by rhs_kind_of_word t
+
+abbrev pub rhs_by : RhsKind → Parsing → Option (PlainRhs × Parsing)
+rhs_by is_var p = do
+  k ← accept (word_of (codes "var")) p
+  Some (var, k.1)
+rhs_by is_block p = do
+  b ← block_at p
+  Some (block b.0, b.1)
+rhs_by is_phi p = do
+  f ← phi_at p
+  Some (phi f.0, f.1)
+rhs_by is_reserved_inst p = do
+  k ← accept (word_of (codes "reservedinst")) p
+  Some (reserved_inst, k.1)
+rhs_by is_reserved_const p = do
+  k ← accept (word_of (codes "reservedconst")) p
+  Some (reserved_const, k.1)
+rhs_by is_instruction p = do
+  i ← instruction_at p
+  Some (instruction i.0, i.1)
 
 unfoldable pub rhs_at : Parsing → Option (PlainRhs × Parsing)
 rhs_at p = do
-  b ← peek_at (is_word (codes "var")) p
-  rhs_by b.0 b.1
+  t ← look_at p
+  k ← rhs_kind_of t.0
+  rhs_by k t.1
+
+-- ---- attributes
+
+-- an attribute that is a word alone, or what a longer one begins with
+pub data AttributeKind : Type 0 where
+  plain_kind : PlainAttribute → AttributeKind
+  bits_kind : List ℕ → AttributeKind
+  sign_bits_kind : AttributeKind
+  range_kind : AttributeKind
+
+abbrev pub attribute_kind_of_word : List ℕ → Option AttributeKind
+attribute_kind_of_word w =
+    if bytes_eq w (codes "powerOfTwo") then Some (plain_kind power_of_two) else (
+    if bytes_eq w (codes "negative") then Some (plain_kind negative) else (
+    if bytes_eq w (codes "nonNegative") then Some (plain_kind non_negative) else (
+    if bytes_eq w (codes "nonZero") then Some (plain_kind non_zero) else (
+    if bytes_eq w (codes "hasExternalUses") then Some (plain_kind has_external_uses) else (
+    if bytes_eq w (codes "signBits") then Some sign_bits_kind else (
+    if bytes_eq w (codes "range") then Some range_kind else None))))))
+
+abbrev pub attribute_kind_of : Lexeme → Option AttributeKind
+attribute_kind_of (known_bits s) = Some (bits_kind s)
+attribute_kind_of (ident w) = attribute_kind_of_word w
+attribute_kind_of _ = None
+
+abbrev pub attribute_by : AttributeKind → Parsing → Option (PlainAttribute × Parsing)
+attribute_by (plain_kind a) p = Some (a, p)
+attribute_by (bits_kind s) p = do
+  bits ← known_bits_of s
+  Some (known_bits_attribute bits, p)
+attribute_by sign_bits_kind p = do
+  e ← accept (mark_of equals) p
+  n ← accept (int_by (count_of (2 ^ 8))) e.1
+  Some (sign_bits n.0, n.1)
+attribute_by range_kind p = do
+  e ← accept (mark_of equals) p
+  o ← accept (mark_of open_bracket) e.1
+  low ← accept (int_by number_of) o.1
+  c ← accept (mark_of comma) low.1
+  high ← accept (int_by number_of) c.1
+  k ← accept (mark_of close_paren) high.1
+  Some (range low.0 high.0, k.1)
+
+unfoldable pub attribute_at : Parsing → Option (PlainAttribute × Parsing)
+attribute_at p = do
+  o ← accept (mark_of open_paren) p
+  k ← accept attribute_kind_of o.1
+  a ← attribute_by k.0 k.1
+  c ← accept (mark_of close_paren) a.1
+  Some (a.0, c.1)
+
+-- what a root attribute begins with: the word `demandedBits`, or `harvestedFromUse`
+abbrev pub root_kind_of_word : List ℕ → Option Bool
+root_kind_of_word w = if bytes_eq w (codes "demandedBits") then Some true else (if bytes_eq w (codes "harvestedFromUse") then Some false else None)
+
+abbrev pub root_attribute_by : Bool → Parsing → Option (PlainRootAttribute × Parsing)
+root_attribute_by false p = Some (harvested_from_use, p)
+root_attribute_by true p = do
+  e ← accept (mark_of equals) p
+  bits ← accept (int_by bits_of) e.1
+  Some (demanded_bits bits.0, bits.1)
+
+unfoldable pub root_attribute_at : Parsing → Option (PlainRootAttribute × Parsing)
+root_attribute_at p = do
+  o ← accept (mark_of open_paren) p
+  k ← accept (ident_by root_kind_of_word) o.1
+  a ← root_attribute_by k.0 k.1
+  c ← accept (mark_of close_paren) a.1
+  Some (a.0, c.1)
+
+-- ---- statements, up to their attributes
+
+-- an assignment up to its attributes
+pub record Definition : Type 0 where
+  pub name : List ℕ
+  pub ty : Option Ty
+  pub value : PlainRhs
 
 -- nothing where the name is taken
 abbrev pub fresh : Option ℕ → Option (Unit {0})
 fresh o = if is_some o then None else Some tt
 
-unfoldable pub assignment_at : Parsing → Option (PlainAssignment × Parsing)
-assignment_at p = do
+unfoldable pub definition_at : Parsing → Option (Definition × Parsing)
+definition_at p = do
   n ← accept name_of p
   f ← fresh (position_of n.1.scope n.0)
-  e ← accept equals_of n.1
+  t ← optional_type_at n.1
+  e ← accept (mark_of equals) t.1
   r ← rhs_at e.1
-  Some (record { name = n.0; ty = None; value = r.0; attributes = [] }, r.1)
+  Some (record { name = n.0; ty = t.0; value = r.0 }, r.1)
 
-unfoldable pub infer_at : Parsing → Option (PlainInfer × Parsing)
-infer_at p = do
+unfoldable pub pc_at : Parsing → Option (Pc × Parsing)
+pc_at p = do
+  k ← accept (word_of (codes "pc")) p
+  x ← operand_at k.1
+  y ← operand_at x.1
+  Some (record { x = x.0; y = y.0 }, y.1)
+
+-- the number, where it is that of a way into the block
+abbrev pub way_of : ℕ → ℕ → Option ℕ
+way_of ways n = if nat_lt n ways then Some n else None
+
+unfoldable pub block_pc_at : Parsing → Option (BlockPc × Parsing)
+block_pc_at p = do
+  k ← accept (word_of (codes "blockpc")) p
+  b ← block_name_at k.1
+  n ← accept (int_by (count_of (2 ^ 32))) b.1
+  w ← way_of b.0.1 n.0
+  x ← operand_at n.1
+  y ← operand_at x.1
+  Some (record { block = b.0.0; predecessor = w; x = x.0; y = y.0 }, y.1)
+
+-- ---- last lines, up to their attributes
+
+unfoldable pub root_at : Parsing → Option (ℕ × Parsing)
+root_at p = do
   k ← accept (word_of (codes "infer")) p
   n ← accept name_of k.1
   i ← position_of n.1.scope n.0
-  Some (record { value = i; attributes = [] }, n.1)
+  Some (i, n.1)
 
-unfoldable pub statement_at : Parsing → Option (PlainStatement × Parsing)
-statement_at p = do
-  a ← assignment_at p
-  Some (assigned a.0, a.1)
+abbrev pub comma_by : Bool → Parsing → Option (Unit {0} × Parsing)
+comma_by false p = Some (tt, p)
+comma_by true p = accept (mark_of comma) p
+
+unfoldable pub optional_comma_at : Parsing → Option (Unit {0} × Parsing)
+optional_comma_at p = do
+  b ← peek_at (is_mark comma) p
+  comma_by b.0 b.1
+
+unfoldable pub pair_at : Parsing → Option ((Operand × Operand) × Parsing)
+pair_at p = do
+  k ← accept (word_of (codes "cand")) p
+  x ← operand_at k.1
+  c ← optional_comma_at x.1
+  y ← operand_at c.1
+  Some ((x.0, y.0), y.1)
+
+unfoldable pub result_at : Parsing → Option (Operand × Parsing)
+result_at p = do
+  k ← accept (word_of (codes "result")) p
+  operand_at k.1

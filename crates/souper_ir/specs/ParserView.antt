@@ -11,7 +11,7 @@ use Rattle.souper_ir.specs.declared.parse.parser.Failure.TheVariants.{Refused, M
 use Rattle.souper_ir.specs.declared.parse.parser.Parser.TheInside.{Inside}
 use Rattle.souper_ir.specs.Tokens.{Lexeme}
 use Rattle.souper_ir.specs.TokenView.{lexeme_of}
-use Rattle.souper_ir.specs.Spelling.{Scope, position_of}
+use Rattle.souper_ir.specs.Spelling.{Scope, entry_of}
 use Rattle.souper_ir.specs.Parsing.{Parsing}
 use Rattle.souper_ir.specs.FailureView.{cause_of_failure}
 
@@ -32,9 +32,9 @@ parsing_of p = record {
   failed = option_map cause_of_failure p.failed;
 }
 
--- the map has each name of the scope at its position, and no other
-abbrev pub NamesAre : BTreeMap (Bor (List ℕ)) ℕ → Scope → Type 0
-NamesAre names s = (n : List ℕ) → get_by (λ (k : Bor (List ℕ)). slice_cmp nat_cmp n k.now) names ≡ position_of s n
+-- the map has each name of the scope with its position and the ways into its block, and no other
+abbrev pub NamesAre : BTreeMap (Bor (List ℕ)) (ℕ × Option ℕ) → Scope → Type 0
+NamesAre names s = (n : List ℕ) → get_by (λ (k : Bor (List ℕ)). slice_cmp nat_cmp n k.now) names ≡ entry_of s n
 
 abbrev pub FailedWithin : ℕ → Option Failure → Type 0
 FailedWithin len None = Unit {0}

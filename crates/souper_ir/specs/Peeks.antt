@@ -3,7 +3,8 @@ use Rattle.std.proofs.Common.{◌≡◌, ℕ, Bool, true, false, List, [], ◌�
 use Rattle.souper_ir.specs.Parsing.{Cause, Parsing}
 use Rattle.souper_ir.specs.Tokens.{Lexeme}
 use Rattle.souper_ir.specs.Spelling.{kinds, Scope}
-use Rattle.souper_ir.specs.Reading.{◌>>=◌, IfRefused, if_refused, look_in, look_at}
+use Rattle.souper_ir.specs.Optional.{◌>>=◌}
+use Rattle.souper_ir.specs.Reading.{IfRefused, if_refused, look_in, look_at}
 use Rattle.souper_ir.specs.Grammar.{Stops, Starts, NoFront, starts_next, peek_at}
 
 -- the first token answers, and at the end no fault stands

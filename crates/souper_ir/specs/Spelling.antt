@@ -1,7 +1,18 @@
 -- Which tokens spell a value, from the finished value. Tokens stand here without their offsets.
-use Rattle.std.specs.Prelude.{◌≡◌, ℕ, suc, List, [], ◌∷◌, ◌++◌, map, Option, Some, None, codes, bytes_eq, if◌then◌else◌}
-use Rattle.souper_graph.specs.Values.{PlainRhs, var, block, phi, reserved_inst, reserved_const, instruction, PlainAssignment, PlainStatement, assigned, condition, block_condition, PlainInfer, Ending, inferred, resulting, replaced, candidate, Item}
-use Rattle.souper_ir.specs.Tokens.{Lexeme, ident, val_name, equals, IsTextOf}
+use Rattle.std.specs.Prelude.{◌≡◌, ◌⊎◌, ℕ, suc, ◌<◌, ◌^◌, List, [], ◌∷◌, ◌++◌, map, length, Option, Some, None, codes, bytes_eq, if◌then◌else◌, option_map}
+use Rattle.souper_graph.specs.declared.ast.operands.«Type».{«Type» as Ty}
+use Rattle.souper_graph.specs.declared.ast.operands.Constant.{Constant}
+use Rattle.souper_graph.specs.declared.ast.operands.Operand.{Operand}
+use Rattle.souper_graph.specs.declared.ast.operands.Operand.TheVariants.{Value, Constant as constant_variant}
+use Rattle.souper_graph.specs.declared.ast.instructions.Instruction.{Instruction}
+use Rattle.souper_graph.specs.declared.ast.statements.Block.{Block}
+use Rattle.souper_graph.specs.declared.ast.statements.Pc.{Pc}
+use Rattle.souper_graph.specs.declared.ast.statements.BlockPc.{BlockPc}
+use Rattle.souper_graph.specs.Instructions.{word_of, operands_of}
+use Rattle.souper_graph.specs.Leaves.{text_of_known_bit, text_of_bit}
+use Rattle.souper_graph.specs.Values.{PlainAttribute, known_bits as known_bits_attribute, power_of_two, negative, non_negative, non_zero, has_external_uses, sign_bits, range, PlainRootAttribute, demanded_bits, harvested_from_use, PlainPhi, PlainRhs, var, block, phi, reserved_inst, reserved_const, instruction, PlainAssignment, PlainStatement, assigned, condition, block_condition, PlainInfer, PlainCand, Ending, inferred, resulting, replaced, candidate, Item}
+use Rattle.souper_ir.specs.Tokens.{Lexeme, ident, val_name, known_bits, int, comma, colon, equals, open_paren, close_paren, open_bracket, IsTextOf}
+use Rattle.souper_ir.specs.Numbers.{number_of, count_of, width_of}
 
 -- tokens without their offsets
 abbrev pub kinds : List (ℕ × Lexeme) → List Lexeme
@@ -11,38 +22,148 @@ kinds ts = map (λ t. t.1) ts
 abbrev pub Scope : Type 0
 Scope = List PlainStatement
 
--- the position of the assignment of a name, where the first statement stands at k
-abbrev pub position_from : ℕ → Scope → List ℕ → Option ℕ
-position_from k [] n = None
-position_from k (assigned a ∷ ss) n = if bytes_eq a.name n then Some k else position_from (suc k) ss n
-position_from k (condition p ∷ ss) n = position_from (suc k) ss n
-position_from k (block_condition p ∷ ss) n = position_from (suc k) ss n
+-- how many ways lead into a block; of no other right side
+abbrev pub ways_of : PlainRhs → Option ℕ
+ways_of var = None
+ways_of (block b) = Some b.predecessors
+ways_of (phi p) = None
+ways_of reserved_inst = None
+ways_of reserved_const = None
+ways_of (instruction i) = None
+
+-- the position of the assignment of a name, and the ways into its block, where the first statement stands at k
+abbrev pub entry_from : ℕ → Scope → List ℕ → Option (ℕ × Option ℕ)
+entry_from k [] n = None
+entry_from k (assigned a ∷ ss) n = if bytes_eq a.name n then Some (k, ways_of a.value) else entry_from (suc k) ss n
+entry_from k (condition p ∷ ss) n = entry_from (suc k) ss n
+entry_from k (block_condition p ∷ ss) n = entry_from (suc k) ss n
+
+abbrev pub entry_of : Scope → List ℕ → Option (ℕ × Option ℕ)
+entry_of s n = entry_from 0 s n
 
 abbrev pub position_of : Scope → List ℕ → Option ℕ
-position_of s n = position_from 0 s n
+position_of s n = option_map (λ e. e.0) (entry_of s n)
 
--- ---- nodes
+-- ---- operands
 
--- an input variable is read; the other right sides are not yet
+abbrev pub type_spells : Ty → List Lexeme → Type 0
+type_spells t ts = (w : List ℕ) × (ts ≡ ident w ∷ []) × (width_of w ≡ Some t.width)
+
+-- `:` and the type, where there is one
+abbrev pub optional_type_spells : Option Ty → List Lexeme → Type 0
+optional_type_spells None ts = ts ≡ []
+optional_type_spells (Some t) ts = (rest : List Lexeme) × (ts ≡ colon ∷ rest) × type_spells t rest
+
+abbrev pub constant_spells : Constant → List Lexeme → Type 0
+constant_spells c ts = (w : List ℕ) × (rest : List Lexeme) × (ts ≡ int w ∷ rest) × (number_of w ≡ Some c.value) × optional_type_spells c.ty rest
+
+abbrev pub operand_spells : Scope → Operand → List Lexeme → Type 0
+operand_spells s (Value i) ts = (n : List ℕ) × (ts ≡ val_name n ∷ []) × (position_of s n ≡ Some i)
+operand_spells s (constant_variant c) ts = constant_spells c ts
+
+-- `,` before each
+abbrev pub further_spells : Scope → List Operand → List Lexeme → Type 0
+further_spells s [] ts = ts ≡ []
+further_spells s (x ∷ xs) ts = (front : List Lexeme) × (back : List Lexeme) × (ts ≡ comma ∷ (front ++ back)) × operand_spells s x front × further_spells s xs back
+
+-- `,` between them
+abbrev pub operands_spells : Scope → List Operand → List Lexeme → Type 0
+operands_spells s [] ts = ts ≡ []
+operands_spells s (x ∷ xs) ts = (front : List Lexeme) × (back : List Lexeme) × (ts ≡ front ++ back) × operand_spells s x front × further_spells s xs back
+
+-- two operands with nothing between them
+abbrev pub pair_spells : Scope → Operand → Operand → List Lexeme → Type 0
+pair_spells s x y ts = (front : List Lexeme) × (back : List Lexeme) × (ts ≡ front ++ back) × operand_spells s x front × operand_spells s y back
+
+-- ---- right sides
+
+abbrev pub block_spells : Block → List Lexeme → Type 0
+block_spells b ts = (w : List ℕ) × (ts ≡ ident (codes "block") ∷ int w ∷ []) × (count_of (2 ^ 32) w ≡ Some b.predecessors)
+
+-- the name is that of a block, and each way into it has a value
+abbrev pub phi_spells : Scope → PlainPhi → List Lexeme → Type 0
+phi_spells s p ts = (n : List ℕ) × (rest : List Lexeme) × (ts ≡ ident (codes "phi") ∷ val_name n ∷ rest) × (entry_of s n ≡ Some (p.block, Some (length p.values))) × further_spells s p.values rest
+
+abbrev pub instruction_spells : Scope → Instruction → List Lexeme → Type 0
+instruction_spells s i ts = (rest : List Lexeme) × (ts ≡ ident (word_of i) ∷ rest) × operands_spells s (operands_of i) rest
+
 abbrev pub rhs_spells : Scope → PlainRhs → List Lexeme → Type 0
 rhs_spells s var ts = ts ≡ ident (codes "var") ∷ []
-rhs_spells s (block b) ts = ⊥
-rhs_spells s (phi p) ts = ⊥
-rhs_spells s reserved_inst ts = ⊥
-rhs_spells s reserved_const ts = ⊥
-rhs_spells s (instruction i) ts = ⊥
+rhs_spells s (block b) ts = block_spells b ts
+rhs_spells s (phi p) ts = phi_spells s p ts
+rhs_spells s reserved_inst ts = ts ≡ ident (codes "reservedinst") ∷ []
+rhs_spells s reserved_const ts = ts ≡ ident (codes "reservedconst") ∷ []
+rhs_spells s (instruction i) ts = instruction_spells s i ts
+
+-- ---- attributes
+
+-- a word between parentheses
+abbrev pub word_attribute : List ℕ → List Lexeme
+word_attribute w = open_paren ∷ ident w ∷ close_paren ∷ []
+
+abbrev pub attribute_spells : PlainAttribute → List Lexeme → Type 0
+attribute_spells (known_bits_attribute bits) ts = (ts ≡ open_paren ∷ known_bits (map text_of_known_bit bits) ∷ close_paren ∷ []) × (0 < length bits)
+attribute_spells power_of_two ts = ts ≡ word_attribute (codes "powerOfTwo")
+attribute_spells negative ts = ts ≡ word_attribute (codes "negative")
+attribute_spells non_negative ts = ts ≡ word_attribute (codes "nonNegative")
+attribute_spells non_zero ts = ts ≡ word_attribute (codes "nonZero")
+attribute_spells has_external_uses ts = ts ≡ word_attribute (codes "hasExternalUses")
+attribute_spells (sign_bits n) ts = (w : List ℕ) × (ts ≡ open_paren ∷ ident (codes "signBits") ∷ equals ∷ int w ∷ close_paren ∷ []) × (count_of (2 ^ 8) w ≡ Some n)
+attribute_spells (range low high) ts =
+    (v : List ℕ) × (w : List ℕ) × (ts ≡ open_paren ∷ ident (codes "range") ∷ equals ∷ open_bracket ∷ int v ∷ comma ∷ int w ∷ close_paren ∷ close_paren ∷ [])
+    × (number_of v ≡ Some low) × (number_of w ≡ Some high)
+
+abbrev pub root_attribute_spells : PlainRootAttribute → List Lexeme → Type 0
+root_attribute_spells (demanded_bits bits) ts = (ts ≡ open_paren ∷ ident (codes "demandedBits") ∷ equals ∷ int (map text_of_bit bits) ∷ close_paren ∷ []) × (0 < length bits)
+root_attribute_spells harvested_from_use ts = ts ≡ word_attribute (codes "harvestedFromUse")
+
+-- one after the other
+abbrev pub attributes_spell : List PlainAttribute → List Lexeme → Type 0
+attributes_spell [] ts = ts ≡ []
+attributes_spell (x ∷ xs) ts = (front : List Lexeme) × (back : List Lexeme) × (ts ≡ front ++ back) × attribute_spells x front × attributes_spell xs back
+
+abbrev pub root_attributes_spell : List PlainRootAttribute → List Lexeme → Type 0
+root_attributes_spell [] ts = ts ≡ []
+root_attributes_spell (x ∷ xs) ts = (front : List Lexeme) × (back : List Lexeme) × (ts ≡ front ++ back) × root_attribute_spells x front × root_attributes_spell xs back
+
+-- ---- statements
 
 -- its own name is not in the scope
 abbrev pub assignment_spells : Scope → PlainAssignment → List Lexeme → Type 0
-assignment_spells s a ts = (rhs : List Lexeme) × (ts ≡ val_name a.name ∷ equals ∷ rhs) × rhs_spells s a.value rhs × (position_of s a.name ≡ None) × (a.ty ≡ None) × (a.attributes ≡ [])
+assignment_spells s a ts =
+    (ty : List Lexeme) × (rhs : List Lexeme) × (attributes : List Lexeme) × (ts ≡ val_name a.name ∷ (ty ++ equals ∷ (rhs ++ attributes)))
+    × (position_of s a.name ≡ None) × optional_type_spells a.ty ty × rhs_spells s a.value rhs × attributes_spell a.attributes attributes
+
+abbrev pub pc_spells : Scope → Pc → List Lexeme → Type 0
+pc_spells s p ts = (rest : List Lexeme) × (ts ≡ ident (codes "pc") ∷ rest) × pair_spells s p.x p.y rest
+
+-- the name is that of a block, and the number that of a way into it
+abbrev pub block_pc_spells : Scope → BlockPc → List Lexeme → Type 0
+block_pc_spells s p ts =
+    (n : List ℕ) × (w : List ℕ) × (ways : ℕ) × (rest : List Lexeme) × (ts ≡ ident (codes "blockpc") ∷ val_name n ∷ int w ∷ rest)
+    × (entry_of s n ≡ Some (p.block, Some ways)) × (count_of (2 ^ 32) w ≡ Some p.predecessor) × (p.predecessor < ways) × pair_spells s p.x p.y rest
 
 abbrev pub statement_spells : Scope → PlainStatement → List Lexeme → Type 0
 statement_spells s (assigned a) ts = assignment_spells s a ts
-statement_spells s (condition p) ts = ⊥
-statement_spells s (block_condition p) ts = ⊥
+statement_spells s (condition p) ts = pc_spells s p ts
+statement_spells s (block_condition p) ts = block_pc_spells s p ts
+
+-- ---- last lines
 
 abbrev pub infer_spells : Scope → PlainInfer → List Lexeme → Type 0
-infer_spells s i ts = (n : List ℕ) × (ts ≡ ident (codes "infer") ∷ val_name n ∷ []) × (position_of s n ≡ Some i.value) × (i.attributes ≡ [])
+infer_spells s i ts = (n : List ℕ) × (attributes : List Lexeme) × (ts ≡ ident (codes "infer") ∷ val_name n ∷ attributes) × (position_of s n ≡ Some i.value) × root_attributes_spell i.attributes attributes
+
+-- nothing, or a comma
+abbrev pub IsOptionalComma : List Lexeme → Type 0
+IsOptionalComma ts = (ts ≡ []) ⊎ (ts ≡ comma ∷ [])
+
+abbrev pub cand_spells : Scope → PlainCand → List Lexeme → Type 0
+cand_spells s c ts =
+    (lhs : List Lexeme) × (between : List Lexeme) × (rhs : List Lexeme) × (attributes : List Lexeme) × (ts ≡ ident (codes "cand") ∷ (lhs ++ (between ++ (rhs ++ attributes))))
+    × operand_spells s c.lhs lhs × IsOptionalComma between × operand_spells s c.rhs rhs × root_attributes_spell c.attributes attributes
+
+abbrev pub result_spells : Scope → Operand → List Lexeme → Type 0
+result_spells s r ts = (rest : List Lexeme) × (ts ≡ ident (codes "result") ∷ rest) × operand_spells s r rest
 
 -- ---- items
 
@@ -54,19 +175,35 @@ Statements s (v ∷ vs) ts = (front : List Lexeme) × (back : List Lexeme) × (t
 -- the types of items
 pub data ItemType : Type 0 where
   left_hand_side : ItemType
+  right_hand_side : ItemType
+  replacement : ItemType
 
--- what stands in an item of the type behind its statements
-abbrev pub ending_spells : ItemType → Scope → Ending → List Lexeme → Type 0
-ending_spells left_hand_side s (inferred i) ts = infer_spells s i ts
-ending_spells left_hand_side s (resulting r) ts = ⊥
-ending_spells left_hand_side s (replaced i r) ts = ⊥
-ending_spells left_hand_side s (candidate c) ts = ⊥
+-- further statements, and what stands in an item besides its statements
+abbrev pub Tail : Type 0
+Tail = List PlainStatement × Ending
 
--- the item has the statements of the scope, and the tokens are its further statements and its ending
+-- what stands in an item of the type behind its first statements: a replacement may have further ones behind its infer line
+abbrev pub tail_spells : ItemType → Scope → Tail → List Lexeme → Type 0
+tail_spells left_hand_side s (new, inferred i) ts = (new ≡ []) × infer_spells s i ts
+tail_spells left_hand_side s (new, resulting r) ts = ⊥
+tail_spells left_hand_side s (new, replaced i r) ts = ⊥
+tail_spells left_hand_side s (new, candidate c) ts = ⊥
+tail_spells right_hand_side s (new, inferred i) ts = ⊥
+tail_spells right_hand_side s (new, resulting r) ts = (new ≡ []) × result_spells s r ts
+tail_spells right_hand_side s (new, replaced i r) ts = ⊥
+tail_spells right_hand_side s (new, candidate c) ts = ⊥
+tail_spells replacement s (new, inferred i) ts = ⊥
+tail_spells replacement s (new, resulting r) ts = ⊥
+tail_spells replacement s (new, replaced i r) ts =
+    (infer : List Lexeme) × (middle : List Lexeme) × (result : List Lexeme) × (ts ≡ infer ++ (middle ++ result))
+    × infer_spells s i infer × Statements s new middle × result_spells (s ++ new) r result
+tail_spells replacement s (new, candidate c) ts = (new ≡ []) × cand_spells s c ts
+
+-- the item has the statements of the scope, and the tokens are its further statements, its last lines, and in a replacement statements between these
 abbrev pub item_spells_after : ItemType → Scope → Item → List Lexeme → Type 0
 item_spells_after k s a ts =
-    (new : List PlainStatement) × (front : List Lexeme) × (back : List Lexeme)
-    × (a.statements ≡ s ++ new) × (ts ≡ front ++ back) × Statements s new front × ending_spells k a.statements a.ending back
+    (first : List PlainStatement) × (last : List PlainStatement) × (front : List Lexeme) × (back : List Lexeme)
+    × (a.statements ≡ (s ++ first) ++ last) × (ts ≡ front ++ back) × Statements s first front × tail_spells k (s ++ first) (last, a.ending) back
 
 -- an item is spelled where no name is taken
 abbrev pub item_spells : ItemType → Item → List Lexeme → Type 0

@@ -3,7 +3,8 @@ use Rattle.std.proofs.Common.{◌≡◌, ℕ, Bool, true, false, List, [], ◌�
 use Rattle.souper_ir.specs.Parsing.{Cause, Parsing}
 use Rattle.souper_ir.specs.Tokens.{Lexeme}
 use Rattle.souper_ir.specs.Spelling.{kinds}
-use Rattle.souper_ir.specs.Reading.{◌>>=◌, look_in, look_at, take_in, take_at}
+use Rattle.souper_ir.specs.Optional.{◌>>=◌}
+use Rattle.souper_ir.specs.Reading.{look_in, look_at, take_in, take_at}
 use Rattle.souper_ir.specs.Grammar.{peek_at}
 use Rattle.souper_ir.specs.NodeReadings.{accept}
 use Rattle.souper_ir.specs.Peeks.{some_is}

@@ -3,6 +3,5 @@
 
 pub use souper_graph::{ast, stringify};
 
-pub mod laws;
 mod lexer;
 pub mod parse;

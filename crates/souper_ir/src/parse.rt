@@ -1,15 +1,16 @@
-//! Parsing of Souper IR text.
-mod assignment;
+//! Parsing: from texts to items.
+
 mod error;
-mod infer;
-mod item;
 mod message;
+mod numbers;
+mod operands;
 mod parser;
 mod place;
+mod rhs;
 mod tokens;
 mod traits;
+mod words;
 
 pub use error::{ParseError, ParseErrorKind};
-pub use item::parse_left_hand_sides_str;
 pub use parser::{Parser, Result};
 pub use traits::{Parse, Peek};

@@ -1,11 +1,13 @@
 //! A parser with one token of lookahead.
-ghost use Rattle.std.specs.Prelude.{◌≡◌, ◌≤◌, ◌++◌, ◌∷◌, [], length, map, ℕ, List, false, Some, None, IfOk, OnOk, OnErr, IfErr, IsOk, option_map, is_some, ◌≢◌};
+ghost use Rattle.std.specs.Prelude.{◌≡◌, ◌≤◌, ◌++◌, ◌∷◌, [], length, map, ℕ, List, true, false, Some, None, IfOk, OnOk, OnErr, IfErr, IsOk, option_map, is_some, ◌≢◌};
 ghost use Rattle.std.specs.String.{string_bytes};
-ghost use Rattle.souper_graph.specs.View.{view_statement, view_assignment};
+ghost use Rattle.souper_graph.specs.View.{view_rhs, view_statement, view_assignment};
 ghost use Rattle.souper_graph.specs.Values.{assigned};
 ghost use Rattle.souper_ir.specs.Tokens.{Lexeme, AreTokensOf, IsTextOf};
 ghost use Rattle.souper_ir.specs.TokenView.{lexeme_of};
-ghost use Rattle.souper_ir.specs.Spelling.{position_of};
+ghost use Rattle.souper_graph.specs.Uses.{is_condition};
+ghost use Rattle.souper_ir.specs.Spelling.{ways_of, entry_of, position_of};
+ghost use Rattle.souper_ir.specs.NodeReadings.{block_entry};
 ghost use Rattle.souper_ir.specs.Parsing.{Cause, refused, no_memory};
 ghost use Rattle.souper_ir.specs.FailureView.{cause_of_failure};
 ghost use Rattle.souper_ir.specs.Reading.{Fails, FailsForMemory, Gives, look_at, take_at};
@@ -13,7 +15,7 @@ ghost use Rattle.souper_ir.specs.Reading.{Fails, FailsForMemory, Gives, look_at,
 use crate::lexer::{Lexer, Token};
 use crate::parse::error::ParseError;
 use crate::parse::message::Message;
-use souper_graph::ast::{Arena, Assignment, Id, Statement, ValueId};
+use souper_graph::ast::{Arena, Assignment, AssignmentRhs, BlockId, Id, Statement, ValueId};
 use std::alloc::{AllocError, Global};
 use std::collections::BTreeMap;
 use std::marker::Model;
@@ -42,8 +44,8 @@ pub struct Parser<'a> {
     offset: usize,
     // The statements of the item so far.
     statements: Arena<Statement>,
-    // The names that they define.
-    names: BTreeMap<&'a str, ValueId>,
+    // The names that they define, each with its value and, for a block, the number of ways into it.
+    names: BTreeMap<&'a str, (ValueId, Option<u32>)>,
     failed: Option<Failure>,
 }
 
@@ -181,13 +183,44 @@ impl<'a> Parser<'a> {
     }
 }
 
+// How many ways lead into a block.
+fn ways(rhs: &AssignmentRhs) -> Option<u32>
+    ensures { result ≡ ways_of (view_rhs rhs.now) }
+{
+    match rhs {
+        AssignmentRhs::Block(block) => Some(block.predecessors),
+        _ => None,
+    }
+}
+
 impl<'a> Parser<'a> {
+    /// The value that a name stands for, and the number of ways into it where it is that of a block.
+    pub(crate) fn entry(&self, name: &str) -> Option<(ValueId, Option<u32>)>
+        requires { self.now.failed ≡ None }
+        ensures { result ≡ entry_of self.now.scope name.now }
+    {
+        self.names.get(name).copied()
+    }
+
     /// The value that a name stands for.
     pub(crate) fn value_named(&self, name: &str) -> Option<ValueId>
         requires { self.now.failed ≡ None }
         ensures { result ≡ position_of self.now.scope name.now }
     {
-        self.names.get(name).copied()
+        match self.entry(name) {
+            Some((value, _)) => Some(value),
+            None => None,
+        }
+    }
+
+    /// The block that a name stands for, and the number of ways into it.
+    pub(crate) fn block_named(&self, name: &str) -> Option<(BlockId, u32)>
+        requires { self.now.failed ≡ None }
+        ensures { result ≡ block_entry (entry_of self.now.scope name.now) }
+    {
+        let (value, ways) = self.entry(name)?;
+        let ways = ways?;
+        Some((Id::from(value).into(), ways))
     }
 
     /// Adds the definition of a name to the statements.
@@ -198,6 +231,7 @@ impl<'a> Parser<'a> {
         ensures ok { OnOk result (self.new ≡ record self.old { scope = self.old.scope ++ assigned (view_assignment assignment) ∷ [] }) }
         ensures err { IfErr result (λ error. FailsForMemory error self.old self.new) }
     {
+        let ways = ways(&assignment.value);
         let id = match self.statements.alloc(assignment.into()) {
             Ok(id) => id,
             Err(_) => {
@@ -205,7 +239,23 @@ impl<'a> Parser<'a> {
                 return Err(ParseError::memory());
             }
         };
-        match self.names.insert(name, id.into()) {
+        match self.names.insert(name, (id.into(), ways)) {
+            Ok(_) => Ok(()),
+            Err(_) => {
+                self.failed = Some(Failure::Memory);
+                Err(ParseError::memory())
+            }
+        }
+    }
+
+    /// Adds a path condition to the statements.
+    pub(crate) fn add(&mut self, condition: Statement) -> Result<()>
+        requires live { self.old.failed ≡ None }
+        requires unnamed { is_condition (view_statement condition) ≡ true }
+        ensures ok { OnOk result (self.new ≡ record self.old { scope = self.old.scope ++ view_statement condition ∷ [] }) }
+        ensures err { IfErr result (λ error. FailsForMemory error self.old self.new) }
+    {
+        match self.statements.alloc(condition) {
             Ok(_) => Ok(()),
             Err(_) => {
                 self.failed = Some(Failure::Memory);

@@ -1,12 +1,78 @@
 //! Single tokens that a parser takes or sees to come.
-ghost use Rattle.std.specs.Prelude.{◌≡◌, [], false, None, IsOk};
+
+ghost use Rattle.std.specs.Prelude.{◌≡◌, ◌^◌, [], false, None, IsOk};
 ghost use Rattle.souper_ir.specs.Reading.{Gives};
 ghost use Rattle.souper_ir.specs.Grammar.{peek_at};
-ghost use Rattle.souper_ir.specs.NodeReadings.{accept, name_of, is_name, is_any, equals_of, is_word, word_of};
+ghost use Rattle.souper_ir.specs.Numbers.{number_of, count_of};
+ghost use Rattle.souper_ir.specs.TokenView.{lexeme_of};
+ghost use Rattle.souper_ir.specs.MarkView.{lexeme_of_mark};
+ghost use Rattle.souper_ir.specs.NodeReadings.{accept, name_of, is_name, is_any, mark_of, is_mark, is_word, word_of, is_int, int_by};
 
 use crate::lexer::Token;
 use crate::parse::message::Message;
+use crate::parse::numbers::{count, number, small_count};
 use crate::parse::parser::{Parser, Result};
+use std::fmt;
+
+/// A punctuation mark, a token of its own.
+#[derive(Clone, Copy, Debug, PartialEq, Eq)]
+pub(crate) enum Mark {
+    Comma,
+    Colon,
+    Equals,
+    OpenParen,
+    CloseParen,
+    OpenBracket,
+}
+
+impl fmt::Display for Mark {
+    fn fmt<W: fmt::Write>(&self, f: &mut fmt::Formatter<W>) -> fmt::Result {
+        match self {
+            Mark::Comma => write!(f, ","),
+            Mark::Colon => write!(f, ":"),
+            Mark::Equals => write!(f, "="),
+            Mark::OpenParen => write!(f, "("),
+            Mark::CloseParen => write!(f, ")"),
+            Mark::OpenBracket => write!(f, "["),
+        }
+    }
+}
+
+fn is_token(mark: Mark, token: Token<'_>) -> bool
+    ensures { result ≡ is_mark (lexeme_of_mark mark) (lexeme_of token.entry) }
+{
+    match (mark, token) {
+        (Mark::Comma, Token::Comma) => true,
+        (Mark::Colon, Token::Colon) => true,
+        (Mark::Equals, Token::Eq) => true,
+        (Mark::OpenParen, Token::OpenParen) => true,
+        (Mark::CloseParen, Token::CloseParen) => true,
+        (Mark::OpenBracket, Token::OpenBracket) => true,
+        _ => false,
+    }
+}
+
+#[tactic(auto, unfolding(crate::specs::NodeReadings::accept))]
+pub(crate) fn punctuation(parser: &mut Parser<'_>, mark: Mark) -> Result<()>
+    ensures { Gives (λ u. u) result (accept (mark_of (lexeme_of_mark mark)) parser.old) parser.old parser.new }
+{
+    let token = parser.token()?;
+    if is_token(mark, token) {
+        Ok(())
+    } else {
+        Err(parser.refuse(Message::ExpectedMark(mark)))
+    }
+}
+
+#[tactic(auto, unfolding(crate::specs::Grammar::peek_at))]
+pub(crate) fn mark_comes(parser: &mut Parser<'_>, mark: Mark) -> Result<bool>
+    ensures { Gives (λ b. b) result (peek_at (is_mark (lexeme_of_mark mark)) parser.old) parser.old parser.new }
+{
+    match parser.lookahead()? {
+        Some(token) => Ok(is_token(mark, token)),
+        None => Ok(false),
+    }
+}
 
 #[tactic(auto, unfolding(crate::specs::NodeReadings::accept))]
 pub(crate) fn value_name<'a>(parser: &mut Parser<'a>) -> Result<&'a str>
@@ -15,16 +81,6 @@ pub(crate) fn value_name<'a>(parser: &mut Parser<'a>) -> Result<&'a str>
     match parser.token()? {
         Token::ValName(name) => Ok(name),
         _ => Err(parser.refuse(Message::ExpectedValueName)),
-    }
-}
-
-#[tactic(auto, unfolding(crate::specs::NodeReadings::accept))]
-pub(crate) fn equals(parser: &mut Parser<'_>) -> Result<()>
-    ensures { Gives (λ u. u) result (accept equals_of parser.old) parser.old parser.new }
-{
-    match parser.token()? {
-        Token::Eq => Ok(()),
-        _ => Err(parser.refuse(Message::ExpectedEquals)),
     }
 }
 
@@ -38,11 +94,60 @@ pub(crate) fn keyword(parser: &mut Parser<'_>, word: &'static str) -> Result<()>
     }
 }
 
+/// A number within the signed numbers of 128 bits.
+#[tactic(auto, unfolding(crate::specs::NodeReadings::accept))]
+pub(crate) fn integer(parser: &mut Parser<'_>) -> Result<i128>
+    ensures { Gives (λ n. n) result (accept (int_by number_of) parser.old) parser.old parser.new }
+{
+    match parser.token()? {
+        Token::Int(word) => match number(word) {
+            Ok(value) => Ok(value),
+            Err(fault) => Err(parser.refuse(Message::BadInteger(fault))),
+        },
+        _ => Err(parser.refuse(Message::ExpectedInteger)),
+    }
+}
+
+/// A number of ways into a block, or of one of them.
+#[tactic(auto, unfolding(crate::specs::NodeReadings::accept))]
+pub(crate) fn way_count(parser: &mut Parser<'_>) -> Result<u32>
+    ensures { Gives (λ n. n) result (accept (int_by (count_of (2 ^ 32))) parser.old) parser.old parser.new }
+{
+    match parser.token()? {
+        Token::Int(word) => match count(word) {
+            Ok(value) => Ok(value),
+            Err(fault) => Err(parser.refuse(Message::BadInteger(fault))),
+        },
+        _ => Err(parser.refuse(Message::ExpectedInteger)),
+    }
+}
+
+/// A number of bits.
+#[tactic(auto, unfolding(crate::specs::NodeReadings::accept))]
+pub(crate) fn bit_count(parser: &mut Parser<'_>) -> Result<u8>
+    ensures { Gives (λ n. n) result (accept (int_by (count_of (2 ^ 8))) parser.old) parser.old parser.new }
+{
+    match parser.token()? {
+        Token::Int(word) => match small_count(word) {
+            Ok(value) => Ok(value),
+            Err(fault) => Err(parser.refuse(Message::BadInteger(fault))),
+        },
+        _ => Err(parser.refuse(Message::ExpectedInteger)),
+    }
+}
+
 #[tactic(auto, unfolding(crate::specs::Grammar::peek_at))]
 pub(crate) fn value_name_comes(parser: &mut Parser<'_>) -> Result<bool>
     ensures { Gives (λ b. b) result (peek_at is_name parser.old) parser.old parser.new }
 {
     Ok(matches!(parser.lookahead()?, Some(Token::ValName(_))))
+}
+
+#[tactic(auto, unfolding(crate::specs::Grammar::peek_at))]
+pub(crate) fn integer_comes(parser: &mut Parser<'_>) -> Result<bool>
+    ensures { Gives (λ b. b) result (peek_at is_int parser.old) parser.old parser.new }
+{
+    Ok(matches!(parser.lookahead()?, Some(Token::Int(_))))
 }
 
 #[tactic(auto, unfolding(crate::specs::Grammar::peek_at))]

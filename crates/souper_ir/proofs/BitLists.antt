@@ -1,0 +1,7 @@
+-- What a pattern's characters stand for, one after the other.
+use Rattle.std.proofs.Common.{◌++◌, List, Option, Some, None}
+use Rattle.souper_ir.specs.Optional.{◌>>=◌}
+
+-- these entries, and then those
+abbrev pub joined : {A : Type 0} → List A → Option (List A) → Option (List A)
+joined xs o = o >>= λ ys. Some (xs ++ ys)

@@ -1,0 +1,7 @@
+use Rattle.std.proofs.Common.{◌≡◌, drop}
+use Rattle.souper_ir.specs.Numbers.{all_of, known_bit_of}
+use Rattle.souper_ir.proofs.BitLists.{joined}
+use Rattle.souper_ir.proofs.parse.numbers.known_bits.Given as goal
+
+abbrev pub invariant-loop-byte : goal.invariant-loop-byte
+invariant-loop-byte l = all_of known_bit_of l.byte-items ≡ joined l.bits.items (all_of known_bit_of (drop l.byte-index l.byte-items))

@@ -1,0 +1,255 @@
+-- Right sides: what is read is spelled so, and what is spelled so is read.
+use Rattle.std.proofs.Common.{◌≡◌, ℕ, ◌^◌, Bool, true, false, List, [], ◌∷◌, ◌++◌, length, Option, Some, None, refl, sym, ◌∙◌, ap, subst}
+use Rattle.std.specs.Prelude.{codes, is_some}
+use Rattle.souper_graph.specs.declared.ast.operands.Operand.{Operand}
+use Rattle.souper_graph.specs.declared.ast.instructions.Instruction.{Instruction}
+use Rattle.souper_graph.specs.declared.ast.statements.Block.{Block}
+use Rattle.souper_graph.specs.Instructions.{word_of as instruction_word, operands_of}
+use Rattle.souper_graph.specs.Values.{PlainPhi, PlainRhs, var, block, phi, reserved_inst, reserved_const, instruction}
+use Rattle.souper_ir.specs.Tokens.{Lexeme, ident, val_name, int}
+use Rattle.souper_ir.specs.Numbers.{count_of}
+use Rattle.souper_ir.specs.Words.{instruction_of, operand_count_of}
+use Rattle.souper_ir.specs.WordLaws.{instruction_is, count_is, kind_is, instruction_makes}
+use Rattle.souper_ir.specs.Spelling.{kinds, Scope, entry_of, further_spells, operands_spells, block_spells, phi_spells, instruction_spells, rhs_spells}
+use Rattle.souper_ir.specs.Continuation.{operands_continue, phi_continues, instruction_continues, rhs_continues}
+use Rattle.souper_ir.specs.Parsing.{Cause, Parsing}
+use Rattle.souper_ir.specs.Optional.{◌>>=◌}
+use Rattle.souper_ir.specs.Reading.{look_in, look_at}
+use Rattle.souper_ir.specs.Grammar.{Free, Stops, Starts}
+use Rattle.souper_ir.specs.NodeReadings.{accept, name_of, is_word, word_of, int_by, ident_by, further_at, operands_at, block_at, block_entry, block_name_at, phi_at, counted_word, instruction_at, starts_instruction, RhsKind, is_var, is_block, is_phi, is_reserved_inst, is_reserved_const, is_instruction, rhs_kind_of, rhs_by, rhs_at}
+use Rattle.souper_ir.specs.Peeks.{some_is}
+use Rattle.souper_ir.specs.Steps.{Takes, Takes-then, At, bind_some, accepted, accepts}
+use Rattle.souper_ir.specs.Readings.{Sound, Complete}
+use Rattle.souper_ir.specs.OperandLaws.{name_means, word_means, word_is, word_of_is, int_means, ident_means, never, WasRead, moved, scope_is, live_still, state_then, same_scope, same_fault, further_sound, further_complete, operands_sound, operands_complete}
+
+-- ---- blocks
+
+both_are : (t u v w : Lexeme) → t ≡ v → u ≡ w → t ∷ u ∷ [] ≡ v ∷ w ∷ []
+both_are t u v w d e = rw (d, e) refl
+
+pub block_sound : Sound (λ s. block_spells) (λ b t. ⊥) block_at
+unfolding block_at
+block_sound p q b e =
+    let k = bind_some (accept (word_of (codes "block")) p) (λ k. accept (int_by (count_of (2 ^ 32))) k.1 >>= λ n. Some (record { predecessors = n.0 }, n.1)) (b, q) e in
+    let n = bind_some (accept (int_by (count_of (2 ^ 32))) k.0.1) (λ n. Some (record { predecessors = n.0 }, n.1)) (b, q) k.2 in
+    let k2 = accepted (word_of (codes "block")) p k.0.1 k.0.0 k.1 in
+    let n2 = accepted (int_by (count_of (2 ^ 32))) k.0.1 n.0.1 n.0.0 n.1 in
+    let w = int_means (count_of (2 ^ 32)) n2.0 n.0.0 n2.2 in
+    let parts : k2.0 ∷ n2.0 ∷ [] ≡ ident (codes "block") ∷ int w.0 ∷ [] = both_are k2.0 n2.0 (ident (codes "block")) (int w.0) (word_means (codes "block") k2.0 k2.2) w.1 in
+    moved (WasRead (λ s. block_spells) (λ (b : Block) t. ⊥) p) (record { predecessors = n.0.0 }, n.0.1) (b, q) n.2
+      (k2.0 ∷ n2.0 ∷ [], Takes-then p k.0.1 n.0.1 (k2.0 ∷ []) (n2.0 ∷ []) k2.1 n2.1, (w.0, parts, w.2), never (kinds n.0.1.tokens))
+
+pub block_complete : Complete (λ s. block_spells) (λ b t. ⊥) block_at
+unfolding block_at
+block_complete p b front rest at s st =
+    let ahead : At p (ident (codes "block") ∷ int s.0 ∷ rest) = subst (λ (x : List Lexeme). At p (x ++ rest)) s.1 at in
+    let k = accepts (word_of (codes "block")) p (ident (codes "block")) tt (int s.0 ∷ rest) ahead (word_of_is (codes "block")) in
+    let n = accepts (int_by (count_of (2 ^ 32))) k.0 (int s.0) b.predecessors rest k.2 s.2 in
+    (n.0, rw (k.1, n.1) refl, n.2, state_then p k.0 n.0 k.3 n.3)
+
+pub block_first : (s : Scope) (b : Block) (ts : List Lexeme) → block_spells b ts → Starts (is_word (codes "block")) ts
+block_first s b ts h = subst (λ (x : List Lexeme). Starts (is_word (codes "block")) x) (sym h.1) (word_is (codes "block"))
+
+-- ---- names of blocks
+
+ways_mean : (i : ℕ) (o : Option ℕ) (b : ℕ × ℕ) → (o >>= λ ways. Some (i, ways)) ≡ Some b → ◌≡◌ {A = ℕ × Option ℕ} (i, o) (b.0, Some b.1)
+ways_mean i None b e = absurd cc
+ways_mean i (Some n) b e = let same : ◌≡◌ {A = ℕ × ℕ} (i, n) b = some_is e in ap (λ (x : ℕ × ℕ). (x.0, Some x.1)) same
+
+entry_means : (o : Option (ℕ × Option ℕ)) (b : ℕ × ℕ) → block_entry o ≡ Some b → o ≡ Some (b.0, Some b.1)
+entry_means None b e = absurd cc
+entry_means (Some x) b e = ap Some (ways_mean x.0 x.1 b e)
+
+entry_is : (o : Option (ℕ × Option ℕ)) (b : ℕ × ℕ) → o ≡ Some (b.0, Some b.1) → block_entry o ≡ Some b
+entry_is o b e = rw e refl
+
+-- the name of a block was read, of this id and so many ways
+abbrev pub ReadBlockName : Parsing → (ℕ × ℕ) × Parsing → Type 0
+ReadBlockName p r = (n : List ℕ) × Takes p r.1 (val_name n ∷ []) × (entry_of p.scope n ≡ Some (r.0.0, Some r.0.1))
+
+pub block_name_sound : (p q : Parsing) (b : ℕ × ℕ) → block_name_at p ≡ Some (b, q) → ReadBlockName p (b, q)
+unfolding block_name_at
+block_name_sound p q b e =
+    let n = bind_some (accept name_of p) (λ n. block_entry (entry_of n.1.scope n.0) >>= λ b. Some (b, n.1)) (b, q) e in
+    let d = bind_some (block_entry (entry_of n.0.1.scope n.0.0)) (λ b. Some (b, n.0.1)) (b, q) n.2 in
+    let k = accepted name_of p n.0.1 n.0.0 n.1 in
+    let found : entry_of p.scope n.0.0 ≡ Some (d.0.0, Some d.0.1) = subst (λ (s : Scope). entry_of s n.0.0 ≡ Some (d.0.0, Some d.0.1)) (scope_is p n.0.1 (k.0 ∷ []) k.1) (entry_means (entry_of n.0.1.scope n.0.0) d.0 d.1) in
+    moved (ReadBlockName p) (d.0, n.0.1) (b, q) d.2 (n.0.0, subst (λ (t : Lexeme). Takes p n.0.1 (t ∷ [])) (name_means k.0 n.0.0 k.2) k.1, found)
+
+pub block_name_complete : (p : Parsing) (n : List ℕ) (b : ℕ × ℕ) (rest : List Lexeme) → At p (val_name n ∷ rest) → entry_of p.scope n ≡ Some (b.0, Some b.1)
+    → (q : Parsing) × (block_name_at p ≡ Some (b, q)) × At q rest × (q ≡ record p { tokens = q.tokens })
+unfolding block_name_at
+block_name_complete p n b rest at found =
+    let k = accepts name_of p (val_name n) n rest at refl in
+    let there : block_entry (entry_of k.0.scope n) ≡ Some b = entry_is (entry_of k.0.scope n) b (subst (λ (s : Scope). entry_of s n ≡ Some (b.0, Some b.1)) (sym (same_scope p k.0 k.3)) found) in
+    (k.0, rw (k.1, there) refl, k.2, k.3)
+
+-- ---- phis
+
+pub phi_sound : Sound phi_spells phi_continues phi_at
+unfolding phi_at
+phi_sound p q v e =
+    let k = bind_some (accept (word_of (codes "phi")) p) (λ k. block_name_at k.1 >>= λ b. (further_at b.0.1 b.1 >>= λ xs. Some (record { block = b.0.0; values = xs.0 }, xs.1))) (v, q) e in
+    let b = bind_some (block_name_at k.0.1) (λ b. further_at b.0.1 b.1 >>= λ xs. Some (record { block = b.0.0; values = xs.0 }, xs.1)) (v, q) k.2 in
+    let xs = bind_some (further_at b.0.0.1 b.0.1) (λ xs. Some (record { block = b.0.0.0; values = xs.0 }, xs.1)) (v, q) b.2 in
+    let k2 = accepted (word_of (codes "phi")) p k.0.1 k.0.0 k.1 in
+    let b2 = block_name_sound k.0.1 b.0.1 b.0.0 b.1 in
+    let head : Takes p b.0.1 (k2.0 ∷ val_name b2.0 ∷ []) = Takes-then p k.0.1 b.0.1 (k2.0 ∷ []) (val_name b2.0 ∷ []) k2.1 b2.1 in
+    let x2 = further_sound b.0.0.1 b.0.1 xs.0.1 xs.0.0 (live_still p b.0.1 (k2.0 ∷ val_name b2.0 ∷ []) head) xs.1 in
+    let parts : k2.0 ∷ val_name b2.0 ∷ x2.0 ≡ ident (codes "phi") ∷ val_name b2.0 ∷ x2.0 = ap (λ (t : Lexeme). t ∷ val_name b2.0 ∷ x2.0) (word_means (codes "phi") k2.0 k2.2) in
+    let found : entry_of p.scope b2.0 ≡ Some (b.0.0.0, Some (length xs.0.0)) =
+      subst (λ (s : Scope). entry_of s b2.0 ≡ Some (b.0.0.0, Some (length xs.0.0))) (scope_is p k.0.1 (k2.0 ∷ []) k2.1) (subst (λ (n : ℕ). entry_of k.0.1.scope b2.0 ≡ Some (b.0.0.0, Some n)) (sym x2.3) b2.2) in
+    let values : further_spells p.scope xs.0.0 x2.0 = subst (λ (s : Scope). further_spells s xs.0.0 x2.0) (scope_is p b.0.1 (k2.0 ∷ val_name b2.0 ∷ []) head) x2.2 in
+    moved (WasRead phi_spells phi_continues p) (record { block = b.0.0.0; values = xs.0.0 }, xs.0.1) (v, q) xs.2
+      (k2.0 ∷ val_name b2.0 ∷ x2.0, Takes-then p b.0.1 xs.0.1 (k2.0 ∷ val_name b2.0 ∷ []) x2.0 head x2.1, (b2.0, x2.0, parts, found, values), x2.4)
+
+phi_is : (p k b q : Parsing) (v : PlainPhi) → accept (word_of (codes "phi")) p ≡ Some (tt, k) → block_name_at k ≡ Some ((v.block, length v.values), b) → further_at (length v.values) b ≡ Some (v.values, q) → phi_at p ≡ Some (v, q)
+unfolding phi_at
+phi_is p k b q v d e f = rw (d, e, f) refl
+
+pub phi_complete : Complete phi_spells phi_continues phi_at
+phi_complete p v front rest at s st =
+    let ahead : At p (ident (codes "phi") ∷ val_name s.0 ∷ (s.1 ++ rest)) = subst (λ (x : List Lexeme). At p (x ++ rest)) s.2 at in
+    let k = accepts (word_of (codes "phi")) p (ident (codes "phi")) tt (val_name s.0 ∷ (s.1 ++ rest)) ahead (word_of_is (codes "phi")) in
+    let found : entry_of k.0.scope s.0 ≡ Some (v.block, Some (length v.values)) = subst (λ (z : Scope). entry_of z s.0 ≡ Some (v.block, Some (length v.values))) (sym (same_scope p k.0 k.3)) s.3 in
+    let b = block_name_complete k.0 s.0 (v.block, length v.values) (s.1 ++ rest) k.2 found in
+    let before : b.0 ≡ record p { tokens = b.0.tokens } = state_then p k.0 b.0 k.3 b.3 in
+    let values : further_spells b.0.scope v.values s.1 = subst (λ (z : Scope). further_spells z v.values s.1) (sym (same_scope p b.0 before)) s.4 in
+    let last : Stops (operands_continue v.values) b.0.faulty rest = subst (λ (z : Bool). Stops (operands_continue v.values) z rest) (sym (same_fault p b.0 before)) st in
+    let xs = further_complete b.0 v.values s.1 rest b.2 values last in
+    (xs.0, phi_is p k.0 b.0 xs.0 v k.1 b.1 xs.1, xs.2, state_then p b.0 xs.0 before xs.3)
+
+pub phi_first : (s : Scope) (v : PlainPhi) (ts : List Lexeme) → phi_spells s v ts → Starts (is_word (codes "phi")) ts
+phi_first s v ts h = subst (λ (x : List Lexeme). Starts (is_word (codes "phi")) x) (sym h.2) (word_is (codes "phi"))
+
+-- ---- instructions
+
+counted_means : (w : List ℕ) (r : List ℕ × ℕ) → counted_word w ≡ Some r → (w ≡ r.0) × (operand_count_of w ≡ Some r.1)
+counted_means w r e =
+    let n = bind_some (operand_count_of w) (λ n. Some (w, n)) r e in
+    let same : ◌≡◌ {A = List ℕ × ℕ} (w, n.0) r = some_is n.2 in
+    (ap (λ (x : List ℕ × ℕ). x.0) same, n.1 ∙ ap (λ (x : List ℕ × ℕ). Some x.1) same)
+
+counted_is : (i : Instruction) → counted_word (instruction_word i) ≡ Some (instruction_word i, length (operands_of i))
+counted_is i = rw (count_is i) refl
+
+pub instruction_sound : Sound instruction_spells instruction_continues instruction_at
+unfolding instruction_at
+instruction_sound p q i e =
+    let w = bind_some (accept (ident_by counted_word) p) (λ w. operands_at w.0.1 w.1 >>= λ xs. (instruction_of w.0.0 xs.0 >>= λ i. Some (i, xs.1))) (i, q) e in
+    let xs = bind_some (operands_at w.0.0.1 w.0.1) (λ xs. instruction_of w.0.0.0 xs.0 >>= λ i. Some (i, xs.1)) (i, q) w.2 in
+    let j = bind_some (instruction_of w.0.0.0 xs.0.0) (λ i. Some (i, xs.0.1)) (i, q) xs.2 in
+    let w2 = accepted (ident_by counted_word) p w.0.1 w.0.0 w.1 in
+    let k = ident_means counted_word w2.0 w.0.0 w2.2 in
+    let x2 = operands_sound w.0.0.1 w.0.1 xs.0.1 xs.0.0 (live_still p w.0.1 (w2.0 ∷ []) w2.1) xs.1 in
+    let made = instruction_makes w.0.0.0 xs.0.0 j.0 j.1 in
+    let first : w2.0 ≡ ident (instruction_word j.0) = k.1 ∙ ap ident ((counted_means k.0 w.0.0 k.2).0 ∙ made.0) in
+    let spelled : operands_spells p.scope (operands_of j.0) x2.0 =
+      subst (λ (ys : List Operand). operands_spells p.scope ys x2.0) made.1 (subst (λ (s : Scope). operands_spells s xs.0.0 x2.0) (scope_is p w.0.1 (w2.0 ∷ []) w2.1) x2.2) in
+    let free : Free (operands_continue (operands_of j.0)) (kinds xs.0.1.tokens) = subst (λ (ys : List Operand). Free (operands_continue ys) (kinds xs.0.1.tokens)) made.1 x2.4 in
+    moved (WasRead instruction_spells instruction_continues p) (j.0, xs.0.1) (i, q) j.2
+      (w2.0 ∷ x2.0, Takes-then p w.0.1 xs.0.1 (w2.0 ∷ []) x2.0 w2.1 x2.1, (x2.0, ap (λ (t : Lexeme). t ∷ x2.0) first, spelled), free)
+
+instruction_made : (p w q : Parsing) (i : Instruction) → accept (ident_by counted_word) p ≡ Some ((instruction_word i, length (operands_of i)), w) → operands_at (length (operands_of i)) w ≡ Some (operands_of i, q) → instruction_at p ≡ Some (i, q)
+unfolding instruction_at
+instruction_made p w q i d e = rw (d, e, instruction_is i) refl
+
+pub instruction_complete : Complete instruction_spells instruction_continues instruction_at
+instruction_complete p i front rest at s st =
+    let ahead : At p (ident (instruction_word i) ∷ (s.0 ++ rest)) = subst (λ (x : List Lexeme). At p (x ++ rest)) s.1 at in
+    let w = accepts (ident_by counted_word) p (ident (instruction_word i)) (instruction_word i, length (operands_of i)) (s.0 ++ rest) ahead (counted_is i) in
+    let spelled : operands_spells w.0.scope (operands_of i) s.0 = subst (λ (z : Scope). operands_spells z (operands_of i) s.0) (sym (same_scope p w.0 w.3)) s.2 in
+    let last : Stops (operands_continue (operands_of i)) w.0.faulty rest = subst (λ (z : Bool). Stops (operands_continue (operands_of i)) z rest) (sym (same_fault p w.0 w.3)) st in
+    let xs = operands_complete w.0 (operands_of i) s.0 rest w.2 spelled last in
+    (xs.0, instruction_made p w.0 xs.0 i w.1 xs.1, xs.2, state_then p w.0 xs.0 w.3 xs.3)
+
+starts_it : (i : Instruction) → starts_instruction (ident (instruction_word i)) ≡ true
+starts_it i = rw (counted_is i) refl
+
+pub instruction_first : (s : Scope) (i : Instruction) (ts : List Lexeme) → instruction_spells s i ts → Starts starts_instruction ts
+instruction_first s i ts h = subst (λ (x : List Lexeme). Starts starts_instruction x) (sym h.1) (starts_it i)
+
+-- ---- right sides
+
+looked_in : (p : Parsing) (failed : Option Cause) (faulty : Bool) (ts : List (ℕ × Lexeme)) (t : Lexeme) (rest : List Lexeme) → failed ≡ None → kinds ts ≡ t ∷ rest → look_in failed faulty ts ≡ Some (Some t)
+looked_in p (Some c) faulty ts t rest live e = absurd cc
+looked_in p None faulty [] t rest live e = absurd cc
+looked_in p None faulty (u ∷ ts) t rest live e = let same : u.1 ≡ t = cc in ap (λ (x : Lexeme). Some (Some x)) same
+
+-- a look sees the token that stands next
+looks : (p : Parsing) (t : Lexeme) (rest : List Lexeme) → At p (t ∷ rest) → look_at p ≡ Some (Some t, p)
+unfolding look_at
+looks p t rest at = rw (looked_in p p.failed p.faulty p.tokens t rest at.live at.kinds_are) refl
+
+-- and takes none
+looked : (p q : Parsing) (t : Option Lexeme) → look_at p ≡ Some (t, q) → q ≡ p
+unfolding look_at
+looked p q t e =
+    let s = bind_some (look_in p.failed p.faulty p.tokens) (λ t. Some (t, p)) (t, q) e in
+    let same : ◌≡◌ {A = Option Lexeme × Parsing} (s.0, p) (t, q) = some_is s.2 in
+    ap (λ (x : Option Lexeme × Parsing). x.1) (sym same)
+
+abbrev worded : PlainRhs → Option (Unit {0} × Parsing) → Option (PlainRhs × Parsing)
+worded r o = o >>= λ k. Some (r, k.1)
+
+-- a right side that is one word
+word_alone : (w : List ℕ) (r : PlainRhs) (p q : Parsing) (v : PlainRhs) → ((s : Scope) → rhs_spells s r (ident w ∷ [])) → ((ts : List Lexeme) → Free (rhs_continues r) ts)
+    → worded r (accept (word_of w) p) ≡ Some (v, q) → WasRead rhs_spells rhs_continues p (v, q)
+word_alone w r p q v spelled ends e =
+    let k = bind_some (accept (word_of w) p) (λ k. Some (r, k.1)) (v, q) e in
+    let k2 = accepted (word_of w) p k.0.1 k.0.0 k.1 in
+    let t : k2.0 ≡ ident w = word_means w k2.0 k2.2 in
+    moved (WasRead rhs_spells rhs_continues p) (r, k.0.1) (v, q) k.2
+      (k2.0 ∷ [], k2.1, subst (λ (u : Lexeme). rhs_spells p.scope r (u ∷ [])) (sym t) (spelled p.scope), ends (kinds k.0.1.tokens))
+
+rhs_by_sound : (k : RhsKind) (p q : Parsing) (v : PlainRhs) → rhs_by k p ≡ Some (v, q) → WasRead rhs_spells rhs_continues p (v, q)
+rhs_by_sound is_var p q v e = word_alone (codes "var") var p q v (λ s. refl) never e
+rhs_by_sound is_block p q v e =
+    let b = bind_some (block_at p) (λ b. Some (block b.0, b.1)) (v, q) e in
+    moved (WasRead rhs_spells rhs_continues p) (block b.0.0, b.0.1) (v, q) b.2 (block_sound p b.0.1 b.0.0 b.1)
+rhs_by_sound is_phi p q v e =
+    let f = bind_some (phi_at p) (λ f. Some (phi f.0, f.1)) (v, q) e in
+    moved (WasRead rhs_spells rhs_continues p) (phi f.0.0, f.0.1) (v, q) f.2 (phi_sound p f.0.1 f.0.0 f.1)
+rhs_by_sound is_reserved_inst p q v e = word_alone (codes "reservedinst") reserved_inst p q v (λ s. refl) never e
+rhs_by_sound is_reserved_const p q v e = word_alone (codes "reservedconst") reserved_const p q v (λ s. refl) never e
+rhs_by_sound is_instruction p q v e =
+    let i = bind_some (instruction_at p) (λ i. Some (instruction i.0, i.1)) (v, q) e in
+    moved (WasRead rhs_spells rhs_continues p) (instruction i.0.0, i.0.1) (v, q) i.2 (instruction_sound p i.0.1 i.0.0 i.1)
+
+pub rhs_sound : Sound rhs_spells rhs_continues rhs_at
+unfolding rhs_at
+rhs_sound p q v e =
+    let t = bind_some (look_at p) (λ t. rhs_kind_of t.0 >>= λ k. rhs_by k t.1) (v, q) e in
+    let k = bind_some (rhs_kind_of t.0.0) (λ k. rhs_by k t.0.1) (v, q) t.2 in
+    rhs_by_sound k.0 p q v (subst (λ (x : Parsing). rhs_by k.0 x ≡ Some (v, q)) (looked p t.0.1 t.0.0 t.1) k.2)
+
+-- what is read by the kind of the next token
+rhs_is : (p q : Parsing) (t : Lexeme) (rest : List Lexeme) (k : RhsKind) (v : PlainRhs) → At p (t ∷ rest) → rhs_kind_of (Some t) ≡ Some k → rhs_by k p ≡ Some (v, q) → rhs_at p ≡ Some (v, q)
+unfolding rhs_at
+rhs_is p q t rest k v at d e = rw (looks p t rest at, d) e
+
+pub rhs_complete : Complete rhs_spells rhs_continues rhs_at
+rhs_complete p var front rest at s st =
+    let ahead : At p (ident (codes "var") ∷ rest) = subst (λ (x : List Lexeme). At p (x ++ rest)) s at in
+    let k = accepts (word_of (codes "var")) p (ident (codes "var")) tt rest ahead (word_of_is (codes "var")) in
+    (k.0, rhs_is p k.0 (ident (codes "var")) rest is_var var ahead refl (rw k.1 refl), k.2, k.3)
+rhs_complete p (block b) front rest at s st =
+    let ahead : At p (ident (codes "block") ∷ int s.0 ∷ rest) = subst (λ (x : List Lexeme). At p (x ++ rest)) s.1 at in
+    let k = block_complete p b front rest at s st in
+    (k.0, rhs_is p k.0 (ident (codes "block")) (int s.0 ∷ rest) is_block (block b) ahead refl (rw k.1 refl), k.2, k.3)
+rhs_complete p (phi f) front rest at s st =
+    let ahead : At p (ident (codes "phi") ∷ val_name s.0 ∷ (s.1 ++ rest)) = subst (λ (x : List Lexeme). At p (x ++ rest)) s.2 at in
+    let k = phi_complete p f front rest at s st in
+    (k.0, rhs_is p k.0 (ident (codes "phi")) (val_name s.0 ∷ (s.1 ++ rest)) is_phi (phi f) ahead refl (rw k.1 refl), k.2, k.3)
+rhs_complete p reserved_inst front rest at s st =
+    let ahead : At p (ident (codes "reservedinst") ∷ rest) = subst (λ (x : List Lexeme). At p (x ++ rest)) s at in
+    let k = accepts (word_of (codes "reservedinst")) p (ident (codes "reservedinst")) tt rest ahead (word_of_is (codes "reservedinst")) in
+    (k.0, rhs_is p k.0 (ident (codes "reservedinst")) rest is_reserved_inst reserved_inst ahead refl (rw k.1 refl), k.2, k.3)
+rhs_complete p reserved_const front rest at s st =
+    let ahead : At p (ident (codes "reservedconst") ∷ rest) = subst (λ (x : List Lexeme). At p (x ++ rest)) s at in
+    let k = accepts (word_of (codes "reservedconst")) p (ident (codes "reservedconst")) tt rest ahead (word_of_is (codes "reservedconst")) in
+    (k.0, rhs_is p k.0 (ident (codes "reservedconst")) rest is_reserved_const reserved_const ahead refl (rw k.1 refl), k.2, k.3)
+rhs_complete p (instruction i) front rest at s st =
+    let ahead : At p (ident (instruction_word i) ∷ (s.0 ++ rest)) = subst (λ (x : List Lexeme). At p (x ++ rest)) s.1 at in
+    let k = instruction_complete p i front rest at s st in
+    (k.0, rhs_is p k.0 (ident (instruction_word i)) (s.0 ++ rest) is_instruction (instruction i) ahead (kind_is i) (rw k.1 refl), k.2, k.3)

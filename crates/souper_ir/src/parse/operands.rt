@@ -1,0 +1,167 @@
+//! Types, constants and operands.
+
+ghost use Rattle.std.specs.Prelude.{◌≡◌, ◌≤◌, None, refl};
+ghost use Rattle.souper_ir.specs.Reading.{Gives};
+ghost use Rattle.souper_ir.specs.Spelling.{type_spells, constant_spells, operand_spells};
+ghost use Rattle.souper_ir.specs.Continuation.{constant_continues, operand_continues};
+ghost use Rattle.souper_ir.specs.NodeReadings.{is_int, type_at, optional_type_at, constant_at, operand_at, next_operand_at, further_at, operands_at};
+ghost use Rattle.souper_ir.specs.Readings.{one_alone};
+ghost use Rattle.souper_ir.specs.OperandLaws.{type_complete, constant_complete, constant_first, operand_complete};
+
+use crate::lexer::Token;
+use crate::parse::message::Message;
+use crate::parse::numbers::width;
+use crate::parse::parser::{Parser, Result};
+use crate::parse::tokens::{
+    integer, integer_comes, mark_comes, punctuation, value_name, value_name_comes, Mark,
+};
+use crate::parse::traits::{Parse, Peek};
+use arrayvec::ArrayVec;
+use souper_graph::ast::{Constant, Operand, Type};
+
+#[tactic(auto, unfolding(crate::specs::NodeReadings::accept))]
+pub(crate) fn type_alone(parser: &mut Parser<'_>) -> Result<Type>
+    ensures { Gives (λ t. t) result (type_at parser.old) parser.old parser.new }
+{
+    match parser.token()? {
+        Token::Ident(word) => match width(word) {
+            Some(width) => Ok(Type { width }),
+            None => Err(parser.refuse(Message::ExpectedType)),
+        },
+        _ => Err(parser.refuse(Message::ExpectedType)),
+    }
+}
+
+/// A type behind a colon, where one comes.
+#[tactic(auto, unfolding(crate::specs::NodeReadings::optional_type_at))]
+pub(crate) fn optional_type(parser: &mut Parser<'_>) -> Result<Option<Type>>
+    ensures { Gives (λ t. t) result (optional_type_at parser.old) parser.old parser.new }
+{
+    if mark_comes(parser, Mark::Colon)? {
+        punctuation(parser, Mark::Colon)?;
+        Ok(Some(type_alone(parser)?))
+    } else {
+        Ok(None)
+    }
+}
+
+#[tactic(auto, unfolding(crate::specs::NodeReadings::constant_at))]
+pub(crate) fn constant(parser: &mut Parser<'_>) -> Result<Constant>
+    ensures { Gives (λ c. c) result (constant_at parser.old) parser.old parser.new }
+{
+    let value = integer(parser)?;
+    let ty = optional_type(parser)?;
+    Ok(Constant { value, ty })
+}
+
+#[tactic(auto, unfolding(crate::specs::NodeReadings::operand_at))]
+pub(crate) fn operand(parser: &mut Parser<'_>) -> Result<Operand>
+    ensures { Gives (λ x. x) result (operand_at parser.old) parser.old parser.new }
+{
+    if value_name_comes(parser)? {
+        let name = value_name(parser)?;
+        match parser.value_named(name) {
+            Some(value) => Ok(Operand::Value(value)),
+            None => Err(parser.refuse(Message::UnknownValue(name))),
+        }
+    } else {
+        Ok(Operand::Constant(constant(parser)?))
+    }
+}
+
+// An operand behind a comma.
+#[tactic(auto, unfolding(crate::specs::NodeReadings::next_operand_at))]
+fn next_operand(parser: &mut Parser<'_>) -> Result<Operand>
+    ensures { Gives (λ x. x) result (next_operand_at parser.old) parser.old parser.new }
+{
+    punctuation(parser, Mark::Comma)?;
+    operand(parser)
+}
+
+/// So many operands, each behind a comma.
+pub(crate) fn further(parser: &mut Parser<'_>, count: u32) -> Result<Vec<Operand>>
+    requires { parser.old.failed ≡ None }
+    ensures { Gives (λ v. v.items) result (further_at count parser.old) parser.old parser.new }
+{
+    let mut operands = Vec::new(parser.alloc());
+    for _ in 0..count {
+        let operand = next_operand(parser)?;
+        match operands.push(operand) {
+            Ok(()) => {}
+            Err(_) => return Err(parser.want_memory()),
+        }
+    }
+    Ok(operands)
+}
+
+/// So many operands with commas between them.
+pub(crate) fn operands(parser: &mut Parser<'_>, count: usize) -> Result<ArrayVec<Operand, 3>>
+    requires live { parser.old.failed ≡ None }
+    requires room { count ≤ 3 }
+    ensures { Gives (λ v. v.items) result (operands_at count parser.old) parser.old parser.new }
+{
+    let mut operands = ArrayVec::new();
+    if count == 0 {
+        return Ok(operands);
+    }
+    operands.push(operand(parser)?);
+    for _ in 1..count {
+        operands.push(next_operand(parser)?);
+    }
+    Ok(operands)
+}
+
+impl Parse for Type {
+    ghost spells = { λ s. type_spells };
+
+    ghost continues = { λ t u. ⊥ };
+
+    ghost alike = { λ v w. v ≡ w };
+
+    ghost alone = { one_alone (λ s. type_spells) (λ t u. ⊥) type_at (λ t. t) type_complete };
+
+    fn parse<'a>(parser: &mut Parser<'a>) -> Result<Self> {
+        type_alone(parser)
+    }
+}
+
+impl Parse for Constant {
+    ghost spells = { λ s. constant_spells };
+
+    ghost continues = { constant_continues };
+
+    ghost alike = { λ v w. v ≡ w };
+
+    ghost alone = { one_alone (λ s. constant_spells) constant_continues constant_at (λ c. c) constant_complete };
+
+    fn parse<'a>(parser: &mut Parser<'a>) -> Result<Self> {
+        constant(parser)
+    }
+}
+
+impl Peek for Constant {
+    ghost starts = { is_int };
+
+    ghost first = { constant_first };
+
+    ghost stays = { λ s. refl };
+
+    fn peek<'a>(parser: &mut Parser<'a>) -> Result<bool> {
+        integer_comes(parser)
+    }
+}
+
+/// A name has to stand for a value in scope.
+impl Parse for Operand {
+    ghost spells = { operand_spells };
+
+    ghost continues = { operand_continues };
+
+    ghost alike = { λ v w. v ≡ w };
+
+    ghost alone = { one_alone operand_spells operand_continues operand_at (λ x. x) operand_complete };
+
+    fn parse<'a>(parser: &mut Parser<'a>) -> Result<Self> {
+        operand(parser)
+    }
+}
