@@ -308,6 +308,12 @@ root_kind_means t k e =
 abbrev RootBodyRead : Lexeme → Parsing → PlainRootAttribute × Parsing → Type 0
 RootBodyRead t p x = (used : List Lexeme) × Takes p x.1 used × root_attribute_spells x.0 (open_paren ∷ t ∷ (used ++ close_paren ∷ []))
 
+bits_token : (t : Lexeme) (bits : List Bool) → int_by bits_of t ≡ Some bits → (t ≡ int (map text_of_bit bits)) × (0 < length bits)
+bits_token t bits e =
+    let w = int_means bits_of t bits e in
+    let m = bits_means w.0 bits w.2 in
+    (w.1 ∙ ap int m.0, m.1)
+
 root_body_sound : (k : Bool) (t : Lexeme) (p q : Parsing) (a : PlainRootAttribute) → p.failed ≡ None → RootKindIs k t → root_attribute_by k p ≡ Some (a, q) → RootBodyRead t p (a, q)
 root_body_sound false t p q a live h e =
     moved (RootBodyRead t p) (harvested_from_use, p) (a, q) e ([], Takes-none p p refl live, ap (λ (x : Lexeme). open_paren ∷ x ∷ close_paren ∷ []) h)
@@ -316,9 +322,8 @@ root_body_sound true t p q a live h e =
     let n = bind_some (accept (int_by bits_of) g.0.1) (λ n. Some (demanded_bits n.0, n.1)) (a, q) g.2 in
     let j = accepted (mark_of equals) p g.0.1 g.0.0 g.1 in
     let k = accepted (int_by bits_of) g.0.1 n.0.1 n.0.0 n.1 in
-    let w = int_means bits_of k.0 n.0.0 k.2 in
-    let m = bits_means w.0 n.0.0 w.2 in
-    let parts = number_tokens t j.0 k.0 (codes "demandedBits") (map text_of_bit n.0.0) h (mark_means equals j.0 j.2) (w.1 ∙ ap int m.0) in
+    let m = bits_token k.0 n.0.0 k.2 in
+    let parts = number_tokens t j.0 k.0 (codes "demandedBits") (map text_of_bit n.0.0) h (mark_means equals j.0 j.2) m.0 in
     moved (RootBodyRead t p) (demanded_bits n.0.0, n.0.1) (a, q) n.2 (j.0 ∷ k.0 ∷ [], Takes-then p g.0.1 n.0.1 (j.0 ∷ []) (k.0 ∷ []) j.1 k.1, (parts, m.1))
 
 pub root_attribute_sound : Sound (λ s. root_attribute_spells) (λ a t. ⊥) root_attribute_at
