@@ -1,5 +1,5 @@
 -- What a pattern's characters stand for, one after the other.
-use Rattle.std.proofs.Common.{◌++◌, List, Option, Some, None}
+use Rattle.std.proofs.Common.{◌++◌, List, Option, Some}
 use Rattle.souper_ir.specs.Optional.{◌>>=◌}
 
 -- these entries, and then those

@@ -1,10 +1,10 @@
 -- What `parse` answers, in the words of numbers and widths.
-use Rattle.std.proofs.Common.{◌≡◌, ℕ, ◌-◌, ◌^◌, ◌<◌, ◌≤◌, ◌≢◌, ◌==◌, Bool, true, false, ◌&&◌, ℤ, pos, negsuc, List, [], ◌∷◌, length, Option, Some, None, refl, sym, ◌∙◌, ap, subst, Decides, arith, eqb-true, ◌+◌, drop, lit<}
+use Rattle.std.proofs.Common.{◌≡◌, ℕ, ◌-◌, ◌^◌, ◌<◌, ◌≢◌, ◌==◌, Bool, true, false, ◌&&◌, ℤ, pos, negsuc, List, [], ◌∷◌, length, Option, Some, None, refl, sym, ◌∙◌, ap, subst, Decides, arith, eqb-true, ◌+◌, drop, lit<}
 use Rattle.std.specs.Prelude.{Result, Ok, Err, OkIff, if◌then◌else◌, nat_lt, int_le, FitsSigned}
 use Rattle.std.specs.Char.{is_ascii_digit}
 use Rattle.std.specs.List.{list_all}
 use Rattle.std.specs.Str.Parse.{AllDigits, IsNumeral, digits_value, signed_digits_value, without_leading_sign, ParsesUnsigned}
-use Rattle.std.proofs.lemmas.Str.Parse.{IsDigitsTest, tells_all_ascii_digits, IsNumeralModel, numerals_by_value, parse_digits}
+use Rattle.std.proofs.lemmas.Str.Parse.{IsDigitsTest, IsNumeralModel, numerals_by_value, parse_digits}
 use Rattle.std.specs.Borrow.{Bor}
 use Rattle.std.specs.Prelude.{MatchOption}
 use Rattle.std.proofs.lemmas.Str.Pattern.{strip_prefix_char}
@@ -15,7 +15,7 @@ use Rattle.std.proofs.lemmas.Bool.Decides.{Decides-and, Decides-ltb}
 use Rattle.std.proofs.lemmas.Int.{to_z-of_z}
 use mir.Syntax.{w128}
 use mir.Val.{to_z, of_z}
-use Rattle.souper_ir.specs.Numbers.{are_digits, is_numeral, is_within, number_of, below, width_if, width_of}
+use Rattle.souper_ir.specs.Numbers.{are_digits, is_numeral, is_within, number_of, width_of}
 
 pub are_digits-is : (ds : List ℕ) → list_all is_ascii_digit ds ≡ are_digits ds
 are_digits-is [] = refl

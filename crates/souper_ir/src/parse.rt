@@ -1,5 +1,6 @@
 //! Parsing: from texts to items.
 
+mod attributes;
 mod error;
 mod message;
 mod numbers;

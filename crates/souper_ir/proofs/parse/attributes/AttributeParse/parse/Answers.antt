@@ -1,0 +1,12 @@
+use Rattle.souper_graph.specs.View.{view_attribute}
+use Rattle.souper_ir.specs.Spelling.{attribute_spells}
+use Rattle.souper_ir.specs.NodeReadings.{attribute_at}
+use Rattle.souper_ir.specs.AttributeLaws.{attribute_sound, attribute_complete}
+use Rattle.souper_ir.specs.Readings.{taken, refused}
+use Rattle.souper_ir.proofs.parse.attributes.AttributeParse.parse.Goals as goal
+
+pub returns-clause-ok : goal.returns-clause-ok
+returns-clause-ok c = taken (λ s. attribute_spells) (λ a t. ⊥) attribute_at view_attribute attribute_sound c.attribute.result c.args.parser.now c.attribute.new.parser c.attribute.ensures
+
+pub returns-clause-err : goal.returns-clause-err
+returns-clause-err c = refused (λ s. attribute_spells) (λ a t. ⊥) attribute_at view_attribute attribute_complete c.attribute.result c.args.parser.now c.attribute.new.parser c.attribute.ensures

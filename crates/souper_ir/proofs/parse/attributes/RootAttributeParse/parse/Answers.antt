@@ -1,0 +1,12 @@
+use Rattle.souper_graph.specs.View.{view_root_attribute}
+use Rattle.souper_ir.specs.Spelling.{root_attribute_spells}
+use Rattle.souper_ir.specs.NodeReadings.{root_attribute_at}
+use Rattle.souper_ir.specs.AttributeLaws.{root_attribute_sound, root_attribute_complete}
+use Rattle.souper_ir.specs.Readings.{taken, refused}
+use Rattle.souper_ir.proofs.parse.attributes.RootAttributeParse.parse.Goals as goal
+
+pub returns-clause-ok : goal.returns-clause-ok
+returns-clause-ok c = taken (λ s. root_attribute_spells) (λ a t. ⊥) root_attribute_at view_root_attribute root_attribute_sound c.root_attribute.result c.args.parser.now c.root_attribute.new.parser c.root_attribute.ensures
+
+pub returns-clause-err : goal.returns-clause-err
+returns-clause-err c = refused (λ s. root_attribute_spells) (λ a t. ⊥) root_attribute_at view_root_attribute root_attribute_complete c.root_attribute.result c.args.parser.now c.root_attribute.new.parser c.root_attribute.ensures
