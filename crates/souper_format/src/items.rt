@@ -2,7 +2,8 @@
 ghost use Rattle.std.specs.Prelude.{◌≡◌, ◌++◌, map, IfOk, IfErr, OnOk, option_copied};
 ghost use Rattle.std.specs.List.{AllByRecursion};
 ghost use Rattle.std.specs.String.{string_bytes};
-ghost use Rattle.souper_graph.specs.Faults.{HasBadId};
+ghost use Rattle.souper_graph.specs.Values.{Item};
+ghost use Rattle.souper_graph.specs.Text.{text_of};
 ghost use Rattle.souper_graph.specs.Uses.{UsesBelow};
 ghost use Rattle.souper_graph.specs.View.{view_left_hand_side};
 ghost use Rattle.souper_graph.specs.WellFormed.{WellFormed};
@@ -47,33 +48,45 @@ pub fn read_items(
     }
 }
 
+// An item with its canonical text.
+trait Printed {
+    ghost item: { Self → Item };
+
+    fn text(&self) -> Result<String, TextError>
+        ensures { UsesBelow (item self.now) → IfOk result (λ text. string_bytes text ≡ text_of (item self.now)) };
+}
+
+impl Printed for LeftHandSide {
+    ghost item = { view_left_hand_side };
+
+    fn text(&self) -> Result<String, TextError> {
+        self.to_text()
+    }
+}
+
 // Appends the text of the item and a newline.
-fn append_left_hand_side(item: &LeftHandSide, out: &mut String) -> Result<(), AllocError>
-    requires named { ¬ HasBadId (view_left_hand_side item.now) }
-    requires below { UsesBelow (view_left_hand_side item.now) }
-    ensures { OnOk result (string_bytes out.new ≡ string_bytes out.old ++ text_with_newline (view_left_hand_side item.now)) }
+fn append_item<T: Printed>(item: &T, out: &mut String) -> Result<(), AllocError>
+    requires { WellFormed (T.item item.now) }
+    ensures { OnOk result (string_bytes out.new ≡ string_bytes out.old ++ text_with_newline (T.item item.now)) }
 {
-    match item.to_text() {
+    match item.text() {
         Ok(text) => {
             out.push_str(&text)?;
             out.push('\n')?;
             Ok(())
         }
-        Err(TextError::OutOfMemory) => Err(AllocError),
-        // A well formed item has no bad id.
-        Err(TextError::OutOfRange(_)) => unreachable!(),
-        Err(TextError::NotAnAssignment(_)) => unreachable!(),
-        Err(TextError::NotABlock(_)) => unreachable!(),
+        // A well-formed item names no bad id: what was refused is memory.
+        Err(_) => Err(AllocError),
     }
 }
 
-fn text_of_left_hand_sides(alloc: Global, items: &[LeftHandSide]) -> Result<String, AllocError>
-    requires { AllByRecursion WellFormed (map view_left_hand_side items.now) }
-    ensures { IfOk result (λ text. string_bytes text ≡ texts_of (map view_left_hand_side items.now)) }
+fn text_of_list<T: Printed>(alloc: Global, items: &[T]) -> Result<String, AllocError>
+    requires { AllByRecursion WellFormed (map T.item items.now) }
+    ensures { IfOk result (λ text. string_bytes text ≡ texts_of (map T.item items.now)) }
 {
     let mut out = String::new(alloc);
     for item in items {
-        append_left_hand_side(item, &mut out)?;
+        append_item(item, &mut out)?;
     }
     Ok(out)
 }
@@ -84,7 +97,7 @@ fn text_of_items(alloc: Global, items: &Items) -> Result<String, AllocError>
     ensures { IfOk result (λ text. string_bytes text ≡ texts_of (view_items items.now)) }
 {
     match items {
-        Items::Lhs(list) => text_of_left_hand_sides(alloc, list),
+        Items::Lhs(list) => text_of_list(alloc, list),
     }
 }
 
