@@ -12,5 +12,7 @@ pub mod Lists
 pub mod Names
 pub mod Placing
 pub mod Failing
+pub mod Operands
 pub mod Numerals
 pub mod BitLists
+pub mod RightSides

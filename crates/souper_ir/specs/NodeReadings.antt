@@ -116,6 +116,12 @@ operand_at p = do
   b ← peek_at is_name p
   operand_by b.0 b.1
 
+-- an operand with a comma before it
+unfoldable pub next_operand_at : Parsing → Option (Operand × Parsing)
+next_operand_at p = do
+  c ← accept (mark_of comma) p
+  operand_at c.1
+
 -- so many, each with a comma before it
 abbrev pub further_at : ℕ → Parsing → Option (List Operand × Parsing)
 further_at zero p = Some ([], p)

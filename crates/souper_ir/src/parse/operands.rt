@@ -1,15 +1,22 @@
 //! Types, constants and operands.
 
-ghost use Rattle.std.specs.Prelude.{◌≡◌, None, IfOk, refl};
+ghost use Rattle.std.specs.Prelude.{◌≡◌, ◌≤◌, None, refl};
 ghost use Rattle.souper_ir.specs.Reading.{Gives};
-ghost use Rattle.souper_ir.specs.OperandLaws.{constant_complete, constant_first};
-ghost use Rattle.souper_ir.specs.NodeReadings.{type_at, optional_type_at, constant_at, operand_at, further_at, operands_at};
+ghost use Rattle.souper_ir.specs.Spelling.{type_spells, constant_spells, operand_spells};
+ghost use Rattle.souper_ir.specs.Continuation.{constant_continues, operand_continues};
+ghost use Rattle.souper_ir.specs.NodeReadings.{is_int, type_at, optional_type_at, constant_at, operand_at, next_operand_at, further_at, operands_at};
+ghost use Rattle.souper_ir.specs.Readings.{one_alone};
+ghost use Rattle.souper_ir.specs.OperandLaws.{type_complete, constant_complete, constant_first, operand_complete};
 
 use crate::lexer::Token;
 use crate::parse::message::Message;
 use crate::parse::numbers::width;
 use crate::parse::parser::{Parser, Result};
-use crate::parse::tokens::{integer, mark_comes, punctuation, value_name, value_name_comes, Mark};
+use crate::parse::tokens::{
+    Mark, integer, integer_comes, mark_comes, punctuation, value_name, value_name_comes,
+};
+use crate::parse::traits::{Parse, Peek};
+use arrayvec::ArrayVec;
 use souper_graph::ast::{Constant, Operand, Type};
 
 #[tactic(auto, unfolding(crate::specs::NodeReadings::accept))]
@@ -59,5 +66,102 @@ pub(crate) fn operand(parser: &mut Parser<'_>) -> Result<Operand>
         }
     } else {
         Ok(Operand::Constant(constant(parser)?))
+    }
+}
+
+// An operand behind a comma.
+#[tactic(auto, unfolding(crate::specs::NodeReadings::next_operand_at))]
+fn next_operand(parser: &mut Parser<'_>) -> Result<Operand>
+    ensures { Gives (λ x. x) result (next_operand_at parser.old) parser.old parser.new }
+{
+    punctuation(parser, Mark::Comma)?;
+    operand(parser)
+}
+
+/// So many operands, each behind a comma.
+pub(crate) fn further(parser: &mut Parser<'_>, count: u32) -> Result<Vec<Operand>>
+    requires { parser.old.failed ≡ None }
+    ensures { Gives (λ v. v.items) result (further_at count parser.old) parser.old parser.new }
+{
+    let mut operands = Vec::new(parser.alloc());
+    for _ in 0..count {
+        let operand = next_operand(parser)?;
+        match operands.push(operand) {
+            Ok(()) => {}
+            Err(_) => return Err(parser.want_memory()),
+        }
+    }
+    Ok(operands)
+}
+
+/// So many operands with commas between them.
+pub(crate) fn operands(parser: &mut Parser<'_>, count: usize) -> Result<ArrayVec<Operand, 3>>
+    requires live { parser.old.failed ≡ None }
+    requires room { count ≤ 3 }
+    ensures { Gives (λ v. v.items) result (operands_at count parser.old) parser.old parser.new }
+{
+    let mut operands = ArrayVec::new();
+    if count == 0 {
+        return Ok(operands);
+    }
+    operands.push(operand(parser)?);
+    for _ in 1..count {
+        operands.push(next_operand(parser)?);
+    }
+    Ok(operands)
+}
+
+impl Parse for Type {
+    ghost spells = { λ s. type_spells };
+
+    ghost continues = { λ t u. ⊥ };
+
+    ghost alike = { λ v w. v ≡ w };
+
+    ghost alone = { one_alone (λ s. type_spells) (λ t u. ⊥) type_at (λ t. t) type_complete };
+
+    fn parse<'a>(parser: &mut Parser<'a>) -> Result<Self> {
+        type_alone(parser)
+    }
+}
+
+impl Parse for Constant {
+    ghost spells = { λ s. constant_spells };
+
+    ghost continues = { constant_continues };
+
+    ghost alike = { λ v w. v ≡ w };
+
+    ghost alone = { one_alone (λ s. constant_spells) constant_continues constant_at (λ c. c) constant_complete };
+
+    fn parse<'a>(parser: &mut Parser<'a>) -> Result<Self> {
+        constant(parser)
+    }
+}
+
+impl Peek for Constant {
+    ghost starts = { is_int };
+
+    ghost first = { constant_first };
+
+    ghost stays = { λ s. refl };
+
+    fn peek<'a>(parser: &mut Parser<'a>) -> Result<bool> {
+        integer_comes(parser)
+    }
+}
+
+/// A name has to stand for a value in scope.
+impl Parse for Operand {
+    ghost spells = { operand_spells };
+
+    ghost continues = { operand_continues };
+
+    ghost alike = { λ v w. v ≡ w };
+
+    ghost alone = { one_alone operand_spells operand_continues operand_at (λ x. x) operand_complete };
+
+    fn parse<'a>(parser: &mut Parser<'a>) -> Result<Self> {
+        operand(parser)
     }
 }

@@ -7,6 +7,7 @@ ghost use Rattle.souper_ir.specs.Tokens.{Lexeme, AreTokensOf, IsTextOf};
 ghost use Rattle.souper_ir.specs.TokenView.{lexeme_of};
 ghost use Rattle.souper_graph.specs.Uses.{is_condition};
 ghost use Rattle.souper_ir.specs.Spelling.{ways_of, entry_of, position_of};
+ghost use Rattle.souper_ir.specs.NodeReadings.{block_entry};
 ghost use Rattle.souper_ir.specs.Parsing.{Cause, refused, no_memory};
 ghost use Rattle.souper_ir.specs.FailureView.{cause_of_failure};
 ghost use Rattle.souper_ir.specs.Reading.{Fails, FailsForMemory, Gives, look_at, take_at};
@@ -14,7 +15,7 @@ ghost use Rattle.souper_ir.specs.Reading.{Fails, FailsForMemory, Gives, look_at,
 use crate::lexer::{Lexer, Token};
 use crate::parse::error::ParseError;
 use crate::parse::message::Message;
-use souper_graph::ast::{Arena, Assignment, AssignmentRhs, Statement, ValueId};
+use souper_graph::ast::{Arena, Assignment, AssignmentRhs, BlockId, Id, Statement, ValueId};
 use std::alloc::{AllocError, Global};
 use std::collections::BTreeMap;
 use std::marker::Model;
@@ -210,6 +211,16 @@ impl<'a> Parser<'a> {
             Some((value, _)) => Some(value),
             None => None,
         }
+    }
+
+    /// The block that a name stands for, and the number of ways into it.
+    pub(crate) fn block_named(&self, name: &str) -> Option<(BlockId, u32)>
+        requires { self.now.failed ≡ None }
+        ensures { result ≡ block_entry (entry_of self.now.scope name.now) }
+    {
+        let (value, ways) = self.entry(name)?;
+        let ways = ways?;
+        Some((Id::from(value).into(), ways))
     }
 
     /// Adds the definition of a name to the statements.

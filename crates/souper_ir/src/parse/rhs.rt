@@ -1,18 +1,23 @@
 //! Right sides: blocks, phis and instructions.
 
-ghost use Rattle.std.specs.Prelude.{◌≡◌, ◌≤◌, None, codes};
+ghost use Rattle.std.specs.Prelude.{◌≡◌, ◌≤◌, None, codes, refl, IfOk};
 ghost use Rattle.souper_graph.specs.View.{view_phi, view_rhs};
 ghost use Rattle.souper_ir.specs.Reading.{Gives};
-ghost use Rattle.souper_ir.specs.NodeReadings.{further_at, operands_at, block_at, block_name_at, phi_at, instruction_at, rhs_at};
+ghost use Rattle.souper_ir.specs.Grammar.{peek_at};
+ghost use Rattle.souper_ir.specs.Spelling.{block_spells, phi_spells, instruction_spells, rhs_spells};
+ghost use Rattle.souper_ir.specs.Continuation.{phi_continues, instruction_continues, rhs_continues};
+ghost use Rattle.souper_ir.specs.NodeReadings.{accept, ident_by, counted_word, is_word, starts_instruction, block_at, block_name_at, phi_at, instruction_at, rhs_at};
+ghost use Rattle.souper_ir.specs.Readings.{one_alone};
+ghost use Rattle.souper_ir.specs.RhsLaws.{block_complete, block_first, phi_complete, phi_first, instruction_complete, instruction_first, rhs_complete};
 
 use crate::lexer::Token;
 use crate::parse::message::Message;
-use crate::parse::operands::operand;
+use crate::parse::operands::{further, operands};
 use crate::parse::parser::{Parser, Result};
-use crate::parse::tokens::{keyword, punctuation, value_name, way_count, Mark};
+use crate::parse::tokens::{keyword, value_name, way_count, word_comes};
+use crate::parse::traits::{Parse, Peek};
 use crate::parse::words::{instruction_with, operand_count};
-use arrayvec::ArrayVec;
-use souper_graph::ast::{AssignmentRhs, Block, BlockId, Id, Instruction, Operand, Phi};
+use souper_graph::ast::{AssignmentRhs, Block, BlockId, Instruction, Phi};
 
 #[tactic(auto, unfolding(crate::specs::NodeReadings::block_at))]
 pub(crate) fn block(parser: &mut Parser<'_>) -> Result<Block>
@@ -29,26 +34,10 @@ pub(crate) fn block_name<'a>(parser: &mut Parser<'a>) -> Result<(BlockId, u32, &
     ensures { Gives (λ r. (r.0, r.1)) result (block_name_at parser.old) parser.old parser.new }
 {
     let name = value_name(parser)?;
-    match parser.entry(name) {
-        Some((value, Some(ways))) => Ok((Id::from(value).into(), ways, name)),
-        _ => Err(parser.refuse(Message::UnknownBlock(name))),
+    match parser.block_named(name) {
+        Some((block, ways)) => Ok((block, ways, name)),
+        None => Err(parser.refuse(Message::UnknownBlock(name))),
     }
-}
-
-// So many operands, each behind a comma.
-fn further(parser: &mut Parser<'_>, count: u32) -> Result<Vec<Operand>>
-    ensures { Gives (λ v. v.items) result (further_at count parser.old) parser.old parser.new }
-{
-    let mut operands = Vec::new(parser.alloc());
-    for _ in 0..count {
-        punctuation(parser, Mark::Comma)?;
-        let operand = operand(parser)?;
-        match operands.push(operand) {
-            Ok(()) => {}
-            Err(_) => return Err(parser.want_memory()),
-        }
-    }
-    Ok(operands)
 }
 
 #[tactic(auto, unfolding(crate::specs::NodeReadings::phi_at))]
@@ -61,32 +50,26 @@ pub(crate) fn phi(parser: &mut Parser<'_>) -> Result<Phi>
     Ok(Phi { block, values })
 }
 
-// So many operands with commas between them.
-fn operands(parser: &mut Parser<'_>, count: usize) -> Result<ArrayVec<Operand, 3>>
-    requires { count ≤ 3 }
-    ensures { Gives (λ v. v.items) result (operands_at count parser.old) parser.old parser.new }
+// The word of an instruction, and how many operands it has.
+#[tactic(auto, unfolding(crate::specs::NodeReadings::accept))]
+fn instruction_word<'a>(parser: &mut Parser<'a>) -> Result<(&'a str, usize)>
+    ensures reads { Gives (λ r. (r.0.now, r.1)) result (accept (ident_by counted_word) parser.old) parser.old parser.new }
+    ensures few { IfOk result (λ r. r.1 ≤ 3) }
 {
-    let mut operands = ArrayVec::new();
-    for index in 0..count {
-        if index > 0 {
-            punctuation(parser, Mark::Comma)?;
-        }
-        operands.push(operand(parser)?);
+    match parser.token()? {
+        Token::Ident(word) => match operand_count(word) {
+            Some(count) => Ok((word, count)),
+            None => Err(parser.refuse(Message::ExpectedInstruction)),
+        },
+        _ => Err(parser.refuse(Message::ExpectedInstruction)),
     }
-    Ok(operands)
 }
 
 #[tactic(auto, unfolding(crate::specs::NodeReadings::instruction_at))]
 pub(crate) fn instruction(parser: &mut Parser<'_>) -> Result<Instruction>
     ensures { Gives (λ i. i) result (instruction_at parser.old) parser.old parser.new }
 {
-    let (word, count) = match parser.token()? {
-        Token::Ident(word) => match operand_count(word) {
-            Some(count) => (word, count),
-            None => return Err(parser.refuse(Message::ExpectedInstruction)),
-        },
-        _ => return Err(parser.refuse(Message::ExpectedInstruction)),
-    };
+    let (word, count) = instruction_word(parser)?;
     let operands = operands(parser, count)?;
     match instruction_with(word, operands.as_slice()) {
         Some(instruction) => Ok(instruction),
@@ -121,5 +104,102 @@ pub(crate) fn rhs(parser: &mut Parser<'_>) -> Result<AssignmentRhs>
             Ok(AssignmentRhs::Instruction(instruction(parser)?))
         }
         _ => Err(parser.refuse(Message::ExpectedRhs)),
+    }
+}
+
+impl Parse for Block {
+    ghost spells = { λ s. block_spells };
+
+    ghost continues = { λ b t. ⊥ };
+
+    ghost alike = { λ v w. v ≡ w };
+
+    ghost alone = { one_alone (λ s. block_spells) (λ b t. ⊥) block_at (λ b. b) block_complete };
+
+    fn parse<'a>(parser: &mut Parser<'a>) -> Result<Self> {
+        block(parser)
+    }
+}
+
+impl Peek for Block {
+    ghost starts = { is_word (codes "block") };
+
+    ghost first = { block_first };
+
+    ghost stays = { λ s. refl };
+
+    fn peek<'a>(parser: &mut Parser<'a>) -> Result<bool> {
+        word_comes(parser, "block")
+    }
+}
+
+/// Its name has to stand for a block in scope, and it has a value for each way into that.
+impl Parse for Phi {
+    ghost spells = { λ s v ts. phi_spells s (view_phi v) ts };
+
+    ghost continues = { λ v t. phi_continues (view_phi v) t };
+
+    ghost alike = { λ v w. view_phi v ≡ view_phi w };
+
+    ghost alone = { one_alone phi_spells phi_continues phi_at view_phi phi_complete };
+
+    fn parse<'a>(parser: &mut Parser<'a>) -> Result<Self> {
+        phi(parser)
+    }
+}
+
+impl Peek for Phi {
+    ghost starts = { is_word (codes "phi") };
+
+    ghost first = { λ s v ts h. phi_first s (view_phi v) ts h };
+
+    ghost stays = { λ s. refl };
+
+    fn peek<'a>(parser: &mut Parser<'a>) -> Result<bool> {
+        word_comes(parser, "phi")
+    }
+}
+
+impl Parse for Instruction {
+    ghost spells = { instruction_spells };
+
+    ghost continues = { instruction_continues };
+
+    ghost alike = { λ v w. v ≡ w };
+
+    ghost alone = { one_alone instruction_spells instruction_continues instruction_at (λ i. i) instruction_complete };
+
+    fn parse<'a>(parser: &mut Parser<'a>) -> Result<Self> {
+        instruction(parser)
+    }
+}
+
+impl Peek for Instruction {
+    ghost starts = { starts_instruction };
+
+    ghost first = { instruction_first };
+
+    ghost stays = { λ s. refl };
+
+    #[tactic(auto, unfolding(crate::specs::Grammar::peek_at))]
+    fn peek<'a>(parser: &mut Parser<'a>) -> Result<bool> {
+        match parser.lookahead()? {
+            Some(Token::Ident(word)) => Ok(operand_count(word).is_some()),
+            _ => Ok(false),
+        }
+    }
+}
+
+impl Parse for AssignmentRhs {
+    ghost spells = { λ s v ts. rhs_spells s (view_rhs v) ts };
+
+    ghost continues = { λ v t. rhs_continues (view_rhs v) t };
+
+    ghost alike = { λ v w. view_rhs v ≡ view_rhs w };
+
+    ghost alone = { one_alone rhs_spells rhs_continues rhs_at view_rhs rhs_complete };
+
+    fn parse<'a>(parser: &mut Parser<'a>) -> Result<Self> {
+        rhs(parser)
     }
 }

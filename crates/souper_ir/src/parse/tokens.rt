@@ -6,7 +6,7 @@ ghost use Rattle.souper_ir.specs.Grammar.{peek_at};
 ghost use Rattle.souper_ir.specs.Numbers.{number_of, count_of};
 ghost use Rattle.souper_ir.specs.TokenView.{lexeme_of};
 ghost use Rattle.souper_ir.specs.MarkView.{lexeme_of_mark};
-ghost use Rattle.souper_ir.specs.NodeReadings.{accept, name_of, is_name, is_any, mark_of, is_mark, is_word, word_of, int_by};
+ghost use Rattle.souper_ir.specs.NodeReadings.{accept, name_of, is_name, is_any, mark_of, is_mark, is_word, word_of, is_int, int_by};
 
 use crate::lexer::Token;
 use crate::parse::message::Message;
@@ -141,6 +141,13 @@ pub(crate) fn value_name_comes(parser: &mut Parser<'_>) -> Result<bool>
     ensures { Gives (λ b. b) result (peek_at is_name parser.old) parser.old parser.new }
 {
     Ok(matches!(parser.lookahead()?, Some(Token::ValName(_))))
+}
+
+#[tactic(auto, unfolding(crate::specs::Grammar::peek_at))]
+pub(crate) fn integer_comes(parser: &mut Parser<'_>) -> Result<bool>
+    ensures { Gives (λ b. b) result (peek_at is_int parser.old) parser.old parser.new }
+{
+    Ok(matches!(parser.lookahead()?, Some(Token::Int(_))))
 }
 
 #[tactic(auto, unfolding(crate::specs::Grammar::peek_at))]
