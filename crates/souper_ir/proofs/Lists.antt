@@ -1,14 +1,13 @@
 -- Values one after the other, while a peek tells of one more.
 use Rattle.souper_ir.specs.Readings.{of_memory, memory_refused}
-use Rattle.std.proofs.Common.{◌≡◌, ◌⊎◌, ℕ, ◌<◌, Bool, true, false, List, [], ◌∷◌, ◌++◌, length, Option, None, refl, sym, ◌∙◌, ap, subst, inl, inr, append_assoc, arith}
-use Rattle.std.specs.Global.{Vec}
+use Rattle.std.proofs.Common.{◌≡◌, ◌⊎◌, ℕ, ◌<◌, Bool, true, false, List, [], ◌∷◌, ◌++◌, length, map, Option, Some, None, refl, sym, ◌∙◌, ap, subst, inl, inr, append_assoc, arith}
 use Rattle.std.proofs.lemmas.List.{append-nil, map-append, length-append}
 use Rattle.souper_ir.specs.declared.parse.error.ParseError.{ParseError}
 use Rattle.souper_ir.specs.Parsing.{Cause, Parsing}
 use Rattle.souper_ir.specs.Tokens.{Lexeme}
 use Rattle.souper_ir.specs.Spelling.{kinds, Scope}
 use Rattle.souper_ir.specs.Reading.{cause_of, IfRefused, if_refused, Fails, fails_later, FailsForMemory, IsRead}
-use Rattle.souper_ir.specs.Grammar.{Free, Stops, Starts, Took, NoFront, NoFrontOf, Stuck, Refusal, peek_at, Members, LastGoesOn, ListGoesOn, VecSpells, VecGoesOn}
+use Rattle.souper_ir.specs.Grammar.{Free, Stops, Starts, Took, NoFront, NoFrontOf, Stuck, Refusal, peek_at, Members, LastGoesOn, ListGoesOn}
 use Rattle.souper_ir.specs.Unique as unique
 use Rattle.souper_ir.specs.Peeks.{peeked, peeked_yes, peeked_no, unread}
 
@@ -20,9 +19,15 @@ pub record SoFar {V : Type 0} (spells : Scope → V → List Lexeme → Type 0) 
   pub free : Free (λ t. LastGoesOn continues vs t) (kinds now.tokens)
   pub state : now ≡ record first { tokens = now.tokens }
 
-module _ {V : Type 0} (spells : Scope → V → List Lexeme → Type 0) (continues : V → Lexeme → Type 0) (alike : V → V → Type 0) (starts : Lexeme → Bool)
-    (alone : (s : Scope) (v w : V) (a b c d : List Lexeme) → a ++ c ≡ b ++ d → spells s v a → spells s w b → Free (continues v) c → Free (continues w) d → (a ≡ b) × alike v w)
+module _ {V : Type 0} (spells : Scope → V → List Lexeme → Type 0) (continues : V → Lexeme → Type 0) (starts : Lexeme → Bool)
+    (alone : (s : Scope) (v w : V) (a b c d : List Lexeme) → a ++ c ≡ b ++ d → spells s v a → spells s w b → Free (continues v) c → Free (continues w) d → (a ≡ b) × (v ≡ w))
     (first : (s : Scope) (v : V) (ts : List Lexeme) → spells s v ts → Starts starts ts) where
+  abbrev pub list_spells : Scope → List V → List Lexeme → Type 0
+  list_spells s vs ts = Members (spells s) continues vs ts
+
+  abbrev pub list_goes_on : List V → Lexeme → Type 0
+  list_goes_on vs t = ListGoesOn continues starts vs t
+
   free_none : (ts : List Lexeme) → Free (λ t. LastGoesOn continues [] t) ts
   free_none [] = tt
   free_none (t ∷ ts) = λ h. h
@@ -39,8 +44,8 @@ module _ {V : Type 0} (spells : Scope → V → List Lexeme → Type 0) (continu
     m.1 ++ b,
     ap (λ (x : List Lexeme). x ++ b) m.2 ∙ append_assoc m.0 m.1 b,
     m.3,
-    unique.free_over (spells s) continues alike starts (alone s) (first s) w ws m.1 b m.4 m.5 f,
-    members_push s ws v m.1 b m.5 (unique.Free-weaker (λ t. LastGoesOn continues (w ∷ ws) t) (λ t. LastGoesOn continues ws t) b (unique.last_later (spells s) continues alike starts (alone s) (first s) w ws) f) sp,
+    unique.free_over (spells s) continues starts (alone s) (first s) w ws m.1 b m.4 m.5 f,
+    members_push s ws v m.1 b m.5 (unique.Free-weaker (λ t. LastGoesOn continues (w ∷ ws) t) (λ t. LastGoesOn continues ws t) b (unique.last_later (spells s) continues starts (alone s) (first s) w ws) f) sp,
   )
 
   last_of_push : (vs : List V) (v : V) (t : Lexeme) → LastGoesOn continues (vs ++ v ∷ []) t → continues v t
@@ -48,7 +53,7 @@ module _ {V : Type 0} (spells : Scope → V → List Lexeme → Type 0) (continu
   last_of_push (w ∷ []) v t h = h
   last_of_push (w ∷ (x ∷ xs)) v t h = last_of_push (x ∷ xs) v t h
 
-  pub goes_on : (leaves : Scope → Scope) (vs : List V) (v : V) (p q r : Parsing) → ((s : Scope) → leaves s ≡ s) → SoFar spells continues vs p q → Took spells continues leaves v q r
+  goes_on : (leaves : Scope → Scope) (vs : List V) (v : V) (p q r : Parsing) → ((s : Scope) → leaves s ≡ s) → SoFar spells continues vs p q → Took spells continues leaves v q r
       → SoFar spells continues (vs ++ v ∷ []) p r
   goes_on leaves vs v p q r stays so took =
       let scope-is : q.scope ≡ p.scope = ap (λ (x : Parsing). x.scope) so.state in
@@ -63,6 +68,14 @@ module _ {V : Type 0} (spells : Scope → V → List Lexeme → Type 0) (continu
         state = took.state ∙ ap (λ (s : Scope). record q { tokens = r.tokens; scope = s }) (stays q.scope) ∙ ap (λ (x : Parsing). record x { tokens = r.tokens }) so.state;
       }
 
+  -- the same of members that are seen as plain data
+  pub one_more : {X : Type 0} (view : X → V) (leaves : Scope → Scope) (xs : List X) (x : X) (p q r : Parsing) → ((s : Scope) → leaves s ≡ s) → SoFar spells continues (map view xs) p q → Took spells continues leaves (view x) q r
+      → SoFar spells continues (map view (xs ++ x ∷ [])) p r
+  one_more view leaves xs x p q r stays so took = rw (map-append view xs (x ∷ [])) (goes_on leaves (map view xs) (view x) p q r stays so took)
+
+  pub behind_peek : (leaves : Scope → Scope) (v : V) (b : Bool) (q m r : Parsing) → peek_at starts q ≡ Some (b, m) → Took spells continues leaves v m r → Took spells continues leaves v q r
+  behind_peek leaves v b q m r h took = subst (λ (x : Parsing). Took spells continues leaves v x r) (peeked starts q m b h).0 took
+
   shorter_by : (s : Scope) (v : V) (used before after : List (ℕ × Lexeme)) → before ≡ used ++ after → spells s v (kinds used) → length after < length before
   shorter_by s v [] before after e sp = absurd (first s v [] sp)
   shorter_by s v (t ∷ used) before after e sp = omega (arith, ap length e, length-append used after)
@@ -76,20 +89,20 @@ module _ {V : Type 0} (spells : Scope → V → List Lexeme → Type 0) (continu
   free_both P Q (t ∷ ts) f g = elim [ inl h ↦ f h | inr h ↦ g h ]
 
   -- the loop is done
-  pub ends : (w : Vec V) (p q r : Parsing) → SoFar spells continues w.items p q → IsRead (peek_at starts q) false q r
-      → Took (VecSpells spells continues) (VecGoesOn continues starts) (λ s. s) w p r
-  ends w p q r so h =
+  pub ends : (vs : List V) (p q r : Parsing) → SoFar spells continues vs p q → IsRead (peek_at starts q) false q r
+      → Took list_spells list_goes_on (λ s. s) vs p r
+  ends vs p q r so h =
       let seen = peeked starts q r false h.0 in
       let quiet = unique.Free-from_Stops (λ t. starts t ≡ true) q.faulty (kinds q.tokens) (peeked_no starts q.faulty q.tokens seen.2) in
-      let done : Took (VecSpells spells continues) (VecGoesOn continues starts) (λ s. s) w p q = record {
+      let done : Took list_spells list_goes_on (λ s. s) vs p q = record {
         used = so.used;
         parts = so.parts;
         spelled = so.spelled;
-        free = free_both (λ t. starts t ≡ true) (λ t. LastGoesOn continues w.items t) (kinds q.tokens) quiet so.free;
+        free = free_both (λ t. starts t ≡ true) (λ t. LastGoesOn continues vs t) (kinds q.tokens) quiet so.free;
         live = sym (ap (λ (x : Parsing). x.failed) so.state) ∙ h.1;
         state = so.state;
       } in
-      subst (λ (x : Parsing). Took (VecSpells spells continues) (VecGoesOn continues starts) (λ s. s) w p x) (sym seen.0) done
+      subst (λ (x : Parsing). Took list_spells list_goes_on (λ s. s) vs p x) (sym seen.0) done
 
   -- ---- refusals
 
@@ -109,31 +122,31 @@ module _ {V : Type 0} (spells : Scope → V → List Lexeme → Type 0) (continu
   no_list s faulty [] [] a c b d e m f k n st =
       nothing_at s faulty [] c d k refl (ap (λ (x : List Lexeme). x ++ c) (sym m) ∙ e ∙ ap (λ (x : List Lexeme). x ++ d) n) st
   no_list s faulty [] (w ∷ ws) a c b d e m f (inl k) n st =
-      unique.not_empty (spells s) continues alike starts (alone s) (first s) w n.0 (n.1 ++ d) n.3
+      unique.not_empty (spells s) continues starts (alone s) (first s) w n.0 (n.1 ++ d) n.3
       (sym (append_assoc n.0 n.1 d) ∙ ap (λ (x : List Lexeme). x ++ d) (sym n.2) ∙ sym e ∙ ap (λ (x : List Lexeme). x ++ c) m ∙ k.0)
   no_list s faulty [] (w ∷ ws) a c b d e m f (inr k) n st =
       k.1 w n.0 (n.1 ++ d) (ap (λ (x : List Lexeme). x ++ c) (sym m) ∙ e ∙ ap (λ (x : List Lexeme). x ++ d) n.2 ∙ append_assoc n.0 n.1 d) n.3
-      (unique.stops_over (spells s) continues alike starts (alone s) (first s) faulty w ws n.1 d n.4 n.5
+      (unique.stops_over (spells s) continues starts (alone s) (first s) faulty w ws n.1 d n.4 n.5
       (unique.Stops-weaker (λ t. ListGoesOn continues starts (w ∷ ws) t) (λ t. LastGoesOn continues (w ∷ ws) t) faulty d (λ t h. inr h) st))
   no_list s faulty (v ∷ vs) [] a c b d e m f k n st =
       unique.clash_at starts faulty m.0 d (m.1 ++ c) (first s v m.0 m.3)
       (ap (λ (x : List Lexeme). x ++ d) (sym n) ∙ sym e ∙ ap (λ (x : List Lexeme). x ++ c) m.2 ∙ append_assoc m.0 m.1 c)
       (unique.Stops-weaker (λ t. ListGoesOn continues starts [] t) (λ t. starts t ≡ true) faulty d (λ t h. inl h) st)
   no_list s faulty (v ∷ vs) (w ∷ ws) a c b d e m f k n st =
-      let whole = unique.parts_equal (spells s) continues alike starts (alone s) (first s) a b m.0 m.1 n.0 n.1 c d m.2 n.2 e in
+      let whole = unique.parts_equal (spells s) continues starts (alone s) (first s) a b m.0 m.1 n.0 n.1 c d m.2 n.2 e in
       let here = alone s v w m.0 n.0 (m.1 ++ c) (n.1 ++ d) whole m.3 n.3
-      (unique.free_over (spells s) continues alike starts (alone s) (first s) v vs m.1 c m.4 m.5 f)
-      (unique.free_over (spells s) continues alike starts (alone s) (first s) w ws n.1 d n.4 n.5
+      (unique.free_over (spells s) continues starts (alone s) (first s) v vs m.1 c m.4 m.5 f)
+      (unique.free_over (spells s) continues starts (alone s) (first s) w ws n.1 d n.4 n.5
       (unique.Free-from_Stops (λ t. LastGoesOn continues (w ∷ ws) t) faulty d (unique.Stops-weaker (λ t. ListGoesOn continues starts (w ∷ ws) t) (λ t. LastGoesOn continues (w ∷ ws) t) faulty d (λ t h. inr h) st))) in
-      no_list s faulty vs ws m.1 c n.1 d (unique.rest_equal (spells s) continues alike starts (alone s) (first s) m.0 m.1 n.0 n.1 c d here.0 whole) m.5
-      (unique.Free-weaker (λ t. LastGoesOn continues (v ∷ vs) t) (λ t. LastGoesOn continues vs t) c (unique.last_later (spells s) continues alike starts (alone s) (first s) v vs) f)
+      no_list s faulty vs ws m.1 c n.1 d (unique.rest_equal (spells s) continues starts (alone s) (first s) m.0 m.1 n.0 n.1 c d here.0 whole) m.5
+      (unique.Free-weaker (λ t. LastGoesOn continues (v ∷ vs) t) (λ t. LastGoesOn continues vs t) c (unique.last_later (spells s) continues starts (alone s) (first s) v vs) f)
       k n.5
-      (unique.Stops-weaker (λ t. ListGoesOn continues starts (w ∷ ws) t) (λ t. ListGoesOn continues starts ws t) faulty d (unique.list_later (spells s) continues alike starts (alone s) (first s) w ws) st)
+      (unique.Stops-weaker (λ t. ListGoesOn continues starts (w ∷ ws) t) (λ t. ListGoesOn continues starts ws t) faulty d (unique.list_later (spells s) continues starts (alone s) (first s) w ws) st)
 
   pub none_if_stuck : (p : Parsing) → Stuck (spells p.scope) continues starts p.faulty (kinds p.tokens)
-      → NoFront (VecSpells spells continues) (VecGoesOn continues starts) p
+      → NoFront list_spells list_goes_on p
   none_if_stuck p k w front rest e n st =
-      no_list p.scope p.faulty k.members w.items k.front k.rest front rest (sym k.parts ∙ e) k.spelled k.free k.next n st
+      no_list p.scope p.faulty k.members w k.front k.rest front rest (sym k.parts ∙ e) k.spelled k.free k.next n st
 
   -- what a refusal in the loop says
   pub stuck_at : (vs : List V) (p q : Parsing) → SoFar spells continues vs p q
@@ -160,11 +173,11 @@ module _ {V : Type 0} (spells : Scope → V → List Lexeme → Type 0) (continu
   member_stuck f vs p q so st = if_refused f (λ h live. stuck_at vs p q so (inr (st, h (ap (λ (y : Parsing). y.failed) so.state ∙ live))))
 
   nothing_if : (f : Option Cause) (p : Parsing) → IfRefused f (p.failed ≡ None → Stuck (spells p.scope) continues starts p.faulty (kinds p.tokens))
-      → IfRefused f (p.failed ≡ None → NoFront (VecSpells spells continues) (VecGoesOn continues starts) p)
+      → IfRefused f (p.failed ≡ None → NoFront list_spells list_goes_on p)
   nothing_if f p = if_refused f (λ h live. none_if_stuck p (h live))
 
   abbrev pub ListRefusal : ParseError → Parsing → Parsing → Type 0
-  ListRefusal e p r = Refusal (VecSpells spells continues) (VecGoesOn continues starts) e p r
+  ListRefusal e p r = Refusal list_spells list_goes_on e p r
       × IfRefused (cause_of e) (p.failed ≡ None → Stuck (spells p.scope) continues starts p.faulty (kinds p.tokens))
 
   pub peek_refused : (vs : List V) (e : ParseError) (p q r : Parsing) → SoFar spells continues vs p q → IfRefused (cause_of e) (peek_at starts q ≡ None) × Fails e q r → ListRefusal e p r
@@ -182,6 +195,6 @@ module _ {V : Type 0} (spells : Scope → V → List Lexeme → Type 0) (continu
 
   pub memory_ends : (vs : List V) (e : ParseError) (p q r : Parsing) → SoFar spells continues vs p q → FailsForMemory e q r → ListRefusal e p r
   memory_ends vs e p q r so h = (
-    memory_refused (VecSpells spells continues) (VecGoesOn continues starts) e p q r (ap (λ (y : Parsing). y.failed) so.state) (ap (λ (y : Parsing). y.len) so.state) h,
+    memory_refused list_spells list_goes_on e p q r (ap (λ (y : Parsing). y.failed) so.state) (ap (λ (y : Parsing). y.len) so.state) h,
     of_memory _ e h.0,
   )

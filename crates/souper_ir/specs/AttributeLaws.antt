@@ -1,19 +1,15 @@
 -- Attributes: what is read is spelled so, and what is spelled so is read.
 use Rattle.std.proofs.Common.{◌≡◌, ℕ, ◌^◌, ◌<◌, ◌==◌, Bool, true, false, List, [], ◌∷◌, ◌++◌, map, length, Option, Some, None, refl, sym, ◌∙◌, ap, subst, inl, inr, arith, eqb-true}
 use Rattle.std.specs.Prelude.{ℤ, codes, bytes_eq, if◌then◌else◌}
-use Rattle.std.specs.Global.{Vec}
 use Rattle.std.proofs.lemmas.Slice.Eq.{bytes_eq-Decides}
 use Rattle.souper_graph.specs.Leaves.{text_of_known_bit, text_of_bit}
-use Rattle.souper_graph.specs.declared.ast.attributes.Attribute.{Attribute}
-use Rattle.souper_graph.specs.declared.ast.attributes.RootAttribute.{RootAttribute}
-use Rattle.souper_graph.specs.View.{view_attribute, view_root_attribute}
 use Rattle.souper_graph.specs.Values.{PlainAttribute, known_bits as known_bits_attribute, power_of_two, negative, non_negative, non_zero, has_external_uses, sign_bits, range, PlainRootAttribute, demanded_bits, harvested_from_use}
 use Rattle.souper_ir.specs.Tokens.{Lexeme, ident, known_bits, int, comma, equals, open_paren, close_paren, open_bracket}
 use Rattle.souper_ir.specs.Numbers.{number_of, count_of, bit_of, known_bit_of, all_of, listed, bits_of, known_bits_of}
 use Rattle.souper_ir.specs.Spelling.{kinds, Scope, attribute_spells, root_attribute_spells, attributes_spell, root_attributes_spell}
 use Rattle.souper_ir.specs.Parsing.{Parsing}
 use Rattle.souper_ir.specs.Optional.{◌>>=◌}
-use Rattle.souper_ir.specs.Grammar.{Starts, Members, LastGoesOn, ListGoesOn, VecSpells}
+use Rattle.souper_ir.specs.Grammar.{Starts, Members, LastGoesOn, ListGoesOn}
 use Rattle.souper_ir.specs.NodeReadings.{accept, mark_of, is_mark, int_by, ident_by, AttributeKind, plain_kind, bits_kind, sign_bits_kind, range_kind, attribute_kind_of_word, attribute_kind_of, attribute_by, attribute_at, root_kind_of_word, root_attribute_by, root_attribute_at}
 use Rattle.souper_ir.specs.Peeks.{some_is}
 use Rattle.souper_ir.specs.Steps.{Takes, Takes-then, Takes-none, At, bind_some, accepted, accepts}
@@ -371,16 +367,6 @@ root_attribute_first s (demanded_bits bits) ts h = opened ts (ident (codes "dema
 
 -- ---- lists of them
 
--- what holds of the members' views holds of the members
-module _ {V W : Type 0} (view : V → W) (spells : W → List Lexeme → Type 0) (continues : W → Lexeme → Type 0) where
-  pub viewed_members : (vs : List V) (ts : List Lexeme) → Members (λ v. spells (view v)) (λ v. continues (view v)) vs ts → Members spells continues (map view vs) ts
-  viewed_members [] ts h = h
-  viewed_members (v ∷ vs) ts h = (h.0, h.1, h.2, h.3, h.4, viewed_members vs h.1 h.5)
-
-  pub members_viewed : (vs : List V) (ts : List Lexeme) → Members spells continues (map view vs) ts → Members (λ v. spells (view v)) (λ v. continues (view v)) vs ts
-  members_viewed [] ts h = h
-  members_viewed (v ∷ vs) ts h = (h.0, h.1, h.2, h.3, h.4, members_viewed vs h.1 h.5)
-
 -- a list whose members nothing continues is continued by one more
 pub last_ends : {V : Type 0} (vs : List V) (t : Lexeme) → LastGoesOn (λ v t. ⊥) vs t → ⊥
 last_ends [] t h = h
@@ -410,16 +396,3 @@ root_attributes_are_members (x ∷ xs) ts h = (h.0, h.1, h.2, h.3, never h.1, ro
 pub members_are_root_attributes : (xs : List PlainRootAttribute) (ts : List Lexeme) → Members root_attribute_spells (λ a t. ⊥) xs ts → root_attributes_spell xs ts
 members_are_root_attributes [] ts h = h
 members_are_root_attributes (x ∷ xs) ts h = (h.0, h.1, h.2, h.3, members_are_root_attributes xs h.1 h.5)
-
--- the same of the nodes' vectors
-pub attributes_from_vec : (s : Scope) (v : Vec Attribute) (ts : List Lexeme) → VecSpells (λ s a ts. attribute_spells (view_attribute a) ts) (λ a t. ⊥) s v ts → attributes_spell (map view_attribute v.items) ts
-attributes_from_vec s v ts h = members_are_attributes (map view_attribute v.items) ts (viewed_members view_attribute attribute_spells (λ a t. ⊥) v.items ts h)
-
-pub vec_from_attributes : (s : Scope) (v : Vec Attribute) (ts : List Lexeme) → attributes_spell (map view_attribute v.items) ts → VecSpells (λ s a ts. attribute_spells (view_attribute a) ts) (λ a t. ⊥) s v ts
-vec_from_attributes s v ts h = members_viewed view_attribute attribute_spells (λ a t. ⊥) v.items ts (attributes_are_members (map view_attribute v.items) ts h)
-
-pub root_attributes_from_vec : (s : Scope) (v : Vec RootAttribute) (ts : List Lexeme) → VecSpells (λ s a ts. root_attribute_spells (view_root_attribute a) ts) (λ a t. ⊥) s v ts → root_attributes_spell (map view_root_attribute v.items) ts
-root_attributes_from_vec s v ts h = members_are_root_attributes (map view_root_attribute v.items) ts (viewed_members view_root_attribute root_attribute_spells (λ a t. ⊥) v.items ts h)
-
-pub vec_from_root_attributes : (s : Scope) (v : Vec RootAttribute) (ts : List Lexeme) → root_attributes_spell (map view_root_attribute v.items) ts → VecSpells (λ s a ts. root_attribute_spells (view_root_attribute a) ts) (λ a t. ⊥) s v ts
-vec_from_root_attributes s v ts h = members_viewed view_root_attribute root_attribute_spells (λ a t. ⊥) v.items ts (root_attributes_are_members (map view_root_attribute v.items) ts h)

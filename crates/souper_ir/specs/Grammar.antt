@@ -1,6 +1,5 @@
 -- What it is to parse a value, whatever the value is.
 use Rattle.std.specs.Prelude.{◌≡◌, ℕ, Bool, true, false, List, [], ◌∷◌, ◌++◌, Option, Some, None, ◌⊎◌}
-use Rattle.std.specs.Global.{Vec}
 use Rattle.souper_ir.specs.declared.parse.error.ParseError.{ParseError}
 use Rattle.souper_ir.specs.Parsing.{Parsing}
 use Rattle.souper_ir.specs.Tokens.{Lexeme}
@@ -79,19 +78,6 @@ pub record Stuck {V : Type 0} (spells : V → List Lexeme → Type 0) (continues
   pub free : Free (λ t. LastGoesOn continues members t) rest
   pub next : ((rest ≡ []) × (faulty ≡ true)) ⊎ (Starts starts rest × NoFrontOf spells continues faulty rest)
 
-abbrev pub AllAlike : {V : Type 0} → (V → V → Type 0) → List V → List V → Type 0
-AllAlike alike [] [] = Unit {0}
-AllAlike alike [] (w ∷ ws) = ⊥
-AllAlike alike (v ∷ vs) [] = ⊥
-AllAlike alike (v ∷ vs) (w ∷ ws) = alike v w × AllAlike alike vs ws
-
--- the same of a Vec
-abbrev pub VecSpells : {V : Type 0} → (Scope → V → List Lexeme → Type 0) → (V → Lexeme → Type 0) → Scope → Vec V → List Lexeme → Type 0
-VecSpells spells continues s v ts = Members (spells s) continues v.items ts
-
-abbrev pub VecGoesOn : {V : Type 0} → (V → Lexeme → Type 0) → (Lexeme → Bool) → Vec V → Lexeme → Type 0
-VecGoesOn continues starts v t = ListGoesOn continues starts v.items t
-
 -- ---- a value or none
 
 abbrev pub OptionSpells : {V : Type 0} → (V → List Lexeme → Type 0) → Option V → List Lexeme → Type 0
@@ -101,9 +87,3 @@ OptionSpells spells (Some v) ts = spells v ts
 abbrev pub OptionGoesOn : {V : Type 0} → (V → Lexeme → Type 0) → (Lexeme → Bool) → Option V → Lexeme → Type 0
 OptionGoesOn continues starts None t = starts t ≡ true
 OptionGoesOn continues starts (Some v) t = continues v t
-
-abbrev pub OptionAlike : {V : Type 0} → (V → V → Type 0) → Option V → Option V → Type 0
-OptionAlike alike None None = Unit {0}
-OptionAlike alike None (Some w) = ⊥
-OptionAlike alike (Some v) None = ⊥
-OptionAlike alike (Some v) (Some w) = alike v w

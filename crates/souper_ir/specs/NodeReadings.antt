@@ -316,6 +316,12 @@ definition_at p = do
   r ← rhs_at e.1
   Some (record { name = n.0; ty = t.0; value = r.0 }, r.1)
 
+-- a name, or the word of a path condition
+abbrev pub starts_statement : Lexeme → Bool
+starts_statement (val_name n) = true
+starts_statement (ident w) = if bytes_eq w (codes "pc") then true else bytes_eq w (codes "blockpc")
+starts_statement _ = false
+
 unfoldable pub pc_at : Parsing → Option (Pc × Parsing)
 pc_at p = do
   k ← accept (word_of (codes "pc")) p

@@ -17,7 +17,7 @@ use Rattle.souper_ir.specs.Unique.{Free-weaker, Stops-weaker, Free-from_Stops}
 use Rattle.souper_ir.specs.NodeReadings.{accept, name_of, is_name, mark_of, is_mark, is_word, word_of, is_int, int_by, ident_by, type_of_word, type_at, optional_type_by, optional_type_at, constant_at, operand_by, operand_at, further_at, operands_at}
 use Rattle.souper_ir.specs.Peeks.{some_is, Answers, peeked, peeked_no}
 use Rattle.souper_ir.specs.Steps.{Takes, Takes-then, Takes-none, At, bind_some, accepted, accepts, peeks, peeks_end}
-use Rattle.souper_ir.specs.Readings.{Sound, Complete, one_alone}
+use Rattle.souper_ir.specs.Readings.{Sound, Complete}
 
 -- ---- single tokens
 

@@ -22,7 +22,7 @@ module _ {Y : Type 0} (spells : Scope → Y → List Lexeme → Type 0) (continu
       → (q : Parsing) × (read p ≡ Some (y, q)) × At q rest × (q ≡ record p { tokens = q.tokens })
 
   module _ {X : Type 0} (view : X → Y) where
-    pub is_taken : Sound → (x : X) (p q : Parsing) → IsRead (read p) (view x) p q → Took (λ s v ts. spells s (view v) ts) (λ v t. continues (view v) t) (λ s. s) x p q
+    pub is_taken : Sound → (x : X) (p q : Parsing) → IsRead (read p) (view x) p q → Took spells continues (λ s. s) (view x) p q
     is_taken sound x p q h =
         let k = sound p q (view x) h.0 in
         record {
@@ -34,46 +34,42 @@ module _ {Y : Type 0} (spells : Scope → Y → List Lexeme → Type 0) (continu
           state = k.1.state;
         }
 
-    none_read : Complete → (p : Parsing) → read p ≡ None → p.failed ≡ None → NoFront (λ s (v : X) ts. spells s (view v) ts) (λ (v : X) t. continues (view v) t) p
-    none_read complete p unread live v front rest e s st =
-        let k = complete p (view v) front rest (record { kinds_are = e; live = live }) s st in
-        cc
-
-    none_if : Complete → (p : Parsing) (f : Option Cause) → IfRefused f (read p ≡ None) → IfRefused f (p.failed ≡ None → NoFront (λ s (v : X) ts. spells s (view v) ts) (λ (v : X) t. continues (view v) t) p)
-    none_if complete p f = if_refused f (λ h live. none_read complete p h live)
-
-    pub is_refused : Complete → (e : ParseError) (p q : Parsing) → IfRefused (cause_of e) (read p ≡ None) × Fails e p q → Refusal (λ s (v : X) ts. spells s (view v) ts) (λ (v : X) t. continues (view v) t) e p q
-    is_refused complete e p q h = record { failed = h.1; nothing = none_if complete p (cause_of e) h.0 }
-
-    pub taken : Sound → (r : Result X ParseError) (p q : Parsing) → Gives view r (read p) p q → IfOk r (λ x. Took (λ s v ts. spells s (view v) ts) (λ v t. continues (view v) t) (λ s. s) x p q)
+    pub taken : Sound → (r : Result X ParseError) (p q : Parsing) → Gives view r (read p) p q → IfOk r (λ x. Took spells continues (λ s. s) (view x) p q)
     taken sound (Ok x) p q h = is_taken sound x p q h
     taken sound (Err e) p q h = tt
 
-    pub refused : Complete → (r : Result X ParseError) (p q : Parsing) → Gives view r (read p) p q → IfErr r (λ e. Refusal (λ s (v : X) ts. spells s (view v) ts) (λ (v : X) t. continues (view v) t) e p q)
-    refused complete (Ok x) p q h = tt
-    refused complete (Err e) p q h = is_refused complete e p q h
+  none_read : Complete → (p : Parsing) → read p ≡ None → p.failed ≡ None → NoFront spells continues p
+  none_read complete p unread live y front rest e s st =
+      let k = complete p y front rest (record { kinds_are = e; live = live }) s st in
+      cc
 
-    -- a parser of these tokens
-    places_of : List Lexeme → List (ℕ × Lexeme)
-    places_of ts = map (λ t. (0, t)) ts
+  none_if : Complete → (p : Parsing) (f : Option Cause) → IfRefused f (read p ≡ None) → IfRefused f (p.failed ≡ None → NoFront spells continues p)
+  none_if complete p f = if_refused f (λ h live. none_read complete p h live)
 
-    kinds_of_places : (ts : List Lexeme) → kinds (map (λ t. (0, t)) ts) ≡ ts
-    kinds_of_places [] = refl
-    kinds_of_places (t ∷ ts) = ap (λ (x : List Lexeme). t ∷ x) (kinds_of_places ts)
+  pub is_refused : Complete → (e : ParseError) (p q : Parsing) → IfRefused (cause_of e) (read p ≡ None) × Fails e p q → Refusal spells continues e p q
+  is_refused complete e p q h = record { failed = h.1; nothing = none_if complete p (cause_of e) h.0 }
 
-    stops : (goes_on : Lexeme → Type 0) (ts : List Lexeme) → Free goes_on ts → Stops goes_on false ts
-    stops goes_on [] h = refl
-    stops goes_on (t ∷ ts) h = h
+  pub refused : {X : Type 0} (view : X → Y) → Complete → (r : Result X ParseError) (p q : Parsing) → Gives view r (read p) p q → IfErr r (λ e. Refusal spells continues e p q)
+  refused view complete (Ok x) p q h = tt
+  refused view complete (Err e) p q h = is_refused complete e p q h
 
-    pub one_alone : Complete → (s : Scope) (v w : X) (a b c d : List Lexeme) → a ++ c ≡ b ++ d → spells s (view v) a → spells s (view w) b → Free (λ t. continues (view v) t) c → Free (λ t. continues (view w) t) d
-        → (a ≡ b) × (view v ≡ view w)
-    one_alone complete s v w a b c d e m n f g =
-        let p : Parsing = record { tokens = map (λ t. (0, t)) (a ++ c); faulty = false; len = 0; scope = s; failed = None } in
-        let j = complete p (view v) a c (record { kinds_are = kinds_of_places (a ++ c); live = refl }) m (stops (λ t. continues (view v) t) c f) in
-        let k = complete p (view w) b d (record { kinds_are = kinds_of_places (a ++ c) ∙ e; live = refl }) n (stops (λ t. continues (view w) t) d g) in
-        let same : ◌≡◌ {A = Y × Parsing} (view v, j.0) (view w, k.0) = some_is (sym j.1 ∙ k.1) in
-        let rest : c ≡ d = sym j.2.kinds_are ∙ ap (λ (x : Y × Parsing). kinds x.1.tokens) same ∙ k.2.kinds_are in
-        (append_cancel_right a b c (e ∙ ap (λ (x : List Lexeme). b ++ x) (sym rest)), ap (λ (x : Y × Parsing). x.0) same)
+  -- a parser of these tokens
+  kinds_of_places : (ts : List Lexeme) → kinds (map (λ t. (0, t)) ts) ≡ ts
+  kinds_of_places [] = refl
+  kinds_of_places (t ∷ ts) = ap (λ (x : List Lexeme). t ∷ x) (kinds_of_places ts)
+
+  stops : (goes_on : Lexeme → Type 0) (ts : List Lexeme) → Free goes_on ts → Stops goes_on false ts
+  stops goes_on [] h = refl
+  stops goes_on (t ∷ ts) h = h
+
+  pub one_alone : Complete → (s : Scope) (v w : Y) (a b c d : List Lexeme) → a ++ c ≡ b ++ d → spells s v a → spells s w b → Free (continues v) c → Free (continues w) d → (a ≡ b) × (v ≡ w)
+  one_alone complete s v w a b c d e m n f g =
+      let p : Parsing = record { tokens = map (λ t. (0, t)) (a ++ c); faulty = false; len = 0; scope = s; failed = None } in
+      let j = complete p v a c (record { kinds_are = kinds_of_places (a ++ c); live = refl }) m (stops (continues v) c f) in
+      let k = complete p w b d (record { kinds_are = kinds_of_places (a ++ c) ∙ e; live = refl }) n (stops (continues w) d g) in
+      let same : ◌≡◌ {A = Y × Parsing} (v, j.0) (w, k.0) = some_is (sym j.1 ∙ k.1) in
+      let rest : c ≡ d = sym j.2.kinds_are ∙ ap (λ (x : Y × Parsing). kinds x.1.tokens) same ∙ k.2.kinds_are in
+      (append_cancel_right a b c (e ∙ ap (λ (x : List Lexeme). b ++ x) (sym rest)), ap (λ (x : Y × Parsing). x.0) same)
 
 -- want of memory refuses no text
 pub of_memory : (P : Type 0) (e : ParseError) → cause_of e ≡ Some no_memory → IfRefused (cause_of e) P
@@ -82,11 +78,3 @@ of_memory P e h = subst (λ (o : Option Cause). IfRefused o P) (sym h) tt
 pub memory_refused : {V : Type 0} (spells : Scope → V → List Lexeme → Type 0) (continues : V → Lexeme → Type 0) (e : ParseError) (p q r : Parsing)
     → q.failed ≡ p.failed → q.len ≡ p.len → FailsForMemory e q r → Refusal spells continues e p r
 memory_refused spells continues e p q r f l h = record { failed = fails_later e p q r f l h.1; nothing = of_memory _ e h.0 }
-
--- what holds of plain data holds of the nodes that are seen as it
-module _ {X Y : Type 0} (view : X → Y) (spells : Scope → Y → List Lexeme → Type 0) (continues : Y → Lexeme → Type 0) where
-  pub viewed_taken : (leaves : Scope → Scope) (x : X) (p q : Parsing) → Took spells continues leaves (view x) p q → Took (λ s v ts. spells s (view v) ts) (λ v t. continues (view v) t) leaves x p q
-  viewed_taken leaves x p q took = record { used = took.used; parts = took.parts; spelled = took.spelled; free = took.free; live = took.live; state = took.state }
-
-  pub viewed_refused : (e : ParseError) (p q : Parsing) → Refusal spells continues e p q → Refusal (λ s (v : X) ts. spells s (view v) ts) (λ (v : X) t. continues (view v) t) e p q
-  viewed_refused e p q h = record { failed = h.failed; nothing = if_refused (cause_of e) (λ f live v. f live (view v)) h.nothing }

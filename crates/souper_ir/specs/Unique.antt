@@ -1,9 +1,9 @@
 -- One front at most spells a value, for options and lists of what that holds of.
 use Rattle.std.specs.Prelude.{◌≡◌, Bool, true, List, [], ◌∷◌, ◌++◌, Option, Some, None}
-use Rattle.std.proofs.Common.{sym, ◌∙◌, ap, subst, inl, inr, append_assoc}
+use Rattle.std.proofs.Common.{refl, sym, ◌∙◌, ap, subst, inl, inr, append_assoc}
 use Rattle.std.proofs.lemmas.List.{append_cancel_left}
 use Rattle.souper_ir.specs.Tokens.{Lexeme}
-use Rattle.souper_ir.specs.Grammar.{Free, Stops, Starts, Members, LastGoesOn, ListGoesOn, AllAlike, OptionSpells, OptionGoesOn, OptionAlike}
+use Rattle.souper_ir.specs.Grammar.{Free, Stops, Starts, Members, LastGoesOn, ListGoesOn, OptionSpells, OptionGoesOn}
 
 -- ---- what stands next
 
@@ -31,17 +31,19 @@ clash starts (t ∷ b) c d st e f = (subst (Free (λ t. starts t ≡ true)) e f)
 pub clash_at : (starts : Lexeme → Bool) (faulty : Bool) (b c d : List Lexeme) → Starts starts b → c ≡ b ++ d → Stops (λ t. starts t ≡ true) faulty c → ⊥
 clash_at starts faulty b c d st e f = clash starts b c d st e (Free-from_Stops (λ t. starts t ≡ true) faulty c f)
 
-module _ {V : Type 0} (spells : V → List Lexeme → Type 0) (continues : V → Lexeme → Type 0) (alike : V → V → Type 0) (starts : Lexeme → Bool)
-    (alone : (v w : V) (a b c d : List Lexeme) → a ++ c ≡ b ++ d → spells v a → spells w b → Free (continues v) c → Free (continues w) d → (a ≡ b) × alike v w)
+module _ {V : Type 0} (spells : V → List Lexeme → Type 0) (continues : V → Lexeme → Type 0) (starts : Lexeme → Bool)
+    (alone : (v w : V) (a b c d : List Lexeme) → a ++ c ≡ b ++ d → spells v a → spells w b → Free (continues v) c → Free (continues w) d → (a ≡ b) × (v ≡ w))
     (first : (v : V) (ts : List Lexeme) → spells v ts → Starts starts ts) where
   pub option_alone : (o q : Option V) (a b c d : List Lexeme) → a ++ c ≡ b ++ d → OptionSpells spells o a → OptionSpells spells q b
-      → Free (λ t. OptionGoesOn continues starts o t) c → Free (λ t. OptionGoesOn continues starts q t) d → (a ≡ b) × OptionAlike alike o q
-  option_alone None None a b c d e s r f g = (s ∙ sym r, tt)
+      → Free (λ t. OptionGoesOn continues starts o t) c → Free (λ t. OptionGoesOn continues starts q t) d → (a ≡ b) × (o ≡ q)
+  option_alone None None a b c d e s r f g = (s ∙ sym r, refl)
   option_alone None (Some w) a b c d e s r f g =
       absurd (clash starts b c d (first w b r) (ap (λ (x : List Lexeme). x ++ c) (sym s) ∙ e) f)
   option_alone (Some v) None a b c d e s r f g =
       absurd (clash starts a d c (first v a s) (ap (λ (x : List Lexeme). x ++ d) (sym r) ∙ sym e) g)
-  option_alone (Some v) (Some w) a b c d e s r f g = alone v w a b c d e s r f g
+  option_alone (Some v) (Some w) a b c d e s r f g =
+      let same = alone v w a b c d e s r f g in
+      (same.0, ap (λ (x : V). Some x) same.1)
 
   -- no member is empty
   pub not_empty : (v : V) (a b : List Lexeme) → spells v a → a ++ b ≡ [] → ⊥
@@ -74,8 +76,8 @@ module _ {V : Type 0} (spells : V → List Lexeme → Type 0) (continues : V →
   parts_equal a b a1 a2 b1 b2 c d p q e = sym (append_assoc a1 a2 c) ∙ ap (λ (x : List Lexeme). x ++ c) (sym p) ∙ e ∙ ap (λ (x : List Lexeme). x ++ d) q ∙ append_assoc b1 b2 d
 
   pub list_alone : (vs ws : List V) (a b c d : List Lexeme) → a ++ c ≡ b ++ d → Members spells continues vs a → Members spells continues ws b
-      → Free (λ t. ListGoesOn continues starts vs t) c → Free (λ t. ListGoesOn continues starts ws t) d → (a ≡ b) × AllAlike alike vs ws
-  list_alone [] [] a b c d e m n f g = (m ∙ sym n, tt)
+      → Free (λ t. ListGoesOn continues starts vs t) c → Free (λ t. ListGoesOn continues starts ws t) d → (a ≡ b) × (vs ≡ ws)
+  list_alone [] [] a b c d e m n f g = (m ∙ sym n, refl)
   list_alone [] (w ∷ ws) a b c d e m n f g =
       absurd (clash starts n.0 c (n.1 ++ d) (first w n.0 n.3)
       (ap (λ (x : List Lexeme). x ++ c) (sym m) ∙ e ∙ ap (λ (x : List Lexeme). x ++ d) n.2 ∙ append_assoc n.0 n.1 d)
@@ -92,4 +94,4 @@ module _ {V : Type 0} (spells : V → List Lexeme → Type 0) (continues : V →
       let there = list_alone vs ws m.1 n.1 c d (rest_equal m.0 m.1 n.0 n.1 c d here.0 whole) m.5 n.5
       (Free-weaker (λ t. ListGoesOn continues starts (v ∷ vs) t) (λ t. ListGoesOn continues starts vs t) c (list_later v vs) f)
       (Free-weaker (λ t. ListGoesOn continues starts (w ∷ ws) t) (λ t. ListGoesOn continues starts ws t) d (list_later w ws) g) in
-      (m.2 ∙ ap (λ (x : List Lexeme). x ++ m.1) here.0 ∙ ap (λ (x : List Lexeme). n.0 ++ x) there.0 ∙ sym n.2, (here.1, there.1))
+      (m.2 ∙ ap (λ (x : List Lexeme). x ++ m.1) here.0 ∙ ap (λ (x : List Lexeme). n.0 ++ x) there.0 ∙ sym n.2, ap (λ (x : V). x ∷ vs) here.1 ∙ ap (λ (x : List V). w ∷ x) there.1)

@@ -1,5 +1,6 @@
 //! Attributes.
 ghost use Rattle.std.specs.Prelude.{◌≡◌, None, option_map, refl};
+ghost use Rattle.souper_graph.specs.Values.{PlainAttribute, PlainRootAttribute};
 ghost use Rattle.souper_graph.specs.View.{view_attribute, view_root_attribute};
 ghost use Rattle.souper_ir.specs.Spelling.{attribute_spells, root_attribute_spells};
 ghost use Rattle.souper_ir.specs.Tokens.{open_paren};
@@ -183,13 +184,15 @@ pub(crate) fn root_attribute(parser: &mut Parser<'_>) -> Result<RootAttribute>
 
 /// An attribute of a value, between parentheses.
 impl Parse for Attribute {
-    ghost spells = { λ s v ts. attribute_spells (view_attribute v) ts };
+    ghost Plain = { PlainAttribute };
 
-    ghost continues = { λ v t. ⊥ };
+    ghost view = { view_attribute };
 
-    ghost alike = { λ v w. view_attribute v ≡ view_attribute w };
+    ghost spells = { λ s. attribute_spells };
 
-    ghost alone = { one_alone (λ s. attribute_spells) (λ a t. ⊥) attribute_at view_attribute attribute_complete };
+    ghost continues = { λ a t. ⊥ };
+
+    ghost alone = { one_alone (λ s. attribute_spells) (λ a t. ⊥) attribute_at attribute_complete };
 
     fn parse<'a>(parser: &mut Parser<'a>) -> Result<Self> {
         attribute(parser)
@@ -199,7 +202,7 @@ impl Parse for Attribute {
 impl Peek for Attribute {
     ghost starts = { is_mark open_paren };
 
-    ghost first = { λ s v ts h. attribute_first s (view_attribute v) ts h };
+    ghost first = { attribute_first };
 
     ghost stays = { λ s. refl };
 
@@ -210,13 +213,15 @@ impl Peek for Attribute {
 
 /// An attribute of a root, between parentheses.
 impl Parse for RootAttribute {
-    ghost spells = { λ s v ts. root_attribute_spells (view_root_attribute v) ts };
+    ghost Plain = { PlainRootAttribute };
 
-    ghost continues = { λ v t. ⊥ };
+    ghost view = { view_root_attribute };
 
-    ghost alike = { λ v w. view_root_attribute v ≡ view_root_attribute w };
+    ghost spells = { λ s. root_attribute_spells };
 
-    ghost alone = { one_alone (λ s. root_attribute_spells) (λ a t. ⊥) root_attribute_at view_root_attribute root_attribute_complete };
+    ghost continues = { λ a t. ⊥ };
+
+    ghost alone = { one_alone (λ s. root_attribute_spells) (λ a t. ⊥) root_attribute_at root_attribute_complete };
 
     fn parse<'a>(parser: &mut Parser<'a>) -> Result<Self> {
         root_attribute(parser)
@@ -226,7 +231,7 @@ impl Parse for RootAttribute {
 impl Peek for RootAttribute {
     ghost starts = { is_mark open_paren };
 
-    ghost first = { λ s v ts h. root_attribute_first s (view_root_attribute v) ts h };
+    ghost first = { root_attribute_first };
 
     ghost stays = { λ s. refl };
 

@@ -112,13 +112,15 @@ pub(crate) fn operands(parser: &mut Parser<'_>, count: usize) -> Result<ArrayVec
 }
 
 impl Parse for Type {
+    ghost Plain = { Self };
+
+    ghost view = { λ t. t };
+
     ghost spells = { λ s. type_spells };
 
     ghost continues = { λ t u. ⊥ };
 
-    ghost alike = { λ v w. v ≡ w };
-
-    ghost alone = { one_alone (λ s. type_spells) (λ t u. ⊥) type_at (λ t. t) type_complete };
+    ghost alone = { one_alone (λ s. type_spells) (λ t u. ⊥) type_at type_complete };
 
     fn parse<'a>(parser: &mut Parser<'a>) -> Result<Self> {
         type_alone(parser)
@@ -126,13 +128,15 @@ impl Parse for Type {
 }
 
 impl Parse for Constant {
+    ghost Plain = { Self };
+
+    ghost view = { λ c. c };
+
     ghost spells = { λ s. constant_spells };
 
     ghost continues = { constant_continues };
 
-    ghost alike = { λ v w. v ≡ w };
-
-    ghost alone = { one_alone (λ s. constant_spells) constant_continues constant_at (λ c. c) constant_complete };
+    ghost alone = { one_alone (λ s. constant_spells) constant_continues constant_at constant_complete };
 
     fn parse<'a>(parser: &mut Parser<'a>) -> Result<Self> {
         constant(parser)
@@ -153,13 +157,15 @@ impl Peek for Constant {
 
 /// A name has to stand for a value in scope.
 impl Parse for Operand {
+    ghost Plain = { Self };
+
+    ghost view = { λ x. x };
+
     ghost spells = { operand_spells };
 
     ghost continues = { operand_continues };
 
-    ghost alike = { λ v w. v ≡ w };
-
-    ghost alone = { one_alone operand_spells operand_continues operand_at (λ x. x) operand_complete };
+    ghost alone = { one_alone operand_spells operand_continues operand_at operand_complete };
 
     fn parse<'a>(parser: &mut Parser<'a>) -> Result<Self> {
         operand(parser)

@@ -1,6 +1,7 @@
 //! Right sides: blocks, phis and instructions.
 
 ghost use Rattle.std.specs.Prelude.{◌≡◌, ◌≤◌, None, codes, refl, IfOk};
+ghost use Rattle.souper_graph.specs.Values.{PlainPhi, PlainRhs};
 ghost use Rattle.souper_graph.specs.View.{view_phi, view_rhs};
 ghost use Rattle.souper_ir.specs.Reading.{Gives};
 ghost use Rattle.souper_ir.specs.Grammar.{peek_at};
@@ -108,13 +109,15 @@ pub(crate) fn rhs(parser: &mut Parser<'_>) -> Result<AssignmentRhs>
 }
 
 impl Parse for Block {
+    ghost Plain = { Self };
+
+    ghost view = { λ b. b };
+
     ghost spells = { λ s. block_spells };
 
     ghost continues = { λ b t. ⊥ };
 
-    ghost alike = { λ v w. v ≡ w };
-
-    ghost alone = { one_alone (λ s. block_spells) (λ b t. ⊥) block_at (λ b. b) block_complete };
+    ghost alone = { one_alone (λ s. block_spells) (λ b t. ⊥) block_at block_complete };
 
     fn parse<'a>(parser: &mut Parser<'a>) -> Result<Self> {
         block(parser)
@@ -135,13 +138,15 @@ impl Peek for Block {
 
 /// Its name has to stand for a block in scope, and it has a value for each way into that.
 impl Parse for Phi {
-    ghost spells = { λ s v ts. phi_spells s (view_phi v) ts };
+    ghost Plain = { PlainPhi };
 
-    ghost continues = { λ v t. phi_continues (view_phi v) t };
+    ghost view = { view_phi };
 
-    ghost alike = { λ v w. view_phi v ≡ view_phi w };
+    ghost spells = { phi_spells };
 
-    ghost alone = { one_alone phi_spells phi_continues phi_at view_phi phi_complete };
+    ghost continues = { phi_continues };
+
+    ghost alone = { one_alone phi_spells phi_continues phi_at phi_complete };
 
     fn parse<'a>(parser: &mut Parser<'a>) -> Result<Self> {
         phi(parser)
@@ -151,7 +156,7 @@ impl Parse for Phi {
 impl Peek for Phi {
     ghost starts = { is_word (codes "phi") };
 
-    ghost first = { λ s v ts h. phi_first s (view_phi v) ts h };
+    ghost first = { phi_first };
 
     ghost stays = { λ s. refl };
 
@@ -161,13 +166,15 @@ impl Peek for Phi {
 }
 
 impl Parse for Instruction {
+    ghost Plain = { Self };
+
+    ghost view = { λ i. i };
+
     ghost spells = { instruction_spells };
 
     ghost continues = { instruction_continues };
 
-    ghost alike = { λ v w. v ≡ w };
-
-    ghost alone = { one_alone instruction_spells instruction_continues instruction_at (λ i. i) instruction_complete };
+    ghost alone = { one_alone instruction_spells instruction_continues instruction_at instruction_complete };
 
     fn parse<'a>(parser: &mut Parser<'a>) -> Result<Self> {
         instruction(parser)
@@ -191,13 +198,15 @@ impl Peek for Instruction {
 }
 
 impl Parse for AssignmentRhs {
-    ghost spells = { λ s v ts. rhs_spells s (view_rhs v) ts };
+    ghost Plain = { PlainRhs };
 
-    ghost continues = { λ v t. rhs_continues (view_rhs v) t };
+    ghost view = { view_rhs };
 
-    ghost alike = { λ v w. view_rhs v ≡ view_rhs w };
+    ghost spells = { rhs_spells };
 
-    ghost alone = { one_alone rhs_spells rhs_continues rhs_at view_rhs rhs_complete };
+    ghost continues = { rhs_continues };
+
+    ghost alone = { one_alone rhs_spells rhs_continues rhs_at rhs_complete };
 
     fn parse<'a>(parser: &mut Parser<'a>) -> Result<Self> {
         rhs(parser)

@@ -1,23 +1,31 @@
 //! What can be parsed, and what can be seen to come.
-ghost use Rattle.std.specs.Prelude.{◌≡◌, List, ◌++◌, IfOk, IfErr, Bool, None};
+ghost use Rattle.std.specs.Prelude.{◌≡◌, List, map, ◌++◌, Option, option_map, IfOk, IfErr, Bool, None};
 ghost use Rattle.souper_ir.specs.Tokens.{Lexeme};
 ghost use Rattle.souper_ir.specs.Spelling.{kinds, Scope};
 ghost use Rattle.souper_ir.specs.Reading.{Gives, IfRefused, cause_of};
 ghost use Rattle.souper_ir.specs.Unique.{option_alone, list_alone};
-ghost use Rattle.souper_ir.specs.Grammar.{Free, Starts, Took, Refusal, Stuck, peek_at, VecSpells, VecGoesOn, AllAlike, OptionSpells, OptionGoesOn, OptionAlike};
+ghost use Rattle.souper_ir.specs.Grammar.{Free, Starts, Took, Refusal, Stuck, peek_at, Members, ListGoesOn, OptionSpells, OptionGoesOn};
 
 use crate::parse::parser::{Parser, Result};
 
 /// A value that can be parsed.
+///
+/// An implementor states its grammar, over its values seen as plain data: which tokens spell a value in a scope, which
+/// token behind them continues it, and what scope it leaves. It owes that
+/// - `parse` takes the tokens of the value that it returns, where the next token does not continue that;
+/// - `parse` refuses only where no tokens to come spell any value;
+/// - the tokens to come never spell two values, or one value at two lengths.
 pub trait Parse: Sized {
+    // A value as plain data.
+    ghost Plain: { Type 0 };
+
+    ghost view: { Self → Plain };
+
     // The tokens spell the value in the scope.
-    ghost spells: { Scope → Self → List Lexeme → Type 0 };
+    ghost spells: { Scope → Plain → List Lexeme → Type 0 };
 
     // A token behind its spelling continues the value.
-    ghost continues: { Self → Lexeme → Type 0 };
-
-    // The two have the same contents.
-    ghost alike: { Self → Self → Type 0 };
+    ghost continues: { Plain → Lexeme → Type 0 };
 
     // The scope that a value leaves.
     ghost leaves: { Scope → Scope } = { λ s. s };
@@ -26,14 +34,19 @@ pub trait Parse: Sized {
     ///
     /// On an error the parser stays failed.
     fn parse<'a>(parser: &mut Parser<'a>) -> Result<Self>
-        ensures ok { IfOk result (λ v. Took spells continues leaves v parser.old parser.new) }
+        ensures ok { IfOk result (λ v. Took spells continues leaves (view v) parser.old parser.new) }
         ensures err { IfErr result (λ e. Refusal spells continues e parser.old parser.new) };
 
     // One front of a list of tokens at most spells a value so that what follows does not continue it, and one value alone.
-    ghost alone: { (s : Scope) (v w : Self) (a b c d : List Lexeme) → a ++ c ≡ b ++ d → spells s v a → spells s w b → Free (continues v) c → Free (continues w) d → (a ≡ b) × alike v w };
+    ghost alone: { (s : Scope) (v w : Plain) (a b c d : List Lexeme) → a ++ c ≡ b ++ d → spells s v a → spells s w b → Free (continues v) c → Free (continues w) d → (a ≡ b) × (v ≡ w) };
 }
 
 /// A value that its first token tells.
+///
+/// An implementor states which tokens start a value. It owes that
+/// - `peek` answers whether the next token is one of them, and takes none;
+/// - each spelling of a value begins with one of them, and so is not empty;
+/// - a value leaves the scope as it was.
 pub trait Peek: Parse {
     // The token starts a value.
     ghost starts: { Lexeme → Bool };
@@ -45,7 +58,7 @@ pub trait Peek: Parse {
         ensures { Gives (λ b. b) result (peek_at starts parser.old) parser.old parser.new };
 
     // A spelling has a first token, which starts it.
-    ghost first: { (s : Scope) (v : Self) (ts : List Lexeme) → Self.spells s v ts → Starts starts ts };
+    ghost first: { (s : Scope) (v : Self.Plain) (ts : List Lexeme) → Self.spells s v ts → Starts starts ts };
 
     // The scope stays.
     ghost stays: { (s : Scope) → Self.leaves s ≡ s };
@@ -53,13 +66,15 @@ pub trait Peek: Parse {
 
 /// A value where one is seen to come, and else `None`.
 impl<P: Peek> Parse for Option<P> {
+    ghost Plain = { Option P.Plain };
+
+    ghost view = { λ o. option_map P.view o };
+
     ghost spells = { λ s o ts. OptionSpells (P.spells s) o ts };
 
     ghost continues = { λ o t. OptionGoesOn P.continues P.starts o t };
 
-    ghost alike = { λ o q. OptionAlike P.alike o q };
-
-    ghost alone = { λ s. option_alone (P.spells s) P.continues P.alike P.starts (P.alone s) (P.first s) };
+    ghost alone = { λ s. option_alone (P.spells s) P.continues P.starts (P.alone s) (P.first s) };
 
     fn parse<'a>(parser: &mut Parser<'a>) -> Result<Self> {
         if P::peek(parser)? {
@@ -72,17 +87,19 @@ impl<P: Peek> Parse for Option<P> {
 
 /// Values for as long as one is seen to come.
 impl<P: Peek + Drop> Parse for Vec<P> {
-    ghost spells = { VecSpells P.spells P.continues };
+    ghost Plain = { List P.Plain };
 
-    ghost continues = { VecGoesOn P.continues P.starts };
+    ghost view = { λ v. map P.view v.items };
 
-    ghost alike = { λ v w. AllAlike P.alike v.items w.items };
+    ghost spells = { λ s vs ts. Members (P.spells s) P.continues vs ts };
 
-    ghost alone = { λ s v w. list_alone (P.spells s) P.continues P.alike P.starts (P.alone s) (P.first s) v.items w.items };
+    ghost continues = { λ vs t. ListGoesOn P.continues P.starts vs t };
+
+    ghost alone = { λ s. list_alone (P.spells s) P.continues P.starts (P.alone s) (P.first s) };
 
     fn parse<'a>(parser: &mut Parser<'a>) -> Result<Self>
-        ensures ok { IfOk result (λ v. Took (VecSpells P.spells P.continues) (VecGoesOn P.continues P.starts) (λ s. s) v parser.old parser.new) }
-        ensures err { IfErr result (λ e. Refusal (VecSpells P.spells P.continues) (VecGoesOn P.continues P.starts) e parser.old parser.new) }
+        ensures ok { IfOk result (λ v. Took (λ s vs ts. Members (P.spells s) P.continues vs ts) (λ vs t. ListGoesOn P.continues P.starts vs t) (λ s. s) (map P.view v.items) parser.old parser.new) }
+        ensures err { IfErr result (λ e. Refusal (λ s vs ts. Members (P.spells s) P.continues vs ts) (λ vs t. ListGoesOn P.continues P.starts vs t) e parser.old parser.new) }
         // The members end at a fault, or at a token that starts a member where none is spelled.
         ensures stuck { IfErr result (λ e. IfRefused (cause_of e) (parser.old.failed ≡ None → Stuck (P.spells parser.old.scope) P.continues P.starts parser.old.faulty (kinds parser.old.tokens))) }
     {

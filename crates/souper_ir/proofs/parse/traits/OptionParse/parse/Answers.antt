@@ -14,7 +14,7 @@ returns-in_err-parse-clause-err g c =
 
 pub returns-in_ok-parse-clause-ok : goal.returns-in_ok-parse-clause-ok
 returns-in_ok-parse-clause-ok g c =
-    some_taken g.P.Parse.spells g.P.Parse.continues g.P.Peek.starts g.P.Parse.leaves c.in_ok-parse.field-0 c.args.parser.now c.peek.new.parser c.parse.new.parser g.met.P.Peek.stays (rw c.if-branch.true at c.in_ok-peek.ensures) c.in_ok-parse.ensures.ok
+    some_taken g.P.Parse.spells g.P.Parse.continues g.P.Peek.starts g.P.Parse.leaves (g.P.Parse.view c.in_ok-parse.field-0) c.args.parser.now c.peek.new.parser c.parse.new.parser g.met.P.Peek.stays (rw c.if-branch.true at c.in_ok-peek.ensures) c.in_ok-parse.ensures.ok
 
 pub returns-else-branch-clause-ok : goal.returns-else-branch-clause-ok
 returns-else-branch-clause-ok g c =
