@@ -16,3 +16,6 @@ pub mod Operands
 pub mod Numerals
 pub mod BitLists
 pub mod RightSides
+pub mod Limits
+pub mod Scopes
+pub mod WellFormedItems

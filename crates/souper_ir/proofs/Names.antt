@@ -13,10 +13,10 @@ use Rattle.souper_ir.specs.Spelling.{Scope, ways_of, entry_from, entry_of, posit
 use Rattle.souper_ir.specs.ParserView.{NamesAre}
 
 -- a position, and the ways into the block that stands there
-abbrev Entry : Type 0
+abbrev pub Entry : Type 0
 Entry = ℕ × Option ℕ
 
-abbrev or_else : Option Entry → Option Entry → Option Entry
+abbrev pub or_else : Option Entry → Option Entry → Option Entry
 or_else None o = o
 or_else (Some i) o = Some i
 
@@ -29,7 +29,7 @@ past : (k n : ℕ) → suc k + n ≡ k + suc n
 past k n = omega arith
 
 -- the entry of a name, after one more assignment
-entry_push : (k : ℕ) (ss : Scope) (a : PlainAssignment) (n : List ℕ) → or_else (entry_from k ss n) (if bytes_eq a.name n then Some (k + length ss, ways_of a.value) else None) ≡ entry_from k (ss ++ assigned a ∷ []) n
+pub entry_push : (k : ℕ) (ss : Scope) (a : PlainAssignment) (n : List ℕ) → or_else (entry_from k ss n) (if bytes_eq a.name n then Some (k + length ss, ways_of a.value) else None) ≡ entry_from k (ss ++ assigned a ∷ []) n
 entry_push k [] a n = ap (λ (i : ℕ). if bytes_eq a.name n then Some (i, ways_of a.value) else None) (let e : k + 0 ≡ k = omega arith in e)
 entry_push k (assigned b ∷ ss) a n =
     found_or (bytes_eq b.name n) (k, ways_of b.value) (entry_from (suc k) ss n) (if bytes_eq a.name n then Some (k + suc (length ss), ways_of a.value) else None) (entry_from (suc k) (ss ++ assigned a ∷ []) n)
@@ -40,7 +40,7 @@ entry_push k (block_condition p ∷ ss) a n =
     subst (λ (i : ℕ). or_else (entry_from (suc k) ss n) (if bytes_eq a.name n then Some (i, ways_of a.value) else None) ≡ entry_from (suc k) (ss ++ assigned a ∷ []) n) (past k (length ss)) (entry_push (suc k) ss a n)
 
 -- a path condition has no name
-entry_pass : (k : ℕ) (ss : Scope) (s : PlainStatement) (n : List ℕ) → is_condition s ≡ true → entry_from k ss n ≡ entry_from k (ss ++ s ∷ []) n
+pub entry_pass : (k : ℕ) (ss : Scope) (s : PlainStatement) (n : List ℕ) → is_condition s ≡ true → entry_from k ss n ≡ entry_from k (ss ++ s ∷ []) n
 entry_pass k [] (assigned a) n h = absurd cc
 entry_pass k [] (condition p) n h = refl
 entry_pass k [] (block_condition p) n h = refl
@@ -53,7 +53,7 @@ only_if true o v h = rw (h refl) refl
 only_if false None v h = refl
 only_if false (Some i) v h = refl
 
-no_entry : (o : Option Entry) → option_map (λ (e : Entry). e.0) o ≡ None → o ≡ None
+pub no_entry : (o : Option Entry) → option_map (λ (e : Entry). e.0) o ≡ None → o ≡ None
 no_entry None h = refl
 no_entry (Some e) h = absurd cc
 
