@@ -1,21 +1,27 @@
 -- A list of items of one kind, as plain data.
 use Rattle.std.specs.Prelude.{List, map}
 use Rattle.souper_graph.specs.Values.{Item}
-use Rattle.souper_graph.specs.View.{view_left_hand_side}
-use Rattle.souper_ir.specs.Spelling.{ItemType, left_hand_side}
+use Rattle.souper_graph.specs.View.{view_left_hand_side, view_right_hand_side, view_replacement}
+use Rattle.souper_ir.specs.Spelling.{ItemType, left_hand_side, right_hand_side, replacement}
 use Rattle.souper_format.specs.declared.command.Kind.{Kind}
-use Rattle.souper_format.specs.declared.command.Kind.TheVariants.{Lhs}
+use Rattle.souper_format.specs.declared.command.Kind.TheVariants.{Lhs, Rhs, Rep}
 use Rattle.souper_format.specs.declared.items.Items.{Items}
-use Rattle.souper_format.specs.declared.items.Items.TheVariants.{Lhs as lhs_items}
+use Rattle.souper_format.specs.declared.items.Items.TheVariants.{Lhs as lhs_items, Rhs as rhs_items, Rep as rep_items}
 
 -- the type of the items of a kind
 abbrev pub item_type_of : Kind → ItemType
 item_type_of Lhs = left_hand_side
+item_type_of Rhs = right_hand_side
+item_type_of Rep = replacement
 
 -- the kind of the items of a list
 abbrev pub kind_of_items : Items → Kind
 kind_of_items (lhs_items v) = Lhs
+kind_of_items (rhs_items v) = Rhs
+kind_of_items (rep_items v) = Rep
 
 -- the items of a list
 abbrev pub view_items : Items → List Item
 view_items (lhs_items v) = map view_left_hand_side v.items
+view_items (rhs_items v) = map view_right_hand_side v.items
+view_items (rep_items v) = map view_replacement v.items

@@ -7,6 +7,12 @@ ghost use Rattle.souper_format.specs.Commands.{kind_of_word, command_of};
 pub enum Kind {
     /// Left-hand sides: what an optimization looks for.
     Lhs,
+
+    /// Right-hand sides: what may take its place.
+    Rhs,
+
+    /// Replacements: both.
+    Rep,
 }
 
 /// What the program is asked to do.
@@ -19,7 +25,12 @@ pub enum Command {
 fn read_kind(word: &str) -> Option<Kind>
     ensures { result ≡ kind_of_word word.now }
 {
-    if word == "lhs" { Some(Kind::Lhs) } else { None }
+    match word {
+        "lhs" => Some(Kind::Lhs),
+        "rhs" => Some(Kind::Rhs),
+        "rep" => Some(Kind::Rep),
+        _ => None,
+    }
 }
 
 /// The command that the words after the program's name say, or `None` where they say none.

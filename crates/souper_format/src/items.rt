@@ -5,7 +5,7 @@ ghost use Rattle.std.specs.String.{string_bytes};
 ghost use Rattle.souper_graph.specs.Values.{Item};
 ghost use Rattle.souper_graph.specs.Text.{text_of};
 ghost use Rattle.souper_graph.specs.Uses.{UsesBelow};
-ghost use Rattle.souper_graph.specs.View.{view_left_hand_side};
+ghost use Rattle.souper_graph.specs.View.{view_left_hand_side, view_right_hand_side, view_replacement};
 ghost use Rattle.souper_graph.specs.WellFormed.{WellFormed};
 ghost use Rattle.souper_ir.specs.Spelling.{TextSpells};
 ghost use Rattle.souper_ir.specs.Answers.{IsStrError};
@@ -13,8 +13,10 @@ ghost use Rattle.souper_format.specs.Kinds.{item_type_of, kind_of_items, view_it
 ghost use Rattle.souper_format.specs.Formatted.{text_with_newline, texts_of, IsFormatted};
 
 use crate::command::Kind;
-use souper_ir::ast::LeftHandSide;
-use souper_ir::parse::{ParseError, parse_left_hand_sides_str};
+use souper_ir::ast::{LeftHandSide, Replacement, RightHandSide};
+use souper_ir::parse::{
+    ParseError, parse_left_hand_sides_str, parse_replacements_str, parse_right_hand_sides_str,
+};
 use souper_ir::stringify::TextError;
 use std::alloc::{AllocError, Global};
 
@@ -23,6 +25,12 @@ use std::alloc::{AllocError, Global};
 pub enum Items {
     /// Left-hand sides, in the order in which they were read.
     Lhs(Vec<LeftHandSide>),
+
+    /// Right-hand sides, in the order in which they were read.
+    Rhs(Vec<RightHandSide>),
+
+    /// Replacements, in the order in which they were read.
+    Rep(Vec<Replacement>),
 }
 
 /// The items of the kind that the text spells.
@@ -45,6 +53,14 @@ pub fn read_items(
             Ok(items) => Ok(Items::Lhs(items)),
             Err(refusal) => Err(refusal),
         },
+        Kind::Rhs => match parse_right_hand_sides_str(alloc, source, filename) {
+            Ok(items) => Ok(Items::Rhs(items)),
+            Err(refusal) => Err(refusal),
+        },
+        Kind::Rep => match parse_replacements_str(alloc, source, filename) {
+            Ok(items) => Ok(Items::Rep(items)),
+            Err(refusal) => Err(refusal),
+        },
     }
 }
 
@@ -58,6 +74,22 @@ trait Printed {
 
 impl Printed for LeftHandSide {
     ghost item = { view_left_hand_side };
+
+    fn text(&self) -> Result<String, TextError> {
+        self.to_text()
+    }
+}
+
+impl Printed for RightHandSide {
+    ghost item = { view_right_hand_side };
+
+    fn text(&self) -> Result<String, TextError> {
+        self.to_text()
+    }
+}
+
+impl Printed for Replacement {
+    ghost item = { view_replacement };
 
     fn text(&self) -> Result<String, TextError> {
         self.to_text()
@@ -98,6 +130,8 @@ fn text_of_items(alloc: Global, items: &Items) -> Result<String, AllocError>
 {
     match items {
         Items::Lhs(list) => text_of_list(alloc, list),
+        Items::Rhs(list) => text_of_list(alloc, list),
+        Items::Rep(list) => text_of_list(alloc, list),
     }
 }
 
