@@ -9,13 +9,11 @@ use Rattle.souper_ir.specs.Numbers.{number_of, count_of, bit_of, known_bit_of, a
 use Rattle.souper_ir.specs.Spelling.{kinds, Scope, attribute_spells, root_attribute_spells, attributes_spell, root_attributes_spell}
 use Rattle.souper_ir.specs.Parsing.{Parsing}
 use Rattle.souper_ir.specs.Optional.{◌>>=◌}
-use Rattle.souper_ir.specs.Grammar.{Free, Starts, Members, LastGoesOn, ListGoesOn, VecSpells, AllAlike}
 use Rattle.souper_ir.specs.Grammar.{Starts, Members, LastGoesOn, ListGoesOn}
 use Rattle.souper_ir.specs.NodeReadings.{accept, mark_of, is_mark, int_by, ident_by, AttributeKind, plain_kind, bits_kind, sign_bits_kind, range_kind, attribute_kind_of_word, attribute_kind_of, attribute_by, attribute_at, root_kind_of_word, root_attribute_by, root_attribute_at}
 use Rattle.souper_ir.specs.Peeks.{some_is}
 use Rattle.souper_ir.specs.Steps.{Takes, Takes-then, Takes-none, At, bind_some, accepted, accepts}
-use Rattle.souper_ir.specs.Readings.{Sound, Complete, one_alone}
-use Rattle.souper_ir.specs.Unique.{Free-weaker, list_alone}
+use Rattle.souper_ir.specs.Readings.{Sound, Complete}
 use Rattle.souper_ir.specs.OperandLaws.{mark_means, int_means, ident_means, never, moved, WasRead, live_still, state_then}
 
 -- ---- bit lists
@@ -398,50 +396,3 @@ root_attributes_are_members (x ∷ xs) ts h = (h.0, h.1, h.2, h.3, never h.1, ro
 pub members_are_root_attributes : (xs : List PlainRootAttribute) (ts : List Lexeme) → Members root_attribute_spells (λ a t. ⊥) xs ts → root_attributes_spell xs ts
 members_are_root_attributes [] ts h = h
 members_are_root_attributes (x ∷ xs) ts h = (h.0, h.1, h.2, h.3, members_are_root_attributes xs h.1 h.5)
-
--- the same of the nodes' vectors
-pub attributes_from_vec : (s : Scope) (v : Vec Attribute) (ts : List Lexeme) → VecSpells (λ s a ts. attribute_spells (view_attribute a) ts) (λ a t. ⊥) s v ts → attributes_spell (map view_attribute v.items) ts
-attributes_from_vec s v ts h = members_are_attributes (map view_attribute v.items) ts (viewed_members view_attribute attribute_spells (λ a t. ⊥) v.items ts h)
-
-pub vec_from_attributes : (s : Scope) (v : Vec Attribute) (ts : List Lexeme) → attributes_spell (map view_attribute v.items) ts → VecSpells (λ s a ts. attribute_spells (view_attribute a) ts) (λ a t. ⊥) s v ts
-vec_from_attributes s v ts h = members_viewed view_attribute attribute_spells (λ a t. ⊥) v.items ts (attributes_are_members (map view_attribute v.items) ts h)
-
-pub root_attributes_from_vec : (s : Scope) (v : Vec RootAttribute) (ts : List Lexeme) → VecSpells (λ s a ts. root_attribute_spells (view_root_attribute a) ts) (λ a t. ⊥) s v ts → root_attributes_spell (map view_root_attribute v.items) ts
-root_attributes_from_vec s v ts h = members_are_root_attributes (map view_root_attribute v.items) ts (viewed_members view_root_attribute root_attribute_spells (λ a t. ⊥) v.items ts h)
-
-pub vec_from_root_attributes : (s : Scope) (v : Vec RootAttribute) (ts : List Lexeme) → root_attributes_spell (map view_root_attribute v.items) ts → VecSpells (λ s a ts. root_attribute_spells (view_root_attribute a) ts) (λ a t. ⊥) s v ts
-vec_from_root_attributes s v ts h = members_viewed view_root_attribute root_attribute_spells (λ a t. ⊥) v.items ts (root_attributes_are_members (map view_root_attribute v.items) ts h)
-
--- ---- one list of them
-
--- lists whose members are equal one by one
-same_members : {A : Type 0} (xs ys : List A) → AllAlike (λ (v w : A). v ≡ w) xs ys → xs ≡ ys
-same_members [] [] h = refl
-same_members [] (y ∷ ys) h = absurd h
-same_members (x ∷ xs) [] h = absurd h
-same_members {A} (x ∷ xs) (y ∷ ys) h = ap (λ (z : A). z ∷ xs) h.0 ∙ ap (λ (zs : List A). y ∷ zs) (same_members xs ys h.1)
-
--- nodes whose views are equal one by one
-pub same_views : {V W : Type 0} (view : V → W) (vs ws : List V) → AllAlike (λ (v w : V). view v ≡ view w) vs ws → map view vs ≡ map view ws
-same_views view [] [] h = refl
-same_views view [] (w ∷ ws) h = absurd h
-same_views view (v ∷ vs) [] h = absurd h
-same_views {V} {W} view (v ∷ vs) (w ∷ ws) h = ap (λ (x : W). x ∷ map view vs) h.0 ∙ ap (λ (xs : List W). view w ∷ xs) (same_views view vs ws h.1)
-
-module _ {A : Type 0} (spells : A → List Lexeme → Type 0)
-    (alone : (v w : A) (a b c d : List Lexeme) → a ++ c ≡ b ++ d → spells v a → spells w b → Free (λ t. ⊥) c → Free (λ t. ⊥) d → (a ≡ b) × (v ≡ w))
-    (first : (v : A) (ts : List Lexeme) → spells v ts → Starts (is_mark open_paren) ts) where
-  many_alone : (xs ys : List A) (a b c d : List Lexeme) → a ++ c ≡ b ++ d → Members spells (λ v t. ⊥) xs a → Members spells (λ v t. ⊥) ys b → Free (λ t. t ≡ open_paren) c → Free (λ t. t ≡ open_paren) d → (a ≡ b) × (xs ≡ ys)
-  many_alone xs ys a b c d e m n f g =
-      let k = list_alone spells (λ v t. ⊥) (λ (v w : A). v ≡ w) (is_mark open_paren) alone first xs ys a b c d e m n
-      (Free-weaker (λ t. t ≡ open_paren) (λ t. ListGoesOn (λ (v : A) t. ⊥) (is_mark open_paren) xs t) c (one_more xs) f)
-      (Free-weaker (λ t. t ≡ open_paren) (λ t. ListGoesOn (λ (v : A) t. ⊥) (is_mark open_paren) ys t) d (one_more ys) g) in
-      (k.0, same_members xs ys k.1)
-
-pub attributes_alone : (xs ys : List PlainAttribute) (a b c d : List Lexeme) → a ++ c ≡ b ++ d → attributes_spell xs a → attributes_spell ys b → Free (λ t. t ≡ open_paren) c → Free (λ t. t ≡ open_paren) d → (a ≡ b) × (xs ≡ ys)
-attributes_alone xs ys a b c d e m n =
-    many_alone attribute_spells (one_alone (λ s. attribute_spells) (λ x t. ⊥) attribute_at (λ (x : PlainAttribute). x) attribute_complete []) (attribute_first []) xs ys a b c d e (attributes_are_members xs a m) (attributes_are_members ys b n)
-
-pub root_attributes_alone : (xs ys : List PlainRootAttribute) (a b c d : List Lexeme) → a ++ c ≡ b ++ d → root_attributes_spell xs a → root_attributes_spell ys b → Free (λ t. t ≡ open_paren) c → Free (λ t. t ≡ open_paren) d → (a ≡ b) × (xs ≡ ys)
-root_attributes_alone xs ys a b c d e m n =
-    many_alone root_attribute_spells (one_alone (λ s. root_attribute_spells) (λ x t. ⊥) root_attribute_at (λ (x : PlainRootAttribute). x) root_attribute_complete []) (root_attribute_first []) xs ys a b c d e (root_attributes_are_members xs a m) (root_attributes_are_members ys b n)
