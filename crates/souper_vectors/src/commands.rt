@@ -16,18 +16,17 @@ fn command(alloc: Global, words: &[&str]) -> Result<Option<Command>, AllocError>
 }
 
 #[test]
-fn lhs_is_a_command(rt: HostRuntime) -> Result<(), Fail> {
-    let asked = command(rt.alloc(), &["lhs"])?;
-    assert_eq!(rt; asked, Some(Command::Format(Kind::Lhs)));
+fn kinds_are_commands(rt: HostRuntime) -> Result<(), Fail> {
+    for (word, kind) in [("lhs", Kind::Lhs), ("rhs", Kind::Rhs), ("rep", Kind::Rep)] {
+        assert_eq!(rt; command(rt.alloc(), &[word])?, Some(Command::Format(kind)));
+    }
     Ok(())
 }
 
 #[test]
 fn other_words_are_no_command(rt: HostRuntime) -> Result<(), Fail> {
-    let rows: [&[&str]; 11] = [
+    let rows: [&[&str]; 9] = [
         &[],
-        &["rhs"],
-        &["rep"],
         &["same"],
         &["same", "lhs"],
         &["same", "lhs", "a", "b"],

@@ -14,6 +14,8 @@ mod cuts;
 #[cfg(test)]
 mod errors;
 #[cfg(test)]
+mod grammar;
+#[cfg(test)]
 mod nodes;
 #[cfg(test)]
 mod parsers;

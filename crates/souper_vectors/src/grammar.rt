@@ -1,0 +1,489 @@
+//! Texts of the three kinds: what is read and printed, and what is refused.
+use souper_format::command::Kind;
+use souper_format::items::{Items, format_text, read_items};
+use souper_ir::parse::ParseErrorKind;
+use std::alloc::Global;
+use std::process::Abort;
+use std::test::Fail;
+
+// The item has this text, through `to_text` and through `Display`, is well formed, and so is its copy.
+macro_rules! item_is {
+    ($rt:expr, $alloc:expr, $item:expr, $want:expr) => {{
+        let text = $item.to_text()?;
+        assert_eq!($rt; text.as_str(), *$want);
+        let shown = $item.to_string($alloc)?;
+        assert_eq!($rt; shown.as_str(), *$want);
+        assert!($rt; $item.is_well_formed()?);
+        let copy = $item.clone()?.to_text()?;
+        assert_eq!($rt; copy.as_str(), *$want);
+    }};
+}
+
+// The source is read as items with these texts, and the texts are read as the same again.
+fn reads(
+    rt: &impl Abort,
+    alloc: Global,
+    kind: Kind,
+    source: &str,
+    texts: &[&str],
+) -> Result<(), Fail> {
+    match read_items(alloc, kind, source, None)? {
+        Items::Lhs(items) => {
+            assert_eq!(rt; items.len(), texts.len(), "in {source:?}");
+            for (item, want) in items.iter().zip(texts) {
+                item_is!(rt, alloc, item, want);
+            }
+        }
+        Items::Rhs(items) => {
+            assert_eq!(rt; items.len(), texts.len(), "in {source:?}");
+            for (item, want) in items.iter().zip(texts) {
+                item_is!(rt, alloc, item, want);
+            }
+        }
+        Items::Rep(items) => {
+            assert_eq!(rt; items.len(), texts.len(), "in {source:?}");
+            for (item, want) in items.iter().zip(texts) {
+                item_is!(rt, alloc, item, want);
+            }
+        }
+    }
+    let mut joined = String::new(alloc);
+    for text in texts {
+        joined.push_str(text)?;
+        joined.push('\n')?;
+    }
+    let formatted = format_text(alloc, kind, source, None)?;
+    assert_eq!(rt; formatted.as_str(), joined.as_str(), "in {source:?}");
+    let again = format_text(alloc, kind, formatted.as_str(), None)?;
+    assert_eq!(rt; again.as_str(), joined.as_str(), "in {source:?}");
+    Ok(())
+}
+
+// The source and a newline is its own text.
+fn prints_itself(rt: &impl Abort, alloc: Global, kind: Kind, source: &str) -> Result<(), Fail> {
+    let mut text = String::from_str(alloc, source)?;
+    text.push('\n')?;
+    reads(rt, alloc, kind, source, &[text.as_str()])
+}
+
+// The source is refused at the offset, and what is shown begins so.
+fn refuses(
+    rt: &impl Abort,
+    alloc: Global,
+    kind: Kind,
+    source: &str,
+    offset: usize,
+    first: &str,
+) -> Result<(), Fail> {
+    let error = match read_items(alloc, kind, source, None) {
+        Ok(_) => return Err(Fail::new("no refusal")),
+        Err(error) => error,
+    };
+    assert_eq!(rt; error.kind(), ParseErrorKind::Parse, "in {source:?}");
+    let shown = error.to_string(alloc)?;
+    let line = shown.as_str().lines().next().ok_or("no line")?;
+    assert!(rt; line.starts_with(first), "{line:?} in {source:?}");
+    assert_eq!(rt; error.offset(), Some(offset), "in {source:?}");
+    Ok(())
+}
+
+#[test]
+fn gaps_alone_hold_no_items(rt: HostRuntime) -> Result<(), Fail> {
+    for kind in [Kind::Lhs, Kind::Rhs, Kind::Rep] {
+        for source in ["", ";;", " \n\u{3000}; é"] {
+            reads(&rt, rt.alloc(), kind, source, &[])?;
+        }
+    }
+    Ok(())
+}
+
+#[test]
+fn replacements_are_read(rt: HostRuntime) -> Result<(), Fail> {
+    let source = "%x:i32 = var\n%2lx = slt 2, %x\npc %2lx 1\n%1lx = slt 1, %x\ncand %1lx 1\n\
+                  %bb = block 3\n%phi1 = phi %bb, 1:i32, 2, 3\n%phi2 = phi %bb, 2:i32, 4, 6\n\
+                  %phi1x2 = mul %phi1, 2\ncand %phi2 %phi1x2\n";
+    let first = "%x:i32 = var\n%1lx = slt 1, %x\n%2lx = slt 2, %x\npc %2lx 1\ncand %1lx 1\n";
+    let second = "%bb = block 3\n%phi2 = phi %bb, 2:i32, 4, 6\n%phi1 = phi %bb, 1:i32, 2, 3\n\
+                  %phi1x2 = mul %phi1, 2\ncand %phi2 %phi1x2\n";
+    reads(&rt, rt.alloc(), Kind::Rep, source, &[first, second])
+}
+
+#[test]
+fn order_of_definitions_is_the_uses_order(rt: HostRuntime) -> Result<(), Fail> {
+    let want = "%a = var\n%b = var\n%c = add %a, %b\ninfer %c\n";
+    for source in [
+        "%b = var\n%a = var\n%c = add %a, %b\ninfer %c",
+        "%a = var\n%b = var\n%c = add %a, %b\ninfer %c",
+    ] {
+        reads(&rt, rt.alloc(), Kind::Lhs, source, &[want])?;
+    }
+    let source = "%b = var\n%a = add %b, 1\n%c = add %a, %b\ninfer %c";
+    prints_itself(&rt, rt.alloc(), Kind::Lhs, source)
+}
+
+#[test]
+fn conditions_are_kept(rt: HostRuntime) -> Result<(), Fail> {
+    let alloc = rt.alloc();
+    reads(
+        &rt,
+        alloc,
+        Kind::Rep,
+        "%x = var\ninfer %x\n%y = var\npc %y 1\nresult %y",
+        &["%x = var\n%y = var\npc %y 1\ninfer %x\nresult %y\n"],
+    )?;
+    for (source, want) in [
+        (
+            "%bb = block 2\n%x:i8 = var\nblockpc %bb 0 %x 1\ninfer %x",
+            "%x:i8 = var\n%bb = block 2\nblockpc %bb 0 %x 1\ninfer %x\n",
+        ),
+        (
+            "%bb = block 2\n%x:i8 = var\nblockpc %bb 0 1 %x\ninfer %x",
+            "%x:i8 = var\n%bb = block 2\nblockpc %bb 0 1 %x\ninfer %x\n",
+        ),
+        (
+            "%bb = block 1\nblockpc %bb -0 1-2\ninfer %bb",
+            "%bb = block 1\nblockpc %bb 0 1 -2\ninfer %bb\n",
+        ),
+        (
+            "%bb = block 2\n%x = var\nblockpc %bb 1 %x 1\ninfer %x",
+            "%x = var\n%bb = block 2\nblockpc %bb 1 %x 1\ninfer %x\n",
+        ),
+    ] {
+        reads(&rt, alloc, Kind::Lhs, source, &[want])?;
+    }
+    for (source, want) in [
+        (
+            "%a = var\n%b = var\npc %a 1\npc %b 1\ncand %a 2",
+            "%a = var\npc %a 1\n%b = var\npc %b 1\ncand %a 2\n",
+        ),
+        (
+            "%a = var\n%b = var\npc %b 1\npc %a 1\ncand %a 2",
+            "%a = var\n%b = var\npc %b 1\npc %a 1\ncand %a 2\n",
+        ),
+    ] {
+        reads(&rt, alloc, Kind::Rep, source, &[want])?;
+    }
+    let source = "%x = var\npc %x 1\nresult 2";
+    reads(&rt, alloc, Kind::Rhs, source, &[source])
+}
+
+#[test]
+fn replacements_by_a_result_are_read(rt: HostRuntime) -> Result<(), Fail> {
+    prints_itself(
+        &rt,
+        rt.alloc(),
+        Kind::Rep,
+        "%x = var\ninfer %x\nresult 1:i8",
+    )?;
+    reads(
+        &rt,
+        rt.alloc(),
+        Kind::Rep,
+        "%a = var\n%b = var\ninfer %a\nresult %b",
+        &["%a = var\ninfer %a\n%b = var\nresult %b\n"],
+    )
+}
+
+#[test]
+fn numbers_are_read(rt: HostRuntime) -> Result<(), Fail> {
+    for (source, want) in [
+        ("result 007:i008", "result 7:i8"),
+        (
+            "result -170141183460469231731687303715884105728",
+            "result -170141183460469231731687303715884105728",
+        ),
+        ("result -0", "result 0"),
+        ("result -000", "result 0"),
+    ] {
+        reads(&rt, rt.alloc(), Kind::Rhs, source, &[want])?;
+    }
+    let mut source = String::from_str(rt.alloc(), "result ")?;
+    for _ in 0..100 {
+        source.push('0')?;
+    }
+    source.push_str("1:i00000065535")?;
+    reads(
+        &rt,
+        rt.alloc(),
+        Kind::Rhs,
+        source.as_str(),
+        &["result 1:i65535"],
+    )?;
+    for (source, offset) in [
+        ("result 170141183460469231731687303715884105728", 7),
+        ("result -", 7),
+    ] {
+        refuses(&rt, rt.alloc(), Kind::Rhs, source, offset, "unknown:1:7: ")?;
+    }
+    reads(
+        &rt,
+        rt.alloc(),
+        Kind::Rhs,
+        "result 1\nresult 2",
+        &["result 1", "result 2"],
+    )?;
+    reads(&rt, rt.alloc(), Kind::Rep, "cand 1-2", &["cand 1 -2\n"])
+}
+
+#[test]
+fn attributes_are_read(rt: HostRuntime) -> Result<(), Fail> {
+    for source in [
+        "%x:i4 = var (knownBits=01x1) (signBits=1)\ninfer %x (demandedBits=0011) (harvestedFromUse)",
+        "%b = block 1 (nonZero)\n%p = phi %b, 7 (negative)\ninfer %p",
+        "%bb = block 0\n%p = phi %bb\ninfer %p",
+        "%b = block 1\n%a = add %b, 1\ninfer %a",
+        "%x = var (signBits=255)\ninfer %x",
+        "%x = var (powerOfTwo) (nonNegative) (hasExternalUses) (range=[-1,5))\ninfer %x",
+        "%x = var (range=[-170141183460469231731687303715884105728,170141183460469231731687303715884105727))\ninfer %x",
+    ] {
+        prints_itself(&rt, rt.alloc(), Kind::Lhs, source)?;
+    }
+    reads(
+        &rt,
+        rt.alloc(),
+        Kind::Lhs,
+        "%x = var\u{3000}( range = [ -1 , 5 ) )\ninfer %x",
+        &["%x = var (range=[-1,5))\ninfer %x\n"],
+    )?;
+    let mut source = String::from_str(rt.alloc(), "%x = var\ninfer %x (demandedBits=")?;
+    for _ in 0..200 {
+        source.push('1')?;
+    }
+    source.push(')')?;
+    prints_itself(&rt, rt.alloc(), Kind::Lhs, source.as_str())
+}
+
+#[test]
+fn comma_may_stand_in_cand(rt: HostRuntime) -> Result<(), Fail> {
+    let alloc = rt.alloc();
+    let first = "%0 = var\n%1 = add %0, %0\n%2 = mul %0, 2\ncand %1 %2\n";
+    let second = "%0 = var\n%1 = and %0, %0\ncand %1 %0\n";
+    let source = "\n;; 1\n%0 = var\n%1 = add %0, %0\n%2 = mul %0, 2\n    cand %1, %2\n\n\
+                  %0 = var\n%1 = and %0, %0\n    cand %1, %0\n";
+    reads(&rt, alloc, Kind::Rep, source, &[first, second])?;
+    reads(&rt, alloc, Kind::Rep, "cand 1:i8,-2", &["cand 1:i8 -2\n"])?;
+    for (source, offset, line) in [
+        ("cand 1,,2", 7, "unknown:1:7: expected an integer literal"),
+        ("cand , 1 2", 5, "unknown:1:5: expected an integer literal"),
+        ("cand 1 2,", 8, "unknown:1:8: expected 'cand'"),
+        ("cand 1,", 6, "unknown:1:6: unexpected EOF"),
+        (
+            "pc 1, 2\ncand 1 2",
+            4,
+            "unknown:1:4: expected an integer literal",
+        ),
+    ] {
+        refuses(&rt, alloc, Kind::Rep, source, offset, line)?;
+    }
+    Ok(())
+}
+
+#[test]
+fn ways_into_blocks_are_judged(rt: HostRuntime) -> Result<(), Fail> {
+    for (source, offset, line) in [
+        (
+            "%bb = block 2\n%x = var\nblockpc %bb 2 %x 1\ninfer %x",
+            35,
+            "unknown:3:12: predecessor 2 out of range for block '%bb'",
+        ),
+        (
+            "%bb = block 0\nblockpc %bb 0 1 1\ninfer %bb",
+            26,
+            "unknown:2:12: predecessor 0 out of range for block '%bb'",
+        ),
+        (
+            "%bb = block 2\n%p = phi %bb, 1\ninfer %p",
+            30,
+            "unknown:2:16: expected ','",
+        ),
+        (
+            "%b = block 4294967295\n%p = phi %b, 1\ninfer %p",
+            37,
+            "unknown:2:15: expected ','",
+        ),
+        ("%b = block 4294967296\ninfer %b", 11, "unknown:1:11: "),
+        ("%b = block -1", 11, "unknown:1:11: "),
+        (
+            "%x = var\n%p = phi %x",
+            18,
+            "unknown:2:9: unknown block '%x'",
+        ),
+    ] {
+        refuses(&rt, rt.alloc(), Kind::Lhs, source, offset, line)?;
+    }
+    Ok(())
+}
+
+#[test]
+fn other_left_hand_sides_are_refused(rt: HostRuntime) -> Result<(), Fail> {
+    for (source, offset, line) in [
+        ("infer 5", 6, "unknown:1:6: expected a value name"),
+        (
+            "%x : 8 = var",
+            5,
+            "unknown:1:5: expected a type (like 'i32', 'i8', or 'i1')",
+        ),
+        (
+            "%x:i0 = var\ninfer %x",
+            3,
+            "unknown:1:3: expected a type (like 'i32', 'i8', or 'i1')",
+        ),
+        (
+            "%x:i65536 = var\ninfer %x",
+            3,
+            "unknown:1:3: expected a type (like 'i32', 'i8', or 'i1')",
+        ),
+        (
+            "%x = foo",
+            5,
+            "unknown:1:5: expected a constant, var, block, phi, or instruction",
+        ),
+        ("%x = add 1 2", 11, "unknown:1:11: expected ','"),
+        ("%x = add %y, 1", 9, "unknown:1:9: unknown value '%y'"),
+        (
+            "%x = var (foo)",
+            10,
+            "unknown:1:10: unknown attribute 'foo'",
+        ),
+        (
+            "%x = var (knownBitsX)\ninfer %x",
+            10,
+            "unknown:1:10: unknown attribute 'knownBitsX'",
+        ),
+        (
+            "%x = var (1)",
+            10,
+            "unknown:1:10: expected an attribute identifier",
+        ),
+        ("%x = var (range=(", 16, "unknown:1:16: expected '['"),
+        ("%x = var (negative x)", 19, "unknown:1:19: expected ')'"),
+        ("%x = var (", 9, "unknown:1:9: unexpected EOF"),
+        ("%x = var (knownBits", 18, "unknown:1:18: unexpected EOF"),
+        (
+            "%x = var (knownBits =01)\ninfer %x",
+            19,
+            "unknown:1:19: expected '=', found ' '",
+        ),
+        ("%x = var (signBits=256)\ninfer %x", 19, "unknown:1:19: "),
+        (
+            "%x = var\ninfer %x (foo)",
+            19,
+            "unknown:2:10: expected 'demandedBits' or 'harvestedFromUse'",
+        ),
+        (
+            "%x = var\ninfer %x (demandedBits=012)",
+            32,
+            "unknown:2:23: expected [0|1]+ bit pattern",
+        ),
+    ] {
+        refuses(&rt, rt.alloc(), Kind::Lhs, source, offset, line)?;
+    }
+    Ok(())
+}
+
+#[test]
+fn other_items_are_refused(rt: HostRuntime) -> Result<(), Fail> {
+    for (kind, source, offset, line) in [
+        (Kind::Lhs, "x", 0, "unknown:1:1: expected 'infer'"),
+        (Kind::Rhs, "x", 0, "unknown:1:1: expected 'result'"),
+        (Kind::Rep, "x", 0, "unknown:1:1: expected 'cand'"),
+        (Kind::Rep, "%x = var", 7, "unknown:1:7: unexpected EOF"),
+        (
+            Kind::Rep,
+            "%x = var\ninfer %x\ninfer %x",
+            18,
+            "unknown:2:9: expected 'result'",
+        ),
+    ] {
+        refuses(&rt, rt.alloc(), kind, source, offset, line)?;
+    }
+    Ok(())
+}
+
+// The words, each with how many operands it has.
+fn words() -> [(&'static str, usize); 59] {
+    [
+        ("add", 2),
+        ("addnsw", 2),
+        ("addnuw", 2),
+        ("addnw", 2),
+        ("sub", 2),
+        ("subnsw", 2),
+        ("subnuw", 2),
+        ("subnw", 2),
+        ("mul", 2),
+        ("mulnsw", 2),
+        ("mulnuw", 2),
+        ("mulnw", 2),
+        ("udiv", 2),
+        ("sdiv", 2),
+        ("udivexact", 2),
+        ("sdivexact", 2),
+        ("urem", 2),
+        ("srem", 2),
+        ("and", 2),
+        ("or", 2),
+        ("xor", 2),
+        ("shl", 2),
+        ("shlnsw", 2),
+        ("shlnuw", 2),
+        ("shlnw", 2),
+        ("lshr", 2),
+        ("lshrexact", 2),
+        ("ashr", 2),
+        ("ashrexact", 2),
+        ("select", 3),
+        ("zext", 1),
+        ("sext", 1),
+        ("trunc", 1),
+        ("eq", 2),
+        ("ne", 2),
+        ("ult", 2),
+        ("slt", 2),
+        ("ule", 2),
+        ("sle", 2),
+        ("ctpop", 1),
+        ("bswap", 1),
+        ("bitreverse", 1),
+        ("cttz", 1),
+        ("ctlz", 1),
+        ("fshl", 3),
+        ("fshr", 3),
+        ("sadd.with.overflow", 2),
+        ("uadd.with.overflow", 2),
+        ("ssub.with.overflow", 2),
+        ("usub.with.overflow", 2),
+        ("smul.with.overflow", 2),
+        ("umul.with.overflow", 2),
+        ("sadd.sat", 2),
+        ("uadd.sat", 2),
+        ("ssub.sat", 2),
+        ("usub.sat", 2),
+        ("extractvalue", 2),
+        ("hole", 0),
+        ("freeze", 1),
+    ]
+}
+
+#[test]
+fn every_instruction_is_read_and_printed(rt: HostRuntime) -> Result<(), Fail> {
+    let alloc = rt.alloc();
+    for (word, count) in words() {
+        let operands = ["", " 1", " 1, 1", " 1, 1, 1"];
+        let source = format!(in alloc; "%x = {word}{}\ninfer %x", operands[count])?;
+        prints_itself(&rt, alloc, Kind::Lhs, source.as_str())?;
+        if count > 0 {
+            let source = format!(in alloc; "%x = {word}{}\ninfer %x", operands[count - 1])?;
+            let read = read_items(alloc, Kind::Lhs, source.as_str(), None);
+            assert!(rt; read.is_err(), "for {word}");
+        }
+    }
+    prints_itself(
+        &rt,
+        alloc,
+        Kind::Lhs,
+        "%x:i8 = select 1:i8, 2, -3\ninfer %x",
+    )?;
+    prints_itself(&rt, alloc, Kind::Lhs, "%x = reservedconst\ninfer %x")?;
+    prints_itself(&rt, alloc, Kind::Lhs, "%x = reservedinst\ninfer %x")
+}
