@@ -16,3 +16,4 @@ pub mod Operands
 pub mod Numerals
 pub mod BitLists
 pub mod RightSides
+pub mod Statements
