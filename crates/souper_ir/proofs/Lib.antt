@@ -19,3 +19,4 @@ pub mod RightSides
 pub mod Limits
 pub mod Scopes
 pub mod WellFormedItems
+pub mod ItemSteps
