@@ -107,3 +107,15 @@ module _ {A B C : Type 0} (spells_a : Scope → A → List Lexeme → Type 0) (g
         live = m.live;
         state = n.state ∙ ap (λ (x : Parsing). record x { tokens = r.tokens }) m.state;
       }
+
+-- ---- another way to state a spelling
+
+pub respelled_taken : {V : Type 0} (f g : Scope → V → List Lexeme → Type 0) (continues : V → Lexeme → Type 0) (leaves : Scope → Scope) (v : V) (p q : Parsing)
+    → ((s : Scope) (ts : List Lexeme) → f s v ts → g s v ts) → Took f continues leaves v p q → Took g continues leaves v p q
+respelled_taken f g continues leaves v p q to took =
+    record { used = took.used; parts = took.parts; spelled = to p.scope (kinds took.used) took.spelled; free = took.free; live = took.live; state = took.state }
+
+pub respelled_refused : {V : Type 0} (f g : Scope → V → List Lexeme → Type 0) (continues : V → Lexeme → Type 0) (e : ParseError) (p q : Parsing)
+    → ((s : Scope) (v : V) (ts : List Lexeme) → g s v ts → f s v ts) → Refusal f continues e p q → Refusal g continues e p q
+respelled_refused f g continues e p q from h =
+    record { failed = h.failed; nothing = if_refused (cause_of e) (λ none live v front rest parts spelled stops. none live v front rest parts (from p.scope v front spelled) stops) h.nothing }

@@ -13,19 +13,19 @@ use Rattle.souper_graph.specs.Values.{PlainAttribute, PlainRootAttribute, PlainR
 use Rattle.souper_ir.specs.Tokens.{Lexeme, ident, val_name, int, comma, colon, equals, open_paren}
 use Rattle.souper_ir.specs.Numbers.{count_of}
 use Rattle.souper_ir.specs.Spelling.{kinds, Scope, entry_of, position_of, optional_type_spells, operand_spells, pair_spells, rhs_spells, attribute_spells, root_attribute_spells, attributes_spell, root_attributes_spell, assignment_spells, pc_spells, block_pc_spells, statement_spells, infer_spells, IsOptionalComma, cand_spells, result_spells}
-use Rattle.souper_ir.specs.Continuation.{operand_continues, operands_continue, rhs_continues, attributes_continue, assignment_continues, pc_continues, block_pc_continues, statement_continues, infer_continues, cand_continues, result_continues}
+use Rattle.souper_ir.specs.Continuation.{optional_type_continues, operand_continues, operands_continue, rhs_continues, attributes_continue, assignment_continues, pc_continues, block_pc_continues, statement_continues, infer_continues, cand_continues, result_continues}
 use Rattle.souper_ir.specs.Parsing.{Parsing}
 use Rattle.souper_ir.specs.Optional.{◌>>=◌}
-use Rattle.souper_ir.specs.Grammar.{Free, Stops, Starts, Members, ListGoesOn, peek_at}
-use Rattle.souper_ir.specs.Unique.{list_alone}
+use Rattle.souper_ir.specs.Grammar.{Free, Stops, Starts, peek_at}
 use Rattle.souper_ir.specs.NodeReadings.{accept, name_of, is_name, mark_of, is_mark, is_word, word_of, int_by, optional_type_at, operand_at, block_name_at, rhs_at, attribute_at, root_attribute_at, Definition, fresh, definition_at, starts_statement, pc_at, way_of, block_pc_at, root_at, comma_by, optional_comma_at, pair_at, result_at}
 use Rattle.souper_ir.specs.Peeks.{some_is, peeked}
 use Rattle.souper_ir.specs.Steps.{Takes, Takes-then, Takes-none, At, bind_some, accepted, accepts, peeks}
 use Rattle.souper_ir.specs.Readings.{Sound, Complete, one_alone}
 use Rattle.souper_ir.specs.OperandLaws.{name_means, mark_means, is_word_means, word_means, word_is, word_of_is, int_means, never, moved, WasRead, scope_is, live_still, state_then, same_scope, same_fault, optional_type_stops, optional_type_sound, optional_type_complete, operand_sound, operand_complete, operand_stops, operand_over, pair_sound, pair_complete}
 use Rattle.souper_ir.specs.RhsLaws.{block_name_sound, block_name_complete, rhs_sound, rhs_complete}
-use Rattle.souper_ir.specs.AttributeLaws.{attribute_complete, attribute_first, root_attribute_complete, root_attribute_first, one_more, more_if_open, attributes_are_members, members_are_attributes, root_attributes_are_members, members_are_root_attributes}
-use Rattle.souper_ir.specs.Sequence.{Split, both_alone}
+use Rattle.souper_ir.specs.AttributeLaws.{attribute_complete, attribute_first, root_attribute_complete, root_attribute_first, attributes_are_members, members_are_attributes, root_attributes_are_members, members_are_root_attributes}
+use Rattle.souper_ir.specs.Sequence.{Split}
+use Rattle.souper_ir.specs.Attributed.{Row, attributes_over, Laws, laws}
 
 -- ---- an assignment up to its attributes
 
@@ -351,3 +351,231 @@ result_alone = one_alone result_spells result_continues result_at result_complet
 
 pub result_first : (s : Scope) (v : Operand) (ts : List Lexeme) → result_spells s v ts → Starts (is_word (codes "result")) ts
 result_first s v ts h = subst (λ (x : List Lexeme). Starts (is_word (codes "result")) x) (sym h.1) (word_is (codes "result"))
+
+-- ---- what continues no line
+
+optional_type_more : (o : Option Ty) (t : Lexeme) → optional_type_continues o t → t ≡ colon
+optional_type_more None t h = h
+optional_type_more (Some ty) t h = absurd h
+
+operand_more : (x : Operand) (t : Lexeme) → operand_continues x t → t ≡ colon
+operand_more (Value i) t h = absurd h
+operand_more (constant_variant c) t h = optional_type_more c.ty t h
+
+operands_more : (xs : List Operand) (t : Lexeme) → operands_continue xs t → t ≡ colon
+operands_more [] t h = absurd h
+operands_more (x ∷ []) t h = operand_more x t h
+operands_more (x ∷ (y ∷ xs)) t h = operands_more (y ∷ xs) t h
+
+rhs_more : (v : PlainRhs) (t : Lexeme) → rhs_continues v t → t ≡ colon
+rhs_more var t h = absurd h
+rhs_more (block b) t h = absurd h
+rhs_more (phi f) t h = operands_more f.values t h
+rhs_more reserved_inst t h = absurd h
+rhs_more reserved_const t h = absurd h
+rhs_more (instruction i) t h = operands_more (operands_of i) t h
+
+no_colon : (P : Lexeme → Type 0) → ((t : Lexeme) → P t → t ≡ colon) → ¬ P open_paren
+no_colon P more h = let e : open_paren ≡ colon = more open_paren h in cc
+
+attributes_more : {X : Type 0} (before : Type 0) (xs : List X) (t : Lexeme) → (before → t ≡ colon) → attributes_continue before xs t → (t ≡ colon) ⊎ (t ≡ open_paren)
+attributes_more before [] t m (inl h) = inr h
+attributes_more before [] t m (inr h) = inl (m h)
+attributes_more before (x ∷ xs) t m h = inr h
+
+-- a colon or an opening parenthesis
+abbrev pub GoesOn : Lexeme → Type 0
+GoesOn t = (t ≡ colon) ⊎ (t ≡ open_paren)
+
+pub statement_more : (v : PlainStatement) (t : Lexeme) → statement_continues v t → GoesOn t
+statement_more (assigned a) t h = attributes_more (rhs_continues a.value t) a.attributes t (rhs_more a.value t) h
+statement_more (condition p) t h = inl (operand_more p.y t h)
+statement_more (block_condition p) t h = inl (operand_more p.y t h)
+
+-- a token that can begin a line
+abbrev pub begins_line : Lexeme → Bool
+begins_line (val_name n) = true
+begins_line (ident w) = true
+begins_line _ = false
+
+pub starts_begins : (t : Lexeme) → starts_statement t ≡ true → begins_line t ≡ true
+starts_begins (val_name n) e = refl
+starts_begins (ident w) e = refl
+starts_begins _ e = absurd cc
+
+pub word_begins : (k : List ℕ) (t : Lexeme) → is_word k t ≡ true → begins_line t ≡ true
+word_begins k (ident w) e = refl
+word_begins k _ e = absurd cc
+
+begins_no_more : (t : Lexeme) → begins_line t ≡ true → GoesOn t → ⊥
+begins_no_more t b (inl e) = let bad : false ≡ true = subst (λ (u : Lexeme). begins_line u ≡ true) e b in cc
+begins_no_more t b (inr e) = let bad : false ≡ true = subst (λ (u : Lexeme). begins_line u ≡ true) e b in cc
+
+-- what begins a line continues none
+pub statement_ends : (v : PlainStatement) (t : Lexeme) → begins_line t ≡ true → ¬ statement_continues v t
+statement_ends v t b = λ h. begins_no_more t b (statement_more v t h)
+
+pub operand_ends : (x : Operand) (t : Lexeme) → begins_line t ≡ true → ¬ operand_continues x t
+operand_ends x t b = λ h. begins_no_more t b (inl (operand_more x t h))
+
+pub infer_ends : (i : PlainInfer) (t : Lexeme) → begins_line t ≡ true → ¬ infer_continues i t
+infer_ends i t b = λ h. begins_no_more t b (attributes_more ⊥ i.attributes t (λ x. absurd x) h)
+
+pub cand_ends : (c : PlainCand) (t : Lexeme) → begins_line t ≡ true → ¬ cand_continues c t
+cand_ends c t b = λ h. begins_no_more t b (attributes_more (operand_continues c.rhs t) c.attributes t (operand_more c.rhs t) h)
+
+-- ---- lines with attributes
+
+attribute_alone : (v w : PlainAttribute) (a b c d : List Lexeme) → a ++ c ≡ b ++ d → attribute_spells v a → attribute_spells w b → Free (λ t. ⊥) c → Free (λ t. ⊥) d → (a ≡ b) × (v ≡ w)
+attribute_alone = one_alone (λ s. attribute_spells) (λ a t. ⊥) attribute_at attribute_complete []
+
+root_attribute_alone : (v w : PlainRootAttribute) (a b c d : List Lexeme) → a ++ c ≡ b ++ d → root_attribute_spells v a → root_attribute_spells w b → Free (λ t. ⊥) c → Free (λ t. ⊥) d → (a ≡ b) × (v ≡ w)
+root_attribute_alone = one_alone (λ s. root_attribute_spells) (λ a t. ⊥) root_attribute_at root_attribute_complete []
+
+-- an assignment without its attributes
+abbrev pub definition_of : PlainAssignment → Definition
+definition_of a = record { name = a.name; ty = a.ty; value = a.value }
+
+pub assignment_parts : (s : Scope) (a : PlainAssignment) (ts : List Lexeme) → assignment_spells s a ts → Split definition_spells definition_continues (Row attribute_spells) s (definition_of a) a.attributes ts
+assignment_parts s a ts h =
+    let members : Row attribute_spells s a.attributes h.2 = attributes_are_members a.attributes h.2 h.7 in
+    record {
+      front = val_name a.name ∷ (h.0 ++ equals ∷ h.1);
+      back = h.2;
+      parts = h.3 ∙ ap (λ (z : List Lexeme). val_name a.name ∷ z) (sym (append_assoc h.0 (equals ∷ h.1) h.2));
+      first = (h.0, h.1, refl, h.4, h.5, h.6);
+      free = attributes_over attribute_spells (attribute_first s) (rhs_continues a.value) a.attributes h.2 (no_colon (rhs_continues a.value) (rhs_more a.value)) members;
+      second = members;
+    }
+
+pub parts_assignment : (s : Scope) (a : PlainAssignment) (ts : List Lexeme) → Split definition_spells definition_continues (Row attribute_spells) s (definition_of a) a.attributes ts → assignment_spells s a ts
+parts_assignment s a ts h =
+    (h.first.0, h.first.1, h.back, h.parts ∙ ap (λ (z : List Lexeme). z ++ h.back) h.first.2 ∙ ap (λ (z : List Lexeme). val_name a.name ∷ z) (append_assoc h.first.0 (equals ∷ h.first.1) h.back),
+    h.first.3, h.first.4, h.first.5, members_are_attributes a.attributes h.back h.second)
+
+assignment_same : (v w : PlainAssignment) → definition_of v ≡ definition_of w → v.attributes ≡ w.attributes → v ≡ w
+assignment_same v w d e =
+    let first : v ≡ record { name = w.name; ty = w.ty; value = w.value; attributes = v.attributes } = ap (λ (x : Definition). record { name = x.name; ty = x.ty; value = x.value; attributes = v.attributes }) d in
+    let second : record { name = w.name; ty = w.ty; value = w.value; attributes = v.attributes } ≡ w = ap (λ (x : List PlainAttribute). record { name = w.name; ty = w.ty; value = w.value; attributes = x }) e in
+    first ∙ second
+
+pub assignment_laws : Laws definition_spells definition_continues attribute_spells definition_of (λ (a : PlainAssignment). a.attributes) assignment_spells assignment_continues
+assignment_laws =
+    laws definition_spells definition_continues attribute_spells definition_of (λ (a : PlainAssignment). a.attributes) definition_alone attribute_alone (attribute_first []) assignment_spells assignment_parts parts_assignment assignment_same
+
+pub infer_parts : (s : Scope) (i : PlainInfer) (ts : List Lexeme) → infer_spells s i ts → Split root_spells (λ (r : ℕ) t. ⊥) (Row root_attribute_spells) s i.value i.attributes ts
+infer_parts s i ts h = record {
+  front = ident (codes "infer") ∷ val_name h.0 ∷ [];
+  back = h.1;
+  parts = h.2;
+  first = (h.0, refl, h.3);
+  free = never h.1;
+  second = root_attributes_are_members i.attributes h.1 h.4;
+}
+
+pub parts_infer : (s : Scope) (i : PlainInfer) (ts : List Lexeme) → Split root_spells (λ (r : ℕ) t. ⊥) (Row root_attribute_spells) s i.value i.attributes ts → infer_spells s i ts
+parts_infer s i ts h = (h.first.0, h.back, h.parts ∙ ap (λ (z : List Lexeme). z ++ h.back) h.first.1, h.first.2, members_are_root_attributes i.attributes h.back h.second)
+
+infer_same : (v w : PlainInfer) → v.value ≡ w.value → v.attributes ≡ w.attributes → v ≡ w
+infer_same v w d e =
+    let first : v ≡ record { value = w.value; attributes = v.attributes } = ap (λ (x : ℕ). record { value = x; attributes = v.attributes }) d in
+    let second : record { value = w.value; attributes = v.attributes } ≡ w = ap (λ (x : List PlainRootAttribute). record { value = w.value; attributes = x }) e in
+    first ∙ second
+
+pub infer_laws : Laws root_spells (λ (r : ℕ) t. ⊥) root_attribute_spells (λ (i : PlainInfer). i.value) (λ (i : PlainInfer). i.attributes) infer_spells infer_continues
+infer_laws =
+    laws root_spells (λ (r : ℕ) t. ⊥) root_attribute_spells (λ (i : PlainInfer). i.value) (λ (i : PlainInfer). i.attributes) root_alone root_attribute_alone (root_attribute_first []) infer_spells infer_parts parts_infer infer_same
+
+-- the two operands of a cand line
+abbrev pub pair_of : PlainCand → Operand × Operand
+pair_of c = (c.lhs, c.rhs)
+
+pub cand_parts : (s : Scope) (c : PlainCand) (ts : List Lexeme) → cand_spells s c ts → Split pair_line_spells pair_line_continues (Row root_attribute_spells) s (pair_of c) c.attributes ts
+cand_parts s c ts h =
+    let members : Row root_attribute_spells s c.attributes h.3 = root_attributes_are_members c.attributes h.3 h.8 in
+    let regrouped : h.0 ++ (h.1 ++ (h.2 ++ h.3)) ≡ (h.0 ++ (h.1 ++ h.2)) ++ h.3 = sym (append_assoc h.0 (h.1 ++ h.2) h.3 ∙ ap (λ (z : List Lexeme). h.0 ++ z) (append_assoc h.1 h.2 h.3)) in
+    record {
+      front = ident (codes "cand") ∷ (h.0 ++ (h.1 ++ h.2));
+      back = h.3;
+      parts = h.4 ∙ ap (λ (z : List Lexeme). ident (codes "cand") ∷ z) regrouped;
+      first = (h.0, h.1, h.2, refl, h.5, h.6, h.7);
+      free = attributes_over root_attribute_spells (root_attribute_first s) (operand_continues c.rhs) c.attributes h.3 (no_colon (operand_continues c.rhs) (operand_more c.rhs)) members;
+      second = members;
+    }
+
+pub parts_cand : (s : Scope) (c : PlainCand) (ts : List Lexeme) → Split pair_line_spells pair_line_continues (Row root_attribute_spells) s (pair_of c) c.attributes ts → cand_spells s c ts
+parts_cand s c ts h =
+    let k = h.first in
+    let regrouped : (k.0 ++ (k.1 ++ k.2)) ++ h.back ≡ k.0 ++ (k.1 ++ (k.2 ++ h.back)) = append_assoc k.0 (k.1 ++ k.2) h.back ∙ ap (λ (z : List Lexeme). k.0 ++ z) (append_assoc k.1 k.2 h.back) in
+    (k.0, k.1, k.2, h.back, h.parts ∙ ap (λ (z : List Lexeme). z ++ h.back) k.3 ∙ ap (λ (z : List Lexeme). ident (codes "cand") ∷ z) regrouped, k.4, k.5, k.6, members_are_root_attributes c.attributes h.back h.second)
+
+cand_same : (v w : PlainCand) → pair_of v ≡ pair_of w → v.attributes ≡ w.attributes → v ≡ w
+cand_same v w d e =
+    let first : v ≡ record { lhs = w.lhs; rhs = w.rhs; attributes = v.attributes } = ap (λ (x : Operand × Operand). record { lhs = x.0; rhs = x.1; attributes = v.attributes }) d in
+    let second : record { lhs = w.lhs; rhs = w.rhs; attributes = v.attributes } ≡ w = ap (λ (x : List PlainRootAttribute). record { lhs = w.lhs; rhs = w.rhs; attributes = x }) e in
+    first ∙ second
+
+pub cand_laws : Laws pair_line_spells pair_line_continues root_attribute_spells pair_of (λ (c : PlainCand). c.attributes) cand_spells cand_continues
+cand_laws =
+    laws pair_line_spells pair_line_continues root_attribute_spells pair_of (λ (c : PlainCand). c.attributes) pair_line_alone root_attribute_alone (root_attribute_first []) cand_spells cand_parts parts_cand cand_same
+
+pub assignment_alone : (s : Scope) (v w : PlainAssignment) (a b c d : List Lexeme) → a ++ c ≡ b ++ d → assignment_spells s v a → assignment_spells s w b → Free (assignment_continues v) c → Free (assignment_continues w) d → (a ≡ b) × (v ≡ w)
+assignment_alone = assignment_laws.alone
+
+pub infer_alone : (s : Scope) (v w : PlainInfer) (a b c d : List Lexeme) → a ++ c ≡ b ++ d → infer_spells s v a → infer_spells s w b → Free (infer_continues v) c → Free (infer_continues w) d → (a ≡ b) × (v ≡ w)
+infer_alone = infer_laws.alone
+
+pub cand_alone : (s : Scope) (v w : PlainCand) (a b c d : List Lexeme) → a ++ c ≡ b ++ d → cand_spells s v a → cand_spells s w b → Free (cand_continues v) c → Free (cand_continues w) d → (a ≡ b) × (v ≡ w)
+cand_alone = cand_laws.alone
+
+-- ---- first tokens
+
+pub assignment_first : (s : Scope) (a : PlainAssignment) (ts : List Lexeme) → assignment_spells s a ts → Starts is_name ts
+assignment_first s a ts h = subst (λ (x : List Lexeme). Starts is_name x) (sym h.3) refl
+
+pub infer_first : (s : Scope) (i : PlainInfer) (ts : List Lexeme) → infer_spells s i ts → Starts (is_word (codes "infer")) ts
+infer_first s i ts h = subst (λ (x : List Lexeme). Starts (is_word (codes "infer")) x) (sym h.2) (word_is (codes "infer"))
+
+pub cand_first : (s : Scope) (c : PlainCand) (ts : List Lexeme) → cand_spells s c ts → Starts (is_word (codes "cand")) ts
+cand_first s c ts h = subst (λ (x : List Lexeme). Starts (is_word (codes "cand")) x) (sym h.4) (word_is (codes "cand"))
+
+pub statement_first : (s : Scope) (v : PlainStatement) (ts : List Lexeme) → statement_spells s v ts → Starts starts_statement ts
+statement_first s (assigned a) ts h = subst (λ (x : List Lexeme). Starts starts_statement x) (sym h.3) refl
+statement_first s (condition p) ts h = subst (λ (x : List Lexeme). Starts starts_statement x) (sym h.1) refl
+statement_first s (block_condition p) ts h = subst (λ (x : List Lexeme). Starts starts_statement x) (sym h.4) refl
+
+-- ---- statements
+
+pub name_no_word : (k : List ℕ) (t : Lexeme) → is_name t ≡ true → is_word k t ≡ true → ⊥
+name_no_word k (val_name n) e f = cc
+name_no_word k _ e f = cc
+
+pub pc_no_block_pc : (t : Lexeme) → is_word (codes "pc") t ≡ true → is_word (codes "blockpc") t ≡ true → ⊥
+pc_no_block_pc t e f =
+    let bad : false ≡ true = subst (λ (u : Lexeme). is_word (codes "blockpc") u ≡ true) (is_word_means (codes "pc") t e) f in
+    cc
+
+-- no tokens begin in two ways
+two_starts : (P Q : Lexeme → Bool) (a b c d : List Lexeme) → ((t : Lexeme) → P t ≡ true → Q t ≡ true → ⊥) → Starts P a → Starts Q b → a ++ c ≡ b ++ d → ⊥
+two_starts P Q [] b c d apart m n e = m
+two_starts P Q (t ∷ a) [] c d apart m n e = n
+two_starts P Q (t ∷ a) (u ∷ b) c d apart m n e =
+    let same : t ≡ u = cc in
+    apart t m (subst (λ (z : Lexeme). Q z ≡ true) (sym same) n)
+
+pub statement_alone : (s : Scope) (v w : PlainStatement) (a b c d : List Lexeme) → a ++ c ≡ b ++ d → statement_spells s v a → statement_spells s w b → Free (statement_continues v) c → Free (statement_continues w) d → (a ≡ b) × (v ≡ w)
+statement_alone s (assigned v) (assigned w) a b c d e m n f g = let k = assignment_alone s v w a b c d e m n f g in (k.0, ap assigned k.1)
+statement_alone s (condition v) (condition w) a b c d e m n f g = let k = pc_alone s v w a b c d e m n f g in (k.0, ap condition k.1)
+statement_alone s (block_condition v) (block_condition w) a b c d e m n f g = let k = block_pc_alone s v w a b c d e m n f g in (k.0, ap block_condition k.1)
+statement_alone s (assigned v) (condition w) a b c d e m n f g =
+    absurd (two_starts is_name (is_word (codes "pc")) a b c d (name_no_word (codes "pc")) (assignment_first s v a m) (pc_first s w b n) e)
+statement_alone s (assigned v) (block_condition w) a b c d e m n f g =
+    absurd (two_starts is_name (is_word (codes "blockpc")) a b c d (name_no_word (codes "blockpc")) (assignment_first s v a m) (block_pc_first s w b n) e)
+statement_alone s (condition v) (assigned w) a b c d e m n f g =
+    absurd (two_starts is_name (is_word (codes "pc")) b a d c (name_no_word (codes "pc")) (assignment_first s w b n) (pc_first s v a m) (sym e))
+statement_alone s (block_condition v) (assigned w) a b c d e m n f g =
+    absurd (two_starts is_name (is_word (codes "blockpc")) b a d c (name_no_word (codes "blockpc")) (assignment_first s w b n) (block_pc_first s v a m) (sym e))
+statement_alone s (condition v) (block_condition w) a b c d e m n f g =
+    absurd (two_starts (is_word (codes "pc")) (is_word (codes "blockpc")) a b c d pc_no_block_pc (pc_first s v a m) (block_pc_first s w b n) e)
+statement_alone s (block_condition v) (condition w) a b c d e m n f g =
+    absurd (two_starts (is_word (codes "pc")) (is_word (codes "blockpc")) b a d c pc_no_block_pc (pc_first s w b n) (block_pc_first s v a m) (sym e))
