@@ -20,3 +20,4 @@ pub mod Limits
 pub mod Scopes
 pub mod WellFormedItems
 pub mod Statements
+pub mod ItemSteps
