@@ -100,6 +100,28 @@ fn unnamed_value_may_take_a_name_that_is_there(rt: HostRuntime) -> Result<(), Fa
 }
 
 #[test]
+fn left_hand_side_may_have_a_name_twice(rt: HostRuntime) -> Result<(), Fail> {
+    let alloc = rt.alloc();
+    let mut builder = LeftHandSideBuilder::new(alloc);
+    let first = builder.assignment(
+        name(alloc, "%1")?,
+        None,
+        AssignmentRhs::Var,
+        Vec::new(alloc),
+    )?;
+    let sum = Instruction::Add {
+        a: first.into(),
+        b: number(1),
+    };
+    let last = builder.assignment(None, None, sum.into(), Vec::new(alloc))?;
+    let item = builder.finish(last, Vec::new(alloc));
+    assert_eq!(rt; item.is_well_formed()?, false);
+    let text = item.to_text()?;
+    assert_eq!(rt; text.as_str(), "%1 = var\n%1 = add %1, 1\ninfer %1\n");
+    Ok(())
+}
+
+#[test]
 fn every_growing_call_puts_its_statement(rt: HostRuntime) -> Result<(), Fail> {
     let alloc = rt.alloc();
     let mut builder = ReplacementBuilder::new(alloc);
