@@ -1,4 +1,6 @@
 //! Texts that are cut off, and a long one.
+use souper_format::command::Kind;
+use souper_format::items::read_items;
 use souper_ir::parse::{ParseErrorKind, parse_left_hand_sides_str};
 use std::alloc::{AllocError, Global};
 use std::test::Fail;
@@ -63,6 +65,65 @@ fn empty_front_and_whole_text_are_read(rt: HostRuntime) -> Result<(), Fail> {
     assert_eq!(rt; SOURCE.len(), 26);
     let items = parse_left_hand_sides_str(rt.alloc(), SOURCE, None)?;
     assert_eq!(rt; items.len(), 1);
+    Ok(())
+}
+
+// Texts of each kind, with every form of the grammar.
+const TEXTS: [(Kind, &str); 12] = [
+    (
+        Kind::Rep,
+        "%x:i32 = var\n%2lx = slt 2, %x\npc %2lx 1\n%1lx = slt 1, %x\ncand %1lx 1\n",
+    ),
+    (
+        Kind::Rep,
+        "%bb = block 3\n%phi1 = phi %bb, 1:i32, 2, 3\n%phi2 = phi %bb, 2:i32, 4, 6\n\
+         %phi1x2 = mul %phi1, 2\ncand %phi2 %phi1x2\n",
+    ),
+    (
+        Kind::Rep,
+        "%x = var\ninfer %x\n%y = var\npc %y 1\nresult %y",
+    ),
+    (Kind::Rep, "%x = var\ninfer %x\nresult 1:i8"),
+    (Kind::Rep, "cand 1:i8,-2"),
+    (Kind::Rhs, "%x = var\npc %x 1\nresult 007:i008"),
+    (
+        Kind::Rhs,
+        "result 1\nresult 170141183460469231731687303715884105728",
+    ),
+    (
+        Kind::Lhs,
+        "%bb = block 2\n%x:i8 = var\nblockpc %bb 1 %x -1\ninfer %x",
+    ),
+    (
+        Kind::Lhs,
+        "%x:i4 = var (knownBits=01x1) (signBits=1)\ninfer %x (demandedBits=0011) (harvestedFromUse)",
+    ),
+    (
+        Kind::Lhs,
+        "%x = var\u{3000}( range = [ -1 , 5 ) ) ;\u{e9}\ninfer %x",
+    ),
+    (Kind::Lhs, "%x = select 1, 2, -3 (nonZero)\ninfer %x"),
+    (Kind::Lhs, "\u{e9}%\u{e9} = var ]"),
+];
+
+#[test]
+fn each_front_is_read_or_refused_within_it(rt: HostRuntime) -> Result<(), Fail> {
+    for (kind, source) in TEXTS {
+        for len in 0..=source.len() {
+            let Some(front) = source.get(..len) else {
+                continue;
+            };
+            if let Err(error) = read_items(rt.alloc(), kind, front, None) {
+                assert_eq!(rt;
+                    error.kind(),
+                    ParseErrorKind::Parse,
+                    "at {len} of {source:?}"
+                );
+                let offset = error.offset().ok_or("no offset")?;
+                assert!(rt; offset <= len, "at {len} of {source:?}");
+            }
+        }
+    }
     Ok(())
 }
 
