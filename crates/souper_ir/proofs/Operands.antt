@@ -1,5 +1,5 @@
 -- Operands that a loop reads one after the other.
-use Rattle.std.proofs.Common.{◌≡◌, ℕ, ◌+◌, ◌<◌, zero, suc, List, [], ◌∷◌, ◌++◌, Option, Some, None, refl, sym, ◌∙◌, ap, subst, arith, add-one}
+use Rattle.std.proofs.Common.{◌≡◌, ℕ, ◌+◌, ◌<◌, zero, suc, List, [], ◌∷◌, ◌++◌, Option, Some, None, refl, sym, ◌∙◌, arith, add-one}
 use Rattle.souper_graph.specs.declared.ast.operands.Operand.{Operand}
 use Rattle.souper_ir.specs.Tokens.{comma}
 use Rattle.souper_ir.specs.declared.parse.error.ParseError.{ParseError}
@@ -7,7 +7,6 @@ use Rattle.souper_ir.specs.Parsing.{Parsing}
 use Rattle.souper_ir.specs.Optional.{◌>>=◌}
 use Rattle.souper_ir.specs.NodeReadings.{accept, mark_of, operand_at, next_operand_at, further_at, operands_at}
 use Rattle.souper_ir.specs.Reading.{cause_of, IfRefused, if_refused, Fails, fails_later}
-use Rattle.souper_ir.specs.Peeks.{some_is}
 use Rattle.souper_ir.specs.Steps.{bind_some}
 use Rattle.souper_ir.specs.OperandLaws.{moved}
 
@@ -39,12 +38,12 @@ operands_none_by k p y x d e = rw (d, e) refl
 further_more_suc : (n : ℕ) (p q r : Parsing) (xs : List Operand) (x : Operand) → further_at n p ≡ Some (xs, q) → next_operand_at q ≡ Some (x, r) → further_at (suc n) p ≡ Some (xs ++ x ∷ [], r)
 further_more_suc zero p q r xs x d e =
     moved (λ (y : List Operand × Parsing). next_operand_at y.1 ≡ Some (x, r) → further_at (suc zero) p ≡ Some (y.0 ++ x ∷ [], r)) ([], p) (xs, q) d
-      (λ e. further_next zero p ∙ rw e refl) e
+    (λ e. further_next zero p ∙ rw e refl) e
 further_more_suc (suc k) p q r xs x d e =
     let y = bind_some (next_operand_at p) (then_further k) (xs, q) (sym (further_next k p) ∙ d) in
     let ys = bind_some (further_at k y.0.1) (λ ys. Some (y.0.0 ∷ ys.0, ys.1)) (xs, q) y.2 in
     moved (λ (z : List Operand × Parsing). next_operand_at z.1 ≡ Some (x, r) → further_at (suc (suc k)) p ≡ Some (z.0 ++ x ∷ [], r)) (y.0.0 ∷ ys.0.0, ys.0.1) (xs, q) ys.2
-      (λ e. further_by (suc k) p y.0.1 r y.0.0 (ys.0.0 ++ x ∷ []) y.1 (further_more_suc k y.0.1 ys.0.1 r ys.0.0 x ys.1 e)) e
+    (λ e. further_by (suc k) p y.0.1 r y.0.0 (ys.0.0 ++ x ∷ []) y.1 (further_more_suc k y.0.1 ys.0.1 r ys.0.0 x ys.1 e)) e
 
 pub further_more : (n : ℕ) (p q r : Parsing) (xs : List Operand) (x : Operand) → further_at n p ≡ Some (xs, q) → next_operand_at q ≡ Some (x, r) → further_at (n + 1) p ≡ Some (xs ++ x ∷ [], r)
 further_more n p q r xs x d e = rw add-one (further_more_suc n p q r xs x d e)
@@ -57,7 +56,7 @@ further_stuck (suc n) (suc k) p q xs l d e =
     let y = bind_some (next_operand_at p) (then_further n) (xs, q) (sym (further_next n p) ∙ d) in
     let ys = bind_some (further_at n y.0.1) (λ ys. Some (y.0.0 ∷ ys.0, ys.1)) (xs, q) y.2 in
     moved (λ (z : List Operand × Parsing). next_operand_at z.1 ≡ None → further_at (suc k) p ≡ None) (y.0.0 ∷ ys.0.0, ys.0.1) (xs, q) ys.2
-      (λ e. further_none k p y.0.1 y.0.0 y.1 (further_stuck n k y.0.1 ys.0.1 ys.0.0 (omega arith) ys.1 e)) e
+    (λ e. further_none k p y.0.1 y.0.0 y.1 (further_stuck n k y.0.1 ys.0.1 ys.0.0 (omega arith) ys.1 e)) e
 
 -- ---- with commas between them
 
@@ -74,7 +73,7 @@ operands_more_suc (suc k) p q r xs x l d e =
     let y = bind_some (operand_at p) (then_further k) (xs, q) d in
     let ys = bind_some (further_at k y.0.1) (λ ys. Some (y.0.0 ∷ ys.0, ys.1)) (xs, q) y.2 in
     moved (λ (z : List Operand × Parsing). next_operand_at z.1 ≡ Some (x, r) → operands_at (suc (suc k)) p ≡ Some (z.0 ++ x ∷ [], r)) (y.0.0 ∷ ys.0.0, ys.0.1) (xs, q) ys.2
-      (λ e. operands_by (suc k) p y.0.1 r y.0.0 (ys.0.0 ++ x ∷ []) y.1 (further_more_suc k y.0.1 ys.0.1 r ys.0.0 x ys.1 e)) e
+    (λ e. operands_by (suc k) p y.0.1 r y.0.0 (ys.0.0 ++ x ∷ []) y.1 (further_more_suc k y.0.1 ys.0.1 r ys.0.0 x ys.1 e)) e
 
 pub operands_more : (n : ℕ) (p q r : Parsing) (xs : List Operand) (x : Operand) → 0 < n → operands_at n p ≡ Some (xs, q) → next_operand_at q ≡ Some (x, r) → operands_at (n + 1) p ≡ Some (xs ++ x ∷ [], r)
 operands_more n p q r xs x l d e = rw add-one (operands_more_suc n p q r xs x l d e)
@@ -86,7 +85,7 @@ operands_stuck (suc n) (suc k) p q xs l m d e =
     let y = bind_some (operand_at p) (then_further n) (xs, q) d in
     let ys = bind_some (further_at n y.0.1) (λ ys. Some (y.0.0 ∷ ys.0, ys.1)) (xs, q) y.2 in
     moved (λ (z : List Operand × Parsing). next_operand_at z.1 ≡ None → operands_at (suc k) p ≡ None) (y.0.0 ∷ ys.0.0, ys.0.1) (xs, q) ys.2
-      (λ e. operands_none_by k p y.0.1 y.0.0 y.1 (further_stuck n k y.0.1 ys.0.1 ys.0.0 (omega arith) ys.1 e)) e
+    (λ e. operands_none_by k p y.0.1 y.0.0 y.1 (further_stuck n k y.0.1 ys.0.1 ys.0.0 (omega arith) ys.1 e)) e
 
 -- ---- refusals in the loop
 

@@ -3,14 +3,13 @@ use Rattle.std.proofs.Common.{◌≡◌, ◌≢◌, ℕ, Bool, true, false, List
 use Rattle.std.specs.Prelude.{codes, bytes_eq, is_some, if◌then◌else◌}
 use Rattle.std.proofs.lemmas.Slice.Eq.{bytes_eq-Decides}
 use Rattle.souper_graph.specs.declared.ast.instructions.Instruction.{Instruction}
-use Rattle.souper_graph.specs.Values.{PlainRhs, instruction}
+use Rattle.souper_graph.specs.Values.{instruction}
 use Rattle.souper_ir.specs.declared.parse.error.ParseError.{ParseError}
 use Rattle.souper_ir.specs.Tokens.{Lexeme, ident}
 use Rattle.souper_ir.specs.Words.{operand_count_of}
 use Rattle.souper_ir.specs.Parsing.{Cause, refused, no_memory, Parsing}
-use Rattle.souper_ir.specs.Optional.{◌>>=◌}
 use Rattle.souper_ir.specs.Reading.{look_at, cause_of, IfRefused, if_refused, Fails, fails_later}
-use Rattle.souper_ir.specs.NodeReadings.{RhsKind, is_instruction, rhs_kind_of_word, rhs_kind_of, instruction_at, rhs_at}
+use Rattle.souper_ir.specs.NodeReadings.{RhsKind, is_instruction, rhs_kind_of_word, instruction_at, rhs_at}
 
 -- the word begins no right side but an instruction
 abbrev pub IsOther : List ℕ → Type 0

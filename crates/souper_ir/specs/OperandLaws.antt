@@ -1,6 +1,6 @@
 -- Tokens, types, constants and operands: what is read is spelled so, and what is spelled so is read.
 use Rattle.std.proofs.Common.{◌≡◌, ℕ, suc, zero, Bool, true, false, List, [], ◌∷◌, ◌++◌, length, Option, Some, None, refl, sym, ◌∙◌, ap, subst, append_assoc}
-use Rattle.std.specs.Prelude.{ℤ, codes, bytes_eq, if◌then◌else◌}
+use Rattle.std.specs.Prelude.{if◌then◌else◌}
 use Rattle.std.proofs.lemmas.Slice.Eq.{bytes_eq-Decides}
 use Rattle.souper_graph.specs.declared.ast.operands.«Type».{«Type» as Ty}
 use Rattle.souper_graph.specs.declared.ast.operands.Constant.{Constant}
@@ -13,7 +13,7 @@ use Rattle.souper_ir.specs.Continuation.{optional_type_continues, constant_conti
 use Rattle.souper_ir.specs.Parsing.{Parsing}
 use Rattle.souper_ir.specs.Optional.{◌>>=◌}
 use Rattle.souper_ir.specs.Grammar.{Free, Stops, Starts, peek_at}
-use Rattle.souper_ir.specs.Unique.{Free-weaker, Stops-weaker, Free-from_Stops}
+use Rattle.souper_ir.specs.Unique.{Free-weaker, Stops-weaker}
 use Rattle.souper_ir.specs.NodeReadings.{accept, name_of, is_name, mark_of, is_mark, is_word, word_of, is_int, int_by, ident_by, type_of_word, type_at, optional_type_by, optional_type_at, constant_at, operand_by, operand_at, further_at, operands_at}
 use Rattle.souper_ir.specs.Peeks.{some_is, Answers, peeked, peeked_no}
 use Rattle.souper_ir.specs.Steps.{Takes, Takes-then, Takes-none, At, bind_some, accepted, accepts, peeks, peeks_end}
@@ -136,7 +136,7 @@ optional_type_by_sound true p q o live quiet e =
     let j = accepted (mark_of colon) p c.0.1 c.0.0 c.1 in
     let k = type_sound c.0.1 t.0.1 t.0.0 t.1 in
     moved (WasRead (λ s. optional_type_spells) optional_type_continues p) (Some t.0.0, t.0.1) (o, q) t.2
-      (j.0 ∷ k.0, Takes-then p c.0.1 t.0.1 (j.0 ∷ []) k.0 j.1 k.1, (k.0, ap (λ (x : Lexeme). x ∷ k.0) (mark_means colon j.0 j.2), k.2), never (kinds t.0.1.tokens))
+    (j.0 ∷ k.0, Takes-then p c.0.1 t.0.1 (j.0 ∷ []) k.0 j.1 k.1, (k.0, ap (λ (x : Lexeme). x ∷ k.0) (mark_means colon j.0 j.2), k.2), never (kinds t.0.1.tokens))
 
 pub optional_type_sound : Sound (λ s. optional_type_spells) optional_type_continues optional_type_at
 unfolding optional_type_at
@@ -145,7 +145,7 @@ optional_type_sound p q o e =
     let seen = peeked (is_mark colon) p b.0.1 b.0.0 b.1 in
     let here : optional_type_by b.0.0 p ≡ Some (o, q) = subst (λ (x : Parsing). optional_type_by b.0.0 x ≡ Some (o, q)) seen.0 b.2 in
     optional_type_by_sound b.0.0 p q o seen.1
-      (λ none. no_type p.faulty (kinds p.tokens) (peeked_no (is_mark colon) p.faulty p.tokens (subst (λ (x : Bool). Answers (is_mark colon) x p.faulty p.tokens) none seen.2))) here
+    (λ none. no_type p.faulty (kinds p.tokens) (peeked_no (is_mark colon) p.faulty p.tokens (subst (λ (x : Bool). Answers (is_mark colon) x p.faulty p.tokens) none seen.2))) here
 
 pub optional_type_complete : Complete (λ s. optional_type_spells) optional_type_continues optional_type_at
 unfolding optional_type_at
@@ -172,7 +172,7 @@ constant_sound p q c e =
     let w = int_means number_of j.0 n.0.0 j.2 in
     let k = optional_type_sound n.0.1 t.0.1 t.0.0 t.1 in
     moved (WasRead (λ s. constant_spells) constant_continues p) (record { value = n.0.0; ty = t.0.0 }, t.0.1) (c, q) t.2
-      (j.0 ∷ k.0, Takes-then p n.0.1 t.0.1 (j.0 ∷ []) k.0 j.1 k.1, (w.0, k.0, ap (λ (x : Lexeme). x ∷ k.0) w.1, w.2, k.2), k.3)
+    (j.0 ∷ k.0, Takes-then p n.0.1 t.0.1 (j.0 ∷ []) k.0 j.1 k.1, (w.0, k.0, ap (λ (x : Lexeme). x ∷ k.0) w.1, w.2, k.2), k.3)
 
 pub constant_complete : Complete (λ s. constant_spells) constant_continues constant_at
 unfolding constant_at
@@ -194,7 +194,7 @@ operand_by_sound true p q o e =
     let j = accepted name_of p n.0.1 n.0.0 n.1 in
     let at : position_of p.scope n.0.0 ≡ Some i.0 = subst (λ (x : Scope). position_of x n.0.0 ≡ Some i.0) (scope_is p n.0.1 (j.0 ∷ []) j.1) i.1 in
     moved (WasRead operand_spells operand_continues p) (Value i.0, n.0.1) (o, q) i.2
-      (j.0 ∷ [], j.1, (n.0.0, ap (λ (x : Lexeme). x ∷ []) (name_means j.0 n.0.0 j.2), at), never (kinds n.0.1.tokens))
+    (j.0 ∷ [], j.1, (n.0.0, ap (λ (x : Lexeme). x ∷ []) (name_means j.0 n.0.0 j.2), at), never (kinds n.0.1.tokens))
 operand_by_sound false p q o e =
     let c = bind_some (constant_at p) (λ c. Some (constant_variant c.0, c.1)) (o, q) e in
     moved (WasRead operand_spells operand_continues p) (constant_variant c.0.0, c.0.1) (o, q) c.2 (constant_sound p c.0.1 c.0.0 c.1)
@@ -270,7 +270,7 @@ further_behind (suc k) p q x xs live free e =
     let here : operand_spells p.scope y.0.0 y2.0 = subst (λ (s : Scope). operand_spells s y.0.0 y2.0) (scope_is p c.0.1 (c2.0 ∷ []) c2.1) y2.2 in
     let there : further_spells p.scope ys.0.0 k2.0 = subst (λ (s : Scope). further_spells s ys.0.0 k2.0) (scope_is p y.0.1 (c2.0 ∷ y2.0) front) k2.2 in
     moved (ReadFurther (suc k) x p) (y.0.0 ∷ ys.0.0, ys.0.1) (xs, q) ys.2
-      (c2.0 ∷ (y2.0 ++ k2.0), Takes-then p y.0.1 ys.0.1 (c2.0 ∷ y2.0) k2.0 front k2.1, (y2.0, k2.0, ap (λ (t : Lexeme). t ∷ (y2.0 ++ k2.0)) (mark_means comma c2.0 c2.2), here, there), ap suc k2.3, k2.4)
+    (c2.0 ∷ (y2.0 ++ k2.0), Takes-then p y.0.1 ys.0.1 (c2.0 ∷ y2.0) k2.0 front k2.1, (y2.0, k2.0, ap (λ (t : Lexeme). t ∷ (y2.0 ++ k2.0)) (mark_means comma c2.0 c2.2), here, there), ap suc k2.3, k2.4)
 
 -- a name that goes before adds nothing that continues
 behind_value : (i : ℕ) (xs : List Operand) (t : Lexeme) → operands_continue xs t → operands_continue (Value i ∷ xs) t
@@ -308,7 +308,7 @@ further_complete p (x ∷ xs) front rest at s st =
     let before : j.0 ≡ record p { tokens = j.0.tokens } = state_then p c.0 j.0 c.3 j.3 in
     let there : further_spells j.0.scope xs s.1 = subst (λ (z : Scope). further_spells z xs s.1) (sym (same_scope p j.0 before)) s.4 in
     let last : Stops (operands_continue xs) j.0.faulty rest = subst (λ (z : Bool). Stops (operands_continue xs) z rest) (sym (same_fault p j.0 before))
-      (Stops-weaker (operands_continue (x ∷ xs)) (operands_continue xs) p.faulty rest (later_continues x xs) st) in
+    (Stops-weaker (operands_continue (x ∷ xs)) (operands_continue xs) p.faulty rest (later_continues x xs) st) in
     let k = further_complete j.0 xs s.1 rest j.2 there last in
     (k.0, further_is p c.0 j.0 k.0 x xs c.1 j.1 k.1, k.2, state_then p j.0 k.0 before k.3)
 
@@ -318,7 +318,7 @@ pub operands_sound : (n : ℕ) (p q : Parsing) (xs : List Operand) → p.failed 
     → (used : List Lexeme) × Takes p q used × operands_spells p.scope xs used × (length xs ≡ n) × Free (operands_continue xs) (kinds q.tokens)
 operands_sound zero p q xs live e =
     moved (λ (r : List Operand × Parsing). (used : List Lexeme) × Takes p r.1 used × operands_spells p.scope r.0 used × (length r.0 ≡ zero) × Free (operands_continue r.0) (kinds r.1.tokens)) ([], p) (xs, q) e
-      ([], Takes-none p p refl live, refl, refl, never (kinds p.tokens))
+    ([], Takes-none p p refl live, refl, refl, never (kinds p.tokens))
 operands_sound (suc k) p q xs live e =
     let y = bind_some (operand_at p) (λ y. further_at k y.1 >>= λ ys. Some (y.0 ∷ ys.0, ys.1)) (xs, q) e in
     let ys = bind_some (further_at k y.0.1) (λ ys. Some (y.0.0 ∷ ys.0, ys.1)) (xs, q) y.2 in
@@ -326,7 +326,7 @@ operands_sound (suc k) p q xs live e =
     let k2 = further_behind k y.0.1 ys.0.1 y.0.0 ys.0.0 (live_still p y.0.1 y2.0 y2.1) y2.3 ys.1 in
     let there : further_spells p.scope ys.0.0 k2.0 = subst (λ (s : Scope). further_spells s ys.0.0 k2.0) (scope_is p y.0.1 y2.0 y2.1) k2.2 in
     moved (λ (r : List Operand × Parsing). (used : List Lexeme) × Takes p r.1 used × operands_spells p.scope r.0 used × (length r.0 ≡ suc k) × Free (operands_continue r.0) (kinds r.1.tokens)) (y.0.0 ∷ ys.0.0, ys.0.1) (xs, q) ys.2
-      (y2.0 ++ k2.0, Takes-then p y.0.1 ys.0.1 y2.0 k2.0 y2.1 k2.1, (y2.0, k2.0, refl {a = y2.0 ++ k2.0}, y2.2, there), ap suc k2.3, k2.4)
+    (y2.0 ++ k2.0, Takes-then p y.0.1 ys.0.1 y2.0 k2.0 y2.1 k2.1, (y2.0, k2.0, refl {a = y2.0 ++ k2.0}, y2.2, there), ap suc k2.3, k2.4)
 
 operands_are : (p y q : Parsing) (x : Operand) (xs : List Operand) → operand_at p ≡ Some (x, y) → further_at (length xs) y ≡ Some (xs, q) → operands_at (suc (length xs)) p ≡ Some (x ∷ xs, q)
 operands_are p y q x xs d e = rw (d, e) refl
@@ -339,6 +339,6 @@ operands_complete p (x ∷ xs) front rest at s st =
     let j = operand_complete p x s.0 (s.1 ++ rest) ahead s.3 (further_over p.scope x xs p.faulty s.1 rest s.4 st) in
     let there : further_spells j.0.scope xs s.1 = subst (λ (z : Scope). further_spells z xs s.1) (sym (same_scope p j.0 j.3)) s.4 in
     let last : Stops (operands_continue xs) j.0.faulty rest = subst (λ (z : Bool). Stops (operands_continue xs) z rest) (sym (same_fault p j.0 j.3))
-      (Stops-weaker (operands_continue (x ∷ xs)) (operands_continue xs) p.faulty rest (later_continues x xs) st) in
+    (Stops-weaker (operands_continue (x ∷ xs)) (operands_continue xs) p.faulty rest (later_continues x xs) st) in
     let k = further_complete j.0 xs s.1 rest j.2 there last in
     (k.0, operands_are p j.0 k.0 x xs j.1 k.1, k.2, state_then p j.0 k.0 j.3 k.3)

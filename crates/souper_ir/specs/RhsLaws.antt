@@ -1,6 +1,6 @@
 -- Right sides: what is read is spelled so, and what is spelled so is read.
-use Rattle.std.proofs.Common.{◌≡◌, ℕ, ◌^◌, Bool, true, false, List, [], ◌∷◌, ◌++◌, length, Option, Some, None, refl, sym, ◌∙◌, ap, subst}
-use Rattle.std.specs.Prelude.{codes, is_some}
+use Rattle.std.proofs.Common.{◌≡◌, ℕ, ◌^◌, Bool, true, List, [], ◌∷◌, ◌++◌, length, Option, Some, None, refl, sym, ◌∙◌, ap, subst}
+use Rattle.std.specs.Prelude.{codes}
 use Rattle.souper_graph.specs.declared.ast.operands.Operand.{Operand}
 use Rattle.souper_graph.specs.declared.ast.instructions.Instruction.{Instruction}
 use Rattle.souper_graph.specs.declared.ast.statements.Block.{Block}
@@ -37,7 +37,7 @@ block_sound p q b e =
     let w = int_means (count_of (2 ^ 32)) n2.0 n.0.0 n2.2 in
     let parts : k2.0 ∷ n2.0 ∷ [] ≡ ident (codes "block") ∷ int w.0 ∷ [] = both_are k2.0 n2.0 (ident (codes "block")) (int w.0) (word_means (codes "block") k2.0 k2.2) w.1 in
     moved (WasRead (λ s. block_spells) (λ (b : Block) t. ⊥) p) (record { predecessors = n.0.0 }, n.0.1) (b, q) n.2
-      (k2.0 ∷ n2.0 ∷ [], Takes-then p k.0.1 n.0.1 (k2.0 ∷ []) (n2.0 ∷ []) k2.1 n2.1, (w.0, parts, w.2), never (kinds n.0.1.tokens))
+    (k2.0 ∷ n2.0 ∷ [], Takes-then p k.0.1 n.0.1 (k2.0 ∷ []) (n2.0 ∷ []) k2.1 n2.1, (w.0, parts, w.2), never (kinds n.0.1.tokens))
 
 pub block_complete : Complete (λ s. block_spells) (λ b t. ⊥) block_at
 unfolding block_at
@@ -98,10 +98,10 @@ phi_sound p q v e =
     let x2 = further_sound b.0.0.1 b.0.1 xs.0.1 xs.0.0 (live_still p b.0.1 (k2.0 ∷ val_name b2.0 ∷ []) head) xs.1 in
     let parts : k2.0 ∷ val_name b2.0 ∷ x2.0 ≡ ident (codes "phi") ∷ val_name b2.0 ∷ x2.0 = ap (λ (t : Lexeme). t ∷ val_name b2.0 ∷ x2.0) (word_means (codes "phi") k2.0 k2.2) in
     let found : entry_of p.scope b2.0 ≡ Some (b.0.0.0, Some (length xs.0.0)) =
-      subst (λ (s : Scope). entry_of s b2.0 ≡ Some (b.0.0.0, Some (length xs.0.0))) (scope_is p k.0.1 (k2.0 ∷ []) k2.1) (subst (λ (n : ℕ). entry_of k.0.1.scope b2.0 ≡ Some (b.0.0.0, Some n)) (sym x2.3) b2.2) in
+    subst (λ (s : Scope). entry_of s b2.0 ≡ Some (b.0.0.0, Some (length xs.0.0))) (scope_is p k.0.1 (k2.0 ∷ []) k2.1) (subst (λ (n : ℕ). entry_of k.0.1.scope b2.0 ≡ Some (b.0.0.0, Some n)) (sym x2.3) b2.2) in
     let values : further_spells p.scope xs.0.0 x2.0 = subst (λ (s : Scope). further_spells s xs.0.0 x2.0) (scope_is p b.0.1 (k2.0 ∷ val_name b2.0 ∷ []) head) x2.2 in
     moved (WasRead phi_spells phi_continues p) (record { block = b.0.0.0; values = xs.0.0 }, xs.0.1) (v, q) xs.2
-      (k2.0 ∷ val_name b2.0 ∷ x2.0, Takes-then p b.0.1 xs.0.1 (k2.0 ∷ val_name b2.0 ∷ []) x2.0 head x2.1, (b2.0, x2.0, parts, found, values), x2.4)
+    (k2.0 ∷ val_name b2.0 ∷ x2.0, Takes-then p b.0.1 xs.0.1 (k2.0 ∷ val_name b2.0 ∷ []) x2.0 head x2.1, (b2.0, x2.0, parts, found, values), x2.4)
 
 phi_is : (p k b q : Parsing) (v : PlainPhi) → accept (word_of (codes "phi")) p ≡ Some (tt, k) → block_name_at k ≡ Some ((v.block, length v.values), b) → further_at (length v.values) b ≡ Some (v.values, q) → phi_at p ≡ Some (v, q)
 unfolding phi_at
@@ -145,10 +145,10 @@ instruction_sound p q i e =
     let made = instruction_makes w.0.0.0 xs.0.0 j.0 j.1 in
     let first : w2.0 ≡ ident (instruction_word j.0) = k.1 ∙ ap ident ((counted_means k.0 w.0.0 k.2).0 ∙ made.0) in
     let spelled : operands_spells p.scope (operands_of j.0) x2.0 =
-      subst (λ (ys : List Operand). operands_spells p.scope ys x2.0) made.1 (subst (λ (s : Scope). operands_spells s xs.0.0 x2.0) (scope_is p w.0.1 (w2.0 ∷ []) w2.1) x2.2) in
+    subst (λ (ys : List Operand). operands_spells p.scope ys x2.0) made.1 (subst (λ (s : Scope). operands_spells s xs.0.0 x2.0) (scope_is p w.0.1 (w2.0 ∷ []) w2.1) x2.2) in
     let free : Free (operands_continue (operands_of j.0)) (kinds xs.0.1.tokens) = subst (λ (ys : List Operand). Free (operands_continue ys) (kinds xs.0.1.tokens)) made.1 x2.4 in
     moved (WasRead instruction_spells instruction_continues p) (j.0, xs.0.1) (i, q) j.2
-      (w2.0 ∷ x2.0, Takes-then p w.0.1 xs.0.1 (w2.0 ∷ []) x2.0 w2.1 x2.1, (x2.0, ap (λ (t : Lexeme). t ∷ x2.0) first, spelled), free)
+    (w2.0 ∷ x2.0, Takes-then p w.0.1 xs.0.1 (w2.0 ∷ []) x2.0 w2.1 x2.1, (x2.0, ap (λ (t : Lexeme). t ∷ x2.0) first, spelled), free)
 
 instruction_made : (p w q : Parsing) (i : Instruction) → accept (ident_by counted_word) p ≡ Some ((instruction_word i, length (operands_of i)), w) → operands_at (length (operands_of i)) w ≡ Some (operands_of i, q) → instruction_at p ≡ Some (i, q)
 unfolding instruction_at
@@ -200,7 +200,7 @@ word_alone w r p q v spelled ends e =
     let k2 = accepted (word_of w) p k.0.1 k.0.0 k.1 in
     let t : k2.0 ≡ ident w = word_means w k2.0 k2.2 in
     moved (WasRead rhs_spells rhs_continues p) (r, k.0.1) (v, q) k.2
-      (k2.0 ∷ [], k2.1, subst (λ (u : Lexeme). rhs_spells p.scope r (u ∷ [])) (sym t) (spelled p.scope), ends (kinds k.0.1.tokens))
+    (k2.0 ∷ [], k2.1, subst (λ (u : Lexeme). rhs_spells p.scope r (u ∷ [])) (sym t) (spelled p.scope), ends (kinds k.0.1.tokens))
 
 rhs_by_sound : (k : RhsKind) (p q : Parsing) (v : PlainRhs) → rhs_by k p ≡ Some (v, q) → WasRead rhs_spells rhs_continues p (v, q)
 rhs_by_sound is_var p q v e = word_alone (codes "var") var p q v (λ s. refl) never e

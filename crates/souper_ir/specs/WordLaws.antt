@@ -1,13 +1,13 @@
 -- The words of the instructions: each makes its instruction, and no other.
-use Rattle.std.proofs.Common.{◌≡◌, ℕ, Bool, true, false, List, [], ◌∷◌, length, Option, Some, None, refl, ◌∙◌, ap, subst, ◌⊎◌, inl, inr}
-use Rattle.std.specs.Prelude.{codes, bytes_eq, if◌then◌else◌, is_some}
+use Rattle.std.proofs.Common.{◌≡◌, ℕ, Bool, true, false, List, [], ◌∷◌, length, Option, Some, None, refl, ◌∙◌, subst}
+use Rattle.std.specs.Prelude.{codes, bytes_eq, if◌then◌else◌}
 use Rattle.std.proofs.lemmas.Slice.Eq.{bytes_eq-Decides}
 use Rattle.souper_graph.specs.declared.ast.operands.Operand.{Operand}
 use Rattle.souper_graph.specs.declared.ast.instructions.Instruction.{Instruction}
 use Rattle.souper_graph.specs.declared.ast.instructions.Instruction.TheVariants.{Add, AddNsw, AddNuw, AddNw, Sub, SubNsw, SubNuw, SubNw, Mul, MulNsw, MulNuw, MulNw, Udiv, Sdiv, UdivExact, SdivExact, Urem, Srem, And, Or, Xor, Shl, ShlNsw, ShlNuw, ShlNw, Lshr, LshrExact, Ashr, AshrExact, Select, Zext, Sext, Trunc, Eq, Ne, Ult, Slt, Ule, Sle, Ctpop, Bswap, BitReverse, Cttz, Ctlz, Fshl, Fshr, SaddWithOverflow, UaddWithOverflow, SsubWithOverflow, UsubWithOverflow, SmulWithOverflow, UmulWithOverflow, SaddSat, UaddSat, SsubSat, UsubSat, ExtractValue, Hole, Freeze}
 use Rattle.souper_graph.specs.Instructions.{word_of, operands_of}
 use Rattle.souper_ir.specs.Words.{nullary_of, unary_of, arithmetic_of, bitwise_of, comparison_of, checked_of, ternary_of, binary_of, first_some, instruction_of, operand_count_of}
-use Rattle.souper_ir.specs.NodeReadings.{RhsKind, is_instruction, rhs_kind_of_word}
+use Rattle.souper_ir.specs.NodeReadings.{is_instruction, rhs_kind_of_word}
 use Rattle.souper_ir.specs.Peeks.{some_is}
 
 -- ---- the word of an instruction

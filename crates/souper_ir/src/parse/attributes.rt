@@ -15,7 +15,7 @@ use crate::lexer::Token;
 use crate::parse::message::Message;
 use crate::parse::numbers::{bits, known_bits};
 use crate::parse::parser::{Parser, Result};
-use crate::parse::tokens::{bit_count, integer, mark_comes, punctuation, Mark};
+use crate::parse::tokens::{Mark, bit_count, integer, mark_comes, punctuation};
 use crate::parse::traits::{Parse, Peek};
 use souper_graph::ast::{Attribute, RootAttribute};
 

@@ -40,9 +40,7 @@ impl fmt::Display for Message<'_> {
             Message::ExpectedMark(mark) => write!(f, "expected '{mark}'"),
             Message::ExpectedInteger => write!(f, "expected an integer literal"),
             Message::BadInteger(fault) => write_fault(fault, f),
-            Message::ExpectedType => {
-                write!(f, "expected a type (like 'i32', 'i8', or 'i1')")
-            }
+            Message::ExpectedType => { write!(f, "expected a type (like 'i32', 'i8', or 'i1')") }
             Message::ExpectedRhs => {
                 write!(f, "expected a constant, var, block, phi, or instruction")
             }
@@ -61,7 +59,10 @@ impl fmt::Display for Message<'_> {
             Message::UnknownValue(name) => write!(f, "unknown value '{name}'"),
             Message::UnknownBlock(name) => write!(f, "unknown block '{name}'"),
             Message::PredecessorOutOfRange(predecessor, name) => {
-                write!(f, "predecessor {predecessor} out of range for block '{name}'")
+                write!(
+                    f,
+                    "predecessor {predecessor} out of range for block '{name}'"
+                )
             }
             Message::AlreadyFailed => write!(f, "the parser has already failed"),
         }

@@ -13,7 +13,7 @@ use crate::parse::message::Message;
 use crate::parse::numbers::width;
 use crate::parse::parser::{Parser, Result};
 use crate::parse::tokens::{
-    integer, integer_comes, mark_comes, punctuation, value_name, value_name_comes, Mark,
+    Mark, integer, integer_comes, mark_comes, punctuation, value_name, value_name_comes,
 };
 use crate::parse::traits::{Parse, Peek};
 use arrayvec::ArrayVec;

@@ -10,11 +10,12 @@ use crate::parse::parser::{Parser, Result};
 
 /// A value that can be parsed.
 ///
-/// An implementor states its grammar, over its values seen as plain data: which tokens spell a value in a scope, which
-/// token behind them continues it, and what scope it leaves. It owes that
-/// - `parse` takes the tokens of the value that it returns, where the next token does not continue that;
-/// - `parse` refuses only where no tokens to come spell any value;
-/// - the tokens to come never spell two values, or one value at two lengths.
+/// An implementor says as what plain data its values are seen, and states the grammar of that data: the tokens that
+/// spell a value in a scope, the tokens that continue it behind its spelling, and the scope that it leaves. It owes that
+/// - `parse` takes a spelling of the value that it returns, behind which nothing continues that value;
+/// - `parse` refuses only where no tokens to come are such a spelling of any value, but for want of memory, which it may
+///   report anywhere;
+/// - no tokens to come can be read as two values, nor as one value at two lengths.
 pub trait Parse: Sized {
     // A value as plain data.
     ghost Plain: { Type 0 };

@@ -115,9 +115,21 @@ fn ternary(word: &str, a: &Operand, b: &Operand, c: &Operand) -> Option<Instruct
     ensures { result ≡ ternary_of word.now a.now b.now c.now }
 {
     match word {
-        "select" => Some(Instruction::Select { a: *a, b: *b, c: *c }),
-        "fshl" => Some(Instruction::Fshl { a: *a, b: *b, c: *c }),
-        "fshr" => Some(Instruction::Fshr { a: *a, b: *b, c: *c }),
+        "select" => Some(Instruction::Select {
+            a: *a,
+            b: *b,
+            c: *c,
+        }),
+        "fshl" => Some(Instruction::Fshl {
+            a: *a,
+            b: *b,
+            c: *c,
+        }),
+        "fshr" => Some(Instruction::Fshr {
+            a: *a,
+            b: *b,
+            c: *c,
+        }),
         _ => None,
     }
 }

@@ -8,20 +8,23 @@ use Rattle.souper_ir.proofs.parse.operands.further.Goals as goal
 
 pub loop-preserved : goal.loop-preserved
 loop-preserved c =
-    rw c.in-Ok.ensures.items
-      (further_more c.loop.counter c.args.parser.now c.loop.parser c.next_operand.new.parser c.loop.operands.items c.in_ok-operand.operand c.loop.invariant.0 c.in_ok-operand.ensures.0,
-      c.in_ok-operand.ensures.2, c.in_ok-operand.ensures.3 ∙ c.loop.invariant.2)
+    rw c.in-Ok.ensures.items (
+      further_more c.loop.counter c.args.parser.now c.loop.parser c.next_operand.new.parser c.loop.operands.items c.in_ok-operand.operand c.loop.invariant.0 c.in_ok-operand.ensures.0,
+      c.in_ok-operand.ensures.2,
+      c.in_ok-operand.ensures.3 ∙ c.loop.invariant.2,
+    )
 
 pub returns-in_err-operand : goal.returns-in_err-operand
 returns-in_err-operand c =
     let p = err_from_is_err_and c.from_residual.result c.from_residual.ensures.1 in
     rw (p.1, p.2) (further_fails c.loop.counter c.args.count c.args.parser.now c.loop.parser c.next_operand.new.parser c.loop.operands.items c.in_err-operand.field-0.0 (omega arith) c.loop.invariant.0
-      (c.loop.invariant.1 ∙ sym c.requires) c.loop.invariant.2 c.in_err-operand.ensures)
+    (c.loop.invariant.1 ∙ sym c.requires) c.loop.invariant.2 c.in_err-operand.ensures)
 
 pub returns-in-Err : goal.returns-in-Err
-returns-in-Err c =
-    (of_memory _ c.want_memory.result c.want_memory.ensures.0,
-    fails_later c.want_memory.result c.args.parser.now c.next_operand.new.parser c.want_memory.new.self (c.in_ok-operand.ensures.2 ∙ sym c.requires) (c.in_ok-operand.ensures.3 ∙ c.loop.invariant.2) c.want_memory.ensures.1)
+returns-in-Err c = (
+  of_memory _ c.want_memory.result c.want_memory.ensures.0,
+  fails_later c.want_memory.result c.args.parser.now c.next_operand.new.parser c.want_memory.new.self (c.in_ok-operand.ensures.2 ∙ sym c.requires) (c.in_ok-operand.ensures.3 ∙ c.loop.invariant.2) c.want_memory.ensures.1,
+)
 
 pub returns : goal.returns
 returns c =

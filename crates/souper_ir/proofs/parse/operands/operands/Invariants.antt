@@ -1,4 +1,4 @@
-use Rattle.std.proofs.Common.{◌≡◌, ◌≤◌, Some, None, length}
+use Rattle.std.proofs.Common.{◌≡◌, Some, None, length}
 use Rattle.souper_ir.specs.NodeReadings.{operands_at}
 use Rattle.souper_ir.proofs.parse.operands.operands.Given as goal
 
