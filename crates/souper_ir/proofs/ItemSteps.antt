@@ -15,9 +15,9 @@ use Rattle.souper_ir.specs.Unique.{Free-from_Stops}
 use Rattle.souper_ir.specs.NodeReadings.{is_word}
 use Rattle.souper_ir.specs.Peeks.{peeked, peeked_yes, peeked_no}
 use Rattle.souper_ir.specs.Steps.{kinds-append}
-use Rattle.souper_ir.specs.PendingLaws.{infer_alone}
+use Rattle.souper_ir.specs.StatementLaws.{infer_first, infer_alone}
 use Rattle.souper_ir.specs.Items.{tail_continues, Stated, AllStated, NoStatement, NoMore, StuckAt, StatedRefusal}
-use Rattle.souper_ir.specs.ItemLaws.{free_clash, split, infer_begins, cand_is_no_infer, starts_ahead, replaced_begins, infer_over, result_opens, tail_opens, no_item, weaker, stuck_tail, failed_same, len_same}
+use Rattle.souper_ir.specs.ItemLaws.{free_clash, split, cand_is_no_infer, starts_ahead, replaced_begins, infer_over, result_opens, tail_opens, no_item, weaker, stuck_tail, failed_same, len_same}
 
 abbrev TookInfer : PlainInfer → Parsing → Parsing → Type 0
 TookInfer i p q = Took infer_spells infer_continues (λ s. s) i p q
@@ -147,7 +147,7 @@ none_behind p q j took stuck = none
     parts = ap kinds took.parts ∙ kinds-append took.used q.tokens
 
     starts : Starts (is_word (codes "infer")) (kinds p.tokens)
-    starts = subst (λ (x : List Lexeme). Starts (is_word (codes "infer")) x) (sym parts) (starts_ahead (is_word (codes "infer")) (kinds took.used) (kinds q.tokens) (infer_begins p.scope j (kinds took.used) took.spelled))
+    starts = subst (λ (x : List Lexeme). Starts (is_word (codes "infer")) x) (sym parts) (starts_ahead (is_word (codes "infer")) (kinds took.used) (kinds q.tokens) (infer_first p.scope j (kinds took.used) took.spelled))
 
     none : NoFront (tail_spells replacement) tail_continues p
     none (new, inferred i) front rest eq sp st = sp

@@ -20,3 +20,5 @@ pub mod Limits
 pub mod Scopes
 pub mod WellFormedItems
 pub mod ItemSteps
+pub mod ItemLists
+pub mod TextItems

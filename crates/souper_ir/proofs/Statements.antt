@@ -1,2 +1,0 @@
--- Statements and last lines.
-use Rattle.souper_ir.specs.StatementLaws.{statement_alone, infer_alone, cand_alone, result_alone, statement_first}
