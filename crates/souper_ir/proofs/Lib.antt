@@ -22,3 +22,4 @@ pub mod WellFormedItems
 pub mod ItemSteps
 pub mod ItemLists
 pub mod TextItems
+pub mod Statements

@@ -50,7 +50,7 @@ module _ {X : Type 0} (spells : X → List Lexeme → Type 0) (first : (x : X) (
 
   attributes_only : (P : Lexeme → Type 0) (xs : List X) (y rest : List Lexeme) → Members spells (λ x t. ⊥) xs y → Free P (y ++ rest) → Free (OneMore xs) rest → Free (λ t. attributes_continue (P t) xs t) rest
   attributes_only P xs y [] m f g = tt
-  attributes_only P [] y (t ∷ rest) m f g = neither (λ e. g (more_if_open [] t e)) (subst (λ (z : List Lexeme). Free P (z ++ t ∷ rest)) m f)
+  attributes_only P [] y (t ∷ rest) m f g = neither (λ e. g (more_if_open {V = X} [] t e)) (subst (λ (z : List Lexeme). Free P (z ++ t ∷ rest)) m f)
   attributes_only P (x ∷ xs) y (t ∷ rest) m f g = λ e. g (more_if_open (x ∷ xs) t e)
 
 -- what is known of a node C that is a node A with attributes X behind it

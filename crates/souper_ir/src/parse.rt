@@ -2,12 +2,14 @@
 
 mod attributes;
 mod error;
+mod last_lines;
 mod message;
 mod numbers;
 mod operands;
 mod parser;
 mod place;
 mod rhs;
+mod statements;
 mod tokens;
 mod traits;
 mod words;

@@ -1,0 +1,221 @@
+//! Statements: assignments and path conditions.
+
+ghost use Rattle.std.specs.Prelude.{◌≡◌, codes, refl, IfOk, IfErr};
+ghost use Rattle.std.specs.String.{string_bytes};
+ghost use Rattle.souper_graph.specs.declared.ast.statements.Pc.{Pc as pc_value};
+ghost use Rattle.souper_graph.specs.declared.ast.statements.BlockPc.{BlockPc as block_pc_value};
+ghost use Rattle.souper_graph.specs.Values.{PlainAssignment, PlainStatement};
+ghost use Rattle.souper_graph.specs.View.{view_rhs, view_assignment, view_statement};
+ghost use Rattle.souper_ir.specs.Spelling.{assignment_spells, pc_spells, block_pc_spells, statement_spells};
+ghost use Rattle.souper_ir.specs.Continuation.{assignment_continues, pc_continues, block_pc_continues, statement_continues};
+ghost use Rattle.souper_ir.specs.Reading.{Gives};
+ghost use Rattle.souper_ir.specs.Grammar.{Took, Refusal, peek_at};
+ghost use Rattle.souper_ir.specs.NodeReadings.{is_name, is_word, definition_at, pc_at, block_pc_at, starts_statement};
+ghost use Rattle.souper_ir.specs.StatementLaws.{assignment_alone, assignment_first, pc_alone, pc_first, block_pc_alone, block_pc_first, statement_alone, statement_first};
+
+use crate::lexer::Token;
+use crate::parse::message::Message;
+use crate::parse::operands::{operand, optional_type};
+use crate::parse::parser::{Parser, Result};
+use crate::parse::rhs::{block_name, rhs};
+use crate::parse::tokens::{
+    keyword, punctuation, value_name, value_name_comes, way_count, word_comes, Mark,
+};
+use crate::parse::traits::{Parse, Peek};
+use souper_graph::ast::{Assignment, AssignmentRhs, Attribute, BlockPc, Pc, Statement, Type};
+
+// An assignment up to its attributes: its name, type and right side.
+#[tactic(auto, unfolding(crate::specs::NodeReadings::definition_at))]
+fn definition<'a>(parser: &mut Parser<'a>) -> Result<(&'a str, Option<Type>, AssignmentRhs)>
+    ensures { Gives (λ r. record { name = r.0.now; ty = r.1; value = view_rhs r.2 }) result (definition_at parser.old) parser.old parser.new }
+{
+    let name = value_name(parser)?;
+    if parser.value_named(name).is_some() {
+        return Err(parser.refuse(Message::CannotRedefine(name)));
+    }
+    let ty = optional_type(parser)?;
+    punctuation(parser, Mark::Equals)?;
+    let value = rhs(parser)?;
+    Ok((name, ty, value))
+}
+
+/// An assignment, and its name as a slice of the text. It is not entered into the scope.
+pub(crate) fn assignment<'a>(parser: &mut Parser<'a>) -> Result<(&'a str, Assignment)>
+    ensures ok { IfOk result (λ r. Took assignment_spells assignment_continues (λ s. s) (view_assignment r.1) parser.old parser.new) }
+    ensures name { IfOk result (λ r. string_bytes r.1.name ≡ r.0.now) }
+    ensures err { IfErr result (λ e. Refusal assignment_spells assignment_continues e parser.old parser.new) }
+{
+    let (name, ty, value) = definition(parser)?;
+    let attributes = Vec::<Attribute>::parse(parser)?;
+    match String::from_str(parser.alloc(), name) {
+        Ok(text) => {
+            let assignment = Assignment {
+                name: text,
+                ty,
+                value,
+                attributes,
+            };
+            Ok((name, assignment))
+        }
+        Err(_) => Err(parser.want_memory()),
+    }
+}
+
+#[tactic(auto, unfolding(crate::specs::NodeReadings::pc_at))]
+pub(crate) fn pc(parser: &mut Parser<'_>) -> Result<Pc>
+    ensures { Gives (λ p. p) result (pc_at parser.old) parser.old parser.new }
+{
+    keyword(parser, "pc")?;
+    let x = operand(parser)?;
+    let y = operand(parser)?;
+    Ok(Pc { x, y })
+}
+
+#[tactic(auto, unfolding(crate::specs::NodeReadings::block_pc_at))]
+pub(crate) fn block_pc(parser: &mut Parser<'_>) -> Result<BlockPc>
+    ensures { Gives (λ p. p) result (block_pc_at parser.old) parser.old parser.new }
+{
+    keyword(parser, "blockpc")?;
+    let (block, ways, name) = block_name(parser)?;
+    let predecessor = way_count(parser)?;
+    if predecessor >= ways {
+        return Err(parser.refuse(Message::PredecessorOutOfRange(predecessor, name)));
+    }
+    let x = operand(parser)?;
+    let y = operand(parser)?;
+    Ok(BlockPc {
+        block,
+        predecessor,
+        x,
+        y,
+    })
+}
+
+/// Called by itself, it adds no statement and no name.
+impl Parse for Assignment {
+    ghost Plain = { PlainAssignment };
+
+    ghost view = { view_assignment };
+
+    ghost spells = { assignment_spells };
+
+    ghost continues = { assignment_continues };
+
+    ghost alone = { assignment_alone };
+
+    fn parse<'a>(parser: &mut Parser<'a>) -> Result<Self> {
+        let (_, assignment) = assignment(parser)?;
+        Ok(assignment)
+    }
+}
+
+impl Peek for Assignment {
+    ghost starts = { is_name };
+
+    ghost first = { assignment_first };
+
+    ghost stays = { λ s. refl };
+
+    fn peek<'a>(parser: &mut Parser<'a>) -> Result<bool> {
+        value_name_comes(parser)
+    }
+}
+
+/// Called by itself, it adds no statement.
+impl Parse for Pc {
+    ghost Plain = { pc_value };
+
+    ghost view = { λ p. p };
+
+    ghost spells = { pc_spells };
+
+    ghost continues = { pc_continues };
+
+    ghost alone = { pc_alone };
+
+    fn parse<'a>(parser: &mut Parser<'a>) -> Result<Self> {
+        pc(parser)
+    }
+}
+
+impl Peek for Pc {
+    ghost starts = { is_word (codes "pc") };
+
+    ghost first = { pc_first };
+
+    ghost stays = { λ s. refl };
+
+    fn peek<'a>(parser: &mut Parser<'a>) -> Result<bool> {
+        word_comes(parser, "pc")
+    }
+}
+
+/// Its name has to stand for a block in scope, and its number for a way into that. Called by itself, it adds no statement.
+impl Parse for BlockPc {
+    ghost Plain = { block_pc_value };
+
+    ghost view = { λ p. p };
+
+    ghost spells = { block_pc_spells };
+
+    ghost continues = { block_pc_continues };
+
+    ghost alone = { block_pc_alone };
+
+    fn parse<'a>(parser: &mut Parser<'a>) -> Result<Self> {
+        block_pc(parser)
+    }
+}
+
+impl Peek for BlockPc {
+    ghost starts = { is_word (codes "blockpc") };
+
+    ghost first = { block_pc_first };
+
+    ghost stays = { λ s. refl };
+
+    fn peek<'a>(parser: &mut Parser<'a>) -> Result<bool> {
+        word_comes(parser, "blockpc")
+    }
+}
+
+/// Called by itself, it adds no statement and no name.
+impl Parse for Statement {
+    ghost Plain = { PlainStatement };
+
+    ghost view = { view_statement };
+
+    ghost spells = { statement_spells };
+
+    ghost continues = { statement_continues };
+
+    ghost alone = { statement_alone };
+
+    fn parse<'a>(parser: &mut Parser<'a>) -> Result<Self> {
+        if word_comes(parser, "pc")? {
+            Ok(pc(parser)?.into())
+        } else if word_comes(parser, "blockpc")? {
+            Ok(block_pc(parser)?.into())
+        } else {
+            let (_, assignment) = assignment(parser)?;
+            Ok(assignment.into())
+        }
+    }
+}
+
+impl Peek for Statement {
+    ghost starts = { starts_statement };
+
+    ghost first = { statement_first };
+
+    ghost stays = { λ s. refl };
+
+    #[tactic(auto, unfolding(crate::specs::Grammar::peek_at))]
+    fn peek<'a>(parser: &mut Parser<'a>) -> Result<bool> {
+        match parser.lookahead()? {
+            Some(Token::ValName(_)) => Ok(true),
+            Some(Token::Ident(word)) => Ok(word == "pc" || word == "blockpc"),
+            _ => Ok(false),
+        }
+    }
+}
