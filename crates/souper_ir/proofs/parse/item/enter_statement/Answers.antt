@@ -46,7 +46,7 @@ returns-in_ok-condition-clause-ok c =
     on_ok_weaker c.add.result
     (entered (condition c.in_ok-condition.condition) c.args.parser.now c.pc.new.parser c.add.new.self
     (pc_taken c.in_ok-condition.condition c.args.parser.now c.word_comes.new.parser c.pc.new.parser (rw c.if-branch.true at c.in_ok-word_comes.ensures) c.in_ok-condition.ensures))
-    c.add.ensures.ok
+    (rw c.into.ensures at c.add.ensures.ok)
 
 pub returns-in_ok-condition-2-clause-ok : goal.returns-in_ok-condition-2-clause-ok
 returns-in_ok-condition-2-clause-ok c =
@@ -54,7 +54,7 @@ returns-in_ok-condition-2-clause-ok c =
     (entered (block_condition c.in_ok-condition-2.condition) c.args.parser.now c.block_pc.new.parser c.add-then-branch-2.new.self
     (passed (λ x. Took statement_spells statement_continues (λ s. s) (block_condition c.in_ok-condition-2.condition) x c.block_pc.new.parser) (codes "pc") c.args.parser.now c.word_comes.new.parser (rw c.if-branch.false at c.in_ok-word_comes.ensures)
     (block_pc_taken c.in_ok-condition-2.condition c.word_comes.new.parser c.word_comes-else-branch.new.parser c.block_pc.new.parser (rw c.if-branch-2.true at c.in_ok-word_comes-2.ensures) c.in_ok-condition-2.ensures)))
-    c.add-then-branch-2.ensures.ok
+    (rw c.into-then-branch-2.ensures at c.add-then-branch-2.ensures.ok)
 
 pub returns-in_ok-name-clause-ok : goal.returns-in_ok-name-clause-ok
 returns-in_ok-name-clause-ok c =
