@@ -21,3 +21,5 @@ pub mod Scopes
 pub mod WellFormedItems
 pub mod Statements
 pub mod ItemSteps
+pub mod ItemLists
+pub mod TextItems

@@ -4,4 +4,5 @@
 pub use souper_graph::{ast, stringify};
 
 mod lexer;
+pub mod laws;
 pub mod parse;

@@ -1,0 +1,5 @@
+use Rattle.souper_ir.proofs.ItemLists.{text_alone}
+use Rattle.souper_ir.proofs.laws.law_of_items.Goals as goal
+
+pub returns : goal.returns
+returns c = text_alone
