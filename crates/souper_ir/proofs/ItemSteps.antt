@@ -3,20 +3,20 @@ use Rattle.std.proofs.Common.{◌≡◌, ℕ, Bool, true, false, List, [], ◌�
 use Rattle.std.specs.Prelude.{codes}
 use Rattle.std.proofs.lemmas.List.{append-nil, append_cancel_left}
 use Rattle.souper_graph.specs.declared.ast.operands.Operand.{Operand}
-use Rattle.souper_graph.specs.Values.{PlainStatement, PlainInfer, PlainCand, Ending, inferred, resulting, replaced, candidate, Item}
+use Rattle.souper_graph.specs.Values.{PlainStatement, PlainInfer, PlainCand, inferred, resulting, replaced, candidate, Item}
 use Rattle.souper_ir.specs.declared.parse.error.ParseError.{ParseError}
 use Rattle.souper_ir.specs.Tokens.{Lexeme}
 use Rattle.souper_ir.specs.Spelling.{kinds, Scope, statement_spells, infer_spells, cand_spells, result_spells, Statements, ItemType, left_hand_side, right_hand_side, replacement, Tail, tail_spells, item_spells_after}
 use Rattle.souper_ir.specs.Continuation.{statement_continues, infer_continues, cand_continues, result_continues, item_continues}
 use Rattle.souper_ir.specs.Parsing.{Parsing}
 use Rattle.souper_ir.specs.Reading.{cause_of, IfRefused, if_refused, IsRead, Fails, fails_later}
-use Rattle.souper_ir.specs.Grammar.{Free, Stops, Starts, Took, NoFront, Refusal, peek_at}
+use Rattle.souper_ir.specs.Grammar.{Free, Starts, Took, NoFront, Refusal, peek_at}
 use Rattle.souper_ir.specs.Unique.{Free-from_Stops}
 use Rattle.souper_ir.specs.NodeReadings.{is_word}
 use Rattle.souper_ir.specs.Peeks.{peeked, peeked_yes, peeked_no, none_if_unread}
 use Rattle.souper_ir.specs.Steps.{kinds-append}
 use Rattle.souper_ir.specs.StatementLaws.{infer_first, infer_alone}
-use Rattle.souper_ir.specs.Items.{tail_continues, Entered, Enters, Stated, AllStated, NoStatement, NoMore, StuckAt, StatedRefusal}
+use Rattle.souper_ir.specs.Items.{tail_continues, Entered, Enters, AllStated, NoMore, StuckAt, StatedRefusal}
 use Rattle.souper_ir.specs.ItemLaws.{free_clash, split, cand_is_no_infer, starts_ahead, replaced_begins, infer_over, result_opens, tail_opens, no_item, weaker, stuck_tail, failed_same, len_same}
 
 abbrev TookInfer : PlainInfer → Parsing → Parsing → Type 0

@@ -1,5 +1,5 @@
 -- The items that a text spells are well formed.
-use Rattle.std.proofs.Common.{◌≡◌, ◌⊎◌, ℕ, ◌+◌, ◌<◌, true, List, [], ◌∷◌, ◌++◌, length, Option, Some, None, refl, sym, ◌∙◌, ap, subst, inl, inr, append_assoc}
+use Rattle.std.proofs.Common.{◌≡◌, ◌⊎◌, ℕ, ◌+◌, ◌<◌, List, [], ◌∷◌, ◌++◌, length, Option, Some, None, refl, sym, ◌∙◌, subst, inl, inr, append_assoc}
 use Rattle.std.specs.Prelude.{slice_get}
 use Rattle.std.specs.List.{AllByRecursion}
 use Rattle.std.proofs.lemmas.List.{append-nil}
@@ -7,14 +7,14 @@ use Rattle.souper_graph.specs.declared.ast.operands.«Type».{«Type» as Ty}
 use Rattle.souper_graph.specs.declared.ast.operands.Constant.{Constant}
 use Rattle.souper_graph.specs.declared.ast.operands.Operand.{Operand}
 use Rattle.souper_graph.specs.declared.ast.operands.Operand.TheVariants.{Value, Constant as constant_variant}
-use Rattle.souper_graph.specs.Values.{PlainAttribute, known_bits, power_of_two, negative, non_negative, non_zero, has_external_uses, sign_bits, range, PlainRootAttribute, demanded_bits, harvested_from_use, PlainRhs, var, block, phi, reserved_inst, reserved_const, instruction, PlainAssignment, PlainStatement, assigned, condition, block_condition, PlainInfer, PlainCand, Ending, inferred, resulting, replaced, candidate, Item}
+use Rattle.souper_graph.specs.Values.{PlainAttribute, known_bits, power_of_two, negative, non_negative, non_zero, has_external_uses, sign_bits, range, PlainRootAttribute, demanded_bits, harvested_from_use, PlainRhs, var, block, phi, reserved_inst, reserved_const, instruction, PlainStatement, assigned, condition, block_condition, PlainInfer, PlainCand, Ending, inferred, resulting, replaced, candidate, Item}
 use Rattle.souper_graph.specs.Instructions.{operands_of}
 use Rattle.souper_graph.specs.Names.{IsName}
-use Rattle.souper_graph.specs.Uses.{Has, Use, value_use, block_use, uses_of_operand, uses_of_operands, uses_of_rhs, uses_of, roots_of}
-use Rattle.souper_graph.specs.Faults.{IsMet, AreMet}
-use Rattle.souper_graph.specs.WellFormed.{FitsType, FitsOptionalType, FitsConstant, FitsOperand, FitsRhs, FitsAttribute, FitsRootAttribute, FitsAssignment, FitsStatement, AgreesRhs, AgreesWithBlock, Closed, FitsInfer, FitsCand, FitsEnding, WellFormed}
+use Rattle.souper_graph.specs.Uses.{Use, value_use, block_use, uses_of_operand, uses_of_operands, uses_of_rhs, uses_of, roots_of}
+use Rattle.souper_graph.specs.Faults.{AreMet}
+use Rattle.souper_graph.specs.WellFormed.{FitsOptionalType, FitsConstant, FitsOperand, FitsRhs, FitsAttribute, FitsRootAttribute, FitsAssignment, FitsStatement, AgreesRhs, AgreesWithBlock, Closed, FitsInfer, FitsEnding, WellFormed}
 use Rattle.souper_ir.specs.Tokens.{Lexeme, val_name, spelling, IsLexeme, Begins}
-use Rattle.souper_ir.specs.Spelling.{kinds, Scope, position_of, type_spells, optional_type_spells, constant_spells, operand_spells, further_spells, operands_spells, pair_spells, rhs_spells, attribute_spells, root_attribute_spells, attributes_spell, root_attributes_spell, statement_spells, infer_spells, cand_spells, Statements, ItemType, left_hand_side, right_hand_side, replacement, tail_spells, item_spells, list_spells, TextSpells}
+use Rattle.souper_ir.specs.Spelling.{kinds, Scope, position_of, optional_type_spells, constant_spells, operand_spells, further_spells, operands_spells, pair_spells, rhs_spells, attribute_spells, root_attribute_spells, attributes_spell, root_attributes_spell, statement_spells, infer_spells, cand_spells, Statements, ItemType, left_hand_side, right_hand_side, replacement, tail_spells, item_spells, list_spells, TextSpells}
 use Rattle.souper_ir.proofs.Limits.{number_fits, count_fits, width_fits}
 use Rattle.souper_ir.proofs.Scopes.{Named, nothing_named, named_push, named_pass, get_push, AllReach, none_reach, both_reach, one_reaches, value_reaches, block_reaches, met_kept, closed_kept}
 

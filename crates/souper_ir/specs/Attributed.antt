@@ -1,7 +1,7 @@
 -- A node with attributes behind it: which tokens are its two parts, and what parsing one and then the other gives.
-use Rattle.std.proofs.Common.{◌≡◌, Bool, true, List, [], ◌∷◌, ◌++◌, Option, None, refl, sym, subst, ◌⊎◌, inl, inr}
+use Rattle.std.proofs.Common.{◌≡◌, true, List, [], ◌∷◌, ◌++◌, refl, sym, subst, ◌⊎◌, inl, inr}
 use Rattle.souper_ir.specs.declared.parse.error.ParseError.{ParseError}
-use Rattle.souper_ir.specs.Parsing.{Cause, Parsing}
+use Rattle.souper_ir.specs.Parsing.{Parsing}
 use Rattle.souper_ir.specs.Tokens.{Lexeme, open_paren}
 use Rattle.souper_ir.specs.Spelling.{Scope}
 use Rattle.souper_ir.specs.Continuation.{attributes_continue}
@@ -62,10 +62,9 @@ pub record Laws {A X C : Type 0} (spells_a : Scope → A → List Lexeme → Typ
   pub refused_behind : (a : A) (e : ParseError) (p q r : Parsing) → Took spells_a goes_on_a (λ s. s) a p q → Refusal (Row spells_x) OneMore e q r → Refusal spells_c goes_on_c e p r
 
 module _ {A X C : Type 0} (spells_a : Scope → A → List Lexeme → Type 0) (goes_on_a : A → Lexeme → Type 0) (spells_x : X → List Lexeme → Type 0) (a_of : C → A) (xs_of : C → List X)
-  (alone_a : (s : Scope) (v w : A) (a b c d : List Lexeme) → a ++ c ≡ b ++ d → spells_a s v a → spells_a s w b → Free (goes_on_a v) c → Free (goes_on_a w) d → (a ≡ b) × (v ≡ w))
-  (alone_x : (v w : X) (a b c d : List Lexeme) → a ++ c ≡ b ++ d → spells_x v a → spells_x w b → Free (λ t. ⊥) c → Free (λ t. ⊥) d → (a ≡ b) × (v ≡ w))
-  (first_x : (x : X) (ts : List Lexeme) → spells_x x ts → Starts (is_mark open_paren) ts) where
-
+    (alone_a : (s : Scope) (v w : A) (a b c d : List Lexeme) → a ++ c ≡ b ++ d → spells_a s v a → spells_a s w b → Free (goes_on_a v) c → Free (goes_on_a w) d → (a ≡ b) × (v ≡ w))
+    (alone_x : (v w : X) (a b c d : List Lexeme) → a ++ c ≡ b ++ d → spells_x v a → spells_x w b → Free (λ t. ⊥) c → Free (λ t. ⊥) d → (a ≡ b) × (v ≡ w))
+    (first_x : (x : X) (ts : List Lexeme) → spells_x x ts → Starts (is_mark open_paren) ts) where
   abbrev Continues : C → Lexeme → Type 0
   Continues c t = attributes_continue (goes_on_a (a_of c) t) (xs_of c) t
 
@@ -89,8 +88,8 @@ module _ {A X C : Type 0} (spells_a : Scope → A → List Lexeme → Type 0) (g
       → Laws spells_a goes_on_a spells_x a_of xs_of spells_c (λ c t. attributes_continue (goes_on_a (a_of c) t) (xs_of c) t)
   laws spells_c parted joined same = record {
     alone = λ s v w a b c d e m n f g.
-      let k = both_alone spells_a goes_on_a (Row spells_x) OneMore Continues a_of xs_of last over alone_a rows_alone s v w a b c d e (parted s v a m) (parted s w b n) f g in
-      (k.0, same v w k.1 k.2);
+        let k = both_alone spells_a goes_on_a (Row spells_x) OneMore Continues a_of xs_of last over alone_a rows_alone s v w a b c d e (parted s v a m) (parted s w b n) f g in
+        (k.0, same v w k.1 k.2);
     taken = λ c p q r m n. respelled_taken Parts spells_c Continues (λ s. s) c p r (λ s ts. joined s c ts) (both_taken spells_a goes_on_a (Row spells_x) OneMore Continues a_of xs_of last over alone_a only c p q r m n);
     refused_before = λ e p q h. respelled_refused Parts spells_c Continues e p q parted (refused_first spells_a goes_on_a (Row spells_x) OneMore Continues a_of xs_of last over alone_a e p q h);
     refused_behind = λ a e p q r m h. respelled_refused Parts spells_c Continues e p r parted (refused_second spells_a goes_on_a (Row spells_x) OneMore Continues a_of xs_of last over alone_a a e p q r m h);

@@ -1,5 +1,5 @@
 -- Items: what the statements' loop keeps, and that nothing is spelled where it is stuck.
-use Rattle.std.proofs.Common.{◌≡◌, ◌⊎◌, ℕ, ◌<◌, Bool, true, false, List, [], ◌∷◌, ◌++◌, length, Option, Some, None, refl, sym, ◌∙◌, ap, subst, inl, inr, append_assoc, arith}
+use Rattle.std.proofs.Common.{◌≡◌, ℕ, ◌<◌, Bool, true, false, List, [], ◌∷◌, ◌++◌, length, None, refl, sym, ◌∙◌, ap, subst, inl, inr, append_assoc, arith}
 use Rattle.std.specs.Prelude.{codes}
 use Rattle.std.proofs.lemmas.List.{append-nil, append_cancel_left, length-append}
 use Rattle.souper_graph.specs.declared.ast.operands.Operand.{Operand}
@@ -7,18 +7,17 @@ use Rattle.souper_graph.specs.Values.{PlainStatement, PlainInfer, PlainCand, End
 use Rattle.souper_ir.specs.declared.parse.error.ParseError.{ParseError}
 use Rattle.souper_ir.specs.Tokens.{Lexeme, ident}
 use Rattle.souper_ir.specs.Spelling.{kinds, Scope, statement_spells, infer_spells, cand_spells, result_spells, Statements, ItemType, left_hand_side, right_hand_side, replacement, Tail, tail_spells, item_spells_after}
-use Rattle.souper_ir.specs.Continuation.{statement_continues, infer_continues, result_continues, cand_continues, item_continues}
+use Rattle.souper_ir.specs.Continuation.{statement_continues, infer_continues, result_continues, item_continues}
 use Rattle.souper_ir.specs.Parsing.{Parsing}
-use Rattle.souper_ir.specs.Reading.{cause_of, IfRefused, if_refused, IsRead, Fails, FailsForMemory, fails_later}
-use Rattle.souper_ir.specs.Grammar.{Free, Stops, Starts, Took, NoFront, NoFrontOf, LastGoesOn, Refusal, peek_at}
+use Rattle.souper_ir.specs.Reading.{cause_of, IfRefused, if_refused, IsRead, Fails, fails_later}
+use Rattle.souper_ir.specs.Grammar.{Free, Stops, Starts, NoFront, LastGoesOn, Refusal, peek_at}
 use Rattle.souper_ir.specs.Unique.{Free-weaker, Free-from_Stops}
 use Rattle.souper_ir.specs.NodeReadings.{starts_statement, is_word}
 use Rattle.souper_ir.specs.Peeks.{peeked, peeked_yes, peeked_no, unread}
 use Rattle.souper_ir.specs.Steps.{kinds-append}
-use Rattle.souper_ir.specs.Readings.{of_memory}
 use Rattle.souper_ir.specs.OperandLaws.{never}
 use Rattle.souper_ir.specs.StatementLaws.{statement_first, statement_alone, statement_ends, starts_begins, infer_first, infer_alone, infer_ends, cand_alone, result_alone}
-use Rattle.souper_ir.specs.Items.{EndsStatements, Opens, tail_continues, Entered, Stated, AllStated, NoStatement, NoMore, StuckAt, StatedRefusal}
+use Rattle.souper_ir.specs.Items.{Opens, tail_continues, Entered, Stated, AllStated, NoStatement, NoMore, StuckAt, StatedRefusal}
 
 -- ---- statements
 
@@ -312,9 +311,9 @@ replaced_alone s new more i j r q a b c d e m n f g =
     let result = result_alone (s ++ new) r q m.2 n.2 c d last m.6 n_result f g in (
       m.3 ∙ ap (λ (x : List Lexeme). x ++ (m.1 ++ m.2)) root.0 ∙ ap (λ (x : List Lexeme). n.0 ++ (x ++ m.2)) stated.0 ∙ ap (λ (x : List Lexeme). n.0 ++ (n.1 ++ x)) result.0 ∙ sym n.3,
       let first : ◌≡◌ {A = Tail} (new, replaced i r) (more, replaced i r) = ap (λ (x : List PlainStatement). (x, replaced i r)) stated.1 in
-      let second : ◌≡◌ {A = Tail} (more, replaced i r) (more, replaced j r) = ap (λ (x : PlainInfer). (more, replaced x r)) root.1 in
-      let third : ◌≡◌ {A = Tail} (more, replaced j r) (more, replaced j q) = ap (λ (x : Operand). (more, replaced j x)) result.1 in
-      first ∙ second ∙ third,
+          let second : ◌≡◌ {A = Tail} (more, replaced i r) (more, replaced j r) = ap (λ (x : PlainInfer). (more, replaced x r)) root.1 in
+          let third : ◌≡◌ {A = Tail} (more, replaced j r) (more, replaced j q) = ap (λ (x : Operand). (more, replaced j x)) result.1 in
+          first ∙ second ∙ third,
     )
 
 -- with no further statements the last line alone counts

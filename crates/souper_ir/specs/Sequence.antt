@@ -22,11 +22,10 @@ pub record Split {A B : Type 0} (spells_a : Scope → A → List Lexeme → Type
 
 -- C has a part A and a part B. What goes on with C goes on with its B, or with its A where its B is empty.
 module _ {A B C : Type 0} (spells_a : Scope → A → List Lexeme → Type 0) (goes_on_a : A → Lexeme → Type 0) (spells_b : Scope → B → List Lexeme → Type 0) (goes_on_b : B → Lexeme → Type 0) (goes_on_c : C → Lexeme → Type 0)
-  (a_of : C → A) (b_of : C → B)
-  (last : (c : C) (t : Lexeme) → goes_on_b (b_of c) t → goes_on_c c t)
-  (over : (s : Scope) (c : C) (t : Lexeme) → spells_b s (b_of c) [] → goes_on_a (a_of c) t → goes_on_c c t)
-  (alone_a : (s : Scope) (v w : A) (a b c d : List Lexeme) → a ++ c ≡ b ++ d → spells_a s v a → spells_a s w b → Free (goes_on_a v) c → Free (goes_on_a w) d → (a ≡ b) × (v ≡ w)) where
-
+    (a_of : C → A) (b_of : C → B)
+    (last : (c : C) (t : Lexeme) → goes_on_b (b_of c) t → goes_on_c c t)
+    (over : (s : Scope) (c : C) (t : Lexeme) → spells_b s (b_of c) [] → goes_on_a (a_of c) t → goes_on_c c t)
+    (alone_a : (s : Scope) (v w : A) (a b c d : List Lexeme) → a ++ c ≡ b ++ d → spells_a s v a → spells_a s w b → Free (goes_on_a v) c → Free (goes_on_a w) d → (a ≡ b) × (v ≡ w)) where
   abbrev pub Both : Scope → C → List Lexeme → Type 0
   Both s c ts = Split spells_a goes_on_a spells_b s (a_of c) (b_of c) ts
 
@@ -77,7 +76,7 @@ module _ {A B C : Type 0} (spells_a : Scope → A → List Lexeme → Type 0) (g
       let ahead : kinds p.tokens ≡ kinds took.used ++ kinds q.tokens = ap kinds took.parts ∙ kinds-append took.used q.tokens in
       let whole : kinds took.used ++ kinds q.tokens ≡ sp.front ++ (sp.back ++ rest) = sym ahead ∙ e ∙ regroup front sp.front sp.back rest sp.parts in
       let here = alone_a p.scope a (a_of c) (kinds took.used) sp.front (kinds q.tokens) (sp.back ++ rest) whole took.spelled sp.first took.free
-        (Free-from_Stops (goes_on_a (a_of c)) p.faulty (sp.back ++ rest) (stops_over p.faulty p.scope c sp.back rest sp.second sp.free st)) in
+      (Free-from_Stops (goes_on_a (a_of c)) p.faulty (sp.back ++ rest) (stops_over p.faulty p.scope c sp.back rest sp.second sp.free st)) in
       let tail : kinds q.tokens ≡ sp.back ++ rest = append_cancel_left sp.front (kinds q.tokens) (sp.back ++ rest) (ap (λ (x : List Lexeme). x ++ kinds q.tokens) (sym here.0) ∙ whole) in
       let at_q : spells_b q.scope (b_of c) sp.back = subst (λ (x : Parsing). spells_b x.scope (b_of c) sp.back) (sym took.state) sp.second in
       none (b_of c) sp.back rest tail at_q (subst (λ (x : Parsing). Stops (goes_on_b (b_of c)) x.faulty rest) (sym took.state) (stops_last p.faulty c rest st))

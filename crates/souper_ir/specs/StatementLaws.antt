@@ -5,14 +5,13 @@ use Rattle.std.proofs.lemmas.Bool.Decides.{Decides-ltb}
 use Rattle.souper_graph.specs.declared.ast.operands.«Type».{«Type» as Ty}
 use Rattle.souper_graph.specs.declared.ast.operands.Operand.{Operand}
 use Rattle.souper_graph.specs.declared.ast.operands.Operand.TheVariants.{Value, Constant as constant_variant}
-use Rattle.souper_graph.specs.declared.ast.instructions.Instruction.{Instruction}
 use Rattle.souper_graph.specs.declared.ast.statements.Pc.{Pc}
 use Rattle.souper_graph.specs.declared.ast.statements.BlockPc.{BlockPc}
 use Rattle.souper_graph.specs.Instructions.{operands_of}
 use Rattle.souper_graph.specs.Values.{PlainAttribute, PlainRootAttribute, PlainRhs, var, block, phi, reserved_inst, reserved_const, instruction, PlainAssignment, PlainStatement, assigned, condition, block_condition, PlainInfer, PlainCand}
 use Rattle.souper_ir.specs.Tokens.{Lexeme, ident, val_name, int, comma, colon, equals, open_paren}
 use Rattle.souper_ir.specs.Numbers.{count_of}
-use Rattle.souper_ir.specs.Spelling.{kinds, Scope, entry_of, position_of, optional_type_spells, operand_spells, pair_spells, rhs_spells, attribute_spells, root_attribute_spells, attributes_spell, root_attributes_spell, assignment_spells, pc_spells, block_pc_spells, statement_spells, infer_spells, IsOptionalComma, cand_spells, result_spells}
+use Rattle.souper_ir.specs.Spelling.{kinds, Scope, entry_of, position_of, optional_type_spells, operand_spells, pair_spells, rhs_spells, attribute_spells, root_attribute_spells, assignment_spells, pc_spells, block_pc_spells, statement_spells, infer_spells, IsOptionalComma, cand_spells, result_spells}
 use Rattle.souper_ir.specs.Continuation.{optional_type_continues, operand_continues, operands_continue, rhs_continues, attributes_continue, assignment_continues, pc_continues, block_pc_continues, statement_continues, infer_continues, cand_continues, result_continues}
 use Rattle.souper_ir.specs.Parsing.{Parsing}
 use Rattle.souper_ir.specs.Optional.{◌>>=◌}
@@ -21,7 +20,7 @@ use Rattle.souper_ir.specs.NodeReadings.{accept, name_of, is_name, mark_of, is_m
 use Rattle.souper_ir.specs.Peeks.{some_is, peeked}
 use Rattle.souper_ir.specs.Steps.{Takes, Takes-then, Takes-none, At, bind_some, accepted, accepts, peeks}
 use Rattle.souper_ir.specs.Readings.{Sound, Complete, one_alone}
-use Rattle.souper_ir.specs.OperandLaws.{name_means, mark_means, is_word_means, word_means, word_is, word_of_is, int_means, never, moved, WasRead, scope_is, live_still, state_then, same_scope, same_fault, optional_type_stops, optional_type_sound, optional_type_complete, operand_sound, operand_complete, operand_stops, operand_over, pair_sound, pair_complete}
+use Rattle.souper_ir.specs.OperandLaws.{name_means, mark_means, is_word_means, word_means, word_is, word_of_is, int_means, never, moved, WasRead, scope_is, state_then, same_scope, same_fault, optional_type_stops, optional_type_sound, optional_type_complete, operand_sound, operand_complete, operand_stops, operand_over, pair_sound, pair_complete}
 use Rattle.souper_ir.specs.RhsLaws.{block_name_sound, block_name_complete, rhs_sound, rhs_complete}
 use Rattle.souper_ir.specs.AttributeLaws.{attribute_complete, attribute_first, root_attribute_complete, root_attribute_first, attributes_are_members, members_are_attributes, root_attributes_are_members, members_are_root_attributes}
 use Rattle.souper_ir.specs.Sequence.{Split}
@@ -70,7 +69,7 @@ definition_sound p q d e =
     let free_name : position_of p.scope n.0.0 ≡ None = subst (λ (z : Scope). position_of z n.0.0 ≡ None) first (fresh_means (position_of n.0.1.scope n.0.0) f.0 f.1) in
     let value : rhs_spells p.scope r.0.0 r2.0 = subst (λ (z : Scope). rhs_spells z r.0.0 r2.0) same r2.2 in
     moved (WasRead definition_spells definition_continues p) (record { name = n.0.0; ty = t.0.0; value = r.0.0 }, r.0.1) (d, q) r.2
-      (n2.0 ∷ (t2.0 ++ k2.0 ∷ r2.0), whole, (t2.0, r2.0, definition_tokens n2.0 k2.0 n.0.0 t2.0 r2.0 (name_means n2.0 n.0.0 n2.2) (mark_means equals k2.0 k2.2), free_name, t2.2, value), r2.3)
+    (n2.0 ∷ (t2.0 ++ k2.0 ∷ r2.0), whole, (t2.0, r2.0, definition_tokens n2.0 k2.0 n.0.0 t2.0 r2.0 (name_means n2.0 n.0.0 n2.2) (mark_means equals k2.0 k2.2), free_name, t2.2, value), r2.3)
 
 definition_is : (p n t k q : Parsing) (d : Definition) → accept name_of p ≡ Some (d.name, n) → fresh (position_of n.scope d.name) ≡ Some tt → optional_type_at n ≡ Some (d.ty, t) → accept (mark_of equals) t ≡ Some (tt, k) → rhs_at k ≡ Some (d.value, q)
     → definition_at p ≡ Some (d, q)
@@ -80,7 +79,7 @@ definition_is p n t k q d a b c e f = rw (a, b, c, e, f) refl
 pub definition_complete : Complete definition_spells definition_continues definition_at
 definition_complete p d front rest at s st =
     let ahead : At p (val_name d.name ∷ (s.0 ++ equals ∷ (s.1 ++ rest))) =
-      subst (At p) (ap (λ (z : List Lexeme). z ++ rest) s.2 ∙ ap (λ (z : List Lexeme). val_name d.name ∷ z) (append_assoc s.0 (equals ∷ s.1) rest)) at in
+    subst (At p) (ap (λ (z : List Lexeme). z ++ rest) s.2 ∙ ap (λ (z : List Lexeme). val_name d.name ∷ z) (append_assoc s.0 (equals ∷ s.1) rest)) at in
     let n = accepts name_of p (val_name d.name) d.name (s.0 ++ equals ∷ (s.1 ++ rest)) ahead refl in
     let unknown : position_of n.0.scope d.name ≡ None = subst (λ (z : Scope). position_of z d.name ≡ None) (sym (same_scope p n.0 n.3)) s.3 in
     let t = optional_type_complete n.0 d.ty s.0 (equals ∷ (s.1 ++ rest)) n.2 s.4 (optional_type_stops d.ty equals (λ e. cc)) in
@@ -106,7 +105,7 @@ pc_sound p q v e =
     let j = pair_sound k.0.1 x.0.1 y.0.1 x.0.0 y.0.0 x.1 y.1 in
     let pair : pair_spells p.scope x.0.0 y.0.0 j.0 = subst (λ (z : Scope). pair_spells z x.0.0 y.0.0 j.0) (scope_is p k.0.1 (k2.0 ∷ []) k2.1) j.2 in
     moved (WasRead pc_spells pc_continues p) (record { x = x.0.0; y = y.0.0 }, y.0.1) (v, q) y.2
-      (k2.0 ∷ j.0, Takes-then p k.0.1 y.0.1 (k2.0 ∷ []) j.0 k2.1 j.1, (j.0, ap (λ (t : Lexeme). t ∷ j.0) (word_means (codes "pc") k2.0 k2.2), pair), j.3)
+    (k2.0 ∷ j.0, Takes-then p k.0.1 y.0.1 (k2.0 ∷ []) j.0 k2.1 j.1, (j.0, ap (λ (t : Lexeme). t ∷ j.0) (word_means (codes "pc") k2.0 k2.2), pair), j.3)
 
 pc_is : (p k x q : Parsing) (v : Pc) → accept (word_of (codes "pc")) p ≡ Some (tt, k) → operand_at k ≡ Some (v.x, x) → operand_at x ≡ Some (v.y, q) → pc_at p ≡ Some (v, q)
 unfolding pc_at
@@ -168,7 +167,7 @@ block_pc_sound p q v e =
     let number : count_of (2 ^ 32) m.0 ≡ Some w.0 = subst (λ (z : ℕ). count_of (2 ^ 32) m.0 ≡ Some z) way.1 m.2 in
     let within : w.0 < b.0.0.1 = subst (λ (z : ℕ). z < b.0.0.1) way.1 way.0 in
     moved (WasRead block_pc_spells block_pc_continues p) (record { block = b.0.0.0; predecessor = w.0; x = x.0.0; y = y.0.0 }, y.0.1) (v, q) y.2
-      (k2.0 ∷ val_name b2.0 ∷ n2.0 ∷ j.0, whole, (b2.0, m.0, b.0.0.1, j.0, block_pc_tokens k2.0 n2.0 b2.0 m.0 j.0 (word_means (codes "blockpc") k2.0 k2.2) m.1, found, number, within, pair), j.3)
+    (k2.0 ∷ val_name b2.0 ∷ n2.0 ∷ j.0, whole, (b2.0, m.0, b.0.0.1, j.0, block_pc_tokens k2.0 n2.0 b2.0 m.0 j.0 (word_means (codes "blockpc") k2.0 k2.2) m.1, found, number, within, pair), j.3)
 
 block_pc_is : (p k b n x q : Parsing) (ways : ℕ) (v : BlockPc) → accept (word_of (codes "blockpc")) p ≡ Some (tt, k) → block_name_at k ≡ Some ((v.block, ways), b) → accept (int_by (count_of (2 ^ 32))) b ≡ Some (v.predecessor, n) → way_of ways v.predecessor ≡ Some v.predecessor
     → operand_at n ≡ Some (v.x, x) → operand_at x ≡ Some (v.y, q) → block_pc_at p ≡ Some (v, q)
@@ -213,7 +212,7 @@ root_sound p q v e =
     let whole : Takes p n.0.1 (k2.0 ∷ n2.0 ∷ []) = Takes-then p k.0.1 n.0.1 (k2.0 ∷ []) (n2.0 ∷ []) k2.1 n2.1 in
     let found : position_of p.scope n.0.0 ≡ Some i.0 = subst (λ (z : Scope). position_of z n.0.0 ≡ Some i.0) (scope_is p n.0.1 (k2.0 ∷ n2.0 ∷ []) whole) i.1 in
     moved (WasRead root_spells (λ i t. ⊥) p) (i.0, n.0.1) (v, q) i.2
-      (k2.0 ∷ n2.0 ∷ [], whole, (n.0.0, root_tokens k2.0 n2.0 n.0.0 (word_means (codes "infer") k2.0 k2.2) (name_means n2.0 n.0.0 n2.2), found), never (kinds n.0.1.tokens))
+    (k2.0 ∷ n2.0 ∷ [], whole, (n.0.0, root_tokens k2.0 n2.0 n.0.0 (word_means (codes "infer") k2.0 k2.2) (name_means n2.0 n.0.0 n2.2), found), never (kinds n.0.1.tokens))
 
 pub root_complete : Complete root_spells (λ i t. ⊥) root_at
 unfolding root_at
@@ -302,7 +301,7 @@ pair_line_sound p q v e =
     let lhs : operand_spells p.scope x.0.0 x2.0 = subst (λ (z : Scope). operand_spells z x.0.0 x2.0) first x2.2 in
     let rhs : operand_spells p.scope y.0.0 y2.0 = subst (λ (z : Scope). operand_spells z y.0.0 y2.0) same y2.2 in
     moved (WasRead pair_line_spells pair_line_continues p) ((x.0.0, y.0.0), y.0.1) (v, q) y.2
-      (k2.0 ∷ (x2.0 ++ (c2.0 ++ y2.0)), whole, (x2.0, c2.0, y2.0, ap (λ (t : Lexeme). t ∷ (x2.0 ++ (c2.0 ++ y2.0))) (word_means (codes "cand") k2.0 k2.2), lhs, c2.2, rhs), y2.3)
+    (k2.0 ∷ (x2.0 ++ (c2.0 ++ y2.0)), whole, (x2.0, c2.0, y2.0, ap (λ (t : Lexeme). t ∷ (x2.0 ++ (c2.0 ++ y2.0))) (word_means (codes "cand") k2.0 k2.2), lhs, c2.2, rhs), y2.3)
 
 pair_is : (p k x c q : Parsing) (v : Operand × Operand) → accept (word_of (codes "cand")) p ≡ Some (tt, k) → operand_at k ≡ Some (v.0, x) → optional_comma_at x ≡ Some (tt, c) → operand_at c ≡ Some (v.1, q) → pair_at p ≡ Some (v, q)
 unfolding pair_at
@@ -311,7 +310,7 @@ pair_is p k x c q v d e f g = rw (d, e, f, g) refl
 pub pair_line_complete : Complete pair_line_spells pair_line_continues pair_at
 pair_line_complete p v front rest at s st =
     let ahead : At p (ident (codes "cand") ∷ (s.0 ++ (s.1 ++ (s.2 ++ rest)))) =
-      subst (At p) (ap (λ (z : List Lexeme). z ++ rest) s.3 ∙ ap (λ (z : List Lexeme). ident (codes "cand") ∷ z) (append_assoc s.0 (s.1 ++ s.2) rest ∙ ap (λ (z : List Lexeme). s.0 ++ z) (append_assoc s.1 s.2 rest))) at in
+    subst (At p) (ap (λ (z : List Lexeme). z ++ rest) s.3 ∙ ap (λ (z : List Lexeme). ident (codes "cand") ∷ z) (append_assoc s.0 (s.1 ++ s.2) rest ∙ ap (λ (z : List Lexeme). s.0 ++ z) (append_assoc s.1 s.2 rest))) at in
     let k = accepts (word_of (codes "cand")) p (ident (codes "cand")) tt (s.0 ++ (s.1 ++ (s.2 ++ rest))) ahead (word_of_is (codes "cand")) in
     let lhs : operand_spells k.0.scope v.0 s.0 = subst (λ (z : Scope). operand_spells z v.0 s.0) (sym (same_scope p k.0 k.3)) s.4 in
     let x = operand_complete k.0 v.0 s.0 (s.1 ++ (s.2 ++ rest)) k.2 lhs (comma_over p.scope v.0 v.1 k.0.faulty s.1 s.2 rest s.5 s.6) in
@@ -449,9 +448,16 @@ assignment_parts s a ts h =
     }
 
 pub parts_assignment : (s : Scope) (a : PlainAssignment) (ts : List Lexeme) → Split definition_spells definition_continues (Row attribute_spells) s (definition_of a) a.attributes ts → assignment_spells s a ts
-parts_assignment s a ts h =
-    (h.first.0, h.first.1, h.back, h.parts ∙ ap (λ (z : List Lexeme). z ++ h.back) h.first.2 ∙ ap (λ (z : List Lexeme). val_name a.name ∷ z) (append_assoc h.first.0 (equals ∷ h.first.1) h.back),
-    h.first.3, h.first.4, h.first.5, members_are_attributes a.attributes h.back h.second)
+parts_assignment s a ts h = (
+  h.first.0,
+  h.first.1,
+  h.back,
+  h.parts ∙ ap (λ (z : List Lexeme). z ++ h.back) h.first.2 ∙ ap (λ (z : List Lexeme). val_name a.name ∷ z) (append_assoc h.first.0 (equals ∷ h.first.1) h.back),
+  h.first.3,
+  h.first.4,
+  h.first.5,
+  members_are_attributes a.attributes h.back h.second,
+)
 
 assignment_same : (v w : PlainAssignment) → definition_of v ≡ definition_of w → v.attributes ≡ w.attributes → v ≡ w
 assignment_same v w d e =

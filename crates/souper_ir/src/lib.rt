@@ -3,6 +3,6 @@
 
 pub use souper_graph::{ast, stringify};
 
-mod lexer;
 pub mod laws;
+mod lexer;
 pub mod parse;

@@ -13,7 +13,7 @@ ghost use Rattle.souper_ir.specs.StatementLaws.{infer_alone, infer_first, cand_a
 use crate::parse::message::Message;
 use crate::parse::operands::operand;
 use crate::parse::parser::{Parser, Result};
-use crate::parse::tokens::{keyword, mark_comes, punctuation, value_name, word_comes, Mark};
+use crate::parse::tokens::{Mark, keyword, mark_comes, punctuation, value_name, word_comes};
 use crate::parse::traits::{Parse, Peek};
 use souper_graph::ast::{Cand, Infer, Operand, RootAttribute, ValueId};
 

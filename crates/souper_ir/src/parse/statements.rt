@@ -19,7 +19,7 @@ use crate::parse::operands::{operand, optional_type};
 use crate::parse::parser::{Parser, Result};
 use crate::parse::rhs::{block_name, rhs};
 use crate::parse::tokens::{
-    keyword, punctuation, value_name, value_name_comes, way_count, word_comes, Mark,
+    Mark, keyword, punctuation, value_name, value_name_comes, way_count, word_comes,
 };
 use crate::parse::traits::{Parse, Peek};
 use souper_graph::ast::{Assignment, AssignmentRhs, Attribute, BlockPc, Pc, Statement, Type};
