@@ -6,18 +6,18 @@ use Rattle.souper_graph.specs.declared.ast.operands.Operand.{Operand}
 use Rattle.souper_graph.specs.Values.{PlainStatement, PlainInfer, PlainCand, Ending, inferred, resulting, replaced, candidate, Item}
 use Rattle.souper_ir.specs.declared.parse.error.ParseError.{ParseError}
 use Rattle.souper_ir.specs.Tokens.{Lexeme}
-use Rattle.souper_ir.specs.Spelling.{kinds, Scope, infer_spells, cand_spells, result_spells, Statements, ItemType, left_hand_side, right_hand_side, replacement, Tail, tail_spells, item_spells_after}
-use Rattle.souper_ir.specs.Continuation.{infer_continues, cand_continues, result_continues, item_continues}
+use Rattle.souper_ir.specs.Spelling.{kinds, Scope, statement_spells, infer_spells, cand_spells, result_spells, Statements, ItemType, left_hand_side, right_hand_side, replacement, Tail, tail_spells, item_spells_after}
+use Rattle.souper_ir.specs.Continuation.{statement_continues, infer_continues, cand_continues, result_continues, item_continues}
 use Rattle.souper_ir.specs.Parsing.{Parsing}
-use Rattle.souper_ir.specs.Reading.{cause_of, if_refused, IsRead, fails_later}
+use Rattle.souper_ir.specs.Reading.{cause_of, IfRefused, if_refused, IsRead, Fails, fails_later}
 use Rattle.souper_ir.specs.Grammar.{Free, Stops, Starts, Took, NoFront, Refusal, peek_at}
 use Rattle.souper_ir.specs.Unique.{Free-from_Stops}
 use Rattle.souper_ir.specs.NodeReadings.{is_word}
-use Rattle.souper_ir.specs.Peeks.{peeked, peeked_yes, peeked_no}
+use Rattle.souper_ir.specs.Peeks.{peeked, peeked_yes, peeked_no, none_if_unread}
 use Rattle.souper_ir.specs.Steps.{kinds-append}
-use Rattle.souper_ir.specs.PendingLaws.{infer_alone}
-use Rattle.souper_ir.specs.Items.{tail_continues, Stated, AllStated, NoStatement, NoMore, StuckAt, StatedRefusal}
-use Rattle.souper_ir.specs.ItemLaws.{free_clash, split, infer_begins, cand_is_no_infer, starts_ahead, replaced_begins, infer_over, result_opens, tail_opens, no_item, weaker, stuck_tail, failed_same, len_same}
+use Rattle.souper_ir.specs.StatementLaws.{infer_first, infer_alone}
+use Rattle.souper_ir.specs.Items.{tail_continues, Entered, Enters, Stated, AllStated, NoStatement, NoMore, StuckAt, StatedRefusal}
+use Rattle.souper_ir.specs.ItemLaws.{free_clash, split, cand_is_no_infer, starts_ahead, replaced_begins, infer_over, result_opens, tail_opens, no_item, weaker, stuck_tail, failed_same, len_same}
 
 abbrev TookInfer : PlainInfer → Parsing → Parsing → Type 0
 TookInfer i p q = Took infer_spells infer_continues (λ s. s) i p q
@@ -26,7 +26,7 @@ TookInfer i p q = Took infer_spells infer_continues (λ s. s) i p q
 abbrev pub TookTail : ItemType → Tail → Parsing → Parsing → Type 0
 TookTail k y p q = Took (tail_spells k) tail_continues (λ s. s ++ y.0) y p q
 
-abbrev TailRefusal : ItemType → ParseError → Parsing → Parsing → Type 0
+abbrev pub TailRefusal : ItemType → ParseError → Parsing → Parsing → Type 0
 TailRefusal k e p q = Refusal (tail_spells k) tail_continues e p q
 
 -- ---- items
@@ -96,8 +96,12 @@ result_tail_refused e p q h = record { failed = h.failed; nothing = if_refused (
 
 -- ---- a cand line
 
-abbrev SeesInfer : Bool → Parsing → Parsing → Type 0
+abbrev pub SeesInfer : Bool → Parsing → Parsing → Type 0
 SeesInfer b p h = IsRead (peek_at (is_word (codes "infer")) p) b p h
+
+-- a parser at a fault
+pub look_refused : (e : ParseError) (p q : Parsing) → IfRefused (cause_of e) (peek_at (is_word (codes "infer")) p ≡ None) × Fails e p q → TailRefusal replacement e p q
+look_refused e p q h = record { failed = h.1; nothing = none_if_unread (tail_spells replacement) tail_continues (is_word (codes "infer")) p (cause_of e) h.0 }
 
 pub cand_tail : (c : PlainCand) (p h q : Parsing) → SeesInfer false p h → Took cand_spells cand_continues (λ s. s) c h q → TookTail replacement ([], candidate c) p q
 cand_tail c p h q seen took =
@@ -147,7 +151,7 @@ none_behind p q j took stuck = none
     parts = ap kinds took.parts ∙ kinds-append took.used q.tokens
 
     starts : Starts (is_word (codes "infer")) (kinds p.tokens)
-    starts = subst (λ (x : List Lexeme). Starts (is_word (codes "infer")) x) (sym parts) (starts_ahead (is_word (codes "infer")) (kinds took.used) (kinds q.tokens) (infer_begins p.scope j (kinds took.used) took.spelled))
+    starts = subst (λ (x : List Lexeme). Starts (is_word (codes "infer")) x) (sym parts) (starts_ahead (is_word (codes "infer")) (kinds took.used) (kinds q.tokens) (infer_first p.scope j (kinds took.used) took.spelled))
 
     none : NoFront (tail_spells replacement) tail_continues p
     none (new, inferred i) front rest eq sp st = sp
@@ -199,3 +203,18 @@ replaced_tail i new r p q m n root so last =
       state = last.state ∙ ap (λ (x : Parsing). record x { tokens = n.tokens }) so.stated.state ∙ ap (λ (x : Parsing). record x { tokens = n.tokens; scope = q.scope ++ new }) root.state
           ∙ ap (λ (x : Scope). record p { tokens = n.tokens; scope = x ++ new }) q_scope;
     }
+
+-- ---- one statement
+
+-- a statement was taken, and then entered
+pub entered : (v : PlainStatement) (p q r : Parsing) → Took statement_spells statement_continues (λ s. s) v p q → r ≡ record q { scope = q.scope ++ v ∷ [] } → Enters p r
+entered v p q r took e =
+    let whole : Entered v p (record q { scope = q.scope ++ v ∷ [] }) = record {
+      used = took.used;
+      parts = took.parts;
+      spelled = took.spelled;
+      free = took.free;
+      live = took.live;
+      state = ap (λ (x : Parsing). record x { scope = x.scope ++ v ∷ [] }) took.state;
+    } in
+    (v, subst (λ (x : Parsing). Entered v p x) (sym e) whole)

@@ -19,5 +19,7 @@ pub mod RightSides
 pub mod Limits
 pub mod Scopes
 pub mod WellFormedItems
-pub mod Statements
 pub mod ItemSteps
+pub mod ItemLists
+pub mod TextItems
+pub mod Statements

@@ -8,7 +8,7 @@ use Rattle.souper_graph.specs.Faults.{IsAssigned, IsBlockRhs, IsBlock, IsMet, Ar
 use Rattle.souper_graph.specs.WellFormed.{predecessors_of_rhs, predecessors_of, AgreesRhs, AgreesWithBlock, Closed}
 use Rattle.souper_ir.specs.Spelling.{Scope, ways_of, entry_from, entry_of, position_of}
 use Rattle.souper_ir.specs.Peeks.{some_is}
-use Rattle.souper_ir.proofs.Names.{entry_push, entry_pass, no_entry}
+use Rattle.souper_ir.proofs.Names.{Entry, or_else, entry_push, entry_pass, no_entry}
 
 -- ---- names
 
@@ -69,13 +69,16 @@ get_push (x ∷ ss) s t (suc p) e = deeper (get_push ss s t p e)
     deeper (inl h) = inl h
     deeper (inr h) = inr (ap suc h.0, h.1)
 
+or_some : (o : Option Entry) (e : Entry) (d : Option Entry) → o ≡ Some e → or_else o d ≡ Some e
+or_some o e d h = rw h refl
+
 pub named_push : (ss : Scope) (a : PlainAssignment) → Named ss → position_of ss a.name ≡ None → Named (ss ++ assigned a ∷ [])
 named_push ss a named fresh p v e = by_place (get_push ss (assigned a) (assigned v) p e)
   where
     by_place : (slice_get ss p ≡ Some (assigned v)) ⊎ ((p ≡ length ss) × (assigned a ≡ assigned v)) → position_of (ss ++ assigned a ∷ []) v.name ≡ Some p
     by_place (inl h) =
         let found = entry_at (entry_of ss v.name) p (named p v h) in
-        let still : entry_of (ss ++ assigned a ∷ []) v.name ≡ Some (p, found.0) = sym (entry_push 0 ss a v.name) ∙ rw found.1 refl in
+        let still : entry_of (ss ++ assigned a ∷ []) v.name ≡ Some (p, found.0) = sym (entry_push 0 ss a v.name) ∙ or_some (entry_of ss v.name) (p, found.0) (if bytes_eq a.name v.name then Some (0 + length ss, ways_of a.value) else None) found.1 in
         ap (λ (o : Option (ℕ × Option ℕ)). option_map (λ (e : ℕ × Option ℕ). e.0) o) still
     by_place (inr h) =
         let same : a.name ≡ v.name = (let e2 : a ≡ v = cc in ap (λ (x : PlainAssignment). x.name) e2) in

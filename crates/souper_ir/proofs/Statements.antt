@@ -18,10 +18,10 @@ use Rattle.souper_ir.specs.NodeReadings.{is_name, is_word, pc_at, block_pc_at}
 use Rattle.souper_ir.specs.Readings.{is_taken, is_refused}
 use Rattle.souper_ir.specs.StatementLaws.{assignment_first, pc_sound, pc_complete, pc_first, block_pc_sound, block_pc_complete, block_pc_first, name_no_word, pc_no_block_pc, two_starts}
 
-abbrev Refuses : ParseError → Parsing → Parsing → Type 0
+abbrev pub Refuses : ParseError → Parsing → Parsing → Type 0
 Refuses e p q = Refusal statement_spells statement_continues e p q
 
-abbrev Takes_it : PlainStatement → Parsing → Parsing → Type 0
+abbrev pub Takes_it : PlainStatement → Parsing → Parsing → Type 0
 Takes_it v p q = Took statement_spells statement_continues (λ s. s) v p q
 
 -- a parser at a fault, or that had failed

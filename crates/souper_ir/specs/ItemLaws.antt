@@ -3,14 +3,11 @@ use Rattle.std.proofs.Common.{◌≡◌, ◌⊎◌, ℕ, ◌<◌, Bool, true, fa
 use Rattle.std.specs.Prelude.{codes}
 use Rattle.std.proofs.lemmas.List.{append-nil, append_cancel_left, length-append}
 use Rattle.souper_graph.specs.declared.ast.operands.Operand.{Operand}
-use Rattle.souper_graph.specs.declared.ast.operands.Operand.TheVariants.{Value, Constant as constant_variant}
-use Rattle.souper_graph.specs.declared.ast.operands.Constant.{Constant}
-use Rattle.souper_graph.specs.Instructions.{operands_of}
-use Rattle.souper_graph.specs.Values.{PlainAttribute, PlainRootAttribute, PlainRhs, var, block, phi, reserved_inst, reserved_const, instruction, PlainStatement, assigned, condition, block_condition, PlainInfer, PlainCand, Ending, inferred, resulting, replaced, candidate, Item}
+use Rattle.souper_graph.specs.Values.{PlainStatement, PlainInfer, PlainCand, Ending, inferred, resulting, replaced, candidate, Item}
 use Rattle.souper_ir.specs.declared.parse.error.ParseError.{ParseError}
-use Rattle.souper_ir.specs.Tokens.{Lexeme, ident, colon, open_paren}
+use Rattle.souper_ir.specs.Tokens.{Lexeme, ident}
 use Rattle.souper_ir.specs.Spelling.{kinds, Scope, statement_spells, infer_spells, cand_spells, result_spells, Statements, ItemType, left_hand_side, right_hand_side, replacement, Tail, tail_spells, item_spells_after}
-use Rattle.souper_ir.specs.Continuation.{operand_continues, operands_continue, rhs_continues, attributes_continue, statement_continues, infer_continues, result_continues, cand_continues, item_continues}
+use Rattle.souper_ir.specs.Continuation.{statement_continues, infer_continues, result_continues, cand_continues, item_continues}
 use Rattle.souper_ir.specs.Parsing.{Parsing}
 use Rattle.souper_ir.specs.Reading.{cause_of, IfRefused, if_refused, IsRead, Fails, FailsForMemory, fails_later}
 use Rattle.souper_ir.specs.Grammar.{Free, Stops, Starts, Took, NoFront, NoFrontOf, LastGoesOn, Refusal, peek_at}
@@ -19,50 +16,15 @@ use Rattle.souper_ir.specs.NodeReadings.{starts_statement, is_word}
 use Rattle.souper_ir.specs.Peeks.{peeked, peeked_yes, peeked_no, unread}
 use Rattle.souper_ir.specs.Steps.{kinds-append}
 use Rattle.souper_ir.specs.Readings.{of_memory}
-use Rattle.souper_ir.specs.OperandLaws.{never, operand_stops, word_is}
-use Rattle.souper_ir.specs.StatementLaws.{result_alone}
-use Rattle.souper_ir.specs.PendingLaws.{statement_first, statement_alone, infer_alone, cand_alone}
+use Rattle.souper_ir.specs.OperandLaws.{never}
+use Rattle.souper_ir.specs.StatementLaws.{statement_first, statement_alone, statement_ends, starts_begins, infer_first, infer_alone, infer_ends, cand_alone, result_alone}
 use Rattle.souper_ir.specs.Items.{EndsStatements, Opens, tail_continues, Entered, Stated, AllStated, NoStatement, NoMore, StuckAt, StatedRefusal}
 
--- ---- what continues a statement
-
-attributes_stop : {A : Type 0} (before : Type 0) (xs : List A) (t : Lexeme) → ¬ (t ≡ open_paren) → ¬ before → ¬ attributes_continue before xs t
-attributes_stop before [] t no none (inl e) = no e
-attributes_stop before [] t no none (inr h) = none h
-attributes_stop before (x ∷ xs) t no none e = no e
-
-operands_stop : (xs : List Operand) (t : Lexeme) → ¬ (t ≡ colon) → ¬ operands_continue xs t
-operands_stop [] t no h = h
-operands_stop (x ∷ []) t no h = operand_stops x t no h
-operands_stop (x ∷ (y ∷ xs)) t no h = operands_stop (y ∷ xs) t no h
-
-rhs_stops : (v : PlainRhs) (t : Lexeme) → ¬ (t ≡ colon) → ¬ rhs_continues v t
-rhs_stops var t no h = h
-rhs_stops (block b) t no h = h
-rhs_stops (phi p) t no h = operands_stop p.values t no h
-rhs_stops reserved_inst t no h = h
-rhs_stops reserved_const t no h = h
-rhs_stops (instruction i) t no h = operands_stop (operands_of i) t no h
-
--- a colon or an open parenthesis alone
-statement_stops : (v : PlainStatement) (t : Lexeme) → ¬ (t ≡ colon) → ¬ (t ≡ open_paren) → ¬ statement_continues v t
-statement_stops (assigned a) t no none h = attributes_stop (rhs_continues a.value t) a.attributes t none (rhs_stops a.value t no) h
-statement_stops (condition p) t no none h = operand_stops p.y t no h
-statement_stops (block_condition p) t no none h = operand_stops p.y t no h
-
-infer_stops : (i : PlainInfer) (t : Lexeme) → ¬ (t ≡ open_paren) → ¬ infer_continues i t
-infer_stops i t no h = attributes_stop ⊥ i.attributes t no (λ e. e) h
-
--- a token that starts a statement is neither
-not_colon : (t : Lexeme) → starts_statement t ≡ true → ¬ (t ≡ colon)
-not_colon t e same = let no : false ≡ true = sym (ap starts_statement same) ∙ e in cc
-
-not_open : (t : Lexeme) → starts_statement t ≡ true → ¬ (t ≡ open_paren)
-not_open t e same = let no : false ≡ true = sym (ap starts_statement same) ∙ e in cc
+-- ---- statements
 
 -- the first token of a statement continues no statement
 pub start_ends : (v : PlainStatement) (t : Lexeme) → starts_statement t ≡ true → ¬ statement_continues v t
-start_ends v t e = statement_stops v t (not_colon t e) (not_open t e)
+start_ends v t e = statement_ends v t (starts_begins t e)
 
 -- behind v stand further statements, and then c
 free_over : (s : Scope) (v : PlainStatement) (vs : List PlainStatement) (a c : List Lexeme) → Statements s vs a → Free (λ t. LastGoesOn statement_continues (v ∷ vs) t) c → Free (statement_continues v) (a ++ c)
@@ -287,13 +249,13 @@ statements_alone s (v ∷ vs) (w ∷ ws) a b c d e m n o r =
 
 -- the words that begin them end the statements
 infer_opens : (s : Scope) (i : PlainInfer) (ts : List Lexeme) → infer_spells s i ts → Opens ts
-infer_opens s i ts h = subst Opens (sym h.2) (refl, λ v. statement_stops v (ident (codes "infer")) (λ e. cc) (λ e. cc))
+infer_opens s i ts h = subst Opens (sym h.2) (refl, λ v. statement_ends v (ident (codes "infer")) refl)
 
 pub result_opens : (s : Scope) (r : Operand) (ts : List Lexeme) → result_spells s r ts → Opens ts
-result_opens s r ts h = subst Opens (sym h.1) (refl, λ v. statement_stops v (ident (codes "result")) (λ e. cc) (λ e. cc))
+result_opens s r ts h = subst Opens (sym h.1) (refl, λ v. statement_ends v (ident (codes "result")) refl)
 
 cand_opens : (s : Scope) (c : PlainCand) (ts : List Lexeme) → cand_spells s c ts → Opens ts
-cand_opens s c ts h = subst Opens (sym h.4) (refl, λ v. statement_stops v (ident (codes "cand")) (λ e. cc) (λ e. cc))
+cand_opens s c ts h = subst Opens (sym h.4) (refl, λ v. statement_ends v (ident (codes "cand")) refl)
 
 pub tail_opens : (k : ItemType) (s : Scope) (y : Tail) (ts : List Lexeme) → tail_spells k s y ts → Opens ts
 tail_opens left_hand_side s (new, inferred i) ts h = infer_opens s i ts h.1
@@ -313,16 +275,13 @@ tail_opens replacement s (new, candidate c) ts h = cand_opens s c ts h.1
 pub infer_over : (faulty : Bool) (s t : Scope) (i : PlainInfer) (r : Operand) (new : List PlainStatement) (middle result d : List Lexeme) → Statements s new middle → result_spells t r result → Stops (infer_continues i) faulty ((middle ++ result) ++ d)
 infer_over faulty s t i r [] middle result d m h =
     subst (λ (x : List Lexeme). Stops (infer_continues i) faulty ((x ++ result) ++ d)) (sym m)
-    (subst (λ (x : List Lexeme). Stops (infer_continues i) faulty (x ++ d)) (sym h.1) (infer_stops i (ident (codes "result")) (λ e. cc)))
+    (subst (λ (x : List Lexeme). Stops (infer_continues i) faulty (x ++ d)) (sym h.1) (infer_ends i (ident (codes "result")) refl))
 infer_over faulty s t i r (v ∷ new) middle result d m h =
     subst (λ (x : List Lexeme). Stops (infer_continues i) faulty ((x ++ result) ++ d)) (sym m.2) (by_start m.0 m.1 (statement_first s v m.0 m.3))
   where
     by_start : (a b : List Lexeme) → Starts starts_statement a → Stops (infer_continues i) faulty (((a ++ b) ++ result) ++ d)
     by_start [] b st = absurd st
-    by_start (t ∷ a) b st = infer_stops i t (not_open t st)
-
-pub infer_begins : (s : Scope) (i : PlainInfer) (ts : List Lexeme) → infer_spells s i ts → Starts (is_word (codes "infer")) ts
-infer_begins s i ts h = subst (λ (x : List Lexeme). Starts (is_word (codes "infer")) x) (sym h.2) (word_is (codes "infer"))
+    by_start (t ∷ a) b st = infer_ends i t (starts_begins t st)
 
 -- an infer line and a cand line do not begin alike
 pub cand_is_no_infer : (s : Scope) (c : PlainCand) (a b d : List Lexeme) → cand_spells s c a → Starts (is_word (codes "infer")) b → b ≡ a ++ d → ⊥
@@ -336,7 +295,7 @@ starts_ahead starts (t ∷ a) b h = h
 
 pub replaced_begins : (s : Scope) (new : List PlainStatement) (i : PlainInfer) (r : Operand) (ts : List Lexeme) → tail_spells replacement s (new, replaced i r) ts → Starts (is_word (codes "infer")) ts
 replaced_begins s new i r ts h =
-    subst (λ (x : List Lexeme). Starts (is_word (codes "infer")) x) (sym h.3) (starts_ahead (is_word (codes "infer")) h.0 (h.1 ++ h.2) (infer_begins s i h.0 h.4))
+    subst (λ (x : List Lexeme). Starts (is_word (codes "infer")) x) (sym h.3) (starts_ahead (is_word (codes "infer")) h.0 (h.1 ++ h.2) (infer_first s i h.0 h.4))
 
 replaced_alone : (s : Scope) (new more : List PlainStatement) (i j : PlainInfer) (r q : Operand) (a b c d : List Lexeme) → a ++ c ≡ b ++ d → tail_spells replacement s (new, replaced i r) a → tail_spells replacement s (more, replaced j q) b
     → Free (result_continues r) c → Free (result_continues q) d → (a ≡ b) × (◌≡◌ {A = Tail} (new, replaced i r) (more, replaced j q))

@@ -556,7 +556,7 @@ pc_no_block_pc t e f =
     cc
 
 -- no tokens begin in two ways
-two_starts : (P Q : Lexeme → Bool) (a b c d : List Lexeme) → ((t : Lexeme) → P t ≡ true → Q t ≡ true → ⊥) → Starts P a → Starts Q b → a ++ c ≡ b ++ d → ⊥
+pub two_starts : (P Q : Lexeme → Bool) (a b c d : List Lexeme) → ((t : Lexeme) → P t ≡ true → Q t ≡ true → ⊥) → Starts P a → Starts Q b → a ++ c ≡ b ++ d → ⊥
 two_starts P Q [] b c d apart m n e = m
 two_starts P Q (t ∷ a) [] c d apart m n e = n
 two_starts P Q (t ∷ a) (u ∷ b) c d apart m n e =

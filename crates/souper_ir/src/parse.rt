@@ -2,6 +2,7 @@
 
 mod attributes;
 mod error;
+mod item;
 mod last_lines;
 mod message;
 mod numbers;
@@ -15,5 +16,6 @@ mod traits;
 mod words;
 
 pub use error::{ParseError, ParseErrorKind};
+pub use item::{parse_left_hand_sides_str, parse_replacements_str, parse_right_hand_sides_str};
 pub use parser::{Parser, Result};
 pub use traits::{Parse, Peek};

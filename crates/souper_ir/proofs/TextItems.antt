@@ -1,0 +1,84 @@
+-- Texts of items: what they spell, and what is answered where they spell none.
+use Rattle.std.proofs.Common.{◌≡◌, ◌⊎◌, ℕ, ◌≤◌, Bool, false, List, [], length, Option, Some, None, refl, sym, ◌∙◌, ap, subst, inl, inr, arith}
+use Rattle.std.specs.Prelude.{IsSomeAnd, IfSome}
+use Rattle.souper_graph.specs.Values.{Item}
+use Rattle.souper_ir.specs.declared.parse.error.ParseError.{ParseError}
+use Rattle.souper_ir.specs.declared.parse.error.ParseErrorKind.{ParseErrorKind}
+use Rattle.souper_ir.specs.declared.parse.error.ParseErrorKind.TheVariants.{Io, Parse, Memory}
+use Rattle.souper_ir.specs.declared.parse.error.Cause.{Cause as ErrorCause}
+use Rattle.souper_ir.specs.declared.parse.error.Cause.TheVariants.{Io as IoCause, Parse as ParseCause, Memory as MemoryCause}
+use Rattle.souper_ir.specs.Tokens.{Lexeme, IsLastGap, IsTextOf, AreTokensOf}
+use Rattle.souper_ir.specs.Spelling.{kinds, ItemType, list_spells, TextSpells, SpellsNone}
+use Rattle.souper_ir.specs.Places.{IsRefusalText}
+use Rattle.souper_ir.specs.Errors.{OnKind, kind_of, kind_of_cause, offset_of, offset_of_cause, shown_error, IsRefusalAt, IsLocated}
+use Rattle.souper_ir.specs.Answers.{IsStrError}
+use Rattle.souper_ir.specs.Parsing.{Cause, refused, Parsing}
+use Rattle.souper_ir.specs.Reading.{cause_of, IfRefused, Fails}
+use Rattle.souper_ir.specs.ItemRuns.{SpellsAll, NoList, ListRefusal}
+
+-- the tokens of a text without a fault are those that it is a text of
+pub is_text : (bs : List ℕ) (ts : List (ℕ × Lexeme)) (faulty : Bool) → AreTokensOf bs ts faulty → faulty ≡ false → IsTextOf bs ts
+is_text bs ts faulty h e = (h.rest, h.front, h.ended e)
+
+pub all_spelled : (k : ItemType) (items : List Item) (bs : List ℕ) (p : Parsing) → AreTokensOf bs p.tokens p.faulty → SpellsAll k items p → TextSpells k bs items
+all_spelled k items bs p h all = (p.tokens, is_text bs p.tokens p.faulty h all.sound, all.spelled)
+
+-- a text of gaps alone has no tokens
+pub gap_text : (bs : List ℕ) → IsLastGap bs → IsTextOf bs []
+gap_text bs h = (bs, refl, h)
+
+-- ---- refusals
+
+offset_kind : (c : ErrorCause) (o : ℕ) → offset_of_cause c ≡ Some o → kind_of_cause c ≡ Parse
+offset_kind (ParseCause r) o e = refl
+offset_kind (IoCause f) o e = absurd cc
+offset_kind MemoryCause o e = absurd cc
+
+pub offset_cause : (e : ParseError) (o : ℕ) → offset_of e ≡ Some o → cause_of e ≡ Some (refused o)
+offset_cause e o at = rw (offset_kind e.cause o at, at) refl
+
+some_bound : (e : ParseError) (p q : Parsing) (n : ℕ) → Fails e p q → p.len ≡ n → (o : Option ℕ) → offset_of e ≡ o → IfSome o (λ offset. offset ≤ n)
+some_bound e p q n f l None at = tt
+some_bound e p q n f l (Some o) at = let bound = f.within o (offset_cause e o at) in omega (arith, bound, f.len, l)
+
+-- the offset of a refusal lies within the text
+pub offset_bound : (e : ParseError) (p q : Parsing) (n : ℕ) → Fails e p q → p.len ≡ n → IfSome (offset_of e) (λ offset. offset ≤ n)
+offset_bound e p q n f l = some_bound e p q n f l (offset_of e) refl
+
+some_and : (o : Option (List ℕ)) (P : List ℕ → Type 0) → IsSomeAnd o P → (x : List ℕ) × (o ≡ Some x) × P x
+some_and None P h = absurd h
+some_and (Some x) P h = (x, refl, h)
+
+-- what is known where the parser refused
+none_spelled : (k : ItemType) (bs : List ℕ) (e : ParseError) (p q : Parsing) (o : ℕ) → p.failed ≡ None → ((ts : List (ℕ × Lexeme)) → IsTextOf bs ts → (p.tokens ≡ ts) × (p.faulty ≡ false))
+    → ListRefusal k e p q → cause_of e ≡ Some (refused o) → SpellsNone k bs
+none_spelled k bs e p q o live only h cause items spelled =
+    let none = (subst (λ (x : Option Cause). IfRefused x (p.failed ≡ None → NoList k p)) cause h.nothing) live in
+    let same = only spelled.0 spelled.1 in
+    none items same.1 (subst (λ (x : List (ℕ × Lexeme)). list_spells k items (kinds x)) (sym same.0) spelled.2)
+
+module _ (k : ItemType) (file : Option (List ℕ)) (bs : List ℕ) (e new : ParseError) (p q : Parsing)
+    (live : p.failed ≡ None) (len : p.len ≡ length bs)
+    (only : (ts : List (ℕ × Lexeme)) → IsTextOf bs ts → (p.tokens ≡ ts) × (p.faulty ≡ false))
+    (h : ListRefusal k e p q) where
+  memory_answer : kind_of new ≡ Memory → IsStrError k file bs new
+  memory_answer m = rw m tt
+
+  refusal_answer : (o : ℕ) → offset_of e ≡ Some o → IsRefusalAt file bs o new → IsStrError k file bs new
+  refusal_answer o at r =
+      let cause = offset_cause e o at in
+      let bound : o ≤ length bs = (let within = h.failed.within o cause in omega (arith, within, h.failed.len, len)) in
+      rw r.0 (o, r.1, bound, none_spelled k bs e p q o live only h cause, some_and (shown_error new) (IsRefusalText file bs o) r.2)
+
+  by_offset : (o : Option ℕ) → offset_of e ≡ o → IfSome o (λ offset. (kind_of new ≡ Memory) ⊎ IsRefusalAt file bs offset new) → kind_of e ≡ Parse → IsStrError k file bs new
+  by_offset None at r kind = absurd (h.failed.caused (rw (kind, at) refl))
+  by_offset (Some o) at (inl m) kind = memory_answer m
+  by_offset (Some o) at (inr r) kind = refusal_answer o at r
+
+  by_kind : (x : ParseErrorKind) → kind_of e ≡ x → OnKind x (new ≡ e) (IfSome (offset_of e) (λ offset. (kind_of new ≡ Memory) ⊎ IsRefusalAt file bs offset new)) (new ≡ e) → IsStrError k file bs new
+  by_kind Io kind l = absurd (h.failed.caused (rw kind refl))
+  by_kind Parse kind l = by_offset (offset_of e) refl l kind
+  by_kind Memory kind l = memory_answer (ap kind_of l ∙ kind)
+
+  pub located_answer : IsLocated file bs e new → IsStrError k file bs new
+  located_answer l = by_kind (kind_of e) refl l

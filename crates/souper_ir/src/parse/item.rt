@@ -1,0 +1,259 @@
+//! Whole items.
+
+ghost use Rattle.std.specs.Prelude.{◌≡◌, map, false, None, IfOk, OnOk, IfErr, IsOkAnd, option_copied, []};
+ghost use Rattle.std.specs.List.{AllByRecursion};
+ghost use Rattle.souper_graph.specs.View.{view_left_hand_side, view_right_hand_side, view_replacement};
+ghost use Rattle.souper_graph.specs.WellFormed.{WellFormed};
+ghost use Rattle.souper_graph.specs.Values.{Item};
+ghost use Rattle.souper_ir.specs.Tokens.{IsLastGap};
+ghost use Rattle.souper_ir.specs.Spelling.{ItemType, left_hand_side, right_hand_side, replacement, statement_spells, item_spells_after, TextSpells};
+ghost use Rattle.souper_ir.specs.Continuation.{statement_continues, item_continues};
+ghost use Rattle.souper_ir.specs.Grammar.{Took, Refusal};
+ghost use Rattle.souper_ir.specs.Items.{Enters, TakesStatements, StatedRefusal};
+ghost use Rattle.souper_ir.specs.ItemLaws.{item_alone};
+ghost use Rattle.souper_ir.specs.ItemRuns.{SpellsAll, ListRefusal};
+ghost use Rattle.souper_ir.specs.Answers.{IsStrError};
+
+use crate::parse::last_lines::{cand, infer, result};
+use crate::parse::parser::{Parser, Result};
+use crate::parse::statements::{assignment, block_pc, pc};
+use crate::parse::tokens::{token_comes, word_comes};
+use crate::parse::traits::{Parse, Peek};
+use souper_graph::ast::{LeftHandSide, Replacement, RightHandSide, Statement};
+use std::alloc::Global;
+
+// The statement that stands next, which is entered into the scope.
+fn enter_statement(parser: &mut Parser<'_>) -> Result<()>
+    ensures ok { OnOk result (Enters parser.old parser.new) }
+    ensures err { IfErr result (λ e. Refusal statement_spells statement_continues e parser.old parser.new) }
+{
+    if word_comes(parser, "pc")? {
+        let condition = pc(parser)?;
+        parser.add(condition.into())
+    } else if word_comes(parser, "blockpc")? {
+        let condition = block_pc(parser)?;
+        parser.add(condition.into())
+    } else {
+        let (name, assignment) = assignment(parser)?;
+        parser.define(name, assignment)
+    }
+}
+
+// The statements that stand next, which are entered into the scope.
+fn statements(parser: &mut Parser<'_>) -> Result<()>
+    ensures ok { OnOk result (TakesStatements parser.old parser.new) }
+    ensures err { IfErr result (λ e. StatedRefusal e parser.old parser.new) }
+{
+    while Statement::peek(parser)? {
+        enter_statement(parser)?;
+    }
+    Ok(())
+}
+
+/// A whole item. The scope is empty behind it.
+pub(crate) trait WholeItem: Sized {
+    ghost item_type: { ItemType };
+
+    ghost view: { Self → Item };
+
+    fn item(parser: &mut Parser<'_>) -> Result<Self>
+        ensures ok { IfOk result (λ v. Took (item_spells_after item_type) item_continues (λ s. []) (view v) parser.old parser.new) }
+        ensures err { IfErr result (λ e. Refusal (item_spells_after item_type) item_continues e parser.old parser.new) };
+}
+
+impl WholeItem for LeftHandSide {
+    ghost item_type = { left_hand_side };
+
+    ghost view = { view_left_hand_side };
+
+    fn item(parser: &mut Parser<'_>) -> Result<Self> {
+        statements(parser)?;
+        let infer = infer(parser)?;
+        let statements = parser.finish();
+        Ok(LeftHandSide { statements, infer })
+    }
+}
+
+impl WholeItem for RightHandSide {
+    ghost item_type = { right_hand_side };
+
+    ghost view = { view_right_hand_side };
+
+    fn item(parser: &mut Parser<'_>) -> Result<Self> {
+        statements(parser)?;
+        let result = result(parser)?;
+        let statements = parser.finish();
+        Ok(RightHandSide { statements, result })
+    }
+}
+
+impl WholeItem for Replacement {
+    ghost item_type = { replacement };
+
+    ghost view = { view_replacement };
+
+    fn item(parser: &mut Parser<'_>) -> Result<Self> {
+        statements(parser)?;
+        if word_comes(parser, "infer")? {
+            let lhs = infer(parser)?;
+            statements(parser)?;
+            let rhs = result(parser)?;
+            let statements = parser.finish();
+            Ok(Replacement::LhsRhs {
+                statements,
+                lhs,
+                rhs,
+            })
+        } else {
+            let cand = cand(parser)?;
+            let statements = parser.finish();
+            Ok(Replacement::Cand { statements, cand })
+        }
+    }
+}
+
+/// Its statements may use the names of those before them, and of no others. The scope is empty behind it.
+impl Parse for LeftHandSide {
+    ghost Plain = { Item };
+
+    ghost view = { view_left_hand_side };
+
+    ghost spells = { item_spells_after left_hand_side };
+
+    ghost continues = { item_continues };
+
+    ghost leaves = { λ s. [] };
+
+    ghost alone = { item_alone left_hand_side };
+
+    fn parse<'a>(parser: &mut Parser<'a>) -> Result<Self> {
+        LeftHandSide::item(parser)
+    }
+}
+
+/// Its statements may use the names of those before them, and of no others. The scope is empty behind it.
+impl Parse for RightHandSide {
+    ghost Plain = { Item };
+
+    ghost view = { view_right_hand_side };
+
+    ghost spells = { item_spells_after right_hand_side };
+
+    ghost continues = { item_continues };
+
+    ghost leaves = { λ s. [] };
+
+    ghost alone = { item_alone right_hand_side };
+
+    fn parse<'a>(parser: &mut Parser<'a>) -> Result<Self> {
+        RightHandSide::item(parser)
+    }
+}
+
+/// Either an infer line and a result line, with further statements between them, or a cand line. The scope is empty
+/// behind it.
+impl Parse for Replacement {
+    ghost Plain = { Item };
+
+    ghost view = { view_replacement };
+
+    ghost spells = { item_spells_after replacement };
+
+    ghost continues = { item_continues };
+
+    ghost leaves = { λ s. [] };
+
+    ghost alone = { item_alone replacement };
+
+    fn parse<'a>(parser: &mut Parser<'a>) -> Result<Self> {
+        Replacement::item(parser)
+    }
+}
+
+// The items up to the end of the text.
+fn items<T: WholeItem + Drop>(parser: &mut Parser<'_>) -> Result<Vec<T>>
+    requires { parser.old.scope ≡ [] }
+    ensures ok { IfOk result (λ v. SpellsAll T.item_type (map T.view v.items) parser.old) }
+    ensures err { IfErr result (λ e. ListRefusal T.item_type e parser.old parser.new) }
+    // The end of the text needs no memory.
+    ensures ended { (parser.old.tokens ≡ []) → (parser.old.faulty ≡ false) → (parser.old.failed ≡ None) → IsOkAnd result (λ v. v.items ≡ []) }
+{
+    let mut items = Vec::new(parser.alloc());
+    while token_comes(parser)? {
+        let item = T::item(parser)?;
+        match items.push(item) {
+            Ok(()) => {}
+            Err(_) => return Err(parser.want_memory()),
+        }
+    }
+    Ok(items)
+}
+
+// The items of a text.
+fn parse_str<T: WholeItem + Drop>(
+    alloc: Global,
+    source: &str,
+    filename: Option<&str>,
+) -> Result<Vec<T>>
+    ensures spelled { IfOk result (λ v. TextSpells T.item_type source.now (map T.view v.items)) }
+    ensures well_formed { IfOk result (λ v. AllByRecursion WellFormed (map T.view v.items)) }
+    ensures refused { IfErr result (λ e. IsStrError T.item_type (option_copied filename.entry) source.now e) }
+    ensures gaps { IsLastGap source.now → IsOkAnd result (λ v. v.items ≡ []) }
+{
+    let mut parser = Parser::new(alloc, source);
+    match items(&mut parser) {
+        Ok(items) => Ok(items),
+        Err(error) => Err(error.locate(alloc, source, filename)),
+    }
+}
+
+/// The left-hand sides of a text, in order.
+///
+/// The file name is for the error, which shows `unknown` without one. A text that is refused has no items: the error is of
+/// the kind `Parse`, or want of memory. A text of white space and comments alone has no items, and takes no memory.
+pub fn parse_left_hand_sides_str(
+    alloc: Global,
+    source: &str,
+    filename: Option<&str>,
+) -> Result<Vec<LeftHandSide>>
+    ensures spelled { IfOk result (λ v. TextSpells left_hand_side source.now (map view_left_hand_side v.items)) }
+    ensures well_formed { IfOk result (λ v. AllByRecursion WellFormed (map view_left_hand_side v.items)) }
+    ensures refused { IfErr result (λ e. IsStrError left_hand_side (option_copied filename.entry) source.now e) }
+    ensures gaps { IsLastGap source.now → IsOkAnd result (λ v. v.items ≡ []) }
+{
+    parse_str(alloc, source, filename)
+}
+
+/// The right-hand sides of a text, in order.
+///
+/// The file name is for the error, which shows `unknown` without one. A text that is refused has no items: the error is of
+/// the kind `Parse`, or want of memory. A text of white space and comments alone has no items, and takes no memory.
+pub fn parse_right_hand_sides_str(
+    alloc: Global,
+    source: &str,
+    filename: Option<&str>,
+) -> Result<Vec<RightHandSide>>
+    ensures spelled { IfOk result (λ v. TextSpells right_hand_side source.now (map view_right_hand_side v.items)) }
+    ensures well_formed { IfOk result (λ v. AllByRecursion WellFormed (map view_right_hand_side v.items)) }
+    ensures refused { IfErr result (λ e. IsStrError right_hand_side (option_copied filename.entry) source.now e) }
+    ensures gaps { IsLastGap source.now → IsOkAnd result (λ v. v.items ≡ []) }
+{
+    parse_str(alloc, source, filename)
+}
+
+/// The replacements of a text, in order.
+///
+/// The file name is for the error, which shows `unknown` without one. A text that is refused has no items: the error is of
+/// the kind `Parse`, or want of memory. A text of white space and comments alone has no items, and takes no memory.
+pub fn parse_replacements_str(
+    alloc: Global,
+    source: &str,
+    filename: Option<&str>,
+) -> Result<Vec<Replacement>>
+    ensures spelled { IfOk result (λ v. TextSpells replacement source.now (map view_replacement v.items)) }
+    ensures well_formed { IfOk result (λ v. AllByRecursion WellFormed (map view_replacement v.items)) }
+    ensures refused { IfErr result (λ e. IsStrError replacement (option_copied filename.entry) source.now e) }
+    ensures gaps { IsLastGap source.now → IsOkAnd result (λ v. v.items ≡ []) }
+{
+    parse_str(alloc, source, filename)
+}
