@@ -1,4 +1,4 @@
-//! Tests of the whole, from text to text. Their values were worked out by hand from the rules of the language.
+//! A type that its own crate parses, and tests of the whole, from text to text. Their values were worked out by hand from the rules of the language.
 #![tactic(auto)]
 
 #[cfg(test)]
@@ -17,6 +17,7 @@ mod errors;
 mod grammar;
 #[cfg(test)]
 mod nodes;
+pub mod pairs;
 #[cfg(test)]
 mod parsers;
 #[cfg(test)]
