@@ -1,4 +1,6 @@
-//! A type that its own crate parses, and tests of the whole, from text to text. Their values were worked out by hand from the rules of the language.
+//! Tests of the whole, from text to text, and a type of a user of the parser.
+//!
+//! The values of the tests were worked out by hand from the rules of the language.
 #![tactic(auto)]
 
 #[cfg(test)]
