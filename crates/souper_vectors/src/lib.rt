@@ -1,4 +1,6 @@
-//! Tests of the whole, from text to text. Their values were worked out by hand from the rules of the language.
+//! Tests of the whole, from text to text, and a type of a user of the parser.
+//!
+//! The values of the tests were worked out by hand from the rules of the language.
 #![tactic(auto)]
 
 #[cfg(test)]
@@ -17,6 +19,7 @@ mod errors;
 mod grammar;
 #[cfg(test)]
 mod nodes;
+pub mod pairs;
 #[cfg(test)]
 mod parsers;
 #[cfg(test)]

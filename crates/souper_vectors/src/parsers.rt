@@ -1,12 +1,16 @@
 //! Parsers that are used directly.
-use souper_ir::ast::{Assignment, AssignmentRhs, Infer, LeftHandSide, Statement};
+use crate::building::number;
+use souper_ir::ast::{
+    Assignment, AssignmentRhs, Attribute, Block, BlockPc, Cand, Constant, Infer, Instruction,
+    LeftHandSide, Operand, Pc, Phi, Replacement, RightHandSide, RootAttribute, Statement, Type,
+};
 use souper_ir::parse::{Parse, ParseError, ParseErrorKind, Parser, Peek};
 use std::alloc::Global;
 use std::process::Abort;
 use std::test::Fail;
 
 // The error is a refusal at the offset, with the message and no place.
-fn tells(
+pub fn tells(
     rt: &impl Abort,
     alloc: Global,
     error: Option<ParseError>,
@@ -86,15 +90,103 @@ fn parts_alone_add_no_name(rt: HostRuntime) -> Result<(), Fail> {
 }
 
 #[test]
-fn each_type_is_parsed(rt: HostRuntime) -> Result<(), Fail> {
-    let rhs = parsed::<AssignmentRhs>(rt.alloc(), "var infer")?;
-    assert!(rt; matches!(rhs, AssignmentRhs::Var));
+fn items_are_parsed(rt: HostRuntime) -> Result<(), Fail> {
+    let item = parsed::<LeftHandSide>(rt.alloc(), "%x = var infer %x )")?;
+    assert_eq!(rt; item.statements.len(), 1);
+    let item = parsed::<RightHandSide>(rt.alloc(), "%x = var result %x )")?;
+    assert_eq!(rt; item.statements.len(), 1);
+    let item = parsed::<Replacement>(rt.alloc(), "%x = var infer %x result 1 )")?;
+    let text = item.to_text()?;
+    assert_eq!(rt; text.as_str(), "%x = var\ninfer %x\nresult 1\n");
+    let item = parsed::<Replacement>(rt.alloc(), "%x = var cand %x 1 )")?;
+    let text = item.to_text()?;
+    assert_eq!(rt; text.as_str(), "%x = var\ncand %x 1\n");
+    Ok(())
+}
+
+#[test]
+fn statements_and_last_lines_are_parsed(rt: HostRuntime) -> Result<(), Fail> {
     let assignment = parsed::<Assignment>(rt.alloc(), "%x = var")?;
     assert_eq!(rt; assignment.name.as_str(), "%x");
     let statement = parsed::<Statement>(rt.alloc(), "%y = var %z")?;
     assert_eq!(rt; defined(&statement), Some("%y"));
-    let item = parsed::<LeftHandSide>(rt.alloc(), "%x = var infer %x )")?;
-    assert_eq!(rt; item.statements.len(), 1);
+    let (x, y) = (number(1), number(2));
+    assert_eq!(rt; parsed::<Pc>(rt.alloc(), "pc 1 2 3")?, Pc { x, y });
+    let cand = parsed::<Cand>(rt.alloc(), "cand 1, 2 (harvestedFromUse) 3")?;
+    assert_eq!(rt; (cand.lhs, cand.rhs), (x, y));
+    assert_eq!(rt; cand.attributes.len(), 1);
+    Ok(())
+}
+
+#[test]
+fn right_sides_and_operands_are_parsed(rt: HostRuntime) -> Result<(), Fail> {
+    let rhs = parsed::<AssignmentRhs>(rt.alloc(), "var infer")?;
+    assert!(rt; matches!(rhs, AssignmentRhs::Var));
+    let block = parsed::<Block>(rt.alloc(), "block 3 4")?;
+    assert_eq!(rt; block, Block { predecessors: 3 });
+    let (a, b) = (number(1), number(2));
+    let instruction = parsed::<Instruction>(rt.alloc(), "add 1, 2, 3")?;
+    assert_eq!(rt; instruction, Instruction::Add { a, b });
+    let ty = parsed::<Type>(rt.alloc(), "i8 = var")?;
+    assert_eq!(rt; ty, Type { width: 8 });
+    let constant = parsed::<Constant>(rt.alloc(), "1:i8 2")?;
+    let value = 1;
+    assert_eq!(rt;
+        constant,
+        Constant {
+            value,
+            ty: Some(ty)
+        }
+    );
+    let operand = parsed::<Operand>(rt.alloc(), "1:i8, 2")?;
+    assert_eq!(rt; operand, constant.into());
+    Ok(())
+}
+
+#[test]
+fn single_attributes_are_parsed(rt: HostRuntime) -> Result<(), Fail> {
+    let attribute = parsed::<Attribute>(rt.alloc(), "(signBits=3) (negative)")?;
+    assert!(rt; matches!(attribute, Attribute::SignBits(3)));
+    match parsed::<RootAttribute>(rt.alloc(), "(demandedBits=10) (harvestedFromUse)")? {
+        RootAttribute::DemandedBits(bits) => {
+            assert_eq!(rt; bits.as_slice(), [true, false].as_slice());
+        }
+        RootAttribute::HarvestedFromUse => return Err(Fail::new("another attribute")),
+    }
+    Ok(())
+}
+
+#[test]
+fn attributes_stand_before_a_right_side(rt: HostRuntime) -> Result<(), Fail> {
+    let mut parser = Parser::new(rt.alloc(), "(negative)(nonZero) var");
+    let attributes = <Vec<Attribute>>::parse(&mut parser)?;
+    let [Attribute::Negative, Attribute::NonZero] = attributes.as_slice() else {
+        return Err(Fail::new("other attributes"));
+    };
+    let rhs = AssignmentRhs::parse(&mut parser)?;
+    assert!(rt; matches!(rhs, AssignmentRhs::Var));
+    assert!(rt; !Statement::peek(&mut parser)?);
+    assert!(rt; <Vec<Attribute>>::parse(&mut parser)?.is_empty());
+    Ok(())
+}
+
+#[test]
+fn option_takes_nothing_of_another_kind(rt: HostRuntime) -> Result<(), Fail> {
+    let mut parser = Parser::new(rt.alloc(), "%x");
+    assert!(rt; <Option<Constant>>::parse(&mut parser)?.is_none());
+    let error = Operand::parse(&mut parser).err();
+    tells(&rt, rt.alloc(), error, 0, "unknown value '%x'")?;
+    let error = Constant::peek(&mut parser).err();
+    tells(&rt, rt.alloc(), error, 0, "the parser has already failed")
+}
+
+#[test]
+fn hole_has_no_operands(rt: HostRuntime) -> Result<(), Fail> {
+    let mut parser = Parser::new(rt.alloc(), "hole 1");
+    let instruction = Instruction::parse(&mut parser)?;
+    assert_eq!(rt; instruction, Instruction::Hole);
+    let constant = Constant::parse(&mut parser)?;
+    assert_eq!(rt; constant, Constant { value: 1, ty: None });
     Ok(())
 }
 
@@ -163,8 +255,53 @@ fn lexical_fault_is_refused_by_peek(rt: HostRuntime) -> Result<(), Fail> {
     let mut parser = Parser::new(rt.alloc(), "%");
     let error = Infer::peek(&mut parser).err();
     tells(&rt, rt.alloc(), error, 0, "expected value name")?;
+    let failed = "the parser has already failed";
     let error = <Vec<Infer>>::parse(&mut parser).err();
-    tells(&rt, rt.alloc(), error, 0, "the parser has already failed")
+    tells(&rt, rt.alloc(), error, 0, failed)?;
+    let mut parser = Parser::new(rt.alloc(), "%");
+    let error = Pc::peek(&mut parser).err();
+    tells(&rt, rt.alloc(), error, 0, "expected value name")?;
+    let error = <Vec<Pc>>::parse(&mut parser).err();
+    tells(&rt, rt.alloc(), error, 0, failed)
+}
+
+// The value is seen to come at the front of the one source, and not of the other.
+fn sees<P: Peek>(rt: &impl Abort, alloc: Global, source: &str, other: &str) -> Result<(), Fail> {
+    assert!(rt; peeked::<P>(alloc, source)?, "in {source:?}");
+    assert!(rt; !peeked::<P>(alloc, other)?, "in {other:?}");
+    Ok(())
+}
+
+#[test]
+fn each_type_is_seen_to_come(rt: HostRuntime) -> Result<(), Fail> {
+    let alloc = rt.alloc();
+    sees::<Infer>(&rt, alloc, "infer", "cand")?;
+    sees::<RootAttribute>(&rt, alloc, "(", "[")?;
+    sees::<Assignment>(&rt, alloc, "%x", "x")?;
+    sees::<Pc>(&rt, alloc, "pc", "blockpc")?;
+    sees::<BlockPc>(&rt, alloc, "blockpc", "block")?;
+    sees::<Constant>(&rt, alloc, "-1", "%1")?;
+    sees::<Block>(&rt, alloc, "block", "blockpc")?;
+    sees::<Phi>(&rt, alloc, "phi", "var")?;
+    sees::<Attribute>(&rt, alloc, "(", ")")?;
+    sees::<Instruction>(&rt, alloc, "sadd.sat", "sadd")?;
+    sees::<Statement>(&rt, alloc, "blockpc", "block")
+}
+
+// Whoever reads a name by itself has no names in scope.
+#[test]
+fn names_out_of_scope_are_refused(rt: HostRuntime) -> Result<(), Fail> {
+    let alloc = rt.alloc();
+    let error = parsed::<BlockPc>(alloc, "blockpc %b 0 1 2").err();
+    tells(&rt, alloc, error, 8, "unknown block '%b'")?;
+    let error = parsed::<Phi>(alloc, "phi %b, 1").err();
+    tells(&rt, alloc, error, 4, "unknown block '%b'")?;
+    let error = parsed::<Pc>(alloc, "pc %x 1").err();
+    tells(&rt, alloc, error, 3, "unknown value '%x'")?;
+    let error = parsed::<Cand>(alloc, "cand 1 %x").err();
+    tells(&rt, alloc, error, 7, "unknown value '%x'")?;
+    let error = parsed::<Infer>(alloc, "infer %x").err();
+    tells(&rt, alloc, error, 6, "no value named '%x' in scope")
 }
 
 #[test]
@@ -214,6 +351,10 @@ fn parts_refuse_other_tokens(rt: HostRuntime) -> Result<(), Fail> {
         0,
         "unexpected EOF",
     )?;
+    let instruction = parsed::<Instruction>(alloc, "foo").err();
+    tells(&rt, alloc, instruction, 0, "expected instruction")?;
+    let attribute = parsed::<Attribute>(alloc, "x").err();
+    tells(&rt, alloc, attribute, 0, "expected '('")?;
     let assignments = parsed::<Vec<Assignment>>(alloc, "%x = var %y").err();
     tells(&rt, alloc, assignments, 10, "unexpected EOF")
 }

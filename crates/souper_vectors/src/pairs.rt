@@ -1,0 +1,90 @@
+//! Two constants, one after the other: a type of a user of the parser, with a grammar of its own.
+
+ghost use Rattle.std.specs.Prelude.{refl};
+ghost use Rattle.souper_ir.specs.NodeReadings.{is_int};
+ghost use Rattle.souper_vectors.specs.Pairs.{pair_spells, pair_continues, pair_alone, pair_first};
+
+use souper_ir::ast::Constant;
+use souper_ir::parse::{Parse, Parser, Peek, Result};
+
+/// Two constants that stand one after the other.
+#[derive(Clone, Copy, Debug, PartialEq, Eq)]
+pub struct Pair {
+    pub first: Constant,
+    pub second: Constant,
+}
+
+impl Parse for Pair {
+    ghost Plain = { Self };
+
+    ghost view = { λ p. p };
+
+    ghost spells = { pair_spells };
+
+    ghost continues = { pair_continues };
+
+    ghost alone = { pair_alone };
+
+    fn parse<'a>(parser: &mut Parser<'a>) -> Result<Self> {
+        let first = Constant::parse(parser)?;
+        let second = Constant::parse(parser)?;
+        Ok(Pair { first, second })
+    }
+}
+
+impl Peek for Pair {
+    ghost starts = { is_int };
+
+    ghost first = { pair_first };
+
+    ghost stays = { λ s. refl };
+
+    fn peek<'a>(parser: &mut Parser<'a>) -> Result<bool> {
+        Constant::peek(parser)
+    }
+}
+
+#[cfg(test)]
+mod tests {
+    use super::*;
+    use crate::parsers::tells;
+    use souper_ir::ast::Type;
+    use std::test::Fail;
+
+    fn plain(value: i128) -> Constant {
+        Constant { value, ty: None }
+    }
+
+    #[test]
+    fn pairs_follow_one_another(rt: HostRuntime) -> std::result::Result<(), Fail> {
+        let mut parser = Parser::new(rt.alloc(), "1:i8 2 3 4");
+        let pairs = <Vec<Pair>>::parse(&mut parser)?;
+        let first = Constant {
+            value: 1,
+            ty: Some(Type { width: 8 }),
+        };
+        let want = [
+            Pair {
+                first,
+                second: plain(2),
+            },
+            Pair {
+                first: plain(3),
+                second: plain(4),
+            },
+        ];
+        assert_eq!(rt; pairs.as_slice(), want.as_slice());
+        assert!(rt; !Pair::peek(&mut parser)?);
+        assert!(rt; <Option<Pair>>::parse(&mut parser)?.is_none());
+        Ok(())
+    }
+
+    #[test]
+    fn half_a_pair_is_refused(rt: HostRuntime) -> std::result::Result<(), Fail> {
+        let mut parser = Parser::new(rt.alloc(), "1 2 3");
+        let error = <Vec<Pair>>::parse(&mut parser).err();
+        tells(&rt, rt.alloc(), error, 4, "unexpected EOF")?;
+        let error = Pair::peek(&mut parser).err();
+        tells(&rt, rt.alloc(), error, 4, "the parser has already failed")
+    }
+}
