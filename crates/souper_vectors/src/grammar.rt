@@ -2,7 +2,7 @@
 use souper_format::command::Kind;
 use souper_format::items::{Items, format_text, read_items};
 use souper_ir::parse::ParseErrorKind;
-use std::alloc::Global;
+use std::alloc::{AllocError, Global};
 use std::process::Abort;
 use std::test::Fail;
 
@@ -465,15 +465,25 @@ fn words() -> [(&'static str, usize); 59] {
     ]
 }
 
+// So many operands, with commas between them.
+fn ones(alloc: Global, count: usize) -> Result<String, AllocError> {
+    let mut operands = String::new(alloc);
+    for index in 0..count {
+        operands.push_str(if index == 0 { " 1" } else { ", 1" })?;
+    }
+    Ok(operands)
+}
+
 #[test]
 fn every_instruction_is_read_and_printed(rt: HostRuntime) -> Result<(), Fail> {
     let alloc = rt.alloc();
     for (word, count) in words() {
-        let operands = ["", " 1", " 1, 1", " 1, 1, 1"];
-        let source = format!(in alloc; "%x = {word}{}\ninfer %x", operands[count])?;
+        let operands = ones(alloc, count)?;
+        let source = format!(in alloc; "%x = {word}{operands}\ninfer %x")?;
         prints_itself(&rt, alloc, Kind::Lhs, source.as_str())?;
         if count > 0 {
-            let source = format!(in alloc; "%x = {word}{}\ninfer %x", operands[count - 1])?;
+            let operands = ones(alloc, count - 1)?;
+            let source = format!(in alloc; "%x = {word}{operands}\ninfer %x")?;
             let read = read_items(alloc, Kind::Lhs, source.as_str(), None);
             assert!(rt; read.is_err(), "for {word}");
         }

@@ -7,113 +7,47 @@ use souper_ir::ast::{
 use souper_ir::stringify::{DisplayWithContext, TextError};
 use std::alloc::{AllocError, Global};
 use std::default::Default;
+use std::process::Abort;
 use std::test::Fail;
 
-// Each instruction with its word and how many operands it has.
-fn instructions() -> [(Instruction, &'static str, usize); 59] {
-    let (a, b, c) = (number(1), number(2), number(3));
-    [
-        (Instruction::Add { a, b }, "add", 2),
-        (Instruction::AddNsw { a, b }, "addnsw", 2),
-        (Instruction::AddNuw { a, b }, "addnuw", 2),
-        (Instruction::AddNw { a, b }, "addnw", 2),
-        (Instruction::Sub { a, b }, "sub", 2),
-        (Instruction::SubNsw { a, b }, "subnsw", 2),
-        (Instruction::SubNuw { a, b }, "subnuw", 2),
-        (Instruction::SubNw { a, b }, "subnw", 2),
-        (Instruction::Mul { a, b }, "mul", 2),
-        (Instruction::MulNsw { a, b }, "mulnsw", 2),
-        (Instruction::MulNuw { a, b }, "mulnuw", 2),
-        (Instruction::MulNw { a, b }, "mulnw", 2),
-        (Instruction::Udiv { a, b }, "udiv", 2),
-        (Instruction::Sdiv { a, b }, "sdiv", 2),
-        (Instruction::UdivExact { a, b }, "udivexact", 2),
-        (Instruction::SdivExact { a, b }, "sdivexact", 2),
-        (Instruction::Urem { a, b }, "urem", 2),
-        (Instruction::Srem { a, b }, "srem", 2),
-        (Instruction::And { a, b }, "and", 2),
-        (Instruction::Or { a, b }, "or", 2),
-        (Instruction::Xor { a, b }, "xor", 2),
-        (Instruction::Shl { a, b }, "shl", 2),
-        (Instruction::ShlNsw { a, b }, "shlnsw", 2),
-        (Instruction::ShlNuw { a, b }, "shlnuw", 2),
-        (Instruction::ShlNw { a, b }, "shlnw", 2),
-        (Instruction::Lshr { a, b }, "lshr", 2),
-        (Instruction::LshrExact { a, b }, "lshrexact", 2),
-        (Instruction::Ashr { a, b }, "ashr", 2),
-        (Instruction::AshrExact { a, b }, "ashrexact", 2),
-        (Instruction::Select { a, b, c }, "select", 3),
-        (Instruction::Zext { a }, "zext", 1),
-        (Instruction::Sext { a }, "sext", 1),
-        (Instruction::Trunc { a }, "trunc", 1),
-        (Instruction::Eq { a, b }, "eq", 2),
-        (Instruction::Ne { a, b }, "ne", 2),
-        (Instruction::Ult { a, b }, "ult", 2),
-        (Instruction::Slt { a, b }, "slt", 2),
-        (Instruction::Ule { a, b }, "ule", 2),
-        (Instruction::Sle { a, b }, "sle", 2),
-        (Instruction::Ctpop { a }, "ctpop", 1),
-        (Instruction::Bswap { a }, "bswap", 1),
-        (Instruction::BitReverse { a }, "bitreverse", 1),
-        (Instruction::Cttz { a }, "cttz", 1),
-        (Instruction::Ctlz { a }, "ctlz", 1),
-        (Instruction::Fshl { a, b, c }, "fshl", 3),
-        (Instruction::Fshr { a, b, c }, "fshr", 3),
-        (
-            Instruction::SaddWithOverflow { a, b },
-            "sadd.with.overflow",
-            2,
-        ),
-        (
-            Instruction::UaddWithOverflow { a, b },
-            "uadd.with.overflow",
-            2,
-        ),
-        (
-            Instruction::SsubWithOverflow { a, b },
-            "ssub.with.overflow",
-            2,
-        ),
-        (
-            Instruction::UsubWithOverflow { a, b },
-            "usub.with.overflow",
-            2,
-        ),
-        (
-            Instruction::SmulWithOverflow { a, b },
-            "smul.with.overflow",
-            2,
-        ),
-        (
-            Instruction::UmulWithOverflow { a, b },
-            "umul.with.overflow",
-            2,
-        ),
-        (Instruction::SaddSat { a, b }, "sadd.sat", 2),
-        (Instruction::UaddSat { a, b }, "uadd.sat", 2),
-        (Instruction::SsubSat { a, b }, "ssub.sat", 2),
-        (Instruction::UsubSat { a, b }, "usub.sat", 2),
-        (Instruction::ExtractValue { a, b }, "extractvalue", 2),
-        (Instruction::Hole, "hole", 0),
-        (Instruction::Freeze { a }, "freeze", 1),
-    ]
+// The instruction has this word, so many operands, and this text.
+fn instruction_is(
+    rt: &impl Abort,
+    alloc: Global,
+    instruction: Instruction,
+    word: &str,
+    operands: &[Operand],
+    text: &str,
+) -> Result<(), Fail> {
+    let graph = Graph::new(alloc);
+    assert_eq!(rt; instruction.instruction_name(), word);
+    assert_eq!(rt; instruction.operands().as_slice(), operands);
+    let mut out = String::new(alloc);
+    instruction.display(&graph.statements, &mut out)?;
+    assert_eq!(rt; out.as_str(), text);
+    Ok(())
 }
 
 #[test]
 fn instructions_have_their_word_and_operands(rt: HostRuntime) -> Result<(), Fail> {
-    let graph = Graph::new(rt.alloc());
-    for (instruction, word, count) in instructions() {
-        assert_eq!(rt; instruction.instruction_name(), word);
-        let operands = instruction.operands();
-        let want = [number(1), number(2), number(3)];
-        assert_eq!(rt; operands.as_slice(), &want[..count]);
-        let mut text = String::new(rt.alloc());
-        instruction.display(&graph.statements, &mut text)?;
-        let mut shown = String::from_str(rt.alloc(), word)?;
-        shown.push_str(["", " 1", " 1, 2", " 1, 2, 3"][count])?;
-        assert_eq!(rt; text.as_str(), shown.as_str());
-    }
-    Ok(())
+    let alloc = rt.alloc();
+    instruction_is(&rt, alloc, Instruction::Hole, "hole", &[], "hole")?;
+    let freeze = Instruction::Freeze { a: number(1) };
+    instruction_is(&rt, alloc, freeze, "freeze", &[number(1)], "freeze 1")?;
+    let sum = Instruction::SaddWithOverflow {
+        a: number(1),
+        b: typed(-2, 8),
+    };
+    let word = "sadd.with.overflow";
+    let text = "sadd.with.overflow 1, -2:i8";
+    instruction_is(&rt, alloc, sum, word, &[number(1), typed(-2, 8)], text)?;
+    let select = Instruction::Select {
+        a: number(1),
+        b: number(2),
+        c: number(3),
+    };
+    let operands = [number(1), number(2), number(3)];
+    instruction_is(&rt, alloc, select, "select", &operands, "select 1, 2, 3")
 }
 
 #[test]
@@ -183,37 +117,64 @@ macro_rules! displays {
     }};
 }
 
-#[test]
-fn nodes_are_displayed_with_their_names(rt: HostRuntime) -> Result<(), Fail> {
-    let alloc = rt.alloc();
+// A variable and a block of two ways.
+fn two_values(alloc: Global) -> Result<(Graph, ValueId, BlockId), AllocError> {
     let mut graph = Graph::new(alloc);
     let x = graph.typed_var("%x", 8)?;
     let block = graph.block("%b", 2)?;
-    let statements = &graph.statements;
-    displays!(rt, x, statements, "%x");
-    displays!(rt, block, statements, "%b");
-    displays!(rt, Operand::from(x), statements, "%x");
-    displays!(rt, typed(-1, 8), statements, "-1:i8");
+    Ok((graph, x, block))
+}
+
+#[test]
+fn operands_are_displayed_with_their_names(rt: HostRuntime) -> Result<(), Fail> {
+    let (graph, x, block) = two_values(rt.alloc())?;
+    displays!(rt, x, &graph.statements, "%x");
+    displays!(rt, block, &graph.statements, "%b");
+    displays!(rt, Operand::from(x), &graph.statements, "%x");
+    displays!(rt, typed(-1, 8), &graph.statements, "-1:i8");
+    Ok(())
+}
+
+#[test]
+fn conditions_are_displayed_with_their_names(rt: HostRuntime) -> Result<(), Fail> {
+    let (graph, x, block) = two_values(rt.alloc())?;
     let pc = Pc {
         x: x.into(),
         y: number(1),
     };
-    displays!(rt, pc, statements, "pc %x 1");
+    displays!(rt, pc, &graph.statements, "pc %x 1");
+    displays!(rt, Statement::from(pc), &graph.statements, "pc %x 1\n");
     let block_pc = BlockPc {
         block,
         predecessor: 1,
         x: number(0),
         y: x.into(),
     };
-    displays!(rt, block_pc, statements, "blockpc %b 1 0 %x");
+    displays!(rt, block_pc, &graph.statements, "blockpc %b 1 0 %x");
+    displays!(
+        rt,
+        Statement::from(block_pc),
+        &graph.statements,
+        "blockpc %b 1 0 %x\n"
+    );
+    Ok(())
+}
+
+#[test]
+fn right_sides_are_displayed(rt: HostRuntime) -> Result<(), Fail> {
+    let (graph, x, block) = two_values(rt.alloc())?;
     let phi = Phi {
         block,
-        values: Vec::from_slice(alloc, &[x.into(), number(2)])?,
+        values: Vec::from_slice(rt.alloc(), &[x.into(), number(2)])?,
     };
-    displays!(rt, phi, statements, "phi %b, %x, 2");
-    displays!(rt, phi.clone()?, statements, "phi %b, %x, 2");
-    let rhs = AssignmentRhs::from(phi);
-    displays!(rt, rhs.clone()?, statements, "phi %b, %x, 2");
+    displays!(rt, phi, &graph.statements, "phi %b, %x, 2");
+    displays!(rt, phi.clone()?, &graph.statements, "phi %b, %x, 2");
+    displays!(
+        rt,
+        AssignmentRhs::from(phi),
+        &graph.statements,
+        "phi %b, %x, 2"
+    );
     for (rhs, want) in [
         (AssignmentRhs::Var, "var"),
         (AssignmentRhs::ReservedInst, "reservedinst"),
@@ -221,51 +182,63 @@ fn nodes_are_displayed_with_their_names(rt: HostRuntime) -> Result<(), Fail> {
         (AssignmentRhs::from(Block { predecessors: 3 }), "block 3"),
         (AssignmentRhs::from(Instruction::Hole), "hole"),
     ] {
-        displays!(rt, rhs, statements, want);
+        displays!(rt, rhs, &graph.statements, want);
+        displays!(rt, rhs.clone()?, &graph.statements, want);
     }
+    Ok(())
+}
+
+#[test]
+fn assignments_are_displayed(rt: HostRuntime) -> Result<(), Fail> {
+    let alloc = rt.alloc();
+    let (graph, _, _) = two_values(alloc)?;
     let mut attributes = Vec::new(alloc);
     attributes.push(Attribute::NonZero)?;
     attributes.push(Attribute::SignBits(3))?;
     let assignment = Assignment {
         name: String::from_str(alloc, "%y")?,
         ty: Some(Type { width: 8 }),
-        value: rhs,
+        value: AssignmentRhs::Var,
         attributes,
     };
-    let want = "%y:i8 = phi %b, %x, 2 (nonZero) (signBits=3)";
-    displays!(rt, assignment, statements, want);
-    displays!(rt, assignment.clone()?, statements, want);
-    let statement = Statement::from(assignment);
-    displays!(
-        rt,
-        statement.clone()?,
-        statements,
-        "%y:i8 = phi %b, %x, 2 (nonZero) (signBits=3)\n"
-    );
-    displays!(rt, Statement::from(pc), statements, "pc %x 1\n");
-    displays!(
-        rt,
-        Statement::from(block_pc),
-        statements,
-        "blockpc %b 1 0 %x\n"
-    );
-    let mut attributes = Vec::new(alloc);
+    let want = "%y:i8 = var (nonZero) (signBits=3)";
+    displays!(rt, assignment, &graph.statements, want);
+    displays!(rt, assignment.clone()?, &graph.statements, want);
+    let line = "%y:i8 = var (nonZero) (signBits=3)\n";
+    displays!(rt, Statement::from(assignment), &graph.statements, line);
+    Ok(())
+}
+
+#[test]
+fn last_lines_are_displayed(rt: HostRuntime) -> Result<(), Fail> {
+    let (graph, x, _) = two_values(rt.alloc())?;
+    let mut attributes = Vec::new(rt.alloc());
     attributes.push(RootAttribute::HarvestedFromUse)?;
     let infer = Infer {
         value: x,
         attributes,
     };
-    displays!(rt, infer, statements, "infer %x (harvestedFromUse)\n");
+    displays!(
+        rt,
+        infer,
+        &graph.statements,
+        "infer %x (harvestedFromUse)\n"
+    );
     let cand = Cand {
         lhs: x.into(),
         rhs: number(2),
         attributes: infer.clone()?.attributes,
     };
-    displays!(rt, cand, statements, "cand %x 2 (harvestedFromUse)\n");
+    displays!(
+        rt,
+        cand,
+        &graph.statements,
+        "cand %x 2 (harvestedFromUse)\n"
+    );
     displays!(
         rt,
         cand.clone()?,
-        statements,
+        &graph.statements,
         "cand %x 2 (harvestedFromUse)\n"
     );
     Ok(())
