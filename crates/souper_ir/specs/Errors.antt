@@ -27,7 +27,7 @@ kind_of e = kind_of_cause e.cause
 
 -- the offset of a refusal
 abbrev pub offset_of_cause : Cause → Option ℕ
-offset_of_cause (ParseCause refusal) = Some refusal.offset
+offset_of_cause (ParseCause refusal) = Some refusal.value.offset
 offset_of_cause _ = None
 
 -- `e.offset()`
@@ -56,7 +56,7 @@ shown_by_place (Some place) offset message = shown_at place message
 -- the text that a cause shows
 abbrev pub shown_cause : Cause → Option (List ℕ)
 shown_cause (IoCause fault) = None
-shown_cause (ParseCause refusal) = Some (shown_by_place refusal.place refusal.offset (string_bytes refusal.message))
+shown_cause (ParseCause refusal) = Some (shown_by_place refusal.value.place refusal.value.offset (string_bytes refusal.value.message))
 shown_cause MemoryCause = Some (codes "out of memory")
 
 -- the text that the error shows, but for the text of an I/O error, of which nothing is said

@@ -1,5 +1,5 @@
 //! The error of a parse.
-ghost use Rattle.std.specs.Prelude.{◌≡◌, ◌≤◌, ◌⊎◌, length, string_bytes, option_copied, IfSome, Some};
+ghost use Rattle.std.specs.Prelude.{◌≡◌, ◌≤◌, ◌⊎◌, length, string_bytes, option_copied, IfOk, IfSome, Some};
 ghost use Rattle.std.specs.Fmt.{WritesOnOk};
 ghost use Rattle.souper_ir.specs.Places.{direct_text};
 ghost use Rattle.souper_ir.specs.Errors.{kind_of, offset_of, fault_of, shown_error, shown_by_place, IsLocated, IsRefusalAt};
@@ -32,7 +32,8 @@ pub struct ParseError {
 #[derive(Drop)]
 enum Cause {
     Io(io::Error),
-    Parse(Refusal),
+    // In a box, since every answer of a parser has room for it.
+    Parse(Box<Refusal>),
     Memory,
 }
 
@@ -46,19 +47,22 @@ struct Refusal {
 
 impl ParseError {
     /// A refusal at an offset, in bytes.
-    pub(crate) fn refused(offset: usize, message: String) -> ParseError
-        ensures kind { kind_of result ≡ ParseErrorKind.Parse }
-        ensures offset { offset_of result ≡ Some offset }
-        ensures shown { shown_error result ≡ Some (direct_text offset (string_bytes message)) }
+    pub(crate) fn refused(
+        alloc: Global,
+        offset: usize,
+        message: String,
+    ) -> Result<ParseError, AllocError>
+        ensures kind { IfOk result (λ error. kind_of error ≡ ParseErrorKind.Parse) }
+        ensures offset { IfOk result (λ error. offset_of error ≡ Some offset) }
+        ensures shown { IfOk result (λ error. shown_error error ≡ Some (direct_text offset (string_bytes message))) }
     {
-        let place = None;
-        ParseError {
-            cause: Cause::Parse(Refusal {
-                offset,
-                message,
-                place,
-            }),
-        }
+        let refusal = Refusal {
+            offset,
+            message,
+            place: None,
+        };
+        let cause = Cause::Parse(Box::new(alloc, refusal)?);
+        Ok(ParseError { cause })
     }
 
     /// Want of memory.
@@ -76,7 +80,7 @@ impl ParseError {
         ensures { IsLocated (option_copied file.entry) source.now self result }
     {
         match self.cause {
-            Cause::Parse(refusal) => refusal.locate(alloc, source, file),
+            Cause::Parse(refusal) => locate(refusal, alloc, source, file),
             cause => ParseError { cause },
         }
     }
@@ -104,23 +108,28 @@ impl ParseError {
     }
 }
 
-impl Refusal {
-    fn locate(self, alloc: Global, source: &str, file: Option<&str>) -> ParseError
-        requires { self.offset ≤ length source.now }
-        ensures { (kind_of result ≡ ParseErrorKind.Memory) ⊎ IsRefusalAt (option_copied file.entry) source.now self.offset result }
-    {
-        match Place::new(alloc, source, self.offset, file) {
-            Ok(place) => ParseError {
-                cause: Cause::Parse(Refusal {
-                    offset: self.offset,
-                    message: self.message,
-                    place: Some(place),
-                }),
-            },
-            Err(refused) => ParseError::from(refused),
+// Gives a refusal its place in the source.
+fn locate(
+    mut refusal: Box<Refusal>,
+    alloc: Global,
+    source: &str,
+    file: Option<&str>,
+) -> ParseError
+    requires { refusal.value.offset ≤ length source.now }
+    ensures { (kind_of result ≡ ParseErrorKind.Memory) ⊎ IsRefusalAt (option_copied file.entry) source.now refusal.value.offset result }
+{
+    match Place::new(alloc, source, refusal.offset, file) {
+        Ok(place) => {
+            refusal.place = Some(place);
+            ParseError {
+                cause: Cause::Parse(refusal),
+            }
         }
+        Err(refused) => ParseError::from(refused),
     }
+}
 
+impl Refusal {
     fn show<W: fmt::Write>(&self, f: &mut fmt::Formatter<W>) -> fmt::Result
         ensures { WritesOnOk W.write_str_gives f.old result (shown_by_place self.now.place self.now.offset (string_bytes self.now.message)) f.new }
     {

@@ -1,5 +1,5 @@
 //! A parser with one token of lookahead.
-ghost use Rattle.std.specs.Prelude.{◌≡◌, ◌≤◌, ◌++◌, ◌∷◌, [], length, map, ℕ, List, true, false, Some, None, IfOk, OnOk, OnErr, IfErr, IsOk, option_map, is_some, ◌≢◌};
+ghost use Rattle.std.specs.Prelude.{◌≡◌, ◌≤◌, ◌++◌, ◌∷◌, [], length, map, ℕ, List, true, false, Some, None, IfOk, OnOk, OnErr, IfErr, IsOk, IsSomeAnd, option_map, is_some, ◌≢◌};
 ghost use Rattle.std.specs.String.{string_bytes};
 ghost use Rattle.souper_graph.specs.View.{view_rhs, view_statement, view_assignment};
 ghost use Rattle.souper_graph.specs.Values.{assigned};
@@ -10,7 +10,9 @@ ghost use Rattle.souper_ir.specs.Spelling.{ways_of, entry_of, position_of};
 ghost use Rattle.souper_ir.specs.NodeReadings.{block_entry};
 ghost use Rattle.souper_ir.specs.Parsing.{Cause, refused, no_memory};
 ghost use Rattle.souper_ir.specs.FailureView.{cause_of_failure};
-ghost use Rattle.souper_ir.specs.Reading.{Fails, FailsForMemory, Gives, look_at, take_at};
+ghost use Rattle.souper_ir.specs.Errors.{shown_error};
+ghost use Rattle.souper_ir.specs.Places.{IsDirectRefusalText};
+ghost use Rattle.souper_ir.specs.Reading.{Fails, FailsForMemory, Gives, cause_of, look_at, take_at};
 
 use crate::lexer::{Lexer, Token};
 use crate::parse::error::ParseError;
@@ -87,21 +89,30 @@ impl<'a> Parser<'a> {
 }
 
 impl<'a> Parser<'a> {
-    // Fails at the offset, and from now on. Where there is no memory for the message, it fails for want of memory.
+    // The refusal at the offset.
+    fn refusal(
+        &self,
+        offset: usize,
+        message: Message<'_>,
+    ) -> std::result::Result<ParseError, AllocError>
+        ensures { IfOk result (λ error. (cause_of error ≡ Some (refused offset)) × IsSomeAnd (shown_error error) (IsDirectRefusalText offset)) }
+    {
+        let text = message.to_string(self.alloc)?;
+        ParseError::refused(self.alloc, offset, text)
+    }
+
+    // Fails at the offset, and from now on. Where there is no memory for the refusal, it fails for want of memory.
     fn fail_at(&mut self, offset: usize, message: Message<'_>) -> ParseError
         requires within { offset ≤ self.old.len }
         requires again { (c : Cause) → self.old.failed ≡ Some c → c ≡ refused offset }
         ensures { Fails result self.old self.new }
     {
-        match message.to_string(self.alloc) {
-            Ok(text) => {
+        match self.refusal(offset, message) {
+            Ok(error) => {
                 self.failed = Some(Failure::Refused(offset));
-                ParseError::refused(offset, text)
+                error
             }
-            Err(_) => {
-                self.failed = Some(Failure::Memory);
-                ParseError::memory()
-            }
+            Err(_) => self.want_memory(),
         }
     }
 
