@@ -11,7 +11,7 @@ use Rattle.souper_graph.specs.declared.ast.statements.BlockPc.{BlockPc}
 use Rattle.souper_graph.specs.Values.{PlainAttribute, known_bits as known_bits_attribute, power_of_two, negative, non_negative, non_zero, has_external_uses, sign_bits, range, PlainRootAttribute, demanded_bits, harvested_from_use, PlainPhi, PlainRhs, var, block, phi, reserved_inst, reserved_const, instruction}
 use Rattle.souper_ir.specs.Tokens.{Lexeme, ident, val_name, known_bits, int, comma, colon, equals, open_paren, close_paren, open_bracket}
 use Rattle.souper_ir.specs.Numbers.{number_of, count_of, width_of, bits_of, known_bits_of}
-use Rattle.souper_ir.specs.Words.{instruction_of, operand_count_of}
+use Rattle.souper_ir.specs.Words.{opcode_of, operand_count, instruction_by}
 use Rattle.souper_ir.specs.Spelling.{entry_of, position_of}
 use Rattle.souper_ir.specs.Parsing.{Parsing}
 use Rattle.souper_ir.specs.Optional.{◌>>=◌}
@@ -164,19 +164,15 @@ phi_at p = do
   xs ← further_at b.0.1 b.1
   Some (record { block = b.0.0; values = xs.0 }, xs.1)
 
--- the word of an instruction, and how many operands it has
-abbrev pub counted_word : List ℕ → Option (List ℕ × ℕ)
-counted_word w = operand_count_of w >>= λ n. Some (w, n)
-
 unfoldable pub instruction_at : Parsing → Option (Instruction × Parsing)
 instruction_at p = do
-  w ← accept (ident_by counted_word) p
-  xs ← operands_at w.0.1 w.1
-  i ← instruction_of w.0.0 xs.0
+  o ← accept (ident_by opcode_of) p
+  xs ← operands_at (operand_count o.0) o.1
+  i ← instruction_by o.0 xs.0
   Some (i, xs.1)
 
 abbrev pub starts_instruction : Lexeme → Bool
-starts_instruction t = is_some (ident_by counted_word t)
+starts_instruction t = is_some (ident_by opcode_of t)
 
 -- what a right side begins with
 pub data RhsKind : Type 0 where
@@ -194,7 +190,7 @@ rhs_kind_of_word w =
     if bytes_eq w (codes "phi") then Some is_phi else (
     if bytes_eq w (codes "reservedinst") then Some is_reserved_inst else (
     if bytes_eq w (codes "reservedconst") then Some is_reserved_const else (
-    if is_some (operand_count_of w) then Some is_instruction else None)))))
+    if is_some (opcode_of w) then Some is_instruction else None)))))
 
 abbrev pub rhs_kind_of : Option Lexeme → Option RhsKind
 rhs_kind_of None = None

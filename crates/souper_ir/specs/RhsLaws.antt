@@ -8,15 +8,16 @@ use Rattle.souper_graph.specs.Instructions.{word_of as instruction_word, operand
 use Rattle.souper_graph.specs.Values.{PlainPhi, PlainRhs, var, block, phi, reserved_inst, reserved_const, instruction}
 use Rattle.souper_ir.specs.Tokens.{Lexeme, ident, val_name, int}
 use Rattle.souper_ir.specs.Numbers.{count_of}
-use Rattle.souper_ir.specs.Words.{instruction_of, operand_count_of}
-use Rattle.souper_ir.specs.WordLaws.{instruction_is, count_is, kind_is, instruction_makes}
+use Rattle.souper_ir.specs.declared.parse.words.Opcode.{Opcode}
+use Rattle.souper_ir.specs.Words.{opcode_of, operand_count, instruction_by}
+use Rattle.souper_ir.specs.WordLaws.{opcode_is, kind_is, opcode_makes}
 use Rattle.souper_ir.specs.Spelling.{kinds, Scope, entry_of, further_spells, operands_spells, block_spells, phi_spells, instruction_spells, rhs_spells}
 use Rattle.souper_ir.specs.Continuation.{operands_continue, phi_continues, instruction_continues, rhs_continues}
 use Rattle.souper_ir.specs.Parsing.{Cause, Parsing}
 use Rattle.souper_ir.specs.Optional.{◌>>=◌}
 use Rattle.souper_ir.specs.Reading.{look_in, look_at}
 use Rattle.souper_ir.specs.Grammar.{Free, Stops, Starts}
-use Rattle.souper_ir.specs.NodeReadings.{accept, name_of, is_word, word_of, int_by, ident_by, further_at, operands_at, block_at, block_entry, block_name_at, phi_at, counted_word, instruction_at, starts_instruction, RhsKind, is_var, is_block, is_phi, is_reserved_inst, is_reserved_const, is_instruction, rhs_kind_of, rhs_by, rhs_at}
+use Rattle.souper_ir.specs.NodeReadings.{accept, name_of, is_word, word_of, int_by, ident_by, further_at, operands_at, block_at, block_entry, block_name_at, phi_at, instruction_at, starts_instruction, RhsKind, is_var, is_block, is_phi, is_reserved_inst, is_reserved_const, is_instruction, rhs_kind_of, rhs_by, rhs_at}
 use Rattle.souper_ir.specs.Peeks.{some_is}
 use Rattle.souper_ir.specs.Steps.{Takes, Takes-then, At, bind_some, accepted, accepts}
 use Rattle.souper_ir.specs.Readings.{Sound, Complete}
@@ -124,47 +125,40 @@ phi_first s v ts h = subst (λ (x : List Lexeme). Starts (is_word (codes "phi"))
 
 -- ---- instructions
 
-counted_means : (w : List ℕ) (r : List ℕ × ℕ) → counted_word w ≡ Some r → (w ≡ r.0) × (operand_count_of w ≡ Some r.1)
-counted_means w r e =
-    let n = bind_some (operand_count_of w) (λ n. Some (w, n)) r e in
-    let same : ◌≡◌ {A = List ℕ × ℕ} (w, n.0) r = some_is n.2 in
-    (ap (λ (x : List ℕ × ℕ). x.0) same, n.1 ∙ ap (λ (x : List ℕ × ℕ). Some x.1) same)
-
-counted_is : (i : Instruction) → counted_word (instruction_word i) ≡ Some (instruction_word i, length (operands_of i))
-counted_is i = rw (count_is i) refl
-
 pub instruction_sound : Sound instruction_spells instruction_continues instruction_at
 unfolding instruction_at
 instruction_sound p q i e =
-    let w = bind_some (accept (ident_by counted_word) p) (λ w. operands_at w.0.1 w.1 >>= λ xs. (instruction_of w.0.0 xs.0 >>= λ i. Some (i, xs.1))) (i, q) e in
-    let xs = bind_some (operands_at w.0.0.1 w.0.1) (λ xs. instruction_of w.0.0.0 xs.0 >>= λ i. Some (i, xs.1)) (i, q) w.2 in
-    let j = bind_some (instruction_of w.0.0.0 xs.0.0) (λ i. Some (i, xs.0.1)) (i, q) xs.2 in
-    let w2 = accepted (ident_by counted_word) p w.0.1 w.0.0 w.1 in
-    let k = ident_means counted_word w2.0 w.0.0 w2.2 in
-    let x2 = operands_sound w.0.0.1 w.0.1 xs.0.1 xs.0.0 (live_still p w.0.1 (w2.0 ∷ []) w2.1) xs.1 in
-    let made = instruction_makes w.0.0.0 xs.0.0 j.0 j.1 in
-    let first : w2.0 ≡ ident (instruction_word j.0) = k.1 ∙ ap ident ((counted_means k.0 w.0.0 k.2).0 ∙ made.0) in
+    let w = bind_some (accept (ident_by opcode_of) p) (λ o. operands_at (operand_count o.0) o.1 >>= λ xs. (instruction_by o.0 xs.0 >>= λ i. Some (i, xs.1))) (i, q) e in
+    let xs = bind_some (operands_at (operand_count w.0.0) w.0.1) (λ xs. instruction_by w.0.0 xs.0 >>= λ i. Some (i, xs.1)) (i, q) w.2 in
+    let j = bind_some (instruction_by w.0.0 xs.0.0) (λ i. Some (i, xs.0.1)) (i, q) xs.2 in
+    let w2 = accepted (ident_by opcode_of) p w.0.1 w.0.0 w.1 in
+    let k = ident_means opcode_of w2.0 w.0.0 w2.2 in
+    let x2 = operands_sound (operand_count w.0.0) w.0.1 xs.0.1 xs.0.0 (live_still p w.0.1 (w2.0 ∷ []) w2.1) xs.1 in
+    let made = opcode_makes k.0 xs.0.0 w.0.0 j.0 k.2 j.1 in
+    let first : w2.0 ≡ ident (instruction_word j.0) = k.1 ∙ ap ident made.0 in
     let spelled : operands_spells p.scope (operands_of j.0) x2.0 =
     subst (λ (ys : List Operand). operands_spells p.scope ys x2.0) made.1 (subst (λ (s : Scope). operands_spells s xs.0.0 x2.0) (scope_is p w.0.1 (w2.0 ∷ []) w2.1) x2.2) in
     let free : Free (operands_continue (operands_of j.0)) (kinds xs.0.1.tokens) = subst (λ (ys : List Operand). Free (operands_continue ys) (kinds xs.0.1.tokens)) made.1 x2.4 in
     moved (WasRead instruction_spells instruction_continues p) (j.0, xs.0.1) (i, q) j.2
     (w2.0 ∷ x2.0, Takes-then p w.0.1 xs.0.1 (w2.0 ∷ []) x2.0 w2.1 x2.1, (x2.0, ap (λ (t : Lexeme). t ∷ x2.0) first, spelled), free)
 
-instruction_made : (p w q : Parsing) (i : Instruction) → accept (ident_by counted_word) p ≡ Some ((instruction_word i, length (operands_of i)), w) → operands_at (length (operands_of i)) w ≡ Some (operands_of i, q) → instruction_at p ≡ Some (i, q)
+instruction_made : (p w q : Parsing) (i : Instruction) (o : Opcode) → accept (ident_by opcode_of) p ≡ Some (o, w) → operands_at (operand_count o) w ≡ Some (operands_of i, q)
+    → instruction_by o (operands_of i) ≡ Some i → instruction_at p ≡ Some (i, q)
 unfolding instruction_at
-instruction_made p w q i d e = rw (d, e, instruction_is i) refl
+instruction_made p w q i o d e m = rw (d, e, m) refl
 
 pub instruction_complete : Complete instruction_spells instruction_continues instruction_at
 instruction_complete p i front rest at s st =
     let ahead : At p (ident (instruction_word i) ∷ (s.0 ++ rest)) = subst (λ (x : List Lexeme). At p (x ++ rest)) s.1 at in
-    let w = accepts (ident_by counted_word) p (ident (instruction_word i)) (instruction_word i, length (operands_of i)) (s.0 ++ rest) ahead (counted_is i) in
+    let o = opcode_is i in
+    let w = accepts (ident_by opcode_of) p (ident (instruction_word i)) o.0 (s.0 ++ rest) ahead o.1.0 in
     let spelled : operands_spells w.0.scope (operands_of i) s.0 = subst (λ (z : Scope). operands_spells z (operands_of i) s.0) (sym (same_scope p w.0 w.3)) s.2 in
     let last : Stops (operands_continue (operands_of i)) w.0.faulty rest = subst (λ (z : Bool). Stops (operands_continue (operands_of i)) z rest) (sym (same_fault p w.0 w.3)) st in
     let xs = operands_complete w.0 (operands_of i) s.0 rest w.2 spelled last in
-    (xs.0, instruction_made p w.0 xs.0 i w.1 xs.1, xs.2, state_then p w.0 xs.0 w.3 xs.3)
+    (xs.0, instruction_made p w.0 xs.0 i o.0 w.1 (ap (λ (n : ℕ). operands_at n w.0) o.1.1 ∙ xs.1) o.1.2, xs.2, state_then p w.0 xs.0 w.3 xs.3)
 
 starts_it : (i : Instruction) → starts_instruction (ident (instruction_word i)) ≡ true
-starts_it i = rw (counted_is i) refl
+starts_it i = rw ((opcode_is i).1.0) refl
 
 pub instruction_first : (s : Scope) (i : Instruction) (ts : List Lexeme) → instruction_spells s i ts → Starts starts_instruction ts
 instruction_first s i ts h = subst (λ (x : List Lexeme). Starts starts_instruction x) (sym h.1) (starts_it i)

@@ -1,140 +1,85 @@
--- The words of the instructions: each makes its instruction, and no other.
-use Rattle.std.proofs.Common.{◌≡◌, ℕ, Bool, true, false, List, [], ◌∷◌, length, Option, Some, None, refl, ◌∙◌, subst}
+-- The words of the instructions: each names the opcode of its instruction, and no other.
+use Rattle.std.proofs.Common.{◌≡◌, ℕ, Bool, true, false, List, [], ◌∷◌, length, Option, Some, None, refl, sym, subst}
 use Rattle.std.specs.Prelude.{codes, bytes_eq, if◌then◌else◌}
 use Rattle.std.proofs.lemmas.Slice.Eq.{bytes_eq-Decides}
 use Rattle.souper_graph.specs.declared.ast.operands.Operand.{Operand}
 use Rattle.souper_graph.specs.declared.ast.instructions.Instruction.{Instruction}
-use Rattle.souper_graph.specs.declared.ast.instructions.Instruction.TheVariants.{Add, AddNsw, AddNuw, AddNw, Sub, SubNsw, SubNuw, SubNw, Mul, MulNsw, MulNuw, MulNw, Udiv, Sdiv, UdivExact, SdivExact, Urem, Srem, And, Or, Xor, Shl, ShlNsw, ShlNuw, ShlNw, Lshr, LshrExact, Ashr, AshrExact, Select, Zext, Sext, Trunc, Eq, Ne, Ult, Slt, Ule, Sle, Ctpop, Bswap, BitReverse, Cttz, Ctlz, Fshl, Fshr, SaddWithOverflow, UaddWithOverflow, SsubWithOverflow, UsubWithOverflow, SmulWithOverflow, UmulWithOverflow, SaddSat, UaddSat, SsubSat, UsubSat, ExtractValue, Hole, Freeze}
+use Rattle.souper_graph.specs.declared.ast.instructions.Instruction.TheVariants.{Add, AddNsw, AddNuw, AddNw, Sub, SubNsw, SubNuw, SubNw, Mul, MulNsw, MulNuw, MulNw, Udiv, Sdiv, UdivExact, SdivExact, Urem, Srem, And, Or, Xor, Shl, ShlNsw, ShlNuw, ShlNw, Lshr, LshrExact, Ashr, AshrExact, Eq, Ne, Ult, Slt, Ule, Sle, SaddWithOverflow, UaddWithOverflow, SsubWithOverflow, UsubWithOverflow, SmulWithOverflow, UmulWithOverflow, SaddSat, UaddSat, SsubSat, UsubSat, ExtractValue, Zext, Sext, Trunc, Ctpop, Bswap, BitReverse, Cttz, Ctlz, Freeze, Select, Fshl, Fshr, Hole}
 use Rattle.souper_graph.specs.Instructions.{word_of, operands_of}
-use Rattle.souper_ir.specs.Words.{nullary_of, unary_of, arithmetic_of, bitwise_of, comparison_of, checked_of, ternary_of, binary_of, first_some, instruction_of, operand_count_of}
+use Rattle.souper_ir.specs.declared.parse.words.Opcode.{Opcode}
+use Rattle.souper_ir.specs.declared.parse.words.Opcode.TheVariants.{Add as do_add, AddNsw as do_add_nsw, AddNuw as do_add_nuw, AddNw as do_add_nw, Sub as do_sub, SubNsw as do_sub_nsw, SubNuw as do_sub_nuw, SubNw as do_sub_nw, Mul as do_mul, MulNsw as do_mul_nsw, MulNuw as do_mul_nuw, MulNw as do_mul_nw, Udiv as do_udiv, Sdiv as do_sdiv, UdivExact as do_udiv_exact, SdivExact as do_sdiv_exact, Urem as do_urem, Srem as do_srem, And as do_and, Or as do_or, Xor as do_xor, Shl as do_shl, ShlNsw as do_shl_nsw, ShlNuw as do_shl_nuw, ShlNw as do_shl_nw, Lshr as do_lshr, LshrExact as do_lshr_exact, Ashr as do_ashr, AshrExact as do_ashr_exact, Eq as do_eq, Ne as do_ne, Ult as do_ult, Slt as do_slt, Ule as do_ule, Sle as do_sle, SaddWithOverflow as do_sadd_with_overflow, UaddWithOverflow as do_uadd_with_overflow, SsubWithOverflow as do_ssub_with_overflow, UsubWithOverflow as do_usub_with_overflow, SmulWithOverflow as do_smul_with_overflow, UmulWithOverflow as do_umul_with_overflow, SaddSat as do_sadd_sat, UaddSat as do_uadd_sat, SsubSat as do_ssub_sat, UsubSat as do_usub_sat, ExtractValue as do_extract_value, Zext as do_zext, Sext as do_sext, Trunc as do_trunc, Ctpop as do_ctpop, Bswap as do_bswap, BitReverse as do_bit_reverse, Cttz as do_cttz, Ctlz as do_ctlz, Freeze as do_freeze, Select as do_select, Fshl as do_fshl, Fshr as do_fshr, Hole as do_hole}
+use Rattle.souper_ir.specs.Words.{arithmetic_of, bitwise_of, comparison_of, checked_of, unary_of, ternary_of, nullary_of, first_some, opcode_of, Shape, no_operand, one_operand, two_operands, three_operands, shape_of, operand_count, instruction_of_shape, instruction_by}
 use Rattle.souper_ir.specs.NodeReadings.{is_instruction, rhs_kind_of_word}
 use Rattle.souper_ir.specs.Peeks.{some_is}
 
--- ---- the word of an instruction
+-- ---- the opcode of an instruction
 
-pub instruction_is : (i : Instruction) → instruction_of (word_of i) (operands_of i) ≡ Some i
-instruction_is (Add a b) = refl
-instruction_is (AddNsw a b) = refl
-instruction_is (AddNuw a b) = refl
-instruction_is (AddNw a b) = refl
-instruction_is (Sub a b) = refl
-instruction_is (SubNsw a b) = refl
-instruction_is (SubNuw a b) = refl
-instruction_is (SubNw a b) = refl
-instruction_is (Mul a b) = refl
-instruction_is (MulNsw a b) = refl
-instruction_is (MulNuw a b) = refl
-instruction_is (MulNw a b) = refl
-instruction_is (Udiv a b) = refl
-instruction_is (Sdiv a b) = refl
-instruction_is (UdivExact a b) = refl
-instruction_is (SdivExact a b) = refl
-instruction_is (Urem a b) = refl
-instruction_is (Srem a b) = refl
-instruction_is (And a b) = refl
-instruction_is (Or a b) = refl
-instruction_is (Xor a b) = refl
-instruction_is (Shl a b) = refl
-instruction_is (ShlNsw a b) = refl
-instruction_is (ShlNuw a b) = refl
-instruction_is (ShlNw a b) = refl
-instruction_is (Lshr a b) = refl
-instruction_is (LshrExact a b) = refl
-instruction_is (Ashr a b) = refl
-instruction_is (AshrExact a b) = refl
-instruction_is (Select a b c) = refl
-instruction_is (Zext a) = refl
-instruction_is (Sext a) = refl
-instruction_is (Trunc a) = refl
-instruction_is (Eq a b) = refl
-instruction_is (Ne a b) = refl
-instruction_is (Ult a b) = refl
-instruction_is (Slt a b) = refl
-instruction_is (Ule a b) = refl
-instruction_is (Sle a b) = refl
-instruction_is (Ctpop a) = refl
-instruction_is (Bswap a) = refl
-instruction_is (BitReverse a) = refl
-instruction_is (Cttz a) = refl
-instruction_is (Ctlz a) = refl
-instruction_is (Fshl a b c) = refl
-instruction_is (Fshr a b c) = refl
-instruction_is (SaddWithOverflow a b) = refl
-instruction_is (UaddWithOverflow a b) = refl
-instruction_is (SsubWithOverflow a b) = refl
-instruction_is (UsubWithOverflow a b) = refl
-instruction_is (SmulWithOverflow a b) = refl
-instruction_is (UmulWithOverflow a b) = refl
-instruction_is (SaddSat a b) = refl
-instruction_is (UaddSat a b) = refl
-instruction_is (SsubSat a b) = refl
-instruction_is (UsubSat a b) = refl
-instruction_is (ExtractValue a b) = refl
-instruction_is Hole = refl
-instruction_is (Freeze a) = refl
+-- the word of the instruction names the opcode, which makes the instruction of its operands
+abbrev pub OpcodeOf : Instruction → Opcode → Type 0
+OpcodeOf i o = (opcode_of (word_of i) ≡ Some o) × (operand_count o ≡ length (operands_of i)) × (instruction_by o (operands_of i) ≡ Some i)
 
-pub count_is : (i : Instruction) → operand_count_of (word_of i) ≡ Some (length (operands_of i))
-count_is (Add a b) = refl
-count_is (AddNsw a b) = refl
-count_is (AddNuw a b) = refl
-count_is (AddNw a b) = refl
-count_is (Sub a b) = refl
-count_is (SubNsw a b) = refl
-count_is (SubNuw a b) = refl
-count_is (SubNw a b) = refl
-count_is (Mul a b) = refl
-count_is (MulNsw a b) = refl
-count_is (MulNuw a b) = refl
-count_is (MulNw a b) = refl
-count_is (Udiv a b) = refl
-count_is (Sdiv a b) = refl
-count_is (UdivExact a b) = refl
-count_is (SdivExact a b) = refl
-count_is (Urem a b) = refl
-count_is (Srem a b) = refl
-count_is (And a b) = refl
-count_is (Or a b) = refl
-count_is (Xor a b) = refl
-count_is (Shl a b) = refl
-count_is (ShlNsw a b) = refl
-count_is (ShlNuw a b) = refl
-count_is (ShlNw a b) = refl
-count_is (Lshr a b) = refl
-count_is (LshrExact a b) = refl
-count_is (Ashr a b) = refl
-count_is (AshrExact a b) = refl
-count_is (Select a b c) = refl
-count_is (Zext a) = refl
-count_is (Sext a) = refl
-count_is (Trunc a) = refl
-count_is (Eq a b) = refl
-count_is (Ne a b) = refl
-count_is (Ult a b) = refl
-count_is (Slt a b) = refl
-count_is (Ule a b) = refl
-count_is (Sle a b) = refl
-count_is (Ctpop a) = refl
-count_is (Bswap a) = refl
-count_is (BitReverse a) = refl
-count_is (Cttz a) = refl
-count_is (Ctlz a) = refl
-count_is (Fshl a b c) = refl
-count_is (Fshr a b c) = refl
-count_is (SaddWithOverflow a b) = refl
-count_is (UaddWithOverflow a b) = refl
-count_is (SsubWithOverflow a b) = refl
-count_is (UsubWithOverflow a b) = refl
-count_is (SmulWithOverflow a b) = refl
-count_is (UmulWithOverflow a b) = refl
-count_is (SaddSat a b) = refl
-count_is (UaddSat a b) = refl
-count_is (SsubSat a b) = refl
-count_is (UsubSat a b) = refl
-count_is (ExtractValue a b) = refl
-count_is Hole = refl
-count_is (Freeze a) = refl
+pub opcode_is : (i : Instruction) → (o : Opcode) × OpcodeOf i o
+opcode_is (Add a b) = (do_add, (refl, refl, refl))
+opcode_is (AddNsw a b) = (do_add_nsw, (refl, refl, refl))
+opcode_is (AddNuw a b) = (do_add_nuw, (refl, refl, refl))
+opcode_is (AddNw a b) = (do_add_nw, (refl, refl, refl))
+opcode_is (Sub a b) = (do_sub, (refl, refl, refl))
+opcode_is (SubNsw a b) = (do_sub_nsw, (refl, refl, refl))
+opcode_is (SubNuw a b) = (do_sub_nuw, (refl, refl, refl))
+opcode_is (SubNw a b) = (do_sub_nw, (refl, refl, refl))
+opcode_is (Mul a b) = (do_mul, (refl, refl, refl))
+opcode_is (MulNsw a b) = (do_mul_nsw, (refl, refl, refl))
+opcode_is (MulNuw a b) = (do_mul_nuw, (refl, refl, refl))
+opcode_is (MulNw a b) = (do_mul_nw, (refl, refl, refl))
+opcode_is (Udiv a b) = (do_udiv, (refl, refl, refl))
+opcode_is (Sdiv a b) = (do_sdiv, (refl, refl, refl))
+opcode_is (UdivExact a b) = (do_udiv_exact, (refl, refl, refl))
+opcode_is (SdivExact a b) = (do_sdiv_exact, (refl, refl, refl))
+opcode_is (Urem a b) = (do_urem, (refl, refl, refl))
+opcode_is (Srem a b) = (do_srem, (refl, refl, refl))
+opcode_is (And a b) = (do_and, (refl, refl, refl))
+opcode_is (Or a b) = (do_or, (refl, refl, refl))
+opcode_is (Xor a b) = (do_xor, (refl, refl, refl))
+opcode_is (Shl a b) = (do_shl, (refl, refl, refl))
+opcode_is (ShlNsw a b) = (do_shl_nsw, (refl, refl, refl))
+opcode_is (ShlNuw a b) = (do_shl_nuw, (refl, refl, refl))
+opcode_is (ShlNw a b) = (do_shl_nw, (refl, refl, refl))
+opcode_is (Lshr a b) = (do_lshr, (refl, refl, refl))
+opcode_is (LshrExact a b) = (do_lshr_exact, (refl, refl, refl))
+opcode_is (Ashr a b) = (do_ashr, (refl, refl, refl))
+opcode_is (AshrExact a b) = (do_ashr_exact, (refl, refl, refl))
+opcode_is (Eq a b) = (do_eq, (refl, refl, refl))
+opcode_is (Ne a b) = (do_ne, (refl, refl, refl))
+opcode_is (Ult a b) = (do_ult, (refl, refl, refl))
+opcode_is (Slt a b) = (do_slt, (refl, refl, refl))
+opcode_is (Ule a b) = (do_ule, (refl, refl, refl))
+opcode_is (Sle a b) = (do_sle, (refl, refl, refl))
+opcode_is (SaddWithOverflow a b) = (do_sadd_with_overflow, (refl, refl, refl))
+opcode_is (UaddWithOverflow a b) = (do_uadd_with_overflow, (refl, refl, refl))
+opcode_is (SsubWithOverflow a b) = (do_ssub_with_overflow, (refl, refl, refl))
+opcode_is (UsubWithOverflow a b) = (do_usub_with_overflow, (refl, refl, refl))
+opcode_is (SmulWithOverflow a b) = (do_smul_with_overflow, (refl, refl, refl))
+opcode_is (UmulWithOverflow a b) = (do_umul_with_overflow, (refl, refl, refl))
+opcode_is (SaddSat a b) = (do_sadd_sat, (refl, refl, refl))
+opcode_is (UaddSat a b) = (do_uadd_sat, (refl, refl, refl))
+opcode_is (SsubSat a b) = (do_ssub_sat, (refl, refl, refl))
+opcode_is (UsubSat a b) = (do_usub_sat, (refl, refl, refl))
+opcode_is (ExtractValue a b) = (do_extract_value, (refl, refl, refl))
+opcode_is (Zext a) = (do_zext, (refl, refl, refl))
+opcode_is (Sext a) = (do_sext, (refl, refl, refl))
+opcode_is (Trunc a) = (do_trunc, (refl, refl, refl))
+opcode_is (Ctpop a) = (do_ctpop, (refl, refl, refl))
+opcode_is (Bswap a) = (do_bswap, (refl, refl, refl))
+opcode_is (BitReverse a) = (do_bit_reverse, (refl, refl, refl))
+opcode_is (Cttz a) = (do_cttz, (refl, refl, refl))
+opcode_is (Ctlz a) = (do_ctlz, (refl, refl, refl))
+opcode_is (Freeze a) = (do_freeze, (refl, refl, refl))
+opcode_is (Select a b c) = (do_select, (refl, refl, refl))
+opcode_is (Fshl a b c) = (do_fshl, (refl, refl, refl))
+opcode_is (Fshr a b c) = (do_fshr, (refl, refl, refl))
+opcode_is Hole = (do_hole, (refl, refl, refl))
 
--- it begins no other right side
+-- the word of an instruction begins a right side that is one
 pub kind_is : (i : Instruction) → rhs_kind_of_word (word_of i) ≡ Some is_instruction
 kind_is (Add a b) = refl
 kind_is (AddNsw a b) = refl
@@ -165,23 +110,12 @@ kind_is (Lshr a b) = refl
 kind_is (LshrExact a b) = refl
 kind_is (Ashr a b) = refl
 kind_is (AshrExact a b) = refl
-kind_is (Select a b c) = refl
-kind_is (Zext a) = refl
-kind_is (Sext a) = refl
-kind_is (Trunc a) = refl
 kind_is (Eq a b) = refl
 kind_is (Ne a b) = refl
 kind_is (Ult a b) = refl
 kind_is (Slt a b) = refl
 kind_is (Ule a b) = refl
 kind_is (Sle a b) = refl
-kind_is (Ctpop a) = refl
-kind_is (Bswap a) = refl
-kind_is (BitReverse a) = refl
-kind_is (Cttz a) = refl
-kind_is (Ctlz a) = refl
-kind_is (Fshl a b c) = refl
-kind_is (Fshr a b c) = refl
 kind_is (SaddWithOverflow a b) = refl
 kind_is (UaddWithOverflow a b) = refl
 kind_is (SsubWithOverflow a b) = refl
@@ -193,116 +127,149 @@ kind_is (UaddSat a b) = refl
 kind_is (SsubSat a b) = refl
 kind_is (UsubSat a b) = refl
 kind_is (ExtractValue a b) = refl
-kind_is Hole = refl
+kind_is (Zext a) = refl
+kind_is (Sext a) = refl
+kind_is (Trunc a) = refl
+kind_is (Ctpop a) = refl
+kind_is (Bswap a) = refl
+kind_is (BitReverse a) = refl
+kind_is (Cttz a) = refl
+kind_is (Ctlz a) = refl
 kind_is (Freeze a) = refl
+kind_is (Select a b c) = refl
+kind_is (Fshl a b c) = refl
+kind_is (Fshr a b c) = refl
+kind_is Hole = refl
 
--- ---- the instruction of a word
+-- ---- the instruction of an opcode
 
 -- the word and the operands are those of the instruction
 abbrev pub Makes : List ℕ → List Operand → Instruction → Type 0
 Makes w xs i = (w ≡ word_of i) × (xs ≡ operands_of i)
 
-makes_if : (b : Bool) (w : List ℕ) (xs : List Operand) (x i : Instruction) (o : Option Instruction) → (if b then Some x else o) ≡ Some i → (b ≡ true → Makes w xs x) → (o ≡ Some i → Makes w xs i) → Makes w xs i
-makes_if true w xs x i o e here there = subst (Makes w xs) (some_is e) (here refl)
-makes_if false w xs x i o e here there = there e
+-- the word is that of whatever has the shape
+abbrev pub Names : List ℕ → Shape → Type 0
+Names w (no_operand i) = Makes w [] i
+Names w (one_operand f) = (a : Operand) → Makes w (a ∷ []) (f a)
+Names w (two_operands f) = (a b : Operand) → Makes w (a ∷ b ∷ []) (f a b)
+Names w (three_operands f) = (a b c : Operand) → Makes w (a ∷ b ∷ c ∷ []) (f a b c)
+
+shape_makes : (s : Shape) (w : List ℕ) (xs : List Operand) (i : Instruction) → Names w s → instruction_of_shape s xs ≡ Some i → Makes w xs i
+shape_makes (no_operand j) w [] i h e = subst (Makes w []) (some_is e) h
+shape_makes (no_operand j) w (a ∷ xs) i h e = absurd cc
+shape_makes (one_operand f) w [] i h e = absurd cc
+shape_makes (one_operand f) w (a ∷ []) i h e = subst (Makes w (a ∷ [])) (some_is e) (h a)
+shape_makes (one_operand f) w (a ∷ (b ∷ xs)) i h e = absurd cc
+shape_makes (two_operands f) w [] i h e = absurd cc
+shape_makes (two_operands f) w (a ∷ []) i h e = absurd cc
+shape_makes (two_operands f) w (a ∷ (b ∷ [])) i h e = subst (Makes w (a ∷ b ∷ [])) (some_is e) (h a b)
+shape_makes (two_operands f) w (a ∷ (b ∷ (c ∷ xs))) i h e = absurd cc
+shape_makes (three_operands f) w [] i h e = absurd cc
+shape_makes (three_operands f) w (a ∷ []) i h e = absurd cc
+shape_makes (three_operands f) w (a ∷ (b ∷ [])) i h e = absurd cc
+shape_makes (three_operands f) w (a ∷ (b ∷ (c ∷ []))) i h e = subst (Makes w (a ∷ b ∷ c ∷ [])) (some_is e) (h a b c)
+shape_makes (three_operands f) w (a ∷ (b ∷ (c ∷ (d ∷ xs)))) i h e = absurd cc
+
+named_if : (b : Bool) (w : List ℕ) (x o : Opcode) (rest : Option Opcode) → (if b then Some x else rest) ≡ Some o → (b ≡ true → Names w (shape_of x)) → (rest ≡ Some o → Names w (shape_of o)) → Names w (shape_of o)
+named_if true w x o rest e here there = subst (λ (z : Opcode). Names w (shape_of z)) (some_is e) (here refl)
+named_if false w x o rest e here there = there e
 
 -- one line of a table
-made : (w k : List ℕ) (x i : Instruction) (o : Option Instruction) → (if bytes_eq w k then Some x else o) ≡ Some i → k ≡ word_of x → (o ≡ Some i → Makes w (operands_of x) i) → Makes w (operands_of x) i
-made w k x i o e same there = makes_if (bytes_eq w k) w (operands_of x) x i o e (λ h. ((bytes_eq-Decides w k).0 h ∙ same, refl)) there
+named : (w k : List ℕ) (x o : Opcode) (rest : Option Opcode) → (if bytes_eq w k then Some x else rest) ≡ Some o → Names k (shape_of x) → (rest ≡ Some o → Names w (shape_of o)) → Names w (shape_of o)
+named w k x o rest e h there = named_if (bytes_eq w k) w x o rest e (λ q. subst (λ (z : List ℕ). Names z (shape_of x)) (sym ((bytes_eq-Decides w k).0 q)) h) there
 
-nullary_makes : (w : List ℕ) (i : Instruction) → nullary_of w ≡ Some i → Makes w ([]) i
-nullary_makes w i e =
-    made w (codes "hole") Hole i _ e refl (λ e. absurd cc)
+arithmetic_named : (w : List ℕ) (o : Opcode) → arithmetic_of w ≡ Some o → Names w (shape_of o)
+arithmetic_named w o e =
+    named w (codes "add") do_add o _ e (λ a b. (refl, refl)) (λ e.
+    named w (codes "addnsw") do_add_nsw o _ e (λ a b. (refl, refl)) (λ e.
+    named w (codes "addnuw") do_add_nuw o _ e (λ a b. (refl, refl)) (λ e.
+    named w (codes "addnw") do_add_nw o _ e (λ a b. (refl, refl)) (λ e.
+    named w (codes "sub") do_sub o _ e (λ a b. (refl, refl)) (λ e.
+    named w (codes "subnsw") do_sub_nsw o _ e (λ a b. (refl, refl)) (λ e.
+    named w (codes "subnuw") do_sub_nuw o _ e (λ a b. (refl, refl)) (λ e.
+    named w (codes "subnw") do_sub_nw o _ e (λ a b. (refl, refl)) (λ e.
+    named w (codes "mul") do_mul o _ e (λ a b. (refl, refl)) (λ e.
+    named w (codes "mulnsw") do_mul_nsw o _ e (λ a b. (refl, refl)) (λ e.
+    named w (codes "mulnuw") do_mul_nuw o _ e (λ a b. (refl, refl)) (λ e.
+    named w (codes "mulnw") do_mul_nw o _ e (λ a b. (refl, refl)) (λ e.
+    named w (codes "udiv") do_udiv o _ e (λ a b. (refl, refl)) (λ e.
+    named w (codes "sdiv") do_sdiv o _ e (λ a b. (refl, refl)) (λ e.
+    named w (codes "udivexact") do_udiv_exact o _ e (λ a b. (refl, refl)) (λ e.
+    named w (codes "sdivexact") do_sdiv_exact o _ e (λ a b. (refl, refl)) (λ e.
+    named w (codes "urem") do_urem o _ e (λ a b. (refl, refl)) (λ e.
+    named w (codes "srem") do_srem o _ e (λ a b. (refl, refl)) (λ e. absurd cc))))))))))))))))))
 
-unary_makes : (w : List ℕ) (a : Operand) (i : Instruction) → unary_of w a ≡ Some i → Makes w (a ∷ []) i
-unary_makes w a i e =
-    made w (codes "zext") (Zext a) i _ e refl (λ e.
-    made w (codes "sext") (Sext a) i _ e refl (λ e.
-    made w (codes "trunc") (Trunc a) i _ e refl (λ e.
-    made w (codes "ctpop") (Ctpop a) i _ e refl (λ e.
-    made w (codes "bswap") (Bswap a) i _ e refl (λ e.
-    made w (codes "bitreverse") (BitReverse a) i _ e refl (λ e.
-    made w (codes "cttz") (Cttz a) i _ e refl (λ e.
-    made w (codes "ctlz") (Ctlz a) i _ e refl (λ e.
-    made w (codes "freeze") (Freeze a) i _ e refl (λ e. absurd cc)))))))))
+bitwise_named : (w : List ℕ) (o : Opcode) → bitwise_of w ≡ Some o → Names w (shape_of o)
+bitwise_named w o e =
+    named w (codes "and") do_and o _ e (λ a b. (refl, refl)) (λ e.
+    named w (codes "or") do_or o _ e (λ a b. (refl, refl)) (λ e.
+    named w (codes "xor") do_xor o _ e (λ a b. (refl, refl)) (λ e.
+    named w (codes "shl") do_shl o _ e (λ a b. (refl, refl)) (λ e.
+    named w (codes "shlnsw") do_shl_nsw o _ e (λ a b. (refl, refl)) (λ e.
+    named w (codes "shlnuw") do_shl_nuw o _ e (λ a b. (refl, refl)) (λ e.
+    named w (codes "shlnw") do_shl_nw o _ e (λ a b. (refl, refl)) (λ e.
+    named w (codes "lshr") do_lshr o _ e (λ a b. (refl, refl)) (λ e.
+    named w (codes "lshrexact") do_lshr_exact o _ e (λ a b. (refl, refl)) (λ e.
+    named w (codes "ashr") do_ashr o _ e (λ a b. (refl, refl)) (λ e.
+    named w (codes "ashrexact") do_ashr_exact o _ e (λ a b. (refl, refl)) (λ e. absurd cc)))))))))))
 
-arithmetic_makes : (w : List ℕ) (a b : Operand) (i : Instruction) → arithmetic_of w a b ≡ Some i → Makes w (a ∷ b ∷ []) i
-arithmetic_makes w a b i e =
-    made w (codes "add") (Add a b) i _ e refl (λ e.
-    made w (codes "addnsw") (AddNsw a b) i _ e refl (λ e.
-    made w (codes "addnuw") (AddNuw a b) i _ e refl (λ e.
-    made w (codes "addnw") (AddNw a b) i _ e refl (λ e.
-    made w (codes "sub") (Sub a b) i _ e refl (λ e.
-    made w (codes "subnsw") (SubNsw a b) i _ e refl (λ e.
-    made w (codes "subnuw") (SubNuw a b) i _ e refl (λ e.
-    made w (codes "subnw") (SubNw a b) i _ e refl (λ e.
-    made w (codes "mul") (Mul a b) i _ e refl (λ e.
-    made w (codes "mulnsw") (MulNsw a b) i _ e refl (λ e.
-    made w (codes "mulnuw") (MulNuw a b) i _ e refl (λ e.
-    made w (codes "mulnw") (MulNw a b) i _ e refl (λ e.
-    made w (codes "udiv") (Udiv a b) i _ e refl (λ e.
-    made w (codes "sdiv") (Sdiv a b) i _ e refl (λ e.
-    made w (codes "udivexact") (UdivExact a b) i _ e refl (λ e.
-    made w (codes "sdivexact") (SdivExact a b) i _ e refl (λ e.
-    made w (codes "urem") (Urem a b) i _ e refl (λ e.
-    made w (codes "srem") (Srem a b) i _ e refl (λ e. absurd cc))))))))))))))))))
+comparison_named : (w : List ℕ) (o : Opcode) → comparison_of w ≡ Some o → Names w (shape_of o)
+comparison_named w o e =
+    named w (codes "eq") do_eq o _ e (λ a b. (refl, refl)) (λ e.
+    named w (codes "ne") do_ne o _ e (λ a b. (refl, refl)) (λ e.
+    named w (codes "ult") do_ult o _ e (λ a b. (refl, refl)) (λ e.
+    named w (codes "slt") do_slt o _ e (λ a b. (refl, refl)) (λ e.
+    named w (codes "ule") do_ule o _ e (λ a b. (refl, refl)) (λ e.
+    named w (codes "sle") do_sle o _ e (λ a b. (refl, refl)) (λ e. absurd cc))))))
 
-bitwise_makes : (w : List ℕ) (a b : Operand) (i : Instruction) → bitwise_of w a b ≡ Some i → Makes w (a ∷ b ∷ []) i
-bitwise_makes w a b i e =
-    made w (codes "and") (And a b) i _ e refl (λ e.
-    made w (codes "or") (Or a b) i _ e refl (λ e.
-    made w (codes "xor") (Xor a b) i _ e refl (λ e.
-    made w (codes "shl") (Shl a b) i _ e refl (λ e.
-    made w (codes "shlnsw") (ShlNsw a b) i _ e refl (λ e.
-    made w (codes "shlnuw") (ShlNuw a b) i _ e refl (λ e.
-    made w (codes "shlnw") (ShlNw a b) i _ e refl (λ e.
-    made w (codes "lshr") (Lshr a b) i _ e refl (λ e.
-    made w (codes "lshrexact") (LshrExact a b) i _ e refl (λ e.
-    made w (codes "ashr") (Ashr a b) i _ e refl (λ e.
-    made w (codes "ashrexact") (AshrExact a b) i _ e refl (λ e. absurd cc)))))))))))
+checked_named : (w : List ℕ) (o : Opcode) → checked_of w ≡ Some o → Names w (shape_of o)
+checked_named w o e =
+    named w (codes "sadd.with.overflow") do_sadd_with_overflow o _ e (λ a b. (refl, refl)) (λ e.
+    named w (codes "uadd.with.overflow") do_uadd_with_overflow o _ e (λ a b. (refl, refl)) (λ e.
+    named w (codes "ssub.with.overflow") do_ssub_with_overflow o _ e (λ a b. (refl, refl)) (λ e.
+    named w (codes "usub.with.overflow") do_usub_with_overflow o _ e (λ a b. (refl, refl)) (λ e.
+    named w (codes "smul.with.overflow") do_smul_with_overflow o _ e (λ a b. (refl, refl)) (λ e.
+    named w (codes "umul.with.overflow") do_umul_with_overflow o _ e (λ a b. (refl, refl)) (λ e.
+    named w (codes "sadd.sat") do_sadd_sat o _ e (λ a b. (refl, refl)) (λ e.
+    named w (codes "uadd.sat") do_uadd_sat o _ e (λ a b. (refl, refl)) (λ e.
+    named w (codes "ssub.sat") do_ssub_sat o _ e (λ a b. (refl, refl)) (λ e.
+    named w (codes "usub.sat") do_usub_sat o _ e (λ a b. (refl, refl)) (λ e.
+    named w (codes "extractvalue") do_extract_value o _ e (λ a b. (refl, refl)) (λ e. absurd cc)))))))))))
 
-comparison_makes : (w : List ℕ) (a b : Operand) (i : Instruction) → comparison_of w a b ≡ Some i → Makes w (a ∷ b ∷ []) i
-comparison_makes w a b i e =
-    made w (codes "eq") (Eq a b) i _ e refl (λ e.
-    made w (codes "ne") (Ne a b) i _ e refl (λ e.
-    made w (codes "ult") (Ult a b) i _ e refl (λ e.
-    made w (codes "slt") (Slt a b) i _ e refl (λ e.
-    made w (codes "ule") (Ule a b) i _ e refl (λ e.
-    made w (codes "sle") (Sle a b) i _ e refl (λ e. absurd cc))))))
+unary_named : (w : List ℕ) (o : Opcode) → unary_of w ≡ Some o → Names w (shape_of o)
+unary_named w o e =
+    named w (codes "zext") do_zext o _ e (λ a. (refl, refl)) (λ e.
+    named w (codes "sext") do_sext o _ e (λ a. (refl, refl)) (λ e.
+    named w (codes "trunc") do_trunc o _ e (λ a. (refl, refl)) (λ e.
+    named w (codes "ctpop") do_ctpop o _ e (λ a. (refl, refl)) (λ e.
+    named w (codes "bswap") do_bswap o _ e (λ a. (refl, refl)) (λ e.
+    named w (codes "bitreverse") do_bit_reverse o _ e (λ a. (refl, refl)) (λ e.
+    named w (codes "cttz") do_cttz o _ e (λ a. (refl, refl)) (λ e.
+    named w (codes "ctlz") do_ctlz o _ e (λ a. (refl, refl)) (λ e.
+    named w (codes "freeze") do_freeze o _ e (λ a. (refl, refl)) (λ e. absurd cc)))))))))
 
-checked_makes : (w : List ℕ) (a b : Operand) (i : Instruction) → checked_of w a b ≡ Some i → Makes w (a ∷ b ∷ []) i
-checked_makes w a b i e =
-    made w (codes "sadd.with.overflow") (SaddWithOverflow a b) i _ e refl (λ e.
-    made w (codes "uadd.with.overflow") (UaddWithOverflow a b) i _ e refl (λ e.
-    made w (codes "ssub.with.overflow") (SsubWithOverflow a b) i _ e refl (λ e.
-    made w (codes "usub.with.overflow") (UsubWithOverflow a b) i _ e refl (λ e.
-    made w (codes "smul.with.overflow") (SmulWithOverflow a b) i _ e refl (λ e.
-    made w (codes "umul.with.overflow") (UmulWithOverflow a b) i _ e refl (λ e.
-    made w (codes "sadd.sat") (SaddSat a b) i _ e refl (λ e.
-    made w (codes "uadd.sat") (UaddSat a b) i _ e refl (λ e.
-    made w (codes "ssub.sat") (SsubSat a b) i _ e refl (λ e.
-    made w (codes "usub.sat") (UsubSat a b) i _ e refl (λ e.
-    made w (codes "extractvalue") (ExtractValue a b) i _ e refl (λ e. absurd cc)))))))))))
+ternary_named : (w : List ℕ) (o : Opcode) → ternary_of w ≡ Some o → Names w (shape_of o)
+ternary_named w o e =
+    named w (codes "select") do_select o _ e (λ a b c. (refl, refl)) (λ e.
+    named w (codes "fshl") do_fshl o _ e (λ a b c. (refl, refl)) (λ e.
+    named w (codes "fshr") do_fshr o _ e (λ a b c. (refl, refl)) (λ e. absurd cc)))
 
-ternary_makes : (w : List ℕ) (a b c : Operand) (i : Instruction) → ternary_of w a b c ≡ Some i → Makes w (a ∷ b ∷ c ∷ []) i
-ternary_makes w a b c i e =
-    made w (codes "select") (Select a b c) i _ e refl (λ e.
-    made w (codes "fshl") (Fshl a b c) i _ e refl (λ e.
-    made w (codes "fshr") (Fshr a b c) i _ e refl (λ e. absurd cc)))
+nullary_named : (w : List ℕ) (o : Opcode) → nullary_of w ≡ Some o → Names w (shape_of o)
+nullary_named w o e =
+    named w (codes "hole") do_hole o _ e (refl, refl) (λ e. absurd cc)
 
-first_makes : (a b : Option Instruction) (w : List ℕ) (xs : List Operand) (i : Instruction) → first_some a b ≡ Some i → (a ≡ Some i → Makes w xs i) → (b ≡ Some i → Makes w xs i) → Makes w xs i
-first_makes (Some x) b w xs i e f g = f e
-first_makes None b w xs i e f g = g e
+first_named : (a b : Option Opcode) (w : List ℕ) (o : Opcode) → first_some a b ≡ Some o → (a ≡ Some o → Names w (shape_of o)) → (b ≡ Some o → Names w (shape_of o)) → Names w (shape_of o)
+first_named (Some x) b w o e f g = f e
+first_named None b w o e f g = g e
 
-binary_makes : (w : List ℕ) (a b : Operand) (i : Instruction) → binary_of w a b ≡ Some i → Makes w (a ∷ b ∷ []) i
-binary_makes w a b i e =
-    first_makes (arithmetic_of w a b) (first_some (bitwise_of w a b) (first_some (comparison_of w a b) (checked_of w a b))) w (a ∷ b ∷ []) i e (arithmetic_makes w a b i) (λ e.
-    first_makes (bitwise_of w a b) (first_some (comparison_of w a b) (checked_of w a b)) w (a ∷ b ∷ []) i e (bitwise_makes w a b i) (λ e.
-    first_makes (comparison_of w a b) (checked_of w a b) w (a ∷ b ∷ []) i e (comparison_makes w a b i) (checked_makes w a b i)))
+opcode_fits : (w : List ℕ) (o : Opcode) → opcode_of w ≡ Some o → Names w (shape_of o)
+opcode_fits w o e =
+    first_named (arithmetic_of w) _ w o e (arithmetic_named w o) (λ e.
+    first_named (bitwise_of w) _ w o e (bitwise_named w o) (λ e.
+    first_named (comparison_of w) _ w o e (comparison_named w o) (λ e.
+    first_named (checked_of w) _ w o e (checked_named w o) (λ e.
+    first_named (unary_of w) _ w o e (unary_named w o) (λ e.
+    first_named (ternary_of w) _ w o e (ternary_named w o) (nullary_named w o))))))
 
-pub instruction_makes : (w : List ℕ) (xs : List Operand) (i : Instruction) → instruction_of w xs ≡ Some i → Makes w xs i
-instruction_makes w [] i e = nullary_makes w i e
-instruction_makes w (a ∷ []) i e = unary_makes w a i e
-instruction_makes w (a ∷ (b ∷ [])) i e = binary_makes w a b i e
-instruction_makes w (a ∷ (b ∷ (c ∷ []))) i e = ternary_makes w a b c i e
-instruction_makes w (a ∷ (b ∷ (c ∷ (d ∷ xs)))) i e = absurd cc
+pub opcode_makes : (w : List ℕ) (xs : List Operand) (o : Opcode) (i : Instruction) → opcode_of w ≡ Some o → instruction_by o xs ≡ Some i → Makes w xs i
+opcode_makes w xs o i e m = shape_makes (shape_of o) w xs i (opcode_fits w o e) m

@@ -109,12 +109,7 @@ impl ParseError {
 }
 
 // Gives a refusal its place in the source.
-fn locate(
-    mut refusal: Box<Refusal>,
-    alloc: Global,
-    source: &str,
-    file: Option<&str>,
-) -> ParseError
+fn locate(mut refusal: Box<Refusal>, alloc: Global, source: &str, file: Option<&str>) -> ParseError
     requires { refusal.value.offset ≤ length source.now }
     ensures { (kind_of result ≡ ParseErrorKind.Memory) ⊎ IsRefusalAt (option_copied file.entry) source.now refusal.value.offset result }
 {

@@ -1,13 +1,14 @@
 //! Right sides: blocks, phis and instructions.
 
-ghost use Rattle.std.specs.Prelude.{◌≡◌, ◌≤◌, None, codes, refl, IfOk};
+ghost use Rattle.std.specs.Prelude.{◌≡◌, None, codes, refl};
 ghost use Rattle.souper_graph.specs.Values.{PlainPhi, PlainRhs};
 ghost use Rattle.souper_graph.specs.View.{view_phi, view_rhs};
 ghost use Rattle.souper_ir.specs.Reading.{Gives};
 ghost use Rattle.souper_ir.specs.Grammar.{peek_at};
 ghost use Rattle.souper_ir.specs.Spelling.{block_spells, phi_spells, instruction_spells, rhs_spells};
 ghost use Rattle.souper_ir.specs.Continuation.{phi_continues, instruction_continues, rhs_continues};
-ghost use Rattle.souper_ir.specs.NodeReadings.{accept, ident_by, counted_word, is_word, starts_instruction, block_at, block_name_at, phi_at, instruction_at, rhs_at};
+ghost use Rattle.souper_ir.specs.NodeReadings.{accept, ident_by, is_word, starts_instruction, block_at, block_name_at, phi_at, instruction_at, rhs_at};
+ghost use Rattle.souper_ir.specs.Words.{opcode_of};
 ghost use Rattle.souper_ir.specs.Readings.{one_alone};
 ghost use Rattle.souper_ir.specs.RhsLaws.{block_complete, block_first, phi_complete, phi_first, instruction_complete, instruction_first, rhs_complete};
 
@@ -17,7 +18,7 @@ use crate::parse::operands::{further, operands};
 use crate::parse::parser::{Parser, Result};
 use crate::parse::tokens::{keyword, value_name, way_count, word_comes};
 use crate::parse::traits::{Parse, Peek};
-use crate::parse::words::{instruction_with, operand_count};
+use crate::parse::words::{Opcode, opcode_named};
 use souper_graph::ast::{AssignmentRhs, Block, BlockId, Instruction, Phi};
 
 #[tactic(auto, unfolding(crate::specs::NodeReadings::block_at))]
@@ -51,15 +52,13 @@ pub(crate) fn phi(parser: &mut Parser<'_>) -> Result<Phi>
     Ok(Phi { block, values })
 }
 
-// The word of an instruction, and how many operands it has.
 #[tactic(auto, unfolding(crate::specs::NodeReadings::accept))]
-fn instruction_word<'a>(parser: &mut Parser<'a>) -> Result<(&'a str, usize)>
-    ensures reads { Gives (λ r. (r.0.now, r.1)) result (accept (ident_by counted_word) parser.old) parser.old parser.new }
-    ensures few { IfOk result (λ r. r.1 ≤ 3) }
+fn instruction_word(parser: &mut Parser<'_>) -> Result<Opcode>
+    ensures { Gives (λ o. o) result (accept (ident_by opcode_of) parser.old) parser.old parser.new }
 {
     match parser.token()? {
-        Token::Ident(word) => match operand_count(word) {
-            Some(count) => Ok((word, count)),
+        Token::Ident(word) => match opcode_named(word) {
+            Some(opcode) => Ok(opcode),
             None => Err(parser.refuse(Message::ExpectedInstruction)),
         },
         _ => Err(parser.refuse(Message::ExpectedInstruction)),
@@ -70,9 +69,9 @@ fn instruction_word<'a>(parser: &mut Parser<'a>) -> Result<(&'a str, usize)>
 pub(crate) fn instruction(parser: &mut Parser<'_>) -> Result<Instruction>
     ensures { Gives (λ i. i) result (instruction_at parser.old) parser.old parser.new }
 {
-    let (word, count) = instruction_word(parser)?;
-    let operands = operands(parser, count)?;
-    match instruction_with(word, operands.as_slice()) {
+    let opcode = instruction_word(parser)?;
+    let operands = operands(parser, opcode.operand_count())?;
+    match opcode.with(operands.as_slice()) {
         Some(instruction) => Ok(instruction),
         None => Err(parser.refuse(Message::ExpectedInstruction)),
     }
@@ -101,7 +100,7 @@ pub(crate) fn rhs(parser: &mut Parser<'_>) -> Result<AssignmentRhs>
             keyword(parser, "reservedconst")?;
             Ok(AssignmentRhs::ReservedConst)
         }
-        _ if operand_count(word).is_some() => {
+        _ if opcode_named(word).is_some() => {
             Ok(AssignmentRhs::Instruction(instruction(parser)?))
         }
         _ => Err(parser.refuse(Message::ExpectedRhs)),
@@ -191,7 +190,7 @@ impl Peek for Instruction {
     #[tactic(auto, unfolding(crate::specs::Grammar::peek_at))]
     fn peek<'a>(parser: &mut Parser<'a>) -> Result<bool> {
         match parser.lookahead()? {
-            Some(Token::Ident(word)) => Ok(operand_count(word).is_some()),
+            Some(Token::Ident(word)) => Ok(opcode_named(word).is_some()),
             _ => Ok(false),
         }
     }

@@ -1,181 +1,356 @@
 //! The instruction that a word and operands make.
 
-ghost use Rattle.std.specs.Prelude.{◌≡◌, pos, None};
-ghost use Rattle.souper_graph.specs.declared.ast.operands.Operand.TheVariants.{Constant as constant_variant};
-ghost use Rattle.souper_ir.specs.Words.{nullary_of, unary_of, arithmetic_of, bitwise_of, comparison_of, checked_of, ternary_of, binary_of, instruction_of, operand_count_of};
+ghost use Rattle.std.specs.Prelude.{◌≡◌, ◌≤◌, ◌∷◌, []};
+ghost use Rattle.souper_ir.specs.Words.{opcode_of, arithmetic_of, bitwise_of, comparison_of, checked_of, unary_of, ternary_of, nullary_of, other_of, operand_count, instruction_by};
 
 use souper_graph::ast::{Instruction, Operand};
-use std::default::Default;
 
-fn nullary(word: &str) -> Option<Instruction>
+/// What an instruction does with its operands.
+#[derive(Clone, Copy, Debug, PartialEq, Eq)]
+pub(crate) enum Opcode {
+    Add,
+    AddNsw,
+    AddNuw,
+    AddNw,
+    Sub,
+    SubNsw,
+    SubNuw,
+    SubNw,
+    Mul,
+    MulNsw,
+    MulNuw,
+    MulNw,
+    Udiv,
+    Sdiv,
+    UdivExact,
+    SdivExact,
+    Urem,
+    Srem,
+    And,
+    Or,
+    Xor,
+    Shl,
+    ShlNsw,
+    ShlNuw,
+    ShlNw,
+    Lshr,
+    LshrExact,
+    Ashr,
+    AshrExact,
+    Eq,
+    Ne,
+    Ult,
+    Slt,
+    Ule,
+    Sle,
+    SaddWithOverflow,
+    UaddWithOverflow,
+    SsubWithOverflow,
+    UsubWithOverflow,
+    SmulWithOverflow,
+    UmulWithOverflow,
+    SaddSat,
+    UaddSat,
+    SsubSat,
+    UsubSat,
+    ExtractValue,
+    Zext,
+    Sext,
+    Trunc,
+    Ctpop,
+    Bswap,
+    BitReverse,
+    Cttz,
+    Ctlz,
+    Freeze,
+    Select,
+    Fshl,
+    Fshr,
+    Hole,
+}
+
+fn arithmetic(word: &str) -> Option<Opcode>
+    ensures { result ≡ arithmetic_of word.now }
+{
+    match word {
+        "add" => Some(Opcode::Add),
+        "addnsw" => Some(Opcode::AddNsw),
+        "addnuw" => Some(Opcode::AddNuw),
+        "addnw" => Some(Opcode::AddNw),
+        "sub" => Some(Opcode::Sub),
+        "subnsw" => Some(Opcode::SubNsw),
+        "subnuw" => Some(Opcode::SubNuw),
+        "subnw" => Some(Opcode::SubNw),
+        "mul" => Some(Opcode::Mul),
+        "mulnsw" => Some(Opcode::MulNsw),
+        "mulnuw" => Some(Opcode::MulNuw),
+        "mulnw" => Some(Opcode::MulNw),
+        "udiv" => Some(Opcode::Udiv),
+        "sdiv" => Some(Opcode::Sdiv),
+        "udivexact" => Some(Opcode::UdivExact),
+        "sdivexact" => Some(Opcode::SdivExact),
+        "urem" => Some(Opcode::Urem),
+        "srem" => Some(Opcode::Srem),
+        _ => None,
+    }
+}
+
+fn bitwise(word: &str) -> Option<Opcode>
+    ensures { result ≡ bitwise_of word.now }
+{
+    match word {
+        "and" => Some(Opcode::And),
+        "or" => Some(Opcode::Or),
+        "xor" => Some(Opcode::Xor),
+        "shl" => Some(Opcode::Shl),
+        "shlnsw" => Some(Opcode::ShlNsw),
+        "shlnuw" => Some(Opcode::ShlNuw),
+        "shlnw" => Some(Opcode::ShlNw),
+        "lshr" => Some(Opcode::Lshr),
+        "lshrexact" => Some(Opcode::LshrExact),
+        "ashr" => Some(Opcode::Ashr),
+        "ashrexact" => Some(Opcode::AshrExact),
+        _ => None,
+    }
+}
+
+fn comparison(word: &str) -> Option<Opcode>
+    ensures { result ≡ comparison_of word.now }
+{
+    match word {
+        "eq" => Some(Opcode::Eq),
+        "ne" => Some(Opcode::Ne),
+        "ult" => Some(Opcode::Ult),
+        "slt" => Some(Opcode::Slt),
+        "ule" => Some(Opcode::Ule),
+        "sle" => Some(Opcode::Sle),
+        _ => None,
+    }
+}
+
+fn checked(word: &str) -> Option<Opcode>
+    ensures { result ≡ checked_of word.now }
+{
+    match word {
+        "sadd.with.overflow" => Some(Opcode::SaddWithOverflow),
+        "uadd.with.overflow" => Some(Opcode::UaddWithOverflow),
+        "ssub.with.overflow" => Some(Opcode::SsubWithOverflow),
+        "usub.with.overflow" => Some(Opcode::UsubWithOverflow),
+        "smul.with.overflow" => Some(Opcode::SmulWithOverflow),
+        "umul.with.overflow" => Some(Opcode::UmulWithOverflow),
+        "sadd.sat" => Some(Opcode::SaddSat),
+        "uadd.sat" => Some(Opcode::UaddSat),
+        "ssub.sat" => Some(Opcode::SsubSat),
+        "usub.sat" => Some(Opcode::UsubSat),
+        "extractvalue" => Some(Opcode::ExtractValue),
+        _ => None,
+    }
+}
+
+fn unary(word: &str) -> Option<Opcode>
+    ensures { result ≡ unary_of word.now }
+{
+    match word {
+        "zext" => Some(Opcode::Zext),
+        "sext" => Some(Opcode::Sext),
+        "trunc" => Some(Opcode::Trunc),
+        "ctpop" => Some(Opcode::Ctpop),
+        "bswap" => Some(Opcode::Bswap),
+        "bitreverse" => Some(Opcode::BitReverse),
+        "cttz" => Some(Opcode::Cttz),
+        "ctlz" => Some(Opcode::Ctlz),
+        "freeze" => Some(Opcode::Freeze),
+        _ => None,
+    }
+}
+
+fn ternary(word: &str) -> Option<Opcode>
+    ensures { result ≡ ternary_of word.now }
+{
+    match word {
+        "select" => Some(Opcode::Select),
+        "fshl" => Some(Opcode::Fshl),
+        "fshr" => Some(Opcode::Fshr),
+        _ => None,
+    }
+}
+
+fn nullary(word: &str) -> Option<Opcode>
     ensures { result ≡ nullary_of word.now }
 {
     match word {
-        "hole" => Some(Instruction::Hole),
+        "hole" => Some(Opcode::Hole),
         _ => None,
     }
 }
 
-fn unary(word: &str, a: &Operand) -> Option<Instruction>
-    ensures { result ≡ unary_of word.now a.now }
+// The opcode of a word of the families that are left.
+fn other_opcode(word: &str) -> Option<Opcode>
+    ensures { result ≡ other_of word.now }
 {
-    match word {
-        "zext" => Some(Instruction::Zext { a: *a }),
-        "sext" => Some(Instruction::Sext { a: *a }),
-        "trunc" => Some(Instruction::Trunc { a: *a }),
-        "ctpop" => Some(Instruction::Ctpop { a: *a }),
-        "bswap" => Some(Instruction::Bswap { a: *a }),
-        "bitreverse" => Some(Instruction::BitReverse { a: *a }),
-        "cttz" => Some(Instruction::Cttz { a: *a }),
-        "ctlz" => Some(Instruction::Ctlz { a: *a }),
-        "freeze" => Some(Instruction::Freeze { a: *a }),
-        _ => None,
-    }
-}
-
-fn arithmetic(word: &str, a: &Operand, b: &Operand) -> Option<Instruction>
-    ensures { result ≡ arithmetic_of word.now a.now b.now }
-{
-    match word {
-        "add" => Some(Instruction::Add { a: *a, b: *b }),
-        "addnsw" => Some(Instruction::AddNsw { a: *a, b: *b }),
-        "addnuw" => Some(Instruction::AddNuw { a: *a, b: *b }),
-        "addnw" => Some(Instruction::AddNw { a: *a, b: *b }),
-        "sub" => Some(Instruction::Sub { a: *a, b: *b }),
-        "subnsw" => Some(Instruction::SubNsw { a: *a, b: *b }),
-        "subnuw" => Some(Instruction::SubNuw { a: *a, b: *b }),
-        "subnw" => Some(Instruction::SubNw { a: *a, b: *b }),
-        "mul" => Some(Instruction::Mul { a: *a, b: *b }),
-        "mulnsw" => Some(Instruction::MulNsw { a: *a, b: *b }),
-        "mulnuw" => Some(Instruction::MulNuw { a: *a, b: *b }),
-        "mulnw" => Some(Instruction::MulNw { a: *a, b: *b }),
-        "udiv" => Some(Instruction::Udiv { a: *a, b: *b }),
-        "sdiv" => Some(Instruction::Sdiv { a: *a, b: *b }),
-        "udivexact" => Some(Instruction::UdivExact { a: *a, b: *b }),
-        "sdivexact" => Some(Instruction::SdivExact { a: *a, b: *b }),
-        "urem" => Some(Instruction::Urem { a: *a, b: *b }),
-        "srem" => Some(Instruction::Srem { a: *a, b: *b }),
-        _ => None,
-    }
-}
-
-fn bitwise(word: &str, a: &Operand, b: &Operand) -> Option<Instruction>
-    ensures { result ≡ bitwise_of word.now a.now b.now }
-{
-    match word {
-        "and" => Some(Instruction::And { a: *a, b: *b }),
-        "or" => Some(Instruction::Or { a: *a, b: *b }),
-        "xor" => Some(Instruction::Xor { a: *a, b: *b }),
-        "shl" => Some(Instruction::Shl { a: *a, b: *b }),
-        "shlnsw" => Some(Instruction::ShlNsw { a: *a, b: *b }),
-        "shlnuw" => Some(Instruction::ShlNuw { a: *a, b: *b }),
-        "shlnw" => Some(Instruction::ShlNw { a: *a, b: *b }),
-        "lshr" => Some(Instruction::Lshr { a: *a, b: *b }),
-        "lshrexact" => Some(Instruction::LshrExact { a: *a, b: *b }),
-        "ashr" => Some(Instruction::Ashr { a: *a, b: *b }),
-        "ashrexact" => Some(Instruction::AshrExact { a: *a, b: *b }),
-        _ => None,
-    }
-}
-
-fn comparison(word: &str, a: &Operand, b: &Operand) -> Option<Instruction>
-    ensures { result ≡ comparison_of word.now a.now b.now }
-{
-    match word {
-        "eq" => Some(Instruction::Eq { a: *a, b: *b }),
-        "ne" => Some(Instruction::Ne { a: *a, b: *b }),
-        "ult" => Some(Instruction::Ult { a: *a, b: *b }),
-        "slt" => Some(Instruction::Slt { a: *a, b: *b }),
-        "ule" => Some(Instruction::Ule { a: *a, b: *b }),
-        "sle" => Some(Instruction::Sle { a: *a, b: *b }),
-        _ => None,
-    }
-}
-
-fn checked(word: &str, a: &Operand, b: &Operand) -> Option<Instruction>
-    ensures { result ≡ checked_of word.now a.now b.now }
-{
-    match word {
-        "sadd.with.overflow" => Some(Instruction::SaddWithOverflow { a: *a, b: *b }),
-        "uadd.with.overflow" => Some(Instruction::UaddWithOverflow { a: *a, b: *b }),
-        "ssub.with.overflow" => Some(Instruction::SsubWithOverflow { a: *a, b: *b }),
-        "usub.with.overflow" => Some(Instruction::UsubWithOverflow { a: *a, b: *b }),
-        "smul.with.overflow" => Some(Instruction::SmulWithOverflow { a: *a, b: *b }),
-        "umul.with.overflow" => Some(Instruction::UmulWithOverflow { a: *a, b: *b }),
-        "sadd.sat" => Some(Instruction::SaddSat { a: *a, b: *b }),
-        "uadd.sat" => Some(Instruction::UaddSat { a: *a, b: *b }),
-        "ssub.sat" => Some(Instruction::SsubSat { a: *a, b: *b }),
-        "usub.sat" => Some(Instruction::UsubSat { a: *a, b: *b }),
-        "extractvalue" => Some(Instruction::ExtractValue { a: *a, b: *b }),
-        _ => None,
-    }
-}
-
-fn ternary(word: &str, a: &Operand, b: &Operand, c: &Operand) -> Option<Instruction>
-    ensures { result ≡ ternary_of word.now a.now b.now c.now }
-{
-    match word {
-        "select" => Some(Instruction::Select {
-            a: *a,
-            b: *b,
-            c: *c,
-        }),
-        "fshl" => Some(Instruction::Fshl {
-            a: *a,
-            b: *b,
-            c: *c,
-        }),
-        "fshr" => Some(Instruction::Fshr {
-            a: *a,
-            b: *b,
-            c: *c,
-        }),
-        _ => None,
-    }
-}
-
-fn binary(word: &str, a: &Operand, b: &Operand) -> Option<Instruction>
-    ensures { result ≡ binary_of word.now a.now b.now }
-{
-    match arithmetic(word, a, b) {
-        Some(instruction) => Some(instruction),
-        None => match bitwise(word, a, b) {
-            Some(instruction) => Some(instruction),
-            None => match comparison(word, a, b) {
-                Some(instruction) => Some(instruction),
-                None => checked(word, a, b),
+    match checked(word) {
+        Some(opcode) => Some(opcode),
+        None => match unary(word) {
+            Some(opcode) => Some(opcode),
+            None => match ternary(word) {
+                Some(opcode) => Some(opcode),
+                None => nullary(word),
             },
         },
     }
 }
 
-/// The instruction of a word with these operands, from left to right.
-pub(crate) fn instruction_with(word: &str, operands: &[Operand]) -> Option<Instruction>
-    ensures { result ≡ instruction_of word.now operands.now }
+/// The opcode that a word names.
+pub(crate) fn opcode_named(word: &str) -> Option<Opcode>
+    ensures { result ≡ opcode_of word.now }
 {
-    match operands {
-        [] => nullary(word),
-        [a] => unary(word, a),
-        [a, b] => binary(word, a, b),
-        [a, b, c] => ternary(word, a, b, c),
-        _ => None,
+    match arithmetic(word) {
+        Some(opcode) => Some(opcode),
+        None => match bitwise(word) {
+            Some(opcode) => Some(opcode),
+            None => match comparison(word) {
+                Some(opcode) => Some(opcode),
+                None => other_opcode(word),
+            },
+        },
     }
 }
 
-/// With how many operands a word makes an instruction.
-pub(crate) fn operand_count(word: &str) -> Option<usize>
-    ensures { result ≡ operand_count_of word.now }
-{
-    let any = &Operand::default();
-    if matches!(binary(word, any, any), Some(_)) {
-        Some(2)
-    } else if matches!(unary(word, any), Some(_)) {
-        Some(1)
-    } else if matches!(ternary(word, any, any, any), Some(_)) {
-        Some(3)
-    } else if matches!(nullary(word), Some(_)) {
-        Some(0)
-    } else {
-        None
+impl Opcode {
+    /// How many operands it takes.
+    pub(crate) fn operand_count(self) -> usize
+        ensures count { result ≡ operand_count self }
+        ensures few { result ≤ 3 }
+    {
+        match self {
+            Opcode::Hole => 0,
+            Opcode::Zext
+            | Opcode::Sext
+            | Opcode::Trunc
+            | Opcode::Ctpop
+            | Opcode::Bswap
+            | Opcode::BitReverse
+            | Opcode::Cttz
+            | Opcode::Ctlz
+            | Opcode::Freeze => 1,
+            Opcode::Select | Opcode::Fshl | Opcode::Fshr => 3,
+            _ => 2,
+        }
+    }
+
+    fn nullary(self) -> Option<Instruction>
+        ensures { result ≡ instruction_by self ([]) }
+    {
+        match self {
+            Opcode::Hole => Some(Instruction::Hole),
+            _ => None,
+        }
+    }
+
+    fn unary(self, a: &Operand) -> Option<Instruction>
+        ensures { result ≡ instruction_by self (a.now ∷ []) }
+    {
+        match self {
+            Opcode::Zext => Some(Instruction::Zext { a: *a }),
+            Opcode::Sext => Some(Instruction::Sext { a: *a }),
+            Opcode::Trunc => Some(Instruction::Trunc { a: *a }),
+            Opcode::Ctpop => Some(Instruction::Ctpop { a: *a }),
+            Opcode::Bswap => Some(Instruction::Bswap { a: *a }),
+            Opcode::BitReverse => Some(Instruction::BitReverse { a: *a }),
+            Opcode::Cttz => Some(Instruction::Cttz { a: *a }),
+            Opcode::Ctlz => Some(Instruction::Ctlz { a: *a }),
+            Opcode::Freeze => Some(Instruction::Freeze { a: *a }),
+            _ => None,
+        }
+    }
+
+    fn binary(self, a: &Operand, b: &Operand) -> Option<Instruction>
+        ensures { result ≡ instruction_by self (a.now ∷ (b.now ∷ [])) }
+    {
+        match self {
+            Opcode::Add => Some(Instruction::Add { a: *a, b: *b }),
+            Opcode::AddNsw => Some(Instruction::AddNsw { a: *a, b: *b }),
+            Opcode::AddNuw => Some(Instruction::AddNuw { a: *a, b: *b }),
+            Opcode::AddNw => Some(Instruction::AddNw { a: *a, b: *b }),
+            Opcode::Sub => Some(Instruction::Sub { a: *a, b: *b }),
+            Opcode::SubNsw => Some(Instruction::SubNsw { a: *a, b: *b }),
+            Opcode::SubNuw => Some(Instruction::SubNuw { a: *a, b: *b }),
+            Opcode::SubNw => Some(Instruction::SubNw { a: *a, b: *b }),
+            Opcode::Mul => Some(Instruction::Mul { a: *a, b: *b }),
+            Opcode::MulNsw => Some(Instruction::MulNsw { a: *a, b: *b }),
+            Opcode::MulNuw => Some(Instruction::MulNuw { a: *a, b: *b }),
+            Opcode::MulNw => Some(Instruction::MulNw { a: *a, b: *b }),
+            Opcode::Udiv => Some(Instruction::Udiv { a: *a, b: *b }),
+            Opcode::Sdiv => Some(Instruction::Sdiv { a: *a, b: *b }),
+            Opcode::UdivExact => Some(Instruction::UdivExact { a: *a, b: *b }),
+            Opcode::SdivExact => Some(Instruction::SdivExact { a: *a, b: *b }),
+            Opcode::Urem => Some(Instruction::Urem { a: *a, b: *b }),
+            Opcode::Srem => Some(Instruction::Srem { a: *a, b: *b }),
+            Opcode::And => Some(Instruction::And { a: *a, b: *b }),
+            Opcode::Or => Some(Instruction::Or { a: *a, b: *b }),
+            Opcode::Xor => Some(Instruction::Xor { a: *a, b: *b }),
+            Opcode::Shl => Some(Instruction::Shl { a: *a, b: *b }),
+            Opcode::ShlNsw => Some(Instruction::ShlNsw { a: *a, b: *b }),
+            Opcode::ShlNuw => Some(Instruction::ShlNuw { a: *a, b: *b }),
+            Opcode::ShlNw => Some(Instruction::ShlNw { a: *a, b: *b }),
+            Opcode::Lshr => Some(Instruction::Lshr { a: *a, b: *b }),
+            Opcode::LshrExact => Some(Instruction::LshrExact { a: *a, b: *b }),
+            Opcode::Ashr => Some(Instruction::Ashr { a: *a, b: *b }),
+            Opcode::AshrExact => Some(Instruction::AshrExact { a: *a, b: *b }),
+            Opcode::Eq => Some(Instruction::Eq { a: *a, b: *b }),
+            Opcode::Ne => Some(Instruction::Ne { a: *a, b: *b }),
+            Opcode::Ult => Some(Instruction::Ult { a: *a, b: *b }),
+            Opcode::Slt => Some(Instruction::Slt { a: *a, b: *b }),
+            Opcode::Ule => Some(Instruction::Ule { a: *a, b: *b }),
+            Opcode::Sle => Some(Instruction::Sle { a: *a, b: *b }),
+            Opcode::SaddWithOverflow => Some(Instruction::SaddWithOverflow { a: *a, b: *b }),
+            Opcode::UaddWithOverflow => Some(Instruction::UaddWithOverflow { a: *a, b: *b }),
+            Opcode::SsubWithOverflow => Some(Instruction::SsubWithOverflow { a: *a, b: *b }),
+            Opcode::UsubWithOverflow => Some(Instruction::UsubWithOverflow { a: *a, b: *b }),
+            Opcode::SmulWithOverflow => Some(Instruction::SmulWithOverflow { a: *a, b: *b }),
+            Opcode::UmulWithOverflow => Some(Instruction::UmulWithOverflow { a: *a, b: *b }),
+            Opcode::SaddSat => Some(Instruction::SaddSat { a: *a, b: *b }),
+            Opcode::UaddSat => Some(Instruction::UaddSat { a: *a, b: *b }),
+            Opcode::SsubSat => Some(Instruction::SsubSat { a: *a, b: *b }),
+            Opcode::UsubSat => Some(Instruction::UsubSat { a: *a, b: *b }),
+            Opcode::ExtractValue => Some(Instruction::ExtractValue { a: *a, b: *b }),
+            _ => None,
+        }
+    }
+
+    fn ternary(self, a: &Operand, b: &Operand, c: &Operand) -> Option<Instruction>
+        ensures { result ≡ instruction_by self (a.now ∷ (b.now ∷ (c.now ∷ []))) }
+    {
+        match self {
+            Opcode::Select => Some(Instruction::Select {
+                a: *a,
+                b: *b,
+                c: *c,
+            }),
+            Opcode::Fshl => Some(Instruction::Fshl {
+                a: *a,
+                b: *b,
+                c: *c,
+            }),
+            Opcode::Fshr => Some(Instruction::Fshr {
+                a: *a,
+                b: *b,
+                c: *c,
+            }),
+            _ => None,
+        }
+    }
+
+    /// The instruction with these operands, from left to right.
+    pub(crate) fn with(self, operands: &[Operand]) -> Option<Instruction>
+        ensures { result ≡ instruction_by self operands.now }
+    {
+        match operands {
+            [] => self.nullary(),
+            [a] => self.unary(a),
+            [a, b] => self.binary(a, b),
+            [a, b, c] => self.ternary(a, b, c),
+            _ => None,
+        }
     }
 }

@@ -4,7 +4,7 @@ use Rattle.std.proofs.lemmas.Result.{err_from_is_err_and}
 use Rattle.souper_ir.specs.declared.lexer.Token.{Token}
 use Rattle.souper_ir.specs.Tokens.{ident}
 use Rattle.souper_ir.specs.TokenView.{lexeme_of}
-use Rattle.souper_ir.specs.Words.{operand_count_of}
+use Rattle.souper_ir.specs.Words.{opcode_of}
 use Rattle.souper_ir.specs.Reading.{cause_of, fails_later}
 use Rattle.souper_ir.proofs.RightSides.{instruction_read, instruction_refused, no_right_side, refused_so}
 use Rattle.souper_ir.proofs.parse.rhs.rhs.Goals as goal
@@ -15,8 +15,8 @@ returns-in_ok-instruction-in_default-word c =
     let h = c.in_default-word in
     let read = c.in_ok-instruction-in_default-word.ensures in
     let token : option_map lexeme_of c.in_ok-word.field-0 ≡ Some (ident c.in-Some-Ident.word.now) = ap (option_map lexeme_of) c.in-Some-Ident.is ∙ ap (λ (t : Token). Some (lexeme_of t)) c.in-Some-Ident.field-0-is in
-    let counted : is_some (operand_count_of c.in-Some-Ident.word.now) ≡ true = sym (ap is_some c.operand_count.ensures) ∙ sym c.is_some.ensures ∙ c.if-is_some.true in (
-      instruction_read c.args.parser.now c.lookahead.new.self _ c.in-Some-Ident.word.now seen.0 token (h.not-var, h.not-block, h.not-phi, h.not-reservedinst, h.not-reservedconst) c.instruction.new.parser c.in_ok-instruction-in_default-word.field-0 counted read.0,
+    let known : is_some (opcode_of c.in-Some-Ident.word.now) ≡ true = sym (ap is_some c.opcode_named.ensures) ∙ sym c.is_some.ensures ∙ c.if-is_some.true in (
+      instruction_read c.args.parser.now c.lookahead.new.self _ c.in-Some-Ident.word.now seen.0 token (h.not-var, h.not-block, h.not-phi, h.not-reservedinst, h.not-reservedconst) c.instruction.new.parser c.in_ok-instruction-in_default-word.field-0 known read.0,
       seen.1,
       read.2,
       read.3 ∙ seen.3,
@@ -27,9 +27,9 @@ returns-in_err-instruction-in_default-word c =
     let seen = c.in_ok-word.ensures.next in
     let h = c.in_default-word in
     let token : option_map lexeme_of c.in_ok-word.field-0 ≡ Some (ident c.in-Some-Ident.word.now) = ap (option_map lexeme_of) c.in-Some-Ident.is ∙ ap (λ (t : Token). Some (lexeme_of t)) c.in-Some-Ident.field-0-is in
-    let counted : is_some (operand_count_of c.in-Some-Ident.word.now) ≡ true = sym (ap is_some c.operand_count.ensures) ∙ sym c.is_some.ensures ∙ c.if-is_some.true in
+    let known : is_some (opcode_of c.in-Some-Ident.word.now) ≡ true = sym (ap is_some c.opcode_named.ensures) ∙ sym c.is_some.ensures ∙ c.if-is_some.true in
     let p = err_from_is_err_and c.from_residual-in_err-instruction-in_default-word.result c.from_residual-in_err-instruction-in_default-word.ensures.1 in
-    rw (p.1, p.2) (instruction_refused c.args.parser.now c.lookahead.new.self _ c.in-Some-Ident.word.now seen.0 token (h.not-var, h.not-block, h.not-phi, h.not-reservedinst, h.not-reservedconst) c.instruction.new.parser c.in_err-instruction-in_default-word.field-0.0 counted
+    rw (p.1, p.2) (instruction_refused c.args.parser.now c.lookahead.new.self _ c.in-Some-Ident.word.now seen.0 token (h.not-var, h.not-block, h.not-phi, h.not-reservedinst, h.not-reservedconst) c.instruction.new.parser c.in_err-instruction-in_default-word.field-0.0 known
     (seen.2 ∙ sym seen.1) seen.3 c.in_err-instruction-in_default-word.ensures)
 
 pub returns-in_default-2 : goal.returns-in_default-2
@@ -37,7 +37,7 @@ returns-in_default-2 c =
     let seen = c.in_ok-word.ensures.next in
     let h = c.in_default-word in
     let token : option_map lexeme_of c.in_ok-word.field-0 ≡ Some (ident c.in-Some-Ident.word.now) = ap (option_map lexeme_of) c.in-Some-Ident.is ∙ ap (λ (t : Token). Some (lexeme_of t)) c.in-Some-Ident.field-0-is in
-    let uncounted : is_some (operand_count_of c.in-Some-Ident.word.now) ≡ false = sym (ap is_some c.operand_count.ensures) ∙ sym c.is_some.ensures ∙ c.if-is_some.false in (
-      refused_so (cause_of c.refuse-in_default-2.result) (no_right_side c.args.parser.now c.lookahead.new.self _ c.in-Some-Ident.word.now seen.0 token (h.not-var, h.not-block, h.not-phi, h.not-reservedinst, h.not-reservedconst) uncounted),
+    let unknown : is_some (opcode_of c.in-Some-Ident.word.now) ≡ false = sym (ap is_some c.opcode_named.ensures) ∙ sym c.is_some.ensures ∙ c.if-is_some.false in (
+      refused_so (cause_of c.refuse-in_default-2.result) (no_right_side c.args.parser.now c.lookahead.new.self _ c.in-Some-Ident.word.now seen.0 token (h.not-var, h.not-block, h.not-phi, h.not-reservedinst, h.not-reservedconst) unknown),
       fails_later c.refuse-in_default-2.result c.args.parser.now c.lookahead.new.self c.refuse-in_default-2.new.self (seen.2 ∙ sym seen.1) seen.3 c.refuse-in_default-2.ensures,
     )
