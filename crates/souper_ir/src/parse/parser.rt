@@ -102,6 +102,8 @@ impl<'a> Parser<'a> {
     }
 
     // Fails at the offset, and from now on. Where there is no memory for the refusal, it fails for want of memory.
+    #[cold]
+    #[inline(never)]
     fn fail_at(&mut self, offset: usize, message: Message<'_>) -> ParseError
         requires within { offset ≤ self.old.len }
         requires again { (c : Cause) → self.old.failed ≡ Some c → c ≡ refused offset }
@@ -131,6 +133,8 @@ impl<'a> Parser<'a> {
     }
 
     /// Refuses the token last lexed. A parser that has failed fails as before.
+    #[cold]
+    #[inline(never)]
     pub(crate) fn refuse(&mut self, message: Message<'_>) -> ParseError
         ensures { Fails result self.old self.new }
     {
@@ -149,10 +153,24 @@ impl<'a> Parser<'a> {
     }
 
     /// The next token, which is not taken, or `None` at the end of the text.
+    #[inline(always)]
     #[tactic(auto, unfolding(crate::specs::Reading::look_at))]
     pub(crate) fn lookahead(&mut self) -> Result<Option<Token<'a>>>
         ensures next { Gives (option_map lexeme_of) result (look_at self.old) self.old self.new }
         // The end of the text needs no memory.
+        ensures ended { self.old.tokens ≡ [] → self.old.faulty ≡ false → self.old.failed ≡ None → IsOk result }
+    {
+        // Most often it was looked at before, and this stands in the caller.
+        match (self.failed, self.ahead) {
+            (None, Some((_, token))) => Ok(Some(token)),
+            _ => self.look(),
+        }
+    }
+
+    #[inline(never)]
+    #[tactic(auto, unfolding(crate::specs::Reading::look_at))]
+    fn look(&mut self) -> Result<Option<Token<'a>>>
+        ensures next { Gives (option_map lexeme_of) result (look_at self.old) self.old self.new }
         ensures ended { self.old.tokens ≡ [] → self.old.faulty ≡ false → self.old.failed ≡ None → IsOk result }
     {
         self.check_live()?;
@@ -171,8 +189,23 @@ impl<'a> Parser<'a> {
     }
 
     /// The next token, taken. The end of the text is refused.
+    #[inline(always)]
     #[tactic(auto, unfolding(crate::specs::Reading::take_at))]
     pub(crate) fn token(&mut self) -> Result<Token<'a>>
+        ensures { Gives lexeme_of result (take_at self.old) self.old self.new }
+    {
+        match (self.failed, self.ahead) {
+            (None, Some((_, token))) => {
+                self.ahead = None;
+                Ok(token)
+            }
+            _ => self.take(),
+        }
+    }
+
+    #[inline(never)]
+    #[tactic(auto, unfolding(crate::specs::Reading::take_at))]
+    fn take(&mut self) -> Result<Token<'a>>
         ensures { Gives lexeme_of result (take_at self.old) self.old self.new }
     {
         self.check_live()?;

@@ -201,6 +201,7 @@ fn other_opcode(word: &str) -> Option<Opcode>
 }
 
 /// The opcode that a word names.
+#[inline(never)]
 pub(crate) fn opcode_named(word: &str) -> Option<Opcode>
     ensures { result ≡ opcode_of word.now }
 {
