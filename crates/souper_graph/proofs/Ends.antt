@@ -167,6 +167,10 @@ positions-all a =
     ∙ ap (λ z. z ++ positions (map target_of (last_roots a.ending))) (positions-first a)
     ∙ ap (λ z. first_walks a ++ z) (positions-uses (last_roots a.ending))
 
+-- without last roots, all the walks are first ones
+all_first : (a : Item) → last_roots a.ending ≡ [] → length (targets_of a) ≡ length (first_targets a)
+all_first a none = ap (λ z. length (first_targets a ++ map target_of z)) none ∙ ap length (append-nil (first_targets a))
+
 -- the walks before the infer line, and how many of them are over, need no more than all
 
 Has-take : (n : ℕ) (xs : List Target) (t : Target) → Has (take n xs) t → Has xs t
@@ -314,8 +318,8 @@ no_bad a roots uses bad =
 -- a run that is over
 pub ordered_item : (a : Item) (g : List PlainStatement) (walks : List Target) (before k : ℕ) (s : List Entry) (m : List Bool) (ids : List ℕ) (turns lead : ℕ) →
     IsWalkedBy a g walks before → Running g (take k walks) (reverse s) m ids turns → s ≡ [] → length walks ≤ k → lead ≤ length ids → Leads g walks k before lead →
-    IsOrderOf a ids lead turns
-ordered_item a g walks before k s m ids turns lead w r e h l f =
+    (length walks ≤ before → lead ≡ length ids) → IsOrderOf a ids lead turns
+ordered_item a g walks before k s m ids turns lead w r e h l f whole =
     let R : List Target → Type 0 = λ z. Running g z [] m ids turns in
     let all = subst R (take_all k walks h) (running_over g (take k walks) s m ids turns r e) in
     let same = sym w.same_statements in
@@ -336,6 +340,10 @@ ordered_item a g walks before k s m ids turns lead w r e h l f =
       exact = ended.exact;
       once = ended.once;
       lead_within = l;
+      lead_whole = λ none. (let same_length = all_first a none in
+          let total = ap length w.same_walks in
+          let count = w.same_before in
+          whole (omega arith));
       turned = ended.turned;
       printed = ended.printed;
       led = led;

@@ -1,5 +1,5 @@
 -- What the walks over a graph trace: its roots, its path conditions, and what these lead to.
-use Rattle.std.specs.Prelude.{◌≡◌, ℕ, ◌<◌, ◌≤◌, ◌++◌, ◌↔◌, length, List, map, slice_get}
+use Rattle.std.specs.Prelude.{◌≡◌, ℕ, ◌<◌, ◌≤◌, ◌++◌, ◌↔◌, length, List, [], map, slice_get}
 use Rattle.souper_graph.specs.declared.stringify.errors.TextError.{TextError}
 use Rattle.souper_graph.specs.declared.stringify.errors.TextError.TheVariants.{OutOfRange, NotAnAssignment, NotABlock, OutOfMemory}
 use Rattle.souper_graph.specs.declared.stringify.order.Target.{Target}
@@ -52,6 +52,7 @@ pub record IsOrderOf (a : Item) (ids : List ℕ) (lead turns : ℕ) : Type 0 whe
   pub exact : (i : ℕ) → Has ids i ↔ NeededIn a i
   pub once : Distinct ids
   pub lead_within : lead ≤ length ids
+  pub lead_whole : last_roots a.ending ≡ [] → lead ≡ length ids
   pub turned : turns ≡ turns_of a ids
   pub printed : UsesBelow a → ids ≡ printed_order a
   pub led : UsesBelow a → lead ≡ lead_of a

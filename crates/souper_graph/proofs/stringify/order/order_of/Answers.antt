@@ -15,6 +15,7 @@ loop-k-init c = (
       c.new-stack.ensures.items c.in_ok-marks.ensures (c.len.ensures ∙ sym (length-map c.args.statements.now view_statement)) c.new-ids.ensures.items,
   omega arith,
   lead_start (map view_statement c.args.statements.now) c.args.walks.now.targets.items c.args.walks.now.before,
+  λ h. sym (ap length c.new-ids.ensures.items),
 )
 
 pub loop-entry-init : goal.loop-entry-init
@@ -104,6 +105,10 @@ loop-k-preserved c =
             | else-k-walks w ↦ (let h = w.if-k-walks.false in absurd (omega arith))
           ])
           (λ l. elim c.if-k-walks.branch [ then-k-walks w ↦ (let h = w.if-k-walks.true in absurd (omega arith)) | else-k-walks w ↦ w.lead-is ]),
+      λ l. elim c.if-k-walks.branch [
+        | then-k-walks w ↦ (let a = w.lead-is in let b = w.len-lead.ensures in let d = c.loop-entry.ids.ok in omega arith)
+        | else-k-walks w ↦ (let h = w.if-k-walks.false in let under = c.loop-k-test.true in let same = ap length c.deref-walk-items.ensures.value in absurd (omega arith))
+      ],
     )
 
 pub returns-clause-ordered : goal.returns-clause-ordered
@@ -111,4 +116,4 @@ returns-clause-ordered c a w =
     ordered_item a (map view_statement c.args.statements.now) c.args.walks.now.targets.items c.args.walks.now.before c.loop-k.k c.loop-k.stack.items c.loop-k.marks
     c.loop-k.ids.items c.loop-k.turns c.loop-k.lead w c.loop-k.invariant.1 c.loop-k.invariant.0
     (let past = c.loop-k-test.false in let same = ap length c.deref-walk-items.ensures.value in omega arith)
-    c.loop-k.invariant.2 c.loop-k.invariant.3
+    c.loop-k.invariant.2 c.loop-k.invariant.3 c.loop-k.invariant.4

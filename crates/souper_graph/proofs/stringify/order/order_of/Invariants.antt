@@ -12,6 +12,7 @@ invariant-loop-k l =
     × Running (map view_statement l.statements) (take l.k l.walks.targets.items) (reverse l.stack.items) l.marks l.ids.items l.turns
     × (l.lead ≤ length l.ids.items)
     × Leads (map view_statement l.statements) l.walks.targets.items l.k l.walks.before l.lead
+    × (length l.walks.targets.items ≤ l.walks.before → l.lead ≡ length l.ids.items)
 
 -- the walk at k is under way
 abbrev pub invariant-loop-entry : goal.invariant-loop-entry
