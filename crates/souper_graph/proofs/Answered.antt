@@ -1,9 +1,9 @@
 -- What an answered order says, fact by fact.
-use Rattle.std.proofs.Common.{◌≡◌, ℕ, ◌<◌, ◌≤◌, ◌↔◌, length, Ok, Err, Result, IfOk, OnOk}
+use Rattle.std.proofs.Common.{◌≡◌, ℕ, ◌<◌, ◌≤◌, ◌↔◌, length, take, [], Ok, Err, Result, IfOk, OnOk}
 use Rattle.souper_graph.specs.declared.stringify.errors.TextError.{TextError}
 use Rattle.souper_graph.specs.declared.stringify.order.Order.{Order}
 use Rattle.souper_graph.specs.Values.{Item}
-use Rattle.souper_graph.specs.Uses.{Has, NeededIn, UsesBelow}
+use Rattle.souper_graph.specs.Uses.{Has, last_roots, first_walks, Needed, NeededIn, UsesBelow}
 use Rattle.souper_graph.specs.Order.{printed_order, lead_of, turns_of, Distinct, EachAfterItsUses}
 use Rattle.souper_graph.specs.Faults.{HasBadId}
 use Rattle.souper_graph.specs.Walks.{IsOrderOf}
@@ -30,6 +30,14 @@ answered_once a (Err e) h = tt
 pub answered_lead_within : (a : Item) (r : Result Order TextError) → Answered a r → IfOk r (λ order. order.lead ≤ length order.ids.items)
 answered_lead_within a (Ok o) h = h.lead_within
 answered_lead_within a (Err e) h = tt
+
+pub answered_lead_exact : (a : Item) (r : Result Order TextError) → Answered a r → IfOk r (λ order. (i : ℕ) → Has (take order.lead order.ids.items) i ↔ Needed a.statements (first_walks a) i)
+answered_lead_exact a (Ok o) h = h.lead_exact
+answered_lead_exact a (Err e) h = tt
+
+pub answered_lead_is_all : (a : Item) (r : Result Order TextError) → Answered a r → last_roots a.ending ≡ [] → IfOk r (λ order. order.lead ≡ length order.ids.items)
+answered_lead_is_all a (Ok o) h = h.lead_whole
+answered_lead_is_all a (Err e) h = λ n. tt
 
 pub answered_turns : (a : Item) (r : Result Order TextError) → Answered a r → IfOk r (λ order. order.turns ≡ turns_of a order.ids.items)
 answered_turns a (Ok o) h = h.turned

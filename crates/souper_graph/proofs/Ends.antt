@@ -2,7 +2,7 @@
 use Rattle.std.proofs.Common.{◌≡◌, ℕ, ◌+◌, ◌<◌, ◌≤◌, ◌++◌, ◌-◌, ◌^◌, ◌↔◌, ◌⊎◌, inl, inr, min, length, map, reverse, List, [], ◌∷◌, Bool, true, false, refl, sym, ap, ◌∙◌, subst, get_or, arith, length-append, append-nil, take, drop, take-append-drop, Some, slice_get}
 use Rattle.std.proofs.Math.ListN.{replicate, set}
 use Rattle.std.proofs.Math.Seq.{take-append_seam}
-use Rattle.std.proofs.lemmas.List.{reverse-append, length-map, map-append, length_push, length-reverse, take_more, take_all}
+use Rattle.std.proofs.lemmas.List.{reverse-append, length-map, map-append, length_push, length-reverse, take_more, take_all, take-append-le}
 use Rattle.std.proofs.lemmas.Option.{slice_get-map, slice_get_within}
 use Rattle.std.proofs.lemmas.Bool.{cases_lt}
 use Rattle.std.specs.Option.{option_map}
@@ -15,7 +15,7 @@ use Rattle.souper_graph.specs.declared.stringify.order.Entry.{Entry}
 use Rattle.souper_graph.specs.declared.stringify.order.Entry.TheVariants.{Trace, Finished}
 use Rattle.souper_graph.specs.Values.{PlainStatement, Item}
 use Rattle.souper_graph.specs.View.{view_statement}
-use Rattle.souper_graph.specs.Uses.{Has, Use, value_use, block_use, position_of, uses_of, uses_of_optional, uses_at, used_at, Needed, conditions, first_roots, last_roots, roots_of, first_walks, walks_of, NeededIn}
+use Rattle.souper_graph.specs.Uses.{Has, Use, value_use, block_use, position_of, uses_of, uses_of_optional, uses_at, used_at, Needed, walked, used, conditions, first_roots, last_roots, roots_of, first_walks, walks_of, NeededIn}
 use Rattle.souper_graph.specs.Order.{Distinct, EachAfterItsUses, cost, order_of_walks}
 use Rattle.souper_graph.specs.Faults.{IsMet, NamedIn, HasBadId, IsFaultOf}
 use Rattle.souper_graph.specs.Walks.{position_of_target, target_of, IsMetTarget, IsFaultAt, first_targets, targets_of, IsWalkedBy, IsOrderOf}
@@ -167,6 +167,10 @@ positions-all a =
     ∙ ap (λ z. z ++ positions (map target_of (last_roots a.ending))) (positions-first a)
     ∙ ap (λ z. first_walks a ++ z) (positions-uses (last_roots a.ending))
 
+-- without last roots, all the walks are first ones
+all_first : (a : Item) → last_roots a.ending ≡ [] → length (targets_of a) ≡ length (first_targets a)
+all_first a none = ap (λ z. length (first_targets a ++ map target_of z)) none ∙ ap length (append-nil (first_targets a))
+
 -- the walks before the infer line, and how many of them are over, need no more than all
 
 Has-take : (n : ℕ) (xs : List Target) (t : Target) → Has (take n xs) t → Has xs t
@@ -199,12 +203,81 @@ lead_next ss walks k before s m ids turns lead lead' r e f a b ub = elim (cases_
   | inr l ↦ b l ∙ f ub ∙ ap (λ z. length (order_of_walks ss (positions (take z walks)))) (let q : min k before ≡ min (k + 1) before = omega arith in q)
 ]
 
-lead_end : (ss : List PlainStatement) (walks : List Target) (k before lead : ℕ) → length walks ≤ k → Leads ss walks k before lead →
-    Below ss (positions walks) → lead ≡ length (order_of_walks ss (positions (take before walks)))
-lead_end ss walks k before lead h f ub = f ub ∙ ap (λ z. length (order_of_walks ss (positions z))) (elim (cases_lt k before) [
+walks_taken : (walks : List Target) (k before : ℕ) → length walks ≤ k → take (min k before) walks ≡ take before walks
+walks_taken walks k before h = elim (cases_lt k before) [
   | inl l ↦ ap (λ z. take z walks) (let q : min k before ≡ k = omega arith in q) ∙ take_all k walks h ∙ sym (take_all before walks (omega arith))
   | inr l ↦ ap (λ z. take z walks) (let q : min k before ≡ before = omega arith in q)
-])
+]
+
+lead_end : (ss : List PlainStatement) (walks : List Target) (k before lead : ℕ) → length walks ≤ k → Leads ss walks k before lead →
+    Below ss (positions walks) → lead ≡ length (order_of_walks ss (positions (take before walks)))
+lead_end ss walks k before lead h f ub = f ub ∙ ap (λ z. length (order_of_walks ss (positions z))) (walks_taken walks k before h)
+
+-- what a run that is over says of the walks' positions
+record Ended (ss : List PlainStatement) (w ids : List ℕ) (turns : ℕ) : Type 0 where
+  inside : (i : ℕ) → Has ids i → i < length ss
+  exact : (i : ℕ) → Has ids i ↔ Needed ss w i
+  once : Distinct ids
+  turned : turns ≡ min (2 ^ 128 - 1) (length w + cost ss ids)
+  printed : Below ss w → ids ≡ order_of_walks ss w
+  after : Below ss w → EachAfterItsUses ss ids
+  uses_met : (v : ℕ) (u : Use) → Needed ss w v → Has (uses_at ss v) u → IsMetTarget ss (target_of u)
+
+met_then : (ss : List PlainStatement) (t : Target) → IsMetTarget ss t ⊎ Has [] (Trace t) → IsMetTarget ss t
+met_then ss t (inl a) = a
+met_then ss t (inr n) = absurd (Has-none (Trace t) n)
+
+ended_at : (ss : List PlainStatement) (walks : List Target) (m : List Bool) (ids : List ℕ) (turns : ℕ) → Running ss walks [] m ids turns → Ended ss (positions walks) ids turns
+ended_at ss walks m ids turns r =
+    let k = over r.run in
+    record {
+      inside = k.inside;
+      exact = λ i. (k.held_needed i, needed_held k);
+      once = k.distinct;
+      turned = let e = r.counted in let f = k.counted in omega arith;
+      printed = λ h. over_printed h r.run;
+      after = λ h. over_after h r.run;
+      uses_met = λ v u n h. met_then ss (target_of u) (r.judged.uses_met v u (k.held_marked v (needed_held k n)) h);
+    }
+
+-- while the walks before k are over, the lead's statements are what those of them before the infer line need
+abbrev pub LeadNeeds : List PlainStatement → List Target → ℕ → ℕ → ℕ → List ℕ → Type 0
+LeadNeeds ss walks k before lead ids = (i : ℕ) → Has (take lead ids) i ↔ Needed ss (positions (take (min k before) walks)) i
+
+none_needed : (ss : List PlainStatement) (i : ℕ) → Needed ss [] i → ⊥
+none_needed ss i (walked h) = absurd (Has-none i h)
+none_needed ss i (used {i = j} n h) = none_needed ss j n
+
+pub lead_needs_start : (ss : List PlainStatement) (walks : List Target) (before : ℕ) (ids : List ℕ) → LeadNeeds ss walks 0 before 0 ids
+lead_needs_start ss walks before ids =
+    let P : ℕ → Type 0 = λ z. (i : ℕ) → Has (take 0 ids) i ↔ Needed ss (positions (take z walks)) i in
+    subst P (let q : 0 ≡ min 0 before = omega arith in q) (λ i. (λ h. absurd (Has-none i h), λ n. absurd (none_needed ss i n)))
+
+pub lead_needs_pushed : (ss : List PlainStatement) (walks : List Target) (k before lead x : ℕ) (ids ids' : List ℕ) →
+    LeadNeeds ss walks k before lead ids → lead ≤ length ids → ids' ≡ ids ++ x ∷ [] → LeadNeeds ss walks k before lead ids'
+lead_needs_pushed ss walks k before lead x ids ids' f l e =
+    let P : List ℕ → Type 0 = λ z. (i : ℕ) → Has z i ↔ Needed ss (positions (take (min k before) walks)) i in
+    subst P (sym (ap (take lead) e ∙ take-append-le lead ids (x ∷ []) l)) f
+
+pub lead_needs_next : (ss : List PlainStatement) (walks : List Target) (k before : ℕ) (s : List Entry) (m : List Bool) (ids : List ℕ) (turns lead lead' : ℕ) →
+    Running ss (take (k + 1) walks) (reverse s) m ids turns → s ≡ [] → LeadNeeds ss walks k before lead ids →
+    (k < before → lead' ≡ length ids) → (before ≤ k → lead' ≡ lead) → LeadNeeds ss walks (k + 1) before lead' ids
+lead_needs_next ss walks k before s m ids turns lead lead' r e f a b =
+    let P : List ℕ → ℕ → Type 0 = λ y z. (i : ℕ) → Has y i ↔ Needed ss (positions (take z walks)) i in
+    elim (cases_lt k before) [
+      | inl l ↦ (let all = ended_at ss (take (k + 1) walks) m ids turns (running_over ss (take (k + 1) walks) s m ids turns r e) in
+          let whole = take_all lead' ids (let d = a l in omega arith) in
+          subst (λ (z : ℕ). P (take lead' ids) z) (let q : k + 1 ≡ min (k + 1) before = omega arith in q)
+          (subst (λ (z : List ℕ). P z (k + 1)) (sym whole) all.exact))
+      | inr l ↦ subst (λ (z : ℕ). P (take lead' ids) z) (let q : min k before ≡ min (k + 1) before = omega arith in q)
+          (subst (λ (z : ℕ). P (take z ids) (min k before)) (sym (b l)) f)
+    ]
+
+lead_needs_end : (ss : List PlainStatement) (walks : List Target) (k before lead : ℕ) (ids : List ℕ) → length walks ≤ k → LeadNeeds ss walks k before lead ids →
+    (i : ℕ) → Has (take lead ids) i ↔ Needed ss (positions (take before walks)) i
+lead_needs_end ss walks k before lead ids h f =
+    let P : List Target → Type 0 = λ z. (i : ℕ) → Has (take lead ids) i ↔ Needed ss (positions z) i in
+    subst P (walks_taken walks k before h) f
 
 -- an error tells a bad id
 
@@ -265,33 +338,6 @@ refused_names a g walks before k s s' m ids turns e t error w r p f fault =
           subst (NamesTarget a) h.4 (names_use a h.1 (inr (h.0, needed, subst (λ (z : List PlainStatement). Has (uses_at z h.0) h.1) same h.3))))
     ]) (subst (λ (z : List PlainStatement). IsFaultAt z t error) same fault)
 
--- what a run that is over says of the walks' positions
-record Ended (ss : List PlainStatement) (w ids : List ℕ) (turns : ℕ) : Type 0 where
-  inside : (i : ℕ) → Has ids i → i < length ss
-  exact : (i : ℕ) → Has ids i ↔ Needed ss w i
-  once : Distinct ids
-  turned : turns ≡ min (2 ^ 128 - 1) (length w + cost ss ids)
-  printed : Below ss w → ids ≡ order_of_walks ss w
-  after : Below ss w → EachAfterItsUses ss ids
-  uses_met : (v : ℕ) (u : Use) → Needed ss w v → Has (uses_at ss v) u → IsMetTarget ss (target_of u)
-
-met_then : (ss : List PlainStatement) (t : Target) → IsMetTarget ss t ⊎ Has [] (Trace t) → IsMetTarget ss t
-met_then ss t (inl a) = a
-met_then ss t (inr n) = absurd (Has-none (Trace t) n)
-
-ended_at : (ss : List PlainStatement) (walks : List Target) (m : List Bool) (ids : List ℕ) (turns : ℕ) → Running ss walks [] m ids turns → Ended ss (positions walks) ids turns
-ended_at ss walks m ids turns r =
-    let k = over r.run in
-    record {
-      inside = k.inside;
-      exact = λ i. (k.held_needed i, needed_held k);
-      once = k.distinct;
-      turned = let e = r.counted in let f = k.counted in omega arith;
-      printed = λ h. over_printed h r.run;
-      after = λ h. over_after h r.run;
-      uses_met = λ v u n h. met_then ss (target_of u) (r.judged.uses_met v u (k.held_marked v (needed_held k n)) h);
-    }
-
 is_met : (ss : List PlainStatement) (u : Use) → IsMetTarget ss (target_of u) → IsMet ss u
 is_met ss (value_use i) h = h
 is_met ss (block_use i) h = h
@@ -314,8 +360,8 @@ no_bad a roots uses bad =
 -- a run that is over
 pub ordered_item : (a : Item) (g : List PlainStatement) (walks : List Target) (before k : ℕ) (s : List Entry) (m : List Bool) (ids : List ℕ) (turns lead : ℕ) →
     IsWalkedBy a g walks before → Running g (take k walks) (reverse s) m ids turns → s ≡ [] → length walks ≤ k → lead ≤ length ids → Leads g walks k before lead →
-    IsOrderOf a ids lead turns
-ordered_item a g walks before k s m ids turns lead w r e h l f =
+    (length walks ≤ before → lead ≡ length ids) → LeadNeeds g walks k before lead ids → IsOrderOf a ids lead turns
+ordered_item a g walks before k s m ids turns lead w r e h l f whole needs =
     let R : List Target → Type 0 = λ z. Running g z [] m ids turns in
     let all = subst R (take_all k walks h) (running_over g (take k walks) s m ids turns r e) in
     let same = sym w.same_statements in
@@ -336,6 +382,12 @@ ordered_item a g walks before k s m ids turns lead w r e h l f =
       exact = ended.exact;
       once = ended.once;
       lead_within = l;
+      lead_exact = subst (λ (z : List PlainStatement). (i : ℕ) → Has (take lead ids) i ↔ Needed z (first_walks a) i) same
+          (subst (λ (z : List ℕ). (i : ℕ) → Has (take lead ids) i ↔ Needed g z i) first (lead_needs_end g walks k before lead ids h needs));
+      lead_whole = λ none. (let same_length = all_first a none in
+          let total = ap length w.same_walks in
+          let count = w.same_before in
+          whole (omega arith));
       turned = ended.turned;
       printed = ended.printed;
       led = led;

@@ -1,11 +1,11 @@
 -- What the walks over a graph trace: its roots, its path conditions, and what these lead to.
-use Rattle.std.specs.Prelude.{◌≡◌, ℕ, ◌<◌, ◌≤◌, ◌++◌, ◌↔◌, length, List, map, slice_get}
+use Rattle.std.specs.Prelude.{◌≡◌, ℕ, ◌<◌, ◌≤◌, ◌++◌, ◌↔◌, length, List, [], map, slice_get, take}
 use Rattle.souper_graph.specs.declared.stringify.errors.TextError.{TextError}
 use Rattle.souper_graph.specs.declared.stringify.errors.TextError.TheVariants.{OutOfRange, NotAnAssignment, NotABlock, OutOfMemory}
 use Rattle.souper_graph.specs.declared.stringify.order.Target.{Target}
 use Rattle.souper_graph.specs.declared.stringify.order.Target.TheVariants.{Value, Block, Condition}
 use Rattle.souper_graph.specs.Values.{PlainStatement, Item}
-use Rattle.souper_graph.specs.Uses.{Has, Use, value_use, block_use, conditions, first_roots, last_roots, NeededIn, UsesBelow}
+use Rattle.souper_graph.specs.Uses.{Has, Use, value_use, block_use, conditions, first_roots, last_roots, first_walks, Needed, NeededIn, UsesBelow}
 use Rattle.souper_graph.specs.Order.{printed_order, lead_of, Distinct, EachAfterItsUses, turns_of}
 use Rattle.souper_graph.specs.Faults.{IsAssigned, IsBlock, HasBadId}
 
@@ -52,6 +52,8 @@ pub record IsOrderOf (a : Item) (ids : List ℕ) (lead turns : ℕ) : Type 0 whe
   pub exact : (i : ℕ) → Has ids i ↔ NeededIn a i
   pub once : Distinct ids
   pub lead_within : lead ≤ length ids
+  pub lead_exact : (i : ℕ) → Has (take lead ids) i ↔ Needed a.statements (first_walks a) i
+  pub lead_whole : last_roots a.ending ≡ [] → lead ≡ length ids
   pub turned : turns ≡ turns_of a ids
   pub printed : UsesBelow a → ids ≡ printed_order a
   pub led : UsesBelow a → lead ≡ lead_of a

@@ -1,6 +1,7 @@
 //! Texts of the three kinds: what is read and printed, and what is refused.
 use souper_format::command::Kind;
 use souper_format::items::{Items, format_text, read_items};
+use souper_ir::ast::{LeftHandSide, Replacement, RightHandSide};
 use souper_ir::parse::ParseErrorKind;
 use std::alloc::{AllocError, Global};
 use std::process::Abort;
@@ -10,13 +11,58 @@ use std::test::Fail;
 macro_rules! item_is {
     ($rt:expr, $alloc:expr, $item:expr, $want:expr) => {{
         let text = $item.to_text()?;
-        assert_eq!($rt; text.as_str(), *$want);
+        assert_eq!($rt; text.as_str(), $want);
         let shown = $item.to_string($alloc)?;
-        assert_eq!($rt; shown.as_str(), *$want);
+        assert_eq!($rt; shown.as_str(), $want);
         assert!($rt; $item.is_well_formed()?);
         let copy = $item.clone()?.to_text()?;
-        assert_eq!($rt; copy.as_str(), *$want);
+        assert_eq!($rt; copy.as_str(), $want);
     }};
+}
+
+fn left_is(rt: &impl Abort, alloc: Global, item: &LeftHandSide, want: &str) -> Result<(), Fail> {
+    item_is!(rt, alloc, item, want);
+    Ok(())
+}
+
+fn right_is(rt: &impl Abort, alloc: Global, item: &RightHandSide, want: &str) -> Result<(), Fail> {
+    item_is!(rt, alloc, item, want);
+    Ok(())
+}
+
+fn replacement_is(
+    rt: &impl Abort,
+    alloc: Global,
+    item: &Replacement,
+    want: &str,
+) -> Result<(), Fail> {
+    item_is!(rt, alloc, item, want);
+    Ok(())
+}
+
+// The items have these texts, one each.
+fn items_are(rt: &impl Abort, alloc: Global, items: &Items, texts: &[&str]) -> Result<(), Fail> {
+    match items {
+        Items::Lhs(items) => {
+            assert_eq!(rt; items.len(), texts.len(), "for {texts:?}");
+            for (item, want) in items.iter().zip(texts) {
+                left_is(rt, alloc, item, want)?;
+            }
+        }
+        Items::Rhs(items) => {
+            assert_eq!(rt; items.len(), texts.len(), "for {texts:?}");
+            for (item, want) in items.iter().zip(texts) {
+                right_is(rt, alloc, item, want)?;
+            }
+        }
+        Items::Rep(items) => {
+            assert_eq!(rt; items.len(), texts.len(), "for {texts:?}");
+            for (item, want) in items.iter().zip(texts) {
+                replacement_is(rt, alloc, item, want)?;
+            }
+        }
+    }
+    Ok(())
 }
 
 // The source is read as items with these texts, and the texts are read as the same again.
@@ -27,26 +73,8 @@ fn reads(
     source: &str,
     texts: &[&str],
 ) -> Result<(), Fail> {
-    match read_items(alloc, kind, source, None)? {
-        Items::Lhs(items) => {
-            assert_eq!(rt; items.len(), texts.len(), "in {source:?}");
-            for (item, want) in items.iter().zip(texts) {
-                item_is!(rt, alloc, item, want);
-            }
-        }
-        Items::Rhs(items) => {
-            assert_eq!(rt; items.len(), texts.len(), "in {source:?}");
-            for (item, want) in items.iter().zip(texts) {
-                item_is!(rt, alloc, item, want);
-            }
-        }
-        Items::Rep(items) => {
-            assert_eq!(rt; items.len(), texts.len(), "in {source:?}");
-            for (item, want) in items.iter().zip(texts) {
-                item_is!(rt, alloc, item, want);
-            }
-        }
-    }
+    let items = read_items(alloc, kind, source, None)?;
+    items_are(rt, alloc, &items, texts)?;
     let mut joined = String::new(alloc);
     for text in texts {
         joined.push_str(text)?;

@@ -1,14 +1,8 @@
-//! Tests of the whole, from text to text, and a type of a user of the parser.
+//! Tests of the whole, from text to text.
 //!
 //! The values of the tests were worked out by hand from the rules of the language.
 #![tactic(auto)]
 
-#[cfg(test)]
-mod arenas;
-#[cfg(test)]
-mod builders;
-#[cfg(test)]
-mod building;
 #[cfg(test)]
 mod commands;
 #[cfg(test)]
@@ -18,17 +12,10 @@ mod errors;
 #[cfg(test)]
 mod grammar;
 #[cfg(test)]
-mod nodes;
-pub mod pairs;
-#[cfg(test)]
-mod parsers;
-#[cfg(test)]
 mod runs;
 #[cfg(test)]
 mod streams;
 #[cfg(test)]
 mod texts;
-#[cfg(test)]
-mod texts_of_graphs;
 #[cfg(test)]
 mod watched;

@@ -1,12 +1,12 @@
 //! The printed order of the statements of an item.
 
-ghost use Rattle.std.specs.Prelude.{◌≡◌, ℕ, ◌<◌, ◌≤◌, ◌++◌, ◌↔◌, length, map, reverse, slice_get, Some, IfOk, IfErr, OnOk, IsTrue};
+ghost use Rattle.std.specs.Prelude.{◌≡◌, ℕ, ◌<◌, ◌≤◌, ◌++◌, ◌↔◌, length, map, reverse, slice_get, take, Some, [], IfOk, IfErr, OnOk, IsTrue};
 ghost use Rattle.souper_graph.specs.declared.stringify.errors.TextError.TheVariants.{OutOfMemory};
 ghost use Rattle.souper_graph.specs.declared.stringify.order.Entry.TheVariants.{Trace};
 ghost use Rattle.souper_graph.specs.declared.stringify.order.Target.TheVariants.{Condition};
 ghost use Rattle.souper_graph.specs.Values.{Item};
 ghost use Rattle.souper_graph.specs.View.{view_rhs, view_statement, view_left_hand_side, view_right_hand_side, view_replacement};
-ghost use Rattle.souper_graph.specs.Uses.{Has, uses_of_operand, uses_of_operands, uses_of_rhs, uses_of, conditions_from, first_roots, last_roots, NeededIn, UsesBelow};
+ghost use Rattle.souper_graph.specs.Uses.{Has, uses_of_operand, uses_of_operands, uses_of_rhs, uses_of, conditions_from, first_roots, last_roots, first_walks, Needed, NeededIn, UsesBelow};
 ghost use Rattle.souper_graph.specs.Order.{printed_order, lead_of, turns_of, Distinct, EachAfterItsUses};
 ghost use Rattle.souper_graph.specs.Faults.{IsAssigned, IsBlock, HasBadId, IsFaultOf};
 ghost use Rattle.souper_graph.specs.Walks.{position_of_target, target_of, IsMetTarget, IsFaultAt, IsWalkedBy, IsOrderOf};
@@ -42,7 +42,7 @@ impl LeftHandSide {
         ensures inside { IfOk result (λ order. (i : ℕ) → Has order.ids.items i → i < length (view_left_hand_side self.now).statements) }
         ensures exact { IfOk result (λ order. (i : ℕ) → Has order.ids.items i ↔ NeededIn (view_left_hand_side self.now) i) }
         ensures once { IfOk result (λ order. Distinct order.ids.items) }
-        ensures lead_within { IfOk result (λ order. order.lead ≤ length order.ids.items) }
+        ensures lead_is_all { IfOk result (λ order. order.lead ≡ length order.ids.items) }
         ensures turns { IfOk result (λ order. order.turns ≡ turns_of (view_left_hand_side self.now) order.ids.items) }
         ensures printed { UsesBelow (view_left_hand_side self.now) → IfOk result (λ order. order.ids.items ≡ printed_order (view_left_hand_side self.now)) }
         ensures lead { UsesBelow (view_left_hand_side self.now) → IfOk result (λ order. order.lead ≡ lead_of (view_left_hand_side self.now)) }
@@ -63,7 +63,7 @@ impl RightHandSide {
         ensures inside { IfOk result (λ order. (i : ℕ) → Has order.ids.items i → i < length (view_right_hand_side self.now).statements) }
         ensures exact { IfOk result (λ order. (i : ℕ) → Has order.ids.items i ↔ NeededIn (view_right_hand_side self.now) i) }
         ensures once { IfOk result (λ order. Distinct order.ids.items) }
-        ensures lead_within { IfOk result (λ order. order.lead ≤ length order.ids.items) }
+        ensures lead_is_all { IfOk result (λ order. order.lead ≡ length order.ids.items) }
         ensures turns { IfOk result (λ order. order.turns ≡ turns_of (view_right_hand_side self.now) order.ids.items) }
         ensures printed { UsesBelow (view_right_hand_side self.now) → IfOk result (λ order. order.ids.items ≡ printed_order (view_right_hand_side self.now)) }
         ensures lead { UsesBelow (view_right_hand_side self.now) → IfOk result (λ order. order.lead ≡ lead_of (view_right_hand_side self.now)) }
@@ -85,6 +85,8 @@ impl Replacement {
         ensures exact { IfOk result (λ order. (i : ℕ) → Has order.ids.items i ↔ NeededIn (view_replacement self.now) i) }
         ensures once { IfOk result (λ order. Distinct order.ids.items) }
         ensures lead_within { IfOk result (λ order. order.lead ≤ length order.ids.items) }
+        ensures lead_exact { IfOk result (λ order. (i : ℕ) → Has (take order.lead order.ids.items) i ↔ Needed (view_replacement self.now).statements (first_walks (view_replacement self.now)) i) }
+        ensures lead_is_all { last_roots (view_replacement self.now).ending ≡ [] → IfOk result (λ order. order.lead ≡ length order.ids.items) }
         ensures turns { IfOk result (λ order. order.turns ≡ turns_of (view_replacement self.now) order.ids.items) }
         ensures printed { UsesBelow (view_replacement self.now) → IfOk result (λ order. order.ids.items ≡ printed_order (view_replacement self.now)) }
         ensures lead { UsesBelow (view_replacement self.now) → IfOk result (λ order. order.lead ≡ lead_of (view_replacement self.now)) }

@@ -95,6 +95,7 @@ impl fmt::Display for LeftHandSide {
         ensures writes { DisplaysOnOk W.write_str_gives f.old result (shown_text (view_left_hand_side self.now)) f.new }
         ensures styled { DisplaysStyledOnOk W.write_str_gives f.old result None f.new }
         ensures lines { ShowsLines W.write_str_gives (view_left_hand_side self.now) f.old result f.new }
+        ensures no_bad_id { OnOk result (¬ HasBadId (view_left_hand_side self.now)) }
     {
         match self.to_text() {
             Ok(text) => write!(f, "{text}"),
@@ -114,6 +115,7 @@ impl fmt::Display for RightHandSide {
         ensures writes { DisplaysOnOk W.write_str_gives f.old result (shown_text (view_right_hand_side self.now)) f.new }
         ensures styled { DisplaysStyledOnOk W.write_str_gives f.old result None f.new }
         ensures lines { ShowsLines W.write_str_gives (view_right_hand_side self.now) f.old result f.new }
+        ensures no_bad_id { OnOk result (¬ HasBadId (view_right_hand_side self.now)) }
     {
         match self.to_text() {
             Ok(text) => write!(f, "{text}"),
@@ -133,6 +135,7 @@ impl fmt::Display for Replacement {
         ensures writes { DisplaysOnOk W.write_str_gives f.old result (shown_text (view_replacement self.now)) f.new }
         ensures styled { DisplaysStyledOnOk W.write_str_gives f.old result None f.new }
         ensures lines { ShowsLines W.write_str_gives (view_replacement self.now) f.old result f.new }
+        ensures no_bad_id { OnOk result (¬ HasBadId (view_replacement self.now)) }
     {
         match self.to_text() {
             Ok(text) => write!(f, "{text}"),

@@ -4,7 +4,7 @@ use Rattle.std.proofs.lemmas.Result.{err_from_is_err_and}
 use Rattle.std.proofs.lemmas.List.{length-map, length_push}
 use Rattle.souper_graph.specs.declared.stringify.order.Target.{Target}
 use Rattle.souper_graph.specs.View.{view_statement}
-use Rattle.souper_graph.proofs.Ends.{start_at, mark_there, walk_next, dropped_next, finished_next, entered_next, entered_smaller, popped_none, lead_start, lead_next, refused_names, ordered_item}
+use Rattle.souper_graph.proofs.Ends.{start_at, mark_there, walk_next, dropped_next, finished_next, entered_next, entered_smaller, popped_none, lead_start, lead_next, lead_needs_start, lead_needs_pushed, lead_needs_next, refused_names, ordered_item}
 use Rattle.souper_graph.proofs.stringify.order.order_of.Goals as goal
 use Rattle.souper_graph.proofs.stringify.order.order_of.Goals.{then-k-walks, else-k-walks}
 
@@ -15,6 +15,8 @@ loop-k-init c = (
       c.new-stack.ensures.items c.in_ok-marks.ensures (c.len.ensures ∙ sym (length-map c.args.statements.now view_statement)) c.new-ids.ensures.items,
   omega arith,
   lead_start (map view_statement c.args.statements.now) c.args.walks.now.targets.items c.args.walks.now.before,
+  λ h. sym (ap length c.new-ids.ensures.items),
+  lead_needs_start (map view_statement c.args.statements.now) c.args.walks.now.targets.items c.args.walks.now.before c.new-ids.result.items,
 )
 
 pub loop-entry-init : goal.loop-entry-init
@@ -25,6 +27,7 @@ loop-entry-init c = (
       (c.walk-item.is ∙ ap (λ (z : List Target). get_or z c.loop-k.k c.walk-item.result) c.deref-walk-items.ensures.value)
       c.in_ok-push.ensures.items,
   c.loop-k.invariant.2,
+  c.loop-k.invariant.5,
 )
 
 pub loop-entry-preserved-in-Continue-branch-3 : goal.loop-entry-preserved-in-Continue-branch-3
@@ -35,6 +38,8 @@ loop-entry-preserved-in-Continue-branch-3 c = (
   (let longer = ap length c.in_ok-push-in-Finished.ensures.items ∙ length_push c.loop-entry.ids.items c.in-Finished.id in
       let within = c.loop-entry.invariant.1 in
       omega arith),
+  lead_needs_pushed (map view_statement c.args.statements.now) c.args.walks.now.targets.items c.loop-k.k c.args.walks.now.before c.loop-k.lead c.in-Finished.id
+      c.loop-entry.ids.items c.push-in-Finished.new.self.items c.loop-entry.invariant.2 c.loop-entry.invariant.1 c.in_ok-push-in-Finished.ensures.items,
 )
 
 pub returns-in_err-statement-in-Trace-clause-refused : goal.returns-in_err-statement-in-Trace-clause-refused
@@ -73,6 +78,7 @@ loop-entry-preserved-in-Continue-branch-6 c = (
       c.position-id.ensures (c.index.ensures ∙ c.position-id.ensures) c.is_marked.ensures c.if-not-is_marked.true
       (c.mark.ensures ∙ ap (λ z. set c.loop-entry.marks z true) c.index-then-not-is_marked.ensures) c.in_ok-push-in-Trace.ensures.items c.in_ok-push_uses-in-Trace.ensures.ok c.saturating_add-turns.ensures,
   c.loop-entry.invariant.1,
+  c.loop-entry.invariant.2,
 )
 
 pub loop-entry-preserved : goal.loop-entry-preserved
@@ -82,6 +88,7 @@ loop-entry-preserved c = (
       c.loop-entry.invariant.0 c.in-Some.ensures.items c.in-Trace.is c.in_ok-statement-in-Trace.ensures.met (c.index.ensures ∙ c.position-id.ensures)
       c.is_marked.ensures c.if-not-is_marked.false c.saturating_add-turns.ensures,
   c.loop-entry.invariant.1,
+  c.loop-entry.invariant.2,
 )
 
 pub loop-k-preserved : goal.loop-k-preserved
@@ -104,6 +111,18 @@ loop-k-preserved c =
             | else-k-walks w ↦ (let h = w.if-k-walks.false in absurd (omega arith))
           ])
           (λ l. elim c.if-k-walks.branch [ then-k-walks w ↦ (let h = w.if-k-walks.true in absurd (omega arith)) | else-k-walks w ↦ w.lead-is ]),
+      λ l. elim c.if-k-walks.branch [
+        | then-k-walks w ↦ (let a = w.lead-is in let b = w.len-lead.ensures in let d = c.loop-entry.ids.ok in omega arith)
+        | else-k-walks w ↦ (let h = w.if-k-walks.false in let under = c.loop-k-test.true in let same = ap length c.deref-walk-items.ensures.value in absurd (omega arith))
+      ],
+      lead_needs_next (map view_statement c.args.statements.now) c.args.walks.now.targets.items c.loop-k.k c.args.walks.now.before c.pop.new.self.items
+          c.loop-entry.marks c.loop-entry.ids.items c.loop-entry.turns c.loop-k.lead c.if-k-walks.lead
+          over.1 over.0 c.loop-entry.invariant.2
+          (λ l. elim c.if-k-walks.branch [
+            | then-k-walks w ↦ (let a = w.lead-is in let b = w.len-lead.ensures in let d = c.loop-entry.ids.ok in omega arith)
+            | else-k-walks w ↦ (let h = w.if-k-walks.false in absurd (omega arith))
+          ])
+          (λ l. elim c.if-k-walks.branch [ then-k-walks w ↦ (let h = w.if-k-walks.true in absurd (omega arith)) | else-k-walks w ↦ w.lead-is ]),
     )
 
 pub returns-clause-ordered : goal.returns-clause-ordered
@@ -111,4 +130,4 @@ returns-clause-ordered c a w =
     ordered_item a (map view_statement c.args.statements.now) c.args.walks.now.targets.items c.args.walks.now.before c.loop-k.k c.loop-k.stack.items c.loop-k.marks
     c.loop-k.ids.items c.loop-k.turns c.loop-k.lead w c.loop-k.invariant.1 c.loop-k.invariant.0
     (let past = c.loop-k-test.false in let same = ap length c.deref-walk-items.ensures.value in omega arith)
-    c.loop-k.invariant.2 c.loop-k.invariant.3
+    c.loop-k.invariant.2 c.loop-k.invariant.3 c.loop-k.invariant.4 c.loop-k.invariant.5

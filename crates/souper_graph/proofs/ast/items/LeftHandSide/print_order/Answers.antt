@@ -1,6 +1,6 @@
 use Rattle.std.proofs.Common.{refl}
 use Rattle.souper_graph.specs.View.{view_left_hand_side}
-use Rattle.souper_graph.proofs.Answered.{answered_no_bad_id, answered_inside, answered_exact, answered_once, answered_lead_within, answered_turns, answered_printed, answered_lead, answered_after}
+use Rattle.souper_graph.proofs.Answered.{answered_no_bad_id, answered_inside, answered_exact, answered_once, answered_lead_is_all, answered_turns, answered_printed, answered_lead, answered_after}
 use Rattle.souper_graph.proofs.ast.items.LeftHandSide.print_order.Goals as goal
 
 pub returns : goal.returns
@@ -13,7 +13,7 @@ returns c =
       inside = answered_inside a _ answered;
       exact = answered_exact a _ answered;
       once = answered_once a _ answered;
-      lead_within = answered_lead_within a _ answered;
+      lead_is_all = answered_lead_is_all a _ answered refl;
       turns = answered_turns a _ answered;
       printed = answered_printed a _ answered;
       lead = answered_lead a _ answered;

@@ -2,7 +2,7 @@ use Rattle.std.proofs.Common.{◌++◌, sym, ap, ◌∙◌, append-nil}
 use Rattle.souper_graph.specs.declared.ast.items.Replacement.{Replacement}
 use Rattle.souper_graph.specs.View.{view_replacement}
 use Rattle.souper_graph.specs.Uses.{uses_of_operand, first_roots, last_roots}
-use Rattle.souper_graph.proofs.Answered.{answered_no_bad_id, answered_inside, answered_exact, answered_once, answered_lead_within, answered_turns, answered_printed, answered_lead, answered_after}
+use Rattle.souper_graph.proofs.Answered.{answered_no_bad_id, answered_inside, answered_exact, answered_once, answered_lead_within, answered_lead_exact, answered_lead_is_all, answered_turns, answered_printed, answered_lead, answered_after}
 use Rattle.souper_graph.proofs.ast.items.Replacement.print_order.Goals as goal
 
 pub returns-in-LhsRhs : goal.returns-in-LhsRhs
@@ -19,6 +19,8 @@ returns-in-LhsRhs c =
       exact = answered_exact a _ answered;
       once = answered_once a _ answered;
       lead_within = answered_lead_within a _ answered;
+      lead_exact = answered_lead_exact a _ answered;
+      lead_is_all = answered_lead_is_all a _ answered;
       turns = answered_turns a _ answered;
       printed = answered_printed a _ answered;
       lead = answered_lead a _ answered;
@@ -40,6 +42,8 @@ returns-in-Cand c =
       exact = answered_exact a _ answered;
       once = answered_once a _ answered;
       lead_within = answered_lead_within a _ answered;
+      lead_exact = answered_lead_exact a _ answered;
+      lead_is_all = answered_lead_is_all a _ answered;
       turns = answered_turns a _ answered;
       printed = answered_printed a _ answered;
       lead = answered_lead a _ answered;

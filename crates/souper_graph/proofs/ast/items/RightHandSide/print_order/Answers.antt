@@ -1,7 +1,7 @@
 use Rattle.std.proofs.Common.{refl, sym, append-nil}
 use Rattle.souper_graph.specs.View.{view_right_hand_side}
 use Rattle.souper_graph.specs.Uses.{uses_of_operand}
-use Rattle.souper_graph.proofs.Answered.{answered_no_bad_id, answered_inside, answered_exact, answered_once, answered_lead_within, answered_turns, answered_printed, answered_lead, answered_after}
+use Rattle.souper_graph.proofs.Answered.{answered_no_bad_id, answered_inside, answered_exact, answered_once, answered_lead_is_all, answered_turns, answered_printed, answered_lead, answered_after}
 use Rattle.souper_graph.proofs.ast.items.RightHandSide.print_order.Goals as goal
 
 pub returns : goal.returns
@@ -15,7 +15,7 @@ returns c =
       inside = answered_inside a _ answered;
       exact = answered_exact a _ answered;
       once = answered_once a _ answered;
-      lead_within = answered_lead_within a _ answered;
+      lead_is_all = answered_lead_is_all a _ answered refl;
       turns = answered_turns a _ answered;
       printed = answered_printed a _ answered;
       lead = answered_lead a _ answered;

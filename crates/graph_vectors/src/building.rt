@@ -1,5 +1,5 @@
 //! Arenas that tests build.
-use souper_ir::ast::{
+use souper_graph::ast::{
     Arena, Assignment, AssignmentRhs, Attribute, Block, BlockId, BlockPc, Cand, Constant, Id,
     Infer, Instruction, LeftHandSide, Operand, Pc, Phi, Replacement, RightHandSide, Statement,
     Type, ValueId,

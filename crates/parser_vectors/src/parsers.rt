@@ -1,5 +1,4 @@
 //! Parsers that are used directly.
-use crate::building::number;
 use souper_ir::ast::{
     Assignment, AssignmentRhs, Attribute, Block, BlockPc, Cand, Constant, Infer, Instruction,
     LeftHandSide, Operand, Pc, Phi, Replacement, RightHandSide, RootAttribute, Statement, Type,
@@ -28,6 +27,11 @@ pub fn tells(
     let shown = format!(in alloc; "{error:?}")?;
     assert_eq!(rt; shown.as_str(), want.as_str());
     Ok(())
+}
+
+// A constant without a type.
+fn number(value: i128) -> Operand {
+    Constant { value, ty: None }.into()
 }
 
 // One value from a parser of the source.

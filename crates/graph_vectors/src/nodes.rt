@@ -1,10 +1,10 @@
 //! The text of single nodes, the words of instructions, and what conversions keep.
 use crate::building::{Graph, foreign_id, number, typed};
-use souper_ir::ast::{
-    Assignment, AssignmentRhs, Attribute, Block, BlockId, BlockPc, Cand, Constant, Id, Infer,
-    Instruction, Operand, Pc, Phi, RootAttribute, Statement, Type, ValueId, Var,
+use souper_graph::ast::{
+    Arena, Assignment, AssignmentRhs, Attribute, Block, BlockId, BlockPc, Cand, Constant, Id,
+    Infer, Instruction, Operand, Pc, Phi, RootAttribute, Statement, Type, ValueId, Var,
 };
-use souper_ir::stringify::{DisplayWithContext, TextError};
+use souper_graph::stringify::{DisplayWithContext, TextError};
 use std::alloc::{AllocError, Global};
 use std::default::Default;
 use std::process::Abort;
@@ -107,14 +107,19 @@ fn attributes_are_shown(rt: HostRuntime) -> Result<(), Fail> {
 }
 
 // Behind the text that `out` holds the node's text is put, and is that of the node.
-macro_rules! displays {
-    ($rt:expr, $node:expr, $statements:expr, $want:expr) => {{
-        let mut out = String::from_str($rt.alloc(), "ab ")?;
-        $node.display($statements, &mut out)?;
-        let mut want = String::from_str($rt.alloc(), "ab ")?;
-        want.push_str($want)?;
-        assert_eq!($rt; out.as_str(), want.as_str());
-    }};
+fn displays<N: DisplayWithContext>(
+    rt: &impl Abort,
+    alloc: Global,
+    node: &N,
+    statements: &Arena<Statement>,
+    want: &str,
+) -> Result<(), Fail> {
+    let mut out = String::from_str(alloc, "ab ")?;
+    node.display(statements, &mut out)?;
+    let mut whole = String::from_str(alloc, "ab ")?;
+    whole.push_str(want)?;
+    assert_eq!(rt; out.as_str(), whole.as_str());
+    Ok(())
 }
 
 // A variable and a block of two ways.
@@ -128,11 +133,10 @@ fn two_values(alloc: Global) -> Result<(Graph, ValueId, BlockId), AllocError> {
 #[test]
 fn operands_are_displayed_with_their_names(rt: HostRuntime) -> Result<(), Fail> {
     let (graph, x, block) = two_values(rt.alloc())?;
-    displays!(rt, x, &graph.statements, "%x");
-    displays!(rt, block, &graph.statements, "%b");
-    displays!(rt, Operand::from(x), &graph.statements, "%x");
-    displays!(rt, typed(-1, 8), &graph.statements, "-1:i8");
-    Ok(())
+    displays(&rt, rt.alloc(), &x, &graph.statements, "%x")?;
+    displays(&rt, rt.alloc(), &block, &graph.statements, "%b")?;
+    displays(&rt, rt.alloc(), &Operand::from(x), &graph.statements, "%x")?;
+    displays(&rt, rt.alloc(), &typed(-1, 8), &graph.statements, "-1:i8")
 }
 
 #[test]
@@ -142,22 +146,34 @@ fn conditions_are_displayed_with_their_names(rt: HostRuntime) -> Result<(), Fail
         x: x.into(),
         y: number(1),
     };
-    displays!(rt, pc, &graph.statements, "pc %x 1");
-    displays!(rt, Statement::from(pc), &graph.statements, "pc %x 1\n");
+    displays(&rt, rt.alloc(), &pc, &graph.statements, "pc %x 1")?;
+    displays(
+        &rt,
+        rt.alloc(),
+        &Statement::from(pc),
+        &graph.statements,
+        "pc %x 1\n",
+    )?;
     let block_pc = BlockPc {
         block,
         predecessor: 1,
         x: number(0),
         y: x.into(),
     };
-    displays!(rt, block_pc, &graph.statements, "blockpc %b 1 0 %x");
-    displays!(
-        rt,
-        Statement::from(block_pc),
+    displays(
+        &rt,
+        rt.alloc(),
+        &block_pc,
         &graph.statements,
-        "blockpc %b 1 0 %x\n"
-    );
-    Ok(())
+        "blockpc %b 1 0 %x",
+    )?;
+    displays(
+        &rt,
+        rt.alloc(),
+        &Statement::from(block_pc),
+        &graph.statements,
+        "blockpc %b 1 0 %x\n",
+    )
 }
 
 #[test]
@@ -167,14 +183,21 @@ fn right_sides_are_displayed(rt: HostRuntime) -> Result<(), Fail> {
         block,
         values: Vec::from_slice(rt.alloc(), &[x.into(), number(2)])?,
     };
-    displays!(rt, phi, &graph.statements, "phi %b, %x, 2");
-    displays!(rt, phi.clone()?, &graph.statements, "phi %b, %x, 2");
-    displays!(
-        rt,
-        AssignmentRhs::from(phi),
+    displays(&rt, rt.alloc(), &phi, &graph.statements, "phi %b, %x, 2")?;
+    displays(
+        &rt,
+        rt.alloc(),
+        &phi.clone()?,
         &graph.statements,
-        "phi %b, %x, 2"
-    );
+        "phi %b, %x, 2",
+    )?;
+    displays(
+        &rt,
+        rt.alloc(),
+        &AssignmentRhs::from(phi),
+        &graph.statements,
+        "phi %b, %x, 2",
+    )?;
     for (rhs, want) in [
         (AssignmentRhs::Var, "var"),
         (AssignmentRhs::ReservedInst, "reservedinst"),
@@ -182,8 +205,8 @@ fn right_sides_are_displayed(rt: HostRuntime) -> Result<(), Fail> {
         (AssignmentRhs::from(Block { predecessors: 3 }), "block 3"),
         (AssignmentRhs::from(Instruction::Hole), "hole"),
     ] {
-        displays!(rt, rhs, &graph.statements, want);
-        displays!(rt, rhs.clone()?, &graph.statements, want);
+        displays(&rt, rt.alloc(), &rhs, &graph.statements, want)?;
+        displays(&rt, rt.alloc(), &rhs.clone()?, &graph.statements, want)?;
     }
     Ok(())
 }
@@ -202,11 +225,22 @@ fn assignments_are_displayed(rt: HostRuntime) -> Result<(), Fail> {
         attributes,
     };
     let want = "%y:i8 = var (nonZero) (signBits=3)";
-    displays!(rt, assignment, &graph.statements, want);
-    displays!(rt, assignment.clone()?, &graph.statements, want);
+    displays(&rt, rt.alloc(), &assignment, &graph.statements, want)?;
+    displays(
+        &rt,
+        rt.alloc(),
+        &assignment.clone()?,
+        &graph.statements,
+        want,
+    )?;
     let line = "%y:i8 = var (nonZero) (signBits=3)\n";
-    displays!(rt, Statement::from(assignment), &graph.statements, line);
-    Ok(())
+    displays(
+        &rt,
+        rt.alloc(),
+        &Statement::from(assignment),
+        &graph.statements,
+        line,
+    )
 }
 
 #[test]
@@ -218,30 +252,32 @@ fn last_lines_are_displayed(rt: HostRuntime) -> Result<(), Fail> {
         value: x,
         attributes,
     };
-    displays!(
-        rt,
-        infer,
+    displays(
+        &rt,
+        rt.alloc(),
+        &infer,
         &graph.statements,
-        "infer %x (harvestedFromUse)\n"
-    );
+        "infer %x (harvestedFromUse)\n",
+    )?;
     let cand = Cand {
         lhs: x.into(),
         rhs: number(2),
         attributes: infer.clone()?.attributes,
     };
-    displays!(
-        rt,
-        cand,
+    displays(
+        &rt,
+        rt.alloc(),
+        &cand,
         &graph.statements,
-        "cand %x 2 (harvestedFromUse)\n"
-    );
-    displays!(
-        rt,
-        cand.clone()?,
+        "cand %x 2 (harvestedFromUse)\n",
+    )?;
+    displays(
+        &rt,
+        rt.alloc(),
+        &cand.clone()?,
         &graph.statements,
-        "cand %x 2 (harvestedFromUse)\n"
-    );
-    Ok(())
+        "cand %x 2 (harvestedFromUse)\n",
+    )
 }
 
 #[test]

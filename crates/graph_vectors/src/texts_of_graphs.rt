@@ -1,27 +1,58 @@
 //! Items that are built: their texts, the order of their statements, and whether they are well formed.
 use crate::building::{Graph, foreign_id, number, typed};
-use souper_ir::ast::{
-    Attribute, Block, BlockId, Id, Instruction, LeftHandSide, Operand, Replacement, Statement,
+use souper_graph::ast::{
+    AssignmentRhs, Attribute, Block, BlockId, Id, Instruction, LeftHandSide, Replacement,
+    RightHandSide, Statement,
 };
-use souper_ir::stringify::{Order, TextError};
+use souper_graph::stringify::{Order, TextError};
 use std::alloc::{AllocError, Global};
 use std::process::Abort;
 use std::test::Fail;
 
 // The text of the item, through `to_text` and through `Display`, and whether it is well formed.
 macro_rules! checks {
-    ($rt:expr, $item:expr, $text:expr, $well_formed:expr) => {{
-        let item = &$item;
-        let want: &str = $text;
-        let text = item.to_text()?;
-        assert_eq!($rt; text.as_str(), want);
-        let shown = item.to_string($rt.alloc())?;
-        assert_eq!($rt; shown.as_str(), want);
-        assert_eq!($rt; item.is_well_formed()?, $well_formed, "in {want:?}");
-        let copy = item.clone()?;
-        let again = copy.to_text()?;
-        assert_eq!($rt; again.as_str(), want);
+    ($rt:expr, $alloc:expr, $item:expr, $want:expr, $well_formed:expr) => {{
+        let text = $item.to_text()?;
+        assert_eq!($rt; text.as_str(), $want);
+        let shown = $item.to_string($alloc)?;
+        assert_eq!($rt; shown.as_str(), $want);
+        assert_eq!($rt; $item.is_well_formed()?, $well_formed, "in {:?}", $want);
+        let again = $item.clone()?.to_text()?;
+        assert_eq!($rt; again.as_str(), $want);
     }};
+}
+
+fn left_is(
+    rt: &impl Abort,
+    alloc: Global,
+    item: &LeftHandSide,
+    want: &str,
+    well_formed: bool,
+) -> Result<(), Fail> {
+    checks!(rt, alloc, item, want, well_formed);
+    Ok(())
+}
+
+fn right_is(
+    rt: &impl Abort,
+    alloc: Global,
+    item: &RightHandSide,
+    want: &str,
+    well_formed: bool,
+) -> Result<(), Fail> {
+    checks!(rt, alloc, item, want, well_formed);
+    Ok(())
+}
+
+fn replacement_is(
+    rt: &impl Abort,
+    alloc: Global,
+    item: &Replacement,
+    want: &str,
+    well_formed: bool,
+) -> Result<(), Fail> {
+    checks!(rt, alloc, item, want, well_formed);
+    Ok(())
 }
 
 // The number of statements in printed order, those before an infer line, and the turns.
@@ -36,12 +67,13 @@ fn uses_come_before_their_user(rt: HostRuntime) -> Result<(), Fail> {
     let a = graph.add("%a", b.into(), number(1))?;
     let c = graph.add("%c", a.into(), b.into())?;
     let item = graph.infer(c);
-    checks!(
-        rt,
-        item,
+    left_is(
+        &rt,
+        rt.alloc(),
+        &item,
         "%b = var\n%a = add %b, 1\n%c = add %a, %b\ninfer %c\n",
-        true
-    );
+        true,
+    )?;
     assert_eq!(rt; counts(&item.print_order()?), (3, 3, 7));
     Ok(())
 }
@@ -67,7 +99,7 @@ fn conditions_follow_the_root(rt: HostRuntime) -> Result<(), Fail> {
     )?;
     let item = graph.cand(first.into(), number(1));
     let text = "%x:i32 = var\n%1lx = slt 1, %x\n%2lx = slt 2, %x\npc %2lx 1\ncand %1lx 1\n";
-    checks!(rt, item, text, true);
+    replacement_is(&rt, rt.alloc(), &item, text, true)?;
     assert_eq!(rt; counts(&item.print_order()?), (4, 4, 9));
     Ok(())
 }
@@ -88,7 +120,7 @@ fn phis_choose_among_their_block(rt: HostRuntime) -> Result<(), Fail> {
     let item = graph.cand(second.into(), double.into());
     let text = "%bb = block 3\n%phi2 = phi %bb, 2:i32, 4, 6\n%phi1 = phi %bb, 1:i32, 2, 3\n\
                 %phi1x2 = mul %phi1, 2\ncand %phi2 %phi1x2\n";
-    checks!(rt, item, text, true);
+    replacement_is(&rt, rt.alloc(), &item, text, true)?;
     assert_eq!(rt; counts(&item.print_order()?), (4, 4, 9));
     Ok(())
 }
@@ -101,7 +133,7 @@ fn conditions_stand_before_the_infer_line(rt: HostRuntime) -> Result<(), Fail> {
     graph.pc(y.into(), number(1))?;
     let item = graph.replaced(x, y.into());
     let text = "%x = var\n%y = var\npc %y 1\ninfer %x\nresult %y\n";
-    checks!(rt, item, text, true);
+    replacement_is(&rt, rt.alloc(), &item, text, true)?;
     assert_eq!(rt; counts(&item.print_order()?), (3, 3, 7));
     Ok(())
 }
@@ -112,12 +144,24 @@ fn results_stand_behind_the_infer_line(rt: HostRuntime) -> Result<(), Fail> {
     let a = graph.var("%a")?;
     let b = graph.var("%b")?;
     let item = graph.replaced(a, b.into());
-    checks!(rt, item, "%a = var\ninfer %a\n%b = var\nresult %b\n", true);
+    replacement_is(
+        &rt,
+        rt.alloc(),
+        &item,
+        "%a = var\ninfer %a\n%b = var\nresult %b\n",
+        true,
+    )?;
     assert_eq!(rt; counts(&item.print_order()?), (2, 1, 4));
     let mut graph = Graph::new(rt.alloc());
     let x = graph.var("%x")?;
     let item = graph.replaced(x, typed(1, 8));
-    checks!(rt, item, "%x = var\ninfer %x\nresult 1:i8\n", true);
+    replacement_is(
+        &rt,
+        rt.alloc(),
+        &item,
+        "%x = var\ninfer %x\nresult 1:i8\n",
+        true,
+    )?;
     assert_eq!(rt; counts(&item.print_order()?), (1, 1, 2));
     Ok(())
 }
@@ -125,13 +169,13 @@ fn results_stand_behind_the_infer_line(rt: HostRuntime) -> Result<(), Fail> {
 #[test]
 fn right_hand_sides_end_without_a_newline(rt: HostRuntime) -> Result<(), Fail> {
     let item = Graph::new(rt.alloc()).result(number(1));
-    checks!(rt, item, "result 1", true);
+    right_is(&rt, rt.alloc(), &item, "result 1", true)?;
     assert_eq!(rt; counts(&item.print_order()?), (0, 0, 0));
     let mut graph = Graph::new(rt.alloc());
     let x = graph.var("%x")?;
     graph.pc(x.into(), number(1))?;
     let item = graph.result(number(2));
-    checks!(rt, item, "%x = var\npc %x 1\nresult 2", true);
+    right_is(&rt, rt.alloc(), &item, "%x = var\npc %x 1\nresult 2", true)?;
     assert_eq!(rt; counts(&item.print_order()?), (2, 2, 4));
     Ok(())
 }
@@ -155,16 +199,14 @@ fn on_both(alloc: Global, turned: bool) -> Result<Replacement, AllocError> {
 fn conditions_keep_their_order(rt: HostRuntime) -> Result<(), Fail> {
     let item = on_both(rt.alloc(), false)?;
     let text = "%a = var\npc %a 1\n%b = var\npc %b 1\ncand %a 2\n";
-    checks!(rt, item, text, true);
-    Ok(())
+    replacement_is(&rt, rt.alloc(), &item, text, true)
 }
 
 #[test]
 fn turned_conditions_stay_turned(rt: HostRuntime) -> Result<(), Fail> {
     let item = on_both(rt.alloc(), true)?;
     let text = "%a = var\n%b = var\npc %b 1\npc %a 1\ncand %a 2\n";
-    checks!(rt, item, text, true);
-    Ok(())
+    replacement_is(&rt, rt.alloc(), &item, text, true)
 }
 
 // A condition on a way into a block of so many.
@@ -190,7 +232,7 @@ fn ways_into_a_block_are_counted(rt: HostRuntime) -> Result<(), Fail> {
         let mut want = String::from_str(rt.alloc(), "%x:i8 = var\n%bb = block ")?;
         want.push_str(if predecessors == 2 { "2" } else { "3" })?;
         want.push_str("\nblockpc %bb 2 %x 1\ninfer %x\n")?;
-        checks!(rt, item, want.as_str(), well_formed);
+        left_is(&rt, rt.alloc(), &item, want.as_str(), well_formed)?;
     }
     Ok(())
 }
@@ -203,8 +245,7 @@ fn blank_stands_before_each_operand_of_a_condition(rt: HostRuntime) -> Result<()
     graph.block_pc(block, 0, number(1), x.into())?;
     let item = graph.infer(x);
     let text = "%x:i8 = var\n%bb = block 2\nblockpc %bb 0 1 %x\ninfer %x\n";
-    checks!(rt, item, text, true);
-    Ok(())
+    left_is(&rt, rt.alloc(), &item, text, true)
 }
 
 #[test]
@@ -213,8 +254,13 @@ fn same_names_are_not_well_formed(rt: HostRuntime) -> Result<(), Fail> {
     let first = graph.var("%1")?;
     let second = graph.add("%1", first.into(), number(1))?;
     let item = graph.infer(second);
-    checks!(rt, item, "%1 = var\n%1 = add %1, 1\ninfer %1\n", false);
-    Ok(())
+    left_is(
+        &rt,
+        rt.alloc(),
+        &item,
+        "%1 = var\n%1 = add %1, 1\ninfer %1\n",
+        false,
+    )
 }
 
 #[test]
@@ -222,10 +268,15 @@ fn empty_bit_lists_are_not_well_formed(rt: HostRuntime) -> Result<(), Fail> {
     let mut graph = Graph::new(rt.alloc());
     let mut attributes = Vec::new(rt.alloc());
     attributes.push(Attribute::KnownBits(Vec::new(rt.alloc())))?;
-    let x = graph.assign("%x", None, souper_ir::ast::AssignmentRhs::Var, attributes)?;
+    let x = graph.assign("%x", None, AssignmentRhs::Var, attributes)?;
     let item = graph.infer(x);
-    checks!(rt, item, "%x = var (knownBits=)\ninfer %x\n", false);
-    Ok(())
+    left_is(
+        &rt,
+        rt.alloc(),
+        &item,
+        "%x = var (knownBits=)\ninfer %x\n",
+        false,
+    )
 }
 
 #[test]
@@ -238,7 +289,7 @@ fn phis_without_values_are_judged_by_their_block(rt: HostRuntime) -> Result<(), 
         let block = graph.block("%b", predecessors)?;
         let phi = graph.phi("%p", block, &[])?;
         let item = graph.infer(phi);
-        checks!(rt, item, text, well_formed);
+        left_is(&rt, rt.alloc(), &item, text, well_formed)?;
     }
     Ok(())
 }
@@ -246,10 +297,9 @@ fn phis_without_values_are_judged_by_their_block(rt: HostRuntime) -> Result<(), 
 #[test]
 fn widths_of_constant_roots_are_judged(rt: HostRuntime) -> Result<(), Fail> {
     let item = Graph::new(rt.alloc()).result(typed(1, 0));
-    checks!(rt, item, "result 1:i0", false);
+    right_is(&rt, rt.alloc(), &item, "result 1:i0", false)?;
     let item = Graph::new(rt.alloc()).cand(number(1), typed(2, 65535));
-    checks!(rt, item, "cand 1 2:i65535\n", true);
-    Ok(())
+    replacement_is(&rt, rt.alloc(), &item, "cand 1 2:i65535\n", true)
 }
 
 #[test]
@@ -260,7 +310,7 @@ fn unneeded_statements_are_neither_printed_nor_judged(rt: HostRuntime) -> Result
     graph.var("% y")?;
     graph.add("%x", foreign.into(), number(1))?;
     let item = graph.infer(x);
-    checks!(rt, item, "%x = var\ninfer %x\n", true);
+    left_is(&rt, rt.alloc(), &item, "%x = var\ninfer %x\n", true)?;
     assert_eq!(rt; item.clone()?.statements.len(), 3);
     Ok(())
 }
@@ -349,7 +399,7 @@ fn statement_that_uses_itself_has_a_text(rt: HostRuntime) -> Result<(), Fail> {
     let mut graph = Graph::new(rt.alloc());
     let own = graph.add("%0", first.into(), number(1))?;
     let item = graph.infer(own);
-    checks!(rt, item, "%0 = add %0, 1\ninfer %0\n", false);
+    left_is(&rt, rt.alloc(), &item, "%0 = add %0, 1\ninfer %0\n", false)?;
     assert_eq!(rt; counts(&item.print_order()?), (1, 1, 3));
     Ok(())
 }

@@ -3,7 +3,7 @@ ghost use Rattle.std.specs.Prelude.{IfOk};
 ghost use Rattle.souper_graph.specs.Building.{BeginsWithPercent};
 
 use crate::building::{number, typed};
-use souper_ir::ast::{
+use souper_graph::ast::{
     AssignmentRhs, Attribute, Instruction, LeftHandSide, LeftHandSideBuilder, Operand, Replacement,
     ReplacementBuilder, RootAttribute, Type,
 };

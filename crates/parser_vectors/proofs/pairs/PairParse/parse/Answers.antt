@@ -1,6 +1,6 @@
 use Rattle.std.proofs.lemmas.Result.{err_from_is_err_and}
-use Rattle.souper_vectors.proofs.PairSteps.{first_is_refused, second_is_refused, both_are_taken}
-use Rattle.souper_vectors.proofs.pairs.PairParse.parse.Goals as goal
+use Rattle.parser_vectors.proofs.PairSteps.{first_is_refused, second_is_refused, both_are_taken}
+use Rattle.parser_vectors.proofs.pairs.PairParse.parse.Goals as goal
 
 pub returns-in_err-first-clause-err : goal.returns-in_err-first-clause-err
 returns-in_err-first-clause-err c =

@@ -10,7 +10,7 @@ use Rattle.souper_ir.specs.NodeReadings.{is_int, constant_at}
 use Rattle.souper_ir.specs.OperandLaws.{constant_complete, constant_first}
 use Rattle.souper_ir.specs.Readings.{one_alone}
 use Rattle.souper_ir.specs.Sequence.{Split, both_alone}
-use Rattle.souper_vectors.specs.declared.pairs.Pair.{Pair}
+use Rattle.parser_vectors.specs.declared.pairs.Pair.{Pair}
 
 -- the first constant, and then the second
 abbrev pub pair_spells : Scope → Pair → List Lexeme → Type 0

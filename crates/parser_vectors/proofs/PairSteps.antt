@@ -6,8 +6,8 @@ use Rattle.souper_ir.specs.Spelling.{constant_spells}
 use Rattle.souper_ir.specs.Continuation.{constant_continues}
 use Rattle.souper_ir.specs.Grammar.{Took, Refusal}
 use Rattle.souper_ir.specs.Sequence.{refused_first, refused_second, both_taken}
-use Rattle.souper_vectors.specs.declared.pairs.Pair.{Pair}
-use Rattle.souper_vectors.specs.Pairs.{pair_spells, pair_continues, over, constant_alone}
+use Rattle.parser_vectors.specs.declared.pairs.Pair.{Pair}
+use Rattle.parser_vectors.specs.Pairs.{pair_spells, pair_continues, over, constant_alone}
 
 abbrev TookConstant : Constant → Parsing → Parsing → Type 0
 TookConstant c p q = Took (λ s. constant_spells) constant_continues (λ s. s) c p q

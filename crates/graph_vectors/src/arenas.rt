@@ -1,8 +1,8 @@
 //! Arenas, ids and the errors of a text, by calls.
-use souper_ir::ast::{
+use souper_graph::ast::{
     Arena, Assignment, AssignmentRhs, Id, Infer, LeftHandSide, Statement, ValueId,
 };
-use souper_ir::stringify::TextError;
+use souper_graph::stringify::TextError;
 use std::alloc::{AllocError, Global};
 use std::test::Fail;
 

@@ -1,0 +1,15 @@
+//! Tests of graphs: arenas, builders, nodes, printed orders and texts.
+//!
+//! The values of the tests were worked out by hand from the rules of the language.
+#![tactic(auto)]
+
+#[cfg(test)]
+mod arenas;
+#[cfg(test)]
+mod builders;
+#[cfg(test)]
+mod building;
+#[cfg(test)]
+mod nodes;
+#[cfg(test)]
+mod texts_of_graphs;

@@ -1,0 +1,8 @@
+//! Tests of parsers that are used directly, and a type of a user of the parser.
+//!
+//! The values of the tests were worked out by hand from the rules of the language.
+#![tactic(auto)]
+
+pub mod pairs;
+#[cfg(test)]
+mod parsers;
