@@ -77,7 +77,7 @@ def features(case, name):
                 yield (word,) if word in texts.COUNTS else (kind, word), 1
     else:
         line, _, message = run.place(case.ours)
-        shape = message if message.startswith("expected") else re.sub(r"'.*'|[0-9]+", "_", message, flags=re.S)
+        shape = re.sub(r"(found|unexpected|named|value|block|redefine|attribute) '.*'|[0-9]+", r"\1", message, flags=re.S)
         yield (kind, shape), 2
         yield (kind, "line", min(line, 4)), 3
 

@@ -410,28 +410,36 @@ def wholes(kind):
                  "result 1:i8 (harvestedFromUse)", "cand 1, 2 (harvestedFromUse)", "cand 1, 2, 3"):
         yield text
     for end in ends:
-        for c in SPACES + NO_SPACES + LETTERS:
-            yield f"%r = var\n{end}".replace(" ", c)
-            yield f"{c}%r = var\n{end}"
-            yield f"%r = var\n{end}{c}"
-            yield f"%r = var ;{c}\n{end}"
-            yield f"%r{c} = var\n{end}"
-            yield f"%r = knownBits{c}\n{end}"
+        yield from odd_characters(end)
+        yield from odd_lines(end)
         for attribute in ROOT_ATTRIBUTES + BAD_ROOT_ATTRIBUTES + ATTRIBUTES:
             yield f"%r = var\n{end} {attribute}"
             yield f"%r = var\n{end} {attribute}{attribute}\n{attribute}"
-        # Lines of each sort of end, with the fault at the front, in the middle and at the end.
-        for line_end in ("\n", "\r\n", "\r", "\n\n", "\r\r\n", "\n\r"):
-            for fault in ("]", "%x = varr", "%r = var", "infer %zz", "result %zz", "%", "1", "é", ""):
-                yield line_end.join(("%r = var", fault, end, ""))
-                yield line_end.join((fault, "%r = var", end))
-                yield line_end.join(("%r = var", end, fault))
-                yield line_end.join(("%r = var", "é日 " + fault, end))
         yield f"%r = var\n{end}\n" * 3
         yield f"%r = var\n{end}\n{end}\n"
         yield f"%r = var\n{end} %r = var {end}"
-    yield from (f"infer 1\n{end}" for end in ends)
-    yield from (f"%r = var\ninfer %r\ninfer %r\n{end}" for end in ends)
+        yield f"infer 1\n{end}"
+        yield f"%r = var\ninfer %r\ninfer %r\n{end}"
+
+
+def odd_characters(end):
+    for c in SPACES + NO_SPACES + LETTERS:
+        yield f"%r = var\n{end}".replace(" ", c)
+        yield f"{c}%r = var\n{end}"
+        yield f"%r = var\n{end}{c}"
+        yield f"%r = var ;{c}\n{end}"
+        yield f"%r{c} = var\n{end}"
+        yield f"%r = knownBits{c}\n{end}"
+
+
+def odd_lines(end):
+    """Lines of each sort of end, with a fault at the front, in the middle and at the end."""
+    for line_end in ("\n", "\r\n", "\r", "\n\n", "\r\r\n", "\n\r"):
+        for fault in ("]", "%x = varr", "%r = var", "infer %zz", "result %zz", "%", "1", "é", ""):
+            yield line_end.join(("%r = var", fault, end, ""))
+            yield line_end.join((fault, "%r = var", end))
+            yield line_end.join(("%r = var", end, fault))
+            yield line_end.join(("%r = var", "é日 " + fault, end))
 
 
 def long_forms(kind):
@@ -447,6 +455,10 @@ def long_forms(kind):
         yield "%0 = var\n" + "".join(f"%{i} = add %{i - 1}, %{i - 1}\n" for i in range(1, 400)) + f"%r = freeze %399\n{end}"
         yield f"%r = var\n{end}\n" * 300
         yield "\n" * 12000 + f"%r = var ]\n{end}"
+        for shift in range(4):
+            yield "%r = var ;" + "x" * shift + "é日😀" * 15000 + f"\n{end}"
+            yield "%r = var " + "x" * shift + "\u3000\u0085" * 25000 + f"\n{end}"
+            yield "%r = var " + "\u3000\u0085" * 20 * shift + f"\n{end} é" + "日" * 30000
         for blanks in (65520, 65525, 65526, 65527, 65528, 65529, 65535, 65536, 70000):
             yield f"%r = var{' ' * blanks}]\n{end}"
             yield f"%r = var{' ' * blanks}\n]\n{end}"
