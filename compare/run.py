@@ -3,7 +3,7 @@
 
     run.py DRIVER PROGRAM [COUNT [SEED [FILE]]]
 
-DRIVER is the program of driver.rs, PROGRAM is souper_fmt, COUNT the number of texts for each kind (20000). Prints how many
+DRIVER is the program of driver.rs, PROGRAM is souper_fmt, COUNT the number of texts for each kind (25000). Prints how many
 texts fall in each class. What no class explains is written to FILE (unexplained.txt), and then the status is 1.
 """
 import collections
@@ -80,8 +80,13 @@ def path_conditions(case, programs):
 
 
 def wide_column(case, programs):
-    """The crate panics where the mark's column is past 65535, the greatest width of a formatter."""
-    return case.crate.status == PANIC and case.ours.status == REFUSED and place(case.ours)[1] > 65535
+    """The crate panics where the mark's column is past 65535, the greatest width of a formatter. Of the text with some
+    blanks fewer it says the same at a lower column."""
+    found, fewer = place(case.ours), 60000
+    if case.crate.status != PANIC or case.ours.status != REFUSED or found[1] <= 65535:
+        return False
+    shorter = case.text.replace(" " * fewer, "", 1)
+    return place(programs.crate(case.kind, shorter)) == (found[0], found[1] - fewer, found[2])
 
 
 def ways(source):
@@ -111,15 +116,22 @@ CLASSES = (path_conditions, wide_column, bad_way, number_fault)
 
 
 def without_comma(case):
-    """The text with a blank for the comma in a `cand` line at which the crate refuses it; None where it does not."""
+    """The text with a blank for the comma in a `cand` line at which the crate refuses it; None where it does not. A colon
+    behind the comma, which would now continue the first operand, becomes another mark that begins no operand."""
     found = place(case.crate)
     if found is None or found[2] != "expected an integer literal" or case.kind != "rep":
         return None
-    source = case.text.encode()
-    at = offset(case.text, *found[:2])
-    front = words(source[:at].decode())
-    is_cand = front[-2:-1] == ["cand"] or front[-4:-3] == ["cand"] and front[-2:-1] == [":"]
-    return (source[:at] + b" " + source[at + 1:]).decode() if source[at:at + 1] == b"," and is_cand else None
+    source, at = case.text.encode(), offset(case.text, *found[:2])
+    front = source[:at].decode()
+    last = words(front)
+    is_cand = last[-2:-1] == ["cand"] or last[-4:-3] == ["cand"] and last[-2:-1] == [":"]
+    if source[at:at + 1] != b"," or not is_cand:
+        return None
+    behind = texts.tokens(source[at + 1:].decode())
+    first = next((i for i, token in enumerate(behind) if not texts.is_gap(token)), None)
+    if first is not None and behind[first] == ":":
+        behind[first] = "="
+    return front + " " + "".join(behind)
 
 
 def classify(case, programs):
@@ -169,7 +181,7 @@ def answers(count, seed, programs):
 
 def main():
     programs = Programs(sys.argv[1], sys.argv[2])
-    count = int(sys.argv[3]) if len(sys.argv) > 3 else 20000
+    count = int(sys.argv[3]) if len(sys.argv) > 3 else 25000
     seed = int(sys.argv[4]) if len(sys.argv) > 4 else 1
     path = sys.argv[5] if len(sys.argv) > 5 else "unexplained.txt"
     named, lost = answers(count, seed, programs)

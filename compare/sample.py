@@ -64,22 +64,23 @@ def record_of(case, name):
 def features(case, name):
     """What a case shows, each with how many cases of a sample shall show it."""
     kind, accepted = case.kind, case.ours.status == run.ACCEPTED
-    yield (kind, case.family, accepted), 3
-    yield (kind, name), 6
+    yield (kind, case.family, accepted), 2
+    yield (kind, name), 5
     for c in case.text:
         if not c.isascii() or c < " " and c != "\n":
             yield (c, accepted), 1
     if accepted:
-        printed = words(case.ours.out)
-        yield (kind, "lines", min(case.ours.out.count("\n"), 9)), 3
-        for word in printed:
+        yield (kind, "lines", min(case.ours.out.count("\n"), 9)), 1
+        if case.family == "sound":
+            yield (kind, "length", len(case.text) // 50), 2
+        for word in words(case.ours.out):
             if word[0].isalpha():
-                yield (word,) if word in texts.COUNTS else (kind, word), 1
+                yield (word,), 1
     else:
         line, _, message = run.place(case.ours)
         shape = re.sub(r"(found|unexpected|named|value|block|redefine|attribute) '.*'|[0-9]+", r"\1", message, flags=re.S)
-        yield (kind, shape), 2
-        yield (kind, "line", min(line, 4)), 3
+        yield (kind, shape), 1
+        yield (kind, "line", min(line, 4)), 2
 
 
 def choose(named):
