@@ -31,7 +31,7 @@ fn read_text<R: Read>(alloc: Global, input: &mut Watched<R>) -> Result<String, R
     ensures fault { IfErr result (FaultMeans (stream R.remaining input.old input.new)) }
 {
     let mut bytes = Vec::new(alloc);
-    let mut buffer = [0u8; 4096];
+    let mut buffer = [0u8; 32768];
     for _turn in 0..u64::MAX {
         match input.read(&mut buffer) {
             Ok(0) => {

@@ -6,11 +6,12 @@ use Rattle.std.specs.Char.{is_whitespace, is_ascii_digit, encode_utf8}
 use Rattle.std.proofs.lemmas.Str.{char_from_byte, length-encode, len_utf8_bounds}
 use Rattle.std.proofs.lemmas.Bool.{cases_lt}
 use Rattle.std.proofs.lemmas.Bool.Decides.{nat_tests}
-use Rattle.souper_ir.specs.Tokens.{Lexeme, ident, val_name, known_bits, int, comma, colon, equals, open_paren, close_paren, open_bracket, continues, Stops, is_name, is_bit, Piece, space, comment, piece_text, IsPiece, IsGap}
+use Rattle.souper_graph.specs.Names.{is_name_char}
+use Rattle.souper_ir.specs.Tokens.{Lexeme, ident, val_name, known_bits, int, comma, colon, equals, open_paren, close_paren, open_bracket, continues, Stops, is_bit, Piece, space, comment, piece_text, IsPiece, IsGap}
 
 -- a byte that is part of no token but as its own mark
 abbrev Outside : ℕ → Type 0
-Outside b = (is_name b ≡ false) × (is_bit b ≡ false) × (is_ascii_digit b ≡ false)
+Outside b = (is_name_char b ≡ false) × (is_bit b ≡ false) × (is_ascii_digit b ≡ false)
 
 wide_outside : (b : ℕ) → 128 ≤ b → Outside b
 wide_outside b h = (grind (arith, nat_tests), grind (arith, nat_tests), grind (arith, nat_tests))

@@ -9,7 +9,8 @@ use Rattle.std.proofs.lemmas.Str.{chars-append, chars-encodes, IsUtf8-encode, le
 use Rattle.std.proofs.lemmas.Slice.Eq.{bytes_eq-Decides}
 use Rattle.std.proofs.lemmas.Bool.{false≢true}
 use Rattle.std.proofs.lemmas.Bool.Decides.{nat_tests}
-use Rattle.souper_ir.specs.Tokens.{Lexeme, ident, val_name, known_bits, int, comma, colon, equals, open_paren, close_paren, open_bracket, AllAre, Stops, IsLexeme, continues, spelling, known_bits_word, is_name, is_bit, begins_int, Piece, space, comment, piece_text, IsPiece, IsOneLine, IsGap, IsLastComment, IsLastGap, Stands}
+use Rattle.souper_graph.specs.Names.{is_name_char}
+use Rattle.souper_ir.specs.Tokens.{Lexeme, ident, val_name, known_bits, int, comma, colon, equals, open_paren, close_paren, open_bracket, AllAre, Stops, IsLexeme, continues, spelling, known_bits_word, is_bit, begins_int, Piece, space, comment, piece_text, IsPiece, IsOneLine, IsGap, IsLastComment, IsLastGap, Stands}
 use Rattle.souper_ir.specs.TokenReading.{ends, found, run_of, after_run, bits_at, name_at, word_at, mark_of, longer_at, front_of, token_at, remark, first_space, space_len, after_from, after_gap, gap_len, next_of}
 use Rattle.souper_ir.proofs.TokenGap.{gap_past_space, gap_past_remark, gap_stops_above, remark_cons, remark_newline}
 
@@ -42,7 +43,7 @@ unmarked : (c : ℕ) (bs : List ℕ) (p : ℕ → Bool) → p c ≡ true → p 4
 unfolding front_of
 unmarked c bs p passes h44 h58 h61 h40 h41 h91 = ap (λ (o : Option Lexeme). elim o [ Some t ↦ found t bs | None ↦ longer_at c bs ]) (no_mark c p passes h44 h58 h61 h40 h41 h91)
 
-longer_word : (c : ℕ) (bs : List ℕ) → is_ascii_alphabetic c ≡ true → longer_at c bs ≡ word_at (run_of is_name c bs) (after_run is_name bs)
+longer_word : (c : ℕ) (bs : List ℕ) → is_ascii_alphabetic c ≡ true → longer_at c bs ≡ word_at (run_of is_name_char c bs) (after_run is_name_char bs)
 unfolding longer_at
 longer_word c bs letter = rw (apart is_ascii_alphabetic c 37 letter refl, letter, longer_at) refl
 
@@ -53,11 +54,11 @@ longer_int : (c : ℕ) (bs : List ℕ) → begins_int c ≡ true → longer_at c
 unfolding longer_at
 longer_int c bs digit = rw (apart begins_int c 37 digit refl, no_letter c digit, digit, longer_at) refl
 
-letter_at : (c : ℕ) (s rest : List ℕ) → is_ascii_alphabetic c ≡ true → AllAre is_name s → Stops is_name rest → front_of c (s ++ rest) ≡ word_at (c ∷ s) rest
+letter_at : (c : ℕ) (s rest : List ℕ) → is_ascii_alphabetic c ≡ true → AllAre is_name_char s → Stops is_name_char rest → front_of c (s ++ rest) ≡ word_at (c ∷ s) rest
 letter_at c s rest letter all over =
     unmarked c (s ++ rest) is_ascii_alphabetic letter refl refl refl refl refl refl
     ∙ longer_word c (s ++ rest) letter
-    ∙ (λ i. word_at (c ∷ take_front is_name s rest all over i) (drop_front is_name s rest all over i))
+    ∙ (λ i. word_at (c ∷ take_front is_name_char s rest all over i) (drop_front is_name_char s rest all over i))
 
 fails : (b : Bool) → (b ≡ true → ⊥) → b ≡ false
 fails true h = absurd (h refl)
@@ -74,9 +75,9 @@ name_found : (s rest : List ℕ) → 0 < length s → name_at (37 ∷ s) rest �
 unfolding name_at
 name_found s rest l = rw (eq_not (suc (length s)) 1 (omega arith), name_at) refl
 
-percent_at : (s rest : List ℕ) → AllAre is_name s → Stops is_name rest → front_of 37 (s ++ rest) ≡ name_at (37 ∷ s) rest
+percent_at : (s rest : List ℕ) → AllAre is_name_char s → Stops is_name_char rest → front_of 37 (s ++ rest) ≡ name_at (37 ∷ s) rest
 unfolding front_of longer_at
-percent_at s rest all over = λ i. name_at (37 ∷ take_front is_name s rest all over i) (drop_front is_name s rest all over i)
+percent_at s rest all over = λ i. name_at (37 ∷ take_front is_name_char s rest all over i) (drop_front is_name_char s rest all over i)
 
 int_at : (c : ℕ) (s rest : List ℕ) → begins_int c ≡ true → AllAre is_ascii_digit s → Stops is_ascii_digit rest → front_of c (s ++ rest) ≡ found (int (c ∷ s)) rest
 int_at c s rest digit all over =

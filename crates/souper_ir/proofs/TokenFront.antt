@@ -8,7 +8,8 @@ use Rattle.std.proofs.lemmas.List.Sums.{prefix_len-le-length}
 use Rattle.std.proofs.lemmas.Slice.Eq.{bytes_eq-Decides}
 use Rattle.std.proofs.lemmas.Bool.{false≢true}
 use Rattle.std.proofs.lemmas.Bool.Decides.{nat_tests}
-use Rattle.souper_ir.specs.Tokens.{Lexeme, ident, val_name, known_bits, int, comma, colon, equals, open_paren, close_paren, open_bracket, AllAre, Stops, IsLexeme, continues, spelling, known_bits_word, is_name, is_bit, begins_int}
+use Rattle.souper_graph.specs.Names.{is_name_char}
+use Rattle.souper_ir.specs.Tokens.{Lexeme, ident, val_name, known_bits, int, comma, colon, equals, open_paren, close_paren, open_bracket, AllAre, Stops, IsLexeme, continues, spelling, known_bits_word, is_bit, begins_int}
 use Rattle.souper_ir.specs.TokenReading.{Front, ends, faulty, found, run_of, after_run, bits_at, name_at, word_at, longer_at, front_of, token_at}
 
 -- bs is the token t, which is over there, and rest
@@ -69,25 +70,25 @@ bits_front (c ∷ bs) = if_both (IsFront (known_bits_word ++ c ∷ bs)) (eqb c 6
     }))
     (λ _. tt)
 
-word_front : (c : ℕ) (bs : List ℕ) → is_ascii_alphabetic c ≡ true → IsFront (c ∷ bs) (word_at (run_of is_name c bs) (after_run is_name bs))
+word_front : (c : ℕ) (bs : List ℕ) → is_ascii_alphabetic c ≡ true → IsFront (c ∷ bs) (word_at (run_of is_name_char c bs) (after_run is_name_char bs))
 unfolding word_at
-word_front c bs letter = if_both (IsFront (c ∷ bs)) (bytes_eq (run_of is_name c bs) known_bits_word) _ _
-    (λ same. subst (λ l. IsFront l (bits_at (after_run is_name bs)))
-    (ap (λ l. l ++ after_run is_name bs) (sym ((bytes_eq-Decides (run_of is_name c bs) known_bits_word).0 same)) ∙ ap (λ l. c ∷ l) (take-append-drop (prefix_len is_name bs) bs))
-    (bits_front (after_run is_name bs)))
+word_front c bs letter = if_both (IsFront (c ∷ bs)) (bytes_eq (run_of is_name_char c bs) known_bits_word) _ _
+    (λ same. subst (λ l. IsFront l (bits_at (after_run is_name_char bs)))
+    (ap (λ l. l ++ after_run is_name_char bs) (sym ((bytes_eq-Decides (run_of is_name_char c bs) known_bits_word).0 same)) ∙ ap (λ l. c ∷ l) (take-append-drop (prefix_len is_name_char bs) bs))
+    (bits_front (after_run is_name_char bs)))
     (λ other. record {
-      is_token = (letter, all_front is_name bs, λ same. false≢true (sym other ∙ (bytes_eq-Decides (run_of is_name c bs) known_bits_word).1 same));
-      is_over = stops_front is_name bs;
-      text = ap (λ l. c ∷ l) (sym (take-append-drop (prefix_len is_name bs) bs));
+      is_token = (letter, all_front is_name_char bs, λ same. false≢true (sym other ∙ (bytes_eq-Decides (run_of is_name_char c bs) known_bits_word).1 same));
+      is_over = stops_front is_name_char bs;
+      text = ap (λ l. c ∷ l) (sym (take-append-drop (prefix_len is_name_char bs) bs));
     })
 
-name_front : (c : ℕ) (bs : List ℕ) → c ≡ 37 → IsFront (c ∷ bs) (name_at (run_of is_name c bs) (after_run is_name bs))
+name_front : (c : ℕ) (bs : List ℕ) → c ≡ 37 → IsFront (c ∷ bs) (name_at (run_of is_name_char c bs) (after_run is_name_char bs))
 unfolding name_at
-name_front c bs is = if_both (IsFront (c ∷ bs)) (eqb (length (run_of is_name c bs)) 1) _ _ (λ _. tt)
+name_front c bs is = if_both (IsFront (c ∷ bs)) (eqb (length (run_of is_name_char c bs)) 1) _ _ (λ _. tt)
     (λ some. record {
-      is_token = (is, not_alone c (take (prefix_len is_name bs) bs) some, all_front is_name bs);
-      is_over = stops_front is_name bs;
-      text = ap (λ l. c ∷ l) (sym (take-append-drop (prefix_len is_name bs) bs));
+      is_token = (is, not_alone c (take (prefix_len is_name_char bs) bs) some, all_front is_name_char bs);
+      is_over = stops_front is_name_char bs;
+      text = ap (λ l. c ∷ l) (sym (take-append-drop (prefix_len is_name_char bs) bs));
     })
 
 longer_front : (c : ℕ) (bs : List ℕ) → IsFront (c ∷ bs) (longer_at c bs)

@@ -7,7 +7,8 @@ use lib.Utf8.{scalar, scalars, encodes}
 use Rattle.std.proofs.lemmas.List.{drop_at, get_or_at}
 use Rattle.std.proofs.lemmas.Str.{IsUtf8-drop, IsUtf8-nil, IsCharBoundary-after_ascii, length-encode, len_utf8_bounds}
 use Rattle.std.proofs.lemmas.Bool.Decides.{nat_tests}
-use Rattle.souper_ir.specs.Tokens.{Lexeme, ident, val_name, known_bits, int, comma, colon, equals, open_paren, close_paren, open_bracket, AllAre, IsLexeme, spelling, is_name, is_bit, begins_int, Piece, space, comment, piece_text, IsPiece, IsOneLine, IsGap, IsLastComment, IsLastGap, Stands}
+use Rattle.souper_graph.specs.Names.{is_name_char}
+use Rattle.souper_ir.specs.Tokens.{Lexeme, ident, val_name, known_bits, int, comma, colon, equals, open_paren, close_paren, open_bracket, AllAre, IsLexeme, spelling, is_bit, begins_int, Piece, space, comment, piece_text, IsPiece, IsOneLine, IsGap, IsLastComment, IsLastGap, Stands}
 use Rattle.souper_ir.specs.TokenReading.{ends, found, front_of, token_at, remark, space_len, after_from, after_gap, gap_len, next_of}
 use Rattle.souper_ir.proofs.TokenGap.{gap_other, gap_past_remark, gap_nil, remark_cons, remark_newline, space_nil}
 use Rattle.souper_ir.proofs.TokenFront.{IsFront, front_sound, token_sound, spelled_some}
@@ -153,7 +154,7 @@ all_below : (p : ℕ → Bool) → ((b : ℕ) → p b ≡ true → b < 128) → 
 all_below p small [] all = tt
 all_below p small (c ∷ s) all = (small c all.0, all_below p small s all.1)
 
-name_small : (b : ℕ) → is_name b ≡ true → b < 128
+name_small : (b : ℕ) → is_name_char b ≡ true → b < 128
 name_small b h = grind (arith, nat_tests)
 
 bit_small : (b : ℕ) → is_bit b ≡ true → b < 128
@@ -170,9 +171,9 @@ int_small b h = grind (arith, nat_tests)
 
 spelled_ascii : (t : Lexeme) → IsLexeme t → AllByRecursion (λ b. b < 128) (spelling t)
 spelled_ascii (ident []) is = absurd is
-spelled_ascii (ident (c ∷ s)) is = (letter_small c is.0, all_below is_name name_small s is.1)
+spelled_ascii (ident (c ∷ s)) is = (letter_small c is.0, all_below is_name_char name_small s is.1)
 spelled_ascii (val_name []) is = absurd is
-spelled_ascii (val_name (c ∷ s)) is = (let e = is.0 in omega arith, all_below is_name name_small s is.2)
+spelled_ascii (val_name (c ∷ s)) is = (let e = is.0 in omega arith, all_below is_name_char name_small s is.2)
 spelled_ascii (known_bits s) is = (omega arith, (omega arith, (omega arith, (omega arith, (omega arith, (omega arith, (omega arith, (omega arith, (omega arith, (omega arith, all_below is_bit bit_small s is.1))))))))))
 spelled_ascii (int []) is = absurd is
 spelled_ascii (int (c ∷ s)) is = (int_small c is.0, all_below is_ascii_digit digit_small s is.1)

@@ -2,7 +2,8 @@
 use Rattle.std.specs.Prelude.{ℕ, zero, suc, ◌+◌, ◌-◌, Bool, true, false, ◌==◌, List, [], ◌∷◌, length, take, drop, if◌then◌else◌, bytes_eq, chars, Option, Some, None}
 use Rattle.std.specs.List.{prefix_len}
 use Rattle.std.specs.Char.{is_whitespace, len_utf8, is_ascii_digit, is_ascii_alphabetic}
-use Rattle.souper_ir.specs.Tokens.{Lexeme, ident, val_name, known_bits, int, comma, colon, equals, open_paren, close_paren, open_bracket, is_name, is_bit, begins_int, known_bits_word, spelling}
+use Rattle.souper_graph.specs.Names.{is_name_char}
+use Rattle.souper_ir.specs.Tokens.{Lexeme, ident, val_name, known_bits, int, comma, colon, equals, open_paren, close_paren, open_bracket, is_bit, begins_int, known_bits_word, spelling}
 
 -- where a byte of a gap stands: in a white space character of which so many bytes are left (0: between two pieces), or in a comment
 pub data Place : Type 0 where
@@ -69,8 +70,8 @@ mark_of c =
 -- a token of more characters, from its first one on: 37 is `%`
 unfoldable pub longer_at : ℕ → List ℕ → Front
 longer_at c bs =
-    if c == 37 then name_at (run_of is_name c bs) (after_run is_name bs)
-    else (if is_ascii_alphabetic c then word_at (run_of is_name c bs) (after_run is_name bs)
+    if c == 37 then name_at (run_of is_name_char c bs) (after_run is_name_char bs)
+    else (if is_ascii_alphabetic c then word_at (run_of is_name_char c bs) (after_run is_name_char bs)
     else (if begins_int c then found (int (run_of is_ascii_digit c bs)) (after_run is_ascii_digit bs)
     else faulty))
 

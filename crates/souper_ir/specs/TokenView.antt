@@ -7,7 +7,8 @@ use Rattle.souper_ir.specs.declared.lexer.Token.TheVariants.{Ident, ValName, Kno
 use Rattle.souper_ir.specs.declared.lexer.Class.{Class}
 use Rattle.souper_ir.specs.declared.lexer.Class.TheVariants as classes
 use Rattle.souper_ir.specs.declared.lexer.Fault.{Fault}
-use Rattle.souper_ir.specs.Tokens.{Lexeme, ident, val_name, known_bits, int, comma, colon, equals, open_paren, close_paren, open_bracket, is_name, is_bit}
+use Rattle.souper_graph.specs.Names.{is_name_char}
+use Rattle.souper_ir.specs.Tokens.{Lexeme, ident, val_name, known_bits, int, comma, colon, equals, open_paren, close_paren, open_bracket, is_bit}
 use Rattle.souper_ir.specs.TokenReading.{Front, faulty, found, Lexed}
 
 -- the token by its content
@@ -24,7 +25,7 @@ lexeme_of CloseParen = close_paren
 lexeme_of OpenBracket = open_bracket
 
 abbrev pub is_in : Class → ℕ → Bool
-is_in classes.Name c = is_name c
+is_in classes.Name c = is_name_char c
 is_in classes.Digit c = is_ascii_digit c
 is_in classes.Bit c = is_bit c
 

@@ -17,10 +17,6 @@ pub data Lexeme : Type 0 where
   close_paren : Lexeme
   open_bracket : Lexeme
 
--- a name character
-abbrev pub is_name : ℕ → Bool
-is_name c = is_name_char c
-
 -- the white space characters: tab to carriage return, the blank, and 18 more
 abbrev pub white_space : List ℕ
 white_space =
@@ -64,9 +60,9 @@ AllAre p s = AllByRecursion (λ c. p c ≡ true) s
 -- what a token of each kind may contain: 37 is `%`
 abbrev pub IsLexeme : Lexeme → Type 0
 IsLexeme (ident []) = ⊥
-IsLexeme (ident (c ∷ s)) = (is_ascii_alphabetic c ≡ true) × AllAre is_name s × (c ∷ s ≢ known_bits_word)
+IsLexeme (ident (c ∷ s)) = (is_ascii_alphabetic c ≡ true) × AllAre is_name_char s × (c ∷ s ≢ known_bits_word)
 IsLexeme (val_name []) = ⊥
-IsLexeme (val_name (c ∷ s)) = (c ≡ 37) × (0 < length s) × AllAre is_name s
+IsLexeme (val_name (c ∷ s)) = (c ≡ 37) × (0 < length s) × AllAre is_name_char s
 IsLexeme (known_bits s) = (0 < length s) × AllAre is_bit s
 IsLexeme (int []) = ⊥
 IsLexeme (int (c ∷ s)) = (begins_int c ≡ true) × AllAre is_ascii_digit s
@@ -79,8 +75,8 @@ IsLexeme open_bracket = Unit {0}
 
 -- the character c, right behind the token, would be part of it
 abbrev pub continues : Lexeme → ℕ → Bool
-continues (ident s) c = is_name c
-continues (val_name s) c = is_name c
+continues (ident s) c = is_name_char c
+continues (val_name s) c = is_name_char c
 continues (known_bits s) c = is_bit c
 continues (int s) c = is_ascii_digit c
 continues comma c = false

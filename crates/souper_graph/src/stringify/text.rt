@@ -24,7 +24,8 @@ fn text_by<T: AppendInOrder>(alloc: Global, item: &T, order: &Order) -> Result<S
     ensures ok { IfOk result (λ text. string_bytes text ≡ text_in_order (T.item item.now).statements (T.item item.now).ending order.now.ids.items order.now.lead) }
     ensures refused { IfErr result (λ error. IsFaultAmong (T.item item.now).statements (roots_of (T.item item.now).ending ++ flat_map (uses_at (T.item item.now).statements) order.now.ids.items) error) }
 {
-    let mut out = String::new(alloc);
+    // A line has some thirty bytes: so much is reserved, and the text grows from there.
+    let mut out = String::with_capacity(alloc, order.ids.len().saturating_mul(32))?;
     item.append_in_order(&order.ids, order.lead, &mut out)?;
     Ok(out)
 }
