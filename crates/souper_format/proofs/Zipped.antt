@@ -1,0 +1,35 @@
+-- Two lists whose images are pairwise related.
+use Rattle.std.proofs.Common.{◌≡◌, ℕ, zero, suc, ◌+◌, ◌<◌, ◌≤◌, length, map, take, get_or, List, [], ◌∷◌, refl, sym, ap, ◌∙◌, subst, arith}
+use Rattle.std.specs.List.{AllZip}
+use Rattle.std.proofs.lemmas.List.{take_all, length-map}
+use Rattle.std.proofs.lemmas.Slice.Zip.{AllZip-long}
+
+-- one pair more
+pub zipped-more : {A B : Type 0} (R : B → B → Type 0) (f : A → B) (xs ys : List A) (n m : ℕ) (x y : A)
+    → n < length xs → n < length ys → m ≡ n + 1 → x ≡ get_or xs n x → y ≡ get_or ys n y → R (f x) (f y)
+    → AllZip R (map f (take n xs)) (map f (take n ys)) → AllZip R (map f (take m xs)) (map f (take m ys))
+zipped-more R f [] ys n m x y lx ly k ex ey r h = absurd (omega arith)
+zipped-more R f (a ∷ xs) [] n m x y lx ly k ex ey r h = absurd (omega arith)
+zipped-more R f (a ∷ xs) (b ∷ ys) n zero x y lx ly k ex ey r h = absurd (omega arith)
+zipped-more R f (a ∷ xs) (b ∷ ys) zero (suc zero) x y lx ly k ex ey r h =
+    (subst (λ z. R (f z) (f b)) ex (subst (λ z. R (f x) (f z)) ey r), tt)
+zipped-more R f (a ∷ xs) (b ∷ ys) zero (suc (suc m)) x y lx ly k ex ey r h = absurd (omega arith)
+zipped-more R f (a ∷ xs) (b ∷ ys) (suc n) (suc m) x y lx ly k ex ey r h =
+    (h.0, zipped-more R f xs ys n m x y (omega arith) (omega arith) (omega arith) ex ey r h.1)
+
+-- each pair
+pub zipped-at : {A B : Type 0} (R : B → B → Type 0) (f : A → B) (xs ys : List A) (n : ℕ) (x y : A)
+    → n < length xs → n < length ys → x ≡ get_or xs n x → y ≡ get_or ys n y → AllZip R (map f xs) (map f ys) → R (f x) (f y)
+zipped-at R f [] ys n x y lx ly ex ey h = absurd (omega arith)
+zipped-at R f (a ∷ xs) [] n x y lx ly ex ey h = absurd (omega arith)
+zipped-at R f (a ∷ xs) (b ∷ ys) zero x y lx ly ex ey h = subst (λ z. R (f z) (f y)) (sym ex) (subst (λ z. R (f a) (f z)) (sym ey) h.0)
+zipped-at R f (a ∷ xs) (b ∷ ys) (suc n) x y lx ly ex ey h = zipped-at R f xs ys n x y (omega arith) (omega arith) ex ey h.1
+
+-- all pairs
+pub zipped-all : {A B : Type 0} (R : B → B → Type 0) (f : A → B) (xs ys : List A) (n : ℕ)
+    → length xs ≤ n → length ys ≤ n → AllZip R (map f (take n xs)) (map f (take n ys)) → AllZip R (map f xs) (map f ys)
+zipped-all R f xs ys n lx ly h =
+    subst (λ z. AllZip R (map f z) (map f ys)) (take_all n xs lx) (subst (λ z. AllZip R (map f (take n xs)) (map f z)) (take_all n ys ly) h)
+
+pub zipped-long : {A B : Type 0} (R : B → B → Type 0) (f : A → B) (xs ys : List A) → AllZip R (map f xs) (map f ys) → length xs ≡ length ys
+zipped-long R f xs ys h = sym (length-map xs f) ∙ sym (AllZip-long R (map f xs) (map f ys) h) ∙ length-map ys f
