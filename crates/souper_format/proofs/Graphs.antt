@@ -1,11 +1,10 @@
 -- Two well formed items are the same graph exactly where their statements in printed order, and their endings, are carried alike.
-use Rattle.std.proofs.Common.{◌≡◌, ℕ, zero, suc, ◌<◌, ◌++◌, ◌↔◌, length, map, List, [], ◌∷◌, Option, Some, None, refl, sym, ap, ◌∙◌, subst, arith, get_or}
+use Rattle.std.proofs.Common.{◌≡◌, ℕ, ◌<◌, ◌++◌, length, map, List, [], ◌∷◌, Option, Some, refl, sym, ap, ◌∙◌, subst}
 use Rattle.std.specs.List.{flat_map, slice_get}
 use Rattle.std.specs.Option.{option_map}
 use Rattle.souper_graph.specs.Values.{PlainStatement, Ending, Item}
 use Rattle.souper_graph.specs.Uses.{Has, Use, position_of, uses_of, NeededIn, walks_of}
 use Rattle.souper_graph.specs.Order.{Distinct, printed_order}
-use Rattle.souper_graph.specs.View.{view_statement}
 use Rattle.souper_graph.specs.WellFormed.{WellFormed}
 use Rattle.souper_graph.specs.Sameness.{carried, carried_ending, carried_optional, SameGraph, place, taken, renumbered}
 use Rattle.souper_format.specs.declared.same.graphs.Ordered.{Ordered}

@@ -2,9 +2,8 @@ pub mod Listed
 pub mod RunLemmas
 pub mod InstructionParts
 pub mod Graphs
-pub mod Pairwise
+pub mod Pairs
 pub mod TableLemmas
 pub mod BitLists
 pub mod Assigned
-pub mod Zipped
 pub mod Endings

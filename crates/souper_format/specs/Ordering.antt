@@ -1,5 +1,5 @@
 -- An item's statements in printed order.
-use Rattle.std.specs.Prelude.{◌≡◌, ℕ, List, map, Option}
+use Rattle.std.specs.Prelude.{◌≡◌, ℕ, map, Option}
 use Rattle.souper_graph.specs.Values.{PlainStatement, Item}
 use Rattle.souper_graph.specs.View.{view_statement}
 use Rattle.souper_graph.specs.Uses.{Has}

@@ -25,6 +25,8 @@ mod parsers;
 #[cfg(test)]
 mod runs;
 #[cfg(test)]
+mod same;
+#[cfg(test)]
 mod streams;
 #[cfg(test)]
 mod texts;

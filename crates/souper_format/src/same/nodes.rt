@@ -76,14 +76,13 @@ impl Placed for Instruction {
 }
 
 impl Placed for Phi {
-    ghost use Rattle.souper_graph.specs.Values.{PlainRhs};
+    ghost use Rattle.souper_graph.specs.Values.{PlainRhs, phi};
     ghost use Rattle.souper_graph.specs.View.{view_phi};
-    ghost use Rattle.std.specs.String.{string_bytes};
-    ghost use Rattle.souper_format.specs.Placed.{carried_phi};
+    ghost use Rattle.souper_graph.specs.Sameness.{carried_rhs};
 
     ghost Plain = { PlainRhs };
 
-    ghost carry = { λ f p. carried_phi f (view_phi p) };
+    ghost carry = { λ f p. carried_rhs f (phi (view_phi p)) };
 
     fn is_same(&self, other: &Self, own: &Places, others: &Places) -> bool {
         own.place(Id::from(self.block)) == others.place(Id::from(other.block))

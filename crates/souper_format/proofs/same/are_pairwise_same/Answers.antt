@@ -1,10 +1,10 @@
-use Rattle.std.proofs.Common.{rules, ◌≡◌, length, map, take, sym, ◌∙◌, ◌++◌, ◌∷◌, [], arith}
+use Rattle.std.proofs.Common.{rules, ◌≡◌, length, sym, ◌∙◌, ◌++◌, ◌∷◌, [], arith}
 use Rattle.std.proofs.lemmas.List.{length_push}
 use Rattle.std.proofs.lemmas.Slice.Zip.{zip_turn}
 use Rattle.souper_graph.specs.WellFormed.{WellFormed}
 use Rattle.souper_graph.specs.Sameness.{SameGraph}
 use Rattle.souper_graph.proofs.Judged.{All-map_at}
-use Rattle.souper_format.proofs.Zipped.{zipped-at, zipped-more}
+use Rattle.souper_format.proofs.Pairs.{related_at, related_more}
 use Rattle.souper_format.proofs.same.are_pairwise_same.Goals as goal
 
 pub are_same_graph-requires-clause-formed : goal.are_same_graph-requires-clause-formed
@@ -28,7 +28,7 @@ returns-then-not-branch g c =
     let t = zip_turn c.args.a.now c.args.b.now c.loop-x.yielded c.into_iter-x-iterator.result c.loop-x.x-iterator c.next.new.self c.next.result first second c.loop-x.yielded_by (c.in-Some.x, c.in-Some.y) c.in-Some.is c.next.ensures.steps in (
       (λ e. absurd (cc)),
       (λ all. sym c.if-not-branch.true ∙ c.in_ok-are_same_graph.ensures.1
-          (zipped-at SameGraph g.T.Graph.item c.args.a.now c.args.b.now (length c.loop-x.yielded) c.in-Some.x.now c.in-Some.y.now t.0 t.1 (t.2 c.in-Some.x.now) (t.3 c.in-Some.y.now) all)),
+          (related_at SameGraph g.T.Graph.item c.args.a.now c.args.b.now (length c.loop-x.yielded) c.in-Some.x.now c.in-Some.y.now t.0 t.1 (t.2 c.in-Some.x.now) (t.3 c.in-Some.y.now) all)),
     )
 
 pub loop-x-preserved : goal.loop-x-preserved
@@ -39,6 +39,6 @@ loop-x-preserved g c =
     let pushed = length_push c.loop-x.yielded (c.in-Some.x, c.in-Some.y) in (
       (tt, tt),
       tt,
-      zipped-more SameGraph g.T.Graph.item c.args.a.now c.args.b.now (length c.loop-x.yielded) (length (c.loop-x.yielded ++ (c.in-Some.x, c.in-Some.y) ∷ [])) c.in-Some.x.now c.in-Some.y.now
+      related_more SameGraph g.T.Graph.item c.args.a.now c.args.b.now (length c.loop-x.yielded) (length (c.loop-x.yielded ++ (c.in-Some.x, c.in-Some.y) ∷ [])) c.in-Some.x.now c.in-Some.y.now
           t.0 t.1 (omega (arith, pushed)) (t.2 c.in-Some.x.now) (t.3 c.in-Some.y.now) (c.in_ok-are_same_graph.ensures.0 c.if-not-branch.false) c.loop-x.invariant.2,
     )

@@ -1,4 +1,4 @@
-use Rattle.std.proofs.Common.{◌≡◌, map, sym, ◌∙◌, ap}
+use Rattle.std.proofs.Common.{map, sym, ◌∙◌, ap}
 use Rattle.std.specs.String.{string_bytes}
 use Rattle.souper_graph.specs.View.{view_attribute, view_assignment, view_rhs}
 use Rattle.souper_graph.specs.Values.{PlainAssignment}

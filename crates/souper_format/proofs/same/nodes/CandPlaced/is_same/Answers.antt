@@ -1,4 +1,4 @@
-use Rattle.std.proofs.Common.{◌≡◌, map, sym, ◌∙◌, ap}
+use Rattle.std.proofs.Common.{map, sym, ◌∙◌, ap}
 use Rattle.souper_graph.specs.Values.{PlainCand}
 use Rattle.souper_graph.specs.View.{view_cand, view_root_attribute}
 use Rattle.souper_graph.specs.Sameness.{carried_cand}

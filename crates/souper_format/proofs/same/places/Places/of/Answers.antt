@@ -1,4 +1,4 @@
-use Rattle.std.proofs.Common.{◌≡◌, ◌<◌, ℕ, length, sym, ◌∙◌, ap, subst, arith, get_or, length-set}
+use Rattle.std.proofs.Common.{◌≡◌, ◌<◌, length, sym, ◌∙◌, subst, arith, get_or, length-set}
 use Rattle.souper_format.proofs.TableLemmas.{placed-more, placed-all, placed-inside}
 use Rattle.souper_format.proofs.same.places.Places.of.Goals as goal
 
