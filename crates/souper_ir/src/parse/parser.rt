@@ -167,9 +167,27 @@ impl<'a> Parser<'a> {
         }
     }
 
+    // Where a token stands next, no call here answers an error: so there is little to copy.
     #[inline(never)]
     #[tactic(auto, unfolding(crate::specs::Reading::look_at))]
     fn look(&mut self) -> Result<Option<Token<'a>>>
+        ensures next { Gives (option_map lexeme_of) result (look_at self.old) self.old self.new }
+        ensures ended { self.old.tokens ≡ [] → self.old.faulty ≡ false → self.old.failed ≡ None → IsOk result }
+    {
+        if let (None, None) = (self.failed, self.ahead) {
+            if let Ok(Some((offset, token))) = self.lexer.next_token() {
+                self.offset = offset;
+                self.ahead = Some((offset, token));
+                return Ok(Some(token));
+            }
+        }
+        self.look_on()
+    }
+
+    // The same in every other case.
+    #[inline(never)]
+    #[tactic(auto, unfolding(crate::specs::Reading::look_at))]
+    fn look_on(&mut self) -> Result<Option<Token<'a>>>
         ensures next { Gives (option_map lexeme_of) result (look_at self.old) self.old self.new }
         ensures ended { self.old.tokens ≡ [] → self.old.faulty ≡ false → self.old.failed ≡ None → IsOk result }
     {
@@ -203,9 +221,25 @@ impl<'a> Parser<'a> {
         }
     }
 
+    // As `look`.
     #[inline(never)]
     #[tactic(auto, unfolding(crate::specs::Reading::take_at))]
     fn take(&mut self) -> Result<Token<'a>>
+        ensures { Gives lexeme_of result (take_at self.old) self.old self.new }
+    {
+        if let (None, None) = (self.failed, self.ahead) {
+            if let Ok(Some((offset, token))) = self.lexer.next_token() {
+                self.offset = offset;
+                return Ok(token);
+            }
+        }
+        self.take_on()
+    }
+
+    // The same in every other case.
+    #[inline(never)]
+    #[tactic(auto, unfolding(crate::specs::Reading::take_at))]
+    fn take_on(&mut self) -> Result<Token<'a>>
         ensures { Gives lexeme_of result (take_at self.old) self.old self.new }
     {
         self.check_live()?;
