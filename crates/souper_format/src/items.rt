@@ -112,22 +112,21 @@ fn append_item<T: Printed>(item: &T, out: &mut String) -> Result<(), AllocError>
     }
 }
 
-// Each item is dropped when its text is there.
-fn text_of_list<T: Printed + Drop>(alloc: Global, items: Vec<T>) -> Result<String, AllocError>
-    requires { AllByRecursion WellFormed (map T.item items.items) }
-    ensures { IfOk result (λ text. string_bytes text ≡ texts_of (map T.item items.items)) }
+fn text_of_list<T: Printed>(alloc: Global, items: &[T]) -> Result<String, AllocError>
+    requires { AllByRecursion WellFormed (map T.item items.now) }
+    ensures { IfOk result (λ text. string_bytes text ≡ texts_of (map T.item items.now)) }
 {
     let mut out = String::new(alloc);
     for item in items {
-        append_item(&item, &mut out)?;
+        append_item(item, &mut out)?;
     }
     Ok(out)
 }
 
 // The canonical text of each item, a newline after each.
-fn text_of_items(alloc: Global, items: Items) -> Result<String, AllocError>
-    requires { AllByRecursion WellFormed (view_items items) }
-    ensures { IfOk result (λ text. string_bytes text ≡ texts_of (view_items items)) }
+fn text_of_items(alloc: Global, items: &Items) -> Result<String, AllocError>
+    requires { AllByRecursion WellFormed (view_items items.now) }
+    ensures { IfOk result (λ text. string_bytes text ≡ texts_of (view_items items.now)) }
 {
     match items {
         Items::Lhs(list) => text_of_list(alloc, list),
@@ -149,6 +148,6 @@ pub fn format_text(
     ensures refused { IfErr result (λ e. IsStrError (item_type_of kind) (option_copied filename.entry) source.now e) }
 {
     let items = read_items(alloc, kind, source, filename)?;
-    let text = text_of_items(alloc, items)?;
+    let text = text_of_items(alloc, &items)?;
     Ok(text)
 }
