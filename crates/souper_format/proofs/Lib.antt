@@ -1,2 +1,9 @@
 pub mod Listed
 pub mod RunLemmas
+pub mod InstructionParts
+pub mod Graphs
+pub mod Pairs
+pub mod TableLemmas
+pub mod BitLists
+pub mod Assigned
+pub mod Endings

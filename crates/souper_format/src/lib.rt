@@ -4,5 +4,6 @@
 pub mod command;
 pub mod items;
 pub mod run;
+pub mod same;
 mod tell;
 pub mod watched;
