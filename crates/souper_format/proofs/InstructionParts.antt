@@ -5,8 +5,8 @@ use Rattle.souper_graph.specs.declared.ast.instructions.Instruction.{Instruction
 use Rattle.souper_graph.specs.declared.ast.instructions.Instruction.TheVariants.{Add, AddNsw, AddNuw, AddNw, Sub, SubNsw, SubNuw, SubNw, Mul, MulNsw, MulNuw, MulNw, Udiv, Sdiv, UdivExact, SdivExact, Urem, Srem, And, Or, Xor, Shl, ShlNsw, ShlNuw, ShlNw, Lshr, LshrExact, Ashr, AshrExact, Select, Zext, Sext, Trunc, Eq, Ne, Ult, Slt, Ule, Sle, Ctpop, Bswap, BitReverse, Cttz, Ctlz, Fshl, Fshr, SaddWithOverflow, UaddWithOverflow, SsubWithOverflow, UsubWithOverflow, SmulWithOverflow, UmulWithOverflow, SaddSat, UaddSat, SsubSat, UsubSat, ExtractValue, Hole, Freeze}
 use Rattle.souper_graph.specs.Instructions.{word_of, operands_of, instruction_map}
 use Rattle.souper_graph.proofs.InstructionMaps.{operands-map}
-use Rattle.souper_ir.specs.Words.{instruction_of}
-use Rattle.souper_ir.specs.WordLaws.{instruction_is}
+use Rattle.souper_ir.specs.Words.{opcode_of, instruction_by}
+use Rattle.souper_ir.specs.WordLaws.{opcode_is}
 
 word-map : (g : Operand → Operand) (i : Instruction) → word_of (instruction_map g i) ≡ word_of i
 word-map g (Add a b) = refl
@@ -79,7 +79,10 @@ from_parts g h i j w o =
     let y : Instruction = instruction_map h j in
     let words : word_of x ≡ word_of y = word-map g i ∙ w ∙ sym (word-map h j) in
     let operands : operands_of x ≡ operands_of y = operands-map g i ∙ o ∙ sym (operands-map h j) in
-    some_is (sym (instruction_is x) ∙ ap (λ z. instruction_of z (operands_of x)) words ∙ ap (λ z. instruction_of (word_of y) z) operands ∙ instruction_is y)
+    let (opcode, (named, count, made)) = opcode_is x in
+    let (other, (other_named, other_count, other_made)) = opcode_is y in
+    let opcodes = some_is (sym named ∙ ap opcode_of words ∙ other_named) in
+    some_is (sym made ∙ ap (λ z. instruction_by z (operands_of x)) opcodes ∙ ap (λ z. instruction_by other z) operands ∙ other_made)
 
 pub same_word : (g h : Operand → Operand) (i j : Instruction) → instruction_map g i ≡ instruction_map h j → word_of i ≡ word_of j
 same_word g h i j e = sym (word-map g i) ∙ ap word_of e ∙ word-map h j
