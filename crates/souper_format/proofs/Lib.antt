@@ -7,3 +7,4 @@ pub mod TableLemmas
 pub mod BitLists
 pub mod Assigned
 pub mod Endings
+pub mod SameRunLemmas

@@ -15,13 +15,13 @@ use Rattle.souper_format.specs.Telling.{ToldLine, StoppedByMemory, ErrorTold}
 use Rattle.souper_format.specs.Runs.{Formats, ToldRefusal, IsRun, IsKnownRun}
 
 -- a refusal at an offset of the source, as the parser answers it
-abbrev IsRefusal : ItemType → List ℕ → ParseError → Type 0
-IsRefusal k source e = (offset : ℕ) × (offset_of e ≡ Some offset) × (offset ≤ length source) × SpellsNone k source
-    × ((shown : List ℕ) × (shown_error e ≡ Some shown) × IsRefusalText None source offset shown)
+abbrev pub IsRefusal : ItemType → Option (List ℕ) → List ℕ → ParseError → Type 0
+IsRefusal k file source e = (offset : ℕ) × (offset_of e ≡ Some offset) × (offset ≤ length source) × SpellsNone k source
+    × ((shown : List ℕ) × (shown_error e ≡ Some shown) × IsRefusalText file source offset shown)
 
-told_refusal : (k : ItemType) (source : List ℕ) (err : Stream) (e : ParseError)
-    → IsRefusal k source e → ToldLine err e → ToldRefusal source err
-told_refusal k source err e (offset, at, within, none, (shown, is_shown, is_text)) told works =
+pub told_refusal : (k : ItemType) (file : Option (List ℕ)) (source : List ℕ) (err : Stream) (e : ParseError)
+    → IsRefusal k file source e → ToldLine err e → ToldRefusal file source err
+told_refusal k file source err e (offset, at, within, none, (shown, is_shown, is_text)) told works =
     let (line, (bytes, are_shown, is_line), given) = told works in
     let same = subst (λ o. IfSome o (λ s. bytes ≡ s)) is_shown are_shown in
     (offset, shown, within, is_text, subst (IsGiven err) (is_line ∙ ap (λ (s : List ℕ). s ++ 10 ∷ []) same) given)
@@ -33,13 +33,13 @@ stopped k input out err status nothing told =
 
 status_of_kind : (k : ItemType) (input out err : Stream) (source : List ℕ) (e : ParseError) (status : ℕ) (kind : ParseErrorKind)
     → ReadAll input source → IsUtf8 source → IsGivenNothing out
-    → OnKind kind ⊥ (IsRefusal k source e) (Unit {0})
+    → OnKind kind ⊥ (IsRefusal k None source e) (Unit {0})
     → OnKind kind (((status ≡ 3) × ToldLine err e) ⊎ StoppedByMemory err status) (((status ≡ 1) × ToldLine err e) ⊎ StoppedByMemory err status) (StoppedByMemory err status)
     → IsRun k input out err status
 status_of_kind k input out err source e status Io read text nothing fault told = absurd fault
 status_of_kind k input out err source e status Parse read text nothing refusal (inl told) =
     subst (IsRun k input out err) (sym told.0)
-    ((source, read, text, refusal.3, told_refusal k source err e refusal told.1), nothing)
+    ((source, read, text, refusal.3, told_refusal k None source err e refusal told.1), nothing)
 status_of_kind k input out err source e status Parse read text nothing refusal (inr told) = stopped k input out err status nothing told
 status_of_kind k input out err source e status Memory read text nothing fault told = stopped k input out err status nothing told
 

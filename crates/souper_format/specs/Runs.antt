@@ -16,15 +16,15 @@ Formats k source out = (text : List ℕ) × IsFormatted k source text × IsGiven
 abbrev pub Done : ItemType → Stream → Stream → Stream → Type 0
 Done k input out err = ((source : List ℕ) × ReadAll input source × Formats k source out) × IsGivenNothing err
 
--- unless the writer has failed, it was given the line of a refusal at an offset of the source, which has no file name
-abbrev pub ToldRefusal : List ℕ → Stream → Type 0
-ToldRefusal source err = err.failed ≡ false → (offset : ℕ) × (shown : List ℕ)
-    × (offset ≤ length source) × IsRefusalText None source offset shown × IsGiven err (shown ++ 10 ∷ [])
+-- unless the writer has failed, it was given the line of a refusal at an offset of the source, which has that file name
+abbrev pub ToldRefusal : Option (List ℕ) → List ℕ → Stream → Type 0
+ToldRefusal file source err = err.failed ≡ false → (offset : ℕ) × (shown : List ℕ)
+    × (offset ≤ length source) × IsRefusalText file source offset shown × IsGiven err (shown ++ 10 ∷ [])
 
 -- all that was read is a text that spells no items, nothing was written, and the refusal was told
 abbrev pub Refused : ItemType → Stream → Stream → Stream → Type 0
 Refused k input out err =
-    ((source : List ℕ) × ReadAll input source × IsUtf8 source × SpellsNone k source × ToldRefusal source err)
+    ((source : List ℕ) × ReadAll input source × IsUtf8 source × SpellsNone k source × ToldRefusal None source err)
     × IsGivenNothing out
 
 -- the reader or `out` has failed, or what was read is no text, or memory was refused, and that was told; nothing was

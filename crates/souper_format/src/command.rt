@@ -16,10 +16,13 @@ pub enum Kind {
 }
 
 /// What the program is asked to do.
-#[derive(Clone, Copy, Debug, PartialEq, Eq)]
+#[derive(Debug, PartialEq, Eq, Drop)]
 pub enum Command {
     /// Read items of the kind from standard input, and write the canonical text of each.
     Format(Kind),
+
+    /// Read items of the kind from the two files at these paths, and write whether they are pairwise the same graphs.
+    Same(Kind, String, String),
 }
 
 fn read_kind(word: &str) -> Option<Kind>
@@ -38,9 +41,18 @@ pub fn read_command(args: Vec<String>) -> Option<Command>
     ensures { result ≡ command_of args.items }
 {
     let mut words = args.into_iter();
-    let kind = words.next()?;
+    let word = words.next()?;
+    let command = if word.as_str() == "same" {
+        let kind = words.next()?;
+        let kind = read_kind(kind.as_str())?;
+        let first = words.next()?;
+        let second = words.next()?;
+        Command::Same(kind, first, second)
+    } else {
+        Command::Format(read_kind(word.as_str())?)
+    };
     if words.next().is_some() {
         return None;
     }
-    Some(Command::Format(read_kind(kind.as_str())?))
+    Some(command)
 }

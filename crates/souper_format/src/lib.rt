@@ -5,5 +5,6 @@ pub mod command;
 pub mod items;
 pub mod run;
 pub mod same;
+pub mod same_run;
 mod tell;
 pub mod watched;

@@ -52,8 +52,8 @@ fn read_text<R: Read>(alloc: Global, input: &mut Watched<R>) -> Result<String, R
     unreachable!()
 }
 
-// Hands the whole text on.
-fn deliver<W: Write>(text: &str, out: &mut Watched<W>) -> io::Result<()>
+/// Hands the whole text on.
+pub(crate) fn deliver<W: Write>(text: &str, out: &mut Watched<W>) -> io::Result<()>
     ensures given { OnOk result (IsGiven (stream W.contents out.old out.new) text.now) }
     ensures works { OnOk result (has_failed out.new ≡ has_failed out.old) }
     ensures failed { OnErr result (has_failed out.new ≡ true) }

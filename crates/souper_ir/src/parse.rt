@@ -2,6 +2,7 @@
 
 mod attributes;
 mod error;
+mod files;
 mod item;
 mod last_lines;
 mod message;
@@ -16,6 +17,7 @@ mod traits;
 mod words;
 
 pub use error::{ParseError, ParseErrorKind};
+pub use files::{parse_left_hand_sides_file, parse_replacements_file, parse_right_hand_sides_file};
 pub use item::{parse_left_hand_sides_str, parse_replacements_str, parse_right_hand_sides_str};
 pub use parser::{Parser, Result};
 pub use traits::{Parse, Peek};

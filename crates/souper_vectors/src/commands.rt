@@ -24,12 +24,27 @@ fn kinds_are_commands(rt: HostRuntime) -> Result<(), Fail> {
 }
 
 #[test]
+fn same_takes_a_kind_and_two_paths(rt: HostRuntime) -> Result<(), Fail> {
+    for (word, kind) in [("lhs", Kind::Lhs), ("rhs", Kind::Rhs), ("rep", Kind::Rep)] {
+        let first = String::from_str(rt.alloc(), "a")?;
+        let second = String::from_str(rt.alloc(), "b c")?;
+        let command = command(rt.alloc(), &["same", word, "a", "b c"])?;
+        assert_eq!(rt; command, Some(Command::Same(kind, first, second)));
+    }
+    Ok(())
+}
+
+#[test]
 fn other_words_are_no_command(rt: HostRuntime) -> Result<(), Fail> {
-    let rows: [&[&str]; 9] = [
+    let rows: [&[&str]; 13] = [
         &[],
         &["same"],
         &["same", "lhs"],
-        &["same", "lhs", "a", "b"],
+        &["same", "lhs", "a"],
+        &["same", "lhs", "a", "b", "c"],
+        &["same", "x", "a", "b"],
+        &["Same", "lhs", "a", "b"],
+        &["lhs", "lhs", "a", "b"],
         &["lhs", "x"],
         &["lhs", "lhs"],
         &["x", "lhs"],

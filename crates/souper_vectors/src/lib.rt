@@ -10,6 +10,8 @@ mod cuts;
 #[cfg(test)]
 mod errors;
 #[cfg(test)]
+mod files;
+#[cfg(test)]
 mod grammar;
 #[cfg(test)]
 mod runs;

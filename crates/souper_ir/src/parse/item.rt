@@ -189,8 +189,8 @@ fn items<T: WholeItem + Drop>(parser: &mut Parser<'_>) -> Result<Vec<T>>
     Ok(items)
 }
 
-// The items of a text.
-fn parse_str<T: WholeItem + Drop>(
+/// The items of a text.
+pub(crate) fn parse_str<T: WholeItem + Drop>(
     alloc: Global,
     source: &str,
     filename: Option<&str>,

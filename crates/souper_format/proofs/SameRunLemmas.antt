@@ -1,0 +1,116 @@
+-- What an error of a file, and a comparison of two lists, make of a run over two files.
+use Rattle.std.proofs.Common.{◌≡◌, ℕ, zero, suc, List, [], ◌∷◌, ◌++◌, Some, Result, Ok, Err, ◌⊎◌, inl, inr, sym, subst}
+use Rattle.std.specs.Prelude.{String, string_bytes}
+use Rattle.std.specs.List.{AllZip}
+use Rattle.std.specs.IoError.{error_kind}
+use Rattle.std.specs.declared.alloc.Global.{Global}
+use Rattle.std.specs.declared.io.Error.{Error}
+use Rattle.std.specs.declared.io.ErrorKind.TheVariants.{OutOfMemory}
+use Rattle.souper_graph.specs.Values.{Item}
+use Rattle.souper_graph.specs.Sameness.{SameGraph}
+use Rattle.souper_ir.specs.Spelling.{ItemType}
+use Rattle.souper_ir.specs.Errors.{kind_of, fault_of, OnKind}
+use Rattle.souper_ir.specs.Files.{AnswersRead}
+use Rattle.souper_ir.specs.declared.parse.ParseError.{ParseError}
+use Rattle.souper_ir.specs.declared.parse.ParseErrorKind.{ParseErrorKind}
+use Rattle.souper_ir.specs.declared.parse.ParseErrorKind.TheVariants.{Io, Parse, Memory}
+use Rattle.souper_format.specs.declared.items.Items.{Items}
+use Rattle.souper_format.specs.Kinds.{kind_of_items, view_items}
+use Rattle.souper_format.specs.Streams.{Stream, IsGiven, IsGivenNothing}
+use Rattle.souper_format.specs.Telling.{ToldLine, ToldMemory, StoppedByMemory, ErrorTold}
+use Rattle.souper_format.specs.Runs.{OnStatus}
+use Rattle.souper_format.specs.Same.{SameItems}
+use Rattle.souper_format.specs.SameRuns.{FileRead, ReadSpells, ReadError, ReadRefused, ReadFailed, ToldSome, Says, IsSameRun, IsComparison}
+use Rattle.souper_format.proofs.RunLemmas.{IsRefusal, told_refusal}
+
+-- the error of a call that reads a file
+pub error_of_file : {T : Type 0} (k : ItemType) (view : T → Item) (path : List ℕ) (read : FileRead) (e : ParseError)
+    → AnswersRead k view path read (Err e) → ReadError k path read e
+error_of_file k view path (Ok source) e answer = answer.2
+error_of_file k view path (Err fault) e answer = answer
+
+-- what the status of an error says of the read
+abbrev Outcome : ItemType → List ℕ → FileRead → Stream → ℕ → Type 0
+Outcome k path read err status = OnStatus status ⊥ (ReadRefused k path read err) (ReadFailed read err ⊎ ToldMemory err)
+
+by_memory : (k : ItemType) (path : List ℕ) (read : FileRead) (err : Stream) (status : ℕ)
+    → StoppedByMemory err status → Outcome k path read err status
+by_memory k path read err status told = subst (Outcome k path read err) (sym told.0) (inr told.1)
+
+some_told : (err : Stream) (e : ParseError) → ToldLine err e → ToldSome err
+some_told err e told works =
+    let (line, (shown, is_shown, is_line), given) = told works in
+    (shown, subst (IsGiven err) is_line given)
+
+of_text : (k : ItemType) (path : List ℕ) (source : String Global) (err : Stream) (e : ParseError) (status : ℕ) (kind : ParseErrorKind)
+    → OnKind kind ⊥ (IsRefusal k (Some path) (string_bytes source) e) (Unit {0})
+    → OnKind kind (((status ≡ 3) × ToldLine err e) ⊎ StoppedByMemory err status) (((status ≡ 1) × ToldLine err e) ⊎ StoppedByMemory err status) (StoppedByMemory err status)
+    → Outcome k path (Ok source) err status
+of_text k path source err e status Io fault told = absurd fault
+of_text k path source err e status Parse refusal (inl told) =
+    subst (Outcome k path (Ok source) err) (sym told.0)
+    (refusal.3, told_refusal k (Some path) (string_bytes source) err e refusal told.1)
+of_text k path source err e status Parse refusal (inr told) = by_memory k path (Ok source) err status told
+of_text k path source err e status Memory fault told = by_memory k path (Ok source) err status told
+
+of_fault : (k : ItemType) (path : List ℕ) (fault : Error) (err : Stream) (e : ParseError) (status : ℕ) (kind : ParseErrorKind)
+    → OnKind kind (fault_of e ≡ Some fault) ⊥ (error_kind fault ≡ OutOfMemory)
+    → OnKind kind (((status ≡ 3) × ToldLine err e) ⊎ StoppedByMemory err status) (((status ≡ 1) × ToldLine err e) ⊎ StoppedByMemory err status) (StoppedByMemory err status)
+    → Outcome k path (Err fault) err status
+of_fault k path fault err e status Io is (inl told) =
+    subst (Outcome k path (Err fault) err) (sym told.0) (inl (some_told err e told.1))
+of_fault k path fault err e status Io is (inr told) = by_memory k path (Err fault) err status told
+of_fault k path fault err e status Parse is told = absurd is
+of_fault k path fault err e status Memory is told = by_memory k path (Err fault) err status told
+
+outcome : (k : ItemType) (path : List ℕ) (read : FileRead) (err : Stream) (e : ParseError) (status : ℕ)
+    → ReadError k path read e → ErrorTold err status e → Outcome k path read err status
+outcome k path (Ok source) err e status is told = of_text k path source err e status (kind_of e) is told
+outcome k path (Err fault) err e status is told = of_fault k path fault err e status (kind_of e) is told
+
+of_first : (k : ItemType) (a b : List ℕ) (first : FileRead) (out err : Stream) (status : ℕ)
+    → IsGivenNothing out → Outcome k a first err status → IsSameRun k a b first first out err status
+of_first k a b first out err zero nothing is = absurd is
+of_first k a b first out err (suc zero) nothing is = (inl is, nothing)
+of_first k a b first out err (suc (suc zero)) nothing is = absurd is
+of_first k a b first out err (suc (suc (suc zero))) nothing (inl failed) = (inl failed, λ works. nothing)
+of_first k a b first out err (suc (suc (suc zero))) nothing (inr told) = (inr (inr (inr told)), λ works. nothing)
+of_first k a b first out err (suc (suc (suc (suc n)))) nothing is = absurd is
+
+-- the first file's error is told, and the second is not read
+pub first_refused : (k : ItemType) (a b : List ℕ) (first : FileRead) (out err : Stream) (e : ParseError) (status : ℕ)
+    → IsGivenNothing out → ReadError k a first e → ErrorTold err status e → IsSameRun k a b first first out err status
+first_refused k a b first out err e status nothing is told =
+    of_first k a b first out err status nothing (outcome k a first err e status is told)
+
+of_second : (k : ItemType) (a b : List ℕ) (first second : FileRead) (xs : List Item) (out err : Stream) (status : ℕ)
+    → IsGivenNothing out → ReadSpells k first xs → Outcome k b second err status → IsSameRun k a b first second out err status
+of_second k a b first second xs out err zero nothing spells is = absurd is
+of_second k a b first second xs out err (suc zero) nothing spells is = (inr ((xs, spells), is), nothing)
+of_second k a b first second xs out err (suc (suc zero)) nothing spells is = absurd is
+of_second k a b first second xs out err (suc (suc (suc zero))) nothing spells (inl failed) = (inr (inl failed), λ works. nothing)
+of_second k a b first second xs out err (suc (suc (suc zero))) nothing spells (inr told) = (inr (inr (inr told)), λ works. nothing)
+of_second k a b first second xs out err (suc (suc (suc (suc n)))) nothing spells is = absurd is
+
+-- the second file's error is told
+pub second_refused : (k : ItemType) (a b : List ℕ) (first second : FileRead) (xs : List Item) (out err : Stream) (e : ParseError) (status : ℕ)
+    → IsGivenNothing out → ReadSpells k first xs → ReadError k b second e → ErrorTold err status e
+    → IsSameRun k a b first second out err status
+second_refused k a b first second xs out err e status nothing spells is told =
+    of_second k a b first second xs out err status nothing spells (outcome k b second err e status is told)
+
+of_says : (x y : Items) (out : Stream) → kind_of_items x ≡ kind_of_items y → Says (SameItems x y) out
+    → Says (AllZip SameGraph (view_items x) (view_items y)) out
+of_says x y out kinds (inl says) = inl (says.0.1, says.1)
+of_says x y out kinds (inr says) = inr ((λ all. says.0 (kinds, all)), says.1)
+
+-- both lists are compared
+pub compared : (k : ItemType) (a b : List ℕ) (first second : FileRead) (x y : Items) (out err : Stream) (status : ℕ)
+    → kind_of_items x ≡ kind_of_items y → ReadSpells k first (view_items x) → ReadSpells k second (view_items y)
+    → IsComparison (SameItems x y) out err status → IsSameRun k a b first second out err status
+compared k a b first second x y out err zero kinds spells other_spells is =
+    ((view_items x, view_items y, spells, other_spells, of_says x y out kinds is.0), is.1)
+compared k a b first second x y out err (suc zero) kinds spells other_spells is = absurd is
+compared k a b first second x y out err (suc (suc zero)) kinds spells other_spells is = absurd is
+compared k a b first second x y out err (suc (suc (suc zero))) kinds spells other_spells is = (inr (inr is.0), is.1)
+compared k a b first second x y out err (suc (suc (suc (suc n)))) kinds spells other_spells is = absurd is

@@ -1,0 +1,78 @@
+-- What each status of a comparison of two files says of the two reads and of the writers.
+use Rattle.std.specs.Prelude.{◌≡◌, ℕ, List, [], ◌∷◌, ◌++◌, true, false, codes, string_bytes, Some, Result, Ok, Err, String, ◌⊎◌}
+use Rattle.std.specs.List.{AllZip}
+use Rattle.std.specs.declared.alloc.Global.{Global}
+use Rattle.std.specs.declared.io.Error.{Error}
+use Rattle.souper_graph.specs.Values.{Item}
+use Rattle.souper_graph.specs.Sameness.{SameGraph}
+use Rattle.souper_ir.specs.Spelling.{ItemType, TextSpells, SpellsNone}
+use Rattle.souper_ir.specs.Answers.{IsStrError}
+use Rattle.souper_ir.specs.Files.{TellsFault}
+use Rattle.souper_ir.specs.declared.parse.ParseError.{ParseError}
+use Rattle.souper_format.specs.Streams.{Stream, IsGiven, IsGivenNothing}
+use Rattle.souper_format.specs.Telling.{ToldMemory, ToldFault}
+use Rattle.souper_format.specs.Runs.{ToldRefusal, OnStatus}
+
+-- what the read of a file gave: a text or a fault
+abbrev pub FileRead : Type 0
+FileRead = Result (String Global) Error
+
+-- the read gave a text that spells the items
+abbrev pub ReadSpells : ItemType → FileRead → List Item → Type 0
+ReadSpells k (Ok source) items = TextSpells k (string_bytes source) items
+ReadSpells k (Err fault) items = ⊥
+
+-- the error that a read makes: the refusal of its text, which has that file name, or its fault
+abbrev pub ReadError : ItemType → List ℕ → FileRead → ParseError → Type 0
+ReadError k path (Ok source) e = IsStrError k (Some path) (string_bytes source) e
+ReadError k path (Err fault) e = TellsFault fault e
+
+-- the read gave a text that spells no items, and its refusal was told, which has that file name
+abbrev pub ReadRefused : ItemType → List ℕ → FileRead → Stream → Type 0
+ReadRefused k path (Ok source) err = SpellsNone k (string_bytes source) × ToldRefusal (Some path) (string_bytes source) err
+ReadRefused k path (Err fault) err = ⊥
+
+-- unless the writer has failed, it was given a line
+abbrev pub ToldSome : Stream → Type 0
+ToldSome err = err.failed ≡ false → (shown : List ℕ) × IsGiven err (shown ++ 10 ∷ [])
+
+-- the read failed, and that was told
+abbrev pub ReadFailed : FileRead → Stream → Type 0
+ReadFailed (Ok source) err = ⊥
+ReadFailed (Err fault) err = ToldSome err
+
+-- the writer was given `same` where the fact holds, else `different`
+abbrev pub Says : Type 0 → Stream → Type 0
+Says fact out = (fact × IsGiven out (codes "same" ++ 10 ∷ [])) ⊎ (¬ fact × IsGiven out (codes "different" ++ 10 ∷ []))
+
+-- both reads spell items, whether those are pairwise the same graphs was written, and nothing was told
+abbrev pub Compared : ItemType → FileRead → FileRead → Stream → Stream → Type 0
+Compared k first second out err =
+    ((xs : List Item) × (ys : List Item) × ReadSpells k first xs × ReadSpells k second ys × Says (AllZip SameGraph xs ys) out)
+    × IsGivenNothing err
+
+-- the first read was refused, or the second where the first spells items; nothing was written
+abbrev pub OneRefused : ItemType → List ℕ → List ℕ → FileRead → FileRead → Stream → Stream → Type 0
+OneRefused k a b first second out err =
+    (ReadRefused k a first err ⊎ (((xs : List Item) × ReadSpells k first xs) × ReadRefused k b second err))
+    × IsGivenNothing out
+
+-- a read or `out` has failed, or memory was refused, and that was told; nothing was written, unless `out` has failed
+abbrev pub NotCompared : FileRead → FileRead → Stream → Stream → Type 0
+NotCompared first second out err =
+    (ReadFailed first err ⊎ (ReadFailed second err ⊎ (((out.failed ≡ true) × ToldFault err) ⊎ ToldMemory err)))
+    × (out.failed ≡ false → IsGivenNothing out)
+
+-- what the status of a comparison of two files says
+abbrev pub IsSameRun : ItemType → List ℕ → List ℕ → FileRead → FileRead → Stream → Stream → ℕ → Type 0
+IsSameRun k a b first second out err status = OnStatus status
+    (Compared k first second out err)
+    (OneRefused k a b first second out err)
+    (NotCompared first second out err)
+
+-- what the status of a comparison of two lists says
+abbrev pub IsComparison : Type 0 → Stream → Stream → ℕ → Type 0
+IsComparison fact out err status = OnStatus status
+    (Says fact out × IsGivenNothing err)
+    ⊥
+    ((((out.failed ≡ true) × ToldFault err) ⊎ ToldMemory err) × (out.failed ≡ false → IsGivenNothing out))

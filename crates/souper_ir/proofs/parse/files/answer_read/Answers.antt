@@ -1,0 +1,13 @@
+use Rattle.std.proofs.Common.{sym, subst}
+use Rattle.souper_ir.specs.Files.{AnswersText, AnswersRead}
+use Rattle.souper_ir.proofs.parse.files.answer_read.Goals as goal
+
+pub returns-in-Ok : goal.returns-in-Ok
+returns-in-Ok g c =
+    let k = g.T.WholeItem.item_type in
+    let view = g.T.WholeItem.view in
+    let path = c.args.path.now in
+    let answer = c.parse_str.result in
+    subst (λ read. AnswersRead k view path read answer) (sym c.in-Ok.is)
+    (subst (λ source. AnswersText k view path source answer) c.as_str.ensures.value
+    (c.parse_str.ensures.spelled, c.parse_str.ensures.well_formed, c.parse_str.ensures.refused, c.parse_str.ensures.gaps))

@@ -1,0 +1,32 @@
+-- What a call answers to what the read of a file gave.
+use Rattle.std.specs.Prelude.{◌≡◌, ℕ, List, [], map, IfOk, IfErr, IsOkAnd, Result, Ok, Err, Some, String, Vec, string_bytes}
+use Rattle.std.specs.List.{AllByRecursion}
+use Rattle.std.specs.IoError.{error_kind}
+use Rattle.std.specs.declared.alloc.Global.{Global}
+use Rattle.std.specs.declared.io.Error.{Error}
+use Rattle.std.specs.declared.io.ErrorKind.TheVariants.{OutOfMemory}
+use Rattle.souper_graph.specs.Values.{Item}
+use Rattle.souper_graph.specs.WellFormed.{WellFormed}
+use Rattle.souper_ir.specs.declared.parse.error.ParseError.{ParseError}
+use Rattle.souper_ir.specs.Answers.{IsStrError}
+use Rattle.souper_ir.specs.Errors.{kind_of, fault_of, OnKind}
+use Rattle.souper_ir.specs.Spelling.{ItemType, TextSpells}
+use Rattle.souper_ir.specs.Tokens.{IsLastGap}
+
+-- the answer to a text that was read: the items that it spells, each well formed, or an error that shows that file name
+abbrev pub AnswersText : {T : Type 0} → ItemType → (T → Item) → List ℕ → List ℕ → Result (Vec T Global) ParseError → Type 0
+AnswersText k view path source answer =
+    IfOk answer (λ v. TextSpells k source (map view v.items))
+    × IfOk answer (λ v. AllByRecursion WellFormed (map view v.items))
+    × IfErr answer (IsStrError k (Some path) source)
+    × (IsLastGap source → IsOkAnd answer (λ v. v.items ≡ []))
+
+-- the error that tells of a fault: the fault itself, or want of memory where the fault was that
+abbrev pub TellsFault : Error → ParseError → Type 0
+TellsFault fault e = OnKind (kind_of e) (fault_of e ≡ Some fault) ⊥ (error_kind fault ≡ OutOfMemory)
+
+-- the answer to what a read gave: to its text, or to its fault
+abbrev pub AnswersRead : {T : Type 0} → ItemType → (T → Item) → List ℕ → Result (String Global) Error → Result (Vec T Global) ParseError → Type 0
+AnswersRead k view path (Ok source) answer = AnswersText k view path (string_bytes source) answer
+AnswersRead k view path (Err fault) (Ok v) = ⊥
+AnswersRead k view path (Err fault) (Err e) = TellsFault fault e
