@@ -63,6 +63,13 @@ impl<T: Drop> Arena<T> {
         self.items.get_mut(id.index())
     }
 
+    /// Gives back the memory that no item takes.
+    pub fn shrink_to_fit(&mut self)
+        ensures { self.new ≡ self.old }
+    {
+        self.items.shrink_to_fit();
+    }
+
     /// How many items there are.
     pub fn len(&self) -> usize
         ensures { result ≡ length self.now }

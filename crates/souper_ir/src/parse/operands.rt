@@ -1,10 +1,10 @@
 //! Types, constants and operands.
 
-ghost use Rattle.std.specs.Prelude.{◌≡◌, ◌≤◌, true, None, refl};
+ghost use Rattle.std.specs.Prelude.{◌≡◌, ◌≤◌, None, refl};
 ghost use Rattle.souper_ir.specs.Reading.{Gives};
 ghost use Rattle.souper_ir.specs.Spelling.{type_spells, constant_spells, operand_spells};
 ghost use Rattle.souper_ir.specs.Continuation.{constant_continues, operand_continues};
-ghost use Rattle.souper_ir.specs.NodeReadings.{is_int, type_at, optional_type_at, optional_type_by, constant_at, operand_at, next_operand_at, further_at, operands_at};
+ghost use Rattle.souper_ir.specs.NodeReadings.{is_int, type_at, optional_type_at, constant_at, operand_at, next_operand_at, further_at, operands_at};
 ghost use Rattle.souper_ir.specs.Readings.{one_alone};
 ghost use Rattle.souper_ir.specs.OperandLaws.{type_complete, constant_complete, constant_first, operand_complete};
 
@@ -33,24 +33,16 @@ pub(crate) fn type_alone(parser: &mut Parser<'_>) -> Result<Type>
 }
 
 /// A type behind a colon, where one comes.
-#[inline(always)]
 #[tactic(auto, unfolding(crate::specs::NodeReadings::optional_type_at))]
 pub(crate) fn optional_type(parser: &mut Parser<'_>) -> Result<Option<Type>>
     ensures { Gives (λ t. t) result (optional_type_at parser.old) parser.old parser.new }
 {
     if mark_comes(parser, Mark::Colon)? {
-        type_behind_colon(parser)
+        punctuation(parser, Mark::Colon)?;
+        Ok(Some(type_alone(parser)?))
     } else {
         Ok(None)
     }
-}
-
-#[inline(never)]
-fn type_behind_colon(parser: &mut Parser<'_>) -> Result<Option<Type>>
-    ensures { Gives (λ t. t) result (optional_type_by true parser.old) parser.old parser.new }
-{
-    punctuation(parser, Mark::Colon)?;
-    Ok(Some(type_alone(parser)?))
 }
 
 #[tactic(auto, unfolding(crate::specs::NodeReadings::constant_at))]

@@ -349,6 +349,7 @@ impl<'a> Parser<'a> {
         ensures empty { self.new ≡ record self.old { scope = [] } }
     {
         self.names.clear();
+        self.statements.shrink_to_fit();
         mem::replace(&mut self.statements, Arena::new(self.alloc))
     }
 }
