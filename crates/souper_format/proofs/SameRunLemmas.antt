@@ -1,5 +1,5 @@
 -- What an error of a file, and a comparison of two lists, make of a run over two files.
-use Rattle.std.proofs.Common.{◌≡◌, ℕ, zero, suc, List, [], ◌∷◌, ◌++◌, Some, Result, Ok, Err, ◌⊎◌, inl, inr, sym, subst}
+use Rattle.std.proofs.Common.{◌≡◌, ℕ, zero, suc, List, Some, Ok, Err, ◌⊎◌, inl, inr, sym, subst}
 use Rattle.std.specs.Prelude.{String, string_bytes}
 use Rattle.std.specs.List.{AllZip}
 use Rattle.std.specs.IoError.{error_kind}
