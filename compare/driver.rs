@@ -1,10 +1,13 @@
 //! What `souper-ir` answers for a text: `driver format KIND` reads standard input and parses it as KIND (lhs, rhs, rep).
 //! Where it is accepted, each item is printed as the crate prints it, with a newline behind it, and the status is 0.
 //! Where it is refused, the error is printed on standard error with a newline behind it, and the status is 1.
+//! `driver time KIND TURNS` does so TURNS times, without printing, and tells the seconds of the fastest turn.
 use souper_ir::parse::{
     parse_left_hand_sides_str, parse_replacements_str, parse_right_hand_sides_str, Result,
 };
+use std::hint::black_box;
 use std::io::Read;
+use std::time::Instant;
 
 fn texts(kind: &str, source: &str) -> Result<Vec<String>> {
     Ok(match kind {
@@ -18,11 +21,26 @@ fn shown<T: std::fmt::Display>(items: Vec<T>) -> Vec<String> {
     items.iter().map(|item| item.to_string()).collect()
 }
 
+fn fastest(kind: &str, source: &str, turns: usize) -> f64 {
+    let turn = |_| {
+        let begin = Instant::now();
+        let items = texts(kind, source).unwrap();
+        let seconds = begin.elapsed().as_secs_f64();
+        black_box(items);
+        seconds
+    };
+    (0..turns).map(turn).fold(f64::MAX, f64::min)
+}
+
 fn main() {
     let args: Vec<String> = std::env::args().collect();
-    assert!(args[1] == "format");
     let mut source = String::new();
     std::io::stdin().read_to_string(&mut source).unwrap();
+    if args[1] == "time" {
+        println!("{:.3}", fastest(&args[2], &source, args[3].parse().unwrap()));
+        return;
+    }
+    assert!(args[1] == "format");
     match texts(&args[2], &source) {
         Ok(items) => items.iter().for_each(|item| println!("{item}")),
         Err(error) => {
