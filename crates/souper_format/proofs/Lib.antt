@@ -1,4 +1,3 @@
-pub mod Listed
 pub mod RunLemmas
 pub mod InstructionParts
 pub mod Graphs

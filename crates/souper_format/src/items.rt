@@ -1,24 +1,20 @@
 //! Items of one kind: reading them from a text, and their canonical texts.
-ghost use Rattle.std.specs.Prelude.{◌≡◌, ◌++◌, map, IfOk, IfErr, OnOk, option_copied};
+ghost use Rattle.std.specs.Prelude.{◌≡◌, IfOk, IfErr, option_copied};
 ghost use Rattle.std.specs.List.{AllByRecursion};
 ghost use Rattle.std.specs.String.{string_bytes};
-ghost use Rattle.souper_graph.specs.Values.{Item};
-ghost use Rattle.souper_graph.specs.Text.{text_of};
-ghost use Rattle.souper_graph.specs.Uses.{UsesBelow};
-ghost use Rattle.souper_graph.specs.View.{view_left_hand_side, view_right_hand_side, view_replacement};
 ghost use Rattle.souper_graph.specs.WellFormed.{WellFormed};
 ghost use Rattle.souper_ir.specs.Spelling.{TextSpells};
 ghost use Rattle.souper_ir.specs.Answers.{IsStrError};
 ghost use Rattle.souper_format.specs.Kinds.{item_type_of, kind_of_items, view_items};
-ghost use Rattle.souper_format.specs.Formatted.{text_with_newline, texts_of, IsFormatted};
+ghost use Rattle.souper_format.specs.Formatted.{IsFormatted};
 
 use crate::command::Kind;
+use crate::texts::texts_of_source;
 use souper_ir::ast::{LeftHandSide, Replacement, RightHandSide};
 use souper_ir::parse::{
     ParseError, parse_left_hand_sides_str, parse_replacements_str, parse_right_hand_sides_str,
 };
-use souper_ir::stringify::TextError;
-use std::alloc::{AllocError, Global};
+use std::alloc::Global;
 
 /// A list of items of one kind.
 #[derive(Debug, Drop)]
@@ -64,80 +60,9 @@ pub fn read_items(
     }
 }
 
-// An item with its canonical text.
-trait Printed {
-    ghost item: { Self → Item };
-
-    fn text(&self) -> Result<String, TextError>
-        ensures { UsesBelow (item self.now) → IfOk result (λ text. string_bytes text ≡ text_of (item self.now)) };
-}
-
-impl Printed for LeftHandSide {
-    ghost item = { view_left_hand_side };
-
-    fn text(&self) -> Result<String, TextError> {
-        self.to_text()
-    }
-}
-
-impl Printed for RightHandSide {
-    ghost item = { view_right_hand_side };
-
-    fn text(&self) -> Result<String, TextError> {
-        self.to_text()
-    }
-}
-
-impl Printed for Replacement {
-    ghost item = { view_replacement };
-
-    fn text(&self) -> Result<String, TextError> {
-        self.to_text()
-    }
-}
-
-// Appends the text of the item and a newline.
-fn append_item<T: Printed>(item: &T, out: &mut String) -> Result<(), AllocError>
-    requires { WellFormed (T.item item.now) }
-    ensures { OnOk result (string_bytes out.new ≡ string_bytes out.old ++ text_with_newline (T.item item.now)) }
-{
-    match item.text() {
-        Ok(text) => {
-            out.push_str(&text)?;
-            out.push('\n')?;
-            Ok(())
-        }
-        // A well-formed item names no bad id: what was refused is memory.
-        Err(_) => Err(AllocError),
-    }
-}
-
-fn text_of_list<T: Printed>(alloc: Global, items: &[T]) -> Result<String, AllocError>
-    requires { AllByRecursion WellFormed (map T.item items.now) }
-    ensures { IfOk result (λ text. string_bytes text ≡ texts_of (map T.item items.now)) }
-{
-    let mut out = String::new(alloc);
-    for item in items {
-        append_item(item, &mut out)?;
-    }
-    Ok(out)
-}
-
-// The canonical text of each item, a newline after each.
-fn text_of_items(alloc: Global, items: &Items) -> Result<String, AllocError>
-    requires { AllByRecursion WellFormed (view_items items.now) }
-    ensures { IfOk result (λ text. string_bytes text ≡ texts_of (view_items items.now)) }
-{
-    match items {
-        Items::Lhs(list) => text_of_list(alloc, list),
-        Items::Rhs(list) => text_of_list(alloc, list),
-        Items::Rep(list) => text_of_list(alloc, list),
-    }
-}
-
 /// The canonical text of each item that the text spells, a newline after each.
 ///
-/// The errors are those of [`read_items`].
+/// An item is printed when it has been read, and then dropped. The errors are those of [`read_items`].
 pub fn format_text(
     alloc: Global,
     kind: Kind,
@@ -147,7 +72,9 @@ pub fn format_text(
     ensures formatted { IfOk result (λ text. IsFormatted (item_type_of kind) source.now (string_bytes text)) }
     ensures refused { IfErr result (λ e. IsStrError (item_type_of kind) (option_copied filename.entry) source.now e) }
 {
-    let items = read_items(alloc, kind, source, filename)?;
-    let text = text_of_items(alloc, &items)?;
-    Ok(text)
+    match kind {
+        Kind::Lhs => texts_of_source::<LeftHandSide>(alloc, source, filename),
+        Kind::Rhs => texts_of_source::<RightHandSide>(alloc, source, filename),
+        Kind::Rep => texts_of_source::<Replacement>(alloc, source, filename),
+    }
 }

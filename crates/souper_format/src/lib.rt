@@ -7,4 +7,5 @@ pub mod run;
 pub mod same;
 pub mod same_run;
 mod tell;
+mod texts;
 pub mod watched;

@@ -1,9 +1,11 @@
 -- Items in a row: one list of them at most is spelled, and none where the parser is refused.
 use Rattle.std.proofs.Common.{◌≡◌, ℕ, ◌<◌, Bool, true, false, List, [], ◌∷◌, ◌++◌, length, map, None, refl, sym, ◌∙◌, ap, subst, append_assoc, arith}
 use Rattle.std.proofs.lemmas.List.{append-nil, append_cancel_left, length-append}
+use Rattle.std.specs.List.{AllByRecursion}
+use Rattle.souper_graph.specs.WellFormed.{WellFormed}
 use Rattle.souper_graph.specs.Values.{PlainStatement, PlainInfer, Ending, inferred, resulting, replaced, candidate, Item}
 use Rattle.souper_ir.specs.declared.parse.error.ParseError.{ParseError}
-use Rattle.souper_ir.specs.Tokens.{Lexeme}
+use Rattle.souper_ir.specs.Tokens.{Lexeme, IsLexeme}
 use Rattle.souper_ir.specs.Spelling.{kinds, Scope, infer_spells, Statements, ItemType, left_hand_side, right_hand_side, replacement, Tail, tail_spells, item_spells, item_spells_after, list_spells, TextSpells}
 use Rattle.souper_ir.specs.Continuation.{ending_continues, item_continues}
 use Rattle.souper_ir.specs.Parsing.{Parsing}
@@ -17,7 +19,9 @@ use Rattle.souper_ir.specs.NodeReadings.{starts_statement, is_any}
 use Rattle.souper_ir.specs.StatementLaws.{begins_line, starts_begins, infer_ends, operand_ends, cand_ends, statement_first}
 use Rattle.souper_ir.specs.ItemLaws.{starts_ahead, item_alone}
 use Rattle.souper_ir.specs.ItemRuns.{ItemsTaken, SpellsAll, ListRefusal}
+use Rattle.souper_ir.specs.Sinks.{TakesOver}
 use Rattle.souper_ir.proofs.TokenLaws.{one_reading}
+use Rattle.souper_ir.proofs.WellFormedItems.{taken_well}
 
 -- what begins a line continues no item
 ending_ends : (y : Ending) (t : Lexeme) → begins_line t ≡ true → ¬ ending_continues y t
@@ -254,3 +258,21 @@ pub read_behind : (k : ItemType) (v : Item) (q m r : Parsing) {b : Bool} → IsR
 read_behind k v q m r {b} h took =
     let seen = peeked is_any q m b h.0 in
     subst (λ (x : Parsing). Took (item_spells_after k) item_continues (λ s. []) v x r) seen.0 took
+
+-- an item that was read behind others is well formed
+pub read_well : (k : ItemType) (vs : List Item) (v : Item) (p q m r : Parsing) {b : Bool} → AllByRecursion IsLexeme (kinds p.tokens) → ItemsTaken k vs p q → IsRead (peek_at is_any q) b q m → Took (item_spells_after k) item_continues (λ s. []) v m r → WellFormed v
+read_well k vs v p q m r {b} l so h behind =
+    let took = read_behind k v q m r h behind in
+    let scope : q.scope ≡ [] = ap (λ (x : Parsing). x.scope) so.state ∙ so.empty in
+    taken_well k v p q r l so.used so.parts took.used took.parts (subst (λ (x : List PlainStatement). item_spells_after k x v (kinds took.used)) scope took.spelled)
+
+-- ---- what a sink holds of them
+
+pub takes_one : {S : Type 0} (holds : S → List Item → Type 0) (vs : List Item) (v : Item) (a b c : S) → TakesOver holds vs a b
+    → ((items : List Item) → holds b items → holds c (items ++ v ∷ [])) → TakesOver holds (vs ++ v ∷ []) a c
+takes_one holds vs v a b c so step = λ before held.
+    subst (holds c) (append_assoc before vs (v ∷ [])) (step (before ++ vs) (so before held))
+
+pub pushed_some : (vs : List Item) (v : Item) → vs ++ v ∷ [] ≡ [] → ⊥
+pushed_some [] v e = absurd cc
+pushed_some (w ∷ vs) v e = absurd cc

@@ -1,5 +1,5 @@
 -- The items that a text spells are well formed.
-use Rattle.std.proofs.Common.{◌≡◌, ◌⊎◌, ℕ, ◌+◌, ◌<◌, List, [], ◌∷◌, ◌++◌, length, Option, Some, None, refl, sym, ◌∙◌, subst, inl, inr, append_assoc}
+use Rattle.std.proofs.Common.{◌≡◌, ◌⊎◌, ℕ, Bool, ◌+◌, ◌<◌, List, [], ◌∷◌, ◌++◌, length, Option, Some, None, refl, sym, ◌∙◌, ap, subst, inl, inr, append_assoc}
 use Rattle.std.specs.Prelude.{slice_get}
 use Rattle.std.specs.List.{AllByRecursion}
 use Rattle.std.proofs.lemmas.List.{append-nil}
@@ -13,8 +13,10 @@ use Rattle.souper_graph.specs.Names.{IsName}
 use Rattle.souper_graph.specs.Uses.{Use, value_use, block_use, uses_of_operand, uses_of_operands, uses_of_rhs, uses_of, roots_of}
 use Rattle.souper_graph.specs.Faults.{AreMet}
 use Rattle.souper_graph.specs.WellFormed.{FitsOptionalType, FitsConstant, FitsOperand, FitsRhs, FitsAttribute, FitsRootAttribute, FitsAssignment, FitsStatement, AgreesRhs, AgreesWithBlock, Closed, FitsInfer, FitsEnding, WellFormed}
-use Rattle.souper_ir.specs.Tokens.{Lexeme, val_name, spelling, IsLexeme, Begins}
+use Rattle.souper_ir.specs.Tokens.{Lexeme, val_name, spelling, IsLexeme, Begins, AreTokensOf}
 use Rattle.souper_ir.specs.Spelling.{kinds, Scope, position_of, optional_type_spells, constant_spells, operand_spells, further_spells, operands_spells, pair_spells, rhs_spells, attribute_spells, root_attribute_spells, attributes_spell, root_attributes_spell, statement_spells, infer_spells, cand_spells, Statements, ItemType, left_hand_side, right_hand_side, replacement, tail_spells, item_spells, list_spells, TextSpells}
+use Rattle.souper_ir.specs.Parsing.{Parsing}
+use Rattle.souper_ir.specs.Steps.{kinds-append}
 use Rattle.souper_ir.proofs.Limits.{number_fits, count_fits, width_fits}
 use Rattle.souper_ir.proofs.Scopes.{Named, nothing_named, named_push, named_pass, get_push, AllReach, none_reach, both_reach, one_reaches, value_reaches, block_reaches, met_kept, closed_kept}
 
@@ -256,6 +258,16 @@ all_well k [] ts l m = tt
 all_well k (a ∷ items) ts l m =
     let lexemes : AllLexemes (m.0 ++ m.1) = subst AllLexemes m.2 l in
     (item_well k a m.0 (all_left m.0 m.1 lexemes) m.3, all_well k items m.1 (all_right m.0 m.1 lexemes) m.4)
+
+-- the tokens of a text are tokens
+pub text_lexemes : (bs : List ℕ) (ts : List (ℕ × Lexeme)) (faulty : Bool) → AreTokensOf bs ts faulty → AllLexemes (kinds ts)
+text_lexemes bs ts faulty h = begun 0 bs ts h.rest h.front
+
+-- an item that was taken from tokens is well formed
+pub taken_well : (k : ItemType) (a : Item) (p q r : Parsing) → AllLexemes (kinds p.tokens) → (taken : List (ℕ × Lexeme)) → p.tokens ≡ taken ++ q.tokens → (used : List (ℕ × Lexeme)) → q.tokens ≡ used ++ r.tokens → item_spells k a (kinds used) → WellFormed a
+taken_well k a p q r l taken parts used more m =
+    let behind : AllLexemes (kinds q.tokens) = all_right (kinds taken) (kinds q.tokens) (subst AllLexemes (ap kinds parts ∙ kinds-append taken q.tokens) l) in
+    item_well k a (kinds used) (all_left (kinds used) (kinds r.tokens) (subst AllLexemes (ap kinds more ∙ kinds-append used r.tokens) behind)) m
 
 -- the items of a text are well formed
 pub text_well : (k : ItemType) (items : List Item) (bs : List ℕ) → TextSpells k bs items → AllByRecursion WellFormed items

@@ -1,21 +1,23 @@
 //! Whole items.
 
-ghost use Rattle.std.specs.Prelude.{◌≡◌, map, false, None, IfOk, OnOk, IfErr, IsOkAnd, option_copied, []};
+ghost use Rattle.std.specs.Prelude.{◌≡◌, List, map, false, None, IfOk, OnOk, IfErr, IsOkAnd, option_copied, []};
 ghost use Rattle.std.specs.List.{AllByRecursion};
 ghost use Rattle.souper_graph.specs.View.{view_left_hand_side, view_right_hand_side, view_replacement};
 ghost use Rattle.souper_graph.specs.WellFormed.{WellFormed};
 ghost use Rattle.souper_graph.specs.Values.{Item};
-ghost use Rattle.souper_ir.specs.Tokens.{IsLastGap};
-ghost use Rattle.souper_ir.specs.Spelling.{ItemType, left_hand_side, right_hand_side, replacement, statement_spells, item_spells_after, TextSpells};
+ghost use Rattle.souper_ir.specs.Tokens.{IsLastGap, IsLexeme};
+ghost use Rattle.souper_ir.specs.Spelling.{kinds, ItemType, left_hand_side, right_hand_side, replacement, statement_spells, item_spells_after, TextSpells};
 ghost use Rattle.souper_ir.specs.Continuation.{statement_continues, item_continues};
 ghost use Rattle.souper_ir.specs.Grammar.{Took, Refusal};
 ghost use Rattle.souper_ir.specs.Items.{Enters, TakesStatements, StatedRefusal};
 ghost use Rattle.souper_ir.specs.ItemLaws.{item_alone};
 ghost use Rattle.souper_ir.specs.ItemRuns.{SpellsAll, ListRefusal};
 ghost use Rattle.souper_ir.specs.Answers.{IsStrError};
+ghost use Rattle.souper_ir.specs.Sinks.{TakesOver, TakesText};
 
 use crate::parse::last_lines::{cand, infer, result};
 use crate::parse::parser::{Parser, Result};
+use crate::parse::sink::Sink;
 use crate::parse::statements::{assignment, block_pc, pc};
 use crate::parse::tokens::{token_comes, word_comes};
 use crate::parse::traits::{Parse, Peek};
@@ -50,12 +52,13 @@ fn statements(parser: &mut Parser<'_>) -> Result<()>
     Ok(())
 }
 
-/// A whole item. The scope is empty behind it.
-pub(crate) trait WholeItem: Sized {
+/// A whole item: a left-hand side, a right-hand side or a replacement.
+pub trait WholeItem: Sized {
     ghost item_type: { ItemType };
 
     ghost view: { Self → Item };
 
+    /// Takes the tokens of an item. The scope is empty behind it.
     fn item(parser: &mut Parser<'_>) -> Result<Self>
         ensures ok { IfOk result (λ v. Took (item_spells_after item_type) item_continues (λ s. []) (view v) parser.old parser.new) }
         ensures err { IfErr result (λ e. Refusal (item_spells_after item_type) item_continues e parser.old parser.new) };
@@ -170,23 +173,46 @@ impl Parse for Replacement {
     }
 }
 
-// The items up to the end of the text.
-fn items<T: WholeItem + Drop>(parser: &mut Parser<'_>) -> Result<Vec<T>>
-    requires { parser.old.scope ≡ [] }
-    ensures ok { IfOk result (λ v. SpellsAll T.item_type (map T.view v.items) parser.old) }
+// Hands the items up to the end of the text to the sink.
+fn items<T: WholeItem, S: Sink<T>>(parser: &mut Parser<'_>, sink: &mut S) -> Result<()>
+    requires scope { parser.old.scope ≡ [] }
+    requires lexemes { AllByRecursion IsLexeme (kinds parser.old.tokens) }
+    ensures ok { OnOk result ((items : List Item) × SpellsAll T.item_type items parser.old × TakesOver S.holds items sink.old sink.new) }
     ensures err { IfErr result (λ e. ListRefusal T.item_type e parser.old parser.new) }
     // The end of the text needs no memory.
-    ensures ended { (parser.old.tokens ≡ []) → (parser.old.faulty ≡ false) → (parser.old.failed ≡ None) → IsOkAnd result (λ v. v.items ≡ []) }
+    ensures ended { (parser.old.tokens ≡ []) → (parser.old.faulty ≡ false) → (parser.old.failed ≡ None) → IsOkAnd result (λ _. sink.new ≡ sink.old) }
 {
-    let mut items = Vec::new(parser.alloc());
     while token_comes(parser)? {
         let item = T::item(parser)?;
-        match items.push(item) {
+        match sink.take(item) {
             Ok(()) => {}
             Err(_) => return Err(parser.want_memory()),
         }
     }
-    Ok(items)
+    Ok(())
+}
+
+/// Hands the items of a text to a sink, one at a time and in order, so that they need not stand in memory together.
+///
+/// The type of the items is [`LeftHandSide`], [`RightHandSide`] or [`Replacement`]. The file name is for the error, which
+/// shows `unknown` without one. A text that is refused spells no list of such items, whatever the sink has taken by then:
+/// the error is of the kind `Parse`, or want of memory. A text of white space and comments alone has no items, and takes
+/// no memory.
+pub fn parse_into<T: WholeItem, S: Sink<T>>(
+    alloc: Global,
+    source: &str,
+    filename: Option<&str>,
+    sink: &mut S,
+) -> Result<()>
+    ensures taken { OnOk result (TakesText S.holds T.item_type source.now sink.old sink.new) }
+    ensures refused { IfErr result (λ e. IsStrError T.item_type (option_copied filename.entry) source.now e) }
+    ensures gaps { IsLastGap source.now → IsOkAnd result (λ _. sink.new ≡ sink.old) }
+{
+    let mut parser = Parser::new(alloc, source);
+    match items::<T, S>(&mut parser, sink) {
+        Ok(()) => Ok(()),
+        Err(error) => Err(error.locate(alloc, source, filename)),
+    }
 }
 
 /// The items of a text.
@@ -200,11 +226,9 @@ pub(crate) fn parse_str<T: WholeItem + Drop>(
     ensures refused { IfErr result (λ e. IsStrError T.item_type (option_copied filename.entry) source.now e) }
     ensures gaps { IsLastGap source.now → IsOkAnd result (λ v. v.items ≡ []) }
 {
-    let mut parser = Parser::new(alloc, source);
-    match items(&mut parser) {
-        Ok(items) => Ok(items),
-        Err(error) => Err(error.locate(alloc, source, filename)),
-    }
+    let mut items = Vec::new(alloc);
+    parse_into::<T, Vec<T>>(alloc, source, filename, &mut items)?;
+    Ok(items)
 }
 
 /// The left-hand sides of a text, in order.

@@ -1,27 +1,15 @@
-use Rattle.std.proofs.Common.{[]}
-use Rattle.std.specs.Prelude.{option_copied}
-use Rattle.souper_ir.proofs.TextItems.{all_spelled, gap_text, located_answer}
+use Rattle.std.proofs.Common.{◌≡◌, List, [], map, sym, ap, subst}
+use Rattle.souper_graph.specs.Values.{Item}
+use Rattle.souper_ir.specs.Spelling.{TextSpells}
 use Rattle.souper_ir.proofs.WellFormedItems.{text_well}
 use Rattle.souper_ir.proofs.parse.item.parse_str.Goals as goal
 
-pub returns-in-Ok-clause-spelled : goal.returns-in-Ok-clause-spelled
-returns-in-Ok-clause-spelled g c = all_spelled g.T.WholeItem.item_type _ c.args.source.now c.new-parser.result c.new-parser.ensures.tokens c.in-Ok.ensures.ok
+pub returns-clause-spelled : goal.returns-clause-spelled
+returns-clause-spelled g c =
+    let taken = c.in_ok-parse_into.ensures.taken in
+    let held : map g.T.WholeItem.view c.parse_into.new.sink.items ≡ taken.0 = taken.2 [] (ap (map g.T.WholeItem.view) c.new-items.ensures.items) in
+    subst (λ (x : List Item). TextSpells g.T.WholeItem.item_type c.args.source.now x) (sym held) taken.1
 
-pub returns-in-Ok-clause-gaps : goal.returns-in-Ok-clause-gaps
-returns-in-Ok-clause-gaps g c = λ h.
-    let none = c.new-parser.ensures.only [] (gap_text c.args.source.now h) in
-    c.in-Ok.ensures.ended none.0 none.1 c.new-parser.ensures.live
-
-pub returns-clause-gaps : goal.returns-clause-gaps
-returns-clause-gaps g c = λ h.
-    let none = c.new-parser.ensures.only [] (gap_text c.args.source.now h) in
-    absurd (c.in-Err.ensures.ended none.0 none.1 c.new-parser.ensures.live)
-
-pub returns-clause-refused : goal.returns-clause-refused
-returns-clause-refused g c =
-    located_answer g.T.WholeItem.item_type (option_copied c.args.filename) c.args.source.now c.in-Err.error c.locate.result c.new-parser.result c.items.new.parser
-    c.new-parser.ensures.live c.new-parser.ensures.len c.new-parser.ensures.only c.in-Err.ensures.err c.locate.ensures
-
-pub returns-in-Ok-clause-well_formed : goal.returns-in-Ok-clause-well_formed
-returns-in-Ok-clause-well_formed g c =
-    text_well g.T.WholeItem.item_type _ c.args.source.now (all_spelled g.T.WholeItem.item_type _ c.args.source.now c.new-parser.result c.new-parser.ensures.tokens c.in-Ok.ensures.ok)
+pub returns-clause-well_formed : goal.returns-clause-well_formed
+returns-clause-well_formed g c =
+    text_well g.T.WholeItem.item_type (map g.T.WholeItem.view c.parse_into.new.sink.items) c.args.source.now (returns-clause-spelled g c)

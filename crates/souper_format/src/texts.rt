@@ -1,0 +1,83 @@
+//! The canonical texts of items, one behind the other.
+ghost use Rattle.std.specs.Prelude.{◌≡◌, ◌++◌, IfOk, IfErr, OnOk, option_copied};
+ghost use Rattle.std.specs.String.{string_bytes};
+ghost use Rattle.souper_graph.specs.Text.{text_of};
+ghost use Rattle.souper_graph.specs.Uses.{UsesBelow};
+ghost use Rattle.souper_graph.specs.WellFormed.{WellFormed};
+ghost use Rattle.souper_ir.specs.Answers.{IsStrError};
+ghost use Rattle.souper_format.specs.Formatted.{text_with_newline, texts_of, IsFormatted};
+
+use souper_ir::ast::{LeftHandSide, Replacement, RightHandSide};
+use souper_ir::parse::{ParseError, Sink, WholeItem, parse_into};
+use souper_ir::stringify::TextError;
+use std::alloc::{AllocError, Global};
+
+/// An item with its canonical text.
+pub(crate) trait Printed: WholeItem {
+    fn text(&self) -> Result<String, TextError>
+        ensures { UsesBelow (Self.view self.now) → IfOk result (λ text. string_bytes text ≡ text_of (Self.view self.now)) };
+}
+
+impl Printed for LeftHandSide {
+    fn text(&self) -> Result<String, TextError> {
+        self.to_text()
+    }
+}
+
+impl Printed for RightHandSide {
+    fn text(&self) -> Result<String, TextError> {
+        self.to_text()
+    }
+}
+
+impl Printed for Replacement {
+    fn text(&self) -> Result<String, TextError> {
+        self.to_text()
+    }
+}
+
+// Appends the text of the item and a newline.
+fn append_item<T: Printed>(item: &T, out: &mut String) -> Result<(), AllocError>
+    requires { WellFormed (T.view item.now) }
+    ensures { OnOk result (string_bytes out.new ≡ string_bytes out.old ++ text_with_newline (T.view item.now)) }
+{
+    match item.text() {
+        Ok(text) => {
+            out.push_str(&text)?;
+            out.push('\n')?;
+            Ok(())
+        }
+        // A well-formed item names no bad id: what was refused is memory.
+        Err(_) => Err(AllocError),
+    }
+}
+
+// The canonical text of each item that was taken, a newline after each.
+#[derive(Drop)]
+struct Texts {
+    text: String,
+}
+
+impl<T: Printed + Drop> Sink<T> for Texts {
+    ghost holds = { λ texts items. string_bytes texts.text ≡ texts_of items };
+
+    fn take(&mut self, item: T) -> Result<(), AllocError> {
+        append_item(&item, &mut self.text)
+    }
+}
+
+/// The canonical texts of the items of a source, a newline after each.
+pub(crate) fn texts_of_source<T: Printed + Drop>(
+    alloc: Global,
+    source: &str,
+    filename: Option<&str>,
+) -> Result<String, ParseError>
+    ensures formatted { IfOk result (λ text. IsFormatted T.item_type source.now (string_bytes text)) }
+    ensures refused { IfErr result (λ e. IsStrError T.item_type (option_copied filename.entry) source.now e) }
+{
+    let mut texts = Texts {
+        text: String::new(alloc),
+    };
+    parse_into::<T, Texts>(alloc, source, filename, &mut texts)?;
+    Ok(texts.text)
+}

@@ -1,0 +1,30 @@
+use Rattle.std.proofs.Common.{[]}
+use Rattle.std.specs.Prelude.{option_copied}
+use Rattle.souper_ir.proofs.TextItems.{all_spelled, gap_text, located_answer}
+use Rattle.souper_ir.proofs.WellFormedItems.{text_lexemes}
+use Rattle.souper_ir.proofs.parse.item.parse_into.Goals as goal
+
+pub items-requires-clause-lexemes : goal.items-requires-clause-lexemes
+items-requires-clause-lexemes g c = text_lexemes c.args.source.now c.new-parser.result.tokens c.new-parser.result.faulty c.new-parser.ensures.tokens
+
+pub returns-in-Ok-clause-taken : goal.returns-in-Ok-clause-taken
+returns-in-Ok-clause-taken g c = (
+  c.in-Ok.ensures.ok.0,
+  all_spelled g.T.WholeItem.item_type _ c.args.source.now c.new-parser.result c.new-parser.ensures.tokens c.in-Ok.ensures.ok.1,
+  c.in-Ok.ensures.ok.2,
+)
+
+pub returns-in-Ok-clause-gaps : goal.returns-in-Ok-clause-gaps
+returns-in-Ok-clause-gaps g c = λ h.
+    let none = c.new-parser.ensures.only [] (gap_text c.args.source.now h) in
+    c.in-Ok.ensures.ended none.0 none.1 c.new-parser.ensures.live
+
+pub returns-clause-gaps : goal.returns-clause-gaps
+returns-clause-gaps g c = λ h.
+    let none = c.new-parser.ensures.only [] (gap_text c.args.source.now h) in
+    absurd (c.in-Err.ensures.ended none.0 none.1 c.new-parser.ensures.live)
+
+pub returns-clause-refused : goal.returns-clause-refused
+returns-clause-refused g c =
+    located_answer g.T.WholeItem.item_type (option_copied c.args.filename) c.args.source.now c.in-Err.error c.locate.result c.new-parser.result c.items.new.parser
+    c.new-parser.ensures.live c.new-parser.ensures.len c.new-parser.ensures.only c.in-Err.ensures.err c.locate.ensures

@@ -1,0 +1,32 @@
+//! What takes the items of a text as they are read.
+ghost use Rattle.std.specs.Prelude.{◌≡◌, ◌∷◌, ◌++◌, [], List, map, OnOk};
+ghost use Rattle.souper_graph.specs.Values.{Item};
+ghost use Rattle.souper_graph.specs.WellFormed.{WellFormed};
+
+use crate::parse::item::WholeItem;
+use std::alloc::AllocError;
+
+/// What takes the items of a text one at a time, in order: a `Vec` keeps them.
+///
+/// An implementor states when it holds a list of items. It owes that, where it held a list and took an item, it holds the
+/// list with that item at its end.
+pub trait Sink<T: WholeItem> {
+    // The sink holds the items.
+    ghost holds: { Self → List Item → Type 0 };
+
+    /// Takes the next item. The error is want of memory, and ends the reading.
+    fn take(&mut self, item: T) -> Result<(), AllocError>
+        requires { WellFormed (T.view item) }
+        ensures { OnOk result ((items : List Item) → holds self.old items → holds self.new (items ++ T.view item ∷ [])) };
+}
+
+impl<T: WholeItem + Drop> Sink<T> for Vec<T> {
+    ghost holds = { λ v items. map T.view v.items ≡ items };
+
+    fn take(&mut self, item: T) -> Result<(), AllocError> {
+        match self.push(item) {
+            Ok(()) => Ok(()),
+            Err(_) => Err(AllocError),
+        }
+    }
+}
