@@ -39,3 +39,8 @@ abbrev pub Yields : Lexed → Result (Option (ℕ × Token)) Fault → Lexed →
 Yields old (Ok (Some x)) new = (old.tokens ≡ (x.0, lexeme_of x.1) ∷ new.tokens) × (old.fault ≡ new.fault) × (old.len ≡ new.len) × (x.0 < old.len)
 Yields old (Ok None) new = (old.tokens ≡ []) × (old.fault ≡ false) × (new ≡ old)
 Yields old (Err f) new = (old.tokens ≡ []) × (old.fault ≡ true) × (new ≡ old)
+
+-- the same, with the token in a place of its own
+abbrev pub Lexes : Lexed → Result (Unit {0}) Fault → Option (ℕ × Token) → Lexed → Type 0
+Lexes old (Ok u) ahead new = Yields old (Ok ahead) new
+Lexes old (Err f) ahead new = Yields old (Err f) new

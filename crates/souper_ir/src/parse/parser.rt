@@ -4,7 +4,7 @@ ghost use Rattle.std.specs.String.{string_bytes};
 ghost use Rattle.souper_graph.specs.View.{view_rhs, view_statement, view_assignment};
 ghost use Rattle.souper_graph.specs.Values.{assigned};
 ghost use Rattle.souper_ir.specs.Tokens.{Lexeme, AreTokensOf, IsTextOf};
-ghost use Rattle.souper_ir.specs.TokenView.{lexeme_of};
+ghost use Rattle.souper_ir.specs.TokenView.{lexeme_of, Lexes};
 ghost use Rattle.souper_graph.specs.Uses.{is_condition};
 ghost use Rattle.souper_ir.specs.Spelling.{ways_of, entry_of, position_of};
 ghost use Rattle.souper_ir.specs.NodeReadings.{block_entry};
@@ -14,7 +14,7 @@ ghost use Rattle.souper_ir.specs.Errors.{shown_error};
 ghost use Rattle.souper_ir.specs.Places.{IsDirectRefusalText};
 ghost use Rattle.souper_ir.specs.Reading.{Fails, FailsForMemory, Gives, cause_of, look_at, take_at};
 
-use crate::lexer::{Lexer, Token};
+use crate::lexer::{Fault, Lexer, Token};
 use crate::parse::error::ParseError;
 use crate::parse::message::Message;
 use souper_graph::ast::{Arena, Assignment, AssignmentRhs, BlockId, Id, Statement, ValueId};
@@ -88,6 +88,24 @@ impl<'a> Parser<'a> {
     }
 }
 
+// Lexes a token to look at. It stands in its place: a token that is handed on costs more than the lexing of it.
+#[inline(never)]
+fn lex<'a>(
+    lexer: &mut Lexer<'a>,
+    ahead: &mut Option<(usize, Token<'a>)>,
+    offset: &mut usize,
+) -> std::result::Result<(), Fault>
+    ensures next { Lexes lexer.old result ahead.new lexer.new }
+    ensures last { offset.old ≤ lexer.old.len → offset.new ≤ lexer.old.len }
+    ensures fault { IfErr result (λ fault. fault.offset ≤ lexer.old.len) }
+{
+    *ahead = lexer.next_token()?;
+    if let Some((start, _)) = *ahead {
+        *offset = start;
+    }
+    Ok(())
+}
+
 impl<'a> Parser<'a> {
     // The refusal at the offset.
     fn refusal(
@@ -118,17 +136,16 @@ impl<'a> Parser<'a> {
         }
     }
 
-    // Answers a parser that has failed the same again.
-    fn check_live(&mut self) -> Result<()>
-        ensures live { OnOk result (self.old.failed ≡ None) }
-        ensures kept { OnOk result (self.new ≡ self.old) }
-        ensures failed { OnErr result (self.old.failed ≢ None) }
-        ensures fails { IfErr result (λ error. Fails error self.old self.new) }
+    // A parser that has failed fails the same again.
+    #[cold]
+    #[inline(never)]
+    fn fail_again(&mut self) -> ParseError
+        requires { self.old.failed ≢ None }
+        ensures { Fails result self.old self.new }
     {
         match self.failed {
-            None => Ok(()),
-            Some(Failure::Refused(offset)) => Err(self.fail_at(offset, Message::AlreadyFailed)),
-            Some(Failure::Memory) => Err(ParseError::memory()),
+            Some(Failure::Refused(offset)) => self.fail_at(offset, Message::AlreadyFailed),
+            _ => ParseError::memory(),
         }
     }
 
@@ -138,9 +155,9 @@ impl<'a> Parser<'a> {
     pub(crate) fn refuse(&mut self, message: Message<'_>) -> ParseError
         ensures { Fails result self.old self.new }
     {
-        match self.check_live() {
-            Ok(()) => self.fail_at(self.offset, message),
-            Err(error) => error,
+        match self.failed {
+            None => self.fail_at(self.offset, message),
+            Some(_) => self.fail_again(),
         }
     }
 
@@ -160,49 +177,17 @@ impl<'a> Parser<'a> {
         // The end of the text needs no memory.
         ensures ended { self.old.tokens ≡ [] → self.old.faulty ≡ false → self.old.failed ≡ None → IsOk result }
     {
-        // Most often it was looked at before, and this stands in the caller.
-        match (self.failed, self.ahead) {
-            (None, Some((_, token))) => Ok(Some(token)),
-            _ => self.look(),
+        if self.failed.is_some() {
+            return Err(self.fail_again());
         }
-    }
-
-    // Where a token stands next, no call here answers an error: so there is little to copy.
-    #[inline(never)]
-    #[tactic(auto, unfolding(crate::specs::Reading::look_at))]
-    fn look(&mut self) -> Result<Option<Token<'a>>>
-        ensures next { Gives (option_map lexeme_of) result (look_at self.old) self.old self.new }
-        ensures ended { self.old.tokens ≡ [] → self.old.faulty ≡ false → self.old.failed ≡ None → IsOk result }
-    {
-        if let (None, None) = (self.failed, self.ahead) {
-            if let Ok(Some((offset, token))) = self.lexer.next_token() {
-                self.offset = offset;
-                self.ahead = Some((offset, token));
-                return Ok(Some(token));
+        if self.ahead.is_none() {
+            if let Err(fault) = lex(&mut self.lexer, &mut self.ahead, &mut self.offset) {
+                return Err(self.fail_at(fault.offset, Message::Lexical(fault.kind)));
             }
         }
-        self.look_on()
-    }
-
-    // The same in every other case.
-    #[inline(never)]
-    #[tactic(auto, unfolding(crate::specs::Reading::look_at))]
-    fn look_on(&mut self) -> Result<Option<Token<'a>>>
-        ensures next { Gives (option_map lexeme_of) result (look_at self.old) self.old self.new }
-        ensures ended { self.old.tokens ≡ [] → self.old.faulty ≡ false → self.old.failed ≡ None → IsOk result }
-    {
-        self.check_live()?;
-        if let Some((_, token)) = self.ahead {
-            return Ok(Some(token));
-        }
-        match self.lexer.next_token() {
-            Ok(Some((offset, token))) => {
-                self.offset = offset;
-                self.ahead = Some((offset, token));
-                Ok(Some(token))
-            }
-            Ok(None) => Ok(None),
-            Err(fault) => Err(self.fail_at(fault.offset, Message::Lexical(fault.kind))),
+        match self.ahead {
+            Some((_, token)) => Ok(Some(token)),
+            None => Ok(None),
         }
     }
 
@@ -212,51 +197,23 @@ impl<'a> Parser<'a> {
     pub(crate) fn token(&mut self) -> Result<Token<'a>>
         ensures { Gives lexeme_of result (take_at self.old) self.old self.new }
     {
-        match (self.failed, self.ahead) {
-            (None, Some((_, token))) => {
+        if self.failed.is_some() {
+            return Err(self.fail_again());
+        }
+        if self.ahead.is_none() {
+            if let Err(fault) = lex(&mut self.lexer, &mut self.ahead, &mut self.offset) {
+                return Err(self.fail_at(fault.offset, Message::Lexical(fault.kind)));
+            }
+        }
+        match self.ahead {
+            Some((_, token)) => {
                 self.ahead = None;
                 Ok(token)
             }
-            _ => self.take(),
-        }
-    }
-
-    // As `look`.
-    #[inline(never)]
-    #[tactic(auto, unfolding(crate::specs::Reading::take_at))]
-    fn take(&mut self) -> Result<Token<'a>>
-        ensures { Gives lexeme_of result (take_at self.old) self.old self.new }
-    {
-        if let (None, None) = (self.failed, self.ahead) {
-            if let Ok(Some((offset, token))) = self.lexer.next_token() {
-                self.offset = offset;
-                return Ok(token);
-            }
-        }
-        self.take_on()
-    }
-
-    // The same in every other case.
-    #[inline(never)]
-    #[tactic(auto, unfolding(crate::specs::Reading::take_at))]
-    fn take_on(&mut self) -> Result<Token<'a>>
-        ensures { Gives lexeme_of result (take_at self.old) self.old self.new }
-    {
-        self.check_live()?;
-        if let Some((_, token)) = self.ahead {
-            self.ahead = None;
-            return Ok(token);
-        }
-        match self.lexer.next_token() {
-            Ok(Some((offset, token))) => {
-                self.offset = offset;
-                Ok(token)
-            }
-            Ok(None) => {
+            None => {
                 let last = self.lexer.len().saturating_sub(1);
                 Err(self.fail_at(last, Message::UnexpectedEnd))
             }
-            Err(fault) => Err(self.fail_at(fault.offset, Message::Lexical(fault.kind))),
         }
     }
 }
