@@ -1,8 +1,9 @@
-//! Tests of parsers that are used directly, and a type of a user of the parser.
+//! Tests of parsers that are used directly, and types of a user of the parser.
 //!
 //! The values of the tests were worked out by hand from the rules of the language.
 #![tactic(auto)]
 
 pub mod pairs;
+pub mod sinks;
 #[cfg(test)]
 mod parsers;
