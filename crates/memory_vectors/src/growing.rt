@@ -26,7 +26,11 @@ pub fn name(alloc: Global, text: &str) -> Result<Option<String>, AllocError>
 
 /// What became of a call that grew the list, or did not.
 pub fn met(alloc: Global, has_grown: bool) -> Met {
-    if has_grown { answered(alloc) } else { Met::Refused }
+    if has_grown {
+        answered(alloc)
+    } else {
+        Met::Refused
+    }
 }
 
 /// The arena has the statements with these lines, and the one of the last line where the call put it.

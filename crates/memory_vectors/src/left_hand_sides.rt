@@ -1,4 +1,8 @@
 //! Builders of left-hand sides. Each call is made where the arena has no room left.
+ghost use Rattle.std.specs.Prelude.{map, slice_get, ◌<◌, IfOk};
+ghost use Rattle.souper_graph.specs.Faults.{IsBlock};
+ghost use Rattle.souper_graph.specs.View.{view_statement};
+ghost use Rattle.souper_graph.specs.WellFormed.{predecessors_at};
 
 use crate::growing::{holds, met, name, number};
 use crate::met::{Met, strictly};
@@ -7,14 +11,16 @@ use std::alloc::{AllocError, Global};
 use std::process::Abort;
 use std::test::Fail;
 
-// A builder of three conditions and a block of two ways.
+// A builder of a block of two ways and three conditions.
 fn filled(alloc: Global) -> Result<(LeftHandSideBuilder, BlockId), AllocError>
+    ensures block { IfOk result (λ filled. IsBlock (slice_get (map view_statement filled.0) filled.1)) }
+    ensures ways { IfOk result (λ filled. 1 < predecessors_at (map view_statement filled.0) filled.1) }
 {
     let mut builder = LeftHandSideBuilder::new(alloc);
-    builder.pc(number(0), number(0))?;
+    let block = builder.block(None, 2)?;
     builder.pc(number(1), number(1))?;
     builder.pc(number(2), number(2))?;
-    let block = builder.block(None, 2)?;
+    builder.pc(number(3), number(3))?;
     Ok((builder, block))
 }
 
@@ -26,7 +32,7 @@ fn ends(
     line: &str,
     met: &Met,
 ) -> Result<(), Fail> {
-    let lines = ["pc 0 0\n", "pc 1 1\n", "pc 2 2\n", "%3 = block 2\n", line];
+    let lines = ["%0 = block 2\n", "pc 1 1\n", "pc 2 2\n", "pc 3 3\n", line];
     holds(rt, alloc, &item.statements, &lines, met)
 }
 
@@ -39,7 +45,12 @@ fn named_assignment(rt: &impl Abort, alloc: Global) -> Result<Met, Fail> {
         return Ok(Met::Unreached);
     };
     let ty = Some(Type { width: 8 });
-    let met = met(alloc, builder.assignment(name, ty, AssignmentRhs::Var, Vec::new(alloc)).is_ok());
+    let met = met(
+        alloc,
+        builder
+            .assignment(name, ty, AssignmentRhs::Var, Vec::new(alloc))
+            .is_ok(),
+    );
     let item = builder.finish(block.into(), Vec::new(alloc));
     ends(rt, alloc, &item, "%x:i8 = var\n", &met)?;
     Ok(met)
@@ -61,7 +72,12 @@ fn unnamed_assignment(rt: &impl Abort, alloc: Global) -> Result<Met, Fail> {
     let Ok((mut builder, block)) = filled(alloc) else {
         return Ok(Met::Unreached);
     };
-    let met = met(alloc, builder.assignment(None, None, AssignmentRhs::Var, Vec::new(alloc)).is_ok());
+    let met = met(
+        alloc,
+        builder
+            .assignment(None, None, AssignmentRhs::Var, Vec::new(alloc))
+            .is_ok(),
+    );
     let item = builder.finish(block.into(), Vec::new(alloc));
     ends(rt, alloc, &item, "%4 = var\n", &met)?;
     Ok(met)
@@ -152,9 +168,12 @@ fn condition_on_a_way(rt: &impl Abort, alloc: Global) -> Result<Met, Fail> {
     let Ok((mut builder, block)) = filled(alloc) else {
         return Ok(Met::Unreached);
     };
-    let met = met(alloc, builder.block_pc(block, 1, number(5), number(6)).is_ok());
+    let met = met(
+        alloc,
+        builder.block_pc(block, 1, number(5), number(6)).is_ok(),
+    );
     let item = builder.finish(block.into(), Vec::new(alloc));
-    ends(rt, alloc, &item, "blockpc %3 1 5 6\n", &met)?;
+    ends(rt, alloc, &item, "blockpc %0 1 5 6\n", &met)?;
     Ok(met)
 }
 

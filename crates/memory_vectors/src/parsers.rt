@@ -89,12 +89,7 @@ fn taking_attributes(rt: HostRuntime) -> Result<(), Fail> {
 }
 
 // The error is a refusal at offset 6 with the message, or want of memory. Whether it is the refusal.
-fn refuses(
-    rt: &impl Abort,
-    alloc: Global,
-    error: &ParseError,
-    want: &str,
-) -> Result<bool, Fail> {
+fn refuses(rt: &impl Abort, alloc: Global, error: &ParseError, want: &str) -> Result<bool, Fail> {
     if error.kind() != ParseErrorKind::Parse {
         wants_memory(rt, alloc, error)?;
         return Ok(false);

@@ -30,7 +30,11 @@ fn run(
     let mut out = Watched::new(written.as_mut_slice());
     let mut err = Watched::new(told.as_mut_slice());
     let status = format_run(alloc, Kind::Lhs, &mut input, &mut out, &mut err);
-    let met = if status == want { answered(alloc) } else { Met::Refused };
+    let met = if status == want {
+        answered(alloc)
+    } else {
+        Met::Refused
+    };
     assert!(rt; !input.failed() && !out.failed() && !err.failed());
     if status == want {
         assert!(rt; holds(&written, output) && holds(&told, line));

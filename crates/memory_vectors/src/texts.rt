@@ -10,7 +10,8 @@ use std::process::Abort;
 use std::test::Fail;
 
 /// Two items, with a condition, phis and types.
-pub const TWO_ITEMS: &str = "%x:i32 = var\n%2lx = slt 2, %x\npc %2lx 1\n%1lx = slt 1, %x\ncand %1lx 1\n%bb = block 3\n%phi1 = phi %bb, 1:i32, 2, 3\n%phi2 = phi %bb, 2:i32, 4, 6\n%phi1x2 = mul %phi1, 2\ncand %phi2 %phi1x2\n";
+pub const TWO_ITEMS: &str =
+    "%x:i32 = var\n%2lx = slt 2, %x\npc %2lx 1\n%1lx = slt 1, %x\ncand %1lx 1\n%bb = block 3\n%phi1 = phi %bb, 1:i32, 2, 3\n%phi2 = phi %bb, 2:i32, 4, 6\n%phi1x2 = mul %phi1, 2\ncand %phi2 %phi1x2\n";
 
 /// Their texts.
 pub const TWO_TEXTS: [&str; 2] = [
@@ -23,7 +24,8 @@ pub const ATTRIBUTES: &str =
     "%x:i4 = var (knownBits=01x1) (signBits=1)\ninfer %x (demandedBits=0011) (harvestedFromUse)";
 
 /// Its text.
-pub const ATTRIBUTES_TEXT: &str = "%x:i4 = var (knownBits=01x1) (signBits=1)\ninfer %x (demandedBits=0011) (harvestedFromUse)\n";
+pub const ATTRIBUTES_TEXT: &str =
+    "%x:i4 = var (knownBits=01x1) (signBits=1)\ninfer %x (demandedBits=0011) (harvestedFromUse)\n";
 
 /// The replacement's text. One request of a run is refused, so that a second try has its memory.
 pub fn replacement_text(item: &Replacement) -> Result<String, TextError> {
@@ -131,8 +133,7 @@ fn name_twice(rt: &impl Abort, alloc: Global) -> Result<Met, Fail> {
     let met = answered(alloc);
     assert!(rt; error.offset() == Some(9));
     let text = shown(alloc, &error)?;
-    let want =
-        "unknown:1:9: cannot redefine '%x'\n     |\n   1 | %x = var\n     |         ^";
+    let want = "unknown:1:9: cannot redefine '%x'\n     |\n   1 | %x = var\n     |         ^";
     assert_eq!(rt; text.as_str(), want);
     Ok(met)
 }
