@@ -54,17 +54,21 @@ pub fn holds(
     Ok(())
 }
 
+// The condition that the number equals itself.
+fn condition(value: i128) -> Statement {
+    let (x, y) = (number(value), number(value));
+    Pc { x, y }.into()
+}
+
 // Grows an arena by a statement.
 fn arena(rt: &impl Abort, alloc: Global) -> Result<Met, Fail> {
     let mut statements = Arena::new(alloc);
-    for value in 0..4 {
-        let x = number(value);
-        if statements.alloc(Pc { x, y: x }.into()).is_err() {
+    for value in [0, 1, 2, 3] {
+        if statements.alloc(condition(value)).is_err() {
             return Ok(Met::Unreached);
         }
     }
-    let x = number(4);
-    let met = met(alloc, statements.alloc(Pc { x, y: x }.into()).is_ok());
+    let met = met(alloc, statements.alloc(condition(4)).is_ok());
     let lines = ["pc 0 0\n", "pc 1 1\n", "pc 2 2\n", "pc 3 3\n", "pc 4 4\n"];
     holds(rt, alloc, &statements, &lines, &met)?;
     Ok(met)
