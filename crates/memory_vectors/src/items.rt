@@ -11,22 +11,6 @@ use std::alloc::Global;
 use std::process::Abort;
 use std::test::Fail;
 
-// The lines of the statements of the two items, in the order in which they were read.
-const LINES: [[&str; 4]; 2] = [
-    [
-        "%x:i32 = var\n",
-        "%2lx = slt 2, %x\n",
-        "pc %2lx 1\n",
-        "%1lx = slt 1, %x\n",
-    ],
-    [
-        "%bb = block 3\n",
-        "%phi1 = phi %bb, 1:i32, 2, 3\n",
-        "%phi2 = phi %bb, 2:i32, 4, 6\n",
-        "%phi1x2 = mul %phi1, 2\n",
-    ],
-];
-
 // The printed orders of the two items.
 const ORDERS: [[usize; 4]; 2] = [[0, 3, 1, 2], [0, 2, 1, 3]];
 
@@ -157,40 +141,70 @@ fn copying(rt: HostRuntime) -> Result<(), Fail> {
     Ok(())
 }
 
-// Writes the lines of the items' statements, each behind a text that is there.
-fn lines(rt: &impl Abort, alloc: Global) -> Result<Met, Fail> {
+// Writes the lines of the statements of one item, each behind a text that is there.
+fn lines(rt: &impl Abort, alloc: Global, index: usize, wants: &[&str; 4]) -> Result<Met, Fail> {
     let Ok(items) = parse_replacements_str(alloc, TWO_ITEMS, None) else {
         return Ok(Met::Unreached);
     };
-    assert_eq!(rt; items.len(), 2);
-    for (item, wants) in items.iter().zip(&LINES) {
-        let statements = statements_of(item);
-        assert_eq!(rt; statements.len(), 4);
-        for ((_, statement), want) in statements.iter().zip(wants) {
-            let Ok(mut out) = String::from_str(alloc, "kept ") else {
-                return Ok(Met::Unreached);
-            };
-            match statement.display(statements, &mut out) {
-                Ok(()) => assert!(rt; out.as_str().strip_prefix("kept ") == Some(*want)),
-                Err(error) => {
-                    assert!(rt; error == TextError::OutOfMemory);
-                    assert_eq!(rt; out.as_str(), "kept ");
-                    return Ok(Met::Refused);
-                }
+    let statements = statements_of(items.get(index).ok_or("no such item")?);
+    assert_eq!(rt; statements.len(), 4);
+    for ((_, statement), want) in statements.iter().zip(wants) {
+        let Ok(mut out) = String::from_str(alloc, "kept ") else {
+            return Ok(Met::Unreached);
+        };
+        match statement.display(statements, &mut out) {
+            Ok(()) => assert!(rt; out.as_str().strip_prefix("kept ") == Some(*want)),
+            Err(error) => {
+                assert!(rt; error == TextError::OutOfMemory);
+                assert_eq!(rt; out.as_str(), "kept ");
+                return Ok(Met::Refused);
             }
         }
     }
     Ok(answered(alloc))
 }
 
+// The first item, which has a type, an instruction and a condition.
+fn first_lines(rt: &impl Abort, alloc: Global) -> Result<Met, Fail> {
+    let wants = [
+        "%x:i32 = var\n",
+        "%2lx = slt 2, %x\n",
+        "pc %2lx 1\n",
+        "%1lx = slt 1, %x\n",
+    ];
+    lines(rt, alloc, 0, &wants)
+}
+
 #[test]
 fn writing_lines_answers(rt: HostRuntime) -> Result<(), Fail> {
-    strictly(lines(&rt, rt.alloc())?)
+    strictly(first_lines(&rt, rt.alloc())?)
 }
 
 #[test]
 fn writing_lines(rt: HostRuntime) -> Result<(), Fail> {
-    lines(&rt, rt.alloc())?;
+    first_lines(&rt, rt.alloc())?;
+    Ok(())
+}
+
+// The second item, which has a block and phis.
+fn second_lines(rt: &impl Abort, alloc: Global) -> Result<Met, Fail> {
+    let wants = [
+        "%bb = block 3\n",
+        "%phi1 = phi %bb, 1:i32, 2, 3\n",
+        "%phi2 = phi %bb, 2:i32, 4, 6\n",
+        "%phi1x2 = mul %phi1, 2\n",
+    ];
+    lines(rt, alloc, 1, &wants)
+}
+
+#[test]
+fn writing_lines_of_phis_answers(rt: HostRuntime) -> Result<(), Fail> {
+    strictly(second_lines(&rt, rt.alloc())?)
+}
+
+#[test]
+fn writing_lines_of_phis(rt: HostRuntime) -> Result<(), Fail> {
+    second_lines(&rt, rt.alloc())?;
     Ok(())
 }
 
