@@ -1,11 +1,13 @@
 //! Items that were read: their texts, orders and copies, and whether they are the same.
 use crate::met::{Met, answered, strictly};
-use crate::texts::{TWO_ITEMS, TWO_TEXTS, replacement_text};
+use crate::texts::{
+    ATTRIBUTES, ATTRIBUTES_TEXT, TWO_ITEMS, TWO_TEXTS, left_hand_side_text, replacement_text,
+};
 use souper_format::command::Kind;
 use souper_format::items::read_items;
 use souper_format::same::same;
 use souper_ir::ast::{Arena, Replacement, Statement};
-use souper_ir::parse::parse_replacements_str;
+use souper_ir::parse::{parse_left_hand_sides_str, parse_replacements_str};
 use souper_ir::stringify::{DisplayWithContext, TextError};
 use std::alloc::Global;
 use std::process::Abort;
@@ -138,6 +140,59 @@ fn copying_answers(rt: HostRuntime) -> Result<(), Fail> {
 #[test]
 fn copying(rt: HostRuntime) -> Result<(), Fail> {
     copies(&rt, rt.alloc())?;
+    Ok(())
+}
+
+// Writes the text of the item with attributes.
+fn attributes_text(rt: &impl Abort, alloc: Global) -> Result<Met, Fail> {
+    let Ok(items) = parse_left_hand_sides_str(alloc, ATTRIBUTES, None) else {
+        return Ok(Met::Unreached);
+    };
+    match items.first().ok_or("no item")?.to_text() {
+        Ok(text) => {
+            assert_eq!(rt; text.as_str(), ATTRIBUTES_TEXT);
+            Ok(answered(alloc))
+        }
+        Err(error) => {
+            assert!(rt; error == TextError::OutOfMemory);
+            Ok(Met::Refused)
+        }
+    }
+}
+
+#[test]
+fn writing_attributes_answers(rt: HostRuntime) -> Result<(), Fail> {
+    strictly(attributes_text(&rt, rt.alloc())?)
+}
+
+#[test]
+fn writing_attributes(rt: HostRuntime) -> Result<(), Fail> {
+    attributes_text(&rt, rt.alloc())?;
+    Ok(())
+}
+
+// Copies the item with attributes.
+fn attributes_copy(rt: &impl Abort, alloc: Global) -> Result<Met, Fail> {
+    let Ok(items) = parse_left_hand_sides_str(alloc, ATTRIBUTES, None) else {
+        return Ok(Met::Unreached);
+    };
+    let Ok(copy) = items.first().ok_or("no item")?.clone() else {
+        return Ok(Met::Refused);
+    };
+    let met = answered(alloc);
+    let text = left_hand_side_text(&copy)?;
+    assert_eq!(rt; text.as_str(), ATTRIBUTES_TEXT);
+    Ok(met)
+}
+
+#[test]
+fn copying_attributes_answers(rt: HostRuntime) -> Result<(), Fail> {
+    strictly(attributes_copy(&rt, rt.alloc())?)
+}
+
+#[test]
+fn copying_attributes(rt: HostRuntime) -> Result<(), Fail> {
+    attributes_copy(&rt, rt.alloc())?;
     Ok(())
 }
 
