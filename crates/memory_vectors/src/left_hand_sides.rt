@@ -1,0 +1,189 @@
+//! Builders of left-hand sides. Each call is made where the arena has no room left.
+ghost use Rattle.std.specs.Prelude.{map, slice_get, ◌<◌, IfOk};
+ghost use Rattle.souper_graph.specs.Faults.{IsBlock};
+ghost use Rattle.souper_graph.specs.View.{view_statement};
+ghost use Rattle.souper_graph.specs.WellFormed.{predecessors_at};
+
+use crate::growing::{holds, met, name, number};
+use crate::met::{Met, strictly};
+use souper_ir::ast::{AssignmentRhs, BlockId, LeftHandSide, LeftHandSideBuilder, Type};
+use std::alloc::{AllocError, Global};
+use std::process::Abort;
+use std::test::Fail;
+
+// A builder of a block of two ways and three conditions.
+fn filled(alloc: Global) -> Result<(LeftHandSideBuilder, BlockId), AllocError>
+    ensures block { IfOk result (λ filled. IsBlock (slice_get (map view_statement filled.0) filled.1)) }
+    ensures ways { IfOk result (λ filled. 1 < predecessors_at (map view_statement filled.0) filled.1) }
+{
+    let mut builder = LeftHandSideBuilder::new(alloc);
+    let block = builder.block(None, 2)?;
+    builder.pc(number(1), number(1))?;
+    builder.pc(number(2), number(2))?;
+    builder.pc(number(3), number(3))?;
+    Ok((builder, block))
+}
+
+// The item has the statements of `filled`, and the one of the line where the call put it.
+fn ends(
+    rt: &impl Abort,
+    alloc: Global,
+    item: &LeftHandSide,
+    line: &str,
+    met: &Met,
+) -> Result<(), Fail> {
+    let lines = ["%0 = block 2\n", "pc 1 1\n", "pc 2 2\n", "pc 3 3\n", line];
+    holds(rt, alloc, &item.statements, &lines, met)
+}
+
+// Puts a named assignment.
+fn named_assignment(rt: &impl Abort, alloc: Global) -> Result<Met, Fail> {
+    let Ok((mut builder, block)) = filled(alloc) else {
+        return Ok(Met::Unreached);
+    };
+    let Ok(name) = name(alloc, "%x") else {
+        return Ok(Met::Unreached);
+    };
+    let ty = Some(Type { width: 8 });
+    let met = met(
+        alloc,
+        builder
+            .assignment(name, ty, AssignmentRhs::Var, Vec::new(alloc))
+            .is_ok(),
+    );
+    let item = builder.finish(block.into(), Vec::new(alloc));
+    ends(rt, alloc, &item, "%x:i8 = var\n", &met)?;
+    Ok(met)
+}
+
+#[test]
+fn putting_a_named_assignment_answers(rt: HostRuntime) -> Result<(), Fail> {
+    strictly(named_assignment(&rt, rt.alloc())?)
+}
+
+#[test]
+fn putting_a_named_assignment(rt: HostRuntime) -> Result<(), Fail> {
+    named_assignment(&rt, rt.alloc())?;
+    Ok(())
+}
+
+// Puts an unnamed assignment.
+fn unnamed_assignment(rt: &impl Abort, alloc: Global) -> Result<Met, Fail> {
+    let Ok((mut builder, block)) = filled(alloc) else {
+        return Ok(Met::Unreached);
+    };
+    let met = met(
+        alloc,
+        builder
+            .assignment(None, None, AssignmentRhs::Var, Vec::new(alloc))
+            .is_ok(),
+    );
+    let item = builder.finish(block.into(), Vec::new(alloc));
+    ends(rt, alloc, &item, "%4 = var\n", &met)?;
+    Ok(met)
+}
+
+#[test]
+fn putting_an_unnamed_assignment_answers(rt: HostRuntime) -> Result<(), Fail> {
+    strictly(unnamed_assignment(&rt, rt.alloc())?)
+}
+
+#[test]
+fn putting_an_unnamed_assignment(rt: HostRuntime) -> Result<(), Fail> {
+    unnamed_assignment(&rt, rt.alloc())?;
+    Ok(())
+}
+
+// Puts a named block.
+fn named_block(rt: &impl Abort, alloc: Global) -> Result<Met, Fail> {
+    let Ok((mut builder, block)) = filled(alloc) else {
+        return Ok(Met::Unreached);
+    };
+    let Ok(name) = name(alloc, "%b") else {
+        return Ok(Met::Unreached);
+    };
+    let met = met(alloc, builder.block(name, 7).is_ok());
+    let item = builder.finish(block.into(), Vec::new(alloc));
+    ends(rt, alloc, &item, "%b = block 7\n", &met)?;
+    Ok(met)
+}
+
+#[test]
+fn putting_a_named_block_answers(rt: HostRuntime) -> Result<(), Fail> {
+    strictly(named_block(&rt, rt.alloc())?)
+}
+
+#[test]
+fn putting_a_named_block(rt: HostRuntime) -> Result<(), Fail> {
+    named_block(&rt, rt.alloc())?;
+    Ok(())
+}
+
+// Puts an unnamed block.
+fn unnamed_block(rt: &impl Abort, alloc: Global) -> Result<Met, Fail> {
+    let Ok((mut builder, block)) = filled(alloc) else {
+        return Ok(Met::Unreached);
+    };
+    let met = met(alloc, builder.block(None, 7).is_ok());
+    let item = builder.finish(block.into(), Vec::new(alloc));
+    ends(rt, alloc, &item, "%4 = block 7\n", &met)?;
+    Ok(met)
+}
+
+#[test]
+fn putting_an_unnamed_block_answers(rt: HostRuntime) -> Result<(), Fail> {
+    strictly(unnamed_block(&rt, rt.alloc())?)
+}
+
+#[test]
+fn putting_an_unnamed_block(rt: HostRuntime) -> Result<(), Fail> {
+    unnamed_block(&rt, rt.alloc())?;
+    Ok(())
+}
+
+// Puts a condition.
+fn condition(rt: &impl Abort, alloc: Global) -> Result<Met, Fail> {
+    let Ok((mut builder, block)) = filled(alloc) else {
+        return Ok(Met::Unreached);
+    };
+    let met = met(alloc, builder.pc(number(5), number(6)).is_ok());
+    let item = builder.finish(block.into(), Vec::new(alloc));
+    ends(rt, alloc, &item, "pc 5 6\n", &met)?;
+    Ok(met)
+}
+
+#[test]
+fn putting_a_condition_answers(rt: HostRuntime) -> Result<(), Fail> {
+    strictly(condition(&rt, rt.alloc())?)
+}
+
+#[test]
+fn putting_a_condition(rt: HostRuntime) -> Result<(), Fail> {
+    condition(&rt, rt.alloc())?;
+    Ok(())
+}
+
+// Puts a condition on a way.
+fn condition_on_a_way(rt: &impl Abort, alloc: Global) -> Result<Met, Fail> {
+    let Ok((mut builder, block)) = filled(alloc) else {
+        return Ok(Met::Unreached);
+    };
+    let met = met(
+        alloc,
+        builder.block_pc(block, 1, number(5), number(6)).is_ok(),
+    );
+    let item = builder.finish(block.into(), Vec::new(alloc));
+    ends(rt, alloc, &item, "blockpc %0 1 5 6\n", &met)?;
+    Ok(met)
+}
+
+#[test]
+fn putting_a_condition_on_a_way_answers(rt: HostRuntime) -> Result<(), Fail> {
+    strictly(condition_on_a_way(&rt, rt.alloc())?)
+}
+
+#[test]
+fn putting_a_condition_on_a_way(rt: HostRuntime) -> Result<(), Fail> {
+    condition_on_a_way(&rt, rt.alloc())?;
+    Ok(())
+}

@@ -1,0 +1,81 @@
+//! Runs of the formatter. The writers are arrays, which need no memory.
+use crate::met::{Met, answered, strictly};
+use souper_format::command::Kind;
+use souper_format::run::format_run;
+use souper_format::watched::Watched;
+use std::alloc::Global;
+use std::process::Abort;
+use std::test::Fail;
+
+// Whether the array was given these bytes and no others.
+fn holds(array: &[u8], bytes: &[u8]) -> bool {
+    match array.strip_prefix(bytes) {
+        Some(rest) => rest.iter().all(|byte| *byte == 0),
+        None => false,
+    }
+}
+
+// Formats the source, which ends in this status with these bytes, or in want of memory.
+fn run(
+    rt: &impl Abort,
+    alloc: Global,
+    source: &[u8],
+    want: u8,
+    output: &[u8],
+    line: &[u8],
+) -> Result<Met, Fail> {
+    let mut written = [0u8; 100];
+    let mut told = [0u8; 100];
+    let mut input = Watched::new(source);
+    let mut out = Watched::new(written.as_mut_slice());
+    let mut err = Watched::new(told.as_mut_slice());
+    let status = format_run(alloc, Kind::Lhs, &mut input, &mut out, &mut err);
+    let met = if status == want {
+        answered(alloc)
+    } else {
+        Met::Refused
+    };
+    assert!(rt; !input.failed() && !out.failed() && !err.failed());
+    if status == want {
+        assert!(rt; holds(&written, output) && holds(&told, line));
+    } else {
+        assert_eq!(rt; status, 3);
+        assert!(rt; holds(&written, b"") && holds(&told, b"out of memory\n"));
+    }
+    Ok(met)
+}
+
+// A text with an item.
+fn item(rt: &impl Abort, alloc: Global) -> Result<Met, Fail> {
+    let source = b"%a = var\n%b = var\ninfer %b";
+    run(rt, alloc, source, 0, b"%b = var\ninfer %b\n\n", b"")
+}
+
+#[test]
+fn formatting_answers(rt: HostRuntime) -> Result<(), Fail> {
+    strictly(item(&rt, rt.alloc())?)
+}
+
+#[test]
+fn formatting(rt: HostRuntime) -> Result<(), Fail> {
+    item(&rt, rt.alloc())?;
+    Ok(())
+}
+
+// A text that is refused.
+fn refusal(rt: &impl Abort, alloc: Global) -> Result<Met, Fail> {
+    let line =
+        "unknown:1:6: no value named '%x' in scope\n     |\n   1 | infer %x\n     |      ^\n";
+    run(rt, alloc, b"infer %x", 1, b"", line.as_bytes())
+}
+
+#[test]
+fn telling_a_refusal_answers(rt: HostRuntime) -> Result<(), Fail> {
+    strictly(refusal(&rt, rt.alloc())?)
+}
+
+#[test]
+fn telling_a_refusal(rt: HostRuntime) -> Result<(), Fail> {
+    refusal(&rt, rt.alloc())?;
+    Ok(())
+}

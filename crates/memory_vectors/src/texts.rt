@@ -1,0 +1,150 @@
+//! Texts that are read.
+use crate::met::{Met, answered, strictly};
+use souper_ir::ast::{LeftHandSide, Replacement};
+use souper_ir::parse::{
+    ParseError, ParseErrorKind, parse_left_hand_sides_str, parse_replacements_str,
+};
+use souper_ir::stringify::TextError;
+use std::alloc::Global;
+use std::process::Abort;
+use std::test::Fail;
+
+/// Two items, with a condition, phis and types.
+pub const TWO_ITEMS: &str =
+    "%x:i32 = var\n%2lx = slt 2, %x\npc %2lx 1\n%1lx = slt 1, %x\ncand %1lx 1\n%bb = block 3\n%phi1 = phi %bb, 1:i32, 2, 3\n%phi2 = phi %bb, 2:i32, 4, 6\n%phi1x2 = mul %phi1, 2\ncand %phi2 %phi1x2\n";
+
+/// Their texts.
+pub const TWO_TEXTS: [&str; 2] = [
+    "%x:i32 = var\n%1lx = slt 1, %x\n%2lx = slt 2, %x\npc %2lx 1\ncand %1lx 1\n",
+    "%bb = block 3\n%phi2 = phi %bb, 2:i32, 4, 6\n%phi1 = phi %bb, 1:i32, 2, 3\n%phi1x2 = mul %phi1, 2\ncand %phi2 %phi1x2\n",
+];
+
+/// An item with attributes.
+pub const ATTRIBUTES: &str =
+    "%x:i4 = var (knownBits=01x1) (signBits=1)\ninfer %x (demandedBits=0011) (harvestedFromUse)";
+
+/// Its text.
+pub const ATTRIBUTES_TEXT: &str =
+    "%x:i4 = var (knownBits=01x1) (signBits=1)\ninfer %x (demandedBits=0011) (harvestedFromUse)\n";
+
+/// The replacement's text. One request of a run is refused, so that a second try has its memory.
+pub fn replacement_text(item: &Replacement) -> Result<String, TextError> {
+    match item.to_text() {
+        Err(TextError::OutOfMemory) => item.to_text(),
+        other => other,
+    }
+}
+
+/// The left-hand side's text, in the same way.
+pub fn left_hand_side_text(item: &LeftHandSide) -> Result<String, TextError> {
+    match item.to_text() {
+        Err(TextError::OutOfMemory) => item.to_text(),
+        other => other,
+    }
+}
+
+/// The text that the error shows, in the same way.
+pub fn shown(alloc: Global, error: &ParseError) -> Result<String, Fail> {
+    match error.to_string(alloc) {
+        Ok(text) => Ok(text),
+        Err(_) => Ok(error.to_string(alloc)?),
+    }
+}
+
+/// The error is want of memory.
+pub fn wants_memory(rt: &impl Abort, alloc: Global, error: &ParseError) -> Result<(), Fail> {
+    assert!(rt; error.kind() == ParseErrorKind::Memory);
+    assert!(rt; error.offset().is_none());
+    let text = shown(alloc, error)?;
+    assert_eq!(rt; text.as_str(), "out of memory");
+    Ok(())
+}
+
+// Reads the two items.
+fn two_items(rt: &impl Abort, alloc: Global) -> Result<Met, Fail> {
+    match parse_replacements_str(alloc, TWO_ITEMS, None) {
+        Ok(items) => {
+            let met = answered(alloc);
+            assert_eq!(rt; items.len(), 2);
+            for (item, want) in items.iter().zip(&TWO_TEXTS) {
+                let text = replacement_text(item)?;
+                assert_eq!(rt; text.as_str(), *want);
+            }
+            Ok(met)
+        }
+        Err(error) => {
+            wants_memory(rt, alloc, &error)?;
+            Ok(Met::Refused)
+        }
+    }
+}
+
+#[test]
+fn reading_two_items_answers(rt: HostRuntime) -> Result<(), Fail> {
+    strictly(two_items(&rt, rt.alloc())?)
+}
+
+#[test]
+fn reading_two_items(rt: HostRuntime) -> Result<(), Fail> {
+    two_items(&rt, rt.alloc())?;
+    Ok(())
+}
+
+// Reads the item with attributes.
+fn attributes(rt: &impl Abort, alloc: Global) -> Result<Met, Fail> {
+    match parse_left_hand_sides_str(alloc, ATTRIBUTES, None) {
+        Ok(items) => {
+            let met = answered(alloc);
+            assert_eq!(rt; items.len(), 1);
+            for item in items.iter() {
+                let text = left_hand_side_text(item)?;
+                assert_eq!(rt; text.as_str(), ATTRIBUTES_TEXT);
+            }
+            Ok(met)
+        }
+        Err(error) => {
+            wants_memory(rt, alloc, &error)?;
+            Ok(Met::Refused)
+        }
+    }
+}
+
+#[test]
+fn reading_attributes_answers(rt: HostRuntime) -> Result<(), Fail> {
+    strictly(attributes(&rt, rt.alloc())?)
+}
+
+#[test]
+fn reading_attributes(rt: HostRuntime) -> Result<(), Fail> {
+    attributes(&rt, rt.alloc())?;
+    Ok(())
+}
+
+// Refuses a text that defines a name twice.
+fn name_twice(rt: &impl Abort, alloc: Global) -> Result<Met, Fail> {
+    let source = "%x = var\n%x = var\ninfer %x";
+    let Err(error) = parse_left_hand_sides_str(alloc, source, None) else {
+        return Err(Fail::new("a name is defined twice"));
+    };
+    if error.kind() != ParseErrorKind::Parse {
+        wants_memory(rt, alloc, &error)?;
+        return Ok(Met::Refused);
+    }
+    let met = answered(alloc);
+    assert!(rt; error.offset() == Some(9));
+    let text = shown(alloc, &error)?;
+    let want = "unknown:1:9: cannot redefine '%x'\n     |\n   1 | %x = var\n     |         ^";
+    assert_eq!(rt; text.as_str(), want);
+    Ok(met)
+}
+
+#[test]
+fn refusing_a_name_twice_answers(rt: HostRuntime) -> Result<(), Fail> {
+    strictly(name_twice(&rt, rt.alloc())?)
+}
+
+#[test]
+fn refusing_a_name_twice(rt: HostRuntime) -> Result<(), Fail> {
+    name_twice(&rt, rt.alloc())?;
+    Ok(())
+}
