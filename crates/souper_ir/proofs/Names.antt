@@ -1,5 +1,5 @@
 -- The map of names, as a scope grows.
-use Rattle.std.proofs.Common.{◌≡◌, ℕ, suc, ◌+◌, Bool, true, false, List, [], ◌∷◌, ◌++◌, length, Option, Some, None, refl, sym, ◌∙◌, ap, subst, arith}
+use Rattle.std.proofs.Common.{◌≡◌, ℕ, suc, ◌+◌, Bool, true, false, List, [], ◌∷◌, ◌++◌, length, Option, Some, None, refl, ◌∙◌, ap, subst, arith}
 use Rattle.std.specs.Prelude.{bytes_eq, option_map, if◌then◌else◌}
 use Rattle.std.specs.BTreeMap.{BTreeMap, Updates}
 use Rattle.std.specs.Cmp.Lexicographic.{slice_cmp}
@@ -15,7 +15,7 @@ use Rattle.souper_graph.specs.Uses.{is_condition}
 use Rattle.souper_ir.specs.Spelling.{Scope, ways_of, entry_from, entry_of, position_of}
 use Rattle.souper_ir.specs.declared.parse.names.Key.{Key}
 use Rattle.souper_ir.specs.Keys.{tail_of}
-use Rattle.souper_ir.specs.ParserView.{NamesAre, name_cmp}
+use Rattle.souper_ir.specs.ParserView.{NamesAre}
 
 -- a position, and the ways into the block that stands there
 abbrev pub Entry : Type 0
@@ -70,7 +70,6 @@ still Less r h = refl
 still Equal r h = h
 still Greater r h = refl
 
--- keys of names are equal exactly where the names are: the number follows from the name
 by_bytes : (m n : List ℕ) (b : Bool) → bytes_eq m n ≡ b → is_eq (ordering_then (nat_cmp (tail_of m) (tail_of n)) (slice_cmp nat_cmp m n)) ≡ b
 by_bytes m n true e =
     let same : m ≡ n = (bytes_eq-Decides m n).0 e in
@@ -78,6 +77,7 @@ by_bytes m n true e =
     ∙ is_eq-slice_cmp m n ∙ e
 by_bytes m n false e = still (nat_cmp (tail_of m) (tail_of n)) (slice_cmp nat_cmp m n) (is_eq-slice_cmp m n ∙ e)
 
+-- the keys of two names are equal exactly where the names are, since the number follows from the name
 is_eq-keys : (m n : List ℕ) → is_eq (ordering_then (nat_cmp (tail_of m) (tail_of n)) (slice_cmp nat_cmp m n)) ≡ bytes_eq m n
 is_eq-keys m n = by_bytes m n (bytes_eq m n) refl
 
