@@ -1,5 +1,7 @@
 //! Records of stored answers. `compare/sample/README.md` has their form.
 ghost use Rattle.std.specs.Prelude.{◌≡◌, ◌<◌, ◌++◌, ◌∷◌, length, IfSome};
+ghost use Rattle.souper_format.specs.Commands.{kind_of_word};
+ghost use Rattle.replay_answers.specs.Words.{is_refused_by_word, IsHead};
 ghost use Rattle.replay_answers.specs.Records.{IsTaken};
 
 use souper_format::command::Kind;
@@ -29,7 +31,9 @@ struct Head {
     answer_len: usize,
 }
 
-fn kind_of_word(word: &str) -> Option<Kind> {
+fn read_kind(word: &str) -> Option<Kind>
+    ensures { result ≡ kind_of_word word.now }
+{
     match word {
         "lhs" => Some(Kind::Lhs),
         "rhs" => Some(Kind::Rhs),
@@ -38,24 +42,36 @@ fn kind_of_word(word: &str) -> Option<Kind> {
     }
 }
 
-fn is_refused(status: &str) -> Option<bool> {
-    match status {
+// Whether the status is that of a text that is refused.
+fn read_status(word: &str) -> Option<bool>
+    ensures { result ≡ is_refused_by_word word.now }
+{
+    match word {
         "0" => Some(false),
         "1" => Some(true),
         _ => None,
     }
 }
 
-fn read_head(line: &str) -> Option<Head> {
-    let mut words = line.split(' ');
-    let kind = kind_of_word(words.next()?)?;
-    let is_refused = is_refused(words.next()?)?;
-    let _class = words.next()?;
-    let text_len = words.next()?.parse::<usize>().ok()?;
-    let answer_len = words.next()?.parse::<usize>().ok()?;
-    if words.next().is_some() {
-        return None;
-    }
+// What stands before the first blank, and what behind it.
+#[tactic(auto, using(std::proofs::lemmas::Str::Pattern::split_parts))]
+fn take_word(line: &str) -> Option<(&str, &str)>
+    ensures { IfSome result (λ taken. line.now ≡ taken.0.now ++ 32 ∷ taken.1.now) }
+{
+    line.split_once(' ')
+}
+
+fn read_head(line: &str) -> Option<Head>
+    ensures { IfSome result (λ head. IsHead line.now head.kind head.is_refused) }
+{
+    let (kind, rest) = take_word(line)?;
+    let (status, rest) = take_word(rest)?;
+    let (_class, rest) = take_word(rest)?;
+    let (text_len, answer_len) = take_word(rest)?;
+    let kind = read_kind(kind)?;
+    let is_refused = read_status(status)?;
+    let text_len = text_len.parse::<usize>().ok()?;
+    let answer_len = answer_len.parse::<usize>().ok()?;
     Some(Head {
         kind,
         is_refused,
