@@ -1,9 +1,10 @@
 //! Arenas, ids and the errors of a text, by calls.
 use souper_graph::ast::{
-    Arena, Assignment, AssignmentRhs, Id, Infer, LeftHandSide, Statement, ValueId,
+    Arena, Assignment, AssignmentRhs, BlockId, Id, Infer, LeftHandSide, Statement, ValueId,
 };
-use souper_graph::stringify::TextError;
-use std::alloc::{AllocError, Global};
+use souper_graph::stringify::{DisplayWithContext, TextError};
+use std::alloc::{AllocError, AllocFailed, Global};
+use std::hash::{DefaultHasher, Hash, Hasher};
 use std::test::Fail;
 
 // An arena of variables with these names.
@@ -143,9 +144,47 @@ fn text_errors_are_shown(rt: HostRuntime) -> Result<(), Fail> {
         (TextError::NotABlock(id), "statement id 1 is not a block"),
         (TextError::OutOfMemory, "out of memory"),
         (TextError::from(AllocError), "out of memory"),
+        (TextError::from(AllocFailed { value: id }), "out of memory"),
     ] {
         let shown = error.to_string(rt.alloc())?;
         assert_eq!(rt; shown.as_str(), want);
     }
+    Ok(())
+}
+
+#[test]
+fn shrunk_and_copied_arenas_keep_their_statements(rt: HostRuntime) -> Result<(), Fail> {
+    let mut statements = variables(rt.alloc(), &["%a", "%b"])?;
+    statements.shrink_to_fit();
+    assert_eq!(rt; statements.len(), 2);
+    let copy = statements.clone()?;
+    assert_eq!(rt; copy.len(), 2);
+    let mut lines = String::new(rt.alloc());
+    for (_, statement) in copy.iter() {
+        statement.clone()?.display(&copy, &mut lines)?;
+    }
+    assert_eq!(rt; lines.as_str(), "%a = var\n%b = var\n");
+    Ok(())
+}
+
+fn hash_of<T: Hash>(value: &T) -> u64 {
+    let mut hasher = DefaultHasher::new();
+    value.hash(&mut hasher);
+    hasher.finish()
+}
+
+#[test]
+fn ids_are_hashed_by_position(rt: HostRuntime) -> Result<(), Fail> {
+    let first = id_at(rt.alloc(), 0)?;
+    let again = id_at(rt.alloc(), 0)?;
+    let second = id_at(rt.alloc(), 1)?;
+    assert_eq!(rt; hash_of(&first), hash_of(&again));
+    assert_ne!(rt; hash_of(&first), hash_of(&second));
+    let (value, other) = (ValueId::from(first), ValueId::from(second));
+    assert_eq!(rt; hash_of(&value), hash_of(&ValueId::from(again)));
+    assert_ne!(rt; hash_of(&value), hash_of(&other));
+    let (block, other) = (BlockId::from(first), BlockId::from(second));
+    assert_eq!(rt; hash_of(&block), hash_of(&BlockId::from(again)));
+    assert_ne!(rt; hash_of(&block), hash_of(&other));
     Ok(())
 }

@@ -4,8 +4,8 @@ ghost use Rattle.souper_graph.specs.Building.{BeginsWithPercent};
 
 use crate::building::{number, typed};
 use souper_graph::ast::{
-    AssignmentRhs, Attribute, Instruction, LeftHandSide, LeftHandSideBuilder, Operand, Replacement,
-    ReplacementBuilder, RootAttribute, Type,
+    Arena, Assignment, AssignmentRhs, Attribute, Cand, Instruction, LeftHandSide,
+    LeftHandSideBuilder, Operand, Replacement, ReplacementBuilder, RootAttribute, Type, ValueId,
 };
 use std::alloc::Global;
 use std::test::Fail;
@@ -212,11 +212,47 @@ fn own_name_in_replacement(alloc: Global, text: &str) -> Result<String, Fail> {
     Ok(item.assignment(x).name.clone()?)
 }
 
+// The same of a replacement by `cand`.
+fn own_name_in_cand(alloc: Global, text: &str) -> Result<String, Fail> {
+    let mut statements = Arena::new(alloc);
+    let assignment = Assignment {
+        name: String::from_str(alloc, text)?,
+        ty: None,
+        value: AssignmentRhs::Var,
+        attributes: Vec::new(alloc),
+    };
+    let x = ValueId::from(statements.alloc(assignment.into())?);
+    let cand = Cand {
+        lhs: x.into(),
+        rhs: number(1),
+        attributes: Vec::new(alloc),
+    };
+    let item = Replacement::Cand { statements, cand };
+    Ok(item.assignment(x).name.clone()?)
+}
+
 #[test]
 fn values_are_got_by_their_id(rt: HostRuntime) -> Result<(), Fail> {
     let got = own_name(rt.alloc(), "%x")?;
     assert_eq!(rt; got.as_str(), "%x");
     let got = own_name_in_replacement(rt.alloc(), "%x.1")?;
     assert_eq!(rt; got.as_str(), "%x.1");
+    let got = own_name_in_cand(rt.alloc(), "%x.2")?;
+    assert_eq!(rt; got.as_str(), "%x.2");
+    Ok(())
+}
+
+// What is shown for `{:?}` is not promised, but that something is.
+#[test]
+fn builders_and_orders_have_a_debug_text(rt: HostRuntime) -> Result<(), Fail> {
+    let builder = LeftHandSideBuilder::new(rt.alloc());
+    let shown = format!(in rt.alloc(); "{builder:?}")?;
+    assert!(rt; !shown.is_empty());
+    let builder = ReplacementBuilder::new(rt.alloc());
+    let shown = format!(in rt.alloc(); "{builder:?}")?;
+    assert!(rt; !shown.is_empty());
+    let order = conditioned(rt.alloc())?.print_order()?;
+    let shown = format!(in rt.alloc(); "{order:?}")?;
+    assert!(rt; !shown.is_empty());
     Ok(())
 }

@@ -327,3 +327,43 @@ fn variables_are_copied_with_their_attributes(rt: HostRuntime) -> Result<(), Fai
     assert_eq!(rt; var.clone()?.attributes.len(), 1);
     Ok(())
 }
+
+#[test]
+fn plain_nodes_are_copied(rt: HostRuntime) -> Result<(), Fail> {
+    let (_, x, block) = two_values(rt.alloc())?;
+    assert_eq!(rt; x.clone()?, x);
+    assert_eq!(rt; block.clone()?, block);
+    assert_eq!(rt; Id::from(x).clone()?, Id::from(x));
+    let ty = Type { width: 8 };
+    assert_eq!(rt; ty.clone()?, ty);
+    let constant = Constant {
+        value: -1,
+        ty: Some(ty),
+    };
+    assert_eq!(rt; constant.clone()?, constant);
+    let (a, b) = (Operand::from(x), Operand::from(constant));
+    assert_eq!(rt; a.clone()?, a);
+    let sum = Instruction::Add { a, b };
+    assert_eq!(rt; sum.clone()?, sum);
+    let error = TextError::OutOfRange(x.into());
+    assert_eq!(rt; error.clone()?, error);
+    Ok(())
+}
+
+#[test]
+fn blocks_and_conditions_are_copied(rt: HostRuntime) -> Result<(), Fail> {
+    let (_, value, block) = two_values(rt.alloc())?;
+    let (x, y) = (Operand::from(value), number(1));
+    let pc = Pc { x, y };
+    assert_eq!(rt; pc.clone()?, pc);
+    let block_pc = BlockPc {
+        block,
+        predecessor: 1,
+        x,
+        y,
+    };
+    assert_eq!(rt; block_pc.clone()?, block_pc);
+    let block = Block { predecessors: 2 };
+    assert_eq!(rt; block.clone()?, block);
+    Ok(())
+}

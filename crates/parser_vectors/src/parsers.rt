@@ -4,7 +4,8 @@ use souper_ir::ast::{
     LeftHandSide, Operand, Pc, Phi, Replacement, RightHandSide, RootAttribute, Statement, Type,
 };
 use souper_ir::parse::{Parse, ParseError, ParseErrorKind, Parser, Peek};
-use std::alloc::Global;
+use std::alloc::{AllocError, AllocFailed, Global};
+use std::io;
 use std::process::Abort;
 use std::test::Fail;
 
@@ -360,4 +361,31 @@ fn parts_refuse_other_tokens(rt: HostRuntime) -> Result<(), Fail> {
     tells(&rt, alloc, attribute, 0, "expected '('")?;
     let assignments = parsed::<Vec<Assignment>>(alloc, "%x = var %y").err();
     tells(&rt, alloc, assignments, 10, "unexpected EOF")
+}
+
+#[test]
+fn other_faults_are_told_by_their_kind(rt: HostRuntime) -> Result<(), Fail> {
+    for error in [
+        ParseError::from(AllocError),
+        ParseError::from(AllocFailed { value: 1u8 }),
+    ] {
+        assert_eq!(rt; error.kind(), ParseErrorKind::Memory);
+        assert_eq!(rt; error.offset(), None);
+        assert_eq!(rt; error.to_string(rt.alloc())?.as_str(), "out of memory");
+    }
+    let error = ParseError::from(io::Error::from(io::ErrorKind::NotFound));
+    assert_eq!(rt; error.kind().clone()?, ParseErrorKind::Io);
+    assert_eq!(rt; error.offset(), None);
+    let shown = error.to_string(rt.alloc())?;
+    assert!(rt; shown.as_str().starts_with("IO error: "));
+    Ok(())
+}
+
+// What is shown for `{:?}` is not promised, but that something is.
+#[test]
+fn parsers_have_a_debug_text(rt: HostRuntime) -> Result<(), Fail> {
+    let parser = Parser::new(rt.alloc(), "infer %x");
+    let shown = format!(in rt.alloc(); "{parser:?}")?;
+    assert!(rt; !shown.is_empty());
+    Ok(())
 }

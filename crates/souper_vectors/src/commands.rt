@@ -19,6 +19,7 @@ fn command(alloc: Global, words: &[&str]) -> Result<Option<Command>, AllocError>
 fn kinds_are_commands(rt: HostRuntime) -> Result<(), Fail> {
     for (word, kind) in [("lhs", Kind::Lhs), ("rhs", Kind::Rhs), ("rep", Kind::Rep)] {
         assert_eq!(rt; command(rt.alloc(), &[word])?, Some(Command::Format(kind)));
+        assert_eq!(rt; kind.clone()?, kind);
     }
     Ok(())
 }

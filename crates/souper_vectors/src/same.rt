@@ -116,3 +116,13 @@ fn empty_lists_are_same_within_a_kind(rt: HostRuntime) -> Result<(), Fail> {
     assert!(rt; !same(rt.alloc(), &rhs, &lhs)?);
     Ok(())
 }
+
+#[test]
+fn right_hand_sides_are_compared(rt: HostRuntime) -> Result<(), Fail> {
+    let a = "%a = var\n%b = var\n%c = sub %a, %b\nresult %c";
+    let b = "%b = var\n%a = var\n%c = sub %a, %b\nresult %c";
+    let other = "%b = var\n%a = var\n%c = sub %b, %a\nresult %c";
+    assert!(rt; are_same(rt.alloc(), Kind::Rhs, a, b)?);
+    assert!(rt; !are_same(rt.alloc(), Kind::Rhs, a, other)?);
+    Ok(())
+}

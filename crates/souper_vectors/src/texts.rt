@@ -1,6 +1,6 @@
 //! Texts that are read, and the texts of their items.
 use souper_format::command::Kind;
-use souper_format::items::format_text;
+use souper_format::items::{format_text, read_items};
 use souper_ir::parse::parse_left_hand_sides_str;
 use std::alloc::{AllocError, Global};
 use std::process::Abort;
@@ -127,5 +127,19 @@ fn second_definition_among_a_thousand_is_refused(rt: HostRuntime) -> Result<(), 
     let want =
         "unknown:1000:11: cannot redefine '%500'\n     |\n1000 | %999 = var\n     |           ^";
     assert_eq!(rt; shown.as_str(), want);
+    Ok(())
+}
+
+// What is shown for `{:?}` is not promised, but that something is.
+#[test]
+fn items_have_a_debug_text(rt: HostRuntime) -> Result<(), Fail> {
+    let lhs =
+        "%b = block 1\n%x:i8 = phi %b, 1 (nonZero)\nblockpc %b 0 %x 2\npc %x 1\ninfer %x (harvestedFromUse)";
+    let rep = "%x = var\n%y = add %x, 1\ninfer %y\nresult %x\ncand 1, 2";
+    for (kind, source) in [(Kind::Lhs, lhs), (Kind::Rhs, "result 1"), (Kind::Rep, rep)] {
+        let items = read_items(rt.alloc(), kind, source, None)?;
+        let shown = format!(in rt.alloc(); "{items:?}")?;
+        assert!(rt; !shown.is_empty(), "in {source:?}");
+    }
     Ok(())
 }

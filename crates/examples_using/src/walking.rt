@@ -1,0 +1,91 @@
+//! Walking the statements of an item.
+ghost use Rattle.std.specs.Prelude.{◌≡◌, IfOk};
+ghost use Rattle.souper_graph.specs.Uses.{conditions};
+ghost use Rattle.souper_graph.specs.View.{view_left_hand_side};
+
+use souper_ir::ast::{Arena, AssignmentRhs, Id, LeftHandSide, Operand, Statement, ValueId};
+use souper_ir::stringify::TextError;
+use std::alloc::{AllocError, Global};
+
+/// The name of a value.
+pub fn name_of(statements: &Arena<Statement>, value: ValueId) -> Option<&str> {
+    match statements.get(value.into()) {
+        Some(Statement::Assignment(assignment)) => Some(assignment.name.as_str()),
+        _ => None,
+    }
+}
+
+/// A line for each instruction: the position of its statement, its word, and what its operands refer to.
+pub fn instructions(alloc: Global, item: &LeftHandSide) -> Result<String, AllocError> {
+    let mut lines = String::new(alloc);
+    for (id, statement) in item.statements.iter() {
+        let Statement::Assignment(assignment) = statement else {
+            continue;
+        };
+        let AssignmentRhs::Instruction(instruction) = &assignment.value else {
+            continue;
+        };
+        let (index, word) = (id.index(), instruction.instruction_name());
+        write!(lines, "{index}: {word}")?;
+        for operand in instruction.operands().as_slice() {
+            match operand {
+                Operand::Value(value) => {
+                    let name = name_of(&item.statements, *value).unwrap_or("nothing");
+                    write!(lines, " {name}")?;
+                }
+                Operand::Constant(constant) => write!(lines, " {constant}")?,
+            }
+        }
+        lines.push('\n')?;
+    }
+    Ok(lines)
+}
+
+/// The path conditions, in order.
+#[tactic(auto, using(crate::proofs::Conditions::all_conditions), unfolding(crate::proofs::Conditions::conditions_among))]
+pub fn path_conditions(alloc: Global, item: &LeftHandSide) -> Result<Vec<Id<Statement>>, AllocError>
+    ensures { IfOk result (λ ids. ids.items ≡ conditions (view_left_hand_side item.now)) }
+{
+    let mut ids = Vec::new(alloc);
+    for (id, statement) in item.statements.iter() {
+        match statement {
+            Statement::Assignment(_) => {}
+            Statement::Pc(_) => ids.push(id)?,
+            Statement::BlockPc(_) => ids.push(id)?,
+        }
+    }
+    Ok(ids)
+}
+
+/// The names of the values that are needed, in the order in which they are printed.
+pub fn needed_names<'a>(alloc: Global, item: &'a LeftHandSide) -> Result<Vec<&'a str>, TextError> {
+    let order = item.print_order()?;
+    let mut names = Vec::new(alloc);
+    for id in &order.ids {
+        if let Some(name) = name_of(&item.statements, ValueId::from(*id)) {
+            names.push(name)?;
+        }
+    }
+    Ok(names)
+}
+
+#[cfg(test)]
+mod tests {
+    use super::*;
+    use crate::reading::read_one;
+    use std::test::Fail;
+
+    #[test]
+    fn statements_are_walked(rt: HostRuntime) -> Result<(), Fail> {
+        let source = "%x:i8 = var\n%b = var\n%y = mul %x, 2:i8\n%a = slt 0, %y\npc %a 1\ninfer %y";
+        let item = read_one(rt.alloc(), source)?.ok_or("not one")?;
+        let lines = instructions(rt.alloc(), &item)?;
+        assert_eq!(rt; lines.as_str(), "2: mul %x 2:i8\n3: slt 0 %y\n");
+        let conditions = path_conditions(rt.alloc(), &item)?;
+        assert_eq!(rt; conditions.len(), 1);
+        assert_eq!(rt; conditions[0].index(), 4);
+        let names = needed_names(rt.alloc(), &item)?;
+        assert_eq!(rt; names.as_slice(), ["%x", "%y", "%a"].as_slice());
+        Ok(())
+    }
+}

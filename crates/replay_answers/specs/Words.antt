@@ -1,0 +1,16 @@
+-- The first words of a record's head.
+use Rattle.std.specs.Prelude.{◌≡◌, ℕ, List, ◌∷◌, ◌++◌, Bool, true, false, Option, Some, None, if◌then◌else◌, codes, bytes_eq}
+use Rattle.souper_format.specs.declared.command.Kind.{Kind}
+use Rattle.souper_format.specs.Commands.{kind_of_word}
+
+-- the status 1 is that of a text that is refused, 0 that of another
+abbrev pub is_refused_by_word : List ℕ → Option Bool
+is_refused_by_word word =
+    if bytes_eq word (codes "0") then Some false else (
+    if bytes_eq word (codes "1") then Some true else None)
+
+-- the line begins with a word for the kind and one for the status, with a blank behind each
+abbrev pub IsHead : List ℕ → Kind → Bool → Type 0
+IsHead line kind is_refused =
+    (word : List ℕ) × (status : List ℕ) × (rest : List ℕ) × (line ≡ word ++ 32 ∷ (status ++ 32 ∷ rest))
+    × (kind_of_word word ≡ Some kind) × (is_refused_by_word status ≡ Some is_refused)

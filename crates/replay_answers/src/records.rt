@@ -1,0 +1,114 @@
+//! Records of stored answers. `compare/sample/README.md` has their form.
+ghost use Rattle.std.specs.Prelude.{◌≡◌, ◌<◌, ◌++◌, ◌∷◌, length, IfSome};
+ghost use Rattle.souper_format.specs.Commands.{kind_of_word};
+ghost use Rattle.replay_answers.specs.Words.{is_refused_by_word, IsHead};
+ghost use Rattle.replay_answers.specs.Records.{IsTaken};
+
+use souper_format::command::Kind;
+
+/// A text, and the answer to it that is stored.
+#[derive(Clone, Copy)]
+pub struct Record<'a> {
+    /// Which items the text is read as.
+    pub kind: Kind,
+
+    /// Whether the text is refused: then the answer is the error, else the canonical texts.
+    pub is_refused: bool,
+
+    /// What is given.
+    pub text: &'a str,
+
+    /// What is answered.
+    pub answer: &'a str,
+}
+
+// The first line of a record.
+#[derive(Clone, Copy)]
+struct Head {
+    kind: Kind,
+    is_refused: bool,
+    text_len: usize,
+    answer_len: usize,
+}
+
+fn read_kind(word: &str) -> Option<Kind>
+    ensures { result ≡ kind_of_word word.now }
+{
+    match word {
+        "lhs" => Some(Kind::Lhs),
+        "rhs" => Some(Kind::Rhs),
+        "rep" => Some(Kind::Rep),
+        _ => None,
+    }
+}
+
+// Whether the status is that of a text that is refused.
+fn read_status(word: &str) -> Option<bool>
+    ensures { result ≡ is_refused_by_word word.now }
+{
+    match word {
+        "0" => Some(false),
+        "1" => Some(true),
+        _ => None,
+    }
+}
+
+// What stands before the first blank, and what behind it.
+#[tactic(auto, using(std::proofs::lemmas::Str::Pattern::split_parts))]
+fn take_word(line: &str) -> Option<(&str, &str)>
+    ensures { IfSome result (λ taken. line.now ≡ taken.0.now ++ 32 ∷ taken.1.now) }
+{
+    line.split_once(' ')
+}
+
+fn read_head(line: &str) -> Option<Head>
+    ensures { IfSome result (λ head. IsHead line.now head.kind head.is_refused) }
+{
+    let (kind, rest) = take_word(line)?;
+    let (status, rest) = take_word(rest)?;
+    let (_class, rest) = take_word(rest)?;
+    let (text_len, answer_len) = take_word(rest)?;
+    let kind = read_kind(kind)?;
+    let is_refused = read_status(status)?;
+    let text_len = text_len.parse::<usize>().ok()?;
+    let answer_len = answer_len.parse::<usize>().ok()?;
+    Some(Head {
+        kind,
+        is_refused,
+        text_len,
+        answer_len,
+    })
+}
+
+// So many bytes as text, and what stands behind the newline that follows them.
+fn take_text(bytes: &[u8], len: usize) -> Option<(&str, &[u8])>
+    ensures { IfSome result (λ taken. bytes.now ≡ taken.0.now ++ 10 ∷ taken.1.now) }
+{
+    if bytes.len() < len {
+        return None;
+    }
+    let (text, rest) = bytes.split_at(len);
+    match rest {
+        [b'\n', rest @ ..] => Some((str::from_utf8(text).ok()?, rest)),
+        _ => None,
+    }
+}
+
+/// The record that the bytes begin with, and what follows it. None where they begin with no record.
+pub fn take_record(bytes: &[u8]) -> Option<(Record<'_>, &[u8])>
+    ensures taken { IfSome result (λ taken. IsTaken bytes.now taken.0 taken.1.now) }
+    ensures shorter { IfSome result (λ taken. length taken.1.now < length bytes.now) }
+{
+    let end = bytes.iter().position(|byte| *byte == b'\n')?;
+    let (head, rest) = take_text(bytes, end)?;
+    let head = read_head(head)?;
+    let (text, rest) = take_text(rest, head.text_len)?;
+    let (answer, rest) = take_text(rest, head.answer_len)?;
+    let record = Record {
+        kind: head.kind,
+        is_refused: head.is_refused,
+        text,
+        answer,
+    };
+    Some((record, rest))
+}
