@@ -14,6 +14,8 @@ mod files;
 #[cfg(test)]
 mod grammar;
 #[cfg(test)]
+mod refusals;
+#[cfg(test)]
 mod runs;
 #[cfg(test)]
 mod same;
