@@ -6,6 +6,8 @@
 #[cfg(test)]
 mod commands;
 #[cfg(test)]
+mod cut_texts;
+#[cfg(test)]
 mod cuts;
 #[cfg(test)]
 mod errors;
