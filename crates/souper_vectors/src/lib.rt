@@ -4,6 +4,8 @@
 #![tactic(auto)]
 
 #[cfg(test)]
+mod changed;
+#[cfg(test)]
 mod commands;
 #[cfg(test)]
 mod cut_texts;
@@ -15,6 +17,8 @@ mod errors;
 mod files;
 #[cfg(test)]
 mod grammar;
+#[cfg(test)]
+mod orders;
 #[cfg(test)]
 mod refusals;
 #[cfg(test)]
