@@ -1,8 +1,14 @@
 //! Texts that are cut off, and a long one.
+use crate::cut_texts::{
+    ATTRIBUTES, BLOCKS, DEFINITIONS, FAULTY_ATTRIBUTES, NAMES, PAIRS, PRINTED, RESULTS,
+    RIGHT_HAND_SIDES, VALUES, WAYS,
+};
+use crate::grammar::{ones, words};
 use souper_format::command::Kind;
 use souper_format::items::read_items;
 use souper_ir::parse::{ParseErrorKind, parse_left_hand_sides_str};
 use std::alloc::{AllocError, Global};
+use std::process::Abort;
 use std::test::Fail;
 
 const SOURCE: &str = "%a = var\n%b = var\ninfer %b";
@@ -68,52 +74,14 @@ fn empty_front_and_whole_text_are_read(rt: HostRuntime) -> Result<(), Fail> {
     Ok(())
 }
 
-// Texts of each kind, with every form of the grammar.
-const TEXTS: [(Kind, &str); 12] = [
-    (
-        Kind::Rep,
-        "%x:i32 = var\n%2lx = slt 2, %x\npc %2lx 1\n%1lx = slt 1, %x\ncand %1lx 1\n",
-    ),
-    (
-        Kind::Rep,
-        "%bb = block 3\n%phi1 = phi %bb, 1:i32, 2, 3\n%phi2 = phi %bb, 2:i32, 4, 6\n\
-         %phi1x2 = mul %phi1, 2\ncand %phi2 %phi1x2\n",
-    ),
-    (
-        Kind::Rep,
-        "%x = var\ninfer %x\n%y = var\npc %y 1\nresult %y",
-    ),
-    (Kind::Rep, "%x = var\ninfer %x\nresult 1:i8"),
-    (Kind::Rep, "cand 1:i8,-2"),
-    (Kind::Rhs, "%x = var\npc %x 1\nresult 007:i008"),
-    (
-        Kind::Rhs,
-        "result 1\nresult 170141183460469231731687303715884105728",
-    ),
-    (
-        Kind::Lhs,
-        "%bb = block 2\n%x:i8 = var\nblockpc %bb 1 %x -1\ninfer %x",
-    ),
-    (
-        Kind::Lhs,
-        "%x:i4 = var (knownBits=01x1) (signBits=1)\ninfer %x (demandedBits=0011) (harvestedFromUse)",
-    ),
-    (
-        Kind::Lhs,
-        "%x = var\u{3000}( range = [ -1 , 5 ) ) ;\u{e9}\ninfer %x",
-    ),
-    (Kind::Lhs, "%x = select 1, 2, -3 (nonZero)\ninfer %x"),
-    (Kind::Lhs, "\u{e9}%\u{e9} = var ]"),
-];
-
-#[test]
-fn each_front_is_read_or_refused_within_it(rt: HostRuntime) -> Result<(), Fail> {
-    for (kind, source) in TEXTS {
+// Each front of each text is read, or refused within it.
+fn cuts(rt: &impl Abort, alloc: Global, kind: Kind, texts: &[&str]) -> Result<(), Fail> {
+    for source in texts {
         for len in 0..=source.len() {
             let Some(front) = source.get(..len) else {
                 continue;
             };
-            if let Err(error) = read_items(rt.alloc(), kind, front, None) {
+            if let Err(error) = read_items(alloc, kind, front, None) {
                 assert_eq!(rt;
                     error.kind(),
                     ParseErrorKind::Parse,
@@ -127,6 +95,40 @@ fn each_front_is_read_or_refused_within_it(rt: HostRuntime) -> Result<(), Fail> 
     Ok(())
 }
 
+#[test]
+fn fronts_of_left_hand_sides_are_read_or_refused(rt: HostRuntime) -> Result<(), Fail> {
+    cuts(&rt, rt.alloc(), Kind::Lhs, &VALUES)?;
+    cuts(&rt, rt.alloc(), Kind::Lhs, &BLOCKS)?;
+    cuts(&rt, rt.alloc(), Kind::Lhs, &ATTRIBUTES)
+}
+
+#[test]
+fn fronts_of_refused_texts_are_read_or_refused(rt: HostRuntime) -> Result<(), Fail> {
+    cuts(&rt, rt.alloc(), Kind::Lhs, &NAMES)?;
+    cuts(&rt, rt.alloc(), Kind::Lhs, &WAYS)?;
+    cuts(&rt, rt.alloc(), Kind::Lhs, &DEFINITIONS)?;
+    cuts(&rt, rt.alloc(), Kind::Lhs, &FAULTY_ATTRIBUTES)
+}
+
+#[test]
+fn fronts_of_other_items_are_read_or_refused(rt: HostRuntime) -> Result<(), Fail> {
+    cuts(&rt, rt.alloc(), Kind::Rhs, &RIGHT_HAND_SIDES)?;
+    cuts(&rt, rt.alloc(), Kind::Rep, &RESULTS)?;
+    cuts(&rt, rt.alloc(), Kind::Rep, &PAIRS)?;
+    cuts(&rt, rt.alloc(), Kind::Rep, &PRINTED)
+}
+
+#[test]
+fn fronts_of_instructions_are_read_or_refused(rt: HostRuntime) -> Result<(), Fail> {
+    let alloc = rt.alloc();
+    for (word, count) in words() {
+        let operands = ones(alloc, count)?;
+        let source = format!(in alloc; "%x = {word}{operands}\ninfer %x")?;
+        cuts(&rt, alloc, Kind::Lhs, &[source.as_str()])?;
+    }
+    Ok(())
+}
+
 fn blanks(alloc: Global, count: u32) -> Result<String, AllocError> {
     let mut text = String::new(alloc);
     for _ in 0..count {
@@ -135,20 +137,26 @@ fn blanks(alloc: Global, count: u32) -> Result<String, AllocError> {
     Ok(text)
 }
 
-#[test]
-fn marker_stands_far_to_the_right(rt: HostRuntime) -> Result<(), Fail> {
-    let alloc = rt.alloc();
+// A word far to the right is refused, and the marker stands below it.
+fn refuses_far(rt: &impl Abort, alloc: Global, kind: Kind, wanted: &str) -> Result<(), Fail> {
     let mut source = blanks(alloc, 70_000)?;
     source.push('x')?;
-    let error = parse_left_hand_sides_str(alloc, source.as_str(), None)
+    let error = read_items(alloc, kind, source.as_str(), None)
         .err()
         .ok_or("no refusal")?;
+    assert_eq!(rt; error.kind(), ParseErrorKind::Parse);
     assert_eq!(rt; error.offset(), Some(70_000));
     let shown = error.to_string(alloc)?;
     let margin = blanks(alloc, 69_999)?;
     let want = format!(in alloc;
-        "unknown:1:70000: expected 'infer'\n     |\n   1 | {source}\n     | {margin}^"
+        "unknown:1:70000: expected '{wanted}'\n     |\n   1 | {source}\n     | {margin}^"
     )?;
     assert!(rt; shown == want, "{} bytes are shown", shown.len());
     Ok(())
+}
+
+#[test]
+fn marker_stands_far_to_the_right(rt: HostRuntime) -> Result<(), Fail> {
+    refuses_far(&rt, rt.alloc(), Kind::Rhs, "result")?;
+    refuses_far(&rt, rt.alloc(), Kind::Lhs, "infer")
 }

@@ -6,8 +6,8 @@ use std::alloc::Global;
 use std::process::Abort;
 use std::test::Fail;
 
-// The error is a refusal at the offset, and shows the text.
-fn tells(
+/// The error is a refusal at the offset, and shows the text.
+pub fn tells(
     rt: &impl Abort,
     alloc: Global,
     error: &ParseError,

@@ -93,24 +93,19 @@ fn files_are_compared(rt: HostRuntime) -> Result<(), Fail> {
         "third",
         "%a = var\n%b = var\n%c = add %b, %a\ninfer %c",
     )?;
-    for (path, want) in [
-        ("first", "same\n"),
-        ("second", "same\n"),
-        ("third", "different\n"),
+    fs::write(&rt, "variable", "%a = var\ninfer %a")?;
+    fs::write(&rt, "renamed", "%b = var\ninfer %b")?;
+    for (first, path, want) in [
+        ("first", "first", "same\n"),
+        ("first", "second", "same\n"),
+        ("first", "third", "different\n"),
+        ("variable", "renamed", "different\n"),
     ] {
         let mut written = Vec::new(rt.alloc());
         let mut told = Vec::new(rt.alloc());
         let mut out = Watched::new(&mut written);
         let mut err = Watched::new(&mut told);
-        let status = same_run(
-            &rt,
-            rt.alloc(),
-            Kind::Lhs,
-            "first",
-            path,
-            &mut out,
-            &mut err,
-        );
+        let status = same_run(&rt, rt.alloc(), Kind::Lhs, first, path, &mut out, &mut err);
         assert_eq!(rt; status, 0, "for {path}");
         assert_eq!(rt; written.as_slice(), want.as_bytes(), "for {path}");
         assert!(rt; told.is_empty(), "for {path}");

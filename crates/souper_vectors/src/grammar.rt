@@ -1,8 +1,7 @@
-//! Texts of the three kinds: what is read and printed, and what is refused.
+//! Texts of the three kinds that are read and printed.
 use souper_format::command::Kind;
 use souper_format::items::{Items, format_text, read_items};
 use souper_ir::ast::{LeftHandSide, Replacement, RightHandSide};
-use souper_ir::parse::ParseErrorKind;
 use std::alloc::{AllocError, Global};
 use std::process::Abort;
 use std::test::Fail;
@@ -92,27 +91,6 @@ fn prints_itself(rt: &impl Abort, alloc: Global, kind: Kind, source: &str) -> Re
     let mut text = String::from_str(alloc, source)?;
     text.push('\n')?;
     reads(rt, alloc, kind, source, &[text.as_str()])
-}
-
-// The source is refused at the offset, and what is shown begins so.
-fn refuses(
-    rt: &impl Abort,
-    alloc: Global,
-    kind: Kind,
-    source: &str,
-    offset: usize,
-    first: &str,
-) -> Result<(), Fail> {
-    let error = match read_items(alloc, kind, source, None) {
-        Ok(_) => return Err(Fail::new("no refusal")),
-        Err(error) => error,
-    };
-    assert_eq!(rt; error.kind(), ParseErrorKind::Parse, "in {source:?}");
-    let shown = error.to_string(alloc)?;
-    let line = shown.as_str().lines().next().ok_or("no line")?;
-    assert!(rt; line.starts_with(first), "{line:?} in {source:?}");
-    assert_eq!(rt; error.offset(), Some(offset), "in {source:?}");
-    Ok(())
 }
 
 #[test]
@@ -237,12 +215,6 @@ fn numbers_are_read(rt: HostRuntime) -> Result<(), Fail> {
         source.as_str(),
         &["result 1:i65535"],
     )?;
-    for (source, offset) in [
-        ("result 170141183460469231731687303715884105728", 7),
-        ("result -", 7),
-    ] {
-        refuses(&rt, rt.alloc(), Kind::Rhs, source, offset, "unknown:1:7: ")?;
-    }
     reads(
         &rt,
         rt.alloc(),
@@ -261,6 +233,8 @@ fn attributes_are_read(rt: HostRuntime) -> Result<(), Fail> {
         "%bb = block 0\n%p = phi %bb\ninfer %p",
         "%b = block 1\n%a = add %b, 1\ninfer %a",
         "%x = var (signBits=255)\ninfer %x",
+        "%b = block 4294967295\ninfer %b",
+        "%x:i65535 = var\ninfer %x",
         "%x = var (powerOfTwo) (nonNegative) (hasExternalUses) (range=[-1,5))\ninfer %x",
         "%x = var (range=[-170141183460469231731687303715884105728,170141183460469231731687303715884105727))\ninfer %x",
     ] {
@@ -289,147 +263,14 @@ fn comma_may_stand_in_cand(rt: HostRuntime) -> Result<(), Fail> {
     let source = "\n;; 1\n%0 = var\n%1 = add %0, %0\n%2 = mul %0, 2\n    cand %1, %2\n\n\
                   %0 = var\n%1 = and %0, %0\n    cand %1, %0\n";
     reads(&rt, alloc, Kind::Rep, source, &[first, second])?;
-    reads(&rt, alloc, Kind::Rep, "cand 1:i8,-2", &["cand 1:i8 -2\n"])?;
-    for (source, offset, line) in [
-        ("cand 1,,2", 7, "unknown:1:7: expected an integer literal"),
-        ("cand , 1 2", 5, "unknown:1:5: expected an integer literal"),
-        ("cand 1 2,", 8, "unknown:1:8: expected 'cand'"),
-        ("cand 1,", 6, "unknown:1:6: unexpected EOF"),
-        (
-            "pc 1, 2\ncand 1 2",
-            4,
-            "unknown:1:4: expected an integer literal",
-        ),
-    ] {
-        refuses(&rt, alloc, Kind::Rep, source, offset, line)?;
-    }
-    Ok(())
+    let source = "\n;; 1\n%0 = var\n%1 = add %0, %0\n%2 = mul %0, 2\n    cand %1 %2\n\n\
+                  %0 = var\n%1 = and %0, %0\n    cand %1 %0\n";
+    reads(&rt, alloc, Kind::Rep, source, &[first, second])?;
+    reads(&rt, alloc, Kind::Rep, "cand 1:i8,-2", &["cand 1:i8 -2\n"])
 }
 
-#[test]
-fn ways_into_blocks_are_judged(rt: HostRuntime) -> Result<(), Fail> {
-    for (source, offset, line) in [
-        (
-            "%bb = block 2\n%x = var\nblockpc %bb 2 %x 1\ninfer %x",
-            35,
-            "unknown:3:12: predecessor 2 out of range for block '%bb'",
-        ),
-        (
-            "%bb = block 0\nblockpc %bb 0 1 1\ninfer %bb",
-            26,
-            "unknown:2:12: predecessor 0 out of range for block '%bb'",
-        ),
-        (
-            "%bb = block 2\n%p = phi %bb, 1\ninfer %p",
-            30,
-            "unknown:2:16: expected ','",
-        ),
-        (
-            "%b = block 4294967295\n%p = phi %b, 1\ninfer %p",
-            37,
-            "unknown:2:15: expected ','",
-        ),
-        ("%b = block 4294967296\ninfer %b", 11, "unknown:1:11: "),
-        ("%b = block -1", 11, "unknown:1:11: "),
-        (
-            "%x = var\n%p = phi %x",
-            18,
-            "unknown:2:9: unknown block '%x'",
-        ),
-    ] {
-        refuses(&rt, rt.alloc(), Kind::Lhs, source, offset, line)?;
-    }
-    Ok(())
-}
-
-#[test]
-fn other_left_hand_sides_are_refused(rt: HostRuntime) -> Result<(), Fail> {
-    for (source, offset, line) in [
-        ("infer 5", 6, "unknown:1:6: expected a value name"),
-        (
-            "%x : 8 = var",
-            5,
-            "unknown:1:5: expected a type (like 'i32', 'i8', or 'i1')",
-        ),
-        (
-            "%x:i0 = var\ninfer %x",
-            3,
-            "unknown:1:3: expected a type (like 'i32', 'i8', or 'i1')",
-        ),
-        (
-            "%x:i65536 = var\ninfer %x",
-            3,
-            "unknown:1:3: expected a type (like 'i32', 'i8', or 'i1')",
-        ),
-        (
-            "%x = foo",
-            5,
-            "unknown:1:5: expected a constant, var, block, phi, or instruction",
-        ),
-        ("%x = add 1 2", 11, "unknown:1:11: expected ','"),
-        ("%x = add %y, 1", 9, "unknown:1:9: unknown value '%y'"),
-        (
-            "%x = var (foo)",
-            10,
-            "unknown:1:10: unknown attribute 'foo'",
-        ),
-        (
-            "%x = var (knownBitsX)\ninfer %x",
-            10,
-            "unknown:1:10: unknown attribute 'knownBitsX'",
-        ),
-        (
-            "%x = var (1)",
-            10,
-            "unknown:1:10: expected an attribute identifier",
-        ),
-        ("%x = var (range=(", 16, "unknown:1:16: expected '['"),
-        ("%x = var (negative x)", 19, "unknown:1:19: expected ')'"),
-        ("%x = var (", 9, "unknown:1:9: unexpected EOF"),
-        ("%x = var (knownBits", 18, "unknown:1:18: unexpected EOF"),
-        (
-            "%x = var (knownBits =01)\ninfer %x",
-            19,
-            "unknown:1:19: expected '=', found ' '",
-        ),
-        ("%x = var (signBits=256)\ninfer %x", 19, "unknown:1:19: "),
-        (
-            "%x = var\ninfer %x (foo)",
-            19,
-            "unknown:2:10: expected 'demandedBits' or 'harvestedFromUse'",
-        ),
-        (
-            "%x = var\ninfer %x (demandedBits=012)",
-            32,
-            "unknown:2:23: expected [0|1]+ bit pattern",
-        ),
-    ] {
-        refuses(&rt, rt.alloc(), Kind::Lhs, source, offset, line)?;
-    }
-    Ok(())
-}
-
-#[test]
-fn other_items_are_refused(rt: HostRuntime) -> Result<(), Fail> {
-    for (kind, source, offset, line) in [
-        (Kind::Lhs, "x", 0, "unknown:1:1: expected 'infer'"),
-        (Kind::Rhs, "x", 0, "unknown:1:1: expected 'result'"),
-        (Kind::Rep, "x", 0, "unknown:1:1: expected 'cand'"),
-        (Kind::Rep, "%x = var", 7, "unknown:1:7: unexpected EOF"),
-        (
-            Kind::Rep,
-            "%x = var\ninfer %x\ninfer %x",
-            18,
-            "unknown:2:9: expected 'result'",
-        ),
-    ] {
-        refuses(&rt, rt.alloc(), kind, source, offset, line)?;
-    }
-    Ok(())
-}
-
-// The words, each with how many operands it has.
-fn words() -> [(&'static str, usize); 59] {
+/// The words, each with how many operands it has.
+pub fn words() -> [(&'static str, usize); 59] {
     [
         ("add", 2),
         ("addnsw", 2),
@@ -493,8 +334,8 @@ fn words() -> [(&'static str, usize); 59] {
     ]
 }
 
-// So many operands, with commas between them.
-fn ones(alloc: Global, count: usize) -> Result<String, AllocError> {
+/// So many operands, with commas between them.
+pub fn ones(alloc: Global, count: usize) -> Result<String, AllocError> {
     let mut operands = String::new(alloc);
     for index in 0..count {
         operands.push_str(if index == 0 { " 1" } else { ", 1" })?;

@@ -4,7 +4,11 @@
 #![tactic(auto)]
 
 #[cfg(test)]
+mod changed;
+#[cfg(test)]
 mod commands;
+#[cfg(test)]
+mod cut_texts;
 #[cfg(test)]
 mod cuts;
 #[cfg(test)]
@@ -13,6 +17,10 @@ mod errors;
 mod files;
 #[cfg(test)]
 mod grammar;
+#[cfg(test)]
+mod orders;
+#[cfg(test)]
+mod refusals;
 #[cfg(test)]
 mod runs;
 #[cfg(test)]

@@ -45,6 +45,10 @@ fn refusal_is_told(rt: HostRuntime) {
     let line =
         "unknown:1:6: no value named '%x' in scope\n     |\n   1 | infer %x\n     |      ^\n";
     runs(&rt, rt.alloc(), b"infer %x", 1, b"", line.as_bytes());
+    let source = "%bb = block 2\n%x = var\nblockpc %bb 2 %x 1\ninfer %x";
+    let line =
+        "unknown:3:12: predecessor 2 out of range for block '%bb'\n     |\n   3 | blockpc %bb 2 %x 1\n     |            ^\n";
+    runs(&rt, rt.alloc(), source.as_bytes(), 1, b"", line.as_bytes());
     let source = "%x = var\ninfer %x\né";
     let line = "unknown:2:9: unexpected 'é'\n     |\n   2 | infer %x\n     |         ^\n";
     runs(&rt, rt.alloc(), source.as_bytes(), 1, b"", line.as_bytes());

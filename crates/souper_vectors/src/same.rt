@@ -71,8 +71,10 @@ fn forms_of_replacements_differ(rt: HostRuntime) -> Result<(), Fail> {
 
 #[test]
 fn a_comma_does_not_matter(rt: HostRuntime) -> Result<(), Fail> {
-    let a = "%0 = var\n%1 = add %0, %0\n%2 = mul %0, 2\ncand %1 %2";
-    let b = "%0 = var\n%1 = add %0, %0\n%2 = mul %0, 2\ncand %1, %2";
+    let a = "\n;; 1\n%0 = var\n%1 = add %0, %0\n%2 = mul %0, 2\n    cand %1, %2\n\n\
+             %0 = var\n%1 = and %0, %0\n    cand %1, %0\n";
+    let b = "\n;; 1\n%0 = var\n%1 = add %0, %0\n%2 = mul %0, 2\n    cand %1 %2\n\n\
+             %0 = var\n%1 = and %0, %0\n    cand %1 %0\n";
     assert!(rt; are_same(rt.alloc(), Kind::Rep, a, b)?);
     Ok(())
 }
@@ -111,6 +113,7 @@ fn empty_lists_are_same_within_a_kind(rt: HostRuntime) -> Result<(), Fail> {
     let lhs = read_items(rt.alloc(), Kind::Lhs, "", None)?;
     let rhs = read_items(rt.alloc(), Kind::Rhs, "", None)?;
     let blank = read_items(rt.alloc(), Kind::Rhs, " \n", None)?;
+    assert!(rt; are_same(rt.alloc(), Kind::Rhs, "", "")?);
     assert!(rt; same(rt.alloc(), &rhs, &blank)?);
     assert!(rt; !same(rt.alloc(), &lhs, &rhs)?);
     assert!(rt; !same(rt.alloc(), &rhs, &lhs)?);

@@ -1,0 +1,185 @@
+//! Texts that are cut at each character, by kind and by what they show.
+
+/// Left-hand sides of variables, instructions and other right sides without operands.
+pub const VALUES: [&str; 16] = [
+    "%a = var\n%b = var\ninfer %b",
+    "%b = var\n%a = var\n%c = add %a, %b\ninfer %c",
+    "%a = var\n%b = var\n%c = add %a, %b\ninfer %c",
+    "%a = var\n%b = var\n%c = add %b, %a\ninfer %c",
+    "%b = var\n%a = add %b, 1\n%c = add %a, %b\ninfer %c",
+    "%x = var\ninfer %x\n%x = var\ninfer %x",
+    "%x = var infer %x %x = var infer %x",
+    "%x:i32 = var\n%y = mul %x, 2\ninfer %y\n",
+    "%x:i65535 = var\ninfer %x",
+    "%x:i8 = select 1:i8, 2, -3\ninfer %x",
+    "%x = reservedinst\ninfer %x",
+    "%x = var;c\ninfer %x;end",
+    ";\u{e9}\n%x = var\ninfer %x",
+    "%a = var\ninfer %a",
+    "%b = var\ninfer %b",
+    "%1 = var\ninfer %1\n",
+];
+
+/// Left-hand sides with blocks, phis and conditions.
+pub const BLOCKS: [&str; 12] = [
+    "%bb = block 2\n%x:i8 = var\nblockpc %bb 0 %x 1\ninfer %x",
+    "%bb = block 2\n%x:i8 = var\nblockpc %bb 0 1 %x\ninfer %x",
+    "%x:i8 = var\n%bb = block 2\nblockpc %bb 0 %x 1\ninfer %x\n",
+    "%bb = block 2\n%x = var\nblockpc %bb 1 %x 1\ninfer %x",
+    "%x = var\n%bb = block 2\nblockpc %bb 1 %x 1\ninfer %x\n",
+    "%x:i8 = var\n%bb = block 3\nblockpc %bb 2 %x 1\ninfer %x\n",
+    "%bb = block 1\nblockpc %bb -0 1-2\ninfer %bb",
+    "%bb = block 1\nblockpc %bb 0 1 -2\ninfer %bb\n",
+    "%bb = block 0\n%p = phi %bb\ninfer %p",
+    "%b = block 1 (nonZero)\n%p = phi %b, 7 (negative)\ninfer %p",
+    "%b = block 1\n%a = add %b, 1\ninfer %a",
+    "%b = block 4294967295\ninfer %b",
+];
+
+/// Left-hand sides with attributes.
+pub const ATTRIBUTES: [&str; 6] = [
+    "%x:i4 = var (knownBits=01x1) (signBits=1)\ninfer %x (demandedBits=0011) (harvestedFromUse)",
+    "%x = var\u{3000}( range = [ -1 , 5 ) )\ninfer %x",
+    "%x = var (range=[-1,5))\ninfer %x\n",
+    "%x = var (signBits=255)\ninfer %x",
+    "%x = var (range=[-170141183460469231731687303715884105728,170141183460469231731687303715884105727))\ninfer %x",
+    "%x = var\ninfer %x (demandedBits=\
+     1111111111111111111111111111111111111111111111111111111111111111111111111111111111111111111111111111\
+     1111111111111111111111111111111111111111111111111111111111111111111111111111111111111111111111111111)",
+];
+
+/// Refused for a name.
+pub const NAMES: [&str; 14] = [
+    "infer %x",
+    "infer 5",
+    "%x = var\r\ninfer %y",
+    "%x = var\n%x = var\ninfer %x",
+    "%x = var %x = var",
+    "%1 = var\n%1 = add %1, 1\ninfer %1\n",
+    "%0 = add %0, 1\ninfer %0\n",
+    "%x = add %y, 1",
+    "%x = var\n%p = phi %x",
+    "\u{e9}",
+    "%\u{e9} = var",
+    "%x",
+    "%",
+    "x",
+];
+
+/// Refused for the ways into a block, or for their number.
+pub const WAYS: [&str; 8] = [
+    "%bb = block 2\n%p = phi %bb, 1\ninfer %p",
+    "%b = block 2\n%p = phi %b\ninfer %p\n",
+    "%b = block 4294967295\n%p = phi %b, 1\ninfer %p",
+    "%b = block 4294967296\ninfer %b",
+    "%b = block -1",
+    "%bb = block 2\n%x = var\nblockpc %bb 2 %x 1\ninfer %x",
+    "%x:i8 = var\n%bb = block 2\nblockpc %bb 2 %x 1\ninfer %x\n",
+    "%bb = block 0\nblockpc %bb 0 1 1\ninfer %bb",
+];
+
+/// Refused at another token of a definition.
+pub const DEFINITIONS: [&str; 17] = [
+    "%x =",
+    "%x var",
+    "%x = foo",
+    "%x = add 1 2",
+    "%x : 8 = var",
+    "%x:i0 = var\ninfer %x",
+    "%x:i65536 = var\ninfer %x",
+    "%x =\u{3000}\u{e9}",
+    "%x = var \u{e9}",
+    "%x = var ]",
+    "\u{feff}",
+    "\u{200b}",
+    "foo",
+    "hole 1",
+    "1 2 3",
+    "1:i8 2 3 4",
+    "(negative)(nonZero) var",
+];
+
+/// Refused at an attribute.
+pub const FAULTY_ATTRIBUTES: [&str; 12] = [
+    "%x = var (",
+    "%x = var (foo)",
+    "%x = var (1)",
+    "%x = var (range=(",
+    "%x = var (negative x)",
+    "%x = var (signBits=256)\ninfer %x",
+    "%x = var (knownBits",
+    "%x = var (knownBits =01)\ninfer %x",
+    "%x = var (knownBitsX)\ninfer %x",
+    "%x = var (knownBits=)\ninfer %x\n",
+    "%x = var\ninfer %x (foo)",
+    "%x = var\ninfer %x (demandedBits=012)",
+];
+
+/// Right-hand sides.
+pub const RIGHT_HAND_SIDES: [&str; 13] = [
+    "result 007:i008",
+    "result -170141183460469231731687303715884105728",
+    "result 170141183460469231731687303715884105728",
+    "result -",
+    "result -0",
+    "result -000",
+    "result 0",
+    "result 7:i8",
+    "result 1:i65535",
+    "result 1\nresult 2",
+    "%x = var\npc %x 1\nresult 2",
+    "result \
+     0000000000000000000000000000000000000000000000000000000000000000000000000000000000000000000000000000\
+     1:i00000065535",
+    "x",
+];
+
+/// Replacements by a result.
+pub const RESULTS: [&str; 7] = [
+    "%x = var\ninfer %x\n%y = var\npc %y 1\nresult %y",
+    "%x = var\n%y = var\npc %y 1\ninfer %x\nresult %y\n",
+    "%x = var\ninfer %x\nresult 1:i8",
+    "%a = var\n%b = var\ninfer %a\nresult %b",
+    "%a = var\ninfer %a\nresult 1",
+    "%x = var\ninfer %x\ninfer %x",
+    "%1 = var\ninfer %1\nresult 1\n",
+];
+
+/// Replacements by a pair.
+pub const PAIRS: [&str; 17] = [
+    "",
+    ";;",
+    "%x:i32 = var\n%2lx = slt 2, %x\npc %2lx 1\n%1lx = slt 1, %x\ncand %1lx 1\n\
+     %bb = block 3\n%phi1 = phi %bb, 1:i32, 2, 3\n%phi2 = phi %bb, 2:i32, 4, 6\n\
+     %phi1x2 = mul %phi1, 2\ncand %phi2 %phi1x2\n",
+    "\n;; 1\n%0 = var\n%1 = add %0, %0\n%2 = mul %0, 2\n    cand %1, %2\n\n\
+     %0 = var\n%1 = and %0, %0\n    cand %1, %0\n",
+    "\n;; 1\n%0 = var\n%1 = add %0, %0\n%2 = mul %0, 2\n    cand %1 %2\n\n\
+     %0 = var\n%1 = and %0, %0\n    cand %1 %0\n",
+    "%a = var\n%b = var\npc %a 1\npc %b 1\ncand %a 2",
+    "%a = var\n%b = var\npc %b 1\npc %a 1\ncand %a 2",
+    "%a = var\ncand %a 1",
+    "cand 1-2",
+    "cand 1:i8,-2",
+    "cand 1,,2",
+    "cand , 1 2",
+    "cand 1 2,",
+    "cand 1,",
+    "pc 1, 2\ncand 1 2",
+    "%x = var",
+    "x",
+];
+
+/// Replacements as they are printed.
+pub const PRINTED: [&str; 9] = [
+    "%x:i32 = var\n%1lx = slt 1, %x\n%2lx = slt 2, %x\npc %2lx 1\ncand %1lx 1\n",
+    "%bb = block 3\n%phi2 = phi %bb, 2:i32, 4, 6\n%phi1 = phi %bb, 1:i32, 2, 3\n\
+     %phi1x2 = mul %phi1, 2\ncand %phi2 %phi1x2\n",
+    "%0 = var\n%1 = add %0, %0\n%2 = mul %0, 2\ncand %1 %2\n",
+    "%0 = var\n%1 = and %0, %0\ncand %1 %0\n",
+    "%a = var\npc %a 1\n%b = var\npc %b 1\ncand %a 2\n",
+    "%a = var\n%b = var\npc %b 1\npc %a 1\ncand %a 2\n",
+    "%a = var\ninfer %a\n%b = var\nresult %b\n",
+    "cand 1 -2\n",
+    "cand 1:i8 -2\n",
+];

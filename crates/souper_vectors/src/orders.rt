@@ -1,0 +1,99 @@
+//! Printed orders of items that are read.
+use souper_ir::parse::{
+    parse_left_hand_sides_str, parse_replacements_str, parse_right_hand_sides_str,
+};
+use souper_ir::stringify::Order;
+use std::alloc::{AllocError, Global};
+use std::test::Fail;
+
+// The number of statements in printed order, those before an infer line, and the turns.
+fn counts(order: &Order) -> (usize, usize, u128) {
+    (order.ids.len(), order.lead, order.turns)
+}
+
+#[test]
+fn orders_of_left_hand_sides_are_counted(rt: HostRuntime) -> Result<(), Fail> {
+    for (source, want) in [
+        ("%a = var\n%b = var\ninfer %b", (1, 1, 2)),
+        (
+            "%b = var\n%a = add %b, 1\n%c = add %a, %b\ninfer %c",
+            (3, 3, 7),
+        ),
+        (
+            "%bb = block 2\n%x:i8 = var\nblockpc %bb 0 %x 1\ninfer %x",
+            (3, 3, 7),
+        ),
+    ] {
+        let items = parse_left_hand_sides_str(rt.alloc(), source, None)?;
+        let order = items.first().ok_or("no item")?.print_order()?;
+        assert_eq!(rt; counts(&order), want, "in {source:?}");
+    }
+    Ok(())
+}
+
+#[test]
+fn orders_of_right_hand_sides_are_counted(rt: HostRuntime) -> Result<(), Fail> {
+    for (source, want) in [
+        ("result 1", (0, 0, 0)),
+        ("%x = var\npc %x 1\nresult 2", (2, 2, 4)),
+    ] {
+        let items = parse_right_hand_sides_str(rt.alloc(), source, None)?;
+        let order = items.first().ok_or("no item")?.print_order()?;
+        assert_eq!(rt; counts(&order), want, "in {source:?}");
+    }
+    Ok(())
+}
+
+#[test]
+fn orders_of_replacements_are_counted(rt: HostRuntime) -> Result<(), Fail> {
+    for (source, want) in [
+        (
+            "%x:i32 = var\n%2lx = slt 2, %x\npc %2lx 1\n%1lx = slt 1, %x\ncand %1lx 1\n",
+            (4, 4, 9),
+        ),
+        (
+            "%bb = block 3\n%phi1 = phi %bb, 1:i32, 2, 3\n%phi2 = phi %bb, 2:i32, 4, 6\n\
+             %phi1x2 = mul %phi1, 2\ncand %phi2 %phi1x2\n",
+            (4, 4, 9),
+        ),
+        (
+            "%x = var\ninfer %x\n%y = var\npc %y 1\nresult %y",
+            (3, 3, 7),
+        ),
+        ("%x = var\ninfer %x\nresult 1:i8", (1, 1, 2)),
+        ("%a = var\n%b = var\ninfer %a\nresult %b", (2, 1, 4)),
+    ] {
+        let items = parse_replacements_str(rt.alloc(), source, None)?;
+        let order = items.first().ok_or("no item")?.print_order()?;
+        assert_eq!(rt; counts(&order), want, "in {source:?}");
+    }
+    Ok(())
+}
+
+// The text of a variable, and of so many doublings of the one before.
+fn chain(alloc: Global, doublings: u32) -> Result<String, AllocError> {
+    let mut text = String::from_str(alloc, "%0 = var\n")?;
+    for k in 1..=doublings {
+        let before = k - 1;
+        let line = format!(in alloc; "%{k} = add %{before}, %{before}\n")?;
+        text.push_str(line.as_str())?;
+    }
+    let line = format!(in alloc; "infer %{doublings}\n")?;
+    text.push_str(line.as_str())?;
+    Ok(text)
+}
+
+#[test]
+fn chain_of_doublings_prints_itself(rt: HostRuntime) -> Result<(), Fail> {
+    let source = chain(rt.alloc(), 199)?;
+    let source = source.as_str();
+    assert_eq!(rt; source.lines().count(), 201);
+    let items = parse_left_hand_sides_str(rt.alloc(), source, None)?;
+    assert_eq!(rt; items.len(), 1);
+    let item = items.first().ok_or("no item")?;
+    assert!(rt; item.to_text()?.as_str() == source);
+    assert!(rt; item.to_string(rt.alloc())?.as_str() == source);
+    assert!(rt; item.is_well_formed()?);
+    assert_eq!(rt; counts(&item.print_order()?), (200, 200, 599));
+    Ok(())
+}
