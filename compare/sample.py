@@ -5,7 +5,7 @@
     sample.py check FILE                     reads a sample, and prints how many answers of each class it holds
     sample.py replay PROGRAM FILE            asks the program for each text of a sample, and compares
 
-The format of FILE stands in sample/README.md.
+The format of FILE stands in SAMPLE.md.
 """
 import collections
 import re

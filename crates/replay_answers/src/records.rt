@@ -1,4 +1,4 @@
-//! Records of stored answers. `compare/sample/README.md` has their form.
+//! Records of stored answers. `compare/SAMPLE.md` has their form.
 ghost use Rattle.std.specs.Prelude.{◌≡◌, ◌<◌, ◌++◌, ◌∷◌, length, IfSome};
 ghost use Rattle.souper_format.specs.Commands.{kind_of_word};
 ghost use Rattle.replay_answers.specs.Words.{is_refused_by_word, IsHead};
