@@ -4,6 +4,6 @@
 #![tactic(auto)]
 
 pub mod pairs;
-pub mod sinks;
 #[cfg(test)]
 mod parsers;
+pub mod sinks;

@@ -54,7 +54,8 @@ mod tests {
         assert_eq!(rt; error.kind(), ParseErrorKind::Parse);
         assert_eq!(rt; error.offset(), Some(24));
         let shown = error.to_string(rt.alloc())?;
-        let want = "a.opt:2:6: no value named '%x' in scope\n     |\n   2 | infer %x\n     |      ^";
+        let want =
+            "a.opt:2:6: no value named '%x' in scope\n     |\n   2 | infer %x\n     |      ^";
         assert_eq!(rt; shown.as_str(), want);
         Ok(())
     }
@@ -64,12 +65,20 @@ mod tests {
         let mut items: Vec<LeftHandSide> = Vec::new(rt.alloc());
         let text = "%0 = var infer %0 %1 = var infer %1";
         parse_into::<LeftHandSide, Vec<LeftHandSide>>(rt.alloc(), text, None, &mut items)?;
-        parse_into::<LeftHandSide, Vec<LeftHandSide>>(rt.alloc(), "%2 = var infer %2", None, &mut items)?;
+        parse_into::<LeftHandSide, Vec<LeftHandSide>>(
+            rt.alloc(),
+            "%2 = var infer %2",
+            None,
+            &mut items,
+        )?;
         let mut texts = String::new(rt.alloc());
         for item in &items {
             texts.push_str(item.to_text()?.as_str())?;
         }
-        assert_eq!(rt; texts.as_str(), "%0 = var\ninfer %0\n%1 = var\ninfer %1\n%2 = var\ninfer %2\n");
+        assert_eq!(rt;
+            texts.as_str(),
+            "%0 = var\ninfer %0\n%1 = var\ninfer %1\n%2 = var\ninfer %2\n"
+        );
         Ok(())
     }
 }

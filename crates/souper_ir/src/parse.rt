@@ -20,7 +20,10 @@ mod words;
 
 pub use error::{ParseError, ParseErrorKind};
 pub use files::{parse_left_hand_sides_file, parse_replacements_file, parse_right_hand_sides_file};
-pub use item::{WholeItem, parse_into, parse_left_hand_sides_str, parse_replacements_str, parse_right_hand_sides_str};
+pub use item::{
+    WholeItem, parse_into, parse_left_hand_sides_str, parse_replacements_str,
+    parse_right_hand_sides_str,
+};
 pub use parser::{Parser, Result};
 pub use sink::Sink;
 pub use traits::{Parse, Peek};
