@@ -4,6 +4,8 @@ use crate::cut_texts::{
     RIGHT_HAND_SIDES, VALUES, WAYS,
 };
 use crate::grammar::{ones, words};
+use crate::orders::chain;
+use crate::texts::thousand;
 use souper_format::command::Kind;
 use souper_format::items::read_items;
 use souper_ir::parse::{ParseErrorKind, parse_left_hand_sides_str};
@@ -127,6 +129,19 @@ fn fronts_of_instructions_are_read_or_refused(rt: HostRuntime) -> Result<(), Fai
         cuts(&rt, alloc, Kind::Lhs, &[source.as_str()])?;
     }
     Ok(())
+}
+
+#[test]
+fn fronts_of_long_texts_are_read_or_refused(rt: HostRuntime) -> Result<(), Fail> {
+    let alloc = rt.alloc();
+    let doublings = chain(alloc, 199)?;
+    let definitions = thousand(alloc)?;
+    cuts(
+        &rt,
+        alloc,
+        Kind::Lhs,
+        &[doublings.as_str(), definitions.as_str()],
+    )
 }
 
 fn blanks(alloc: Global, count: u32) -> Result<String, AllocError> {

@@ -70,8 +70,8 @@ fn orders_of_replacements_are_counted(rt: HostRuntime) -> Result<(), Fail> {
     Ok(())
 }
 
-// The text of a variable, and of so many doublings of the one before.
-fn chain(alloc: Global, doublings: u32) -> Result<String, AllocError> {
+/// The text of a variable, and of so many doublings of the one before.
+pub fn chain(alloc: Global, doublings: u32) -> Result<String, AllocError> {
     let mut text = String::from_str(alloc, "%0 = var\n")?;
     for k in 1..=doublings {
         let before = k - 1;

@@ -92,8 +92,8 @@ fn names_are_longest(rt: HostRuntime) -> Result<(), Fail> {
     Ok(())
 }
 
-// A thousand definitions, from `%0` to `%999`, a line each.
-fn thousand(alloc: Global) -> Result<String, AllocError> {
+/// A thousand definitions, from `%0` to `%999`, a line each.
+pub fn thousand(alloc: Global) -> Result<String, AllocError> {
     let mut lines = String::new(alloc);
     for k in 0..1000u32 {
         let line = format!(in alloc; "%{k} = var\n")?;

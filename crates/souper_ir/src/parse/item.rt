@@ -195,9 +195,9 @@ fn items<T: WholeItem, S: Sink<T>>(parser: &mut Parser<'_>, sink: &mut S) -> Res
 /// Hands the items of a text to a sink, one at a time and in order, so that they need not stand in memory together.
 ///
 /// The type of the items is [`LeftHandSide`], [`RightHandSide`] or [`Replacement`]. The file name is for the error, which
-/// shows `unknown` without one. A text that is refused spells no list of such items, whatever the sink has taken by then:
-/// the error is of the kind `Parse`, or want of memory. A text of white space and comments alone has no items, and takes
-/// no memory.
+/// shows `unknown` without one. An error of the kind `Parse` says that the text spells no list of such items; the other
+/// kind is want of memory. Behind an error the sink may have taken items. A text of white space and comments alone has no
+/// items, and takes no memory.
 pub fn parse_into<T: WholeItem, S: Sink<T>>(
     alloc: Global,
     source: &str,

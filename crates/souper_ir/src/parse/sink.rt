@@ -14,7 +14,7 @@ pub trait Sink<T: WholeItem> {
     // The sink holds the items.
     ghost holds: { Self → List Item → Type 0 };
 
-    /// Takes the next item. The error is want of memory, and ends the reading.
+    /// Takes the next item. The error is want of memory, and ends the reading; what the sink holds then is not said.
     fn take(&mut self, item: T) -> Result<(), AllocError>
         requires { WellFormed (T.view item) }
         ensures { OnOk result ((items : List Item) → holds self.old items → holds self.new (items ++ T.view item ∷ [])) };
