@@ -89,7 +89,8 @@ impl<'a> Parser<'a> {
     }
 }
 
-// Lexes a token to look at. It stands in its place: a token that is handed on costs more than the lexing of it.
+// Lexes the next token into `ahead`, which stays `None` at the end of the text, and sets `offset` to where it begins. The
+// parser reads the token there: as an answer it would be copied once more in each caller.
 #[inline(never)]
 fn lex<'a>(
     lexer: &mut Lexer<'a>,
