@@ -3,7 +3,7 @@ ghost use Rattle.std.specs.Prelude.{◌↔◌, List, IfOk, IsTrue};
 ghost use Rattle.std.specs.List.{AllZip};
 ghost use Rattle.souper_graph.specs.Values.{Item};
 ghost use Rattle.souper_graph.specs.Sameness.{SameGraph};
-ghost use Rattle.souper_ir.specs.Spelling.{TextSpells, replacement};
+ghost use Rattle.souper_graph.specs.Syntax.Spelling.{TextSpells, replacement};
 
 use souper_format::command::Kind;
 use souper_format::items::read_items;

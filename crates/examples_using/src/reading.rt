@@ -1,7 +1,7 @@
 //! Reading a text, and what to say where it is refused.
 ghost use Rattle.std.specs.Prelude.{◌∷◌, [], IfOk, IfSome};
 ghost use Rattle.souper_graph.specs.View.{view_left_hand_side};
-ghost use Rattle.souper_ir.specs.Spelling.{TextSpells, left_hand_side};
+ghost use Rattle.souper_graph.specs.Syntax.Spelling.{TextSpells, left_hand_side};
 
 use souper_ir::ast::LeftHandSide;
 use souper_ir::parse::{ParseError, parse_left_hand_sides_str};

@@ -2,7 +2,7 @@
 use Rattle.souper_ir.specs.declared.parse.error.ParseError.{ParseError}
 use Rattle.souper_graph.specs.declared.ast.operands.Constant.{Constant}
 use Rattle.souper_ir.specs.Parsing.{Parsing}
-use Rattle.souper_ir.specs.Spelling.{constant_spells}
+use Rattle.souper_graph.specs.Syntax.Spelling.{constant_spells}
 use Rattle.souper_ir.specs.Continuation.{constant_continues}
 use Rattle.souper_ir.specs.Grammar.{Took, Refusal}
 use Rattle.souper_ir.specs.Sequence.{refused_first, refused_second, both_taken}

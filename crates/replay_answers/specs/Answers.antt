@@ -1,6 +1,6 @@
 -- What a stored answer says of its text.
 use Rattle.std.specs.Prelude.{ℕ, List, [], Bool, true, false}
-use Rattle.souper_ir.specs.Spelling.{ItemType, SpellsNone}
+use Rattle.souper_graph.specs.Syntax.Spelling.{ItemType, SpellsNone}
 use Rattle.souper_format.specs.Formatted.{IsFormatted}
 use Rattle.souper_format.specs.Kinds.{item_type_of}
 use Rattle.replay_answers.specs.declared.records.Record.{Record}

@@ -2,7 +2,7 @@
 use Rattle.std.proofs.Common.{◌≡◌, ◌≤◌, ℕ, List, [], ◌∷◌, ◌++◌, Option, zero, suc, None, Some, IfSome, ◌⊎◌, inl, inr, length, sym, ap, ◌∙◌, subst, append-nil}
 use Rattle.std.specs.Str.{IsUtf8}
 use Rattle.std.specs.Io.KnownBytes.{Consumes, IsAtEnd}
-use Rattle.souper_ir.specs.Spelling.{ItemType, SpellsNone}
+use Rattle.souper_graph.specs.Syntax.Spelling.{ItemType, SpellsNone}
 use Rattle.souper_ir.specs.Errors.{kind_of, offset_of, shown_error, OnKind}
 use Rattle.souper_ir.specs.Places.{IsRefusalText}
 use Rattle.souper_ir.specs.Answers.{IsStrError}

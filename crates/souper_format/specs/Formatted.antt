@@ -2,7 +2,7 @@
 use Rattle.std.specs.Prelude.{◌≡◌, ℕ, List, [], ◌∷◌, ◌++◌, flat_map}
 use Rattle.souper_graph.specs.Values.{Item}
 use Rattle.souper_graph.specs.Text.{text_of}
-use Rattle.souper_ir.specs.Spelling.{ItemType, TextSpells}
+use Rattle.souper_graph.specs.Syntax.Spelling.{ItemType, TextSpells}
 
 -- the canonical text of an item and a newline
 abbrev pub text_with_newline : Item → List ℕ

@@ -2,7 +2,7 @@
 use Rattle.std.specs.Prelude.{List, map}
 use Rattle.souper_graph.specs.Values.{Item}
 use Rattle.souper_graph.specs.View.{view_left_hand_side, view_right_hand_side, view_replacement}
-use Rattle.souper_ir.specs.Spelling.{ItemType, left_hand_side, right_hand_side, replacement}
+use Rattle.souper_graph.specs.Syntax.Spelling.{ItemType, left_hand_side, right_hand_side, replacement}
 use Rattle.souper_format.specs.declared.command.Kind.{Kind}
 use Rattle.souper_format.specs.declared.command.Kind.TheVariants.{Lhs, Rhs, Rep}
 use Rattle.souper_format.specs.declared.items.Items.{Items}

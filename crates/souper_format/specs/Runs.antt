@@ -1,7 +1,7 @@
 -- What each status of a run says of the reader, of the writers and of what was read.
 use Rattle.std.specs.Prelude.{◌≡◌, ℕ, zero, suc, ◌≤◌, List, [], ◌∷◌, ◌++◌, true, false, length, Option, None, IfSome, ◌⊎◌}
 use Rattle.std.specs.Str.{IsUtf8}
-use Rattle.souper_ir.specs.Spelling.{ItemType, SpellsNone}
+use Rattle.souper_graph.specs.Syntax.Spelling.{ItemType, SpellsNone}
 use Rattle.souper_ir.specs.Places.{IsRefusalText}
 use Rattle.souper_format.specs.Formatted.{IsFormatted}
 use Rattle.souper_format.specs.Streams.{Stream, IsGiven, IsGivenNothing}

@@ -5,7 +5,7 @@ use Rattle.std.specs.declared.alloc.Global.{Global}
 use Rattle.std.specs.declared.io.Error.{Error}
 use Rattle.souper_graph.specs.Values.{Item}
 use Rattle.souper_graph.specs.Sameness.{SameGraph}
-use Rattle.souper_ir.specs.Spelling.{ItemType, TextSpells, SpellsNone}
+use Rattle.souper_graph.specs.Syntax.Spelling.{ItemType, TextSpells, SpellsNone}
 use Rattle.souper_ir.specs.Answers.{IsStrError}
 use Rattle.souper_ir.specs.Files.{TellsFault}
 use Rattle.souper_ir.specs.declared.parse.ParseError.{ParseError}

@@ -3,7 +3,7 @@ ghost use Rattle.std.specs.Prelude.{◌≡◌, IfOk, IfErr, option_copied};
 ghost use Rattle.std.specs.List.{AllByRecursion};
 ghost use Rattle.std.specs.String.{string_bytes};
 ghost use Rattle.souper_graph.specs.WellFormed.{WellFormed};
-ghost use Rattle.souper_ir.specs.Spelling.{TextSpells};
+ghost use Rattle.souper_graph.specs.Syntax.Spelling.{TextSpells};
 ghost use Rattle.souper_ir.specs.Answers.{IsStrError};
 ghost use Rattle.souper_format.specs.Kinds.{item_type_of, kind_of_items, view_items};
 ghost use Rattle.souper_format.specs.Formatted.{IsFormatted};

@@ -11,6 +11,7 @@ pub mod Shown
 pub mod Faults
 pub mod WellFormed
 pub mod Sameness
+pub mod Syntax
 pub mod Building
 pub mod Judging
 pub mod Marks

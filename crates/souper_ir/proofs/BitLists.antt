@@ -1,6 +1,6 @@
 -- What a pattern's characters stand for, one after the other.
 use Rattle.std.proofs.Common.{◌++◌, List, Option, Some}
-use Rattle.souper_ir.specs.Optional.{◌>>=◌}
+use Rattle.souper_graph.specs.Syntax.Optional.{◌>>=◌}
 
 -- these entries, and then those
 abbrev pub joined : {A : Type 0} → List A → Option (List A) → Option (List A)

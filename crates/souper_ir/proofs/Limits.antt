@@ -4,7 +4,7 @@ use Rattle.std.specs.Prelude.{nat_lt, FitsSigned, if◌then◌else◌}
 use Rattle.std.specs.Int.{w128}
 use Rattle.std.specs.Str.Parse.{digits_value, signed_digits_value, without_leading_sign}
 use Rattle.std.proofs.lemmas.Bool.{ltb-true}
-use Rattle.souper_ir.specs.Numbers.{is_numeral, is_within, number_of, below, count_of, width_if, width_of}
+use Rattle.souper_graph.specs.Syntax.Numbers.{is_numeral, is_within, number_of, below, count_of, width_if, width_of}
 use Rattle.souper_ir.specs.Peeks.{some_is}
 use Rattle.souper_ir.specs.Steps.{bind_some}
 use Rattle.souper_ir.proofs.Numerals.{is_within_decides}

@@ -4,8 +4,8 @@ use Rattle.std.proofs.Common.{◌≡◌, ◌⊎◌, ℕ, ◌<◌, Bool, true, fa
 use Rattle.std.proofs.lemmas.List.{append-nil, map-append, length-append}
 use Rattle.souper_ir.specs.declared.parse.error.ParseError.{ParseError}
 use Rattle.souper_ir.specs.Parsing.{Cause, Parsing}
-use Rattle.souper_ir.specs.Tokens.{Lexeme}
-use Rattle.souper_ir.specs.Spelling.{kinds, Scope}
+use Rattle.souper_graph.specs.Syntax.Tokens.{Lexeme}
+use Rattle.souper_graph.specs.Syntax.Spelling.{kinds, Scope}
 use Rattle.souper_ir.specs.Reading.{cause_of, IfRefused, if_refused, Fails, fails_later, FailsForMemory, IsRead}
 use Rattle.souper_ir.specs.Grammar.{Free, Stops, Starts, Took, NoFront, NoFrontOf, Stuck, Refusal, peek_at, Members, LastGoesOn, ListGoesOn}
 use Rattle.souper_ir.specs.Unique as unique

@@ -7,7 +7,7 @@ use Rattle.std.proofs.lemmas.Str.{char_from_byte, length-encode, len_utf8_bounds
 use Rattle.std.proofs.lemmas.Bool.{cases_lt}
 use Rattle.std.proofs.lemmas.Bool.Decides.{nat_tests}
 use Rattle.souper_graph.specs.Names.{is_name_char}
-use Rattle.souper_ir.specs.Tokens.{Lexeme, ident, val_name, known_bits, int, comma, colon, equals, open_paren, close_paren, open_bracket, continues, Stops, is_bit, Piece, space, comment, piece_text, IsPiece, IsGap}
+use Rattle.souper_graph.specs.Syntax.Tokens.{Lexeme, ident, val_name, known_bits, int, comma, colon, equals, open_paren, close_paren, open_bracket, continues, Stops, is_bit, Piece, space, comment, piece_text, IsPiece, IsGap}
 
 -- a byte that is part of no token but as its own mark
 abbrev Outside : ℕ → Type 0

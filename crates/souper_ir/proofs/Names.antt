@@ -12,7 +12,7 @@ use Rattle.std.proofs.lemmas.Cmp.{tied_itself}
 use Rattle.std.specs.Cmp.{nat_cmp_total}
 use Rattle.souper_graph.specs.Values.{PlainAssignment, PlainStatement, assigned, condition, block_condition}
 use Rattle.souper_graph.specs.Uses.{is_condition}
-use Rattle.souper_ir.specs.Spelling.{Scope, ways_of, entry_from, entry_of, position_of}
+use Rattle.souper_graph.specs.Syntax.Spelling.{Scope, ways_of, entry_from, entry_of, position_of}
 use Rattle.souper_ir.specs.declared.parse.names.Key.{Key}
 use Rattle.souper_ir.specs.Keys.{tail_of}
 use Rattle.souper_ir.specs.ParserView.{NamesAre}

@@ -15,7 +15,7 @@ use Rattle.std.proofs.lemmas.Bool.Decides.{Decides-and, Decides-ltb}
 use Rattle.std.proofs.lemmas.Int.{to_z-of_z}
 use mir.Syntax.{w128}
 use mir.Val.{to_z, of_z}
-use Rattle.souper_ir.specs.Numbers.{are_digits, is_numeral, is_within, number_of, width_of}
+use Rattle.souper_graph.specs.Syntax.Numbers.{are_digits, is_numeral, is_within, number_of, width_of}
 
 pub are_digits-is : (ds : List ℕ) → list_all is_ascii_digit ds ≡ are_digits ds
 are_digits-is [] = refl

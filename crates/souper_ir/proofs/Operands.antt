@@ -1,10 +1,10 @@
 -- Operands that a loop reads one after the other.
 use Rattle.std.proofs.Common.{◌≡◌, ℕ, ◌+◌, ◌<◌, zero, suc, List, [], ◌∷◌, ◌++◌, Option, Some, None, refl, sym, ◌∙◌, arith, add-one}
 use Rattle.souper_graph.specs.declared.ast.operands.Operand.{Operand}
-use Rattle.souper_ir.specs.Tokens.{comma}
+use Rattle.souper_graph.specs.Syntax.Tokens.{comma}
 use Rattle.souper_ir.specs.declared.parse.error.ParseError.{ParseError}
 use Rattle.souper_ir.specs.Parsing.{Parsing}
-use Rattle.souper_ir.specs.Optional.{◌>>=◌}
+use Rattle.souper_graph.specs.Syntax.Optional.{◌>>=◌}
 use Rattle.souper_ir.specs.NodeReadings.{accept, mark_of, operand_at, next_operand_at, further_at, operands_at}
 use Rattle.souper_ir.specs.Reading.{cause_of, IfRefused, if_refused, Fails, fails_later}
 use Rattle.souper_ir.specs.Steps.{bind_some}

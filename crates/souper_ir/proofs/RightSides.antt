@@ -5,7 +5,7 @@ use Rattle.std.proofs.lemmas.Slice.Eq.{bytes_eq-Decides}
 use Rattle.souper_graph.specs.declared.ast.instructions.Instruction.{Instruction}
 use Rattle.souper_graph.specs.Values.{instruction}
 use Rattle.souper_ir.specs.declared.parse.error.ParseError.{ParseError}
-use Rattle.souper_ir.specs.Tokens.{Lexeme, ident}
+use Rattle.souper_graph.specs.Syntax.Tokens.{Lexeme, ident}
 use Rattle.souper_ir.specs.Words.{opcode_of}
 use Rattle.souper_ir.specs.Parsing.{Cause, refused, no_memory, Parsing}
 use Rattle.souper_ir.specs.Reading.{look_at, cause_of, IfRefused, if_refused, Fails, fails_later}

@@ -6,7 +6,7 @@ use Rattle.souper_graph.specs.Values.{PlainRhs, var, block, phi, reserved_inst, 
 use Rattle.souper_graph.specs.Uses.{Has, Use, value_use, block_use, position_of as position_used, is_condition, uses_of_rhs, uses_of}
 use Rattle.souper_graph.specs.Faults.{IsAssigned, IsBlockRhs, IsBlock, IsMet, AreMet}
 use Rattle.souper_graph.specs.WellFormed.{predecessors_of_rhs, predecessors_of, AgreesRhs, AgreesWithBlock, Closed}
-use Rattle.souper_ir.specs.Spelling.{Scope, ways_of, entry_from, entry_of, position_of}
+use Rattle.souper_graph.specs.Syntax.Spelling.{Scope, ways_of, entry_from, entry_of, position_of}
 use Rattle.souper_ir.specs.Peeks.{some_is}
 use Rattle.souper_ir.proofs.Names.{Entry, or_else, entry_push, entry_pass, no_entry}
 

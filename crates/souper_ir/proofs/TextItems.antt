@@ -7,8 +7,8 @@ use Rattle.souper_ir.specs.declared.parse.error.ParseErrorKind.{ParseErrorKind}
 use Rattle.souper_ir.specs.declared.parse.error.ParseErrorKind.TheVariants.{Io, Parse, Memory}
 use Rattle.souper_ir.specs.declared.parse.error.Cause.{Cause as ErrorCause}
 use Rattle.souper_ir.specs.declared.parse.error.Cause.TheVariants.{Io as IoCause, Parse as ParseCause, Memory as MemoryCause}
-use Rattle.souper_ir.specs.Tokens.{Lexeme, IsLastGap, IsTextOf, AreTokensOf}
-use Rattle.souper_ir.specs.Spelling.{kinds, ItemType, list_spells, TextSpells, SpellsNone}
+use Rattle.souper_graph.specs.Syntax.Tokens.{Lexeme, IsLastGap, IsTextOf, AreTokensOf}
+use Rattle.souper_graph.specs.Syntax.Spelling.{kinds, ItemType, list_spells, TextSpells, SpellsNone}
 use Rattle.souper_ir.specs.Places.{IsRefusalText}
 use Rattle.souper_ir.specs.Errors.{OnKind, kind_of, kind_of_cause, offset_of, offset_of_cause, shown_error, IsRefusalAt, IsLocated}
 use Rattle.souper_ir.specs.Answers.{IsStrError}

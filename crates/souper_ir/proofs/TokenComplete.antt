@@ -10,7 +10,7 @@ use Rattle.std.proofs.lemmas.Slice.Eq.{bytes_eq-Decides}
 use Rattle.std.proofs.lemmas.Bool.{false≢true}
 use Rattle.std.proofs.lemmas.Bool.Decides.{nat_tests}
 use Rattle.souper_graph.specs.Names.{is_name_char}
-use Rattle.souper_ir.specs.Tokens.{Lexeme, ident, val_name, known_bits, int, comma, colon, equals, open_paren, close_paren, open_bracket, AllAre, Stops, IsLexeme, continues, spelling, known_bits_word, is_bit, begins_int, Piece, space, comment, piece_text, IsPiece, IsOneLine, IsGap, IsLastComment, IsLastGap, Stands}
+use Rattle.souper_graph.specs.Syntax.Tokens.{Lexeme, ident, val_name, known_bits, int, comma, colon, equals, open_paren, close_paren, open_bracket, AllAre, Stops, IsLexeme, continues, spelling, known_bits_word, is_bit, begins_int, Piece, space, comment, piece_text, IsPiece, IsOneLine, IsGap, IsLastComment, IsLastGap, Stands}
 use Rattle.souper_ir.specs.TokenReading.{ends, found, run_of, after_run, bits_at, name_at, word_at, mark_of, longer_at, front_of, token_at, remark, first_space, space_len, after_from, after_gap, gap_len, next_of}
 use Rattle.souper_ir.proofs.TokenGap.{gap_past_space, gap_past_remark, gap_stops_above, remark_cons, remark_newline}
 

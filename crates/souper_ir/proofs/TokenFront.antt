@@ -9,7 +9,7 @@ use Rattle.std.proofs.lemmas.Slice.Eq.{bytes_eq-Decides}
 use Rattle.std.proofs.lemmas.Bool.{false≢true}
 use Rattle.std.proofs.lemmas.Bool.Decides.{nat_tests}
 use Rattle.souper_graph.specs.Names.{is_name_char}
-use Rattle.souper_ir.specs.Tokens.{Lexeme, ident, val_name, known_bits, int, comma, colon, equals, open_paren, close_paren, open_bracket, AllAre, Stops, IsLexeme, continues, spelling, known_bits_word, is_bit, begins_int}
+use Rattle.souper_graph.specs.Syntax.Tokens.{Lexeme, ident, val_name, known_bits, int, comma, colon, equals, open_paren, close_paren, open_bracket, AllAre, Stops, IsLexeme, continues, spelling, known_bits_word, is_bit, begins_int}
 use Rattle.souper_ir.specs.TokenReading.{Front, ends, faulty, found, run_of, after_run, bits_at, name_at, word_at, longer_at, front_of, token_at}
 
 -- bs is the token t, which is over there, and rest

@@ -8,7 +8,7 @@ use Rattle.std.proofs.lemmas.List.{drop_at, get_or_at}
 use Rattle.std.proofs.lemmas.Str.{IsUtf8-drop, IsUtf8-nil, IsCharBoundary-after_ascii, length-encode, len_utf8_bounds}
 use Rattle.std.proofs.lemmas.Bool.Decides.{nat_tests}
 use Rattle.souper_graph.specs.Names.{is_name_char}
-use Rattle.souper_ir.specs.Tokens.{Lexeme, ident, val_name, known_bits, int, comma, colon, equals, open_paren, close_paren, open_bracket, AllAre, IsLexeme, spelling, is_bit, begins_int, Piece, space, comment, piece_text, IsPiece, IsOneLine, IsGap, IsLastComment, IsLastGap, Stands}
+use Rattle.souper_graph.specs.Syntax.Tokens.{Lexeme, ident, val_name, known_bits, int, comma, colon, equals, open_paren, close_paren, open_bracket, AllAre, IsLexeme, spelling, is_bit, begins_int, Piece, space, comment, piece_text, IsPiece, IsOneLine, IsGap, IsLastComment, IsLastGap, Stands}
 use Rattle.souper_ir.specs.TokenReading.{ends, found, front_of, token_at, remark, space_len, after_from, after_gap, gap_len, next_of}
 use Rattle.souper_ir.proofs.TokenGap.{gap_other, gap_past_remark, gap_nil, remark_cons, remark_newline, space_nil}
 use Rattle.souper_ir.proofs.TokenFront.{IsFront, front_sound, token_sound, spelled_some}

@@ -3,7 +3,7 @@ use Rattle.std.specs.Prelude.{◌≡◌, ℕ, ◌≤◌, List, length, Option, S
 use Rattle.souper_ir.specs.declared.parse.error.ParseError.{ParseError}
 use Rattle.souper_ir.specs.Errors.{kind_of, offset_of, shown_error, OnKind}
 use Rattle.souper_ir.specs.Places.{IsRefusalText}
-use Rattle.souper_ir.specs.Spelling.{ItemType, SpellsNone}
+use Rattle.souper_graph.specs.Syntax.Spelling.{ItemType, SpellsNone}
 
 -- The error is want of memory, or the text spells no items of the type: then its offset lies within the text, and it shows that place of
 -- the text under that file name.

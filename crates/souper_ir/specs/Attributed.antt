@@ -2,8 +2,8 @@
 use Rattle.std.proofs.Common.{◌≡◌, true, List, [], ◌∷◌, ◌++◌, refl, sym, subst, ◌⊎◌, inl, inr}
 use Rattle.souper_ir.specs.declared.parse.error.ParseError.{ParseError}
 use Rattle.souper_ir.specs.Parsing.{Parsing}
-use Rattle.souper_ir.specs.Tokens.{Lexeme, open_paren}
-use Rattle.souper_ir.specs.Spelling.{Scope}
+use Rattle.souper_graph.specs.Syntax.Tokens.{Lexeme, open_paren}
+use Rattle.souper_graph.specs.Syntax.Spelling.{Scope}
 use Rattle.souper_ir.specs.Continuation.{attributes_continue}
 use Rattle.souper_ir.specs.Grammar.{Free, Starts, Members, ListGoesOn, Took, Refusal}
 use Rattle.souper_ir.specs.Unique.{list_alone}

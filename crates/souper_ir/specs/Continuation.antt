@@ -9,7 +9,7 @@ use Rattle.souper_graph.specs.declared.ast.statements.Pc.{Pc}
 use Rattle.souper_graph.specs.declared.ast.statements.BlockPc.{BlockPc}
 use Rattle.souper_graph.specs.Instructions.{operands_of}
 use Rattle.souper_graph.specs.Values.{PlainPhi, PlainRhs, var, block, phi, reserved_inst, reserved_const, instruction, PlainAssignment, PlainStatement, assigned, condition, block_condition, PlainInfer, PlainCand, Ending, inferred, resulting, replaced, candidate, Item}
-use Rattle.souper_ir.specs.Tokens.{Lexeme, colon, open_paren}
+use Rattle.souper_graph.specs.Syntax.Tokens.{Lexeme, colon, open_paren}
 
 -- a type may follow where none stands
 abbrev pub optional_type_continues : Option Ty → Lexeme → Type 0

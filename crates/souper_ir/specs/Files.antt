@@ -10,8 +10,8 @@ use Rattle.souper_graph.specs.WellFormed.{WellFormed}
 use Rattle.souper_ir.specs.declared.parse.error.ParseError.{ParseError}
 use Rattle.souper_ir.specs.Answers.{IsStrError}
 use Rattle.souper_ir.specs.Errors.{kind_of, fault_of, OnKind}
-use Rattle.souper_ir.specs.Spelling.{ItemType, TextSpells}
-use Rattle.souper_ir.specs.Tokens.{IsLastGap}
+use Rattle.souper_graph.specs.Syntax.Spelling.{ItemType, TextSpells}
+use Rattle.souper_graph.specs.Syntax.Tokens.{IsLastGap}
 
 -- the answer to a text that was read: the items that it spells, each well formed, or an error that shows that file name
 abbrev pub AnswersText : {T : Type 0} → ItemType → (T → Item) → List ℕ → List ℕ → Result (Vec T Global) ParseError → Type 0

@@ -2,9 +2,9 @@
 use Rattle.std.specs.Prelude.{◌≡◌, ℕ, Bool, true, false, List, [], ◌∷◌, ◌++◌, Option, Some, None, ◌⊎◌}
 use Rattle.souper_ir.specs.declared.parse.error.ParseError.{ParseError}
 use Rattle.souper_ir.specs.Parsing.{Parsing}
-use Rattle.souper_ir.specs.Tokens.{Lexeme}
-use Rattle.souper_ir.specs.Spelling.{kinds, Scope}
-use Rattle.souper_ir.specs.Optional.{◌>>=◌}
+use Rattle.souper_graph.specs.Syntax.Tokens.{Lexeme}
+use Rattle.souper_graph.specs.Syntax.Spelling.{kinds, Scope}
+use Rattle.souper_graph.specs.Syntax.Optional.{◌>>=◌}
 use Rattle.souper_ir.specs.Reading.{cause_of, IfRefused, Fails, look_at}
 
 -- no token that goes on stands next

@@ -2,8 +2,8 @@
 use Rattle.std.specs.Prelude.{◌≡◌, ◌⊎◌, ℕ, Bool, true, false, List, [], ◌∷◌, ◌++◌, None}
 use Rattle.souper_graph.specs.Values.{PlainStatement}
 use Rattle.souper_ir.specs.declared.parse.error.ParseError.{ParseError}
-use Rattle.souper_ir.specs.Tokens.{Lexeme}
-use Rattle.souper_ir.specs.Spelling.{kinds, Scope, statement_spells, Statements, Tail}
+use Rattle.souper_graph.specs.Syntax.Tokens.{Lexeme}
+use Rattle.souper_graph.specs.Syntax.Spelling.{kinds, Scope, statement_spells, Statements, Tail}
 use Rattle.souper_ir.specs.Continuation.{statement_continues, ending_continues}
 use Rattle.souper_ir.specs.NodeReadings.{starts_statement}
 use Rattle.souper_ir.specs.Parsing.{Parsing}

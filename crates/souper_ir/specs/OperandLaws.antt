@@ -6,12 +6,12 @@ use Rattle.souper_graph.specs.declared.ast.operands.«Type».{«Type» as Ty}
 use Rattle.souper_graph.specs.declared.ast.operands.Constant.{Constant}
 use Rattle.souper_graph.specs.declared.ast.operands.Operand.{Operand}
 use Rattle.souper_graph.specs.declared.ast.operands.Operand.TheVariants.{Value, Constant as constant_variant}
-use Rattle.souper_ir.specs.Tokens.{Lexeme, ident, val_name, int, comma, colon, equals, open_paren, close_paren, open_bracket}
-use Rattle.souper_ir.specs.Numbers.{number_of, width_of}
-use Rattle.souper_ir.specs.Spelling.{kinds, Scope, position_of, type_spells, optional_type_spells, constant_spells, operand_spells, further_spells, operands_spells, pair_spells}
+use Rattle.souper_graph.specs.Syntax.Tokens.{Lexeme, ident, val_name, int, comma, colon, equals, open_paren, close_paren, open_bracket}
+use Rattle.souper_graph.specs.Syntax.Numbers.{number_of, width_of}
+use Rattle.souper_graph.specs.Syntax.Spelling.{kinds, Scope, position_of, type_spells, optional_type_spells, constant_spells, operand_spells, further_spells, operands_spells, pair_spells}
 use Rattle.souper_ir.specs.Continuation.{optional_type_continues, constant_continues, operand_continues, operands_continue}
 use Rattle.souper_ir.specs.Parsing.{Parsing}
-use Rattle.souper_ir.specs.Optional.{◌>>=◌}
+use Rattle.souper_graph.specs.Syntax.Optional.{◌>>=◌}
 use Rattle.souper_ir.specs.Grammar.{Free, Stops, Starts, peek_at}
 use Rattle.souper_ir.specs.Unique.{Free-weaker, Stops-weaker}
 use Rattle.souper_ir.specs.NodeReadings.{accept, name_of, is_name, mark_of, is_mark, is_word, word_of, is_int, int_by, ident_by, type_of_word, type_at, optional_type_by, optional_type_at, constant_at, operand_by, operand_at, further_at, operands_at}

@@ -10,9 +10,9 @@ use Rattle.souper_ir.specs.declared.parse.names.Key.{Key}
 use Rattle.souper_ir.specs.declared.parse.parser.Failure.{Failure}
 use Rattle.souper_ir.specs.declared.parse.parser.Failure.TheVariants.{Refused, Memory}
 use Rattle.souper_ir.specs.declared.parse.parser.Parser.TheInside.{Inside}
-use Rattle.souper_ir.specs.Tokens.{Lexeme}
+use Rattle.souper_graph.specs.Syntax.Tokens.{Lexeme}
 use Rattle.souper_ir.specs.TokenView.{lexeme_of}
-use Rattle.souper_ir.specs.Spelling.{Scope, entry_of}
+use Rattle.souper_graph.specs.Syntax.Spelling.{Scope, entry_of}
 use Rattle.souper_ir.specs.Parsing.{Parsing}
 use Rattle.souper_ir.specs.FailureView.{cause_of_failure}
 use Rattle.souper_ir.specs.Keys.{tail_of}

@@ -1,7 +1,7 @@
 -- What a parser has before it.
 use Rattle.std.specs.Prelude.{ℕ, Bool, List, Option}
-use Rattle.souper_ir.specs.Tokens.{Lexeme}
-use Rattle.souper_ir.specs.Spelling.{Scope}
+use Rattle.souper_graph.specs.Syntax.Tokens.{Lexeme}
+use Rattle.souper_graph.specs.Syntax.Spelling.{Scope}
 
 -- why a parser has failed
 pub data Cause : Type 0 where

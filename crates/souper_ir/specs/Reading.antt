@@ -1,13 +1,13 @@
 -- Reading from left to right: a value and the parser behind it, or none.
 use Rattle.std.specs.Prelude.{◌≡◌, ℕ, ◌≤◌, ◌≢◌, Bool, true, false, List, [], ◌∷◌, Option, Some, None, Result, Ok, Err, option_map, IsSomeAnd}
 use Rattle.std.proofs.Common.{◌∙◌}
-use Rattle.souper_ir.specs.Optional.{◌>>=◌}
+use Rattle.souper_graph.specs.Syntax.Optional.{◌>>=◌}
 use Rattle.souper_ir.specs.declared.parse.error.ParseErrorKind.{ParseErrorKind}
 use Rattle.souper_ir.specs.declared.parse.error.ParseErrorKind.TheVariants.{Io, Parse, Memory}
 use Rattle.souper_ir.specs.declared.parse.error.ParseError.{ParseError}
 use Rattle.souper_ir.specs.Errors.{kind_of, offset_of, shown_error}
 use Rattle.souper_ir.specs.Places.{IsDirectRefusalText}
-use Rattle.souper_ir.specs.Tokens.{Lexeme}
+use Rattle.souper_graph.specs.Syntax.Tokens.{Lexeme}
 use Rattle.souper_ir.specs.Parsing.{Cause, refused, no_memory, Parsing}
 
 abbrev pub cause_by : ParseErrorKind → Option ℕ → Option Cause

@@ -4,8 +4,8 @@ use Rattle.std.proofs.lemmas.List.{append_cancel_right}
 use Rattle.std.specs.Prelude.{IfOk, IfErr}
 use Rattle.souper_ir.specs.declared.parse.error.ParseError.{ParseError}
 use Rattle.souper_ir.specs.Parsing.{Cause, no_memory, Parsing}
-use Rattle.souper_ir.specs.Tokens.{Lexeme}
-use Rattle.souper_ir.specs.Spelling.{kinds, Scope}
+use Rattle.souper_graph.specs.Syntax.Tokens.{Lexeme}
+use Rattle.souper_graph.specs.Syntax.Spelling.{kinds, Scope}
 use Rattle.souper_ir.specs.Reading.{Gives, cause_of, IfRefused, if_refused, Fails, FailsForMemory, fails_later, IsRead}
 use Rattle.souper_ir.specs.Grammar.{Free, Stops, Took, NoFront, Refusal}
 use Rattle.souper_ir.specs.Peeks.{some_is}

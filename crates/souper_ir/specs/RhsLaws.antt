@@ -6,15 +6,15 @@ use Rattle.souper_graph.specs.declared.ast.instructions.Instruction.{Instruction
 use Rattle.souper_graph.specs.declared.ast.statements.Block.{Block}
 use Rattle.souper_graph.specs.Instructions.{word_of as instruction_word, operands_of}
 use Rattle.souper_graph.specs.Values.{PlainPhi, PlainRhs, var, block, phi, reserved_inst, reserved_const, instruction}
-use Rattle.souper_ir.specs.Tokens.{Lexeme, ident, val_name, int}
-use Rattle.souper_ir.specs.Numbers.{count_of}
+use Rattle.souper_graph.specs.Syntax.Tokens.{Lexeme, ident, val_name, int}
+use Rattle.souper_graph.specs.Syntax.Numbers.{count_of}
 use Rattle.souper_ir.specs.declared.parse.words.Opcode.{Opcode}
 use Rattle.souper_ir.specs.Words.{opcode_of, operand_count, instruction_by}
 use Rattle.souper_ir.specs.WordLaws.{opcode_is, kind_is, opcode_makes}
-use Rattle.souper_ir.specs.Spelling.{kinds, Scope, entry_of, further_spells, operands_spells, block_spells, phi_spells, instruction_spells, rhs_spells}
+use Rattle.souper_graph.specs.Syntax.Spelling.{kinds, Scope, entry_of, further_spells, operands_spells, block_spells, phi_spells, instruction_spells, rhs_spells}
 use Rattle.souper_ir.specs.Continuation.{operands_continue, phi_continues, instruction_continues, rhs_continues}
 use Rattle.souper_ir.specs.Parsing.{Cause, Parsing}
-use Rattle.souper_ir.specs.Optional.{◌>>=◌}
+use Rattle.souper_graph.specs.Syntax.Optional.{◌>>=◌}
 use Rattle.souper_ir.specs.Reading.{look_in, look_at}
 use Rattle.souper_ir.specs.Grammar.{Free, Stops, Starts}
 use Rattle.souper_ir.specs.NodeReadings.{accept, name_of, is_word, word_of, int_by, ident_by, further_at, operands_at, block_at, block_entry, block_name_at, phi_at, instruction_at, starts_instruction, RhsKind, is_var, is_block, is_phi, is_reserved_inst, is_reserved_const, is_instruction, rhs_kind_of, rhs_by, rhs_at}

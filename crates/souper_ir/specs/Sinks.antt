@@ -1,7 +1,7 @@
 -- What a sink holds of the items that it was handed.
 use Rattle.std.specs.Prelude.{ℕ, List, ◌++◌}
 use Rattle.souper_graph.specs.Values.{Item}
-use Rattle.souper_ir.specs.Spelling.{ItemType, TextSpells}
+use Rattle.souper_graph.specs.Syntax.Spelling.{ItemType, TextSpells}
 
 -- what a sink held before, it holds now with the items behind it
 abbrev pub TakesOver : {S : Type 0} → (S → List Item → Type 0) → List Item → S → S → Type 0

@@ -9,12 +9,12 @@ use Rattle.souper_graph.specs.declared.ast.statements.Pc.{Pc}
 use Rattle.souper_graph.specs.declared.ast.statements.BlockPc.{BlockPc}
 use Rattle.souper_graph.specs.Instructions.{operands_of}
 use Rattle.souper_graph.specs.Values.{PlainAttribute, PlainRootAttribute, PlainRhs, var, block, phi, reserved_inst, reserved_const, instruction, PlainAssignment, PlainStatement, assigned, condition, block_condition, PlainInfer, PlainCand}
-use Rattle.souper_ir.specs.Tokens.{Lexeme, ident, val_name, int, comma, colon, equals, open_paren}
-use Rattle.souper_ir.specs.Numbers.{count_of}
-use Rattle.souper_ir.specs.Spelling.{kinds, Scope, entry_of, position_of, optional_type_spells, operand_spells, pair_spells, rhs_spells, attribute_spells, root_attribute_spells, assignment_spells, pc_spells, block_pc_spells, statement_spells, infer_spells, IsOptionalComma, cand_spells, result_spells}
+use Rattle.souper_graph.specs.Syntax.Tokens.{Lexeme, ident, val_name, int, comma, colon, equals, open_paren}
+use Rattle.souper_graph.specs.Syntax.Numbers.{count_of}
+use Rattle.souper_graph.specs.Syntax.Spelling.{kinds, Scope, entry_of, position_of, optional_type_spells, operand_spells, pair_spells, rhs_spells, attribute_spells, root_attribute_spells, assignment_spells, pc_spells, block_pc_spells, statement_spells, infer_spells, IsOptionalComma, cand_spells, result_spells}
 use Rattle.souper_ir.specs.Continuation.{optional_type_continues, operand_continues, operands_continue, rhs_continues, attributes_continue, assignment_continues, pc_continues, block_pc_continues, statement_continues, infer_continues, cand_continues, result_continues}
 use Rattle.souper_ir.specs.Parsing.{Parsing}
-use Rattle.souper_ir.specs.Optional.{◌>>=◌}
+use Rattle.souper_graph.specs.Syntax.Optional.{◌>>=◌}
 use Rattle.souper_ir.specs.Grammar.{Free, Stops, Starts, peek_at}
 use Rattle.souper_ir.specs.NodeReadings.{accept, name_of, is_name, mark_of, is_mark, is_word, word_of, int_by, optional_type_at, operand_at, block_name_at, rhs_at, attribute_at, root_attribute_at, Definition, fresh, definition_at, starts_statement, pc_at, way_of, block_pc_at, root_at, comma_by, optional_comma_at, pair_at, result_at}
 use Rattle.souper_ir.specs.Peeks.{some_is, peeked}

@@ -1,9 +1,9 @@
 -- Steps of a reading: what they took, and that they take what stands there.
 use Rattle.std.proofs.Common.{◌≡◌, ℕ, Bool, true, false, List, [], ◌∷◌, ◌++◌, Option, Some, None, refl, sym, ◌∙◌, ap, subst, append_assoc}
 use Rattle.souper_ir.specs.Parsing.{Cause, Parsing}
-use Rattle.souper_ir.specs.Tokens.{Lexeme}
-use Rattle.souper_ir.specs.Spelling.{kinds}
-use Rattle.souper_ir.specs.Optional.{◌>>=◌}
+use Rattle.souper_graph.specs.Syntax.Tokens.{Lexeme}
+use Rattle.souper_graph.specs.Syntax.Spelling.{kinds}
+use Rattle.souper_graph.specs.Syntax.Optional.{◌>>=◌}
 use Rattle.souper_ir.specs.Reading.{look_in, look_at, take_in, take_at}
 use Rattle.souper_ir.specs.Grammar.{peek_at}
 use Rattle.souper_ir.specs.NodeReadings.{accept}

@@ -3,7 +3,7 @@ use Rattle.std.specs.Prelude.{ℕ, zero, suc, ◌+◌, ◌-◌, Bool, true, fals
 use Rattle.std.specs.List.{prefix_len}
 use Rattle.std.specs.Char.{is_whitespace, len_utf8, is_ascii_digit, is_ascii_alphabetic}
 use Rattle.souper_graph.specs.Names.{is_name_char}
-use Rattle.souper_ir.specs.Tokens.{Lexeme, ident, val_name, known_bits, int, comma, colon, equals, open_paren, close_paren, open_bracket, is_bit, begins_int, known_bits_word, spelling}
+use Rattle.souper_graph.specs.Syntax.Tokens.{Lexeme, ident, val_name, known_bits, int, comma, colon, equals, open_paren, close_paren, open_bracket, is_bit, begins_int, known_bits_word, spelling}
 
 -- where a byte of a gap stands: in a white space character of which so many bytes are left (0: between two pieces), or in a comment
 pub data Place : Type 0 where

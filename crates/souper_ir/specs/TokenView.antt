@@ -8,7 +8,7 @@ use Rattle.souper_ir.specs.declared.lexer.Class.{Class}
 use Rattle.souper_ir.specs.declared.lexer.Class.TheVariants as classes
 use Rattle.souper_ir.specs.declared.lexer.Fault.{Fault}
 use Rattle.souper_graph.specs.Names.{is_name_char}
-use Rattle.souper_ir.specs.Tokens.{Lexeme, ident, val_name, known_bits, int, comma, colon, equals, open_paren, close_paren, open_bracket, is_bit}
+use Rattle.souper_graph.specs.Syntax.Tokens.{Lexeme, ident, val_name, known_bits, int, comma, colon, equals, open_paren, close_paren, open_bracket, is_bit}
 use Rattle.souper_ir.specs.TokenReading.{Front, faulty, found, Lexed}
 
 -- the token by its content

@@ -2,7 +2,7 @@
 ghost use Rattle.std.specs.Prelude.{◌≡◌, ℕ, ◌+◌, ◌<◌, ◌≤◌, ◌^◌, List, ◌∷◌, length, drop, IsCharBoundary, IfErr, slice_index, option_map, false};
 ghost use Rattle.std.specs.List.{prefix_len};
 ghost use Rattle.std.specs.Char.{is_ascii_alphabetic};
-ghost use Rattle.souper_ir.specs.Tokens.{Lexeme, int, begins_int, IsTextOf, AreTokensOf};
+ghost use Rattle.souper_graph.specs.Syntax.Tokens.{Lexeme, int, begins_int, IsTextOf, AreTokensOf};
 ghost use Rattle.souper_ir.specs.TokenReading.{inside, remark, space_len, after_from, after_gap, run_of, after_run, found, lexed_of, Lexed, bits_at, word_at, name_at, mark_of, longer_at, front_of};
 ghost use Rattle.souper_ir.specs.TokenView.{lexeme_of, is_in, Reads, Yields};
 

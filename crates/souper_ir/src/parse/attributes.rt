@@ -2,9 +2,9 @@
 ghost use Rattle.std.specs.Prelude.{◌≡◌, None, option_map, refl};
 ghost use Rattle.souper_graph.specs.Values.{PlainAttribute, PlainRootAttribute};
 ghost use Rattle.souper_graph.specs.View.{view_attribute, view_root_attribute};
-ghost use Rattle.souper_ir.specs.Spelling.{attribute_spells, root_attribute_spells};
-ghost use Rattle.souper_ir.specs.Tokens.{open_paren};
-ghost use Rattle.souper_ir.specs.Numbers.{bits_of};
+ghost use Rattle.souper_graph.specs.Syntax.Spelling.{attribute_spells, root_attribute_spells};
+ghost use Rattle.souper_graph.specs.Syntax.Tokens.{open_paren};
+ghost use Rattle.souper_graph.specs.Syntax.Numbers.{bits_of};
 ghost use Rattle.souper_ir.specs.Reading.{Gives};
 ghost use Rattle.souper_ir.specs.NodeReadings.{bits_kind, sign_bits_kind, range_kind, accept, is_mark, int_by, ident_by, attribute_kind_of_word, attribute_kind_of, attribute_by, attribute_at, root_kind_of_word, root_attribute_by, root_attribute_at};
 ghost use Rattle.souper_ir.specs.AttributeView.{view_kind, has_bits};

@@ -4,7 +4,7 @@ ghost use Rattle.std.specs.Prelude.{String, Result};
 ghost use Rattle.std.specs.declared.alloc.Global.{Global};
 ghost use Rattle.std.specs.declared.io.Error.{Error};
 ghost use Rattle.souper_graph.specs.View.{view_left_hand_side, view_right_hand_side, view_replacement};
-ghost use Rattle.souper_ir.specs.Spelling.{left_hand_side, right_hand_side, replacement};
+ghost use Rattle.souper_graph.specs.Syntax.Spelling.{left_hand_side, right_hand_side, replacement};
 ghost use Rattle.souper_ir.specs.Files.{AnswersRead};
 
 use crate::parse::error::ParseError;

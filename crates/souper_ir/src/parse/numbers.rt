@@ -3,7 +3,7 @@
 ghost use Rattle.std.specs.Prelude.{◌≡◌, ◌^◌, Some, None, MatchResult, IfOk, option_map};
 ghost use Rattle.std.specs.Char.{is_ascii_digit};
 ghost use Rattle.std.specs.List.{list_all};
-ghost use Rattle.souper_ir.specs.Numbers.{number_of, count_of, width_of, bit_of, known_bit_of, bits_of, known_bits_of};
+ghost use Rattle.souper_graph.specs.Syntax.Numbers.{number_of, count_of, width_of, bit_of, known_bit_of, bits_of, known_bits_of};
 
 use std::alloc::{AllocError, Global};
 use std::num::IntErrorKind;

@@ -2,7 +2,7 @@
 
 ghost use Rattle.std.specs.Prelude.{◌≡◌, ◌≤◌, None, refl};
 ghost use Rattle.souper_ir.specs.Reading.{Gives};
-ghost use Rattle.souper_ir.specs.Spelling.{type_spells, constant_spells, operand_spells};
+ghost use Rattle.souper_graph.specs.Syntax.Spelling.{type_spells, constant_spells, operand_spells};
 ghost use Rattle.souper_ir.specs.Continuation.{constant_continues, operand_continues};
 ghost use Rattle.souper_ir.specs.NodeReadings.{is_int, type_at, optional_type_at, constant_at, operand_at, next_operand_at, further_at, operands_at};
 ghost use Rattle.souper_ir.specs.Readings.{one_alone};

@@ -3,10 +3,10 @@ ghost use Rattle.std.specs.Prelude.{◌≡◌, ◌≤◌, ◌++◌, ◌∷◌, [
 ghost use Rattle.std.specs.String.{string_bytes};
 ghost use Rattle.souper_graph.specs.View.{view_rhs, view_statement, view_assignment};
 ghost use Rattle.souper_graph.specs.Values.{assigned};
-ghost use Rattle.souper_ir.specs.Tokens.{Lexeme, AreTokensOf, IsTextOf};
+ghost use Rattle.souper_graph.specs.Syntax.Tokens.{Lexeme, AreTokensOf, IsTextOf};
 ghost use Rattle.souper_ir.specs.TokenView.{lexeme_of, Lexes};
 ghost use Rattle.souper_graph.specs.Uses.{is_condition};
-ghost use Rattle.souper_ir.specs.Spelling.{ways_of, entry_of, position_of};
+ghost use Rattle.souper_graph.specs.Syntax.Spelling.{ways_of, entry_of, position_of};
 ghost use Rattle.souper_ir.specs.NodeReadings.{block_entry};
 ghost use Rattle.souper_ir.specs.Parsing.{Cause, refused, no_memory};
 ghost use Rattle.souper_ir.specs.FailureView.{cause_of_failure};

@@ -5,7 +5,7 @@ ghost use Rattle.souper_graph.specs.Values.{PlainPhi, PlainRhs};
 ghost use Rattle.souper_graph.specs.View.{view_phi, view_rhs};
 ghost use Rattle.souper_ir.specs.Reading.{Gives};
 ghost use Rattle.souper_ir.specs.Grammar.{peek_at};
-ghost use Rattle.souper_ir.specs.Spelling.{block_spells, phi_spells, instruction_spells, rhs_spells};
+ghost use Rattle.souper_graph.specs.Syntax.Spelling.{block_spells, phi_spells, instruction_spells, rhs_spells};
 ghost use Rattle.souper_ir.specs.Continuation.{phi_continues, instruction_continues, rhs_continues};
 ghost use Rattle.souper_ir.specs.NodeReadings.{accept, ident_by, is_word, starts_instruction, block_at, block_name_at, phi_at, instruction_at, rhs_at};
 ghost use Rattle.souper_ir.specs.Words.{opcode_of};

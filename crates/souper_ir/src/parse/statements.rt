@@ -6,7 +6,7 @@ ghost use Rattle.souper_graph.specs.declared.ast.statements.Pc.{Pc as pc_value};
 ghost use Rattle.souper_graph.specs.declared.ast.statements.BlockPc.{BlockPc as block_pc_value};
 ghost use Rattle.souper_graph.specs.Values.{PlainAssignment, PlainStatement};
 ghost use Rattle.souper_graph.specs.View.{view_rhs, view_assignment, view_statement};
-ghost use Rattle.souper_ir.specs.Spelling.{assignment_spells, pc_spells, block_pc_spells, statement_spells};
+ghost use Rattle.souper_graph.specs.Syntax.Spelling.{assignment_spells, pc_spells, block_pc_spells, statement_spells};
 ghost use Rattle.souper_ir.specs.Continuation.{assignment_continues, pc_continues, block_pc_continues, statement_continues};
 ghost use Rattle.souper_ir.specs.Reading.{Gives};
 ghost use Rattle.souper_ir.specs.Grammar.{Took, Refusal, peek_at};

@@ -3,7 +3,7 @@
 ghost use Rattle.std.specs.Prelude.{◌≡◌, ◌^◌, [], false, None, IsOk};
 ghost use Rattle.souper_ir.specs.Reading.{Gives};
 ghost use Rattle.souper_ir.specs.Grammar.{peek_at};
-ghost use Rattle.souper_ir.specs.Numbers.{number_of, count_of};
+ghost use Rattle.souper_graph.specs.Syntax.Numbers.{number_of, count_of};
 ghost use Rattle.souper_ir.specs.TokenView.{lexeme_of};
 ghost use Rattle.souper_ir.specs.MarkView.{lexeme_of_mark};
 ghost use Rattle.souper_ir.specs.NodeReadings.{accept, name_of, is_name, is_any, mark_of, is_mark, is_word, word_of, is_int, int_by};

@@ -1,7 +1,7 @@
 //! What can be parsed, and what can be seen to come.
 ghost use Rattle.std.specs.Prelude.{◌≡◌, List, map, ◌++◌, Option, option_map, IfOk, IfErr, Bool, None};
-ghost use Rattle.souper_ir.specs.Tokens.{Lexeme};
-ghost use Rattle.souper_ir.specs.Spelling.{kinds, Scope};
+ghost use Rattle.souper_graph.specs.Syntax.Tokens.{Lexeme};
+ghost use Rattle.souper_graph.specs.Syntax.Spelling.{kinds, Scope};
 ghost use Rattle.souper_ir.specs.Reading.{Gives, IfRefused, cause_of};
 ghost use Rattle.souper_ir.specs.Unique.{option_alone, list_alone};
 ghost use Rattle.souper_ir.specs.Grammar.{Free, Starts, Took, Refusal, Stuck, peek_at, Members, ListGoesOn, OptionSpells, OptionGoesOn};

@@ -1,6 +1,6 @@
 use Rattle.std.proofs.Common.{sym, subst}
 use Rattle.souper_graph.specs.View.{view_left_hand_side, view_right_hand_side, view_replacement}
-use Rattle.souper_ir.specs.Spelling.{left_hand_side, right_hand_side, replacement}
+use Rattle.souper_graph.specs.Syntax.Spelling.{left_hand_side, right_hand_side, replacement}
 use Rattle.souper_format.specs.Kinds.{item_type_of}
 use Rattle.souper_format.specs.SameRuns.{FileRead, ReadError}
 use Rattle.souper_format.proofs.SameRunLemmas.{error_of_file}

@@ -2,7 +2,7 @@ use Rattle.std.specs.Prelude.{codes}
 use Rattle.std.proofs.lemmas.Result.{err_from_is_err_and, on_ok_weaker}
 use Rattle.souper_graph.specs.Values.{assigned, condition, block_condition}
 use Rattle.souper_graph.specs.View.{view_assignment}
-use Rattle.souper_ir.specs.Spelling.{statement_spells}
+use Rattle.souper_graph.specs.Syntax.Spelling.{statement_spells}
 use Rattle.souper_ir.specs.Continuation.{statement_continues}
 use Rattle.souper_ir.specs.Grammar.{Took, Refusal}
 use Rattle.souper_ir.specs.NodeReadings.{is_word}

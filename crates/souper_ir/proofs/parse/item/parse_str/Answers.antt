@@ -1,6 +1,6 @@
 use Rattle.std.proofs.Common.{◌≡◌, List, [], map, sym, ap, subst}
 use Rattle.souper_graph.specs.Values.{Item}
-use Rattle.souper_ir.specs.Spelling.{TextSpells}
+use Rattle.souper_graph.specs.Syntax.Spelling.{TextSpells}
 use Rattle.souper_ir.proofs.WellFormedItems.{text_well}
 use Rattle.souper_ir.proofs.parse.item.parse_str.Goals as goal
 

@@ -3,7 +3,7 @@ use Rattle.std.proofs.lemmas.Result.{err_from_is_err_and}
 use Rattle.souper_graph.specs.Values.{PlainAssignment}
 use Rattle.souper_graph.specs.View.{view_rhs, view_attribute}
 use Rattle.std.specs.Prelude.{map}
-use Rattle.souper_ir.specs.Spelling.{assignment_spells}
+use Rattle.souper_graph.specs.Syntax.Spelling.{assignment_spells}
 use Rattle.souper_ir.specs.Continuation.{assignment_continues}
 use Rattle.souper_ir.specs.Grammar.{Took}
 use Rattle.souper_ir.specs.NodeReadings.{Definition, definition_at}

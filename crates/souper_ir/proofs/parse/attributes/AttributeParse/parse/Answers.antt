@@ -1,5 +1,5 @@
 use Rattle.souper_graph.specs.View.{view_attribute}
-use Rattle.souper_ir.specs.Spelling.{attribute_spells}
+use Rattle.souper_graph.specs.Syntax.Spelling.{attribute_spells}
 use Rattle.souper_ir.specs.NodeReadings.{attribute_at}
 use Rattle.souper_ir.specs.AttributeLaws.{attribute_sound, attribute_complete}
 use Rattle.souper_ir.specs.Readings.{taken, refused}

@@ -2,7 +2,7 @@ use Rattle.std.proofs.Common.{[], map}
 use Rattle.std.proofs.lemmas.Result.{err_from_is_err_and}
 use Rattle.souper_graph.specs.Values.{replaced, candidate, Item}
 use Rattle.souper_graph.specs.View.{view_statement, view_infer, view_cand}
-use Rattle.souper_ir.specs.Spelling.{replacement, result_spells}
+use Rattle.souper_graph.specs.Syntax.Spelling.{replacement, result_spells}
 use Rattle.souper_ir.specs.Continuation.{result_continues}
 use Rattle.souper_ir.specs.NodeReadings.{result_at}
 use Rattle.souper_ir.specs.StatementLaws.{result_sound, result_complete}

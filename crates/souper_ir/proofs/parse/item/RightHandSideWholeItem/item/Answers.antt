@@ -2,7 +2,7 @@ use Rattle.std.proofs.Common.{[]}
 use Rattle.std.proofs.lemmas.Result.{err_from_is_err_and}
 use Rattle.souper_graph.specs.declared.ast.items.RightHandSide.{RightHandSide}
 use Rattle.souper_graph.specs.View.{view_right_hand_side}
-use Rattle.souper_ir.specs.Spelling.{right_hand_side, result_spells}
+use Rattle.souper_graph.specs.Syntax.Spelling.{right_hand_side, result_spells}
 use Rattle.souper_ir.specs.Continuation.{result_continues}
 use Rattle.souper_ir.specs.NodeReadings.{result_at}
 use Rattle.souper_ir.specs.StatementLaws.{result_sound, result_complete}

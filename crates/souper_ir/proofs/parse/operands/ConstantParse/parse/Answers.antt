@@ -1,4 +1,4 @@
-use Rattle.souper_ir.specs.Spelling.{constant_spells}
+use Rattle.souper_graph.specs.Syntax.Spelling.{constant_spells}
 use Rattle.souper_ir.specs.Continuation.{constant_continues}
 use Rattle.souper_ir.specs.OperandLaws.{constant_sound, constant_complete}
 use Rattle.souper_ir.specs.NodeReadings.{constant_at}

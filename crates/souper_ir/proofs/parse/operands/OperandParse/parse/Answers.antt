@@ -1,4 +1,4 @@
-use Rattle.souper_ir.specs.Spelling.{operand_spells}
+use Rattle.souper_graph.specs.Syntax.Spelling.{operand_spells}
 use Rattle.souper_ir.specs.Continuation.{operand_continues}
 use Rattle.souper_ir.specs.OperandLaws.{operand_sound, operand_complete}
 use Rattle.souper_ir.specs.NodeReadings.{operand_at}

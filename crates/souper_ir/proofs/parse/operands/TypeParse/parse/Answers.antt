@@ -1,4 +1,4 @@
-use Rattle.souper_ir.specs.Spelling.{type_spells}
+use Rattle.souper_graph.specs.Syntax.Spelling.{type_spells}
 use Rattle.souper_ir.specs.OperandLaws.{type_sound, type_complete}
 use Rattle.souper_ir.specs.NodeReadings.{type_at}
 use Rattle.souper_ir.specs.Readings.{taken, refused}

@@ -2,7 +2,7 @@ use Rattle.std.proofs.Common.{◌≡◌, None, ◌∙◌, sym, ap, map, subst}
 use Rattle.std.proofs.lemmas.List.{map-append, length-map}
 use Rattle.souper_graph.specs.View.{view_statement, view_assignment}
 use Rattle.souper_ir.specs.Keys.{tail_of}
-use Rattle.souper_ir.specs.Spelling.{position_of}
+use Rattle.souper_graph.specs.Syntax.Spelling.{position_of}
 use Rattle.souper_ir.specs.Parsing.{Parsing}
 use Rattle.souper_ir.proofs.Names.{names_push}
 use Rattle.souper_ir.proofs.parse.parser.Parser.define.Goals as goal

@@ -1,5 +1,5 @@
 use Rattle.souper_graph.specs.View.{view_rhs}
-use Rattle.souper_ir.specs.Spelling.{rhs_spells}
+use Rattle.souper_graph.specs.Syntax.Spelling.{rhs_spells}
 use Rattle.souper_ir.specs.Continuation.{rhs_continues}
 use Rattle.souper_ir.specs.RhsLaws.{rhs_sound, rhs_complete}
 use Rattle.souper_ir.specs.NodeReadings.{rhs_at}

@@ -1,4 +1,4 @@
-use Rattle.souper_ir.specs.Spelling.{block_spells}
+use Rattle.souper_graph.specs.Syntax.Spelling.{block_spells}
 use Rattle.souper_ir.specs.RhsLaws.{block_sound, block_complete}
 use Rattle.souper_ir.specs.NodeReadings.{block_at}
 use Rattle.souper_ir.specs.Readings.{taken, refused}

@@ -1,4 +1,4 @@
-use Rattle.souper_ir.specs.Spelling.{instruction_spells}
+use Rattle.souper_graph.specs.Syntax.Spelling.{instruction_spells}
 use Rattle.souper_ir.specs.Continuation.{instruction_continues}
 use Rattle.souper_ir.specs.RhsLaws.{instruction_sound, instruction_complete}
 use Rattle.souper_ir.specs.NodeReadings.{instruction_at}

@@ -1,5 +1,5 @@
 use Rattle.souper_graph.specs.View.{view_phi}
-use Rattle.souper_ir.specs.Spelling.{phi_spells}
+use Rattle.souper_graph.specs.Syntax.Spelling.{phi_spells}
 use Rattle.souper_ir.specs.Continuation.{phi_continues}
 use Rattle.souper_ir.specs.RhsLaws.{phi_sound, phi_complete}
 use Rattle.souper_ir.specs.NodeReadings.{phi_at}

@@ -1,4 +1,4 @@
-use Rattle.souper_ir.specs.Spelling.{block_pc_spells}
+use Rattle.souper_graph.specs.Syntax.Spelling.{block_pc_spells}
 use Rattle.souper_ir.specs.Continuation.{block_pc_continues}
 use Rattle.souper_ir.specs.StatementLaws.{block_pc_sound, block_pc_complete}
 use Rattle.souper_ir.specs.NodeReadings.{block_pc_at}

@@ -1,4 +1,4 @@
-use Rattle.souper_ir.specs.Spelling.{pc_spells}
+use Rattle.souper_graph.specs.Syntax.Spelling.{pc_spells}
 use Rattle.souper_ir.specs.Continuation.{pc_continues}
 use Rattle.souper_ir.specs.StatementLaws.{pc_sound, pc_complete}
 use Rattle.souper_ir.specs.NodeReadings.{pc_at}

@@ -1,4 +1,4 @@
--- One step after another, each of which may give nothing.
+-- Definitions. One step after another, each of which may give nothing.
 use Rattle.std.specs.Prelude.{Option, Some, None}
 
 infixl 10 ◌>>=◌

@@ -1,5 +1,5 @@
--- Which tokens spell a value, from the finished value. Tokens stand here without their offsets.
-use Rattle.std.specs.Prelude.{◌≡◌, ◌⊎◌, ℕ, suc, ◌<◌, ◌^◌, List, [], ◌∷◌, ◌++◌, map, length, Option, Some, None, codes, bytes_eq, if◌then◌else◌, option_map}
+-- Definitions. Which tokens spell a value, made from the finished value. Tokens stand here without their offsets.
+use Rattle.std.specs.Prelude.{◌≡◌, ◌⊎◌, ℕ, ℤ, suc, ◌<◌, ◌^◌, List, [], ◌∷◌, ◌++◌, map, length, Option, Some, None, codes, bytes_eq, if◌then◌else◌, option_map}
 use Rattle.souper_graph.specs.declared.ast.operands.«Type».{«Type» as Ty}
 use Rattle.souper_graph.specs.declared.ast.operands.Constant.{Constant}
 use Rattle.souper_graph.specs.declared.ast.operands.Operand.{Operand}
@@ -11,8 +11,8 @@ use Rattle.souper_graph.specs.declared.ast.statements.BlockPc.{BlockPc}
 use Rattle.souper_graph.specs.Instructions.{word_of, operands_of}
 use Rattle.souper_graph.specs.Leaves.{text_of_known_bit, text_of_bit}
 use Rattle.souper_graph.specs.Values.{PlainAttribute, known_bits as known_bits_attribute, power_of_two, negative, non_negative, non_zero, has_external_uses, sign_bits, range, PlainRootAttribute, demanded_bits, harvested_from_use, PlainPhi, PlainRhs, var, block, phi, reserved_inst, reserved_const, instruction, PlainAssignment, PlainStatement, assigned, condition, block_condition, PlainInfer, PlainCand, Ending, inferred, resulting, replaced, candidate, Item}
-use Rattle.souper_ir.specs.Tokens.{Lexeme, ident, val_name, known_bits, int, comma, colon, equals, open_paren, close_paren, open_bracket, IsTextOf}
-use Rattle.souper_ir.specs.Numbers.{number_of, count_of, width_of}
+use Rattle.souper_graph.specs.Syntax.Tokens.{Lexeme, ident, val_name, known_bits, int, comma, colon, equals, open_paren, close_paren, open_bracket, IsTextOf}
+use Rattle.souper_graph.specs.Syntax.Numbers.{number_of, count_of, width_of}
 
 -- tokens without their offsets
 abbrev pub kinds : List (ℕ × Lexeme) → List Lexeme
@@ -22,7 +22,7 @@ kinds ts = map (λ t. t.1) ts
 abbrev pub Scope : Type 0
 Scope = List PlainStatement
 
--- how many ways lead into a block; of no other right side
+-- how many predecessors a block has; of no other right side
 abbrev pub ways_of : PlainRhs → Option ℕ
 ways_of var = None
 ways_of (block b) = Some b.predecessors
@@ -31,7 +31,7 @@ ways_of reserved_inst = None
 ways_of reserved_const = None
 ways_of (instruction i) = None
 
--- the position of the assignment of a name, and the ways into its block, where the first statement stands at k
+-- the position of the assignment of a name, and the number of predecessors of its block, where the first statement is at k
 abbrev pub entry_from : ℕ → Scope → List ℕ → Option (ℕ × Option ℕ)
 entry_from k [] n = None
 entry_from k (assigned a ∷ ss) n = if bytes_eq a.name n then Some (k, ways_of a.value) else entry_from (suc k) ss n
@@ -44,6 +44,14 @@ entry_of s n = entry_from 0 s n
 abbrev pub position_of : Scope → List ℕ → Option ℕ
 position_of s n = option_map (λ e. e.0) (entry_of s n)
 
+-- P holds of a prefix of the tokens, and Q of the rest
+pub record Joined (P Q : List Lexeme → Type 0) (ts : List Lexeme) : Type 0 where
+  pub prefix : List Lexeme
+  pub suffix : List Lexeme
+  pub whole : ts ≡ prefix ++ suffix
+  pub first : P prefix
+  pub second : Q suffix
+
 -- ---- operands
 
 abbrev pub type_spells : Ty → List Lexeme → Type 0
@@ -54,8 +62,12 @@ abbrev pub optional_type_spells : Option Ty → List Lexeme → Type 0
 optional_type_spells None ts = ts ≡ []
 optional_type_spells (Some t) ts = (rest : List Lexeme) × (ts ≡ colon ∷ rest) × type_spells t rest
 
-abbrev pub constant_spells : Constant → List Lexeme → Type 0
-constant_spells c ts = (w : List ℕ) × (rest : List Lexeme) × (ts ≡ int w ∷ rest) × (number_of w ≡ Some c.value) × optional_type_spells c.ty rest
+pub record constant_spells (c : Constant) (ts : List Lexeme) : Type 0 where
+  pub word : List ℕ
+  pub rest : List Lexeme
+  pub whole : ts ≡ int word ∷ rest
+  pub value_is : number_of word ≡ Some c.value
+  pub ty_spelled : optional_type_spells c.ty rest
 
 abbrev pub operand_spells : Scope → Operand → List Lexeme → Type 0
 operand_spells s (Value i) ts = (n : List ℕ) × (ts ≡ val_name n ∷ []) × (position_of s n ≡ Some i)
@@ -64,25 +76,29 @@ operand_spells s (constant_variant c) ts = constant_spells c ts
 -- `,` before each
 abbrev pub further_spells : Scope → List Operand → List Lexeme → Type 0
 further_spells s [] ts = ts ≡ []
-further_spells s (x ∷ xs) ts = (front : List Lexeme) × (back : List Lexeme) × (ts ≡ comma ∷ (front ++ back)) × operand_spells s x front × further_spells s xs back
+further_spells s (x ∷ xs) ts = (rest : List Lexeme) × (ts ≡ comma ∷ rest) × Joined (operand_spells s x) (further_spells s xs) rest
 
 -- `,` between them
 abbrev pub operands_spells : Scope → List Operand → List Lexeme → Type 0
 operands_spells s [] ts = ts ≡ []
-operands_spells s (x ∷ xs) ts = (front : List Lexeme) × (back : List Lexeme) × (ts ≡ front ++ back) × operand_spells s x front × further_spells s xs back
+operands_spells s (x ∷ xs) ts = Joined (operand_spells s x) (further_spells s xs) ts
 
 -- two operands with nothing between them
 abbrev pub pair_spells : Scope → Operand → Operand → List Lexeme → Type 0
-pair_spells s x y ts = (front : List Lexeme) × (back : List Lexeme) × (ts ≡ front ++ back) × operand_spells s x front × operand_spells s y back
+pair_spells s x y ts = Joined (operand_spells s x) (operand_spells s y) ts
 
 -- ---- right sides
 
 abbrev pub block_spells : Block → List Lexeme → Type 0
 block_spells b ts = (w : List ℕ) × (ts ≡ ident (codes "block") ∷ int w ∷ []) × (count_of (2 ^ 32) w ≡ Some b.predecessors)
 
--- the name is that of a block, and each way into it has a value
-abbrev pub phi_spells : Scope → PlainPhi → List Lexeme → Type 0
-phi_spells s p ts = (n : List ℕ) × (rest : List Lexeme) × (ts ≡ ident (codes "phi") ∷ val_name n ∷ rest) × (entry_of s n ≡ Some (p.block, Some (length p.values))) × further_spells s p.values rest
+-- the name is that of a block, and each of its predecessors has a value
+pub record phi_spells (s : Scope) (p : PlainPhi) (ts : List Lexeme) : Type 0 where
+  pub name : List ℕ
+  pub rest : List Lexeme
+  pub whole : ts ≡ ident (codes "phi") ∷ val_name name ∷ rest
+  pub block_is : entry_of s name ≡ Some (p.block, Some (length p.values))
+  pub values_spelled : further_spells s p.values rest
 
 abbrev pub instruction_spells : Scope → Instruction → List Lexeme → Type 0
 instruction_spells s i ts = (rest : List Lexeme) × (ts ≡ ident (word_of i) ∷ rest) × operands_spells s (operands_of i) rest
@@ -101,6 +117,13 @@ rhs_spells s (instruction i) ts = instruction_spells s i ts
 abbrev pub word_attribute : List ℕ → List Lexeme
 word_attribute w = open_paren ∷ ident w ∷ close_paren ∷ []
 
+pub record range_spells (low high : ℤ) (ts : List Lexeme) : Type 0 where
+  pub low_word : List ℕ
+  pub high_word : List ℕ
+  pub whole : ts ≡ open_paren ∷ ident (codes "range") ∷ equals ∷ open_bracket ∷ int low_word ∷ comma ∷ int high_word ∷ close_paren ∷ close_paren ∷ []
+  pub low_is : number_of low_word ≡ Some low
+  pub high_is : number_of high_word ≡ Some high
+
 abbrev pub attribute_spells : PlainAttribute → List Lexeme → Type 0
 attribute_spells (known_bits_attribute bits) ts = (ts ≡ open_paren ∷ known_bits (map text_of_known_bit bits) ∷ close_paren ∷ []) × (0 < length bits)
 attribute_spells power_of_two ts = ts ≡ word_attribute (codes "powerOfTwo")
@@ -109,9 +132,7 @@ attribute_spells non_negative ts = ts ≡ word_attribute (codes "nonNegative")
 attribute_spells non_zero ts = ts ≡ word_attribute (codes "nonZero")
 attribute_spells has_external_uses ts = ts ≡ word_attribute (codes "hasExternalUses")
 attribute_spells (sign_bits n) ts = (w : List ℕ) × (ts ≡ open_paren ∷ ident (codes "signBits") ∷ equals ∷ int w ∷ close_paren ∷ []) × (count_of (2 ^ 8) w ≡ Some n)
-attribute_spells (range low high) ts =
-    (v : List ℕ) × (w : List ℕ) × (ts ≡ open_paren ∷ ident (codes "range") ∷ equals ∷ open_bracket ∷ int v ∷ comma ∷ int w ∷ close_paren ∷ close_paren ∷ [])
-    × (number_of v ≡ Some low) × (number_of w ≡ Some high)
+attribute_spells (range low high) ts = range_spells low high ts
 
 abbrev pub root_attribute_spells : PlainRootAttribute → List Lexeme → Type 0
 root_attribute_spells (demanded_bits bits) ts = (ts ≡ open_paren ∷ ident (codes "demandedBits") ∷ equals ∷ int (map text_of_bit bits) ∷ close_paren ∷ []) × (0 < length bits)
@@ -120,28 +141,39 @@ root_attribute_spells harvested_from_use ts = ts ≡ word_attribute (codes "harv
 -- one after the other
 abbrev pub attributes_spell : List PlainAttribute → List Lexeme → Type 0
 attributes_spell [] ts = ts ≡ []
-attributes_spell (x ∷ xs) ts = (front : List Lexeme) × (back : List Lexeme) × (ts ≡ front ++ back) × attribute_spells x front × attributes_spell xs back
+attributes_spell (x ∷ xs) ts = Joined (attribute_spells x) (attributes_spell xs) ts
 
 abbrev pub root_attributes_spell : List PlainRootAttribute → List Lexeme → Type 0
 root_attributes_spell [] ts = ts ≡ []
-root_attributes_spell (x ∷ xs) ts = (front : List Lexeme) × (back : List Lexeme) × (ts ≡ front ++ back) × root_attribute_spells x front × root_attributes_spell xs back
+root_attributes_spell (x ∷ xs) ts = Joined (root_attribute_spells x) (root_attributes_spell xs) ts
 
 -- ---- statements
 
 -- its own name is not in the scope
-abbrev pub assignment_spells : Scope → PlainAssignment → List Lexeme → Type 0
-assignment_spells s a ts =
-    (ty : List Lexeme) × (rhs : List Lexeme) × (attributes : List Lexeme) × (ts ≡ val_name a.name ∷ (ty ++ equals ∷ (rhs ++ attributes)))
-    × (position_of s a.name ≡ None) × optional_type_spells a.ty ty × rhs_spells s a.value rhs × attributes_spell a.attributes attributes
+pub record assignment_spells (s : Scope) (a : PlainAssignment) (ts : List Lexeme) : Type 0 where
+  pub ty : List Lexeme
+  pub rhs : List Lexeme
+  pub attributes : List Lexeme
+  pub whole : ts ≡ val_name a.name ∷ (ty ++ equals ∷ (rhs ++ attributes))
+  pub name_is_new : position_of s a.name ≡ None
+  pub ty_spelled : optional_type_spells a.ty ty
+  pub rhs_spelled : rhs_spells s a.value rhs
+  pub attributes_spelled : attributes_spell a.attributes attributes
 
 abbrev pub pc_spells : Scope → Pc → List Lexeme → Type 0
 pc_spells s p ts = (rest : List Lexeme) × (ts ≡ ident (codes "pc") ∷ rest) × pair_spells s p.x p.y rest
 
--- the name is that of a block, and the number that of a way into it
-abbrev pub block_pc_spells : Scope → BlockPc → List Lexeme → Type 0
-block_pc_spells s p ts =
-    (n : List ℕ) × (w : List ℕ) × (ways : ℕ) × (rest : List Lexeme) × (ts ≡ ident (codes "blockpc") ∷ val_name n ∷ int w ∷ rest)
-    × (entry_of s n ≡ Some (p.block, Some ways)) × (count_of (2 ^ 32) w ≡ Some p.predecessor) × (p.predecessor < ways) × pair_spells s p.x p.y rest
+-- the name is that of a block, and the number that of one of its predecessors
+pub record block_pc_spells (s : Scope) (p : BlockPc) (ts : List Lexeme) : Type 0 where
+  pub name : List ℕ
+  pub number : List ℕ
+  pub predecessors : ℕ
+  pub rest : List Lexeme
+  pub whole : ts ≡ ident (codes "blockpc") ∷ val_name name ∷ int number ∷ rest
+  pub block_is : entry_of s name ≡ Some (p.block, Some predecessors)
+  pub number_is : count_of (2 ^ 32) number ≡ Some p.predecessor
+  pub within : p.predecessor < predecessors
+  pub operands_spelled : pair_spells s p.x p.y rest
 
 abbrev pub statement_spells : Scope → PlainStatement → List Lexeme → Type 0
 statement_spells s (assigned a) ts = assignment_spells s a ts
@@ -150,17 +182,27 @@ statement_spells s (block_condition p) ts = block_pc_spells s p ts
 
 -- ---- last lines
 
-abbrev pub infer_spells : Scope → PlainInfer → List Lexeme → Type 0
-infer_spells s i ts = (n : List ℕ) × (attributes : List Lexeme) × (ts ≡ ident (codes "infer") ∷ val_name n ∷ attributes) × (position_of s n ≡ Some i.value) × root_attributes_spell i.attributes attributes
+pub record infer_spells (s : Scope) (i : PlainInfer) (ts : List Lexeme) : Type 0 where
+  pub name : List ℕ
+  pub attributes : List Lexeme
+  pub whole : ts ≡ ident (codes "infer") ∷ val_name name ∷ attributes
+  pub value_is : position_of s name ≡ Some i.value
+  pub attributes_spelled : root_attributes_spell i.attributes attributes
 
 -- nothing, or a comma
 abbrev pub IsOptionalComma : List Lexeme → Type 0
 IsOptionalComma ts = (ts ≡ []) ⊎ (ts ≡ comma ∷ [])
 
-abbrev pub cand_spells : Scope → PlainCand → List Lexeme → Type 0
-cand_spells s c ts =
-    (lhs : List Lexeme) × (between : List Lexeme) × (rhs : List Lexeme) × (attributes : List Lexeme) × (ts ≡ ident (codes "cand") ∷ (lhs ++ (between ++ (rhs ++ attributes))))
-    × operand_spells s c.lhs lhs × IsOptionalComma between × operand_spells s c.rhs rhs × root_attributes_spell c.attributes attributes
+pub record cand_spells (s : Scope) (c : PlainCand) (ts : List Lexeme) : Type 0 where
+  pub lhs : List Lexeme
+  pub between : List Lexeme
+  pub rhs : List Lexeme
+  pub attributes : List Lexeme
+  pub whole : ts ≡ ident (codes "cand") ∷ (lhs ++ (between ++ (rhs ++ attributes)))
+  pub lhs_spelled : operand_spells s c.lhs lhs
+  pub comma_or_none : IsOptionalComma between
+  pub rhs_spelled : operand_spells s c.rhs rhs
+  pub attributes_spelled : root_attributes_spell c.attributes attributes
 
 abbrev pub result_spells : Scope → Operand → List Lexeme → Type 0
 result_spells s r ts = (rest : List Lexeme) × (ts ≡ ident (codes "result") ∷ rest) × operand_spells s r rest
@@ -170,7 +212,7 @@ result_spells s r ts = (rest : List Lexeme) × (ts ≡ ident (codes "result") �
 -- statements one after the other, each in the scope of those before it
 abbrev pub Statements : Scope → List PlainStatement → List Lexeme → Type 0
 Statements s [] ts = ts ≡ []
-Statements s (v ∷ vs) ts = (front : List Lexeme) × (back : List Lexeme) × (ts ≡ front ++ back) × statement_spells s v front × Statements (s ++ v ∷ []) vs back
+Statements s (v ∷ vs) ts = Joined (statement_spells s v) (Statements (s ++ v ∷ []) vs) ts
 
 -- the types of items
 pub data ItemType : Type 0 where
@@ -182,7 +224,17 @@ pub data ItemType : Type 0 where
 abbrev pub Tail : Type 0
 Tail = List PlainStatement × Ending
 
--- what stands in an item of the type behind its first statements: a replacement may have further ones behind its infer line
+-- an infer line, further statements and a result line
+pub record replaced_spells (s : Scope) (new : List PlainStatement) (i : PlainInfer) (r : Operand) (ts : List Lexeme) : Type 0 where
+  pub infer : List Lexeme
+  pub middle : List Lexeme
+  pub result : List Lexeme
+  pub whole : ts ≡ infer ++ (middle ++ result)
+  pub infer_spelled : infer_spells s i infer
+  pub middle_spelled : Statements s new middle
+  pub result_spelled : result_spells (s ++ new) r result
+
+-- what an item of the type has after its first statements: a replacement may have further ones after its infer line
 abbrev pub tail_spells : ItemType → Scope → Tail → List Lexeme → Type 0
 tail_spells left_hand_side s (new, inferred i) ts = (new ≡ []) × infer_spells s i ts
 tail_spells left_hand_side s (new, resulting r) ts = ⊥
@@ -194,16 +246,19 @@ tail_spells right_hand_side s (new, replaced i r) ts = ⊥
 tail_spells right_hand_side s (new, candidate c) ts = ⊥
 tail_spells replacement s (new, inferred i) ts = ⊥
 tail_spells replacement s (new, resulting r) ts = ⊥
-tail_spells replacement s (new, replaced i r) ts =
-    (infer : List Lexeme) × (middle : List Lexeme) × (result : List Lexeme) × (ts ≡ infer ++ (middle ++ result))
-    × infer_spells s i infer × Statements s new middle × result_spells (s ++ new) r result
+tail_spells replacement s (new, replaced i r) ts = replaced_spells s new i r ts
 tail_spells replacement s (new, candidate c) ts = (new ≡ []) × cand_spells s c ts
 
 -- the item has the statements of the scope, and the tokens are its further statements, its last lines, and in a replacement statements between these
-abbrev pub item_spells_after : ItemType → Scope → Item → List Lexeme → Type 0
-item_spells_after k s a ts =
-    (first : List PlainStatement) × (last : List PlainStatement) × (front : List Lexeme) × (back : List Lexeme)
-    × (a.statements ≡ (s ++ first) ++ last) × (ts ≡ front ++ back) × Statements s first front × tail_spells k (s ++ first) (last, a.ending) back
+pub record item_spells_after (k : ItemType) (s : Scope) (a : Item) (ts : List Lexeme) : Type 0 where
+  pub first : List PlainStatement
+  pub last : List PlainStatement
+  pub head : List Lexeme
+  pub tail : List Lexeme
+  pub statements_are : a.statements ≡ (s ++ first) ++ last
+  pub whole : ts ≡ head ++ tail
+  pub head_spelled : Statements s first head
+  pub tail_spelled : tail_spells k (s ++ first) (last, a.ending) tail
 
 -- an item is spelled where no name is taken
 abbrev pub item_spells : ItemType → Item → List Lexeme → Type 0
@@ -212,7 +267,7 @@ item_spells k a ts = item_spells_after k [] a ts
 -- items of one type, one after the other
 abbrev pub list_spells : ItemType → List Item → List Lexeme → Type 0
 list_spells k [] ts = ts ≡ []
-list_spells k (a ∷ rest) ts = (front : List Lexeme) × (back : List Lexeme) × (ts ≡ front ++ back) × item_spells k a front × list_spells k rest back
+list_spells k (a ∷ rest) ts = Joined (item_spells k a) (list_spells k rest) ts
 
 -- the text spells the items
 abbrev pub TextSpells : ItemType → List ℕ → List Item → Type 0

@@ -1,4 +1,4 @@
--- Tokens by their contents, gaps, and the texts that a list of tokens has. All texts are lists of bytes.
+-- Definitions. Tokens by their contents, gaps, and the texts that a list of tokens has. All texts are lists of bytes.
 use Rattle.std.specs.Prelude.{◌≡◌, ◌≢◌, ℕ, ◌+◌, ◌<◌, Bool, true, false, ◌||◌, ◌==◌, List, [], ◌∷◌, ◌++◌, length, take, drop, ◌-◌, flat_map, codes, ◌↔◌, Contains}
 use Rattle.souper_graph.specs.Names.{is_name_char}
 use Rattle.std.specs.List.{AllByRecursion}
