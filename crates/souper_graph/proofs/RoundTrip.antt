@@ -10,3 +10,5 @@ pub mod Spelled
 pub mod Scopes
 pub mod Items
 pub mod Carried
+pub mod Leads
+pub mod ReadBack

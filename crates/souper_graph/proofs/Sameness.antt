@@ -35,7 +35,7 @@ used-carried a b f i j e =
     ∙ positions-carried f (uses_at a.statements i)
 
 -- what a needed statement uses is needed
-stood-needed : (a : Item) (i : ℕ) → NeededIn a i → (u : Use) → Has (uses_of (statement_at a.statements i)) u → NeededIn a (position_of u)
+pub stood-needed : (a : Item) (i : ℕ) → NeededIn a i → (u : Use) → Has (uses_of (statement_at a.statements i)) u → NeededIn a (position_of u)
 stood-needed a i d u h = use-needed a i u d (subst (λ (z : List Use). Has z u) (sym (uses-stood (slice_get a.statements i))) h)
 
 -- same graph, so the same printed order
@@ -65,7 +65,7 @@ pub has-all : (a : Item) (w : List ℕ) (i : ℕ) → Has (flat_map (unfolding_o
 has-all a w i h =
     subst (λ (z : List ℕ). Has z i) (sym (printed-is a.statements w)) (with-has [] (flat_map (unfolding_of a.statements) w) i (inr h))
 
-increasing-map : (f : ℕ → ℕ) (xs : List ℕ) → Increasing xs → ((i j : ℕ) → Has xs i → Has xs j → i < j → f i < f j) → Increasing (map f xs)
+pub increasing-map : (f : ℕ → ℕ) (xs : List ℕ) → Increasing xs → ((i j : ℕ) → Has xs i → Has xs j → i < j → f i < f j) → Increasing (map f xs)
 unfolding Increasing
 increasing-map f [] a h = tt
 increasing-map f (x ∷ xs) a h = (
@@ -449,7 +449,7 @@ unneeded-walks a b s =
 unneeded-used : (a b : Item) → SameNeeded a b → (i : ℕ) → NeededIn a i → used_at b.statements i ≡ used_at a.statements i
 unneeded-used a b s i d = ap (λ (o : Option PlainStatement). map position_of (uses_of_optional o)) (s.same_statements i d)
 
-unneeded-to : (a b : Item) → SameNeeded a b → {i : ℕ} → NeededIn a i → NeededIn b i
+pub unneeded-to : (a b : Item) → SameNeeded a b → {i : ℕ} → NeededIn a i → NeededIn b i
 unneeded-to a b s {i = i} (walked h) = walked (subst (λ (z : List ℕ). Has z i) (sym (unneeded-walks a b s)) h)
 unneeded-to a b s {i = i} (used {i = v} n h) = used (unneeded-to a b s n) (subst (λ (z : List ℕ). Has z i) (sym (unneeded-used a b s v n)) h)
 
@@ -458,7 +458,7 @@ unneeded-from a b s {i = i} (walked h) = walked (subst (λ (z : List ℕ). Has z
 unneeded-from a b s {i = i} (used {i = v} n h) =
     let d = unneeded-from a b s n in used d (subst (λ (z : List ℕ). Has z i) (unneeded-used a b s v d) h)
 
-unneeded-graph : (a b : Item) → SameNeeded a b → SameGraph a b
+pub unneeded-graph : (a b : Item) → SameNeeded a b → SameGraph a b
 unneeded-graph a b s = record {
   to = λ i. i;
   needed = λ i d. unneeded-to a b s d;
