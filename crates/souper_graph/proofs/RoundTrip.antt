@@ -12,3 +12,4 @@ pub mod Items
 pub mod Carried
 pub mod Leads
 pub mod ReadBack
+pub mod Conditions

@@ -22,7 +22,7 @@ pub contents-at : (a b : Item) → WellFormed a → (s : SameGraph a b) → (i :
     statement_at b.statements (s.to i) ≡ carried s.to (statement_at a.statements i)
 contents-at a b wa s i d = ap stood (s.contents i (statement_at a.statements i) d (well_formed_stands a wa i d))
 
-condition-at : (a b : Item) (f : ℕ → ℕ) (i j : ℕ) → statement_at b.statements j ≡ carried f (statement_at a.statements i) →
+pub condition-at : (a b : Item) (f : ℕ → ℕ) (i j : ℕ) → statement_at b.statements j ≡ carried f (statement_at a.statements i) →
     condition_at b j ≡ condition_at a i
 condition-at a b f i j e = ap is_condition e ∙ condition-carried f (statement_at a.statements i)
 

@@ -11,6 +11,7 @@ use Rattle.souper_graph.specs.Order.{printed_order, lead_of}
 use Rattle.souper_graph.specs.Text.{name_of, name_at, text_of_statement, text_of_infer, text_of_cand, text_of_result, line_of, line_at, lines_of, text_in_order, text_of, text_with_newline, texts_of}
 use Rattle.souper_graph.specs.WellFormed.{Closed, WellFormed, EachClosed}
 use Rattle.souper_graph.specs.Sameness.{carried, carried_ending, place, renumbered, SameGraph, SameNeeded}
+use Rattle.souper_graph.specs.CanonicalText.{IsWellFormedOf, AreWellFormed, AllNeeded}
 use Rattle.souper_graph.specs.Syntax.Tokens.{Lexeme, IsTextOf}
 use Rattle.souper_graph.specs.Syntax.Spelling.{kinds, ItemType, left_hand_side, right_hand_side, replacement, IsEndingOf, item_spells, list_spells, TextSpells}
 use Rattle.souper_graph.proofs.Lists.{Has-left, Has-right, Has-here, Has-later, Has-map}
@@ -88,8 +89,8 @@ module _ (a : Item) (wa : WellFormed a) where
       subst (NeededIn (numbered_item a)) (place-at (printed_order a) p 0 (printed-once a.statements (walks_of a)) within)
       (numbered-needed a wa (needs a (get_or (printed_order a) p 0) (Has-at (printed_order a) p 0 within)))
 
-  pub renumbered-needed : (p : ℕ) → p < length (renumbered a).statements → NeededIn (renumbered a) p
-  renumbered-needed = subst (λ (b : Item). (p : ℕ) → p < length b.statements → NeededIn b p) (sym (renumbered-is a wa)) all-needed
+  pub renumbered-needed : AllNeeded (renumbered a)
+  renumbered-needed = subst AllNeeded (sym (renumbered-is a wa)) all-needed
 
   pub renumbered-closed : EachClosed (renumbered a)
   renumbered-closed =
@@ -143,10 +144,6 @@ ending-kept replacement f (replaced i r) h = tt
 ending-kept replacement f (candidate c) h = tt
 
 -- ---- lists
-
--- well-formed items of one type
-abbrev pub AreWellFormed : ItemType → List Item → Type 0
-AreWellFormed k items = AllByRecursion (λ (a : Item). WellFormed a × IsEndingOf k a.ending) items
 
 list_parts : (k : ItemType) (items : List Item) → AreWellFormed k items → List Part
 list_parts k [] h = []
