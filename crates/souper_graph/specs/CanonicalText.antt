@@ -5,8 +5,8 @@ use Rattle.souper_graph.specs.Values.{PlainStatement, Item}
 use Rattle.souper_graph.specs.Uses.{Has, conditions, NeededIn}
 use Rattle.souper_graph.specs.Text.{line_at, text_of}
 use Rattle.souper_graph.specs.WellFormed.{WellFormed}
-use Rattle.souper_graph.specs.Sameness.{carried, carried_ending}
-use Rattle.souper_graph.specs.Syntax.Spelling.{ItemType, IsEndingOf}
+use Rattle.souper_graph.specs.Sameness.{carried, carried_ending, renumbered}
+use Rattle.souper_graph.specs.Syntax.Spelling.{ItemType, IsEndingOf, TextSpells}
 
 -- a well-formed item of the type
 abbrev pub IsWellFormedOf : ItemType → Item → Type 0
@@ -49,3 +49,7 @@ pub record HasConditionLines (a : Item) : Type 0 where
   pub whole : text_of a ≡ flat_map (λ l. l) lines ++ rest
   pub each_line : AllByRecursion IsLine lines
   pub conditions_among : IsSublist (map (line_at a.statements) (conditions a)) lines
+
+-- the text of the item, with a newline after it, spells the item renumbered
+abbrev pub ReadsBack : ItemType → Item → List ℕ → Type 0
+ReadsBack k a text = TextSpells k (text ++ 10 ∷ []) (renumbered a ∷ [])

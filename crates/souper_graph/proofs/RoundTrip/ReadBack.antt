@@ -1,22 +1,25 @@
 -- Lemmas. The canonical text of a well-formed item lists the statements of its renumbered item, and reads back as it.
-use Rattle.std.proofs.Common.{◌≡◌, ℕ, ◌<◌, List, [], ◌∷◌, ◌++◌, length, map, take, drop, get_or, Option, Some, None, refl, sym, ap, ◌∙◌, subst, arith, inl, inr}
-use Rattle.std.specs.Prelude.{flat_map, codes, slice_get}
+use Rattle.std.proofs.Common.{◌≡◌, ℕ, ◌<◌, List, [], ◌∷◌, ◌++◌, length, map, take, drop, get_or, Option, Some, None, refl, sym, ap, ◌∙◌, subst, arith, inl, inr, append-nil}
+use Rattle.std.specs.Prelude.{flat_map, codes, slice_get, Result, Ok, Err, IfOk}
 use Rattle.std.specs.List.{AllByRecursion}
 use Rattle.std.proofs.lemmas.List.{take-map, drop-map, take-append-drop, length-map}
 use Rattle.std.proofs.lemmas.Option.{slice_get_within}
 use Rattle.souper_graph.specs.Values.{PlainAssignment, PlainStatement, assigned, condition, block_condition, PlainInfer, Ending, inferred, resulting, replaced, candidate, Item}
 use Rattle.souper_graph.specs.declared.ast.operands.Operand.{Operand}
-use Rattle.souper_graph.specs.Uses.{Has, Use, value_use, position_of, uses_of_operand, uses_of, first_roots, roots_of, walks_of, NeededIn}
+use Rattle.souper_graph.specs.declared.ast.items.Replacement.{Replacement}
+use Rattle.souper_graph.specs.declared.ast.items.Replacement.TheVariants.{LhsRhs, Cand as cand_variant}
+use Rattle.souper_graph.specs.View.{view_replacement}
+use Rattle.souper_graph.specs.Uses.{Has, Use, value_use, position_of, uses_of_operand, uses_of, first_roots, roots_of, walks_of, NeededIn, UsesBelow}
 use Rattle.souper_graph.specs.Order.{printed_order, lead_of}
 use Rattle.souper_graph.specs.Text.{name_of, name_at, text_of_statement, text_of_infer, text_of_cand, text_of_result, line_of, line_at, lines_of, text_in_order, text_of, text_with_newline, texts_of}
 use Rattle.souper_graph.specs.WellFormed.{Closed, WellFormed, EachClosed}
 use Rattle.souper_graph.specs.Sameness.{carried, carried_ending, place, renumbered, SameGraph, SameNeeded}
-use Rattle.souper_graph.specs.CanonicalText.{IsWellFormedOf, AreWellFormed, AllNeeded}
+use Rattle.souper_graph.specs.CanonicalText.{IsWellFormedOf, AreWellFormed, AllNeeded, ReadsBack}
 use Rattle.souper_graph.specs.Syntax.Tokens.{Lexeme, IsTextOf}
 use Rattle.souper_graph.specs.Syntax.Spelling.{kinds, ItemType, left_hand_side, right_hand_side, replacement, IsEndingOf, item_spells, list_spells, TextSpells}
 use Rattle.souper_graph.proofs.Lists.{Has-left, Has-right, Has-here, Has-later, Has-map}
 use Rattle.souper_graph.proofs.Places.{Has-at, place-at}
-use Rattle.souper_graph.proofs.Closedness.{statement_at, root-walked, well_formed_stands, in-first}
+use Rattle.souper_graph.proofs.Closedness.{statement_at, root-walked, well_formed_stands, well_formed_below}
 use Rattle.souper_graph.proofs.Facts.{printed-once}
 use Rattle.souper_graph.proofs.Sameness.{numbered, numbered_item, renumbered-is, needs, stood-needed, numbered-at, numbered-needed, renumbered-well, renumbered-again, renumbered-same, renumbered-graph, unneeded-well, unneeded-graph}
 use Rattle.souper_graph.proofs.RoundTrip.Parts.{Part, newline, printed, placed, words_of, AreSound, text_from_parts, sound_lines, printed_each, printed_append, placed_words, words_append}
@@ -180,6 +183,24 @@ texts-read-back k items h =
       subst (λ (bs : List ℕ). IsTextOf bs (placed 0 ps)) (list-text k items h) (text_from_parts ps (list-sound k items h)),
       subst (list_spells k (map renumbered items)) (sym (placed_words ps 0)) (list-spelled k items h),
     )
+
+-- the text of a well-formed item reads back
+pub reads-back : (k : ItemType) (a : Item) (text : List ℕ) → IsWellFormedOf k a → text ≡ text_of a → ReadsBack k a text
+reads-back k a text h e =
+    subst (λ (bs : List ℕ). TextSpells k bs (renumbered a ∷ [])) (append-nil (text_of a ++ 10 ∷ []) ∙ ap (λ (l : List ℕ). l ++ 10 ∷ []) (sym e)) (texts-read-back k (a ∷ []) (h, tt))
+
+-- what a call returns that writes the lines in an order, which is the printed order where uses lie below their users
+pub order-reads-back : {T E : Type 0} (k : ItemType) (a : Item) (bytes : T → List ℕ) (r : Result T E) (ids : List ℕ) (lead : ℕ) → IsEndingOf k a.ending
+    → IfOk r (λ (t : T). bytes t ≡ text_in_order a.statements a.ending ids lead) → (UsesBelow a → ids ≡ printed_order a) → (UsesBelow a → lead ≡ lead_of a)
+    → WellFormed a → IfOk r (λ (t : T). ReadsBack k a (bytes t))
+order-reads-back k a bytes (Ok t) ids lead i h p l w =
+    let below = well_formed_below a w in
+    reads-back k a (bytes t) (w, i) (h ∙ (λ j. text_in_order a.statements a.ending (p below j) (l below j)))
+order-reads-back k a bytes (Err e) ids lead i h p l w = tt
+
+pub replacement-ending : (r : Replacement) → IsEndingOf replacement (view_replacement r).ending
+replacement-ending (LhsRhs ss l r) = tt
+replacement-ending (cand_variant ss c) = tt
 
 -- ---- the same graph has the same text
 
