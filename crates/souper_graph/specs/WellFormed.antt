@@ -124,3 +124,10 @@ pub record WellFormed (a : Item) : Type 0 where
   pub ending_fits : FitsEnding a.ending
   pub closed : (p : ℕ) (s : PlainStatement) → NeededIn a p → slice_get a.statements p ≡ Some s → Closed a.statements p s
   pub named_apart : AreNamedApart a.statements (NeededIn a)
+
+-- every statement, needed or not, may stand where it stands, and all names are distinct
+pub record EachClosed (a : Item) : Type 0 where
+  pub roots_met : AreMet a.statements (roots_of a.ending)
+  pub ending_fits : FitsEnding a.ending
+  pub closed : (p : ℕ) (s : PlainStatement) → slice_get a.statements p ≡ Some s → Closed a.statements p s
+  pub named_apart : (p q : ℕ) (v w : PlainAssignment) → slice_get a.statements p ≡ Some (assigned v) → slice_get a.statements q ≡ Some (assigned w) → v.name ≡ w.name → p ≡ q

@@ -12,7 +12,7 @@ use Rattle.souper_graph.specs.Instructions.{operands_of}
 use Rattle.souper_graph.specs.Names.{IsName}
 use Rattle.souper_graph.specs.Uses.{Use, value_use, block_use, uses_of_operand, uses_of_operands, uses_of_rhs, uses_of, roots_of}
 use Rattle.souper_graph.specs.Faults.{AreMet}
-use Rattle.souper_graph.specs.WellFormed.{FitsOptionalType, FitsConstant, FitsOperand, FitsRhs, FitsAttribute, FitsRootAttribute, FitsAssignment, FitsStatement, AgreesRhs, AgreesWithBlock, Closed, FitsInfer, FitsEnding, WellFormed}
+use Rattle.souper_graph.specs.WellFormed.{FitsOptionalType, FitsConstant, FitsOperand, FitsRhs, FitsAttribute, FitsRootAttribute, FitsAssignment, FitsStatement, AgreesRhs, AgreesWithBlock, Closed, FitsInfer, FitsEnding, WellFormed, EachClosed}
 use Rattle.souper_graph.specs.Syntax.Tokens.{Lexeme, val_name, spelling, IsLexeme, Begins, AreTokensOf}
 use Rattle.souper_graph.specs.Syntax.Spelling.{kinds, Scope, position_of, optional_type_spells, constant_spells, operand_spells, further_spells, operands_spells, pair_spells, rhs_spells, attribute_spells, root_attribute_spells, attributes_spell, root_attributes_spell, statement_spells, infer_spells, cand_spells, Statements, ItemType, left_hand_side, right_hand_side, replacement, tail_spells, item_spells, list_spells, TextSpells}
 use Rattle.souper_ir.specs.Parsing.{Parsing}
@@ -240,24 +240,37 @@ tail_good replacement s new (candidate c) ts l good m = ended s new (candidate c
 some_same : (p q : ℕ) (o : Option ℕ) → o ≡ Some p → o ≡ Some q → p ≡ q
 some_same p q o e f = let same : Some p ≡ Some q = sym e ∙ f in cc
 
-pub item_well : (k : ItemType) (a : Item) (ts : List Lexeme) → AllLexemes ts → item_spells k a ts → WellFormed a
-item_well k a ts l m =
+item_closed : (k : ItemType) (a : Item) (ts : List Lexeme) → AllLexemes ts → item_spells k a ts → EachClosed a
+item_closed k a ts l m =
     let lexemes : AllLexemes (m.head ++ m.tail) = subst AllLexemes m.whole l in
     let first : IsGood m.first = stated_good [] m.first m.head (all_left m.head m.tail lexemes) nothing_good m.head_spelled in
     let whole : EndsGood a.statements a.ending = subst (λ (x : Scope). EndsGood x a.ending) (sym m.statements_are) (tail_good k m.first m.last a.ending m.tail (all_right m.head m.tail lexemes) first m.tail_spelled) in
     record {
       roots_met = whole.1.0;
       ending_fits = whole.1.1;
-      closed = λ p v needed e. whole.0.1 p v e;
-      named_apart = λ p q v w np nq ep eq same.
+      closed = whole.0.1;
+      named_apart = λ p q v w ep eq same.
           some_same p q (position_of a.statements v.name) (whole.0.0 p v ep) (subst (λ (x : List ℕ). position_of a.statements x ≡ Some q) (sym same) (whole.0.0 q w eq));
     }
 
-all_well : (k : ItemType) (items : List Item) (ts : List Lexeme) → AllLexemes ts → list_spells k items ts → AllByRecursion WellFormed items
-all_well k [] ts l m = tt
-all_well k (a ∷ items) ts l m =
+closed_well : (a : Item) → EachClosed a → WellFormed a
+closed_well a h = record {
+  roots_met = h.roots_met;
+  ending_fits = h.ending_fits;
+  closed = λ p s needed e. h.closed p s e;
+  named_apart = λ p q v w np nq e f same. h.named_apart p q v w e f same;
+}
+
+all_closed : (k : ItemType) (items : List Item) (ts : List Lexeme) → AllLexemes ts → list_spells k items ts → AllByRecursion EachClosed items
+all_closed k [] ts l m = tt
+all_closed k (a ∷ items) ts l m =
     let lexemes : AllLexemes (m.prefix ++ m.suffix) = subst AllLexemes m.whole l in
-    (item_well k a m.prefix (all_left m.prefix m.suffix lexemes) m.first, all_well k items m.suffix (all_right m.prefix m.suffix lexemes) m.second)
+    (item_closed k a m.prefix (all_left m.prefix m.suffix lexemes) m.first, all_closed k items m.suffix (all_right m.prefix m.suffix lexemes) m.second)
+
+-- such items are well formed
+pub all_well : (items : List Item) → AllByRecursion EachClosed items → AllByRecursion WellFormed items
+all_well [] h = tt
+all_well (a ∷ items) h = (closed_well a h.0, all_well items h.1)
 
 -- the tokens of a text are tokens
 pub text_lexemes : (bs : List ℕ) (ts : List (ℕ × Lexeme)) (faulty : Bool) → AreTokensOf bs ts faulty → AllLexemes (kinds ts)
@@ -267,8 +280,8 @@ text_lexemes bs ts faulty h = begun 0 bs ts h.rest h.front
 pub taken_well : (k : ItemType) (a : Item) (p q r : Parsing) → AllLexemes (kinds p.tokens) → (taken : List (ℕ × Lexeme)) → p.tokens ≡ taken ++ q.tokens → (used : List (ℕ × Lexeme)) → q.tokens ≡ used ++ r.tokens → item_spells k a (kinds used) → WellFormed a
 taken_well k a p q r l taken parts used more m =
     let behind : AllLexemes (kinds q.tokens) = all_right (kinds taken) (kinds q.tokens) (subst AllLexemes (ap kinds parts ∙ kinds-append taken q.tokens) l) in
-    item_well k a (kinds used) (all_left (kinds used) (kinds r.tokens) (subst AllLexemes (ap kinds more ∙ kinds-append used r.tokens) behind)) m
+    closed_well a (item_closed k a (kinds used) (all_left (kinds used) (kinds r.tokens) (subst AllLexemes (ap kinds more ∙ kinds-append used r.tokens) behind)) m)
 
--- the items of a text are well formed
-pub text_well : (k : ItemType) (items : List Item) (bs : List ℕ) → TextSpells k bs items → AllByRecursion WellFormed items
-text_well k items bs h = all_well k items (kinds h.0) (begun 0 bs h.0 h.1.0 h.1.1) h.2
+-- each statement of the items of a text may stand where it stands
+pub text_closed : (k : ItemType) (items : List Item) (bs : List ℕ) → TextSpells k bs items → AllByRecursion EachClosed items
+text_closed k items bs h = all_closed k items (kinds h.0) (begun 0 bs h.0 h.1.0 h.1.1) h.2
