@@ -39,4 +39,4 @@ front_starts starts [] b ts e h = absurd h
 front_starts starts (t ∷ a) b ts e h = subst (λ (x : List Lexeme). Starts starts x) (sym e) h
 
 pub pair_first : (s : Scope) (p : Pair) (ts : List Lexeme) → pair_spells s p ts → Starts is_int ts
-pair_first s p ts h = front_starts is_int h.front h.back ts h.parts (constant_first s p.first h.front h.first)
+pair_first s p ts h = front_starts is_int h.prefix h.suffix ts h.whole (constant_first s p.first h.prefix h.first)

@@ -26,7 +26,7 @@ use Rattle.souper_format.proofs.RunLemmas.{IsRefusal, told_refusal}
 -- the error of a call that reads a file
 pub error_of_file : {T : Type 0} (k : ItemType) (view : T → Item) (path : List ℕ) (read : FileRead) (e : ParseError)
     → AnswersRead k view path read (Err e) → ReadError k path read e
-error_of_file k view path (Ok source) e answer = answer.2
+error_of_file k view path (Ok source) e answer = answer.refused
 error_of_file k view path (Err fault) e answer = answer
 
 -- what the status of an error says of the read

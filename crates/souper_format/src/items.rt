@@ -2,7 +2,7 @@
 ghost use Rattle.std.specs.Prelude.{◌≡◌, IfOk, IfErr, option_copied};
 ghost use Rattle.std.specs.List.{AllByRecursion};
 ghost use Rattle.std.specs.String.{string_bytes};
-ghost use Rattle.souper_graph.specs.WellFormed.{WellFormed};
+ghost use Rattle.souper_graph.specs.WellFormed.{WellFormed, EachClosed};
 ghost use Rattle.souper_graph.specs.Syntax.Spelling.{TextSpells};
 ghost use Rattle.souper_ir.specs.Answers.{IsStrError};
 ghost use Rattle.souper_format.specs.Kinds.{item_type_of, kind_of_items, view_items};
@@ -42,6 +42,7 @@ pub fn read_items(
     ensures kind { IfOk result (λ items. kind_of_items items ≡ kind) }
     ensures spelled { IfOk result (λ items. TextSpells (item_type_of kind) source.now (view_items items)) }
     ensures well_formed { IfOk result (λ items. AllByRecursion WellFormed (view_items items)) }
+    ensures each_closed { IfOk result (λ items. AllByRecursion EachClosed (view_items items)) }
     ensures refused { IfErr result (λ e. IsStrError (item_type_of kind) (option_copied filename.entry) source.now e) }
 {
     match kind {

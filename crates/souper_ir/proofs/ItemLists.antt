@@ -17,7 +17,7 @@ use Rattle.souper_ir.specs.Steps.{kinds-append}
 use Rattle.souper_ir.specs.Readings.{of_memory}
 use Rattle.souper_ir.specs.NodeReadings.{starts_statement, is_any}
 use Rattle.souper_ir.specs.StatementLaws.{begins_line, starts_begins, infer_ends, operand_ends, cand_ends, statement_first}
-use Rattle.souper_ir.specs.ItemLaws.{starts_ahead, item_alone}
+use Rattle.souper_ir.specs.ItemLaws.{joined_last, joined_longer, starts_ahead, item_alone}
 use Rattle.souper_ir.specs.ItemRuns.{ItemsTaken, SpellsAll, ListRefusal}
 use Rattle.souper_ir.specs.Sinks.{TakesOver}
 use Rattle.souper_ir.proofs.TokenLaws.{one_reading}
@@ -31,7 +31,7 @@ ending_ends (replaced i r) t b = operand_ends r t b
 ending_ends (candidate c) t b = cand_ends c t b
 
 infer_begins : (s : Scope) (i : PlainInfer) (ts : List Lexeme) → infer_spells s i ts → Starts begins_line ts
-infer_begins s i ts h = subst (λ (x : List Lexeme). Starts begins_line x) (sym h.2) refl
+infer_begins s i ts h = subst (λ (x : List Lexeme). Starts begins_line x) (sym h.whole) refl
 
 tail_begins : (k : ItemType) (s : Scope) (y : Tail) (ts : List Lexeme) → tail_spells k s y ts → Starts begins_line ts
 tail_begins left_hand_side s (new, inferred i) ts h = infer_begins s i ts h.1
@@ -44,8 +44,8 @@ tail_begins right_hand_side s (new, replaced i r) ts h = absurd h
 tail_begins right_hand_side s (new, candidate c) ts h = absurd h
 tail_begins replacement s (new, inferred i) ts h = absurd h
 tail_begins replacement s (new, resulting r) ts h = absurd h
-tail_begins replacement s (new, replaced i r) ts h = subst (λ (x : List Lexeme). Starts begins_line x) (sym h.3) (starts_ahead begins_line h.0 (h.1 ++ h.2) (infer_begins s i h.0 h.4))
-tail_begins replacement s (new, candidate c) ts h = subst (λ (x : List Lexeme). Starts begins_line x) (sym h.1.4) refl
+tail_begins replacement s (new, replaced i r) ts h = subst (λ (x : List Lexeme). Starts begins_line x) (sym h.whole) (starts_ahead begins_line h.infer (h.middle ++ h.result) (infer_begins s i h.infer h.infer_spelled))
+tail_begins replacement s (new, candidate c) ts h = subst (λ (x : List Lexeme). Starts begins_line x) (sym h.1.whole) refl
 
 statement_begins : (ts : List Lexeme) → Starts starts_statement ts → Starts begins_line ts
 statement_begins [] h = absurd h
@@ -54,13 +54,13 @@ statement_begins (t ∷ ts) h = starts_begins t h
 begun_by : (s : Scope) (vs : List PlainStatement) (front back : List Lexeme) → Statements s vs front → Starts begins_line back → Starts begins_line (front ++ back)
 begun_by s [] front back m h = subst (λ (x : List Lexeme). Starts begins_line (x ++ back)) (sym m) h
 begun_by s (v ∷ vs) front back m h =
-    subst (λ (x : List Lexeme). Starts begins_line (x ++ back)) (sym m.2)
-    (starts_ahead begins_line (m.0 ++ m.1) back (starts_ahead begins_line m.0 m.1 (statement_begins m.0 (statement_first s v m.0 m.3))))
+    subst (λ (x : List Lexeme). Starts begins_line (x ++ back)) (sym m.whole)
+    (starts_ahead begins_line (m.prefix ++ m.suffix) back (starts_ahead begins_line m.prefix m.suffix (statement_begins m.prefix (statement_first s v m.prefix m.first))))
 
 -- an item begins a line
 item_begins : (k : ItemType) (a : Item) (ts : List Lexeme) → item_spells k a ts → Starts begins_line ts
 item_begins k a ts h =
-    subst (λ (x : List Lexeme). Starts begins_line x) (sym h.5) (begun_by [] h.0 h.2 h.3 h.6 (tail_begins k h.0 (h.1, a.ending) h.3 h.7))
+    subst (λ (x : List Lexeme). Starts begins_line x) (sym h.whole) (begun_by [] h.first h.head h.tail h.head_spelled (tail_begins k h.first (h.last, a.ending) h.tail h.tail_spelled))
 
 -- an item is not continued by what stands behind it
 starts_free : (v : Item) (ts : List Lexeme) → Starts begins_line ts → Free (item_continues v) ts
@@ -69,7 +69,7 @@ starts_free v (t ∷ ts) h = ending_ends v.ending t h
 
 list_free : (k : ItemType) (v : Item) (ws : List Item) (ts : List Lexeme) → list_spells k ws ts → Free (item_continues v) ts
 list_free k v [] ts m = subst (λ (x : List Lexeme). Free (item_continues v) x) (sym m) tt
-list_free k v (w ∷ ws) ts m = subst (λ (x : List Lexeme). Free (item_continues v) x) (sym m.2) (starts_free v (m.0 ++ m.1) (starts_ahead begins_line m.0 m.1 (item_begins k w m.0 m.3)))
+list_free k v (w ∷ ws) ts m = subst (λ (x : List Lexeme). Free (item_continues v) x) (sym m.whole) (starts_free v (m.prefix ++ m.suffix) (starts_ahead begins_line m.prefix m.suffix (item_begins k w m.prefix m.first)))
 
 free_stops : (v : Item) (ts : List Lexeme) → Free (item_continues v) ts → Stops (item_continues v) false ts
 free_stops v [] h = refl
@@ -79,7 +79,7 @@ free_stops v (t ∷ ts) h = h
 list_over : (k : ItemType) (v : Item) (vs : List Item) (a c : List Lexeme) → list_spells k vs a → Free (λ t. LastGoesOn item_continues (v ∷ vs) t) c → Free (item_continues v) (a ++ c)
 list_over k v [] a c m f = subst (λ (x : List Lexeme). Free (item_continues v) (x ++ c)) (sym m) f
 list_over k v (w ∷ vs) a c m f =
-    starts_free v (a ++ c) (starts_ahead begins_line a c (subst (λ (x : List Lexeme). Starts begins_line x) (sym m.2) (starts_ahead begins_line m.0 m.1 (item_begins k w m.0 m.3))))
+    starts_free v (a ++ c) (starts_ahead begins_line a c (subst (λ (x : List Lexeme). Starts begins_line x) (sym m.whole) (starts_ahead begins_line m.prefix m.suffix (item_begins k w m.prefix m.first))))
 
 last_later : (v : Item) (vs : List Item) (t : Lexeme) → LastGoesOn item_continues vs t → LastGoesOn item_continues (v ∷ vs) t
 last_later v [] t h = absurd h
@@ -110,12 +110,12 @@ first_alone k v w a b c d e m n f g =
 
 pub list_alone : (k : ItemType) (vs ws : List Item) (ts : List Lexeme) → list_spells k vs ts → list_spells k ws ts → vs ≡ ws
 list_alone k [] [] ts m n = refl
-list_alone k [] (w ∷ ws) ts m n = absurd (item_some k w n.0 n.1 n.3 (sym n.2 ∙ m))
-list_alone k (v ∷ vs) [] ts m n = absurd (item_some k v m.0 m.1 m.3 (sym m.2 ∙ n))
+list_alone k [] (w ∷ ws) ts m n = absurd (item_some k w n.prefix n.suffix n.first (sym n.whole ∙ m))
+list_alone k (v ∷ vs) [] ts m n = absurd (item_some k v m.prefix m.suffix m.first (sym m.whole ∙ n))
 list_alone k (v ∷ vs) (w ∷ ws) ts m n =
-    let same = first_alone k v w m.0 n.0 m.1 n.1 (sym m.2 ∙ n.2) m.3 n.3 (list_free k v vs m.1 m.4) (list_free k w ws n.1 n.4) in
-    let more : list_spells k ws m.1 = subst (λ (x : List Lexeme). list_spells k ws x) (sym same.1) n.4 in
-    ap (λ (x : Item). x ∷ vs) same.0 ∙ ap (λ (x : List Item). w ∷ x) (list_alone k vs ws m.1 m.4 more)
+    let same = first_alone k v w m.prefix n.prefix m.suffix n.suffix (sym m.whole ∙ n.whole) m.first n.first (list_free k v vs m.suffix m.second) (list_free k w ws n.suffix n.second) in
+    let more : list_spells k ws m.suffix = subst (λ (x : List Lexeme). list_spells k ws x) (sym same.1) n.second in
+    ap (λ (x : Item). x ∷ vs) same.0 ∙ ap (λ (x : List Item). w ∷ x) (list_alone k vs ws m.suffix m.second more)
 
 -- a text spells one list of items of a type at most
 pub text_alone : (k : ItemType) (bs : List ℕ) (vs ws : List Item) → TextSpells k bs vs → TextSpells k bs ws → vs ≡ ws
@@ -126,8 +126,8 @@ text_alone k bs vs ws m n =
 -- ---- the loop
 
 list_push : (k : ItemType) (vs : List Item) (v : Item) (a b : List Lexeme) → list_spells k vs a → item_spells k v b → list_spells k (vs ++ v ∷ []) (a ++ b)
-list_push k [] v a b m sp = (b, [], ap (λ (x : List Lexeme). x ++ b) m ∙ sym (append-nil b), sp, refl)
-list_push k (w ∷ ws) v a b m sp = (m.0, m.1 ++ b, ap (λ (x : List Lexeme). x ++ b) m.2 ∙ append_assoc m.0 m.1 b, m.3, list_push k ws v m.1 b m.4 sp)
+list_push k [] v a b m sp = joined_last a b m sp
+list_push k (w ∷ ws) v a b m sp = joined_longer b m (list_push k ws v m.suffix b m.second sp)
 
 pub runs_start : (k : ItemType) (p : Parsing) → p.scope ≡ [] → ItemsTaken k [] p p
 runs_start k p e = record { used = []; parts = refl; spelled = refl; free = none_last (kinds p.tokens); state = refl; empty = e }
@@ -192,12 +192,12 @@ some_start (t ∷ ts) st e = absurd cc
 no_list : (k : ItemType) (vs ws : List Item) (a c ts : List Lexeme) → ts ≡ a ++ c → list_spells k vs a → Free (λ t. LastGoesOn item_continues vs t) c → (c ≡ [] → ⊥) → NoFrontOf (item_spells k) item_continues false c → list_spells k ws ts → ⊥
 no_list k [] [] a c ts e m f some none n = some (ap (λ (x : List Lexeme). x ++ c) (sym m) ∙ sym e ∙ n)
 no_list k [] (w ∷ ws) a c ts e m f some none n =
-    none w n.0 n.1 (ap (λ (x : List Lexeme). x ++ c) (sym m) ∙ sym e ∙ n.2) n.3 (free_stops w n.1 (list_free k w ws n.1 n.4))
+    none w n.prefix n.suffix (ap (λ (x : List Lexeme). x ++ c) (sym m) ∙ sym e ∙ n.whole) n.first (free_stops w n.suffix (list_free k w ws n.suffix n.second))
 no_list k (v ∷ vs) [] a c ts e m f some none n =
-    item_some k v m.0 (m.1 ++ c) m.3 (sym (append_assoc m.0 m.1 c) ∙ ap (λ (x : List Lexeme). x ++ c) (sym m.2) ∙ sym e ∙ n)
+    item_some k v m.prefix (m.suffix ++ c) m.first (sym (append_assoc m.prefix m.suffix c) ∙ ap (λ (x : List Lexeme). x ++ c) (sym m.whole) ∙ sym e ∙ n)
 no_list k (v ∷ vs) (w ∷ ws) a c ts e m f some none n =
-    let same = first_alone k v w m.0 n.0 (m.1 ++ c) n.1 (sym (append_assoc m.0 m.1 c) ∙ ap (λ (x : List Lexeme). x ++ c) (sym m.2) ∙ sym e ∙ n.2) m.3 n.3 (list_over k v vs m.1 c m.4 f) (list_free k w ws n.1 n.4) in
-    no_list k vs ws m.1 c n.1 (sym same.1) m.4 (Free-weaker (λ t. LastGoesOn item_continues (v ∷ vs) t) (λ t. LastGoesOn item_continues vs t) c (last_later v vs) f) some none n.4
+    let same = first_alone k v w m.prefix n.prefix (m.suffix ++ c) n.suffix (sym (append_assoc m.prefix m.suffix c) ∙ ap (λ (x : List Lexeme). x ++ c) (sym m.whole) ∙ sym e ∙ n.whole) m.first n.first (list_over k v vs m.suffix c m.second f) (list_free k w ws n.suffix n.second) in
+    no_list k vs ws m.suffix c n.suffix (sym same.1) m.second (Free-weaker (λ t. LastGoesOn item_continues (v ∷ vs) t) (λ t. LastGoesOn item_continues vs t) c (last_later v vs) f) some none n.second
 
 pub item_refused : (k : ItemType) (vs : List Item) (e : ParseError) (p q m r : Parsing) → ItemsTaken k vs p q → IsRead (peek_at is_any q) true q m → Refusal (item_spells_after k) item_continues e m r → ListRefusal k e p r
 item_refused k vs e p q m r so h bad =
@@ -228,7 +228,7 @@ nil_left (t ∷ a) b e = absurd cc
 
 no_items : (k : ItemType) (vs : List Item) → list_spells k vs [] → vs ≡ []
 no_items k [] h = refl
-no_items k (v ∷ vs) h = absurd (item_some k v h.0 h.1 h.3 (sym h.2))
+no_items k (v ∷ vs) h = absurd (item_some k v h.prefix h.suffix h.first (sym h.whole))
 
 -- where there is no token, none was taken and there is no item
 pub nothing_taken : (k : ItemType) (vs : List Item) (p q : Parsing) → ItemsTaken k vs p q → p.tokens ≡ [] → (q.tokens ≡ []) × (vs ≡ [])

@@ -40,7 +40,16 @@ item_taken k a new last p q m r so took statements e =
     let whole : Took (item_spells_after k) item_continues (λ s. []) a p (record m { scope = [] }) = record {
       used = so.stated.used ++ took.used;
       parts = so.stated.parts ∙ ap (λ (x : List (ℕ × Lexeme)). so.stated.used ++ x) took.parts ∙ sym (append_assoc so.stated.used took.used m.tokens);
-      spelled = (new, last, kinds so.stated.used, kinds took.used, here, kinds-append so.stated.used took.used, so.stated.spelled, subst (λ (x : Scope). tail_spells k x (last, a.ending) (kinds took.used)) q_scope took.spelled);
+      spelled = record {
+        first = new;
+        last = last;
+        head = kinds so.stated.used;
+        tail = kinds took.used;
+        statements_are = here;
+        whole = kinds-append so.stated.used took.used;
+        head_spelled = so.stated.spelled;
+        tail_spelled = subst (λ (x : Scope). tail_spells k x (last, a.ending) (kinds took.used)) q_scope took.spelled;
+      };
       free = took.free;
       live = so.live;
       state = ap (λ (x : Parsing). record x { tokens = m.tokens; scope = [] }) took.state ∙ ap (λ (x : Parsing). record x { tokens = m.tokens; scope = [] }) so.stated.state;
@@ -49,8 +58,8 @@ item_taken k a new last p q m r so took statements e =
 
 none_if_stuck : (k : ItemType) (p : Parsing) → StuckAt (NoMore (tail_spells k) tail_continues) p.scope p.faulty (kinds p.tokens) → NoFront (item_spells_after k) item_continues p
 none_if_stuck k p h a front rest e sp st =
-    no_item (tail_spells k) tail_continues (tail_opens k) p.faulty p.scope h.members sp.0 h.front h.rest sp.2 sp.3 rest (sp.1, a.ending)
-    (sym h.parts ∙ e ∙ split front sp.2 sp.3 rest sp.5) h.spelled h.free h.stuck sp.6 sp.7 st
+    no_item (tail_spells k) tail_continues (tail_opens k) p.faulty p.scope h.members sp.first h.front h.rest sp.head sp.tail rest (sp.last, a.ending)
+    (sym h.parts ∙ e ∙ split front sp.head sp.tail rest sp.whole) h.spelled h.free h.stuck sp.head_spelled sp.tail_spelled st
 
 pub statements_refused : (k : ItemType) (e : ParseError) (p q : Parsing) → StatedRefusal e p q → Refusal (item_spells_after k) item_continues e p q
 statements_refused k e p q h = record {
@@ -134,7 +143,7 @@ root_refused e p h q seen bad =
     none st f (new, inferred i) front rest eq sp stop = sp
     none st f (new, resulting r) front rest eq sp stop = sp
     none st f (new, replaced i r) front rest eq sp stop =
-        f i sp.0 ((sp.1 ++ sp.2) ++ rest) (eq ∙ split front sp.0 (sp.1 ++ sp.2) rest sp.3) sp.4 (infer_over p.faulty p.scope (p.scope ++ new) i r new sp.1 sp.2 rest sp.5 sp.6)
+        f i sp.infer ((sp.middle ++ sp.result) ++ rest) (eq ∙ split front sp.infer (sp.middle ++ sp.result) rest sp.whole) sp.infer_spelled (infer_over p.faulty p.scope (p.scope ++ new) i r new sp.middle sp.result rest sp.middle_spelled sp.result_spelled)
     none st f (new, candidate c) front rest eq sp stop = cand_is_no_infer p.scope c front (kinds p.tokens) rest sp.1 st eq
 
 pub root_behind : (i : PlainInfer) (p h q : Parsing) → SeesInfer true p h → TookInfer i h q → TookInfer i p q
@@ -157,12 +166,12 @@ none_behind p q j took stuck = none
     none (new, inferred i) front rest eq sp st = sp
     none (new, resulting r) front rest eq sp st = sp
     none (new, replaced i r) front rest eq sp st =
-        let whole : kinds took.used ++ kinds q.tokens ≡ sp.0 ++ ((sp.1 ++ sp.2) ++ rest) = sym parts ∙ eq ∙ split front sp.0 (sp.1 ++ sp.2) rest sp.3 in
-        let free = Free-from_Stops (infer_continues i) p.faulty ((sp.1 ++ sp.2) ++ rest) (infer_over p.faulty p.scope (p.scope ++ new) i r new sp.1 sp.2 rest sp.5 sp.6) in
-        let root = infer_alone p.scope j i (kinds took.used) sp.0 (kinds q.tokens) ((sp.1 ++ sp.2) ++ rest) whole took.spelled sp.4 took.free free in
-        let behind : kinds q.tokens ≡ (sp.1 ++ sp.2) ++ rest = append_cancel_left sp.0 (kinds q.tokens) ((sp.1 ++ sp.2) ++ rest) (ap (λ (x : List Lexeme). x ++ kinds q.tokens) (sym root.0) ∙ whole) in
-        no_item result_spells result_continues result_opens p.faulty p.scope here.members new here.front here.rest sp.1 sp.2 rest r
-        (sym here.parts ∙ behind ∙ append_assoc sp.1 sp.2 rest) here.spelled here.free here.stuck sp.5 sp.6 st
+        let whole : kinds took.used ++ kinds q.tokens ≡ sp.infer ++ ((sp.middle ++ sp.result) ++ rest) = sym parts ∙ eq ∙ split front sp.infer (sp.middle ++ sp.result) rest sp.whole in
+        let free = Free-from_Stops (infer_continues i) p.faulty ((sp.middle ++ sp.result) ++ rest) (infer_over p.faulty p.scope (p.scope ++ new) i r new sp.middle sp.result rest sp.middle_spelled sp.result_spelled) in
+        let root = infer_alone p.scope j i (kinds took.used) sp.infer (kinds q.tokens) ((sp.middle ++ sp.result) ++ rest) whole took.spelled sp.infer_spelled took.free free in
+        let behind : kinds q.tokens ≡ (sp.middle ++ sp.result) ++ rest = append_cancel_left sp.infer (kinds q.tokens) ((sp.middle ++ sp.result) ++ rest) (ap (λ (x : List Lexeme). x ++ kinds q.tokens) (sym root.0) ∙ whole) in
+        no_item result_spells result_continues result_opens p.faulty p.scope here.members new here.front here.rest sp.middle sp.result rest r
+        (sym here.parts ∙ behind ∙ append_assoc sp.middle sp.result rest) here.spelled here.free here.stuck sp.middle_spelled sp.result_spelled st
     none (new, candidate c) front rest eq sp st = cand_is_no_infer p.scope c front (kinds p.tokens) rest sp.1 starts eq
 
 same_failed : (i : PlainInfer) (p q : Parsing) → TookInfer i p q → q.failed ≡ p.failed
@@ -197,7 +206,15 @@ replaced_tail i new r p q m n root so last =
     record {
       used = a ++ (b ++ c);
       parts = root.parts ∙ ap (λ (x : List (ℕ × Lexeme)). a ++ x) (so.stated.parts ∙ ap (λ (x : List (ℕ × Lexeme)). b ++ x) last.parts ∙ sym (append_assoc b c n.tokens)) ∙ sym (append_assoc a (b ++ c) n.tokens);
-      spelled = (kinds a, kinds b, kinds c, tokens, root.spelled, subst (λ (x : Scope). Statements x new (kinds b)) q_scope so.stated.spelled, subst (λ (x : Scope). result_spells x r (kinds c)) m_scope last.spelled);
+      spelled = record {
+        infer = kinds a;
+        middle = kinds b;
+        result = kinds c;
+        whole = tokens;
+        infer_spelled = root.spelled;
+        middle_spelled = subst (λ (x : Scope). Statements x new (kinds b)) q_scope so.stated.spelled;
+        result_spelled = subst (λ (x : Scope). result_spells x r (kinds c)) m_scope last.spelled;
+      };
       free = last.free;
       live = root.live;
       state = last.state ∙ ap (λ (x : Parsing). record x { tokens = n.tokens }) so.stated.state ∙ ap (λ (x : Parsing). record x { tokens = n.tokens; scope = q.scope ++ new }) root.state

@@ -38,15 +38,15 @@ module _ {V : Type 0} (spells : Scope → V → List Lexeme → Type 0) (continu
   -- one more member
   members_push : (s : Scope) (vs : List V) (v : V) (a b : List Lexeme) → Members (spells s) continues vs a → Free (λ t. LastGoesOn continues vs t) b → spells s v b → Members (spells s) continues (vs ++ v ∷ []) (a ++ b)
   members_push s [] v a b m f sp =
-      (b, [], ap (λ (x : List Lexeme). x ++ b) m ∙ sym (append-nil b), sp, tt, refl)
-  members_push s (w ∷ ws) v a b m f sp = (
-    m.0,
-    m.1 ++ b,
-    ap (λ (x : List Lexeme). x ++ b) m.2 ∙ append_assoc m.0 m.1 b,
-    m.3,
-    unique.free_over (spells s) continues starts (alone s) (first s) w ws m.1 b m.4 m.5 f,
-    members_push s ws v m.1 b m.5 (unique.Free-weaker (λ t. LastGoesOn continues (w ∷ ws) t) (λ t. LastGoesOn continues ws t) b (unique.last_later (spells s) continues starts (alone s) (first s) w ws) f) sp,
-  )
+      record { prefix = b; suffix = []; whole = ap (λ (x : List Lexeme). x ++ b) m ∙ sym (append-nil b); first = sp; free = tt; second = refl }
+  members_push s (w ∷ ws) v a b m f sp = record {
+    prefix = m.prefix;
+    suffix = m.suffix ++ b;
+    whole = ap (λ (x : List Lexeme). x ++ b) m.whole ∙ append_assoc m.prefix m.suffix b;
+    first = m.first;
+    free = unique.free_over (spells s) continues starts (alone s) (first s) w ws m.suffix b m.free m.second f;
+    second = members_push s ws v m.suffix b m.second (unique.Free-weaker (λ t. LastGoesOn continues (w ∷ ws) t) (λ t. LastGoesOn continues ws t) b (unique.last_later (spells s) continues starts (alone s) (first s) w ws) f) sp;
+  }
 
   last_of_push : (vs : List V) (v : V) (t : Lexeme) → LastGoesOn continues (vs ++ v ∷ []) t → continues v t
   last_of_push [] v t h = h
@@ -122,25 +122,25 @@ module _ {V : Type 0} (spells : Scope → V → List Lexeme → Type 0) (continu
   no_list s faulty [] [] a c b d e m f k n st =
       nothing_at s faulty [] c d k refl (ap (λ (x : List Lexeme). x ++ c) (sym m) ∙ e ∙ ap (λ (x : List Lexeme). x ++ d) n) st
   no_list s faulty [] (w ∷ ws) a c b d e m f (inl k) n st =
-      unique.not_empty (spells s) continues starts (alone s) (first s) w n.0 (n.1 ++ d) n.3
-      (sym (append_assoc n.0 n.1 d) ∙ ap (λ (x : List Lexeme). x ++ d) (sym n.2) ∙ sym e ∙ ap (λ (x : List Lexeme). x ++ c) m ∙ k.0)
+      unique.not_empty (spells s) continues starts (alone s) (first s) w n.prefix (n.suffix ++ d) n.first
+      (sym (append_assoc n.prefix n.suffix d) ∙ ap (λ (x : List Lexeme). x ++ d) (sym n.whole) ∙ sym e ∙ ap (λ (x : List Lexeme). x ++ c) m ∙ k.0)
   no_list s faulty [] (w ∷ ws) a c b d e m f (inr k) n st =
-      k.1 w n.0 (n.1 ++ d) (ap (λ (x : List Lexeme). x ++ c) (sym m) ∙ e ∙ ap (λ (x : List Lexeme). x ++ d) n.2 ∙ append_assoc n.0 n.1 d) n.3
-      (unique.stops_over (spells s) continues starts (alone s) (first s) faulty w ws n.1 d n.4 n.5
+      k.1 w n.prefix (n.suffix ++ d) (ap (λ (x : List Lexeme). x ++ c) (sym m) ∙ e ∙ ap (λ (x : List Lexeme). x ++ d) n.whole ∙ append_assoc n.prefix n.suffix d) n.first
+      (unique.stops_over (spells s) continues starts (alone s) (first s) faulty w ws n.suffix d n.free n.second
       (unique.Stops-weaker (λ t. ListGoesOn continues starts (w ∷ ws) t) (λ t. LastGoesOn continues (w ∷ ws) t) faulty d (λ t h. inr h) st))
   no_list s faulty (v ∷ vs) [] a c b d e m f k n st =
-      unique.clash_at starts faulty m.0 d (m.1 ++ c) (first s v m.0 m.3)
-      (ap (λ (x : List Lexeme). x ++ d) (sym n) ∙ sym e ∙ ap (λ (x : List Lexeme). x ++ c) m.2 ∙ append_assoc m.0 m.1 c)
+      unique.clash_at starts faulty m.prefix d (m.suffix ++ c) (first s v m.prefix m.first)
+      (ap (λ (x : List Lexeme). x ++ d) (sym n) ∙ sym e ∙ ap (λ (x : List Lexeme). x ++ c) m.whole ∙ append_assoc m.prefix m.suffix c)
       (unique.Stops-weaker (λ t. ListGoesOn continues starts [] t) (λ t. starts t ≡ true) faulty d (λ t h. inl h) st)
   no_list s faulty (v ∷ vs) (w ∷ ws) a c b d e m f k n st =
-      let whole = unique.parts_equal (spells s) continues starts (alone s) (first s) a b m.0 m.1 n.0 n.1 c d m.2 n.2 e in
-      let here = alone s v w m.0 n.0 (m.1 ++ c) (n.1 ++ d) whole m.3 n.3
-      (unique.free_over (spells s) continues starts (alone s) (first s) v vs m.1 c m.4 m.5 f)
-      (unique.free_over (spells s) continues starts (alone s) (first s) w ws n.1 d n.4 n.5
+      let whole = unique.parts_equal (spells s) continues starts (alone s) (first s) a b m.prefix m.suffix n.prefix n.suffix c d m.whole n.whole e in
+      let here = alone s v w m.prefix n.prefix (m.suffix ++ c) (n.suffix ++ d) whole m.first n.first
+      (unique.free_over (spells s) continues starts (alone s) (first s) v vs m.suffix c m.free m.second f)
+      (unique.free_over (spells s) continues starts (alone s) (first s) w ws n.suffix d n.free n.second
       (unique.Free-from_Stops (λ t. LastGoesOn continues (w ∷ ws) t) faulty d (unique.Stops-weaker (λ t. ListGoesOn continues starts (w ∷ ws) t) (λ t. LastGoesOn continues (w ∷ ws) t) faulty d (λ t h. inr h) st))) in
-      no_list s faulty vs ws m.1 c n.1 d (unique.rest_equal (spells s) continues starts (alone s) (first s) m.0 m.1 n.0 n.1 c d here.0 whole) m.5
+      no_list s faulty vs ws m.suffix c n.suffix d (unique.rest_equal (spells s) continues starts (alone s) (first s) m.prefix m.suffix n.prefix n.suffix c d here.0 whole) m.second
       (unique.Free-weaker (λ t. LastGoesOn continues (v ∷ vs) t) (λ t. LastGoesOn continues vs t) c (unique.last_later (spells s) continues starts (alone s) (first s) v vs) f)
-      k n.5
+      k n.second
       (unique.Stops-weaker (λ t. ListGoesOn continues starts (w ∷ ws) t) (λ t. ListGoesOn continues starts ws t) faulty d (unique.list_later (spells s) continues starts (alone s) (first s) w ws) st)
 
   pub none_if_stuck : (p : Parsing) → Stuck (spells p.scope) continues starts p.faulty (kinds p.tokens)

@@ -12,7 +12,7 @@ use Rattle.souper_graph.specs.Instructions.{operands_of}
 use Rattle.souper_graph.specs.Names.{IsName}
 use Rattle.souper_graph.specs.Uses.{Use, value_use, block_use, uses_of_operand, uses_of_operands, uses_of_rhs, uses_of, roots_of}
 use Rattle.souper_graph.specs.Faults.{AreMet}
-use Rattle.souper_graph.specs.WellFormed.{FitsOptionalType, FitsConstant, FitsOperand, FitsRhs, FitsAttribute, FitsRootAttribute, FitsAssignment, FitsStatement, AgreesRhs, AgreesWithBlock, Closed, FitsInfer, FitsEnding, WellFormed}
+use Rattle.souper_graph.specs.WellFormed.{FitsOptionalType, FitsConstant, FitsOperand, FitsRhs, FitsAttribute, FitsRootAttribute, FitsAssignment, FitsStatement, AgreesRhs, AgreesWithBlock, Closed, FitsInfer, FitsEnding, WellFormed, EachClosed}
 use Rattle.souper_graph.specs.Syntax.Tokens.{Lexeme, val_name, spelling, IsLexeme, Begins, AreTokensOf}
 use Rattle.souper_graph.specs.Syntax.Spelling.{kinds, Scope, position_of, optional_type_spells, constant_spells, operand_spells, further_spells, operands_spells, pair_spells, rhs_spells, attribute_spells, root_attribute_spells, attributes_spell, root_attributes_spell, statement_spells, infer_spells, cand_spells, Statements, ItemType, left_hand_side, right_hand_side, replacement, tail_spells, item_spells, list_spells, TextSpells}
 use Rattle.souper_ir.specs.Parsing.{Parsing}
@@ -42,7 +42,7 @@ type_fits None ts m = tt
 type_fits (Some t) ts m = width_fits m.2.0 t.width m.2.2
 
 constant_fits : (c : Constant) (ts : List Lexeme) → constant_spells c ts → FitsConstant c
-constant_fits c ts m = (number_fits m.0 c.value m.3, type_fits c.ty m.1 m.4)
+constant_fits c ts m = (number_fits m.word c.value m.value_is, type_fits c.ty m.rest m.ty_spelled)
 
 -- the uses reach back into the scope, and the operands themselves are as they must be
 abbrev Sits : Scope → Operand → Type 0
@@ -60,14 +60,14 @@ one_more s x xs h hs = (both_reach s (uses_of_operand x) (uses_of_operands xs) h
 
 further_sit : (s : Scope) (xs : List Operand) (ts : List Lexeme) → further_spells s xs ts → AllSit s xs
 further_sit s [] ts m = (none_reach s, tt)
-further_sit s (x ∷ xs) ts m = one_more s x xs (operand_sits s x m.0 m.3) (further_sit s xs m.1 m.4)
+further_sit s (x ∷ xs) ts m = one_more s x xs (operand_sits s x m.2.prefix m.2.first) (further_sit s xs m.2.suffix m.2.second)
 
 operands_sit : (s : Scope) (xs : List Operand) (ts : List Lexeme) → operands_spells s xs ts → AllSit s xs
 operands_sit s [] ts m = (none_reach s, tt)
-operands_sit s (x ∷ xs) ts m = one_more s x xs (operand_sits s x m.0 m.3) (further_sit s xs m.1 m.4)
+operands_sit s (x ∷ xs) ts m = one_more s x xs (operand_sits s x m.prefix m.first) (further_sit s xs m.suffix m.second)
 
 pair_sits : (s : Scope) (x y : Operand) (ts : List Lexeme) → pair_spells s x y ts → Sits s x × Sits s y
-pair_sits s x y ts m = (operand_sits s x m.0 m.3, operand_sits s y m.1 m.4)
+pair_sits s x y ts m = (operand_sits s x m.prefix m.first, operand_sits s y m.suffix m.second)
 
 abbrev RhsSits : Scope → PlainRhs → Type 0
 RhsSits s v = AllReach s (uses_of_rhs v) × FitsRhs v × AgreesRhs s v
@@ -76,8 +76,8 @@ rhs_sits : (s : Scope) (v : PlainRhs) (ts : List Lexeme) → rhs_spells s v ts �
 rhs_sits s var ts m = (none_reach s, tt, tt)
 rhs_sits s (block b) ts m = (none_reach s, count_fits _ m.0 b.predecessors m.2, tt)
 rhs_sits s (phi p) ts m =
-    let entry = block_reaches s m.0 p.block (length p.values) m.3 in
-    let values = further_sit s p.values m.1 m.4 in
+    let entry = block_reaches s m.name p.block (length p.values) m.block_is in
+    let values = further_sit s p.values m.rest m.values_spelled in
     (one_reaches s (block_use p.block) (uses_of_operands p.values) entry.0 values.0, values.1, entry.1)
 rhs_sits s reserved_inst ts m = (none_reach s, tt, tt)
 rhs_sits s reserved_const ts m = (none_reach s, tt, tt)
@@ -95,11 +95,11 @@ attribute_fits non_negative ts m = tt
 attribute_fits non_zero ts m = tt
 attribute_fits has_external_uses ts m = tt
 attribute_fits (sign_bits n) ts m = count_fits _ m.0 n m.2
-attribute_fits (range low high) ts m = (number_fits m.0 low m.3, number_fits m.1 high m.4)
+attribute_fits (range low high) ts m = (number_fits m.low_word low m.low_is, number_fits m.high_word high m.high_is)
 
 attributes_fit : (xs : List PlainAttribute) (ts : List Lexeme) → attributes_spell xs ts → AllByRecursion FitsAttribute xs
 attributes_fit [] ts m = tt
-attributes_fit (x ∷ xs) ts m = (attribute_fits x m.0 m.3, attributes_fit xs m.1 m.4)
+attributes_fit (x ∷ xs) ts m = (attribute_fits x m.prefix m.first, attributes_fit xs m.suffix m.second)
 
 root_attribute_fits : (a : PlainRootAttribute) (ts : List Lexeme) → root_attribute_spells a ts → FitsRootAttribute a
 root_attribute_fits (demanded_bits bits) ts m = m.1
@@ -107,7 +107,7 @@ root_attribute_fits harvested_from_use ts m = tt
 
 root_attributes_fit : (xs : List PlainRootAttribute) (ts : List Lexeme) → root_attributes_spell xs ts → AllByRecursion FitsRootAttribute xs
 root_attributes_fit [] ts m = tt
-root_attributes_fit (x ∷ xs) ts m = (root_attribute_fits x m.0 m.3, root_attributes_fit xs m.1 m.4)
+root_attributes_fit (x ∷ xs) ts m = (root_attribute_fits x m.prefix m.first, root_attributes_fit xs m.suffix m.second)
 
 -- ---- statements
 
@@ -120,23 +120,23 @@ StatementSits s v = AllReach s (uses_of v) × FitsStatement v × AgreesWithBlock
 
 statement_sits : (s : Scope) (v : PlainStatement) (ts : List Lexeme) → AllLexemes ts → statement_spells s v ts → StatementSits s v
 statement_sits s (assigned a) ts l m =
-    let value = rhs_sits s a.value m.1 m.6 in
+    let value = rhs_sits s a.value m.rhs m.rhs_spelled in
     let fits : FitsAssignment a = record {
-      name_fits = name_lexeme a.name (subst AllLexemes m.3 l).0;
-      type_fits = type_fits a.ty m.0 m.5;
+      name_fits = name_lexeme a.name (subst AllLexemes m.whole l).0;
+      type_fits = type_fits a.ty m.ty m.ty_spelled;
       value_fits = value.1;
-      attributes_fit = attributes_fit a.attributes m.2 m.7;
+      attributes_fit = attributes_fit a.attributes m.attributes m.attributes_spelled;
     } in
     (value.0, fits, value.2)
 statement_sits s (condition p) ts l m =
     let k = pair_sits s p.x p.y m.0 m.2 in
     (both_reach s (uses_of_operand p.x) (uses_of_operand p.y) k.0.0 k.1.0, (k.0.1, k.1.1), tt)
 statement_sits s (block_condition p) ts l m =
-    let entry = block_reaches s m.0 p.block m.2 m.5 in
-    let k = pair_sits s p.x p.y m.3 m.8 in (
+    let entry = block_reaches s m.name p.block m.predecessors m.block_is in
+    let k = pair_sits s p.x p.y m.rest m.operands_spelled in (
       one_reaches s (block_use p.block) (uses_of_operand p.x ++ uses_of_operand p.y) entry.0 (both_reach s (uses_of_operand p.x) (uses_of_operand p.y) k.0.0 k.1.0),
-      (count_fits _ m.1 p.predecessor m.6, k.0.1, k.1.1),
-      subst (λ (n : ℕ). p.predecessor < n) entry.1 m.7,
+      (count_fits _ m.number p.predecessor m.number_is, k.0.1, k.1.1),
+      subst (λ (n : ℕ). p.predecessor < n) entry.1 m.within,
     )
 
 -- each statement may stand where it does
@@ -165,17 +165,17 @@ closed_push ss s before sits p v e = by_place (get_push ss s v p e)
     by_place (inr h) = subst (λ (x : PlainStatement). Closed (ss ++ s ∷ []) p x) h.1 (subst (λ (i : ℕ). Closed (ss ++ s ∷ []) i s) (sym h.0) last)
 
 named_more : (s : Scope) (v : PlainStatement) (ts : List Lexeme) → Named s → statement_spells s v ts → Named (s ++ v ∷ [])
-named_more s (assigned a) ts named m = named_push s a named m.4
+named_more s (assigned a) ts named m = named_push s a named m.name_is_new
 named_more s (condition p) ts named m = named_pass s (condition p) named refl
 named_more s (block_condition p) ts named m = named_pass s (block_condition p) named refl
 
 stated_good : (s : Scope) (vs : List PlainStatement) (ts : List Lexeme) → AllLexemes ts → IsGood s → Statements s vs ts → IsGood (s ++ vs)
 stated_good s [] ts l good m = subst IsGood (sym (append-nil s)) good
 stated_good s (v ∷ vs) ts l good m =
-    let lexemes : AllLexemes (m.0 ++ m.1) = subst AllLexemes m.2 l in
-    let sits = statement_sits s v m.0 (all_left m.0 m.1 lexemes) m.3 in
+    let lexemes : AllLexemes (m.prefix ++ m.suffix) = subst AllLexemes m.whole l in
+    let sits = statement_sits s v m.prefix (all_left m.prefix m.suffix lexemes) m.first in
     subst IsGood (append_assoc s (v ∷ []) vs)
-    (stated_good (s ++ v ∷ []) vs m.1 (all_right m.0 m.1 lexemes) (named_more s v m.0 good.0 m.3, closed_push s v good.1 sits) m.4)
+    (stated_good (s ++ v ∷ []) vs m.suffix (all_right m.prefix m.suffix lexemes) (named_more s v m.prefix good.0 m.first, closed_push s v good.1 sits) m.second)
 
 -- ---- last lines
 
@@ -187,10 +187,10 @@ all_met : (s more : Scope) (us : List Use) → AllReach s us → AreMet (s ++ mo
 all_met s more us h u k = met_kept s more u (h u k).1
 
 infer_reaches : (s : Scope) (i : PlainInfer) (ts : List Lexeme) → infer_spells s i ts → AllReach s (value_use i.value ∷ [])
-infer_reaches s i ts m = one_reaches s (value_use i.value) [] (value_reaches s m.0 i.value m.3) (none_reach s)
+infer_reaches s i ts m = one_reaches s (value_use i.value) [] (value_reaches s m.name i.value m.value_is) (none_reach s)
 
 infer_fits : (s : Scope) (i : PlainInfer) (ts : List Lexeme) → infer_spells s i ts → FitsInfer i
-infer_fits s i ts m = root_attributes_fit i.attributes m.1 m.4
+infer_fits s i ts m = root_attributes_fit i.attributes m.attributes m.attributes_spelled
 
 here : (s : Scope) (y : Ending) → AllReach s (roots_of y) → FitsEnding y → Ends (s ++ []) y
 here s y reach fits = (all_met s [] (roots_of y) reach, fits)
@@ -201,10 +201,10 @@ replaced_ends s new i r root result u (inr h) = (result.0 u h).1
 
 cand_ends : (s : Scope) (c : PlainCand) (ts : List Lexeme) → cand_spells s c ts → Ends (s ++ []) (candidate c)
 cand_ends s c ts m =
-    let lhs = operand_sits s c.lhs m.0 m.5 in
-    let rhs = operand_sits s c.rhs m.2 m.7 in
+    let lhs = operand_sits s c.lhs m.lhs m.lhs_spelled in
+    let rhs = operand_sits s c.rhs m.rhs m.rhs_spelled in
     let roots : AllReach s (uses_of_operand c.lhs ++ uses_of_operand c.rhs) = both_reach s (uses_of_operand c.lhs) (uses_of_operand c.rhs) lhs.0 rhs.0 in
-    here s (candidate c) (both_reach s (uses_of_operand c.lhs ++ uses_of_operand c.rhs) [] roots (none_reach s)) (lhs.1, rhs.1, root_attributes_fit c.attributes m.3 m.8)
+    here s (candidate c) (both_reach s (uses_of_operand c.lhs ++ uses_of_operand c.rhs) [] roots (none_reach s)) (lhs.1, rhs.1, root_attributes_fit c.attributes m.attributes m.attributes_spelled)
 
 abbrev EndsGood : Scope → Ending → Type 0
 EndsGood ss y = IsGood ss × Ends ss y
@@ -228,10 +228,10 @@ tail_good right_hand_side s new (candidate c) ts l good m = absurd m
 tail_good replacement s new (inferred i) ts l good m = absurd m
 tail_good replacement s new (resulting r) ts l good m = absurd m
 tail_good replacement s new (replaced i r) ts l good m =
-    let lexemes : AllLexemes m.1 = all_left m.1 m.2 (all_right m.0 (m.1 ++ m.2) (subst AllLexemes m.3 l)) in
-    let result = operand_sits (s ++ new) r m.6.0 m.6.2 in (
-      stated_good s new m.1 lexemes good m.5,
-      (replaced_ends s new i r (infer_reaches s i m.0 m.4) result, (infer_fits s i m.0 m.4, result.1)),
+    let lexemes : AllLexemes m.middle = all_left m.middle m.result (all_right m.infer (m.middle ++ m.result) (subst AllLexemes m.whole l)) in
+    let result = operand_sits (s ++ new) r m.result_spelled.0 m.result_spelled.2 in (
+      stated_good s new m.middle lexemes good m.middle_spelled,
+      (replaced_ends s new i r (infer_reaches s i m.infer m.infer_spelled) result, (infer_fits s i m.infer m.infer_spelled, result.1)),
     )
 tail_good replacement s new (candidate c) ts l good m = ended s new (candidate c) m.0 good (cand_ends s c ts m.1)
 
@@ -240,24 +240,37 @@ tail_good replacement s new (candidate c) ts l good m = ended s new (candidate c
 some_same : (p q : ℕ) (o : Option ℕ) → o ≡ Some p → o ≡ Some q → p ≡ q
 some_same p q o e f = let same : Some p ≡ Some q = sym e ∙ f in cc
 
-pub item_well : (k : ItemType) (a : Item) (ts : List Lexeme) → AllLexemes ts → item_spells k a ts → WellFormed a
-item_well k a ts l m =
-    let lexemes : AllLexemes (m.2 ++ m.3) = subst AllLexemes m.5 l in
-    let first : IsGood m.0 = stated_good [] m.0 m.2 (all_left m.2 m.3 lexemes) nothing_good m.6 in
-    let whole : EndsGood a.statements a.ending = subst (λ (x : Scope). EndsGood x a.ending) (sym m.4) (tail_good k m.0 m.1 a.ending m.3 (all_right m.2 m.3 lexemes) first m.7) in
+item_closed : (k : ItemType) (a : Item) (ts : List Lexeme) → AllLexemes ts → item_spells k a ts → EachClosed a
+item_closed k a ts l m =
+    let lexemes : AllLexemes (m.head ++ m.tail) = subst AllLexemes m.whole l in
+    let first : IsGood m.first = stated_good [] m.first m.head (all_left m.head m.tail lexemes) nothing_good m.head_spelled in
+    let whole : EndsGood a.statements a.ending = subst (λ (x : Scope). EndsGood x a.ending) (sym m.statements_are) (tail_good k m.first m.last a.ending m.tail (all_right m.head m.tail lexemes) first m.tail_spelled) in
     record {
       roots_met = whole.1.0;
       ending_fits = whole.1.1;
-      closed = λ p v needed e. whole.0.1 p v e;
-      named_apart = λ p q v w np nq ep eq same.
+      closed = whole.0.1;
+      named_apart = λ p q v w ep eq same.
           some_same p q (position_of a.statements v.name) (whole.0.0 p v ep) (subst (λ (x : List ℕ). position_of a.statements x ≡ Some q) (sym same) (whole.0.0 q w eq));
     }
 
-all_well : (k : ItemType) (items : List Item) (ts : List Lexeme) → AllLexemes ts → list_spells k items ts → AllByRecursion WellFormed items
-all_well k [] ts l m = tt
-all_well k (a ∷ items) ts l m =
-    let lexemes : AllLexemes (m.0 ++ m.1) = subst AllLexemes m.2 l in
-    (item_well k a m.0 (all_left m.0 m.1 lexemes) m.3, all_well k items m.1 (all_right m.0 m.1 lexemes) m.4)
+closed_well : (a : Item) → EachClosed a → WellFormed a
+closed_well a h = record {
+  roots_met = h.roots_met;
+  ending_fits = h.ending_fits;
+  closed = λ p s needed e. h.closed p s e;
+  named_apart = λ p q v w np nq e f same. h.named_apart p q v w e f same;
+}
+
+all_closed : (k : ItemType) (items : List Item) (ts : List Lexeme) → AllLexemes ts → list_spells k items ts → AllByRecursion EachClosed items
+all_closed k [] ts l m = tt
+all_closed k (a ∷ items) ts l m =
+    let lexemes : AllLexemes (m.prefix ++ m.suffix) = subst AllLexemes m.whole l in
+    (item_closed k a m.prefix (all_left m.prefix m.suffix lexemes) m.first, all_closed k items m.suffix (all_right m.prefix m.suffix lexemes) m.second)
+
+-- such items are well formed
+pub all_well : (items : List Item) → AllByRecursion EachClosed items → AllByRecursion WellFormed items
+all_well [] h = tt
+all_well (a ∷ items) h = (closed_well a h.0, all_well items h.1)
 
 -- the tokens of a text are tokens
 pub text_lexemes : (bs : List ℕ) (ts : List (ℕ × Lexeme)) (faulty : Bool) → AreTokensOf bs ts faulty → AllLexemes (kinds ts)
@@ -267,8 +280,8 @@ text_lexemes bs ts faulty h = begun 0 bs ts h.rest h.front
 pub taken_well : (k : ItemType) (a : Item) (p q r : Parsing) → AllLexemes (kinds p.tokens) → (taken : List (ℕ × Lexeme)) → p.tokens ≡ taken ++ q.tokens → (used : List (ℕ × Lexeme)) → q.tokens ≡ used ++ r.tokens → item_spells k a (kinds used) → WellFormed a
 taken_well k a p q r l taken parts used more m =
     let behind : AllLexemes (kinds q.tokens) = all_right (kinds taken) (kinds q.tokens) (subst AllLexemes (ap kinds parts ∙ kinds-append taken q.tokens) l) in
-    item_well k a (kinds used) (all_left (kinds used) (kinds r.tokens) (subst AllLexemes (ap kinds more ∙ kinds-append used r.tokens) behind)) m
+    closed_well a (item_closed k a (kinds used) (all_left (kinds used) (kinds r.tokens) (subst AllLexemes (ap kinds more ∙ kinds-append used r.tokens) behind)) m)
 
--- the items of a text are well formed
-pub text_well : (k : ItemType) (items : List Item) (bs : List ℕ) → TextSpells k bs items → AllByRecursion WellFormed items
-text_well k items bs h = all_well k items (kinds h.0) (begun 0 bs h.0 h.1.0 h.1.1) h.2
+-- each statement of the items of a text may stand where it stands
+pub text_closed : (k : ItemType) (items : List Item) (bs : List ℕ) → TextSpells k bs items → AllByRecursion EachClosed items
+text_closed k items bs h = all_closed k items (kinds h.0) (begun 0 bs h.0 h.1.0 h.1.1) h.2

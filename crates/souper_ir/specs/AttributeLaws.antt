@@ -6,10 +6,10 @@ use Rattle.souper_graph.specs.Leaves.{text_of_known_bit, text_of_bit}
 use Rattle.souper_graph.specs.Values.{PlainAttribute, known_bits as known_bits_attribute, power_of_two, negative, non_negative, non_zero, has_external_uses, sign_bits, range, PlainRootAttribute, demanded_bits, harvested_from_use}
 use Rattle.souper_graph.specs.Syntax.Tokens.{Lexeme, ident, known_bits, int, comma, equals, open_paren, close_paren, open_bracket}
 use Rattle.souper_graph.specs.Syntax.Numbers.{number_of, count_of, bit_of, known_bit_of, all_of, listed, bits_of, known_bits_of}
-use Rattle.souper_graph.specs.Syntax.Spelling.{kinds, Scope, attribute_spells, root_attribute_spells, attributes_spell, root_attributes_spell}
+use Rattle.souper_graph.specs.Syntax.Spelling.{kinds, Scope, Joined, attribute_spells, root_attribute_spells, attributes_spell, root_attributes_spell}
 use Rattle.souper_ir.specs.Parsing.{Parsing}
 use Rattle.souper_graph.specs.Syntax.Optional.{◌>>=◌}
-use Rattle.souper_ir.specs.Grammar.{Starts, Members, LastGoesOn, ListGoesOn}
+use Rattle.souper_ir.specs.Grammar.{Starts, Followed, Members, LastGoesOn, ListGoesOn}
 use Rattle.souper_ir.specs.NodeReadings.{accept, mark_of, is_mark, int_by, ident_by, AttributeKind, plain_kind, bits_kind, sign_bits_kind, range_kind, attribute_kind_of_word, attribute_kind_of, attribute_by, attribute_at, root_kind_of_word, root_attribute_by, root_attribute_at}
 use Rattle.souper_ir.specs.Peeks.{some_is}
 use Rattle.souper_ir.specs.Steps.{Takes, Takes-then, Takes-none, At, bind_some, accepted, accepts}
@@ -186,7 +186,7 @@ range_sound t p q a h e =
     let t2 = Takes-then g.0.1 o.0.1 k.0.1 (o2.0 ∷ []) (l2.0 ∷ c2.0 ∷ u2.0 ∷ k2.0 ∷ []) o2.1 t3 in
     let t1 = Takes-then p g.0.1 k.0.1 (g2.0 ∷ []) (o2.0 ∷ l2.0 ∷ c2.0 ∷ u2.0 ∷ k2.0 ∷ []) g2.1 t2 in
     let parts = range_tokens t g2.0 o2.0 l2.0 c2.0 u2.0 k2.0 v.0 w.0 h e1 e2 e3 e4 e5 e6 in
-    moved (BodyRead t p) (range l.0.0 u.0.0, k.0.1) (a, q) k.2 (g2.0 ∷ o2.0 ∷ l2.0 ∷ c2.0 ∷ u2.0 ∷ k2.0 ∷ [], t1, (v.0, w.0, parts, v.2, w.2))
+    moved (BodyRead t p) (range l.0.0 u.0.0, k.0.1) (a, q) k.2 (g2.0 ∷ o2.0 ∷ l2.0 ∷ c2.0 ∷ u2.0 ∷ k2.0 ∷ [], t1, record { low_word = v.0; high_word = w.0; whole = parts; low_is = v.2; high_is = w.2 })
 
 -- between the two marks that were read
 enclosed : (P : List Lexeme → Type 0) (left t right : Lexeme) (used : List Lexeme) → left ≡ open_paren → right ≡ close_paren → P (open_paren ∷ t ∷ (used ++ close_paren ∷ [])) → P (left ∷ t ∷ (used ++ right ∷ []))
@@ -268,7 +268,7 @@ attribute_complete p (known_bits_attribute bits) front rest at s st =
 attribute_complete p (sign_bits n) front rest at s st =
     between p (sign_bits n) (ident (codes "signBits")) sign_bits_kind (equals ∷ int s.0 ∷ []) rest (subst (λ (x : List Lexeme). At p (x ++ rest)) s.1 at) refl (sign_bits_body n s.0 rest s.2)
 attribute_complete p (range low high) front rest at s st =
-    between p (range low high) (ident (codes "range")) range_kind (equals ∷ open_bracket ∷ int s.0 ∷ comma ∷ int s.1 ∷ close_paren ∷ []) rest (subst (λ (x : List Lexeme). At p (x ++ rest)) s.2 at) refl (range_body low high s.0 s.1 rest s.3 s.4)
+    between p (range low high) (ident (codes "range")) range_kind (equals ∷ open_bracket ∷ int s.low_word ∷ comma ∷ int s.high_word ∷ close_paren ∷ []) rest (subst (λ (x : List Lexeme). At p (x ++ rest)) s.whole at) refl (range_body low high s.low_word s.high_word rest s.low_is s.high_is)
 
 -- behind an open parenthesis
 opened : (ts more : List Lexeme) → ts ≡ open_paren ∷ more → Starts (is_mark open_paren) ts
@@ -282,7 +282,7 @@ attribute_first s non_zero ts h = opened ts (ident (codes "nonZero") ∷ close_p
 attribute_first s has_external_uses ts h = opened ts (ident (codes "hasExternalUses") ∷ close_paren ∷ []) h
 attribute_first s (known_bits_attribute bits) ts h = opened ts (known_bits (map text_of_known_bit bits) ∷ close_paren ∷ []) h.0
 attribute_first s (sign_bits n) ts h = opened ts (ident (codes "signBits") ∷ equals ∷ int h.0 ∷ close_paren ∷ []) h.1
-attribute_first s (range low high) ts h = opened ts (ident (codes "range") ∷ equals ∷ open_bracket ∷ int h.0 ∷ comma ∷ int h.1 ∷ close_paren ∷ close_paren ∷ []) h.2
+attribute_first s (range low high) ts h = opened ts (ident (codes "range") ∷ equals ∷ open_bracket ∷ int h.low_word ∷ comma ∷ int h.high_word ∷ close_paren ∷ close_paren ∷ []) h.whole
 
 -- ---- root attributes
 
@@ -381,18 +381,25 @@ one_more vs _ (inr h) = absurd (last_ends vs _ h)
 pub more_if_open : {V : Type 0} (vs : List V) (t : Lexeme) → t ≡ open_paren → ListGoesOn (λ v t. ⊥) (is_mark open_paren) vs t
 more_if_open vs t e = inl (ap (is_mark open_paren) e)
 
+-- what nothing continues may be followed by anything
+followed : {P Q R : List Lexeme → Type 0} {ts : List Lexeme} (h : Joined P Q ts) → R h.suffix → Followed P (λ t. ⊥) R ts
+followed h more = record { prefix = h.prefix; suffix = h.suffix; whole = h.whole; first = h.first; free = never h.suffix; second = more }
+
+joined : {P Q R : List Lexeme → Type 0} {goes_on : Lexeme → Type 0} {ts : List Lexeme} (h : Followed P goes_on Q ts) → R h.suffix → Joined P R ts
+joined h more = record { prefix = h.prefix; suffix = h.suffix; whole = h.whole; first = h.first; second = more }
+
 pub attributes_are_members : (xs : List PlainAttribute) (ts : List Lexeme) → attributes_spell xs ts → Members attribute_spells (λ a t. ⊥) xs ts
 attributes_are_members [] ts h = h
-attributes_are_members (x ∷ xs) ts h = (h.0, h.1, h.2, h.3, never h.1, attributes_are_members xs h.1 h.4)
+attributes_are_members (x ∷ xs) ts h = followed h (attributes_are_members xs h.suffix h.second)
 
 pub members_are_attributes : (xs : List PlainAttribute) (ts : List Lexeme) → Members attribute_spells (λ a t. ⊥) xs ts → attributes_spell xs ts
 members_are_attributes [] ts h = h
-members_are_attributes (x ∷ xs) ts h = (h.0, h.1, h.2, h.3, members_are_attributes xs h.1 h.5)
+members_are_attributes (x ∷ xs) ts h = joined h (members_are_attributes xs h.suffix h.second)
 
 pub root_attributes_are_members : (xs : List PlainRootAttribute) (ts : List Lexeme) → root_attributes_spell xs ts → Members root_attribute_spells (λ a t. ⊥) xs ts
 root_attributes_are_members [] ts h = h
-root_attributes_are_members (x ∷ xs) ts h = (h.0, h.1, h.2, h.3, never h.1, root_attributes_are_members xs h.1 h.4)
+root_attributes_are_members (x ∷ xs) ts h = followed h (root_attributes_are_members xs h.suffix h.second)
 
 pub members_are_root_attributes : (xs : List PlainRootAttribute) (ts : List Lexeme) → Members root_attribute_spells (λ a t. ⊥) xs ts → root_attributes_spell xs ts
 members_are_root_attributes [] ts h = h
-members_are_root_attributes (x ∷ xs) ts h = (h.0, h.1, h.2, h.3, members_are_root_attributes xs h.1 h.5)
+members_are_root_attributes (x ∷ xs) ts h = joined h (members_are_root_attributes xs h.suffix h.second)

@@ -41,12 +41,12 @@ module _ {X : Type 0} (spells : X → List Lexeme → Type 0) (first : (x : X) (
 
   attributes_before : (before : Type 0) (xs : List X) (t : Lexeme) → Members spells (λ x t. ⊥) xs [] → before → attributes_continue before xs t
   attributes_before before [] t m h = inr h
-  attributes_before before (x ∷ xs) t m h = absurd (not_none x m.0 m.1 m.3 m.2)
+  attributes_before before (x ∷ xs) t m h = absurd (not_none x m.prefix m.suffix m.first m.whole)
 
   -- attributes do not continue what an opening parenthesis does not
   pub attributes_over : (P : Lexeme → Type 0) (xs : List X) (ts : List Lexeme) → ¬ P open_paren → Members spells (λ x t. ⊥) xs ts → Free P ts
   attributes_over P [] ts n m = subst (Free P) (sym m) tt
-  attributes_over P (x ∷ xs) ts n m = subst (Free P) (sym m.2) (open_front P x m.0 m.1 m.3 n)
+  attributes_over P (x ∷ xs) ts n m = subst (Free P) (sym m.whole) (open_front P x m.prefix m.suffix m.first n)
 
   attributes_only : (P : Lexeme → Type 0) (xs : List X) (y rest : List Lexeme) → Members spells (λ x t. ⊥) xs y → Free P (y ++ rest) → Free (OneMore xs) rest → Free (λ t. attributes_continue (P t) xs t) rest
   attributes_only P xs y [] m f g = tt

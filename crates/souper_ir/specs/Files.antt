@@ -6,7 +6,7 @@ use Rattle.std.specs.declared.alloc.Global.{Global}
 use Rattle.std.specs.declared.io.Error.{Error}
 use Rattle.std.specs.declared.io.ErrorKind.TheVariants.{OutOfMemory}
 use Rattle.souper_graph.specs.Values.{Item}
-use Rattle.souper_graph.specs.WellFormed.{WellFormed}
+use Rattle.souper_graph.specs.WellFormed.{WellFormed, EachClosed}
 use Rattle.souper_ir.specs.declared.parse.error.ParseError.{ParseError}
 use Rattle.souper_ir.specs.Answers.{IsStrError}
 use Rattle.souper_ir.specs.Errors.{kind_of, fault_of, OnKind}
@@ -14,12 +14,12 @@ use Rattle.souper_graph.specs.Syntax.Spelling.{ItemType, TextSpells}
 use Rattle.souper_graph.specs.Syntax.Tokens.{IsLastGap}
 
 -- the answer to a text that was read: the items that it spells, each well formed, or an error that shows that file name
-abbrev pub AnswersText : {T : Type 0} → ItemType → (T → Item) → List ℕ → List ℕ → Result (Vec T Global) ParseError → Type 0
-AnswersText k view path source answer =
-    IfOk answer (λ v. TextSpells k source (map view v.items))
-    × IfOk answer (λ v. AllByRecursion WellFormed (map view v.items))
-    × IfErr answer (IsStrError k (Some path) source)
-    × (IsLastGap source → IsOkAnd answer (λ v. v.items ≡ []))
+pub record AnswersText {T : Type 0} (k : ItemType) (view : T → Item) (path source : List ℕ) (answer : Result (Vec T Global) ParseError) : Type 0 where
+  pub spelled : IfOk answer (λ v. TextSpells k source (map view v.items))
+  pub well_formed : IfOk answer (λ v. AllByRecursion WellFormed (map view v.items))
+  pub each_closed : IfOk answer (λ v. AllByRecursion EachClosed (map view v.items))
+  pub refused : IfErr answer (IsStrError k (Some path) source)
+  pub gaps : IsLastGap source → IsOkAnd answer (λ v. v.items ≡ [])
 
 -- the error that tells of a fault: the fault itself, or want of memory where the fault was that
 abbrev pub TellsFault : Error → ParseError → Type 0

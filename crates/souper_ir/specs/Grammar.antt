@@ -54,10 +54,19 @@ peek_at starts p = look_at p >>= λ t. Some (starts_next starts t.0, t.1)
 
 -- ---- lists of values
 
+-- P holds of a prefix of the tokens, Q of the rest, and the rest begins with no token that goes on
+pub record Followed (P : List Lexeme → Type 0) (goes_on : Lexeme → Type 0) (Q : List Lexeme → Type 0) (ts : List Lexeme) : Type 0 where
+  pub prefix : List Lexeme
+  pub suffix : List Lexeme
+  pub whole : ts ≡ prefix ++ suffix
+  pub first : P prefix
+  pub free : Free goes_on suffix
+  pub second : Q suffix
+
 -- one spelling of each member after the other, none continued by the next
 abbrev pub Members : {V : Type 0} → (V → List Lexeme → Type 0) → (V → Lexeme → Type 0) → List V → List Lexeme → Type 0
 Members spells continues [] ts = ts ≡ []
-Members spells continues (v ∷ vs) ts = (a : List Lexeme) × (b : List Lexeme) × (ts ≡ a ++ b) × spells v a × Free (continues v) b × Members spells continues vs b
+Members spells continues (v ∷ vs) ts = Followed (spells v) (continues v) (Members spells continues vs) ts
 
 -- the last member is continued
 abbrev pub LastGoesOn : {V : Type 0} → (V → Lexeme → Type 0) → List V → Lexeme → Type 0

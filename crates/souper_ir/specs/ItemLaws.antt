@@ -6,7 +6,7 @@ use Rattle.souper_graph.specs.declared.ast.operands.Operand.{Operand}
 use Rattle.souper_graph.specs.Values.{PlainStatement, PlainInfer, PlainCand, Ending, inferred, resulting, replaced, candidate, Item}
 use Rattle.souper_ir.specs.declared.parse.error.ParseError.{ParseError}
 use Rattle.souper_graph.specs.Syntax.Tokens.{Lexeme, ident}
-use Rattle.souper_graph.specs.Syntax.Spelling.{kinds, Scope, statement_spells, infer_spells, cand_spells, result_spells, Statements, ItemType, left_hand_side, right_hand_side, replacement, Tail, tail_spells, item_spells_after}
+use Rattle.souper_graph.specs.Syntax.Spelling.{kinds, Scope, Joined, statement_spells, infer_spells, cand_spells, result_spells, Statements, ItemType, left_hand_side, right_hand_side, replacement, Tail, tail_spells, item_spells_after}
 use Rattle.souper_ir.specs.Continuation.{statement_continues, infer_continues, result_continues, item_continues}
 use Rattle.souper_ir.specs.Parsing.{Parsing}
 use Rattle.souper_ir.specs.Reading.{cause_of, IfRefused, if_refused, IsRead, Fails, fails_later}
@@ -19,6 +19,16 @@ use Rattle.souper_ir.specs.OperandLaws.{never}
 use Rattle.souper_ir.specs.StatementLaws.{statement_first, statement_alone, statement_ends, starts_begins, infer_first, infer_alone, infer_ends, cand_alone, result_alone}
 use Rattle.souper_ir.specs.Items.{Opens, tail_continues, Entered, Stated, AllStated, NoStatement, NoMore, StuckAt, StatedRefusal}
 
+-- ---- one part after the other
+
+-- the last part of what was nothing before
+pub joined_last : {P : List Lexeme → Type 0} (a b : List Lexeme) → a ≡ [] → P b → Joined P (λ ts. ts ≡ []) (a ++ b)
+joined_last a b none h = record { prefix = b; suffix = []; whole = ap (λ (x : List Lexeme). x ++ b) none ∙ sym (append-nil b); first = h; second = refl }
+
+-- the second part grows
+pub joined_longer : {P Q R : List Lexeme → Type 0} {a : List Lexeme} (b : List Lexeme) (h : Joined P Q a) → R (h.suffix ++ b) → Joined P R (a ++ b)
+joined_longer b h more = record { prefix = h.prefix; suffix = h.suffix ++ b; whole = ap (λ (x : List Lexeme). x ++ b) h.whole ∙ append_assoc h.prefix h.suffix b; first = h.first; second = more }
+
 -- ---- statements
 
 -- the first token of a statement continues no statement
@@ -29,8 +39,8 @@ start_ends v t e = statement_ends v t (starts_begins t e)
 free_over : (s : Scope) (v : PlainStatement) (vs : List PlainStatement) (a c : List Lexeme) → Statements s vs a → Free (λ t. LastGoesOn statement_continues (v ∷ vs) t) c → Free (statement_continues v) (a ++ c)
 free_over s v [] a c m f = subst (λ (x : List Lexeme). Free (statement_continues v) (x ++ c)) (sym m) f
 free_over s v (w ∷ vs) a c m f =
-    let st : Starts starts_statement m.0 = statement_first s w m.0 m.3 in
-    subst (λ (x : List Lexeme). Free (statement_continues v) (x ++ c)) (sym m.2) (free_start v m.0 m.1 c st)
+    let st : Starts starts_statement m.prefix = statement_first s w m.prefix m.first in
+    subst (λ (x : List Lexeme). Free (statement_continues v) (x ++ c)) (sym m.whole) (free_start v m.prefix m.suffix c st)
   where
     free_start : (v : PlainStatement) (a b c : List Lexeme) → Starts starts_statement a → Free (statement_continues v) ((a ++ b) ++ c)
     free_start v [] b c st = absurd st
@@ -43,7 +53,7 @@ stops_over faulty s v [] a c m o = subst (λ (x : List Lexeme). Stops (statement
     opened : (c : List Lexeme) → Opens c → Stops (statement_continues v) faulty c
     opened [] o = absurd o
     opened (t ∷ c) o = o.1 v
-stops_over faulty s v (w ∷ vs) a c m o = subst (λ (x : List Lexeme). Stops (statement_continues v) faulty (x ++ c)) (sym m.2) (stops_start m.0 m.1 c (statement_first s w m.0 m.3))
+stops_over faulty s v (w ∷ vs) a c m o = subst (λ (x : List Lexeme). Stops (statement_continues v) faulty (x ++ c)) (sym m.whole) (stops_start m.prefix m.suffix c (statement_first s w m.prefix m.first))
   where
     stops_start : (a b c : List Lexeme) → Starts starts_statement a → Stops (statement_continues v) faulty ((a ++ b) ++ c)
     stops_start [] b c st = absurd st
@@ -59,10 +69,9 @@ last_of_push (w ∷ []) v t h = h
 last_of_push (w ∷ (x ∷ xs)) v t h = last_of_push (x ∷ xs) v t h
 
 statements_push : (s : Scope) (vs : List PlainStatement) (v : PlainStatement) (a b : List Lexeme) → Statements s vs a → statement_spells (s ++ vs) v b → Statements s (vs ++ v ∷ []) (a ++ b)
-statements_push s [] v a b m sp = (b, [], ap (λ (x : List Lexeme). x ++ b) m ∙ sym (append-nil b), subst (λ (x : Scope). statement_spells x v b) (append-nil s) sp, refl)
+statements_push s [] v a b m sp = joined_last a b m (subst (λ (x : Scope). statement_spells x v b) (append-nil s) sp)
 statements_push s (w ∷ ws) v a b m sp =
-    let more = statements_push (s ++ w ∷ []) ws v m.1 b m.4 (subst (λ (x : Scope). statement_spells x v b) (sym (append_assoc s (w ∷ []) ws)) sp) in
-    (m.0, m.1 ++ b, ap (λ (x : List Lexeme). x ++ b) m.2 ∙ append_assoc m.0 m.1 b, m.3, more)
+    joined_longer b m (statements_push (s ++ w ∷ []) ws v m.suffix b m.second (subst (λ (x : Scope). statement_spells x v b) (sym (append_assoc s (w ∷ []) ws)) sp))
 
 -- ---- the loop
 
@@ -183,8 +192,8 @@ module _ {Y : Type 0} (tail : Scope → Y → List Lexeme → Type 0) (continues
   no_item faulty s [] [] a c b e d y eq m f (inr k) n sp st =
       k.1 y e d (ap (λ (x : List Lexeme). x ++ c) (sym m) ∙ eq ∙ ap (λ (x : List Lexeme). x ++ (e ++ d)) n) sp st
   no_item faulty s [] (w ∷ ws) a c b e d y eq m f k n sp st =
-      let ahead : c ≡ n.0 ++ (n.1 ++ (e ++ d)) = ap (λ (x : List Lexeme). x ++ c) (sym m) ∙ eq ∙ split b n.0 n.1 (e ++ d) n.2 in
-      no_first faulty s w ws c n.0 n.1 e d y ahead k n.3 n.4 sp
+      let ahead : c ≡ n.prefix ++ (n.suffix ++ (e ++ d)) = ap (λ (x : List Lexeme). x ++ c) (sym m) ∙ eq ∙ split b n.prefix n.suffix (e ++ d) n.whole in
+      no_first faulty s w ws c n.prefix n.suffix e d y ahead k n.first n.second sp
     where
       no_first : (faulty : Bool) (s : Scope) (w : PlainStatement) (ws : List PlainStatement) (c f g e d : List Lexeme) (y : Y) → c ≡ f ++ (g ++ (e ++ d)) → NoMore tail continues (s ++ []) faulty c
           → statement_spells s w f → Statements (s ++ w ∷ []) ws g → tail (s ++ (w ∷ ws)) y e → ⊥
@@ -205,17 +214,17 @@ module _ {Y : Type 0} (tail : Scope → Y → List Lexeme → Type 0) (continues
       no_first faulty s w ws c f g e d y ahead (inr k) first more sp =
           free_clash starts_statement f (g ++ (e ++ d)) c (statement_first s w f first) k.0 ahead
   no_item faulty s (v ∷ vs) [] a c b e d y eq m f k n sp st =
-      clash m.0 (m.1 ++ c) e d (statement_first s v m.0 m.3) (opens (s ++ []) y e sp) (sym (split a m.0 m.1 c m.2) ∙ eq ∙ ap (λ (x : List Lexeme). x ++ (e ++ d)) n)
+      clash m.prefix (m.suffix ++ c) e d (statement_first s v m.prefix m.first) (opens (s ++ []) y e sp) (sym (split a m.prefix m.suffix c m.whole) ∙ eq ∙ ap (λ (x : List Lexeme). x ++ (e ++ d)) n)
   no_item faulty s (v ∷ vs) (w ∷ ws) a c b e d y eq m f k n sp st =
-      let whole : m.0 ++ (m.1 ++ c) ≡ n.0 ++ (n.1 ++ (e ++ d)) = sym (split a m.0 m.1 c m.2) ∙ eq ∙ split b n.0 n.1 (e ++ d) n.2 in
+      let whole : m.prefix ++ (m.suffix ++ c) ≡ n.prefix ++ (n.suffix ++ (e ++ d)) = sym (split a m.prefix m.suffix c m.whole) ∙ eq ∙ split b n.prefix n.suffix (e ++ d) n.whole in
       let o : Opens e = opens (s ++ (w ∷ ws)) y e sp in
-      let free_w : Free (statement_continues w) (n.1 ++ (e ++ d)) = Free-from_Stops (statement_continues w) faulty (n.1 ++ (e ++ d)) (stops_over faulty (s ++ w ∷ []) w ws n.1 (e ++ d) n.4 (opens_over e d o)) in
-      let here = statement_alone s v w m.0 n.0 (m.1 ++ c) (n.1 ++ (e ++ d)) whole m.3 n.3 (free_over (s ++ v ∷ []) v vs m.1 c m.4 f) free_w in
-      let rest : m.1 ++ c ≡ n.1 ++ (e ++ d) = append_cancel_left n.0 (m.1 ++ c) (n.1 ++ (e ++ d)) (ap (λ (x : List Lexeme). x ++ (m.1 ++ c)) (sym here.0) ∙ whole) in
-      let more : Statements (s ++ v ∷ []) ws n.1 = subst (λ (x : PlainStatement). Statements (s ++ x ∷ []) ws n.1) (sym here.1) n.4 in
+      let free_w : Free (statement_continues w) (n.suffix ++ (e ++ d)) = Free-from_Stops (statement_continues w) faulty (n.suffix ++ (e ++ d)) (stops_over faulty (s ++ w ∷ []) w ws n.suffix (e ++ d) n.second (opens_over e d o)) in
+      let here = statement_alone s v w m.prefix n.prefix (m.suffix ++ c) (n.suffix ++ (e ++ d)) whole m.first n.first (free_over (s ++ v ∷ []) v vs m.suffix c m.second f) free_w in
+      let rest : m.suffix ++ c ≡ n.suffix ++ (e ++ d) = append_cancel_left n.prefix (m.suffix ++ c) (n.suffix ++ (e ++ d)) (ap (λ (x : List Lexeme). x ++ (m.suffix ++ c)) (sym here.0) ∙ whole) in
+      let more : Statements (s ++ v ∷ []) ws n.suffix = subst (λ (x : PlainStatement). Statements (s ++ x ∷ []) ws n.suffix) (sym here.1) n.second in
       let sp2 : tail ((s ++ v ∷ []) ++ ws) y e = subst (λ (x : Scope). tail x y e) (ap (λ (x : PlainStatement). s ++ (x ∷ ws)) (sym here.1) ∙ sym (append_assoc s (v ∷ []) ws)) sp in
       let k2 : NoMore tail continues ((s ++ v ∷ []) ++ vs) faulty c = subst (λ (x : Scope). NoMore tail continues x faulty c) (sym (append_assoc s (v ∷ []) vs)) k in
-      no_item faulty (s ++ v ∷ []) vs ws m.1 c n.1 e d y rest m.4
+      no_item faulty (s ++ v ∷ []) vs ws m.suffix c n.suffix e d y rest m.second
       (Free-weaker (λ t. LastGoesOn statement_continues (v ∷ vs) t) (λ t. LastGoesOn statement_continues vs t) c (last_later v vs) f) k2 more sp2 st
 
   -- what is stuck by statements alone
@@ -231,30 +240,30 @@ module _ {Y : Type 0} (tail : Scope → Y → List Lexeme → Type 0) (continues
 statements_alone : (s : Scope) (vs ws : List PlainStatement) (a b c d : List Lexeme) → a ++ c ≡ b ++ d → Statements s vs a → Statements s ws b → Opens c → Opens d → (a ≡ b) × (vs ≡ ws)
 statements_alone s [] [] a b c d e m n o r = (m ∙ sym n, refl)
 statements_alone s [] (w ∷ ws) a b c d e m n o r =
-    absurd (clash n.0 (n.1 ++ d) c [] (statement_first s w n.0 n.3) o (sym (split b n.0 n.1 d n.2) ∙ sym e ∙ ap (λ (x : List Lexeme). x ++ c) m ∙ sym (append-nil c)))
+    absurd (clash n.prefix (n.suffix ++ d) c [] (statement_first s w n.prefix n.first) o (sym (split b n.prefix n.suffix d n.whole) ∙ sym e ∙ ap (λ (x : List Lexeme). x ++ c) m ∙ sym (append-nil c)))
 statements_alone s (v ∷ vs) [] a b c d e m n o r =
-    absurd (clash m.0 (m.1 ++ c) d [] (statement_first s v m.0 m.3) r (sym (split a m.0 m.1 c m.2) ∙ e ∙ ap (λ (x : List Lexeme). x ++ d) n ∙ sym (append-nil d)))
+    absurd (clash m.prefix (m.suffix ++ c) d [] (statement_first s v m.prefix m.first) r (sym (split a m.prefix m.suffix c m.whole) ∙ e ∙ ap (λ (x : List Lexeme). x ++ d) n ∙ sym (append-nil d)))
 statements_alone s (v ∷ vs) (w ∷ ws) a b c d e m n o r =
-    let whole : m.0 ++ (m.1 ++ c) ≡ n.0 ++ (n.1 ++ d) = sym (split a m.0 m.1 c m.2) ∙ e ∙ split b n.0 n.1 d n.2 in
-    let free_v = Free-from_Stops (statement_continues v) false (m.1 ++ c) (stops_over false (s ++ v ∷ []) v vs m.1 c m.4 o) in
-    let free_w = Free-from_Stops (statement_continues w) false (n.1 ++ d) (stops_over false (s ++ w ∷ []) w ws n.1 d n.4 r) in
-    let here = statement_alone s v w m.0 n.0 (m.1 ++ c) (n.1 ++ d) whole m.3 n.3 free_v free_w in
-    let rest : m.1 ++ c ≡ n.1 ++ d = append_cancel_left n.0 (m.1 ++ c) (n.1 ++ d) (ap (λ (x : List Lexeme). x ++ (m.1 ++ c)) (sym here.0) ∙ whole) in
-    let more : Statements (s ++ v ∷ []) ws n.1 = subst (λ (x : PlainStatement). Statements (s ++ x ∷ []) ws n.1) (sym here.1) n.4 in
-    let there = statements_alone (s ++ v ∷ []) vs ws m.1 n.1 c d rest m.4 more o r in
-    (m.2 ∙ ap (λ (x : List Lexeme). x ++ m.1) here.0 ∙ ap (λ (x : List Lexeme). n.0 ++ x) there.0 ∙ sym n.2, ap (λ (x : PlainStatement). x ∷ vs) here.1 ∙ ap (λ (x : List PlainStatement). w ∷ x) there.1)
+    let whole : m.prefix ++ (m.suffix ++ c) ≡ n.prefix ++ (n.suffix ++ d) = sym (split a m.prefix m.suffix c m.whole) ∙ e ∙ split b n.prefix n.suffix d n.whole in
+    let free_v = Free-from_Stops (statement_continues v) false (m.suffix ++ c) (stops_over false (s ++ v ∷ []) v vs m.suffix c m.second o) in
+    let free_w = Free-from_Stops (statement_continues w) false (n.suffix ++ d) (stops_over false (s ++ w ∷ []) w ws n.suffix d n.second r) in
+    let here = statement_alone s v w m.prefix n.prefix (m.suffix ++ c) (n.suffix ++ d) whole m.first n.first free_v free_w in
+    let rest : m.suffix ++ c ≡ n.suffix ++ d = append_cancel_left n.prefix (m.suffix ++ c) (n.suffix ++ d) (ap (λ (x : List Lexeme). x ++ (m.suffix ++ c)) (sym here.0) ∙ whole) in
+    let more : Statements (s ++ v ∷ []) ws n.suffix = subst (λ (x : PlainStatement). Statements (s ++ x ∷ []) ws n.suffix) (sym here.1) n.second in
+    let there = statements_alone (s ++ v ∷ []) vs ws m.suffix n.suffix c d rest m.second more o r in
+    (m.whole ∙ ap (λ (x : List Lexeme). x ++ m.suffix) here.0 ∙ ap (λ (x : List Lexeme). n.prefix ++ x) there.0 ∙ sym n.whole, ap (λ (x : PlainStatement). x ∷ vs) here.1 ∙ ap (λ (x : List PlainStatement). w ∷ x) there.1)
 
 -- ---- last lines
 
 -- the words that begin them end the statements
 infer_opens : (s : Scope) (i : PlainInfer) (ts : List Lexeme) → infer_spells s i ts → Opens ts
-infer_opens s i ts h = subst Opens (sym h.2) (refl, λ v. statement_ends v (ident (codes "infer")) refl)
+infer_opens s i ts h = subst Opens (sym h.whole) (refl, λ v. statement_ends v (ident (codes "infer")) refl)
 
 pub result_opens : (s : Scope) (r : Operand) (ts : List Lexeme) → result_spells s r ts → Opens ts
 result_opens s r ts h = subst Opens (sym h.1) (refl, λ v. statement_ends v (ident (codes "result")) refl)
 
 cand_opens : (s : Scope) (c : PlainCand) (ts : List Lexeme) → cand_spells s c ts → Opens ts
-cand_opens s c ts h = subst Opens (sym h.4) (refl, λ v. statement_ends v (ident (codes "cand")) refl)
+cand_opens s c ts h = subst Opens (sym h.whole) (refl, λ v. statement_ends v (ident (codes "cand")) refl)
 
 pub tail_opens : (k : ItemType) (s : Scope) (y : Tail) (ts : List Lexeme) → tail_spells k s y ts → Opens ts
 tail_opens left_hand_side s (new, inferred i) ts h = infer_opens s i ts h.1
@@ -267,7 +276,7 @@ tail_opens right_hand_side s (new, replaced i r) ts h = absurd h
 tail_opens right_hand_side s (new, candidate c) ts h = absurd h
 tail_opens replacement s (new, inferred i) ts h = absurd h
 tail_opens replacement s (new, resulting r) ts h = absurd h
-tail_opens replacement s (new, replaced i r) ts h = subst Opens (sym h.3) (opens_over h.0 (h.1 ++ h.2) (infer_opens s i h.0 h.4))
+tail_opens replacement s (new, replaced i r) ts h = subst Opens (sym h.whole) (opens_over h.infer (h.middle ++ h.result) (infer_opens s i h.infer h.infer_spelled))
 tail_opens replacement s (new, candidate c) ts h = cand_opens s c ts h.1
 
 -- neither a statement nor the result line continues an infer line
@@ -276,7 +285,7 @@ infer_over faulty s t i r [] middle result d m h =
     subst (λ (x : List Lexeme). Stops (infer_continues i) faulty ((x ++ result) ++ d)) (sym m)
     (subst (λ (x : List Lexeme). Stops (infer_continues i) faulty (x ++ d)) (sym h.1) (infer_ends i (ident (codes "result")) refl))
 infer_over faulty s t i r (v ∷ new) middle result d m h =
-    subst (λ (x : List Lexeme). Stops (infer_continues i) faulty ((x ++ result) ++ d)) (sym m.2) (by_start m.0 m.1 (statement_first s v m.0 m.3))
+    subst (λ (x : List Lexeme). Stops (infer_continues i) faulty ((x ++ result) ++ d)) (sym m.whole) (by_start m.prefix m.suffix (statement_first s v m.prefix m.first))
   where
     by_start : (a b : List Lexeme) → Starts starts_statement a → Stops (infer_continues i) faulty (((a ++ b) ++ result) ++ d)
     by_start [] b st = absurd st
@@ -285,7 +294,7 @@ infer_over faulty s t i r (v ∷ new) middle result d m h =
 -- an infer line and a cand line do not begin alike
 pub cand_is_no_infer : (s : Scope) (c : PlainCand) (a b d : List Lexeme) → cand_spells s c a → Starts (is_word (codes "infer")) b → b ≡ a ++ d → ⊥
 cand_is_no_infer s c a b d h st e =
-    let no : false ≡ true = (subst (λ (x : List Lexeme). Starts (is_word (codes "infer")) x) (e ∙ ap (λ (x : List Lexeme). x ++ d) h.4) st) in
+    let no : false ≡ true = (subst (λ (x : List Lexeme). Starts (is_word (codes "infer")) x) (e ∙ ap (λ (x : List Lexeme). x ++ d) h.whole) st) in
     absurd cc
 
 pub starts_ahead : (starts : Lexeme → Bool) (a b : List Lexeme) → Starts starts a → Starts starts (a ++ b)
@@ -294,22 +303,22 @@ starts_ahead starts (t ∷ a) b h = h
 
 pub replaced_begins : (s : Scope) (new : List PlainStatement) (i : PlainInfer) (r : Operand) (ts : List Lexeme) → tail_spells replacement s (new, replaced i r) ts → Starts (is_word (codes "infer")) ts
 replaced_begins s new i r ts h =
-    subst (λ (x : List Lexeme). Starts (is_word (codes "infer")) x) (sym h.3) (starts_ahead (is_word (codes "infer")) h.0 (h.1 ++ h.2) (infer_first s i h.0 h.4))
+    subst (λ (x : List Lexeme). Starts (is_word (codes "infer")) x) (sym h.whole) (starts_ahead (is_word (codes "infer")) h.infer (h.middle ++ h.result) (infer_first s i h.infer h.infer_spelled))
 
 replaced_alone : (s : Scope) (new more : List PlainStatement) (i j : PlainInfer) (r q : Operand) (a b c d : List Lexeme) → a ++ c ≡ b ++ d → tail_spells replacement s (new, replaced i r) a → tail_spells replacement s (more, replaced j q) b
     → Free (result_continues r) c → Free (result_continues q) d → (a ≡ b) × (◌≡◌ {A = Tail} (new, replaced i r) (more, replaced j q))
 replaced_alone s new more i j r q a b c d e m n f g =
-    let whole : m.0 ++ ((m.1 ++ m.2) ++ c) ≡ n.0 ++ ((n.1 ++ n.2) ++ d) = sym (split a m.0 (m.1 ++ m.2) c m.3) ∙ e ∙ split b n.0 (n.1 ++ n.2) d n.3 in
-    let free_i = Free-from_Stops (infer_continues i) false ((m.1 ++ m.2) ++ c) (infer_over false s (s ++ new) i r new m.1 m.2 c m.5 m.6) in
-    let free_j = Free-from_Stops (infer_continues j) false ((n.1 ++ n.2) ++ d) (infer_over false s (s ++ more) j q more n.1 n.2 d n.5 n.6) in
-    let root = infer_alone s i j m.0 n.0 ((m.1 ++ m.2) ++ c) ((n.1 ++ n.2) ++ d) whole m.4 n.4 free_i free_j in
-    let behind : (m.1 ++ m.2) ++ c ≡ (n.1 ++ n.2) ++ d = append_cancel_left n.0 ((m.1 ++ m.2) ++ c) ((n.1 ++ n.2) ++ d) (ap (λ (x : List Lexeme). x ++ ((m.1 ++ m.2) ++ c)) (sym root.0) ∙ whole) in
-    let regrouped : m.1 ++ (m.2 ++ c) ≡ n.1 ++ (n.2 ++ d) = sym (append_assoc m.1 m.2 c) ∙ behind ∙ append_assoc n.1 n.2 d in
-    let stated = statements_alone s new more m.1 n.1 (m.2 ++ c) (n.2 ++ d) regrouped m.5 n.5 (opens_over m.2 c (result_opens (s ++ new) r m.2 m.6)) (opens_over n.2 d (result_opens (s ++ more) q n.2 n.6)) in
-    let last : m.2 ++ c ≡ n.2 ++ d = append_cancel_left n.1 (m.2 ++ c) (n.2 ++ d) (ap (λ (x : List Lexeme). x ++ (m.2 ++ c)) (sym stated.0) ∙ regrouped) in
-    let n_result : result_spells (s ++ new) q n.2 = subst (λ (x : List PlainStatement). result_spells (s ++ x) q n.2) (sym stated.1) n.6 in
-    let result = result_alone (s ++ new) r q m.2 n.2 c d last m.6 n_result f g in (
-      m.3 ∙ ap (λ (x : List Lexeme). x ++ (m.1 ++ m.2)) root.0 ∙ ap (λ (x : List Lexeme). n.0 ++ (x ++ m.2)) stated.0 ∙ ap (λ (x : List Lexeme). n.0 ++ (n.1 ++ x)) result.0 ∙ sym n.3,
+    let whole : m.infer ++ ((m.middle ++ m.result) ++ c) ≡ n.infer ++ ((n.middle ++ n.result) ++ d) = sym (split a m.infer (m.middle ++ m.result) c m.whole) ∙ e ∙ split b n.infer (n.middle ++ n.result) d n.whole in
+    let free_i = Free-from_Stops (infer_continues i) false ((m.middle ++ m.result) ++ c) (infer_over false s (s ++ new) i r new m.middle m.result c m.middle_spelled m.result_spelled) in
+    let free_j = Free-from_Stops (infer_continues j) false ((n.middle ++ n.result) ++ d) (infer_over false s (s ++ more) j q more n.middle n.result d n.middle_spelled n.result_spelled) in
+    let root = infer_alone s i j m.infer n.infer ((m.middle ++ m.result) ++ c) ((n.middle ++ n.result) ++ d) whole m.infer_spelled n.infer_spelled free_i free_j in
+    let behind : (m.middle ++ m.result) ++ c ≡ (n.middle ++ n.result) ++ d = append_cancel_left n.infer ((m.middle ++ m.result) ++ c) ((n.middle ++ n.result) ++ d) (ap (λ (x : List Lexeme). x ++ ((m.middle ++ m.result) ++ c)) (sym root.0) ∙ whole) in
+    let regrouped : m.middle ++ (m.result ++ c) ≡ n.middle ++ (n.result ++ d) = sym (append_assoc m.middle m.result c) ∙ behind ∙ append_assoc n.middle n.result d in
+    let stated = statements_alone s new more m.middle n.middle (m.result ++ c) (n.result ++ d) regrouped m.middle_spelled n.middle_spelled (opens_over m.result c (result_opens (s ++ new) r m.result m.result_spelled)) (opens_over n.result d (result_opens (s ++ more) q n.result n.result_spelled)) in
+    let last : m.result ++ c ≡ n.result ++ d = append_cancel_left n.middle (m.result ++ c) (n.result ++ d) (ap (λ (x : List Lexeme). x ++ (m.result ++ c)) (sym stated.0) ∙ regrouped) in
+    let n_result : result_spells (s ++ new) q n.result = subst (λ (x : List PlainStatement). result_spells (s ++ x) q n.result) (sym stated.1) n.result_spelled in
+    let result = result_alone (s ++ new) r q m.result n.result c d last m.result_spelled n_result f g in (
+      m.whole ∙ ap (λ (x : List Lexeme). x ++ (m.middle ++ m.result)) root.0 ∙ ap (λ (x : List Lexeme). n.infer ++ (x ++ m.result)) stated.0 ∙ ap (λ (x : List Lexeme). n.infer ++ (n.middle ++ x)) result.0 ∙ sym n.whole,
       let first : ◌≡◌ {A = Tail} (new, replaced i r) (more, replaced i r) = ap (λ (x : List PlainStatement). (x, replaced i r)) stated.1 in
           let second : ◌≡◌ {A = Tail} (more, replaced i r) (more, replaced j r) = ap (λ (x : PlainInfer). (more, replaced x r)) root.1 in
           let third : ◌≡◌ {A = Tail} (more, replaced j r) (more, replaced j q) = ap (λ (x : Operand). (more, replaced j x)) result.1 in
@@ -364,14 +373,14 @@ same_item v w e f = ap (λ (x : List PlainStatement). record { statements = x; e
 pub item_alone : (k : ItemType) (s : Scope) (v w : Item) (a b c d : List Lexeme) → a ++ c ≡ b ++ d → item_spells_after k s v a → item_spells_after k s w b
     → Free (item_continues v) c → Free (item_continues w) d → (a ≡ b) × (v ≡ w)
 item_alone k s v w a b c d e m n f g =
-    let whole : m.2 ++ (m.3 ++ c) ≡ n.2 ++ (n.3 ++ d) = sym (split a m.2 m.3 c m.5) ∙ e ∙ split b n.2 n.3 d n.5 in
-    let stated = statements_alone s m.0 n.0 m.2 n.2 (m.3 ++ c) (n.3 ++ d) whole m.6 n.6
-    (opens_over m.3 c (tail_opens k (s ++ m.0) (m.1, v.ending) m.3 m.7)) (opens_over n.3 d (tail_opens k (s ++ n.0) (n.1, w.ending) n.3 n.7)) in
-    let rest : m.3 ++ c ≡ n.3 ++ d = append_cancel_left n.2 (m.3 ++ c) (n.3 ++ d) (ap (λ (x : List Lexeme). x ++ (m.3 ++ c)) (sym stated.0) ∙ whole) in
-    let n_tail : tail_spells k (s ++ m.0) (n.1, w.ending) n.3 = subst (λ (x : List PlainStatement). tail_spells k (s ++ x) (n.1, w.ending) n.3) (sym stated.1) n.7 in
-    let ended = tail_alone k (s ++ m.0) (m.1, v.ending) (n.1, w.ending) m.3 n.3 c d rest m.7 n_tail f g in
-    let last : m.1 ≡ n.1 = ap (λ (y : Tail). y.0) ended.1 in
-    let statements : v.statements ≡ w.statements = m.4 ∙ ap (λ (x : List PlainStatement). (s ++ x) ++ m.1) stated.1 ∙ ap (λ (x : List PlainStatement). (s ++ n.0) ++ x) last ∙ sym n.4 in (
-      m.5 ∙ ap (λ (x : List Lexeme). x ++ m.3) stated.0 ∙ ap (λ (x : List Lexeme). n.2 ++ x) ended.0 ∙ sym n.5,
+    let whole : m.head ++ (m.tail ++ c) ≡ n.head ++ (n.tail ++ d) = sym (split a m.head m.tail c m.whole) ∙ e ∙ split b n.head n.tail d n.whole in
+    let stated = statements_alone s m.first n.first m.head n.head (m.tail ++ c) (n.tail ++ d) whole m.head_spelled n.head_spelled
+    (opens_over m.tail c (tail_opens k (s ++ m.first) (m.last, v.ending) m.tail m.tail_spelled)) (opens_over n.tail d (tail_opens k (s ++ n.first) (n.last, w.ending) n.tail n.tail_spelled)) in
+    let rest : m.tail ++ c ≡ n.tail ++ d = append_cancel_left n.head (m.tail ++ c) (n.tail ++ d) (ap (λ (x : List Lexeme). x ++ (m.tail ++ c)) (sym stated.0) ∙ whole) in
+    let n_tail : tail_spells k (s ++ m.first) (n.last, w.ending) n.tail = subst (λ (x : List PlainStatement). tail_spells k (s ++ x) (n.last, w.ending) n.tail) (sym stated.1) n.tail_spelled in
+    let ended = tail_alone k (s ++ m.first) (m.last, v.ending) (n.last, w.ending) m.tail n.tail c d rest m.tail_spelled n_tail f g in
+    let last : m.last ≡ n.last = ap (λ (y : Tail). y.0) ended.1 in
+    let statements : v.statements ≡ w.statements = m.statements_are ∙ ap (λ (x : List PlainStatement). (s ++ x) ++ m.last) stated.1 ∙ ap (λ (x : List PlainStatement). (s ++ n.first) ++ x) last ∙ sym n.statements_are in (
+      m.whole ∙ ap (λ (x : List Lexeme). x ++ m.tail) stated.0 ∙ ap (λ (x : List Lexeme). n.head ++ x) ended.0 ∙ sym n.whole,
       same_item v w statements (ap (λ (y : Tail). y.1) ended.1),
     )

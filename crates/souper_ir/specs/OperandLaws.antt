@@ -8,7 +8,7 @@ use Rattle.souper_graph.specs.declared.ast.operands.Operand.{Operand}
 use Rattle.souper_graph.specs.declared.ast.operands.Operand.TheVariants.{Value, Constant as constant_variant}
 use Rattle.souper_graph.specs.Syntax.Tokens.{Lexeme, ident, val_name, int, comma, colon, equals, open_paren, close_paren, open_bracket}
 use Rattle.souper_graph.specs.Syntax.Numbers.{number_of, width_of}
-use Rattle.souper_graph.specs.Syntax.Spelling.{kinds, Scope, position_of, type_spells, optional_type_spells, constant_spells, operand_spells, further_spells, operands_spells, pair_spells}
+use Rattle.souper_graph.specs.Syntax.Spelling.{kinds, Scope, Joined, position_of, type_spells, optional_type_spells, constant_spells, operand_spells, further_spells, operands_spells, pair_spells}
 use Rattle.souper_ir.specs.Continuation.{optional_type_continues, constant_continues, operand_continues, operands_continue}
 use Rattle.souper_ir.specs.Parsing.{Parsing}
 use Rattle.souper_graph.specs.Syntax.Optional.{◌>>=◌}
@@ -172,18 +172,18 @@ constant_sound p q c e =
     let w = int_means number_of j.0 n.0.0 j.2 in
     let k = optional_type_sound n.0.1 t.0.1 t.0.0 t.1 in
     moved (WasRead (λ s. constant_spells) constant_continues p) (record { value = n.0.0; ty = t.0.0 }, t.0.1) (c, q) t.2
-    (j.0 ∷ k.0, Takes-then p n.0.1 t.0.1 (j.0 ∷ []) k.0 j.1 k.1, (w.0, k.0, ap (λ (x : Lexeme). x ∷ k.0) w.1, w.2, k.2), k.3)
+    (j.0 ∷ k.0, Takes-then p n.0.1 t.0.1 (j.0 ∷ []) k.0 j.1 k.1, record { word = w.0; rest = k.0; whole = ap (λ (x : Lexeme). x ∷ k.0) w.1; value_is = w.2; ty_spelled = k.2 }, k.3)
 
 pub constant_complete : Complete (λ s. constant_spells) constant_continues constant_at
 unfolding constant_at
 constant_complete p c front rest at s st =
-    let ahead : At p (int s.0 ∷ (s.1 ++ rest)) = subst (λ (x : List Lexeme). At p (x ++ rest)) s.2 at in
-    let j = accepts (int_by number_of) p (int s.0) c.value (s.1 ++ rest) ahead s.3 in
-    let k = optional_type_complete j.0 c.ty s.1 rest j.2 s.4 (subst (λ (x : Bool). Stops (constant_continues c) x rest) (sym (same_fault p j.0 j.3)) st) in
+    let ahead : At p (int s.word ∷ (s.rest ++ rest)) = subst (λ (x : List Lexeme). At p (x ++ rest)) s.whole at in
+    let j = accepts (int_by number_of) p (int s.word) c.value (s.rest ++ rest) ahead s.value_is in
+    let k = optional_type_complete j.0 c.ty s.rest rest j.2 s.ty_spelled (subst (λ (x : Bool). Stops (constant_continues c) x rest) (sym (same_fault p j.0 j.3)) st) in
     (k.0, rw (j.1, k.1) refl, k.2, state_then p j.0 k.0 j.3 k.3)
 
 pub constant_first : (s : Scope) (c : Constant) (ts : List Lexeme) → constant_spells c ts → Starts is_int ts
-constant_first s c ts h = subst (λ (x : List Lexeme). Starts is_int x) (sym h.2) refl
+constant_first s c ts h = subst (λ (x : List Lexeme). Starts is_int x) (sym h.whole) refl
 
 -- ---- operands
 
@@ -214,9 +214,9 @@ operand_complete p (Value i) front rest at s st =
     let found : position_of j.0.scope s.0 ≡ Some i = subst (λ (x : Scope). position_of x s.0 ≡ Some i) (sym (same_scope p j.0 j.3)) s.2 in
     (j.0, rw (peeks is_name p (val_name s.0) rest ahead, j.1, found) refl, j.2, j.3)
 operand_complete p (constant_variant c) front rest at s st =
-    let ahead : At p (int s.0 ∷ (s.1 ++ rest)) = subst (λ (x : List Lexeme). At p (x ++ rest)) s.2 at in
+    let ahead : At p (int s.word ∷ (s.rest ++ rest)) = subst (λ (x : List Lexeme). At p (x ++ rest)) s.whole at in
     let j = constant_complete p c front rest at s st in
-    (j.0, rw (peeks is_name p (int s.0) (s.1 ++ rest) ahead, j.1) refl, j.2, j.3)
+    (j.0, rw (peeks is_name p (int s.word) (s.rest ++ rest) ahead, j.1) refl, j.2, j.3)
 
 -- a constant without a type stops at a token that is no `:`, and every other operand stops anyway
 pub operand_stops : (x : Operand) (t : Lexeme) → ¬ (t ≡ colon) → ¬ operand_continues x t
@@ -228,9 +228,13 @@ pub operand_over : (s : Scope) (x y : Operand) (faulty : Bool) (back rest : List
 operand_over s x (Value i) faulty back rest h =
     subst (λ (b : List Lexeme). Stops (operand_continues x) faulty (b ++ rest)) (sym h.1) (operand_stops x (val_name h.0) (λ e. cc))
 operand_over s x (constant_variant c) faulty back rest h =
-    subst (λ (b : List Lexeme). Stops (operand_continues x) faulty (b ++ rest)) (sym h.2) (operand_stops x (int h.0) (λ e. cc))
+    subst (λ (b : List Lexeme). Stops (operand_continues x) faulty (b ++ rest)) (sym h.whole) (operand_stops x (int h.word) (λ e. cc))
 
 -- ---- two operands in a row
+
+-- both parts stand next
+parted : {P Q : List Lexeme → Type 0} {front : List Lexeme} (p : Parsing) (rest : List Lexeme) → At p (front ++ rest) → (h : Joined P Q front) → At p (h.prefix ++ (h.suffix ++ rest))
+parted p rest at h = subst (At p) (ap (λ (z : List Lexeme). z ++ rest) h.whole ∙ append_assoc h.prefix h.suffix rest) at
 
 pub pair_sound : (p q r : Parsing) (x y : Operand) → operand_at p ≡ Some (x, q) → operand_at q ≡ Some (y, r)
     → (used : List Lexeme) × Takes p r used × pair_spells p.scope x y used × Free (operand_continues y) (kinds r.tokens)
@@ -238,15 +242,14 @@ pair_sound p q r x y d e =
     let j = operand_sound p q x d in
     let k = operand_sound q r y e in
     let second : operand_spells p.scope y k.0 = subst (λ (s : Scope). operand_spells s y k.0) (scope_is p q j.0 j.1) k.2 in
-    (j.0 ++ k.0, Takes-then p q r j.0 k.0 j.1 k.1, (j.0, k.0, refl, j.2, second), k.3)
+    (j.0 ++ k.0, Takes-then p q r j.0 k.0 j.1 k.1, record { prefix = j.0; suffix = k.0; whole = refl; first = j.2; second = second }, k.3)
 
 pub pair_complete : (p : Parsing) (x y : Operand) (front rest : List Lexeme) → At p (front ++ rest) → pair_spells p.scope x y front → Stops (operand_continues y) p.faulty rest
     → (q : Parsing) × (r : Parsing) × (operand_at p ≡ Some (x, q)) × (operand_at q ≡ Some (y, r)) × At r rest × (r ≡ record p { tokens = r.tokens })
 pair_complete p x y front rest at s st =
-    let ahead : At p (s.0 ++ (s.1 ++ rest)) = subst (At p) (ap (λ (z : List Lexeme). z ++ rest) s.2 ∙ append_assoc s.0 s.1 rest) at in
-    let j = operand_complete p x s.0 (s.1 ++ rest) ahead s.3 (operand_over p.scope x y p.faulty s.1 rest s.4) in
-    let second : operand_spells j.0.scope y s.1 = subst (λ (z : Scope). operand_spells z y s.1) (sym (same_scope p j.0 j.3)) s.4 in
-    let k = operand_complete j.0 y s.1 rest j.2 second (subst (λ (z : Bool). Stops (operand_continues y) z rest) (sym (same_fault p j.0 j.3)) st) in
+    let j = operand_complete p x s.prefix (s.suffix ++ rest) (parted p rest at s) s.first (operand_over p.scope x y p.faulty s.suffix rest s.second) in
+    let second : operand_spells j.0.scope y s.suffix = subst (λ (z : Scope). operand_spells z y s.suffix) (sym (same_scope p j.0 j.3)) s.second in
+    let k = operand_complete j.0 y s.suffix rest j.2 second (subst (λ (z : Bool). Stops (operand_continues y) z rest) (sym (same_fault p j.0 j.3)) st) in
     (j.0, k.0, j.1, k.1, k.2, state_then p j.0 k.0 j.3 k.3)
 
 -- ---- operands behind commas
@@ -270,7 +273,7 @@ further_behind (suc k) p q x xs live free e =
     let here : operand_spells p.scope y.0.0 y2.0 = subst (λ (s : Scope). operand_spells s y.0.0 y2.0) (scope_is p c.0.1 (c2.0 ∷ []) c2.1) y2.2 in
     let there : further_spells p.scope ys.0.0 k2.0 = subst (λ (s : Scope). further_spells s ys.0.0 k2.0) (scope_is p y.0.1 (c2.0 ∷ y2.0) front) k2.2 in
     moved (ReadFurther (suc k) x p) (y.0.0 ∷ ys.0.0, ys.0.1) (xs, q) ys.2
-    (c2.0 ∷ (y2.0 ++ k2.0), Takes-then p y.0.1 ys.0.1 (c2.0 ∷ y2.0) k2.0 front k2.1, (y2.0, k2.0, ap (λ (t : Lexeme). t ∷ (y2.0 ++ k2.0)) (mark_means comma c2.0 c2.2), here, there), ap suc k2.3, k2.4)
+    (c2.0 ∷ (y2.0 ++ k2.0), Takes-then p y.0.1 ys.0.1 (c2.0 ∷ y2.0) k2.0 front k2.1, (y2.0 ++ k2.0, ap (λ (t : Lexeme). t ∷ (y2.0 ++ k2.0)) (mark_means comma c2.0 c2.2), record { prefix = y2.0; suffix = k2.0; whole = refl; first = here; second = there }), ap suc k2.3, k2.4)
 
 -- a name that goes before adds nothing that continues
 behind_value : (i : ℕ) (xs : List Operand) (t : Lexeme) → operands_continue xs t → operands_continue (Value i ∷ xs) t
@@ -287,11 +290,29 @@ further_sound n p q xs live e =
 further_over : (s : Scope) (x : Operand) (xs : List Operand) (faulty : Bool) (back rest : List Lexeme) → further_spells s xs back → Stops (operands_continue (x ∷ xs)) faulty rest → Stops (operand_continues x) faulty (back ++ rest)
 further_over s x [] faulty back rest h st = subst (λ (b : List Lexeme). Stops (operand_continues x) faulty (b ++ rest)) (sym h) st
 further_over s x (y ∷ ys) faulty back rest h st =
-    subst (λ (b : List Lexeme). Stops (operand_continues x) faulty (b ++ rest)) (sym h.2) (operand_stops x comma (λ e. cc))
+    subst (λ (b : List Lexeme). Stops (operand_continues x) faulty (b ++ rest)) (sym h.1) (operand_stops x comma (λ e. cc))
 
 later_continues : (x : Operand) (xs : List Operand) (t : Lexeme) → operands_continue xs t → operands_continue (x ∷ xs) t
 later_continues x [] t h = absurd h
 later_continues x (y ∷ ys) t h = h
+
+-- an operand and further ones stand next
+abbrev NextOperands : Parsing → Operand → List Operand → List Lexeme → Type 0
+NextOperands p x xs rest = (m : Parsing) × (q : Parsing) × (operand_at p ≡ Some (x, m)) × (further_at (length xs) m ≡ Some (xs, q)) × At q rest × (q ≡ record p { tokens = q.tokens })
+
+abbrev FurtherRead : List Operand → List Lexeme → Type 0
+FurtherRead xs rest = (p : Parsing) (front : List Lexeme) → At p (front ++ rest) → further_spells p.scope xs front → Stops (operands_continue xs) p.faulty rest
+    → (q : Parsing) × (further_at (length xs) p ≡ Some (xs, q)) × At q rest × (q ≡ record p { tokens = q.tokens })
+
+next_operands : (p : Parsing) (x : Operand) (xs : List Operand) (front rest : List Lexeme) → At p (front ++ rest) → Joined (operand_spells p.scope x) (further_spells p.scope xs) front → Stops (operands_continue (x ∷ xs)) p.faulty rest → FurtherRead xs rest
+    → NextOperands p x xs rest
+next_operands p x xs front rest at s st further =
+    let j = operand_complete p x s.prefix (s.suffix ++ rest) (parted p rest at s) s.first (further_over p.scope x xs p.faulty s.suffix rest s.second st) in
+    let there : further_spells j.0.scope xs s.suffix = subst (λ (z : Scope). further_spells z xs s.suffix) (sym (same_scope p j.0 j.3)) s.second in
+    let last : Stops (operands_continue xs) j.0.faulty rest = subst (λ (z : Bool). Stops (operands_continue xs) z rest) (sym (same_fault p j.0 j.3))
+    (Stops-weaker (operands_continue (x ∷ xs)) (operands_continue xs) p.faulty rest (later_continues x xs) st) in
+    let k = further j.0 s.suffix j.2 there last in
+    (j.0, k.0, j.1, k.1, k.2, state_then p j.0 k.0 j.3 k.3)
 
 further_is : (p c y q : Parsing) (x : Operand) (xs : List Operand) → accept (mark_of comma) p ≡ Some (tt, c) → operand_at c ≡ Some (x, y) → further_at (length xs) y ≡ Some (xs, q) → further_at (suc (length xs)) p ≡ Some (x ∷ xs, q)
 further_is p c y q x xs d e f = rw (d, e, f) refl
@@ -300,17 +321,11 @@ pub further_complete : (p : Parsing) (xs : List Operand) (front rest : List Lexe
     → (q : Parsing) × (further_at (length xs) p ≡ Some (xs, q)) × At q rest × (q ≡ record p { tokens = q.tokens })
 further_complete p [] front rest at s st = (p, refl, subst (λ (x : List Lexeme). At p (x ++ rest)) s at, refl)
 further_complete p (x ∷ xs) front rest at s st =
-    let ahead : At p (comma ∷ (s.0 ++ (s.1 ++ rest))) = subst (At p) (ap (λ (z : List Lexeme). z ++ rest) s.2 ∙ ap (λ (z : List Lexeme). comma ∷ z) (append_assoc s.0 s.1 rest)) at in
-    let c = accepts (mark_of comma) p comma tt (s.0 ++ (s.1 ++ rest)) ahead refl in
-    let here : operand_spells c.0.scope x s.0 = subst (λ (z : Scope). operand_spells z x s.0) (sym (same_scope p c.0 c.3)) s.3 in
-    let over : Stops (operand_continues x) c.0.faulty (s.1 ++ rest) = subst (λ (z : Bool). Stops (operand_continues x) z (s.1 ++ rest)) (sym (same_fault p c.0 c.3)) (further_over p.scope x xs p.faulty s.1 rest s.4 st) in
-    let j = operand_complete c.0 x s.0 (s.1 ++ rest) c.2 here over in
-    let before : j.0 ≡ record p { tokens = j.0.tokens } = state_then p c.0 j.0 c.3 j.3 in
-    let there : further_spells j.0.scope xs s.1 = subst (λ (z : Scope). further_spells z xs s.1) (sym (same_scope p j.0 before)) s.4 in
-    let last : Stops (operands_continue xs) j.0.faulty rest = subst (λ (z : Bool). Stops (operands_continue xs) z rest) (sym (same_fault p j.0 before))
-    (Stops-weaker (operands_continue (x ∷ xs)) (operands_continue xs) p.faulty rest (later_continues x xs) st) in
-    let k = further_complete j.0 xs s.1 rest j.2 there last in
-    (k.0, further_is p c.0 j.0 k.0 x xs c.1 j.1 k.1, k.2, state_then p j.0 k.0 before k.3)
+    let c = accepts (mark_of comma) p comma tt (s.0 ++ rest) (subst (λ (z : List Lexeme). At p (z ++ rest)) s.1 at) refl in
+    let here : Joined (operand_spells c.0.scope x) (further_spells c.0.scope xs) s.0 = subst (λ (z : Scope). Joined (operand_spells z x) (further_spells z xs) s.0) (sym (same_scope p c.0 c.3)) s.2 in
+    let over : Stops (operands_continue (x ∷ xs)) c.0.faulty rest = subst (λ (z : Bool). Stops (operands_continue (x ∷ xs)) z rest) (sym (same_fault p c.0 c.3)) st in
+    let k = next_operands c.0 x xs s.0 rest c.2 here over (λ q front. further_complete q xs front rest) in
+    (k.1, further_is p c.0 k.0 k.1 x xs c.1 k.2 k.3, k.4, state_then p c.0 k.1 c.3 k.5)
 
 -- ---- operands with commas between them
 
@@ -326,7 +341,7 @@ operands_sound (suc k) p q xs live e =
     let k2 = further_behind k y.0.1 ys.0.1 y.0.0 ys.0.0 (live_still p y.0.1 y2.0 y2.1) y2.3 ys.1 in
     let there : further_spells p.scope ys.0.0 k2.0 = subst (λ (s : Scope). further_spells s ys.0.0 k2.0) (scope_is p y.0.1 y2.0 y2.1) k2.2 in
     moved (λ (r : List Operand × Parsing). (used : List Lexeme) × Takes p r.1 used × operands_spells p.scope r.0 used × (length r.0 ≡ suc k) × Free (operands_continue r.0) (kinds r.1.tokens)) (y.0.0 ∷ ys.0.0, ys.0.1) (xs, q) ys.2
-    (y2.0 ++ k2.0, Takes-then p y.0.1 ys.0.1 y2.0 k2.0 y2.1 k2.1, (y2.0, k2.0, refl {a = y2.0 ++ k2.0}, y2.2, there), ap suc k2.3, k2.4)
+    (y2.0 ++ k2.0, Takes-then p y.0.1 ys.0.1 y2.0 k2.0 y2.1 k2.1, record { prefix = y2.0; suffix = k2.0; whole = refl; first = y2.2; second = there }, ap suc k2.3, k2.4)
 
 operands_are : (p y q : Parsing) (x : Operand) (xs : List Operand) → operand_at p ≡ Some (x, y) → further_at (length xs) y ≡ Some (xs, q) → operands_at (suc (length xs)) p ≡ Some (x ∷ xs, q)
 operands_are p y q x xs d e = rw (d, e) refl
@@ -335,10 +350,5 @@ pub operands_complete : (p : Parsing) (xs : List Operand) (front rest : List Lex
     → (q : Parsing) × (operands_at (length xs) p ≡ Some (xs, q)) × At q rest × (q ≡ record p { tokens = q.tokens })
 operands_complete p [] front rest at s st = (p, refl, subst (λ (x : List Lexeme). At p (x ++ rest)) s at, refl)
 operands_complete p (x ∷ xs) front rest at s st =
-    let ahead : At p (s.0 ++ (s.1 ++ rest)) = subst (At p) (ap (λ (z : List Lexeme). z ++ rest) s.2 ∙ append_assoc s.0 s.1 rest) at in
-    let j = operand_complete p x s.0 (s.1 ++ rest) ahead s.3 (further_over p.scope x xs p.faulty s.1 rest s.4 st) in
-    let there : further_spells j.0.scope xs s.1 = subst (λ (z : Scope). further_spells z xs s.1) (sym (same_scope p j.0 j.3)) s.4 in
-    let last : Stops (operands_continue xs) j.0.faulty rest = subst (λ (z : Bool). Stops (operands_continue xs) z rest) (sym (same_fault p j.0 j.3))
-    (Stops-weaker (operands_continue (x ∷ xs)) (operands_continue xs) p.faulty rest (later_continues x xs) st) in
-    let k = further_complete j.0 xs s.1 rest j.2 there last in
-    (k.0, operands_are p j.0 k.0 x xs j.1 k.1, k.2, state_then p j.0 k.0 j.3 k.3)
+    let k = next_operands p x xs front rest at s st (λ q front. further_complete q xs front rest) in
+    (k.1, operands_are p k.0 k.1 x xs k.2 k.3, k.4, k.5)

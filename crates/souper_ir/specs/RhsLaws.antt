@@ -102,7 +102,7 @@ phi_sound p q v e =
     subst (λ (s : Scope). entry_of s b2.0 ≡ Some (b.0.0.0, Some (length xs.0.0))) (scope_is p k.0.1 (k2.0 ∷ []) k2.1) (subst (λ (n : ℕ). entry_of k.0.1.scope b2.0 ≡ Some (b.0.0.0, Some n)) (sym x2.3) b2.2) in
     let values : further_spells p.scope xs.0.0 x2.0 = subst (λ (s : Scope). further_spells s xs.0.0 x2.0) (scope_is p b.0.1 (k2.0 ∷ val_name b2.0 ∷ []) head) x2.2 in
     moved (WasRead phi_spells phi_continues p) (record { block = b.0.0.0; values = xs.0.0 }, xs.0.1) (v, q) xs.2
-    (k2.0 ∷ val_name b2.0 ∷ x2.0, Takes-then p b.0.1 xs.0.1 (k2.0 ∷ val_name b2.0 ∷ []) x2.0 head x2.1, (b2.0, x2.0, parts, found, values), x2.4)
+    (k2.0 ∷ val_name b2.0 ∷ x2.0, Takes-then p b.0.1 xs.0.1 (k2.0 ∷ val_name b2.0 ∷ []) x2.0 head x2.1, record { name = b2.0; rest = x2.0; whole = parts; block_is = found; values_spelled = values }, x2.4)
 
 phi_is : (p k b q : Parsing) (v : PlainPhi) → accept (word_of (codes "phi")) p ≡ Some (tt, k) → block_name_at k ≡ Some ((v.block, length v.values), b) → further_at (length v.values) b ≡ Some (v.values, q) → phi_at p ≡ Some (v, q)
 unfolding phi_at
@@ -110,18 +110,18 @@ phi_is p k b q v d e f = rw (d, e, f) refl
 
 pub phi_complete : Complete phi_spells phi_continues phi_at
 phi_complete p v front rest at s st =
-    let ahead : At p (ident (codes "phi") ∷ val_name s.0 ∷ (s.1 ++ rest)) = subst (λ (x : List Lexeme). At p (x ++ rest)) s.2 at in
-    let k = accepts (word_of (codes "phi")) p (ident (codes "phi")) tt (val_name s.0 ∷ (s.1 ++ rest)) ahead (word_of_is (codes "phi")) in
-    let found : entry_of k.0.scope s.0 ≡ Some (v.block, Some (length v.values)) = subst (λ (z : Scope). entry_of z s.0 ≡ Some (v.block, Some (length v.values))) (sym (same_scope p k.0 k.3)) s.3 in
-    let b = block_name_complete k.0 s.0 (v.block, length v.values) (s.1 ++ rest) k.2 found in
+    let ahead : At p (ident (codes "phi") ∷ val_name s.name ∷ (s.rest ++ rest)) = subst (λ (x : List Lexeme). At p (x ++ rest)) s.whole at in
+    let k = accepts (word_of (codes "phi")) p (ident (codes "phi")) tt (val_name s.name ∷ (s.rest ++ rest)) ahead (word_of_is (codes "phi")) in
+    let found : entry_of k.0.scope s.name ≡ Some (v.block, Some (length v.values)) = subst (λ (z : Scope). entry_of z s.name ≡ Some (v.block, Some (length v.values))) (sym (same_scope p k.0 k.3)) s.block_is in
+    let b = block_name_complete k.0 s.name (v.block, length v.values) (s.rest ++ rest) k.2 found in
     let before : b.0 ≡ record p { tokens = b.0.tokens } = state_then p k.0 b.0 k.3 b.3 in
-    let values : further_spells b.0.scope v.values s.1 = subst (λ (z : Scope). further_spells z v.values s.1) (sym (same_scope p b.0 before)) s.4 in
+    let values : further_spells b.0.scope v.values s.rest = subst (λ (z : Scope). further_spells z v.values s.rest) (sym (same_scope p b.0 before)) s.values_spelled in
     let last : Stops (operands_continue v.values) b.0.faulty rest = subst (λ (z : Bool). Stops (operands_continue v.values) z rest) (sym (same_fault p b.0 before)) st in
-    let xs = further_complete b.0 v.values s.1 rest b.2 values last in
+    let xs = further_complete b.0 v.values s.rest rest b.2 values last in
     (xs.0, phi_is p k.0 b.0 xs.0 v k.1 b.1 xs.1, xs.2, state_then p b.0 xs.0 before xs.3)
 
 pub phi_first : (s : Scope) (v : PlainPhi) (ts : List Lexeme) → phi_spells s v ts → Starts (is_word (codes "phi")) ts
-phi_first s v ts h = subst (λ (x : List Lexeme). Starts (is_word (codes "phi")) x) (sym h.2) (word_is (codes "phi"))
+phi_first s v ts h = subst (λ (x : List Lexeme). Starts (is_word (codes "phi")) x) (sym h.whole) (word_is (codes "phi"))
 
 -- ---- instructions
 
@@ -232,9 +232,9 @@ rhs_complete p (block b) front rest at s st =
     let k = block_complete p b front rest at s st in
     (k.0, rhs_is p k.0 (ident (codes "block")) (int s.0 ∷ rest) is_block (block b) ahead refl (rw k.1 refl), k.2, k.3)
 rhs_complete p (phi f) front rest at s st =
-    let ahead : At p (ident (codes "phi") ∷ val_name s.0 ∷ (s.1 ++ rest)) = subst (λ (x : List Lexeme). At p (x ++ rest)) s.2 at in
+    let ahead : At p (ident (codes "phi") ∷ val_name s.name ∷ (s.rest ++ rest)) = subst (λ (x : List Lexeme). At p (x ++ rest)) s.whole at in
     let k = phi_complete p f front rest at s st in
-    (k.0, rhs_is p k.0 (ident (codes "phi")) (val_name s.0 ∷ (s.1 ++ rest)) is_phi (phi f) ahead refl (rw k.1 refl), k.2, k.3)
+    (k.0, rhs_is p k.0 (ident (codes "phi")) (val_name s.name ∷ (s.rest ++ rest)) is_phi (phi f) ahead refl (rw k.1 refl), k.2, k.3)
 rhs_complete p reserved_inst front rest at s st =
     let ahead : At p (ident (codes "reservedinst") ∷ rest) = subst (λ (x : List Lexeme). At p (x ++ rest)) s at in
     let k = accepts (word_of (codes "reservedinst")) p (ident (codes "reservedinst")) tt rest ahead (word_of_is (codes "reservedinst")) in

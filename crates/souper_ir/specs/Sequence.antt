@@ -7,18 +7,13 @@ use Rattle.souper_ir.specs.Parsing.{Cause, Parsing}
 use Rattle.souper_graph.specs.Syntax.Tokens.{Lexeme}
 use Rattle.souper_graph.specs.Syntax.Spelling.{kinds, Scope}
 use Rattle.souper_ir.specs.Reading.{cause_of, IfRefused, if_refused, fails_later}
-use Rattle.souper_ir.specs.Grammar.{Free, Stops, Took, NoFront, Refusal}
+use Rattle.souper_ir.specs.Grammar.{Free, Stops, Followed, Took, NoFront, Refusal}
 use Rattle.souper_ir.specs.Unique.{Free-from_Stops, Free-front}
 use Rattle.souper_ir.specs.Steps.{kinds-append}
 
 -- the tokens are a spelling of a, and then one of b, which does not continue a
-pub record Split {A B : Type 0} (spells_a : Scope → A → List Lexeme → Type 0) (goes_on_a : A → Lexeme → Type 0) (spells_b : Scope → B → List Lexeme → Type 0) (s : Scope) (a : A) (b : B) (ts : List Lexeme) : Type 0 where
-  pub front : List Lexeme
-  pub back : List Lexeme
-  pub parts : ts ≡ front ++ back
-  pub first : spells_a s a front
-  pub free : Free (goes_on_a a) back
-  pub second : spells_b s b back
+abbrev pub Split : {A B : Type 0} → (Scope → A → List Lexeme → Type 0) → (A → Lexeme → Type 0) → (Scope → B → List Lexeme → Type 0) → Scope → A → B → List Lexeme → Type 0
+Split spells_a goes_on_a spells_b s a b ts = Followed (spells_a s a) (goes_on_a a) (spells_b s b) ts
 
 -- C has a part A and a part B. What goes on with C goes on with its B, or with its A where its B is empty.
 module _ {A B C : Type 0} (spells_a : Scope → A → List Lexeme → Type 0) (goes_on_a : A → Lexeme → Type 0) (spells_b : Scope → B → List Lexeme → Type 0) (goes_on_b : B → Lexeme → Type 0) (goes_on_c : C → Lexeme → Type 0)
@@ -53,17 +48,17 @@ module _ {A B C : Type 0} (spells_a : Scope → A → List Lexeme → Type 0) (g
   pub both_alone : (alone_b : (s : Scope) (v w : B) (a b c d : List Lexeme) → a ++ c ≡ b ++ d → spells_b s v a → spells_b s w b → Free (goes_on_b v) c → Free (goes_on_b w) d → (a ≡ b) × (v ≡ w))
       (s : Scope) (v w : C) (a b c d : List Lexeme) → a ++ c ≡ b ++ d → Both s v a → Both s w b → Free (goes_on_c v) c → Free (goes_on_c w) d → (a ≡ b) × (a_of v ≡ a_of w) × (b_of v ≡ b_of w)
   both_alone alone_b s v w a b c d e m n f g =
-      let whole : m.front ++ (m.back ++ c) ≡ n.front ++ (n.back ++ d) = sym (regroup a m.front m.back c m.parts) ∙ e ∙ regroup b n.front n.back d n.parts in
-      let here = alone_a s (a_of v) (a_of w) m.front n.front (m.back ++ c) (n.back ++ d) whole m.first n.first (free_over s v m.back c m.second m.free f) (free_over s w n.back d n.second n.free g) in
-      let rest : m.back ++ c ≡ n.back ++ d = append_cancel_left n.front (m.back ++ c) (n.back ++ d) (ap (λ (x : List Lexeme). x ++ (m.back ++ c)) (sym here.0) ∙ whole) in
-      let there = alone_b s (b_of v) (b_of w) m.back n.back c d rest m.second n.second (free_last v c f) (free_last w d g) in
-      (m.parts ∙ ap (λ (x : List Lexeme). x ++ m.back) here.0 ∙ ap (λ (x : List Lexeme). n.front ++ x) there.0 ∙ sym n.parts, here.1, there.1)
+      let whole : m.prefix ++ (m.suffix ++ c) ≡ n.prefix ++ (n.suffix ++ d) = sym (regroup a m.prefix m.suffix c m.whole) ∙ e ∙ regroup b n.prefix n.suffix d n.whole in
+      let here = alone_a s (a_of v) (a_of w) m.prefix n.prefix (m.suffix ++ c) (n.suffix ++ d) whole m.first n.first (free_over s v m.suffix c m.second m.free f) (free_over s w n.suffix d n.second n.free g) in
+      let rest : m.suffix ++ c ≡ n.suffix ++ d = append_cancel_left n.prefix (m.suffix ++ c) (n.suffix ++ d) (ap (λ (x : List Lexeme). x ++ (m.suffix ++ c)) (sym here.0) ∙ whole) in
+      let there = alone_b s (b_of v) (b_of w) m.suffix n.suffix c d rest m.second n.second (free_last v c f) (free_last w d g) in
+      (m.whole ∙ ap (λ (x : List Lexeme). x ++ m.suffix) here.0 ∙ ap (λ (x : List Lexeme). n.prefix ++ x) there.0 ∙ sym n.whole, here.1, there.1)
 
   -- ---- refusals
 
   none_first : (p : Parsing) → NoFront spells_a goes_on_a p → NoFront Both goes_on_c p
   none_first p none c front rest e sp st =
-      none (a_of c) sp.front (sp.back ++ rest) (e ∙ regroup front sp.front sp.back rest sp.parts) sp.first (stops_over p.faulty p.scope c sp.back rest sp.second sp.free st)
+      none (a_of c) sp.prefix (sp.suffix ++ rest) (e ∙ regroup front sp.prefix sp.suffix rest sp.whole) sp.first (stops_over p.faulty p.scope c sp.suffix rest sp.second sp.free st)
 
   pub none_first_if : (p : Parsing) (f : Option Cause) → IfRefused f (p.failed ≡ None → NoFront spells_a goes_on_a p) → IfRefused f (p.failed ≡ None → NoFront Both goes_on_c p)
   none_first_if p f = if_refused f (λ h live. none_first p (h live))
@@ -74,12 +69,12 @@ module _ {A B C : Type 0} (spells_a : Scope → A → List Lexeme → Type 0) (g
   none_second : (a : A) (p q : Parsing) → Took spells_a goes_on_a (λ s. s) a p q → NoFront spells_b goes_on_b q → NoFront Both goes_on_c p
   none_second a p q took none c front rest e sp st =
       let ahead : kinds p.tokens ≡ kinds took.used ++ kinds q.tokens = ap kinds took.parts ∙ kinds-append took.used q.tokens in
-      let whole : kinds took.used ++ kinds q.tokens ≡ sp.front ++ (sp.back ++ rest) = sym ahead ∙ e ∙ regroup front sp.front sp.back rest sp.parts in
-      let here = alone_a p.scope a (a_of c) (kinds took.used) sp.front (kinds q.tokens) (sp.back ++ rest) whole took.spelled sp.first took.free
-      (Free-from_Stops (goes_on_a (a_of c)) p.faulty (sp.back ++ rest) (stops_over p.faulty p.scope c sp.back rest sp.second sp.free st)) in
-      let tail : kinds q.tokens ≡ sp.back ++ rest = append_cancel_left sp.front (kinds q.tokens) (sp.back ++ rest) (ap (λ (x : List Lexeme). x ++ kinds q.tokens) (sym here.0) ∙ whole) in
-      let at_q : spells_b q.scope (b_of c) sp.back = subst (λ (x : Parsing). spells_b x.scope (b_of c) sp.back) (sym took.state) sp.second in
-      none (b_of c) sp.back rest tail at_q (subst (λ (x : Parsing). Stops (goes_on_b (b_of c)) x.faulty rest) (sym took.state) (stops_last p.faulty c rest st))
+      let whole : kinds took.used ++ kinds q.tokens ≡ sp.prefix ++ (sp.suffix ++ rest) = sym ahead ∙ e ∙ regroup front sp.prefix sp.suffix rest sp.whole in
+      let here = alone_a p.scope a (a_of c) (kinds took.used) sp.prefix (kinds q.tokens) (sp.suffix ++ rest) whole took.spelled sp.first took.free
+      (Free-from_Stops (goes_on_a (a_of c)) p.faulty (sp.suffix ++ rest) (stops_over p.faulty p.scope c sp.suffix rest sp.second sp.free st)) in
+      let tail : kinds q.tokens ≡ sp.suffix ++ rest = append_cancel_left sp.prefix (kinds q.tokens) (sp.suffix ++ rest) (ap (λ (x : List Lexeme). x ++ kinds q.tokens) (sym here.0) ∙ whole) in
+      let at_q : spells_b q.scope (b_of c) sp.suffix = subst (λ (x : Parsing). spells_b x.scope (b_of c) sp.suffix) (sym took.state) sp.second in
+      none (b_of c) sp.suffix rest tail at_q (subst (λ (x : Parsing). Stops (goes_on_b (b_of c)) x.faulty rest) (sym took.state) (stops_last p.faulty c rest st))
 
   none_second_if : (a : A) (p q : Parsing) (f : Option Cause) → Took spells_a goes_on_a (λ s. s) a p q → IfRefused f (q.failed ≡ None → NoFront spells_b goes_on_b q) → IfRefused f (p.failed ≡ None → NoFront Both goes_on_c p)
   none_second_if a p q f took = if_refused f (λ h live. none_second a p q took (h (ap (λ (x : Parsing). x.failed) took.state ∙ live)))
@@ -101,7 +96,7 @@ module _ {A B C : Type 0} (spells_a : Scope → A → List Lexeme → Type 0) (g
       record {
         used = m.used ++ n.used;
         parts = m.parts ∙ ap (λ (x : List (ℕ × Lexeme)). m.used ++ x) n.parts ∙ sym (append_assoc m.used n.used r.tokens);
-        spelled = record { front = kinds m.used; back = kinds n.used; parts = kinds-append m.used n.used; first = m.spelled; free = Free-front (goes_on_a (a_of c)) (kinds n.used) (kinds r.tokens) free_both; second = second };
+        spelled = record { prefix = kinds m.used; suffix = kinds n.used; whole = kinds-append m.used n.used; first = m.spelled; free = Free-front (goes_on_a (a_of c)) (kinds n.used) (kinds r.tokens) free_both; second = second };
         free = only p.scope c (kinds n.used) (kinds r.tokens) second free_both n.free;
         live = m.live;
         state = n.state ∙ ap (λ (x : Parsing). record x { tokens = r.tokens }) m.state;

@@ -28,10 +28,13 @@ use Rattle.souper_ir.specs.Attributed.{Row, attributes_over, Laws, laws}
 
 -- ---- an assignment up to its attributes
 
-abbrev pub definition_spells : Scope → Definition → List Lexeme → Type 0
-definition_spells s d ts =
-    (ty : List Lexeme) × (rhs : List Lexeme) × (ts ≡ val_name d.name ∷ (ty ++ equals ∷ rhs))
-    × (position_of s d.name ≡ None) × optional_type_spells d.ty ty × rhs_spells s d.value rhs
+pub record definition_spells (s : Scope) (d : Definition) (ts : List Lexeme) : Type 0 where
+  pub ty : List Lexeme
+  pub rhs : List Lexeme
+  pub whole : ts ≡ val_name d.name ∷ (ty ++ equals ∷ rhs)
+  pub name_is_new : position_of s d.name ≡ None
+  pub ty_spelled : optional_type_spells d.ty ty
+  pub rhs_spelled : rhs_spells s d.value rhs
 
 abbrev pub definition_continues : Definition → Lexeme → Type 0
 definition_continues d t = rhs_continues d.value t
@@ -68,8 +71,19 @@ definition_sound p q d e =
     let same : k.0.1.scope ≡ p.scope = scope_is t.0.1 k.0.1 (k2.0 ∷ []) k2.1 ∙ scope_is n.0.1 t.0.1 t2.0 t2.1 ∙ first in
     let free_name : position_of p.scope n.0.0 ≡ None = subst (λ (z : Scope). position_of z n.0.0 ≡ None) first (fresh_means (position_of n.0.1.scope n.0.0) f.0 f.1) in
     let value : rhs_spells p.scope r.0.0 r2.0 = subst (λ (z : Scope). rhs_spells z r.0.0 r2.0) same r2.2 in
-    moved (WasRead definition_spells definition_continues p) (record { name = n.0.0; ty = t.0.0; value = r.0.0 }, r.0.1) (d, q) r.2
-    (n2.0 ∷ (t2.0 ++ k2.0 ∷ r2.0), whole, (t2.0, r2.0, definition_tokens n2.0 k2.0 n.0.0 t2.0 r2.0 (name_means n2.0 n.0.0 n2.2) (mark_means equals k2.0 k2.2), free_name, t2.2, value), r2.3)
+    moved (WasRead definition_spells definition_continues p) (record { name = n.0.0; ty = t.0.0; value = r.0.0 }, r.0.1) (d, q) r.2 (
+      n2.0 ∷ (t2.0 ++ k2.0 ∷ r2.0),
+      whole,
+      record {
+        ty = t2.0;
+        rhs = r2.0;
+        whole = definition_tokens n2.0 k2.0 n.0.0 t2.0 r2.0 (name_means n2.0 n.0.0 n2.2) (mark_means equals k2.0 k2.2);
+        name_is_new = free_name;
+        ty_spelled = t2.2;
+        rhs_spelled = value;
+      },
+      r2.3,
+    )
 
 definition_is : (p n t k q : Parsing) (d : Definition) → accept name_of p ≡ Some (d.name, n) → fresh (position_of n.scope d.name) ≡ Some tt → optional_type_at n ≡ Some (d.ty, t) → accept (mark_of equals) t ≡ Some (tt, k) → rhs_at k ≡ Some (d.value, q)
     → definition_at p ≡ Some (d, q)
@@ -78,16 +92,16 @@ definition_is p n t k q d a b c e f = rw (a, b, c, e, f) refl
 
 pub definition_complete : Complete definition_spells definition_continues definition_at
 definition_complete p d front rest at s st =
-    let ahead : At p (val_name d.name ∷ (s.0 ++ equals ∷ (s.1 ++ rest))) =
-    subst (At p) (ap (λ (z : List Lexeme). z ++ rest) s.2 ∙ ap (λ (z : List Lexeme). val_name d.name ∷ z) (append_assoc s.0 (equals ∷ s.1) rest)) at in
-    let n = accepts name_of p (val_name d.name) d.name (s.0 ++ equals ∷ (s.1 ++ rest)) ahead refl in
-    let unknown : position_of n.0.scope d.name ≡ None = subst (λ (z : Scope). position_of z d.name ≡ None) (sym (same_scope p n.0 n.3)) s.3 in
-    let t = optional_type_complete n.0 d.ty s.0 (equals ∷ (s.1 ++ rest)) n.2 s.4 (optional_type_stops d.ty equals (λ e. cc)) in
-    let k = accepts (mark_of equals) t.0 equals tt (s.1 ++ rest) t.2 refl in
+    let ahead : At p (val_name d.name ∷ (s.ty ++ equals ∷ (s.rhs ++ rest))) =
+    subst (At p) (ap (λ (z : List Lexeme). z ++ rest) s.whole ∙ ap (λ (z : List Lexeme). val_name d.name ∷ z) (append_assoc s.ty (equals ∷ s.rhs) rest)) at in
+    let n = accepts name_of p (val_name d.name) d.name (s.ty ++ equals ∷ (s.rhs ++ rest)) ahead refl in
+    let unknown : position_of n.0.scope d.name ≡ None = subst (λ (z : Scope). position_of z d.name ≡ None) (sym (same_scope p n.0 n.3)) s.name_is_new in
+    let t = optional_type_complete n.0 d.ty s.ty (equals ∷ (s.rhs ++ rest)) n.2 s.ty_spelled (optional_type_stops d.ty equals (λ e. cc)) in
+    let k = accepts (mark_of equals) t.0 equals tt (s.rhs ++ rest) t.2 refl in
     let before : k.0 ≡ record p { tokens = k.0.tokens } = state_then p t.0 k.0 (state_then p n.0 t.0 n.3 t.3) k.3 in
-    let value : rhs_spells k.0.scope d.value s.1 = subst (λ (z : Scope). rhs_spells z d.value s.1) (sym (same_scope p k.0 before)) s.5 in
+    let value : rhs_spells k.0.scope d.value s.rhs = subst (λ (z : Scope). rhs_spells z d.value s.rhs) (sym (same_scope p k.0 before)) s.rhs_spelled in
     let last : Stops (rhs_continues d.value) k.0.faulty rest = subst (λ (z : Bool). Stops (rhs_continues d.value) z rest) (sym (same_fault p k.0 before)) st in
-    let r = rhs_complete k.0 d.value s.1 rest k.2 value last in
+    let r = rhs_complete k.0 d.value s.rhs rest k.2 value last in
     (r.0, definition_is p n.0 t.0 k.0 r.0 d n.1 (fresh_is (position_of n.0.scope d.name) unknown) t.1 k.1 r.1, r.2, state_then p k.0 r.0 before r.3)
 
 pub definition_alone : (s : Scope) (v w : Definition) (a b c d : List Lexeme) → a ++ c ≡ b ++ d → definition_spells s v a → definition_spells s w b → Free (definition_continues v) c → Free (definition_continues w) d → (a ≡ b) × (v ≡ w)
@@ -166,8 +180,22 @@ block_pc_sound p q v e =
     let pair : pair_spells p.scope x.0.0 y.0.0 j.0 = subst (λ (z : Scope). pair_spells z x.0.0 y.0.0 j.0) (scope_is p n.0.1 (k2.0 ∷ val_name b2.0 ∷ n2.0 ∷ []) front) j.2 in
     let number : count_of (2 ^ 32) m.0 ≡ Some w.0 = subst (λ (z : ℕ). count_of (2 ^ 32) m.0 ≡ Some z) way.1 m.2 in
     let within : w.0 < b.0.0.1 = subst (λ (z : ℕ). z < b.0.0.1) way.1 way.0 in
-    moved (WasRead block_pc_spells block_pc_continues p) (record { block = b.0.0.0; predecessor = w.0; x = x.0.0; y = y.0.0 }, y.0.1) (v, q) y.2
-    (k2.0 ∷ val_name b2.0 ∷ n2.0 ∷ j.0, whole, (b2.0, m.0, b.0.0.1, j.0, block_pc_tokens k2.0 n2.0 b2.0 m.0 j.0 (word_means (codes "blockpc") k2.0 k2.2) m.1, found, number, within, pair), j.3)
+    moved (WasRead block_pc_spells block_pc_continues p) (record { block = b.0.0.0; predecessor = w.0; x = x.0.0; y = y.0.0 }, y.0.1) (v, q) y.2 (
+      k2.0 ∷ val_name b2.0 ∷ n2.0 ∷ j.0,
+      whole,
+      record {
+        name = b2.0;
+        number = m.0;
+        predecessors = b.0.0.1;
+        rest = j.0;
+        whole = block_pc_tokens k2.0 n2.0 b2.0 m.0 j.0 (word_means (codes "blockpc") k2.0 k2.2) m.1;
+        block_is = found;
+        number_is = number;
+        within = within;
+        operands_spelled = pair;
+      },
+      j.3,
+    )
 
 block_pc_is : (p k b n x q : Parsing) (ways : ℕ) (v : BlockPc) → accept (word_of (codes "blockpc")) p ≡ Some (tt, k) → block_name_at k ≡ Some ((v.block, ways), b) → accept (int_by (count_of (2 ^ 32))) b ≡ Some (v.predecessor, n) → way_of ways v.predecessor ≡ Some v.predecessor
     → operand_at n ≡ Some (v.x, x) → operand_at x ≡ Some (v.y, q) → block_pc_at p ≡ Some (v, q)
@@ -176,22 +204,22 @@ block_pc_is p k b n x q ways v d e f g h i = rw (d, e, f, g, h, i) refl
 
 pub block_pc_complete : Complete block_pc_spells block_pc_continues block_pc_at
 block_pc_complete p v front rest at s st =
-    let ahead : At p (ident (codes "blockpc") ∷ val_name s.0 ∷ int s.1 ∷ (s.3 ++ rest)) = subst (λ (x : List Lexeme). At p (x ++ rest)) s.4 at in
-    let k = accepts (word_of (codes "blockpc")) p (ident (codes "blockpc")) tt (val_name s.0 ∷ int s.1 ∷ (s.3 ++ rest)) ahead (word_of_is (codes "blockpc")) in
-    let found : entry_of k.0.scope s.0 ≡ Some (v.block, Some s.2) = subst (λ (z : Scope). entry_of z s.0 ≡ Some (v.block, Some s.2)) (sym (same_scope p k.0 k.3)) s.5 in
-    let b = block_name_complete k.0 s.0 (v.block, s.2) (int s.1 ∷ (s.3 ++ rest)) k.2 found in
-    let n = accepts (int_by (count_of (2 ^ 32))) b.0 (int s.1) v.predecessor (s.3 ++ rest) b.2 s.6 in
+    let ahead : At p (ident (codes "blockpc") ∷ val_name s.name ∷ int s.number ∷ (s.rest ++ rest)) = subst (λ (x : List Lexeme). At p (x ++ rest)) s.whole at in
+    let k = accepts (word_of (codes "blockpc")) p (ident (codes "blockpc")) tt (val_name s.name ∷ int s.number ∷ (s.rest ++ rest)) ahead (word_of_is (codes "blockpc")) in
+    let found : entry_of k.0.scope s.name ≡ Some (v.block, Some s.predecessors) = subst (λ (z : Scope). entry_of z s.name ≡ Some (v.block, Some s.predecessors)) (sym (same_scope p k.0 k.3)) s.block_is in
+    let b = block_name_complete k.0 s.name (v.block, s.predecessors) (int s.number ∷ (s.rest ++ rest)) k.2 found in
+    let n = accepts (int_by (count_of (2 ^ 32))) b.0 (int s.number) v.predecessor (s.rest ++ rest) b.2 s.number_is in
     let before : n.0 ≡ record p { tokens = n.0.tokens } = state_then p b.0 n.0 (state_then p k.0 b.0 k.3 b.3) n.3 in
-    let pair : pair_spells n.0.scope v.x v.y s.3 = subst (λ (z : Scope). pair_spells z v.x v.y s.3) (sym (same_scope p n.0 before)) s.8 in
+    let pair : pair_spells n.0.scope v.x v.y s.rest = subst (λ (z : Scope). pair_spells z v.x v.y s.rest) (sym (same_scope p n.0 before)) s.operands_spelled in
     let last : Stops (operand_continues v.y) n.0.faulty rest = subst (λ (z : Bool). Stops (operand_continues v.y) z rest) (sym (same_fault p n.0 before)) st in
-    let j = pair_complete n.0 v.x v.y s.3 rest n.2 pair last in
-    (j.1, block_pc_is p k.0 b.0 n.0 j.0 j.1 s.2 v k.1 b.1 n.1 (way_is s.2 v.predecessor s.7) j.2 j.3, j.4, state_then p n.0 j.1 before j.5)
+    let j = pair_complete n.0 v.x v.y s.rest rest n.2 pair last in
+    (j.1, block_pc_is p k.0 b.0 n.0 j.0 j.1 s.predecessors v k.1 b.1 n.1 (way_is s.predecessors v.predecessor s.within) j.2 j.3, j.4, state_then p n.0 j.1 before j.5)
 
 pub block_pc_alone : (s : Scope) (v w : BlockPc) (a b c d : List Lexeme) → a ++ c ≡ b ++ d → block_pc_spells s v a → block_pc_spells s w b → Free (block_pc_continues v) c → Free (block_pc_continues w) d → (a ≡ b) × (v ≡ w)
 block_pc_alone = one_alone block_pc_spells block_pc_continues block_pc_at block_pc_complete
 
 pub block_pc_first : (s : Scope) (v : BlockPc) (ts : List Lexeme) → block_pc_spells s v ts → Starts (is_word (codes "blockpc")) ts
-block_pc_first s v ts h = subst (λ (x : List Lexeme). Starts (is_word (codes "blockpc")) x) (sym h.4) (word_is (codes "blockpc"))
+block_pc_first s v ts h = subst (λ (x : List Lexeme). Starts (is_word (codes "blockpc")) x) (sym h.whole) (word_is (codes "blockpc"))
 
 -- ---- the infer line up to its attributes
 
@@ -229,10 +257,14 @@ root_alone = one_alone root_spells (λ i t. ⊥) root_at root_complete
 
 -- ---- the cand line up to its attributes
 
-abbrev pub pair_line_spells : Scope → Operand × Operand → List Lexeme → Type 0
-pair_line_spells s v ts =
-    (lhs : List Lexeme) × (between : List Lexeme) × (rhs : List Lexeme) × (ts ≡ ident (codes "cand") ∷ (lhs ++ (between ++ rhs)))
-    × operand_spells s v.0 lhs × IsOptionalComma between × operand_spells s v.1 rhs
+pub record pair_line_spells (s : Scope) (v : Operand × Operand) (ts : List Lexeme) : Type 0 where
+  pub lhs : List Lexeme
+  pub between : List Lexeme
+  pub rhs : List Lexeme
+  pub whole : ts ≡ ident (codes "cand") ∷ (lhs ++ (between ++ rhs))
+  pub lhs_spelled : operand_spells s v.0 lhs
+  pub comma_or_none : IsOptionalComma between
+  pub rhs_spelled : operand_spells s v.1 rhs
 
 abbrev pub pair_line_continues : Operand × Operand → Lexeme → Type 0
 pair_line_continues v t = operand_continues v.1 t
@@ -256,7 +288,7 @@ optional_comma_sound p r e =
 -- an operand begins with a name or a number
 operand_begins : (s : Scope) (x : Operand) (ts : List Lexeme) → operand_spells s x ts → (t : Lexeme) × (more : List Lexeme) × (ts ≡ t ∷ more) × (is_mark comma t ≡ false)
 operand_begins s (Value i) ts h = (val_name h.0, [], h.1, refl)
-operand_begins s (constant_variant c) ts h = (int h.0, h.1, h.2, refl)
+operand_begins s (constant_variant c) ts h = (int h.word, h.rest, h.whole, refl)
 
 comma_complete : (p : Parsing) (between rest : List Lexeme) (t : Lexeme) → At p (between ++ t ∷ rest) → IsOptionalComma between → is_mark comma t ≡ false
     → (q : Parsing) × (optional_comma_at p ≡ Some (tt, q)) × At q (t ∷ rest) × (q ≡ record p { tokens = q.tokens })
@@ -300,8 +332,20 @@ pair_line_sound p q v e =
     let same : c.0.1.scope ≡ p.scope = scope_is x.0.1 c.0.1 c2.0 c2.1 ∙ scope_is k.0.1 x.0.1 x2.0 x2.1 ∙ first in
     let lhs : operand_spells p.scope x.0.0 x2.0 = subst (λ (z : Scope). operand_spells z x.0.0 x2.0) first x2.2 in
     let rhs : operand_spells p.scope y.0.0 y2.0 = subst (λ (z : Scope). operand_spells z y.0.0 y2.0) same y2.2 in
-    moved (WasRead pair_line_spells pair_line_continues p) ((x.0.0, y.0.0), y.0.1) (v, q) y.2
-    (k2.0 ∷ (x2.0 ++ (c2.0 ++ y2.0)), whole, (x2.0, c2.0, y2.0, ap (λ (t : Lexeme). t ∷ (x2.0 ++ (c2.0 ++ y2.0))) (word_means (codes "cand") k2.0 k2.2), lhs, c2.2, rhs), y2.3)
+    moved (WasRead pair_line_spells pair_line_continues p) ((x.0.0, y.0.0), y.0.1) (v, q) y.2 (
+      k2.0 ∷ (x2.0 ++ (c2.0 ++ y2.0)),
+      whole,
+      record {
+        lhs = x2.0;
+        between = c2.0;
+        rhs = y2.0;
+        whole = ap (λ (t : Lexeme). t ∷ (x2.0 ++ (c2.0 ++ y2.0))) (word_means (codes "cand") k2.0 k2.2);
+        lhs_spelled = lhs;
+        comma_or_none = c2.2;
+        rhs_spelled = rhs;
+      },
+      y2.3,
+    )
 
 pair_is : (p k x c q : Parsing) (v : Operand × Operand) → accept (word_of (codes "cand")) p ≡ Some (tt, k) → operand_at k ≡ Some (v.0, x) → optional_comma_at x ≡ Some (tt, c) → operand_at c ≡ Some (v.1, q) → pair_at p ≡ Some (v, q)
 unfolding pair_at
@@ -309,16 +353,16 @@ pair_is p k x c q v d e f g = rw (d, e, f, g) refl
 
 pub pair_line_complete : Complete pair_line_spells pair_line_continues pair_at
 pair_line_complete p v front rest at s st =
-    let ahead : At p (ident (codes "cand") ∷ (s.0 ++ (s.1 ++ (s.2 ++ rest)))) =
-    subst (At p) (ap (λ (z : List Lexeme). z ++ rest) s.3 ∙ ap (λ (z : List Lexeme). ident (codes "cand") ∷ z) (append_assoc s.0 (s.1 ++ s.2) rest ∙ ap (λ (z : List Lexeme). s.0 ++ z) (append_assoc s.1 s.2 rest))) at in
-    let k = accepts (word_of (codes "cand")) p (ident (codes "cand")) tt (s.0 ++ (s.1 ++ (s.2 ++ rest))) ahead (word_of_is (codes "cand")) in
-    let lhs : operand_spells k.0.scope v.0 s.0 = subst (λ (z : Scope). operand_spells z v.0 s.0) (sym (same_scope p k.0 k.3)) s.4 in
-    let x = operand_complete k.0 v.0 s.0 (s.1 ++ (s.2 ++ rest)) k.2 lhs (comma_over p.scope v.0 v.1 k.0.faulty s.1 s.2 rest s.5 s.6) in
-    let c = optional_comma_complete x.0 p.scope v.1 s.1 s.2 rest x.2 s.5 s.6 in
+    let ahead : At p (ident (codes "cand") ∷ (s.lhs ++ (s.between ++ (s.rhs ++ rest)))) =
+    subst (At p) (ap (λ (z : List Lexeme). z ++ rest) s.whole ∙ ap (λ (z : List Lexeme). ident (codes "cand") ∷ z) (append_assoc s.lhs (s.between ++ s.rhs) rest ∙ ap (λ (z : List Lexeme). s.lhs ++ z) (append_assoc s.between s.rhs rest))) at in
+    let k = accepts (word_of (codes "cand")) p (ident (codes "cand")) tt (s.lhs ++ (s.between ++ (s.rhs ++ rest))) ahead (word_of_is (codes "cand")) in
+    let lhs : operand_spells k.0.scope v.0 s.lhs = subst (λ (z : Scope). operand_spells z v.0 s.lhs) (sym (same_scope p k.0 k.3)) s.lhs_spelled in
+    let x = operand_complete k.0 v.0 s.lhs (s.between ++ (s.rhs ++ rest)) k.2 lhs (comma_over p.scope v.0 v.1 k.0.faulty s.between s.rhs rest s.comma_or_none s.rhs_spelled) in
+    let c = optional_comma_complete x.0 p.scope v.1 s.between s.rhs rest x.2 s.comma_or_none s.rhs_spelled in
     let before : c.0 ≡ record p { tokens = c.0.tokens } = state_then p x.0 c.0 (state_then p k.0 x.0 k.3 x.3) c.3 in
-    let rhs : operand_spells c.0.scope v.1 s.2 = subst (λ (z : Scope). operand_spells z v.1 s.2) (sym (same_scope p c.0 before)) s.6 in
+    let rhs : operand_spells c.0.scope v.1 s.rhs = subst (λ (z : Scope). operand_spells z v.1 s.rhs) (sym (same_scope p c.0 before)) s.rhs_spelled in
     let last : Stops (operand_continues v.1) c.0.faulty rest = subst (λ (z : Bool). Stops (operand_continues v.1) z rest) (sym (same_fault p c.0 before)) st in
-    let y = operand_complete c.0 v.1 s.2 rest c.2 rhs last in
+    let y = operand_complete c.0 v.1 s.rhs rest c.2 rhs last in
     (y.0, pair_is p k.0 x.0 c.0 y.0 v k.1 x.1 c.1 y.1, y.2, state_then p c.0 y.0 before y.3)
 
 pub pair_line_alone : (s : Scope) (v w : Operand × Operand) (a b c d : List Lexeme) → a ++ c ≡ b ++ d → pair_line_spells s v a → pair_line_spells s w b → Free (pair_line_continues v) c → Free (pair_line_continues w) d → (a ≡ b) × (v ≡ w)
@@ -437,27 +481,29 @@ definition_of a = record { name = a.name; ty = a.ty; value = a.value }
 
 pub assignment_parts : (s : Scope) (a : PlainAssignment) (ts : List Lexeme) → assignment_spells s a ts → Split definition_spells definition_continues (Row attribute_spells) s (definition_of a) a.attributes ts
 assignment_parts s a ts h =
-    let members : Row attribute_spells s a.attributes h.2 = attributes_are_members a.attributes h.2 h.7 in
+    let members : Row attribute_spells s a.attributes h.attributes = attributes_are_members a.attributes h.attributes h.attributes_spelled in
     record {
-      front = val_name a.name ∷ (h.0 ++ equals ∷ h.1);
-      back = h.2;
-      parts = h.3 ∙ ap (λ (z : List Lexeme). val_name a.name ∷ z) (sym (append_assoc h.0 (equals ∷ h.1) h.2));
-      first = (h.0, h.1, refl, h.4, h.5, h.6);
-      free = attributes_over attribute_spells (attribute_first s) (rhs_continues a.value) a.attributes h.2 (no_colon (rhs_continues a.value) (rhs_more a.value)) members;
+      prefix = val_name a.name ∷ (h.ty ++ equals ∷ h.rhs);
+      suffix = h.attributes;
+      whole = h.whole ∙ ap (λ (z : List Lexeme). val_name a.name ∷ z) (sym (append_assoc h.ty (equals ∷ h.rhs) h.attributes));
+      first = record { ty = h.ty; rhs = h.rhs; whole = refl; name_is_new = h.name_is_new; ty_spelled = h.ty_spelled; rhs_spelled = h.rhs_spelled };
+      free = attributes_over attribute_spells (attribute_first s) (rhs_continues a.value) a.attributes h.attributes (no_colon (rhs_continues a.value) (rhs_more a.value)) members;
       second = members;
     }
 
 pub parts_assignment : (s : Scope) (a : PlainAssignment) (ts : List Lexeme) → Split definition_spells definition_continues (Row attribute_spells) s (definition_of a) a.attributes ts → assignment_spells s a ts
-parts_assignment s a ts h = (
-  h.first.0,
-  h.first.1,
-  h.back,
-  h.parts ∙ ap (λ (z : List Lexeme). z ++ h.back) h.first.2 ∙ ap (λ (z : List Lexeme). val_name a.name ∷ z) (append_assoc h.first.0 (equals ∷ h.first.1) h.back),
-  h.first.3,
-  h.first.4,
-  h.first.5,
-  members_are_attributes a.attributes h.back h.second,
-)
+parts_assignment s a ts h =
+    let d = h.first in
+    record {
+      ty = d.ty;
+      rhs = d.rhs;
+      attributes = h.suffix;
+      whole = h.whole ∙ ap (λ (z : List Lexeme). z ++ h.suffix) d.whole ∙ ap (λ (z : List Lexeme). val_name a.name ∷ z) (append_assoc d.ty (equals ∷ d.rhs) h.suffix);
+      name_is_new = d.name_is_new;
+      ty_spelled = d.ty_spelled;
+      rhs_spelled = d.rhs_spelled;
+      attributes_spelled = members_are_attributes a.attributes h.suffix h.second;
+    }
 
 assignment_same : (v w : PlainAssignment) → definition_of v ≡ definition_of w → v.attributes ≡ w.attributes → v ≡ w
 assignment_same v w d e =
@@ -471,16 +517,22 @@ assignment_laws =
 
 pub infer_parts : (s : Scope) (i : PlainInfer) (ts : List Lexeme) → infer_spells s i ts → Split root_spells (λ (r : ℕ) t. ⊥) (Row root_attribute_spells) s i.value i.attributes ts
 infer_parts s i ts h = record {
-  front = ident (codes "infer") ∷ val_name h.0 ∷ [];
-  back = h.1;
-  parts = h.2;
-  first = (h.0, refl, h.3);
-  free = never h.1;
-  second = root_attributes_are_members i.attributes h.1 h.4;
+  prefix = ident (codes "infer") ∷ val_name h.name ∷ [];
+  suffix = h.attributes;
+  whole = h.whole;
+  first = (h.name, refl, h.value_is);
+  free = never h.attributes;
+  second = root_attributes_are_members i.attributes h.attributes h.attributes_spelled;
 }
 
 pub parts_infer : (s : Scope) (i : PlainInfer) (ts : List Lexeme) → Split root_spells (λ (r : ℕ) t. ⊥) (Row root_attribute_spells) s i.value i.attributes ts → infer_spells s i ts
-parts_infer s i ts h = (h.first.0, h.back, h.parts ∙ ap (λ (z : List Lexeme). z ++ h.back) h.first.1, h.first.2, members_are_root_attributes i.attributes h.back h.second)
+parts_infer s i ts h = record {
+  name = h.first.0;
+  attributes = h.suffix;
+  whole = h.whole ∙ ap (λ (z : List Lexeme). z ++ h.suffix) h.first.1;
+  value_is = h.first.2;
+  attributes_spelled = members_are_root_attributes i.attributes h.suffix h.second;
+}
 
 infer_same : (v w : PlainInfer) → v.value ≡ w.value → v.attributes ≡ w.attributes → v ≡ w
 infer_same v w d e =
@@ -498,22 +550,34 @@ pair_of c = (c.lhs, c.rhs)
 
 pub cand_parts : (s : Scope) (c : PlainCand) (ts : List Lexeme) → cand_spells s c ts → Split pair_line_spells pair_line_continues (Row root_attribute_spells) s (pair_of c) c.attributes ts
 cand_parts s c ts h =
-    let members : Row root_attribute_spells s c.attributes h.3 = root_attributes_are_members c.attributes h.3 h.8 in
-    let regrouped : h.0 ++ (h.1 ++ (h.2 ++ h.3)) ≡ (h.0 ++ (h.1 ++ h.2)) ++ h.3 = sym (append_assoc h.0 (h.1 ++ h.2) h.3 ∙ ap (λ (z : List Lexeme). h.0 ++ z) (append_assoc h.1 h.2 h.3)) in
+    let members : Row root_attribute_spells s c.attributes h.attributes = root_attributes_are_members c.attributes h.attributes h.attributes_spelled in
+    let regrouped : h.lhs ++ (h.between ++ (h.rhs ++ h.attributes)) ≡ (h.lhs ++ (h.between ++ h.rhs)) ++ h.attributes =
+    sym (append_assoc h.lhs (h.between ++ h.rhs) h.attributes ∙ ap (λ (z : List Lexeme). h.lhs ++ z) (append_assoc h.between h.rhs h.attributes)) in
     record {
-      front = ident (codes "cand") ∷ (h.0 ++ (h.1 ++ h.2));
-      back = h.3;
-      parts = h.4 ∙ ap (λ (z : List Lexeme). ident (codes "cand") ∷ z) regrouped;
-      first = (h.0, h.1, h.2, refl, h.5, h.6, h.7);
-      free = attributes_over root_attribute_spells (root_attribute_first s) (operand_continues c.rhs) c.attributes h.3 (no_colon (operand_continues c.rhs) (operand_more c.rhs)) members;
+      prefix = ident (codes "cand") ∷ (h.lhs ++ (h.between ++ h.rhs));
+      suffix = h.attributes;
+      whole = h.whole ∙ ap (λ (z : List Lexeme). ident (codes "cand") ∷ z) regrouped;
+      first = record { lhs = h.lhs; between = h.between; rhs = h.rhs; whole = refl; lhs_spelled = h.lhs_spelled; comma_or_none = h.comma_or_none; rhs_spelled = h.rhs_spelled };
+      free = attributes_over root_attribute_spells (root_attribute_first s) (operand_continues c.rhs) c.attributes h.attributes (no_colon (operand_continues c.rhs) (operand_more c.rhs)) members;
       second = members;
     }
 
 pub parts_cand : (s : Scope) (c : PlainCand) (ts : List Lexeme) → Split pair_line_spells pair_line_continues (Row root_attribute_spells) s (pair_of c) c.attributes ts → cand_spells s c ts
 parts_cand s c ts h =
     let k = h.first in
-    let regrouped : (k.0 ++ (k.1 ++ k.2)) ++ h.back ≡ k.0 ++ (k.1 ++ (k.2 ++ h.back)) = append_assoc k.0 (k.1 ++ k.2) h.back ∙ ap (λ (z : List Lexeme). k.0 ++ z) (append_assoc k.1 k.2 h.back) in
-    (k.0, k.1, k.2, h.back, h.parts ∙ ap (λ (z : List Lexeme). z ++ h.back) k.3 ∙ ap (λ (z : List Lexeme). ident (codes "cand") ∷ z) regrouped, k.4, k.5, k.6, members_are_root_attributes c.attributes h.back h.second)
+    let regrouped : (k.lhs ++ (k.between ++ k.rhs)) ++ h.suffix ≡ k.lhs ++ (k.between ++ (k.rhs ++ h.suffix)) =
+    append_assoc k.lhs (k.between ++ k.rhs) h.suffix ∙ ap (λ (z : List Lexeme). k.lhs ++ z) (append_assoc k.between k.rhs h.suffix) in
+    record {
+      lhs = k.lhs;
+      between = k.between;
+      rhs = k.rhs;
+      attributes = h.suffix;
+      whole = h.whole ∙ ap (λ (z : List Lexeme). z ++ h.suffix) k.whole ∙ ap (λ (z : List Lexeme). ident (codes "cand") ∷ z) regrouped;
+      lhs_spelled = k.lhs_spelled;
+      comma_or_none = k.comma_or_none;
+      rhs_spelled = k.rhs_spelled;
+      attributes_spelled = members_are_root_attributes c.attributes h.suffix h.second;
+    }
 
 cand_same : (v w : PlainCand) → pair_of v ≡ pair_of w → v.attributes ≡ w.attributes → v ≡ w
 cand_same v w d e =
@@ -537,18 +601,18 @@ cand_alone = cand_laws.alone
 -- ---- first tokens
 
 pub assignment_first : (s : Scope) (a : PlainAssignment) (ts : List Lexeme) → assignment_spells s a ts → Starts is_name ts
-assignment_first s a ts h = subst (λ (x : List Lexeme). Starts is_name x) (sym h.3) refl
+assignment_first s a ts h = subst (λ (x : List Lexeme). Starts is_name x) (sym h.whole) refl
 
 pub infer_first : (s : Scope) (i : PlainInfer) (ts : List Lexeme) → infer_spells s i ts → Starts (is_word (codes "infer")) ts
-infer_first s i ts h = subst (λ (x : List Lexeme). Starts (is_word (codes "infer")) x) (sym h.2) (word_is (codes "infer"))
+infer_first s i ts h = subst (λ (x : List Lexeme). Starts (is_word (codes "infer")) x) (sym h.whole) (word_is (codes "infer"))
 
 pub cand_first : (s : Scope) (c : PlainCand) (ts : List Lexeme) → cand_spells s c ts → Starts (is_word (codes "cand")) ts
-cand_first s c ts h = subst (λ (x : List Lexeme). Starts (is_word (codes "cand")) x) (sym h.4) (word_is (codes "cand"))
+cand_first s c ts h = subst (λ (x : List Lexeme). Starts (is_word (codes "cand")) x) (sym h.whole) (word_is (codes "cand"))
 
 pub statement_first : (s : Scope) (v : PlainStatement) (ts : List Lexeme) → statement_spells s v ts → Starts starts_statement ts
-statement_first s (assigned a) ts h = subst (λ (x : List Lexeme). Starts starts_statement x) (sym h.3) refl
+statement_first s (assigned a) ts h = subst (λ (x : List Lexeme). Starts starts_statement x) (sym h.whole) refl
 statement_first s (condition p) ts h = subst (λ (x : List Lexeme). Starts starts_statement x) (sym h.1) refl
-statement_first s (block_condition p) ts h = subst (λ (x : List Lexeme). Starts starts_statement x) (sym h.4) refl
+statement_first s (block_condition p) ts h = subst (λ (x : List Lexeme). Starts starts_statement x) (sym h.whole) refl
 
 -- ---- statements
 

@@ -54,12 +54,12 @@ module _ {V : Type 0} (spells : V → List Lexeme → Type 0) (continues : V →
   pub free_over : (v : V) (vs : List V) (a c : List Lexeme) → Free (continues v) a → Members spells continues vs a → Free (λ t. LastGoesOn continues (v ∷ vs) t) c → Free (continues v) (a ++ c)
   free_over v vs (t ∷ a) c f m g = f
   free_over v [] [] c f m g = g
-  free_over v (w ∷ vs) [] c f m g = absurd (not_empty w m.0 m.1 m.3 (sym m.2))
+  free_over v (w ∷ vs) [] c f m g = absurd (not_empty w m.prefix m.suffix m.first (sym m.whole))
 
   pub stops_over : (faulty : Bool) (v : V) (vs : List V) (a c : List Lexeme) → Free (continues v) a → Members spells continues vs a → Stops (λ t. LastGoesOn continues (v ∷ vs) t) faulty c → Stops (continues v) faulty (a ++ c)
   stops_over faulty v vs (t ∷ a) c f m g = f
   stops_over faulty v [] [] c f m g = g
-  stops_over faulty v (w ∷ vs) [] c f m g = absurd (not_empty w m.0 m.1 m.3 (sym m.2))
+  stops_over faulty v (w ∷ vs) [] c f m g = absurd (not_empty w m.prefix m.suffix m.first (sym m.whole))
 
   pub last_later : (v : V) (vs : List V) (t : Lexeme) → LastGoesOn continues vs t → LastGoesOn continues (v ∷ vs) t
   last_later v [] t h = absurd h
@@ -79,19 +79,19 @@ module _ {V : Type 0} (spells : V → List Lexeme → Type 0) (continues : V →
       → Free (λ t. ListGoesOn continues starts vs t) c → Free (λ t. ListGoesOn continues starts ws t) d → (a ≡ b) × (vs ≡ ws)
   list_alone [] [] a b c d e m n f g = (m ∙ sym n, refl)
   list_alone [] (w ∷ ws) a b c d e m n f g =
-      absurd (clash starts n.0 c (n.1 ++ d) (first w n.0 n.3)
-      (ap (λ (x : List Lexeme). x ++ c) (sym m) ∙ e ∙ ap (λ (x : List Lexeme). x ++ d) n.2 ∙ append_assoc n.0 n.1 d)
+      absurd (clash starts n.prefix c (n.suffix ++ d) (first w n.prefix n.first)
+      (ap (λ (x : List Lexeme). x ++ c) (sym m) ∙ e ∙ ap (λ (x : List Lexeme). x ++ d) n.whole ∙ append_assoc n.prefix n.suffix d)
       (Free-weaker (λ t. ListGoesOn continues starts [] t) (λ t. starts t ≡ true) c (λ t h. inl h) f))
   list_alone (v ∷ vs) [] a b c d e m n f g =
-      absurd (clash starts m.0 d (m.1 ++ c) (first v m.0 m.3)
-      (ap (λ (x : List Lexeme). x ++ d) (sym n) ∙ sym e ∙ ap (λ (x : List Lexeme). x ++ c) m.2 ∙ append_assoc m.0 m.1 c)
+      absurd (clash starts m.prefix d (m.suffix ++ c) (first v m.prefix m.first)
+      (ap (λ (x : List Lexeme). x ++ d) (sym n) ∙ sym e ∙ ap (λ (x : List Lexeme). x ++ c) m.whole ∙ append_assoc m.prefix m.suffix c)
       (Free-weaker (λ t. ListGoesOn continues starts [] t) (λ t. starts t ≡ true) d (λ t h. inl h) g))
   list_alone (v ∷ vs) (w ∷ ws) a b c d e m n f g =
-      let whole = parts_equal a b m.0 m.1 n.0 n.1 c d m.2 n.2 e in
-      let here = alone v w m.0 n.0 (m.1 ++ c) (n.1 ++ d) whole m.3 n.3
-      (free_over v vs m.1 c m.4 m.5 (Free-weaker (λ t. ListGoesOn continues starts (v ∷ vs) t) (λ t. LastGoesOn continues (v ∷ vs) t) c (λ t h. inr h) f))
-      (free_over w ws n.1 d n.4 n.5 (Free-weaker (λ t. ListGoesOn continues starts (w ∷ ws) t) (λ t. LastGoesOn continues (w ∷ ws) t) d (λ t h. inr h) g)) in
-      let there = list_alone vs ws m.1 n.1 c d (rest_equal m.0 m.1 n.0 n.1 c d here.0 whole) m.5 n.5
+      let whole = parts_equal a b m.prefix m.suffix n.prefix n.suffix c d m.whole n.whole e in
+      let here = alone v w m.prefix n.prefix (m.suffix ++ c) (n.suffix ++ d) whole m.first n.first
+      (free_over v vs m.suffix c m.free m.second (Free-weaker (λ t. ListGoesOn continues starts (v ∷ vs) t) (λ t. LastGoesOn continues (v ∷ vs) t) c (λ t h. inr h) f))
+      (free_over w ws n.suffix d n.free n.second (Free-weaker (λ t. ListGoesOn continues starts (w ∷ ws) t) (λ t. LastGoesOn continues (w ∷ ws) t) d (λ t h. inr h) g)) in
+      let there = list_alone vs ws m.suffix n.suffix c d (rest_equal m.prefix m.suffix n.prefix n.suffix c d here.0 whole) m.second n.second
       (Free-weaker (λ t. ListGoesOn continues starts (v ∷ vs) t) (λ t. ListGoesOn continues starts vs t) c (list_later v vs) f)
       (Free-weaker (λ t. ListGoesOn continues starts (w ∷ ws) t) (λ t. ListGoesOn continues starts ws t) d (list_later w ws) g) in
-      (m.2 ∙ ap (λ (x : List Lexeme). x ++ m.1) here.0 ∙ ap (λ (x : List Lexeme). n.0 ++ x) there.0 ∙ sym n.2, ap (λ (x : V). x ∷ vs) here.1 ∙ ap (λ (x : List V). w ∷ x) there.1)
+      (m.whole ∙ ap (λ (x : List Lexeme). x ++ m.suffix) here.0 ∙ ap (λ (x : List Lexeme). n.prefix ++ x) there.0 ∙ sym n.whole, ap (λ (x : V). x ∷ vs) here.1 ∙ ap (λ (x : List V). w ∷ x) there.1)

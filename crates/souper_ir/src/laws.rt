@@ -3,11 +3,13 @@
 //! What a type's `parse` promises is said in the ghost members of its `Parse`, and what its `peek` answers in those of its
 //! `Peek`. The laws of the types say what these members are.
 
-ghost use Rattle.std.specs.Prelude.{◌≡◌, ◌↔◌, List, [], Option, map, option_map, codes};
+ghost use Rattle.std.specs.Prelude.{◌≡◌, ◌↔◌, ℕ, List, [], Option, map, option_map, codes};
+ghost use Rattle.std.specs.List.{AllByRecursion};
+ghost use Rattle.souper_graph.specs.WellFormed.{EachClosed};
 ghost use Rattle.souper_graph.specs.Values.{PlainAttribute, PlainRootAttribute, PlainPhi, PlainRhs, PlainAssignment, PlainStatement, PlainInfer, PlainCand, Item};
 ghost use Rattle.souper_graph.specs.View.{view_attribute, view_root_attribute, view_phi, view_rhs, view_assignment, view_statement, view_infer, view_cand, view_left_hand_side, view_right_hand_side, view_replacement};
 ghost use Rattle.souper_graph.specs.Syntax.Tokens.{Lexeme, open_paren, OneReading, IsWhiteSpaceListed, EachInText, GapEndsToken, FrontsJoin};
-ghost use Rattle.souper_graph.specs.Syntax.Spelling.{Scope, OneList, type_spells, constant_spells, operand_spells, block_spells, phi_spells, instruction_spells, rhs_spells, attribute_spells, root_attribute_spells, assignment_spells, pc_spells, block_pc_spells, statement_spells, infer_spells, cand_spells, left_hand_side, right_hand_side, replacement, item_spells_after};
+ghost use Rattle.souper_graph.specs.Syntax.Spelling.{Scope, OneList, type_spells, constant_spells, operand_spells, block_spells, phi_spells, instruction_spells, rhs_spells, attribute_spells, root_attribute_spells, assignment_spells, pc_spells, block_pc_spells, statement_spells, infer_spells, cand_spells, ItemType, left_hand_side, right_hand_side, replacement, item_spells_after, TextSpells};
 ghost use Rattle.souper_ir.specs.Continuation.{constant_continues, operand_continues, phi_continues, instruction_continues, rhs_continues, assignment_continues, pc_continues, block_pc_continues, statement_continues, infer_continues, cand_continues, item_continues};
 ghost use Rattle.souper_ir.specs.Grammar.{Members, ListGoesOn, OptionSpells, OptionGoesOn};
 ghost use Rattle.souper_ir.specs.NodeReadings.{is_name, is_int, is_mark, is_word, starts_instruction, starts_statement};
@@ -30,6 +32,11 @@ pub fn law_of_tokens()
 /// A text spells one list of items of a type at most.
 pub fn law_of_items()
     ensures { OneList }
+{}
+
+/// In the items that a text spells, every statement, needed or not, may stand where it stands, and all names are distinct.
+pub fn law_of_spelled_items()
+    ensures { (k : ItemType) (bs : List ℕ) (items : List Item) → TextSpells k bs items → AllByRecursion EachClosed items }
 {}
 
 /// What parsing a type promises.

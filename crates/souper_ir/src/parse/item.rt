@@ -3,7 +3,7 @@
 ghost use Rattle.std.specs.Prelude.{◌≡◌, List, map, false, None, IfOk, OnOk, IfErr, IsOkAnd, option_copied, []};
 ghost use Rattle.std.specs.List.{AllByRecursion};
 ghost use Rattle.souper_graph.specs.View.{view_left_hand_side, view_right_hand_side, view_replacement};
-ghost use Rattle.souper_graph.specs.WellFormed.{WellFormed};
+ghost use Rattle.souper_graph.specs.WellFormed.{WellFormed, EachClosed};
 ghost use Rattle.souper_graph.specs.Values.{Item};
 ghost use Rattle.souper_graph.specs.Syntax.Tokens.{IsLastGap, IsLexeme};
 ghost use Rattle.souper_graph.specs.Syntax.Spelling.{kinds, ItemType, left_hand_side, right_hand_side, replacement, statement_spells, item_spells_after, TextSpells};
@@ -223,6 +223,7 @@ pub(crate) fn parse_str<T: WholeItem + Drop>(
 ) -> Result<Vec<T>>
     ensures spelled { IfOk result (λ v. TextSpells T.item_type source.now (map T.view v.items)) }
     ensures well_formed { IfOk result (λ v. AllByRecursion WellFormed (map T.view v.items)) }
+    ensures each_closed { IfOk result (λ v. AllByRecursion EachClosed (map T.view v.items)) }
     ensures refused { IfErr result (λ e. IsStrError T.item_type (option_copied filename.entry) source.now e) }
     ensures gaps { IsLastGap source.now → IsOkAnd result (λ v. v.items ≡ []) }
 {
@@ -242,6 +243,7 @@ pub fn parse_left_hand_sides_str(
 ) -> Result<Vec<LeftHandSide>>
     ensures spelled { IfOk result (λ v. TextSpells left_hand_side source.now (map view_left_hand_side v.items)) }
     ensures well_formed { IfOk result (λ v. AllByRecursion WellFormed (map view_left_hand_side v.items)) }
+    ensures each_closed { IfOk result (λ v. AllByRecursion EachClosed (map view_left_hand_side v.items)) }
     ensures refused { IfErr result (λ e. IsStrError left_hand_side (option_copied filename.entry) source.now e) }
     ensures gaps { IsLastGap source.now → IsOkAnd result (λ v. v.items ≡ []) }
 {
@@ -259,6 +261,7 @@ pub fn parse_right_hand_sides_str(
 ) -> Result<Vec<RightHandSide>>
     ensures spelled { IfOk result (λ v. TextSpells right_hand_side source.now (map view_right_hand_side v.items)) }
     ensures well_formed { IfOk result (λ v. AllByRecursion WellFormed (map view_right_hand_side v.items)) }
+    ensures each_closed { IfOk result (λ v. AllByRecursion EachClosed (map view_right_hand_side v.items)) }
     ensures refused { IfErr result (λ e. IsStrError right_hand_side (option_copied filename.entry) source.now e) }
     ensures gaps { IsLastGap source.now → IsOkAnd result (λ v. v.items ≡ []) }
 {
@@ -276,6 +279,7 @@ pub fn parse_replacements_str(
 ) -> Result<Vec<Replacement>>
     ensures spelled { IfOk result (λ v. TextSpells replacement source.now (map view_replacement v.items)) }
     ensures well_formed { IfOk result (λ v. AllByRecursion WellFormed (map view_replacement v.items)) }
+    ensures each_closed { IfOk result (λ v. AllByRecursion EachClosed (map view_replacement v.items)) }
     ensures refused { IfErr result (λ e. IsStrError replacement (option_copied filename.entry) source.now e) }
     ensures gaps { IsLastGap source.now → IsOkAnd result (λ v. v.items ≡ []) }
 {

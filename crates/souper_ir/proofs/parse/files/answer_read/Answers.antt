@@ -10,4 +10,10 @@ returns-in-Ok g c =
     let answer = c.parse_str.result in
     subst (λ read. AnswersRead k view path read answer) (sym c.in-Ok.is)
     (subst (λ source. AnswersText k view path source answer) c.as_str.ensures.value
-    (c.parse_str.ensures.spelled, c.parse_str.ensures.well_formed, c.parse_str.ensures.refused, c.parse_str.ensures.gaps))
+    (record {
+      spelled = c.parse_str.ensures.spelled;
+      well_formed = c.parse_str.ensures.well_formed;
+      each_closed = c.parse_str.ensures.each_closed;
+      refused = c.parse_str.ensures.refused;
+      gaps = c.parse_str.ensures.gaps;
+    }))

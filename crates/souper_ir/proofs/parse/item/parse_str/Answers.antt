@@ -1,7 +1,7 @@
 use Rattle.std.proofs.Common.{◌≡◌, List, [], map, sym, ap, subst}
 use Rattle.souper_graph.specs.Values.{Item}
 use Rattle.souper_graph.specs.Syntax.Spelling.{TextSpells}
-use Rattle.souper_ir.proofs.WellFormedItems.{text_well}
+use Rattle.souper_ir.proofs.WellFormedItems.{all_well, text_closed}
 use Rattle.souper_ir.proofs.parse.item.parse_str.Goals as goal
 
 pub returns-clause-spelled : goal.returns-clause-spelled
@@ -10,6 +10,9 @@ returns-clause-spelled g c =
     let held : map g.T.WholeItem.view c.parse_into.new.sink.items ≡ taken.0 = taken.2 [] (ap (map g.T.WholeItem.view) c.new-items.ensures.items) in
     subst (λ (x : List Item). TextSpells g.T.WholeItem.item_type c.args.source.now x) (sym held) taken.1
 
+pub returns-clause-each_closed : goal.returns-clause-each_closed
+returns-clause-each_closed g c =
+    text_closed g.T.WholeItem.item_type (map g.T.WholeItem.view c.parse_into.new.sink.items) c.args.source.now (returns-clause-spelled g c)
+
 pub returns-clause-well_formed : goal.returns-clause-well_formed
-returns-clause-well_formed g c =
-    text_well g.T.WholeItem.item_type (map g.T.WholeItem.view c.parse_into.new.sink.items) c.args.source.now (returns-clause-spelled g c)
+returns-clause-well_formed g c = all_well (map g.T.WholeItem.view c.parse_into.new.sink.items) (returns-clause-each_closed g c)

@@ -1,0 +1,5 @@
+use Rattle.souper_ir.proofs.WellFormedItems.{text_closed}
+use Rattle.souper_ir.proofs.laws.law_of_spelled_items.Goals as goal
+
+pub returns : goal.returns
+returns c = λ k bs items spelled. text_closed k items bs spelled
