@@ -1,9 +1,4 @@
 pub mod RunLemmas
-pub mod InstructionParts
-pub mod Graphs
 pub mod Pairs
-pub mod TableLemmas
-pub mod BitLists
-pub mod Assigned
-pub mod Endings
 pub mod SameRunLemmas
+pub mod OneGraph

@@ -6,7 +6,7 @@ ghost use Rattle.souper_graph.specs.WellFormed.{WellFormed, EachClosed};
 ghost use Rattle.souper_graph.specs.Syntax.Spelling.{TextSpells};
 ghost use Rattle.souper_ir.specs.Answers.{IsStrError};
 ghost use Rattle.souper_format.specs.Kinds.{item_type_of, kind_of_items, view_items};
-ghost use Rattle.souper_format.specs.Formatted.{IsFormatted};
+ghost use Rattle.souper_format.specs.Formatted.{IsFormatted, SpellsRenumbered};
 
 use crate::command::Kind;
 use crate::texts::texts_of_source;
@@ -63,7 +63,8 @@ pub fn read_items(
 
 /// The canonical text of each item that the text spells, a newline after each.
 ///
-/// An item is printed when it has been read, and then dropped. The errors are those of [`read_items`].
+/// An item is printed when it has been read, and then dropped. Formatting is idempotent: the text spells the items
+/// with their needed statements in printed order, and formatted again it stays. The errors are those of [`read_items`].
 pub fn format_text(
     alloc: Global,
     kind: Kind,
@@ -71,6 +72,8 @@ pub fn format_text(
     filename: Option<&str>,
 ) -> Result<String, ParseError>
     ensures formatted { IfOk result (λ text. IsFormatted (item_type_of kind) source.now (string_bytes text)) }
+    ensures reads_back { IfOk result (λ text. SpellsRenumbered (item_type_of kind) source.now (string_bytes text)) }
+    ensures again { IfOk result (λ text. IsFormatted (item_type_of kind) (string_bytes text) (string_bytes text)) }
     ensures refused { IfErr result (λ e. IsStrError (item_type_of kind) (option_copied filename.entry) source.now e) }
 {
     match kind {

@@ -7,13 +7,8 @@ ghost use Rattle.souper_graph.specs.Sameness.{SameGraph};
 ghost use Rattle.souper_format.specs.Kinds.{view_items};
 ghost use Rattle.souper_format.specs.Same.{SameItems};
 
-mod attributes;
-mod graphs;
-mod nodes;
-mod places;
-
 use crate::items::Items;
-use graphs::{Graph, are_same_graph};
+use crate::texts::{Printed, are_same_graph};
 use std::alloc::{AllocError, Global};
 
 /// Whether both lists have one kind and one length, and each item is the same graph as the one at its place in the
@@ -21,9 +16,10 @@ use std::alloc::{AllocError, Global};
 ///
 /// Two items are the same graph where a one-to-one map between their needed statements keeps names, types, attributes,
 /// operations, operands, the last lines and the order of the path conditions. In which order the other statements stand
-/// does not matter, nor do statements that no root and no path condition needs.
+/// does not matter, nor do statements that no root and no path condition needs. Two items are the same graph if and only
+/// if they have the same canonical text, so texts are compared.
 ///
-/// Each item must be well formed, as those of [`read_items`](crate::items::read_items) are. The error is want of memory.
+/// Each item must be well formed, as those of [`read_items`](crate::items::read_items) are. The error is out of memory.
 pub fn same(alloc: Global, a: &Items, b: &Items) -> Result<bool, AllocError>
     requires formed { AllByRecursion WellFormed (view_items a.now) }
     requires other_formed { AllByRecursion WellFormed (view_items b.now) }
@@ -37,10 +33,10 @@ pub fn same(alloc: Global, a: &Items, b: &Items) -> Result<bool, AllocError>
     }
 }
 
-fn are_pairwise_same<T: Graph>(alloc: Global, a: &[T], b: &[T]) -> Result<bool, AllocError>
-    requires formed { AllByRecursion WellFormed (map T.item a.now) }
-    requires other_formed { AllByRecursion WellFormed (map T.item b.now) }
-    ensures { IfOk result (λ answer. IsTrue answer ↔ AllZip SameGraph (map T.item a.now) (map T.item b.now)) }
+fn are_pairwise_same<T: Printed>(alloc: Global, a: &[T], b: &[T]) -> Result<bool, AllocError>
+    requires formed { AllByRecursion WellFormed (map T.view a.now) }
+    requires other_formed { AllByRecursion WellFormed (map T.view b.now) }
+    ensures { IfOk result (λ answer. IsTrue answer ↔ AllZip SameGraph (map T.view a.now) (map T.view b.now)) }
 {
     if a.len() != b.len() {
         return Ok(false);

@@ -1,11 +1,14 @@
-//! The canonical texts of items, one behind the other.
-ghost use Rattle.std.specs.Prelude.{◌≡◌, ◌++◌, IfOk, IfErr, OnOk, option_copied};
+//! The canonical texts of items, one after the other.
+ghost use Rattle.std.specs.Prelude.{◌≡◌, ◌↔◌, ◌++◌, IfOk, IfErr, OnOk, IsTrue, option_copied};
 ghost use Rattle.std.specs.String.{string_bytes};
-ghost use Rattle.souper_graph.specs.Text.{text_of};
+ghost use Rattle.souper_graph.specs.Text.{text_of, text_with_newline, texts_of};
 ghost use Rattle.souper_graph.specs.Uses.{UsesBelow};
+ghost use Rattle.souper_graph.specs.Sameness.{SameGraph};
+ghost use Rattle.souper_graph.specs.Syntax.Spelling.{IsEndingOf};
+ghost use Rattle.souper_graph.proofs.RoundTrip.ReadBack.{replacement-ending};
 ghost use Rattle.souper_graph.specs.WellFormed.{WellFormed};
 ghost use Rattle.souper_ir.specs.Answers.{IsStrError};
-ghost use Rattle.souper_format.specs.Formatted.{text_with_newline, texts_of, IsFormatted};
+ghost use Rattle.souper_format.specs.Formatted.{IsFormatted, SpellsRenumbered};
 
 use souper_ir::ast::{LeftHandSide, Replacement, RightHandSide};
 use souper_ir::parse::{ParseError, Sink, WholeItem, parse_into};
@@ -16,21 +19,30 @@ use std::alloc::{AllocError, Global};
 pub(crate) trait Printed: WholeItem {
     fn text(&self) -> Result<String, TextError>
         ensures { UsesBelow (Self.view self.now) → IfOk result (λ text. string_bytes text ≡ text_of (Self.view self.now)) };
+
+    // The last lines are those of an item of the type.
+    ghost ends: { (item : Self) → IsEndingOf Self.item_type (Self.view item).ending };
 }
 
 impl Printed for LeftHandSide {
+    ghost ends = { λ item. tt };
+
     fn text(&self) -> Result<String, TextError> {
         self.to_text()
     }
 }
 
 impl Printed for RightHandSide {
+    ghost ends = { λ item. tt };
+
     fn text(&self) -> Result<String, TextError> {
         self.to_text()
     }
 }
 
 impl Printed for Replacement {
+    ghost ends = { replacement-ending };
+
     fn text(&self) -> Result<String, TextError> {
         self.to_text()
     }
@@ -50,6 +62,19 @@ fn append_item<T: Printed>(item: &T, out: &mut String) -> Result<(), AllocError>
         // A well-formed item names no bad id: what was refused is memory.
         Err(_) => Err(AllocError),
     }
+}
+
+/// Whether two items are the same graph: they are if and only if their canonical texts are equal.
+pub(crate) fn are_same_graph<T: Printed>(alloc: Global, a: &T, b: &T) -> Result<bool, AllocError>
+    requires formed { WellFormed (T.view a.now) }
+    requires other_formed { WellFormed (T.view b.now) }
+    ensures { IfOk result (λ answer. IsTrue answer ↔ SameGraph (T.view a.now) (T.view b.now)) }
+{
+    let mut text = String::new(alloc);
+    append_item(a, &mut text)?;
+    let mut other_text = String::new(alloc);
+    append_item(b, &mut other_text)?;
+    Ok(text == other_text)
 }
 
 // The canonical text of each item that was taken, a newline after each.
@@ -73,6 +98,8 @@ pub(crate) fn texts_of_source<T: Printed + Drop>(
     filename: Option<&str>,
 ) -> Result<String, ParseError>
     ensures formatted { IfOk result (λ text. IsFormatted T.item_type source.now (string_bytes text)) }
+    ensures reads_back { IfOk result (λ text. SpellsRenumbered T.item_type source.now (string_bytes text)) }
+    ensures again { IfOk result (λ text. IsFormatted T.item_type (string_bytes text) (string_bytes text)) }
     ensures refused { IfErr result (λ e. IsStrError T.item_type (option_copied filename.entry) source.now e) }
 {
     let mut texts = Texts {

@@ -1,13 +1,46 @@
 -- Lemmas. A canonical text spells the renumbered items and no others, so it is one text for each graph.
 use Rattle.std.proofs.Common.{◌≡◌, ℕ, List, [], ◌∷◌, ◌++◌, map, refl, sym, ◌∙◌, ap, subst}
-use Rattle.souper_graph.specs.Values.{Item}
+use Rattle.std.specs.List.{AllByRecursion}
+use Rattle.souper_graph.specs.Values.{PlainStatement, Ending, inferred, resulting, replaced, candidate, Item}
+use Rattle.souper_graph.specs.WellFormed.{EachClosed}
 use Rattle.souper_graph.specs.Text.{text_of, texts_of}
 use Rattle.souper_graph.specs.Sameness.{renumbered, SameGraph}
 use Rattle.souper_graph.specs.CanonicalText.{IsWellFormedOf, AreWellFormed}
-use Rattle.souper_graph.specs.Syntax.Spelling.{ItemType, TextSpells}
+use Rattle.souper_graph.specs.Syntax.Tokens.{Lexeme}
+use Rattle.souper_graph.specs.Syntax.Spelling.{kinds, Scope, ItemType, left_hand_side, right_hand_side, replacement, IsEndingOf, tail_spells, item_spells, list_spells, TextSpells}
 use Rattle.souper_graph.proofs.RoundTrip.ReadBack.{texts-read-back, same-graph-text}
 use Rattle.souper_graph.proofs.Sameness.{same-renumbered}
 use Rattle.souper_ir.proofs.ItemLists.{text_alone}
+use Rattle.souper_ir.proofs.WellFormedItems.{closed_well, text_closed}
+
+-- ---- the items of a text
+
+ending_of_type : (k : ItemType) (s : Scope) (new : List PlainStatement) (e : Ending) (ts : List Lexeme) → tail_spells k s (new, e) ts → IsEndingOf k e
+ending_of_type left_hand_side s new (inferred i) ts h = tt
+ending_of_type left_hand_side s new (resulting r) ts h = h
+ending_of_type left_hand_side s new (replaced i r) ts h = h
+ending_of_type left_hand_side s new (candidate c) ts h = h
+ending_of_type right_hand_side s new (inferred i) ts h = h
+ending_of_type right_hand_side s new (resulting r) ts h = tt
+ending_of_type right_hand_side s new (replaced i r) ts h = h
+ending_of_type right_hand_side s new (candidate c) ts h = h
+ending_of_type replacement s new (inferred i) ts h = h
+ending_of_type replacement s new (resulting r) ts h = h
+ending_of_type replacement s new (replaced i r) ts h = tt
+ending_of_type replacement s new (candidate c) ts h = tt
+
+item_of_type : (k : ItemType) (a : Item) (ts : List Lexeme) → item_spells k a ts → IsEndingOf k a.ending
+item_of_type k a ts h = ending_of_type k ([] ++ h.first) h.last a.ending h.tail h.tail_spelled
+
+well_formed_each : (k : ItemType) (items : List Item) (ts : List Lexeme) → AllByRecursion EachClosed items → list_spells k items ts → AreWellFormed k items
+well_formed_each k [] ts c h = tt
+well_formed_each k (a ∷ items) ts c h = ((closed_well a c.0, item_of_type k a h.prefix h.first), well_formed_each k items h.suffix c.1 h.second)
+
+-- the items that a text spells are well formed and of its type
+pub spelled_well_formed : (k : ItemType) (bs : List ℕ) (items : List Item) → TextSpells k bs items → AreWellFormed k items
+spelled_well_formed k bs items h = well_formed_each k items (kinds h.0) (text_closed k items bs h) h.2
+
+-- ---- canonical texts
 
 -- the canonical texts of items spell no other list
 pub texts_exact : (k : ItemType) (items others : List Item) → AreWellFormed k items → TextSpells k (texts_of items) others → others ≡ map renumbered items

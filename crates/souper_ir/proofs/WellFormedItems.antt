@@ -253,7 +253,7 @@ item_closed k a ts l m =
           some_same p q (position_of a.statements v.name) (whole.0.0 p v ep) (subst (λ (x : List ℕ). position_of a.statements x ≡ Some q) (sym same) (whole.0.0 q w eq));
     }
 
-closed_well : (a : Item) → EachClosed a → WellFormed a
+pub closed_well : (a : Item) → EachClosed a → WellFormed a
 closed_well a h = record {
   roots_met = h.roots_met;
   ending_fits = h.ending_fits;
