@@ -89,7 +89,7 @@ root-walked a u h = elim (Has-cases (first_roots a.ending) (last_roots a.ending)
 pub use-needed : (a : Item) (p : ℕ) (u : Use) → NeededIn a p → Has (uses_at a.statements p) u → NeededIn a (position_of u)
 use-needed a p u d h = used d (Has-map position_of (uses_at a.statements p) u h)
 
-from-inside : (k : ℕ) (ss : List PlainStatement) (j : ℕ) → Has (conditions_from k ss) j → j < k + length ss
+pub from-inside : (k : ℕ) (ss : List PlainStatement) (j : ℕ) → Has (conditions_from k ss) j → j < k + length ss
 from-inside k [] j h = absurd (Has-none j h)
 from-inside k (s ∷ ss) j h = under (is_condition s) (λ a. from-inside (suc k) ss j a) h
   where

@@ -3,7 +3,7 @@ use Rattle.std.proofs.Common.{◌≡◌, List, [], ◌∷◌, map, refl, ap, ◌
 use Rattle.souper_graph.specs.declared.ast.operands.Operand.{Operand}
 use Rattle.souper_graph.specs.declared.ast.instructions.Instruction.{Instruction}
 use Rattle.souper_graph.specs.declared.ast.instructions.Instruction.TheVariants.{Add, AddNsw, AddNuw, AddNw, Sub, SubNsw, SubNuw, SubNw, Mul, MulNsw, MulNuw, MulNw, Udiv, Sdiv, UdivExact, SdivExact, Urem, Srem, And, Or, Xor, Shl, ShlNsw, ShlNuw, ShlNw, Lshr, LshrExact, Ashr, AshrExact, Select, Zext, Sext, Trunc, Eq, Ne, Ult, Slt, Ule, Sle, Ctpop, Bswap, BitReverse, Cttz, Ctlz, Fshl, Fshr, SaddWithOverflow, UaddWithOverflow, SsubWithOverflow, UsubWithOverflow, SmulWithOverflow, UmulWithOverflow, SaddSat, UaddSat, SsubSat, UsubSat, ExtractValue, Hole, Freeze}
-use Rattle.souper_graph.specs.Instructions.{operands_of, instruction_map}
+use Rattle.souper_graph.specs.Instructions.{word_of, operands_of, instruction_map}
 use Rattle.souper_graph.specs.Uses.{Has}
 use Rattle.souper_graph.proofs.Lists.{Has-here, Has-later}
 
@@ -265,3 +265,65 @@ instruction-same g h (UsubSat a b) e = two (λ x y. UsubSat x y) g h a b e
 instruction-same g h (ExtractValue a b) e = two (λ x y. ExtractValue x y) g h a b e
 instruction-same g h Hole e = refl
 instruction-same g h (Freeze a) e = one (λ x. Freeze x) g h a e
+
+-- the word stays
+pub word-map : (g : Operand → Operand) (i : Instruction) → word_of (instruction_map g i) ≡ word_of i
+word-map g (Add a b) = refl
+word-map g (AddNsw a b) = refl
+word-map g (AddNuw a b) = refl
+word-map g (AddNw a b) = refl
+word-map g (Sub a b) = refl
+word-map g (SubNsw a b) = refl
+word-map g (SubNuw a b) = refl
+word-map g (SubNw a b) = refl
+word-map g (Mul a b) = refl
+word-map g (MulNsw a b) = refl
+word-map g (MulNuw a b) = refl
+word-map g (MulNw a b) = refl
+word-map g (Udiv a b) = refl
+word-map g (Sdiv a b) = refl
+word-map g (UdivExact a b) = refl
+word-map g (SdivExact a b) = refl
+word-map g (Urem a b) = refl
+word-map g (Srem a b) = refl
+word-map g (And a b) = refl
+word-map g (Or a b) = refl
+word-map g (Xor a b) = refl
+word-map g (Shl a b) = refl
+word-map g (ShlNsw a b) = refl
+word-map g (ShlNuw a b) = refl
+word-map g (ShlNw a b) = refl
+word-map g (Lshr a b) = refl
+word-map g (LshrExact a b) = refl
+word-map g (Ashr a b) = refl
+word-map g (AshrExact a b) = refl
+word-map g (Select a b c) = refl
+word-map g (Zext a) = refl
+word-map g (Sext a) = refl
+word-map g (Trunc a) = refl
+word-map g (Eq a b) = refl
+word-map g (Ne a b) = refl
+word-map g (Ult a b) = refl
+word-map g (Slt a b) = refl
+word-map g (Ule a b) = refl
+word-map g (Sle a b) = refl
+word-map g (Ctpop a) = refl
+word-map g (Bswap a) = refl
+word-map g (BitReverse a) = refl
+word-map g (Cttz a) = refl
+word-map g (Ctlz a) = refl
+word-map g (Fshl a b c) = refl
+word-map g (Fshr a b c) = refl
+word-map g (SaddWithOverflow a b) = refl
+word-map g (UaddWithOverflow a b) = refl
+word-map g (SsubWithOverflow a b) = refl
+word-map g (UsubWithOverflow a b) = refl
+word-map g (SmulWithOverflow a b) = refl
+word-map g (UmulWithOverflow a b) = refl
+word-map g (SaddSat a b) = refl
+word-map g (UaddSat a b) = refl
+word-map g (SsubSat a b) = refl
+word-map g (UsubSat a b) = refl
+word-map g (ExtractValue a b) = refl
+word-map g Hole = refl
+word-map g (Freeze a) = refl

@@ -18,15 +18,15 @@ use Rattle.souper_graph.proofs.Facts.{printed-needed, needed-printed, printed-on
 
 -- what a map of the same graph says of the statements at two positions
 
-contents-at : (a b : Item) → WellFormed a → (s : SameGraph a b) → (i : ℕ) → NeededIn a i →
+pub contents-at : (a b : Item) → WellFormed a → (s : SameGraph a b) → (i : ℕ) → NeededIn a i →
     statement_at b.statements (s.to i) ≡ carried s.to (statement_at a.statements i)
 contents-at a b wa s i d = ap stood (s.contents i (statement_at a.statements i) d (well_formed_stands a wa i d))
 
-condition-at : (a b : Item) (f : ℕ → ℕ) (i j : ℕ) → statement_at b.statements j ≡ carried f (statement_at a.statements i) →
+pub condition-at : (a b : Item) (f : ℕ → ℕ) (i j : ℕ) → statement_at b.statements j ≡ carried f (statement_at a.statements i) →
     condition_at b j ≡ condition_at a i
 condition-at a b f i j e = ap is_condition e ∙ condition-carried f (statement_at a.statements i)
 
-used-carried : (a b : Item) (f : ℕ → ℕ) (i j : ℕ) → statement_at b.statements j ≡ carried f (statement_at a.statements i) →
+pub used-carried : (a b : Item) (f : ℕ → ℕ) (i j : ℕ) → statement_at b.statements j ≡ carried f (statement_at a.statements i) →
     used_at b.statements j ≡ map f (used_at a.statements i)
 used-carried a b f i j e =
     ap (λ (z : List Use). map position_of z) (
@@ -35,12 +35,12 @@ used-carried a b f i j e =
     ∙ positions-carried f (uses_at a.statements i)
 
 -- what a needed statement uses is needed
-stood-needed : (a : Item) (i : ℕ) → NeededIn a i → (u : Use) → Has (uses_of (statement_at a.statements i)) u → NeededIn a (position_of u)
+pub stood-needed : (a : Item) (i : ℕ) → NeededIn a i → (u : Use) → Has (uses_of (statement_at a.statements i)) u → NeededIn a (position_of u)
 stood-needed a i d u h = use-needed a i u d (subst (λ (z : List Use). Has z u) (sym (uses-stood (slice_get a.statements i))) h)
 
 -- same graph, so the same printed order
 
-unfold-carried : (a b : Item) → WellFormed a → WellFormed b → (s : SameGraph a b) → (n m i : ℕ) → i < n → s.to i < m → NeededIn a i →
+pub unfold-carried : (a b : Item) → WellFormed a → WellFormed b → (s : SameGraph a b) → (n m i : ℕ) → i < n → s.to i < m → NeededIn a i →
     unfold_to b.statements m (s.to i) ≡ map s.to (unfold_to a.statements n i)
 unfold-carried a b wa wb s zero m i h k d = absurd (omega arith)
 unfold-carried a b wa wb s (suc n) zero i h k d = absurd (omega arith)
@@ -61,11 +61,11 @@ unfold-carried a b wa wb s (suc n) (suc m) i h k d =
     ∙ sym (map-append s.to (flat_map (unfold_to a.statements n) (used_at a.statements i)) (i ∷ []))
     ∙ ap (λ z. map s.to (flat_map (unfold_to a.statements n) z ++ i ∷ [])) (sym ua)
 
-has-all : (a : Item) (w : List ℕ) (i : ℕ) → Has (flat_map (unfolding_of a.statements) w) i → Has (order_of_walks a.statements w) i
+pub has-all : (a : Item) (w : List ℕ) (i : ℕ) → Has (flat_map (unfolding_of a.statements) w) i → Has (order_of_walks a.statements w) i
 has-all a w i h =
     subst (λ (z : List ℕ). Has z i) (sym (printed-is a.statements w)) (with-has [] (flat_map (unfolding_of a.statements) w) i (inr h))
 
-increasing-map : (f : ℕ → ℕ) (xs : List ℕ) → Increasing xs → ((i j : ℕ) → Has xs i → Has xs j → i < j → f i < f j) → Increasing (map f xs)
+pub increasing-map : (f : ℕ → ℕ) (xs : List ℕ) → Increasing xs → ((i j : ℕ) → Has xs i → Has xs j → i < j → f i < f j) → Increasing (map f xs)
 unfolding Increasing
 increasing-map f [] a h = tt
 increasing-map f (x ∷ xs) a h = (
@@ -86,7 +86,7 @@ map-increasing f (x ∷ xs) a b i j p q l = elim (Has-head x j xs q) [
 ]
 
 -- the path conditions are carried, in order, to the path conditions
-conditions-carried : (a b : Item) → WellFormed a → (s : SameGraph a b) → conditions b ≡ map s.to (conditions a)
+pub conditions-carried : (a b : Item) → WellFormed a → (s : SameGraph a b) → conditions b ≡ map s.to (conditions a)
 conditions-carried a b wa s =
     same-increasing (conditions b) (map s.to (conditions a)) (from-increasing 0 b.statements)
     (increasing-map s.to (conditions a) (from-increasing 0 a.statements) s.condition_order)
@@ -102,12 +102,12 @@ conditions-carried a b wa s =
     ∙ condition-holds a r.0 r.1 in
     is-condition b j e)
 
-walks-map : (f : ℕ → ℕ) (x y z x' y' z' : List ℕ) → x' ≡ map f x → y' ≡ map f y → z' ≡ map f z → (x' ++ y') ++ z' ≡ map f ((x ++ y) ++ z)
+pub walks-map : (f : ℕ → ℕ) (x y z x' y' z' : List ℕ) → x' ≡ map f x → y' ≡ map f y → z' ≡ map f z → (x' ++ y') ++ z' ≡ map f ((x ++ y) ++ z)
 walks-map f x y z x' y' z' a b c =
     ap (λ q. (q ++ y') ++ z') a ∙ ap (λ q. (map f x ++ q) ++ z') b ∙ ap (λ q. (map f x ++ map f y) ++ q) c
     ∙ ap (λ q. q ++ map f z) (sym (map-append f x y)) ∙ sym (map-append f (x ++ y) z)
 
-walks-carried : (a b : Item) (f : ℕ → ℕ) → b.ending ≡ carried_ending f a.ending → conditions b ≡ map f (conditions a) → walks_of b ≡ map f (walks_of a)
+pub walks-carried : (a b : Item) (f : ℕ → ℕ) → b.ending ≡ carried_ending f a.ending → conditions b ≡ map f (conditions a) → walks_of b ≡ map f (walks_of a)
 walks-carried a b f e c =
     walks-map f (first_of a) (conditions a) (last_of a) (first_of b) (conditions b) (last_of b)
     (ap (λ (d : Ending). map position_of (first_roots d)) e ∙ ap (λ (z : List Use). map position_of z) (first-carried f a.ending)
@@ -116,7 +116,7 @@ walks-carried a b f e c =
     (ap (λ (d : Ending). map position_of (last_roots d)) e ∙ ap (λ (z : List Use). map position_of z) (last-carried f a.ending)
     ∙ positions-carried f (last_roots a.ending))
 
-order-carried : (a b : Item) → WellFormed a → WellFormed b → (s : SameGraph a b) → printed_order b ≡ map s.to (printed_order a)
+pub order-carried : (a b : Item) → WellFormed a → WellFormed b → (s : SameGraph a b) → printed_order b ≡ map s.to (printed_order a)
 order-carried a b wa wb s =
     let w : walks_of b ≡ map s.to (walks_of a) = walks-carried a b s.to s.ending (conditions-carried a b wa s) in
     let inner : flat_map (unfolding_of b.statements) (map s.to (walks_of a)) ≡ map s.to (flat_map (unfolding_of a.statements) (walks_of a)) =
@@ -133,19 +133,19 @@ order-carried a b wa wb s =
 
 -- the renumbered item, with a statement for each position of the printed order
 
-inside : (a : Item) → WellFormed a → (i : ℕ) → NeededIn a i → Has (printed_order a) i
+pub inside : (a : Item) → WellFormed a → (i : ℕ) → NeededIn a i → Has (printed_order a) i
 inside a wa i d = needed-printed a.statements (walks_of a) (well_formed_below a wa) d
 
-needs : (a : Item) (i : ℕ) → Has (printed_order a) i → NeededIn a i
+pub needs : (a : Item) (i : ℕ) → Has (printed_order a) i → NeededIn a i
 needs a i h = printed-needed a.statements (walks_of a) i h
 
-abbrev numbered : Item → ℕ → PlainStatement
+abbrev pub numbered : Item → ℕ → PlainStatement
 numbered a i = carried (place (printed_order a)) (statement_at a.statements i)
 
-item_of : List PlainStatement → Ending → Item
+pub item_of : List PlainStatement → Ending → Item
 item_of ss e = record { statements = ss; ending = e }
 
-abbrev numbered_item : Item → Item
+abbrev pub numbered_item : Item → Item
 numbered_item a = record { statements = map (numbered a) (printed_order a); ending = carried_ending (place (printed_order a)) a.ending }
 
 taken-is : (ss : List PlainStatement) (f : ℕ → ℕ) (xs : List ℕ) → ((i : ℕ) → Has xs i → i < length ss) →
@@ -155,7 +155,7 @@ taken-is ss f (x ∷ xs) h =
     ap (λ (o : Option PlainStatement). carried_optional f o ++ flat_map (λ (i : ℕ). carried_optional f (slice_get ss i)) xs) (stands ss x (h x (Has-here x xs)))
     ∙ ap (λ (z : List PlainStatement). carried f (statement_at ss x) ∷ z) (taken-is ss f xs (λ i q. h i (Has-later x i xs q)))
 
-renumbered-is : (a : Item) → WellFormed a → renumbered a ≡ numbered_item a
+pub renumbered-is : (a : Item) → WellFormed a → renumbered a ≡ numbered_item a
 unfolding item_of
 renumbered-is a wa =
     ap (λ (z : List PlainStatement). item_of z (carried_ending (place (printed_order a)) a.ending))
@@ -281,7 +281,7 @@ statement_map h [] k l = absurd (omega arith)
 statement_map h (x ∷ xs) zero l = refl
 statement_map h (x ∷ xs) (suc k) l = statement_map h xs k (omega arith)
 
-numbered-at : (a : Item) → WellFormed a → (i : ℕ) → NeededIn a i → slice_get (numbered_item a).statements (place (printed_order a) i) ≡ Some (numbered a i)
+pub numbered-at : (a : Item) → WellFormed a → (i : ℕ) → NeededIn a i → slice_get (numbered_item a).statements (place (printed_order a) i) ≡ Some (numbered a i)
 numbered-at a wa i d =
     statement_map (numbered a) (printed_order a) (place (printed_order a) i) (place-inside (printed_order a) i (inside a wa i d))
     ∙ ap (λ (z : ℕ). Some (numbered a z)) (at-place (printed_order a) i 0 (inside a wa i d))
@@ -321,7 +321,7 @@ numbered-used : (a : Item) → WellFormed a → (i : ℕ) → NeededIn a i →
 numbered-used a wa i d =
     used-carried a (numbered_item a) (place (printed_order a)) i (place (printed_order a) i) (ap stood (numbered-at a wa i d))
 
-numbered-needed : (a : Item) → WellFormed a → {i : ℕ} → NeededIn a i → NeededIn (numbered_item a) (place (printed_order a) i)
+pub numbered-needed : (a : Item) → WellFormed a → {i : ℕ} → NeededIn a i → NeededIn (numbered_item a) (place (printed_order a) i)
 numbered-needed a wa {i = i} (walked h) =
     walked (subst (λ (z : List ℕ). Has z (place (printed_order a) i)) (sym (numbered-walks a wa)) (Has-map (place (printed_order a)) (walks_of a) i h))
 numbered-needed a wa {i = i} (used {i = v} n h) =
@@ -336,7 +336,7 @@ used-back a wa i v j d e h =
     ap (λ z. used_at (numbered_item a).statements z) (sym e) ∙ numbered-used a wa i d in
     Has-mapped (place (printed_order a)) (used_at a.statements i) j (subst (λ (z : List ℕ). Has z j) at h)
 
-numbered-onto : (a : Item) → WellFormed a → {j : ℕ} → NeededIn (numbered_item a) j → (i : ℕ) × NeededIn a i × (place (printed_order a) i ≡ j)
+pub numbered-onto : (a : Item) → WellFormed a → {j : ℕ} → NeededIn (numbered_item a) j → (i : ℕ) × NeededIn a i × (place (printed_order a) i ≡ j)
 numbered-onto a wa {j = j} (walked h) =
     let r = Has-mapped (place (printed_order a)) (walks_of a) j (subst (λ (z : List ℕ). Has z j) (numbered-walks a wa) h) in (r.0, walked r.1, r.2)
 numbered-onto a wa {j = j} (used {i = v} n h) =
@@ -449,7 +449,7 @@ unneeded-walks a b s =
 unneeded-used : (a b : Item) → SameNeeded a b → (i : ℕ) → NeededIn a i → used_at b.statements i ≡ used_at a.statements i
 unneeded-used a b s i d = ap (λ (o : Option PlainStatement). map position_of (uses_of_optional o)) (s.same_statements i d)
 
-unneeded-to : (a b : Item) → SameNeeded a b → {i : ℕ} → NeededIn a i → NeededIn b i
+pub unneeded-to : (a b : Item) → SameNeeded a b → {i : ℕ} → NeededIn a i → NeededIn b i
 unneeded-to a b s {i = i} (walked h) = walked (subst (λ (z : List ℕ). Has z i) (sym (unneeded-walks a b s)) h)
 unneeded-to a b s {i = i} (used {i = v} n h) = used (unneeded-to a b s n) (subst (λ (z : List ℕ). Has z i) (sym (unneeded-used a b s v n)) h)
 
@@ -458,7 +458,7 @@ unneeded-from a b s {i = i} (walked h) = walked (subst (λ (z : List ℕ). Has z
 unneeded-from a b s {i = i} (used {i = v} n h) =
     let d = unneeded-from a b s n in used d (subst (λ (z : List ℕ). Has z i) (unneeded-used a b s v d) h)
 
-unneeded-graph : (a b : Item) → SameNeeded a b → SameGraph a b
+pub unneeded-graph : (a b : Item) → SameNeeded a b → SameGraph a b
 unneeded-graph a b s = record {
   to = λ i. i;
   needed = λ i d. unneeded-to a b s d;

@@ -12,6 +12,7 @@ pub mod Faults
 pub mod WellFormed
 pub mod Sameness
 pub mod Syntax
+pub mod CanonicalText
 pub mod Building
 pub mod Judging
 pub mod Marks

@@ -93,6 +93,14 @@ text_in_order ss (candidate c) ids lead = lines_of ss ids ++ text_of_cand ss c
 abbrev pub text_of : Item → List ℕ
 text_of a = text_in_order a.statements a.ending (printed_order a) (lead_of a)
 
+-- the canonical text of an item and a newline
+abbrev pub text_with_newline : Item → List ℕ
+text_with_newline a = text_of a ++ 10 ∷ []
+
+-- the canonical texts of items, a newline after each
+abbrev pub texts_of : List Item → List ℕ
+texts_of items = flat_map text_with_newline items
+
 -- the canonical text, where each needed statement uses positions below it alone
 abbrev pub shown_text : Item → Option (List ℕ)
 shown_text a = if uses_below a then Some (text_of a) else None

@@ -1,8 +1,11 @@
 //! Laws of the definitions that the contracts of this crate cite. No function here does anything.
 
-ghost use Rattle.std.specs.Prelude.{◌≡◌, ◌↔◌, IsTrue};
+ghost use Rattle.std.specs.Prelude.{◌≡◌, ◌↔◌, IsTrue, List, map};
 ghost use Rattle.souper_graph.specs.Values.{Item};
-ghost use Rattle.souper_graph.specs.WellFormed.{WellFormed};
+ghost use Rattle.souper_graph.specs.WellFormed.{WellFormed, EachClosed};
+ghost use Rattle.souper_graph.specs.Text.{text_of, texts_of};
+ghost use Rattle.souper_graph.specs.CanonicalText.{AreWellFormed, AllNeeded, IsRearranged, HasConditionLines};
+ghost use Rattle.souper_graph.specs.Syntax.Spelling.{ItemType, TextSpells};
 ghost use Rattle.souper_graph.specs.Uses.{UsesBelow};
 ghost use Rattle.souper_graph.specs.Faults.{HasBadId};
 ghost use Rattle.souper_graph.specs.Order.{printed_order, uses_below};
@@ -29,4 +32,24 @@ pub fn law_of_sameness()
     ensures graph { (a : Item) → WellFormed a → SameGraph a (renumbered a) }
     ensures unneeded { (a b : Item) → WellFormed a → SameNeeded a b → WellFormed b × (renumbered b ≡ renumbered a) }
     ensures exact { (a : Item) → WellFormed a → OrdersNeeded a (printed_order a) }
+{}
+
+/// The canonical text of a well-formed item reads back as the item with its needed statements alone, in printed order.
+///
+/// - `reads_back`: the canonical texts of well-formed items of one type, a newline after each, spell the renumbered
+///   items. (That a text spells no other list is a law of the crate that reads.)
+/// - `again`: a renumbered item has the same canonical text.
+/// - `defined`: in a renumbered item every statement is closed, so that each name is defined once and before its first
+///   use, and every statement is needed.
+/// - `conditions`: the canonical text has the line of each path condition, in the order in which the item has them.
+/// - `same_graph`, `unneeded`, `rearranged`: items that are the same graph have the same canonical text; so have items
+///   that differ in unneeded statements alone, and items that differ in the arena order alone.
+pub fn law_of_canonical_texts()
+    ensures reads_back { (k : ItemType) (items : List Item) → AreWellFormed k items → TextSpells k (texts_of items) (map renumbered items) }
+    ensures again { (a : Item) → WellFormed a → text_of (renumbered a) ≡ text_of a }
+    ensures defined { (a : Item) → WellFormed a → EachClosed (renumbered a) × AllNeeded (renumbered a) }
+    ensures conditions { (a : Item) → WellFormed a → HasConditionLines a }
+    ensures same_graph { (a b : Item) → WellFormed a → WellFormed b → SameGraph a b → text_of a ≡ text_of b }
+    ensures unneeded { (a b : Item) → WellFormed a → SameNeeded a b → text_of b ≡ text_of a }
+    ensures rearranged { (a b : Item) → WellFormed a → WellFormed b → IsRearranged a b → text_of b ≡ text_of a }
 {}

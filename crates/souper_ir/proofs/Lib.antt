@@ -23,3 +23,4 @@ pub mod Statements
 pub mod ItemSteps
 pub mod ItemLists
 pub mod TextItems
+pub mod OneText

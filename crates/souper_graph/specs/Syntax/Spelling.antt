@@ -220,7 +220,22 @@ pub data ItemType : Type 0 where
   right_hand_side : ItemType
   replacement : ItemType
 
--- further statements, and what stands in an item besides its statements
+-- the last lines are those of an item of the type
+abbrev pub IsEndingOf : ItemType → Ending → Type 0
+IsEndingOf left_hand_side (inferred i) = Unit {0}
+IsEndingOf left_hand_side (resulting r) = ⊥
+IsEndingOf left_hand_side (replaced i r) = ⊥
+IsEndingOf left_hand_side (candidate c) = ⊥
+IsEndingOf right_hand_side (inferred i) = ⊥
+IsEndingOf right_hand_side (resulting r) = Unit {0}
+IsEndingOf right_hand_side (replaced i r) = ⊥
+IsEndingOf right_hand_side (candidate c) = ⊥
+IsEndingOf replacement (inferred i) = ⊥
+IsEndingOf replacement (resulting r) = ⊥
+IsEndingOf replacement (replaced i r) = Unit {0}
+IsEndingOf replacement (candidate c) = Unit {0}
+
+-- further statements, and what an item has besides its statements
 abbrev pub Tail : Type 0
 Tail = List PlainStatement × Ending
 

@@ -9,6 +9,9 @@ ghost use Rattle.souper_graph.specs.View.{view_left_hand_side, view_right_hand_s
 ghost use Rattle.souper_graph.specs.Uses.{Has, uses_at, roots_of, NeededIn, UsesBelow};
 ghost use Rattle.souper_graph.specs.Order.{Distinct};
 ghost use Rattle.souper_graph.specs.Text.{text_in_order, text_of, shown_text, IsLinesOf};
+ghost use Rattle.souper_graph.specs.WellFormed.{WellFormed};
+ghost use Rattle.souper_graph.specs.CanonicalText.{ReadsBack};
+ghost use Rattle.souper_graph.specs.Syntax.Spelling.{left_hand_side, right_hand_side, replacement};
 ghost use Rattle.souper_graph.specs.Faults.{AreMet, IsFaultAmong, HasBadId, IsFaultOf};
 
 use crate::ast::{LeftHandSide, Replacement, RightHandSide};
@@ -41,6 +44,7 @@ impl LeftHandSide {
         ensures refused { IfErr result (λ error. IsFaultOf (view_left_hand_side self.now) error) }
         ensures no_bad_id { OnOk result (¬ HasBadId (view_left_hand_side self.now)) }
         ensures canonical { UsesBelow (view_left_hand_side self.now) → IfOk result (λ text. string_bytes text ≡ text_of (view_left_hand_side self.now)) }
+        ensures reads_back { WellFormed (view_left_hand_side self.now) → IfOk result (λ text. ReadsBack left_hand_side (view_left_hand_side self.now) (string_bytes text)) }
         ensures lines { IfOk result (λ text. IsLinesOf (view_left_hand_side self.now) (string_bytes text)) }
     {
         let order = self.print_order()?;
@@ -57,6 +61,7 @@ impl RightHandSide {
         ensures refused { IfErr result (λ error. IsFaultOf (view_right_hand_side self.now) error) }
         ensures no_bad_id { OnOk result (¬ HasBadId (view_right_hand_side self.now)) }
         ensures canonical { UsesBelow (view_right_hand_side self.now) → IfOk result (λ text. string_bytes text ≡ text_of (view_right_hand_side self.now)) }
+        ensures reads_back { WellFormed (view_right_hand_side self.now) → IfOk result (λ text. ReadsBack right_hand_side (view_right_hand_side self.now) (string_bytes text)) }
         ensures lines { IfOk result (λ text. IsLinesOf (view_right_hand_side self.now) (string_bytes text)) }
     {
         let order = self.print_order()?;
@@ -74,6 +79,7 @@ impl Replacement {
         ensures refused { IfErr result (λ error. IsFaultOf (view_replacement self.now) error) }
         ensures no_bad_id { OnOk result (¬ HasBadId (view_replacement self.now)) }
         ensures canonical { UsesBelow (view_replacement self.now) → IfOk result (λ text. string_bytes text ≡ text_of (view_replacement self.now)) }
+        ensures reads_back { WellFormed (view_replacement self.now) → IfOk result (λ text. ReadsBack replacement (view_replacement self.now) (string_bytes text)) }
         ensures lines { IfOk result (λ text. IsLinesOf (view_replacement self.now) (string_bytes text)) }
     {
         let order = self.print_order()?;

@@ -1,0 +1,140 @@
+-- Lemmas. An item whose statements are all closed and named apart is spelled by the tokens of its listed parts, which are sound.
+use Rattle.std.proofs.Common.{◌≡◌, ℕ, ◌<◌, ◌≤◌, List, [], ◌∷◌, ◌++◌, length, take, drop, Option, Some, None, refl, sym, ap, ◌∙◌, subst, arith, append_assoc, append-nil, length-take, inl, inr}
+use Rattle.std.proofs.lemmas.List.{take-append-drop}
+use Rattle.std.specs.List.{AllByRecursion}
+use Rattle.souper_graph.specs.declared.ast.operands.«Type».{«Type» as Ty}
+use Rattle.souper_graph.specs.declared.ast.operands.Constant.{Constant}
+use Rattle.souper_graph.specs.declared.ast.operands.Operand.{Operand}
+use Rattle.souper_graph.specs.declared.ast.operands.Operand.TheVariants.{Value, Constant as constant_variant}
+use Rattle.souper_graph.specs.declared.ast.instructions.Instruction.{Instruction}
+use Rattle.souper_graph.specs.declared.ast.statements.Block.{Block}
+use Rattle.souper_graph.specs.declared.ast.statements.Pc.{Pc}
+use Rattle.souper_graph.specs.declared.ast.statements.BlockPc.{BlockPc}
+use Rattle.souper_graph.specs.Values.{PlainAttribute, known_bits as known_bits_attribute, power_of_two, negative, non_negative, non_zero, has_external_uses, sign_bits, range, PlainRootAttribute, demanded_bits, harvested_from_use, PlainPhi, PlainRhs, var, block, phi, reserved_inst, reserved_const, instruction, PlainAssignment, PlainStatement, assigned, condition, block_condition, PlainInfer, PlainCand, Ending, inferred, resulting, replaced, candidate, Item}
+use Rattle.souper_graph.specs.Uses.{Has, Use, value_use, block_use, position_of as use_position, uses_of_operand, roots_of}
+use Rattle.souper_graph.specs.Faults.{AreMet}
+use Rattle.souper_graph.specs.WellFormed.{FitsInfer, FitsOperand, EachClosed}
+use Rattle.souper_graph.specs.Syntax.Tokens.{Lexeme}
+use Rattle.souper_graph.specs.Syntax.Spelling.{Scope, ItemType, left_hand_side, right_hand_side, replacement, IsEndingOf, Statements, result_spells, tail_spells, item_spells_after, item_spells}
+use Rattle.souper_graph.proofs.Lists.{Has-left, Has-right}
+use Rattle.souper_graph.proofs.Closedness.{met-inside}
+use Rattle.souper_graph.proofs.RoundTrip.Parts.{Part, newline, words_of, words_append, AreSound, sound_append}
+use Rattle.souper_graph.proofs.RoundTrip.Nodes.{parts_of_lines, parts_of_infer, parts_of_cand, parts_of_result, listed_parts}
+use Rattle.souper_graph.proofs.RoundTrip.Ready.{Known, AreKnown, ReadyOperand, AreReady, known_left, known_right, known_here, known_after, ready_first, ready_second}
+use Rattle.souper_graph.proofs.RoundTrip.Scopes.{known, ready}
+use Rattle.souper_graph.proofs.RoundTrip.Sound.{infer_sound, infer_then, cand_sound, result_sound, lines_then}
+use Rattle.souper_graph.proofs.RoundTrip.Spelled.{infer_spelled, cand_spelled, result_spelled, lines_spelled, ended}
+
+-- an infer line that a result follows has its value before it
+abbrev pub Leads : ℕ → Ending → Type 0
+Leads lead (inferred i) = Unit {0}
+Leads lead (resulting r) = Unit {0}
+Leads lead (replaced i r) = i.value < lead
+Leads lead (candidate c) = Unit {0}
+
+abbrev pub whole_item : List PlainStatement → Ending → Item
+whole_item ss e = record { statements = ss; ending = e }
+
+-- an item with all its statements before its last line
+one_tail : (k : ItemType) (ss : List PlainStatement) (e : Ending) (last : List Part) → AreReady [] ss ss → tail_spells k ss ([], e) (words_of last) →
+    item_spells k (whole_item ss e) (words_of (parts_of_lines ss ss ++ last))
+one_tail k ss e last r t = record {
+  first = ss;
+  last = [];
+  head = words_of (parts_of_lines ss ss);
+  tail = words_of last;
+  statements_are = sym (append-nil ss);
+  whole = words_append (parts_of_lines ss ss) last;
+  head_spelled = lines_spelled [] ss ss r;
+  tail_spelled = t;
+}
+
+module _ (ss : List PlainStatement) (e : Ending) (ec : EachClosed (whole_item ss e)) where
+  all_ready : AreReady [] ss ss
+  all_ready = ready (whole_item ss e) ec [] ss [] (sym (append-nil ss))
+
+  roots_known : AreKnown ss ss (roots_of e)
+  roots_known u h = known (whole_item ss e) ec ss [] (sym (append-nil ss)) u (met-inside ss u (ec.roots_met u h)) (ec.roots_met u h)
+
+  -- the statements before and after a cut
+  first_ready : (lead : ℕ) → AreReady [] ss (take lead ss)
+  first_ready lead = ready (whole_item ss e) ec [] (take lead ss) (drop lead ss) (sym (take-append-drop lead ss))
+
+  last_ready : (lead : ℕ) → AreReady (take lead ss) ss (drop lead ss)
+  last_ready lead = ready (whole_item ss e) ec (take lead ss) (drop lead ss) [] (sym (take-append-drop lead ss) ∙ ap (λ (z : List PlainStatement). take lead ss ++ z) (sym (append-nil (drop lead ss))))
+
+  known_before : (lead : ℕ) (u : Use) → use_position u < lead → Has (roots_of e) u → Known (take lead ss) ss u
+  known_before lead u l h =
+      let within : use_position u < length ss = met-inside ss u (ec.roots_met u h) in
+      known (whole_item ss e) ec (take lead ss) (drop lead ss) (sym (take-append-drop lead ss)) u (omega (arith, length-take lead ss)) (ec.roots_met u h)
+
+replaced_listed : (ss : List PlainStatement) (i : PlainInfer) (r : Operand) (lead : ℕ) → EachClosed (whole_item ss (replaced i r)) → i.value < lead →
+    item_spells replacement (whole_item ss (replaced i r)) (words_of (listed_parts ss (replaced i r) lead))
+replaced_listed ss i r lead ec l =
+    let rest : List Part = parts_of_lines ss (drop lead ss) ++ (parts_of_result ss r ++ newline ∷ []) in
+    let known_roots = roots_known ss (replaced i r) ec in
+    record {
+      first = take lead ss;
+      last = drop lead ss;
+      head = words_of (parts_of_lines ss (take lead ss));
+      tail = words_of (parts_of_infer ss i ++ rest);
+      statements_are = sym (take-append-drop lead ss);
+      whole = words_append (parts_of_lines ss (take lead ss)) (parts_of_infer ss i ++ rest);
+      head_spelled = lines_spelled [] ss (take lead ss) (first_ready ss (replaced i r) ec lead);
+      tail_spelled = record {
+        infer = words_of (parts_of_infer ss i);
+        middle = words_of (parts_of_lines ss (drop lead ss));
+        result = words_of (parts_of_result ss r);
+        whole = words_append (parts_of_infer ss i) rest ∙ ap (λ (ts : List Lexeme). words_of (parts_of_infer ss i) ++ ts)
+            (words_append (parts_of_lines ss (drop lead ss)) (parts_of_result ss r ++ newline ∷ []) ∙ ap (λ (ts : List Lexeme). words_of (parts_of_lines ss (drop lead ss)) ++ ts) (ended (parts_of_result ss r)));
+        infer_spelled = infer_spelled (take lead ss) ss i ec.ending_fits.0 (known_before ss (replaced i r) ec lead (value_use i.value) l (inl refl));
+        middle_spelled = lines_spelled (take lead ss) ss (drop lead ss) (last_ready ss (replaced i r) ec lead);
+        result_spelled = subst (λ (z : Scope). result_spells z r (words_of (parts_of_result ss r))) (sym (take-append-drop lead ss))
+            (result_spelled ss ss r (ec.ending_fits.1, known_after ss ss (value_use i.value) (uses_of_operand r) known_roots));
+      };
+    }
+
+listed_spelled : (k : ItemType) (ss : List PlainStatement) (e : Ending) (lead : ℕ) → EachClosed (whole_item ss e) → IsEndingOf k e → Leads lead e →
+    item_spells k (whole_item ss e) (words_of (listed_parts ss e lead))
+listed_spelled left_hand_side ss (inferred i) lead ec t l =
+    one_tail left_hand_side ss (inferred i) (parts_of_infer ss i) (all_ready ss (inferred i) ec)
+    (refl, infer_spelled ss ss i ec.ending_fits (roots_known ss (inferred i) ec (value_use i.value) (inl refl)))
+listed_spelled left_hand_side ss (resulting r) lead ec t l = absurd t
+listed_spelled left_hand_side ss (replaced i r) lead ec t l = absurd t
+listed_spelled left_hand_side ss (candidate c) lead ec t l = absurd t
+listed_spelled right_hand_side ss (inferred i) lead ec t l = absurd t
+listed_spelled right_hand_side ss (resulting r) lead ec t l =
+    one_tail right_hand_side ss (resulting r) (parts_of_result ss r) (all_ready ss (resulting r) ec)
+    (refl, result_spelled ss ss r (ec.ending_fits, known_left ss ss (uses_of_operand r) [] (roots_known ss (resulting r) ec)))
+listed_spelled right_hand_side ss (replaced i r) lead ec t l = absurd t
+listed_spelled right_hand_side ss (candidate c) lead ec t l = absurd t
+listed_spelled replacement ss (inferred i) lead ec t l = absurd t
+listed_spelled replacement ss (resulting r) lead ec t l = absurd t
+listed_spelled replacement ss (replaced i r) lead ec t l = replaced_listed ss i r lead ec l
+listed_spelled replacement ss (candidate c) lead ec t l =
+    let k : AreKnown ss ss (uses_of_operand c.lhs ++ uses_of_operand c.rhs) = known_left ss ss (uses_of_operand c.lhs ++ uses_of_operand c.rhs) [] (roots_known ss (candidate c) ec) in
+    one_tail replacement ss (candidate c) (parts_of_cand ss c) (all_ready ss (candidate c) ec)
+    (refl, cand_spelled ss ss c (ready_first ss ss c.lhs c.rhs ec.ending_fits.0 k) (ready_second ss ss c.lhs c.rhs ec.ending_fits.1 k) ec.ending_fits.2)
+
+listed_sound : (ss : List PlainStatement) (e : Ending) (lead : ℕ) → EachClosed (whole_item ss e) → Leads lead e → AreSound (listed_parts ss e lead)
+listed_sound ss (inferred i) lead ec l =
+    lines_then [] ss ss (parts_of_infer ss i) (all_ready ss (inferred i) ec) (infer_sound ss ss i ec.ending_fits (roots_known ss (inferred i) ec (value_use i.value) (inl refl)))
+listed_sound ss (resulting r) lead ec l =
+    lines_then [] ss ss (parts_of_result ss r) (all_ready ss (resulting r) ec)
+    (result_sound ss ss r (ec.ending_fits, known_left ss ss (uses_of_operand r) [] (roots_known ss (resulting r) ec)))
+listed_sound ss (replaced i r) lead ec l =
+    let known_roots = roots_known ss (replaced i r) ec in
+    lines_then [] ss (take lead ss) _ (first_ready ss (replaced i r) ec lead)
+    (infer_then (take lead ss) ss i _ ec.ending_fits.0 (known_before ss (replaced i r) ec lead (value_use i.value) l (inl refl))
+    (lines_then (take lead ss) ss (drop lead ss) (parts_of_result ss r ++ newline ∷ []) (last_ready ss (replaced i r) ec lead)
+    (sound_append (parts_of_result ss r) (newline ∷ []) (result_sound ss ss r (ec.ending_fits.1, known_after ss ss (value_use i.value) (uses_of_operand r) known_roots)) tt refl)))
+listed_sound ss (candidate c) lead ec l =
+    let k : AreKnown ss ss (uses_of_operand c.lhs ++ uses_of_operand c.rhs) = known_left ss ss (uses_of_operand c.lhs ++ uses_of_operand c.rhs) [] (roots_known ss (candidate c) ec) in
+    lines_then [] ss ss (parts_of_cand ss c) (all_ready ss (candidate c) ec)
+    (cand_sound ss ss c (ready_first ss ss c.lhs c.rhs ec.ending_fits.0 k) (ready_second ss ss c.lhs c.rhs ec.ending_fits.1 k) ec.ending_fits.2)
+
+pub item_spelled : (k : ItemType) (a : Item) (lead : ℕ) → EachClosed a → IsEndingOf k a.ending → Leads lead a.ending → item_spells k a (words_of (listed_parts a.statements a.ending lead))
+item_spelled k a lead ec t l = listed_spelled k a.statements a.ending lead ec t l
+
+pub item_sound : (a : Item) (lead : ℕ) → EachClosed a → Leads lead a.ending → AreSound (listed_parts a.statements a.ending lead)
+item_sound a lead ec l = listed_sound a.statements a.ending lead ec l

@@ -1,0 +1,218 @@
+-- Lemmas. The canonical text of a well-formed item lists the statements of its renumbered item, and reads back as it.
+use Rattle.std.proofs.Common.{◌≡◌, ℕ, ◌<◌, List, [], ◌∷◌, ◌++◌, length, map, take, drop, get_or, Option, Some, None, refl, sym, ap, ◌∙◌, subst, arith, inl, inr, append-nil}
+use Rattle.std.specs.Prelude.{flat_map, codes, slice_get, Result, Ok, Err, IfOk}
+use Rattle.std.specs.List.{AllByRecursion}
+use Rattle.std.proofs.lemmas.List.{take-map, drop-map, take-append-drop, length-map}
+use Rattle.std.proofs.lemmas.Option.{slice_get_within}
+use Rattle.souper_graph.specs.Values.{PlainAssignment, PlainStatement, assigned, condition, block_condition, PlainInfer, Ending, inferred, resulting, replaced, candidate, Item}
+use Rattle.souper_graph.specs.declared.ast.operands.Operand.{Operand}
+use Rattle.souper_graph.specs.declared.ast.items.Replacement.{Replacement}
+use Rattle.souper_graph.specs.declared.ast.items.Replacement.TheVariants.{LhsRhs, Cand as cand_variant}
+use Rattle.souper_graph.specs.View.{view_replacement}
+use Rattle.souper_graph.specs.Uses.{Has, Use, value_use, position_of, uses_of_operand, uses_of, first_roots, roots_of, walks_of, NeededIn, UsesBelow}
+use Rattle.souper_graph.specs.Order.{printed_order, lead_of}
+use Rattle.souper_graph.specs.Text.{name_of, name_at, text_of_statement, text_of_infer, text_of_cand, text_of_result, line_of, line_at, lines_of, text_in_order, text_of, text_with_newline, texts_of}
+use Rattle.souper_graph.specs.WellFormed.{Closed, WellFormed, EachClosed}
+use Rattle.souper_graph.specs.Sameness.{carried, carried_ending, place, renumbered, SameGraph, SameNeeded}
+use Rattle.souper_graph.specs.CanonicalText.{IsWellFormedOf, AreWellFormed, AllNeeded, ReadsBack}
+use Rattle.souper_graph.specs.Syntax.Tokens.{Lexeme, IsTextOf}
+use Rattle.souper_graph.specs.Syntax.Spelling.{kinds, ItemType, left_hand_side, right_hand_side, replacement, IsEndingOf, item_spells, list_spells, TextSpells}
+use Rattle.souper_graph.proofs.Lists.{Has-left, Has-right, Has-here, Has-later, Has-map}
+use Rattle.souper_graph.proofs.Places.{Has-at, place-at}
+use Rattle.souper_graph.proofs.Closedness.{statement_at, root-walked, well_formed_stands, well_formed_below}
+use Rattle.souper_graph.proofs.Facts.{printed-once}
+use Rattle.souper_graph.proofs.Sameness.{numbered, numbered_item, renumbered-is, needs, stood-needed, numbered-at, numbered-needed, renumbered-well, renumbered-again, renumbered-same, renumbered-graph, unneeded-well, unneeded-graph}
+use Rattle.souper_graph.proofs.RoundTrip.Parts.{Part, newline, printed, placed, words_of, AreSound, text_from_parts, sound_lines, printed_each, printed_append, placed_words, words_append}
+use Rattle.souper_graph.proofs.RoundTrip.Nodes.{listed_parts, text_of_lines, listed_text}
+use Rattle.souper_graph.proofs.RoundTrip.Texts.{listed_is}
+use Rattle.souper_graph.proofs.RoundTrip.Spelled.{ended}
+use Rattle.souper_graph.proofs.RoundTrip.Sound.{line_then}
+use Rattle.souper_graph.proofs.RoundTrip.Items.{Leads, item_spelled, item_sound}
+use Rattle.souper_graph.proofs.RoundTrip.Carried.{SameNames, statement-carried, infer-carried, cand-carried, result-carried}
+use Rattle.souper_graph.proofs.RoundTrip.Leads.{first_leads, lead-carried}
+
+-- ---- the text lists the renumbered statements
+
+name-kept : (f : ℕ → ℕ) (s : PlainStatement) → name_of (Some (carried f s)) ≡ name_of (Some s)
+name-kept f (assigned a) = refl
+name-kept f (condition p) = refl
+name-kept f (block_condition p) = refl
+
+module _ (a : Item) (wa : WellFormed a) where
+  same-name : (u : ℕ) → NeededIn a u → name_at (numbered_item a).statements (place (printed_order a) u) ≡ name_at a.statements u
+  same-name u d =
+      ap name_of (numbered-at a wa u d) ∙ name-kept (place (printed_order a)) (statement_at a.statements u) ∙ ap name_of (sym (well_formed_stands a wa u d))
+
+  same-line : (i : ℕ) → NeededIn a i → line_at a.statements i ≡ text_of_statement (numbered_item a).statements (numbered a i)
+  same-line i d =
+      ap (line_of a.statements) (well_formed_stands a wa i d)
+      ∙ sym (statement-carried (place (printed_order a)) a.statements (numbered_item a).statements (statement_at a.statements i)
+      (λ u h. same-name (position_of u) (stood-needed a i d u h)))
+
+  same-lines : (ids : List ℕ) → ((i : ℕ) → Has ids i → NeededIn a i) → lines_of a.statements ids ≡ text_of_lines (numbered_item a).statements (map (numbered a) ids)
+  same-lines [] h = refl
+  same-lines (x ∷ ids) h = (λ k. same-line x (h x (Has-here x ids)) k ++ same-lines ids (λ i q. h i (Has-later x i ids q)) k)
+
+  all-lines : lines_of a.statements (printed_order a) ≡ text_of_lines (numbered_item a).statements (numbered_item a).statements
+  all-lines = same-lines (printed_order a) (needs a)
+
+  first-lines : (n : ℕ) → lines_of a.statements (take n (printed_order a)) ≡ text_of_lines (numbered_item a).statements (take n (numbered_item a).statements)
+  first-lines n =
+      same-lines (take n (printed_order a)) (λ i h. needs a i (subst (λ (z : List ℕ). Has z i) (take-append-drop n (printed_order a)) (Has-left (take n (printed_order a)) (drop n (printed_order a)) i h)))
+      ∙ ap (text_of_lines (numbered_item a).statements) (sym (take-map (numbered a) n (printed_order a)))
+
+  last-lines : (n : ℕ) → lines_of a.statements (drop n (printed_order a)) ≡ text_of_lines (numbered_item a).statements (drop n (numbered_item a).statements)
+  last-lines n =
+      same-lines (drop n (printed_order a)) (λ i h. needs a i (subst (λ (z : List ℕ). Has z i) (take-append-drop n (printed_order a)) (Has-right (take n (printed_order a)) (drop n (printed_order a)) i h)))
+      ∙ ap (text_of_lines (numbered_item a).statements) (sym (drop-map (numbered a) n (printed_order a)))
+
+  ending-lines : (e : Ending) (lead : ℕ) → SameNames (place (printed_order a)) a.statements (numbered_item a).statements (roots_of e) →
+      text_in_order a.statements e (printed_order a) lead ≡ listed_text (numbered_item a).statements (carried_ending (place (printed_order a)) e) lead
+  ending-lines (inferred i) lead k = (λ j. all-lines j ++ sym (infer-carried (place (printed_order a)) a.statements (numbered_item a).statements i k) j)
+  ending-lines (resulting r) lead k =
+      (λ j. all-lines j ++ sym (result-carried (place (printed_order a)) a.statements (numbered_item a).statements r (λ u h. k u (Has-left (uses_of_operand r) [] u h))) j)
+  ending-lines (replaced i r) lead k =
+      let infer = sym (infer-carried (place (printed_order a)) a.statements (numbered_item a).statements i (λ u h. k u (Has-left (value_use i.value ∷ []) (uses_of_operand r) u h))) in
+      let result = sym (result-carried (place (printed_order a)) a.statements (numbered_item a).statements r (λ u h. k u (inr h))) in
+      (λ j. first-lines lead j ++ (infer j ++ (last-lines lead j ++ (result j ++ codes "\n"))))
+  ending-lines (candidate c) lead k =
+      (λ j. all-lines j ++ sym (cand-carried (place (printed_order a)) a.statements (numbered_item a).statements c (λ u h. k u (Has-left (uses_of_operand c.lhs ++ uses_of_operand c.rhs) [] u h))) j)
+
+  -- the canonical text is that of the renumbered statements as they are listed
+  pub text-listed : text_of a ≡ listed_text (renumbered a).statements (renumbered a).ending (lead_of a)
+  text-listed =
+      ending-lines a.ending (lead_of a) (λ u h. same-name (position_of u) (root-walked a u h))
+      ∙ ap (λ (b : Item). listed_text b.statements b.ending (lead_of a)) (sym (renumbered-is a wa))
+
+  -- ---- the renumbered item
+
+  all-needed : (p : ℕ) → p < length (numbered_item a).statements → NeededIn (numbered_item a) p
+  all-needed p l =
+      let within : p < length (printed_order a) = subst (λ (n : ℕ). p < n) (length-map (printed_order a) (numbered a)) l in
+      subst (NeededIn (numbered_item a)) (place-at (printed_order a) p 0 (printed-once a.statements (walks_of a)) within)
+      (numbered-needed a wa (needs a (get_or (printed_order a) p 0) (Has-at (printed_order a) p 0 within)))
+
+  pub renumbered-needed : AllNeeded (renumbered a)
+  renumbered-needed = subst AllNeeded (sym (renumbered-is a wa)) all-needed
+
+  pub renumbered-closed : EachClosed (renumbered a)
+  renumbered-closed =
+      let w = renumbered-well a wa in
+      let needed : (p : ℕ) (s : PlainStatement) → slice_get (renumbered a).statements p ≡ Some s → NeededIn (renumbered a) p = λ p s e. renumbered-needed p (slice_get_within (renumbered a).statements p s e) in
+      record {
+        roots_met = w.roots_met;
+        ending_fits = w.ending_fits;
+        closed = λ p s e. w.closed p s (needed p s e) e;
+        named_apart = λ p q v x e f n. w.named_apart p q v x (needed p (assigned v) e) (needed q (assigned x) f) e f n;
+      }
+
+  leads : (e : Ending) → ((i : ℕ) → Has (map position_of (first_roots e)) i → place (printed_order a) i < lead_of a) → Leads (lead_of a) (carried_ending (place (printed_order a)) e)
+  leads (inferred i) h = tt
+  leads (resulting r) h = tt
+  leads (replaced i r) h = h i.value (inl refl)
+  leads (candidate c) h = tt
+
+  renumbered-leads : Leads (lead_of a) (renumbered a).ending
+  renumbered-leads = leads a.ending (λ i h. first_leads a i (Has-left (map position_of (first_roots a.ending)) _ i h))
+
+  -- ---- its tokens
+
+  pub canonical_parts : List Part
+  canonical_parts = listed_parts (renumbered a).statements (renumbered a).ending (lead_of a)
+
+  pub parts-text : printed canonical_parts ≡ text_of a
+  unfolding canonical_parts
+  parts-text = listed_is (renumbered a).statements (renumbered a).ending (lead_of a) ∙ sym text-listed
+
+  pub parts-sound : AreSound canonical_parts
+  unfolding canonical_parts
+  parts-sound = item_sound (renumbered a) (lead_of a) renumbered-closed renumbered-leads
+
+  pub parts-spell : (k : ItemType) → IsEndingOf k (renumbered a).ending → item_spells k (renumbered a) (words_of canonical_parts)
+  unfolding canonical_parts
+  parts-spell k t = item_spelled k (renumbered a) (lead_of a) renumbered-closed t renumbered-leads
+
+pub ending-kept : (k : ItemType) (f : ℕ → ℕ) (e : Ending) → IsEndingOf k e → IsEndingOf k (carried_ending f e)
+ending-kept left_hand_side f (inferred i) h = tt
+ending-kept left_hand_side f (resulting r) h = h
+ending-kept left_hand_side f (replaced i r) h = h
+ending-kept left_hand_side f (candidate c) h = h
+ending-kept right_hand_side f (inferred i) h = h
+ending-kept right_hand_side f (resulting r) h = tt
+ending-kept right_hand_side f (replaced i r) h = h
+ending-kept right_hand_side f (candidate c) h = h
+ending-kept replacement f (inferred i) h = h
+ending-kept replacement f (resulting r) h = h
+ending-kept replacement f (replaced i r) h = tt
+ending-kept replacement f (candidate c) h = tt
+
+-- ---- lists
+
+list_parts : (k : ItemType) (items : List Item) → AreWellFormed k items → List Part
+list_parts k [] h = []
+list_parts k (a ∷ items) h = (canonical_parts a h.0.0 ++ newline ∷ []) ++ list_parts k items h.1
+
+list-text : (k : ItemType) (items : List Item) (h : AreWellFormed k items) → printed (list_parts k items h) ≡ texts_of items
+unfolding list_parts
+list-text k [] h = refl
+list-text k (a ∷ items) h =
+    printed_append (canonical_parts a h.0.0 ++ newline ∷ []) (list_parts k items h.1)
+    ∙ (λ j. (printed_append (canonical_parts a h.0.0) (newline ∷ []) ∙ ap (λ (l : List ℕ). l ++ 10 ∷ []) (parts-text a h.0.0)) j ++ list-text k items h.1 j)
+
+list-sound : (k : ItemType) (items : List Item) (h : AreWellFormed k items) → AreSound (list_parts k items h)
+unfolding list_parts
+list-sound k [] h = tt
+list-sound k (a ∷ items) h = line_then (canonical_parts a h.0.0) (list_parts k items h.1) (parts-sound a h.0.0) (list-sound k items h.1)
+
+list-spelled : (k : ItemType) (items : List Item) (h : AreWellFormed k items) → list_spells k (map renumbered items) (words_of (list_parts k items h))
+unfolding list_parts
+list-spelled k [] h = refl
+list-spelled k (a ∷ items) h = record {
+  prefix = words_of (canonical_parts a h.0.0);
+  suffix = words_of (list_parts k items h.1);
+  whole = words_append (canonical_parts a h.0.0 ++ newline ∷ []) (list_parts k items h.1) ∙ ap (λ (ts : List Lexeme). ts ++ words_of (list_parts k items h.1)) (ended (canonical_parts a h.0.0));
+  first = parts-spell a h.0.0 k (ending-kept k (place (printed_order a)) a.ending h.0.1);
+  second = list-spelled k items h.1;
+}
+
+-- the canonical texts of well-formed items spell the renumbered items
+pub texts-read-back : (k : ItemType) (items : List Item) → AreWellFormed k items → TextSpells k (texts_of items) (map renumbered items)
+texts-read-back k items h =
+    let ps = list_parts k items h in (
+      placed 0 ps,
+      subst (λ (bs : List ℕ). IsTextOf bs (placed 0 ps)) (list-text k items h) (text_from_parts ps (list-sound k items h)),
+      subst (list_spells k (map renumbered items)) (sym (placed_words ps 0)) (list-spelled k items h),
+    )
+
+-- the text of a well-formed item reads back
+pub reads-back : (k : ItemType) (a : Item) (text : List ℕ) → IsWellFormedOf k a → text ≡ text_of a → ReadsBack k a text
+reads-back k a text h e =
+    subst (λ (bs : List ℕ). TextSpells k bs (renumbered a ∷ [])) (append-nil (text_of a ++ 10 ∷ []) ∙ ap (λ (l : List ℕ). l ++ 10 ∷ []) (sym e)) (texts-read-back k (a ∷ []) (h, tt))
+
+-- what a call returns that writes the lines in an order, which is the printed order where uses lie below their users
+pub order-reads-back : {T E : Type 0} (k : ItemType) (a : Item) (bytes : T → List ℕ) (r : Result T E) (ids : List ℕ) (lead : ℕ) → IsEndingOf k a.ending
+    → IfOk r (λ (t : T). bytes t ≡ text_in_order a.statements a.ending ids lead) → (UsesBelow a → ids ≡ printed_order a) → (UsesBelow a → lead ≡ lead_of a)
+    → WellFormed a → IfOk r (λ (t : T). ReadsBack k a (bytes t))
+order-reads-back k a bytes (Ok t) ids lead i h p l w =
+    let below = well_formed_below a w in
+    reads-back k a (bytes t) (w, i) (h ∙ (λ j. text_in_order a.statements a.ending (p below j) (l below j)))
+order-reads-back k a bytes (Err e) ids lead i h p l w = tt
+
+pub replacement-ending : (r : Replacement) → IsEndingOf replacement (view_replacement r).ending
+replacement-ending (LhsRhs ss l r) = tt
+replacement-ending (cand_variant ss c) = tt
+
+-- ---- the same graph has the same text
+
+pub same-graph-text : (a b : Item) → WellFormed a → WellFormed b → SameGraph a b → text_of a ≡ text_of b
+same-graph-text a b wa wb s =
+    text-listed a wa
+    ∙ ap (λ (c : Item). listed_text c.statements c.ending (lead_of a)) (renumbered-same a b wa wb s)
+    ∙ ap (λ (n : ℕ). listed_text (renumbered b).statements (renumbered b).ending n) (sym (lead-carried a b wa wb s))
+    ∙ sym (text-listed b wb)
+
+pub text-again : (a : Item) → WellFormed a → text_of (renumbered a) ≡ text_of a
+text-again a wa = sym (same-graph-text a (renumbered a) wa (renumbered-well a wa) (renumbered-graph a wa))
+
+pub unneeded-text : (a b : Item) → WellFormed a → SameNeeded a b → text_of b ≡ text_of a
+unneeded-text a b wa s = sym (same-graph-text a b wa (unneeded-well a b wa s) (unneeded-graph a b s))

@@ -1,0 +1,55 @@
+-- Definitions. What the laws of canonical texts speak of: items of one type, items in another arena order, the lines of a text.
+use Rattle.std.specs.Prelude.{◌≡◌, ◌⊎◌, ℕ, ◌<◌, List, [], ◌∷◌, ◌++◌, map, flat_map, length, Some, slice_get}
+use Rattle.std.specs.List.{AllByRecursion}
+use Rattle.souper_graph.specs.Values.{PlainStatement, Item}
+use Rattle.souper_graph.specs.Uses.{Has, conditions, NeededIn}
+use Rattle.souper_graph.specs.Text.{line_at, text_of}
+use Rattle.souper_graph.specs.WellFormed.{WellFormed}
+use Rattle.souper_graph.specs.Sameness.{carried, carried_ending, renumbered}
+use Rattle.souper_graph.specs.Syntax.Spelling.{ItemType, IsEndingOf, TextSpells}
+
+-- a well-formed item of the type
+abbrev pub IsWellFormedOf : ItemType → Item → Type 0
+IsWellFormedOf k a = WellFormed a × IsEndingOf k a.ending
+
+-- well-formed items of one type
+abbrev pub AreWellFormed : ItemType → List Item → Type 0
+AreWellFormed k items = AllByRecursion (IsWellFormedOf k) items
+
+-- each statement is needed
+abbrev pub AllNeeded : Item → Type 0
+AllNeeded a = (p : ℕ) → p < length a.statements → NeededIn a p
+
+-- the same statements in another order, each position in them moved along; path conditions keep their order
+pub record IsRearranged (a b : Item) : Type 0 where
+  pub to : ℕ → ℕ
+  pub from : ℕ → ℕ
+  pub inside : (i : ℕ) → i < length a.statements → to i < length b.statements
+  pub from_inside : (j : ℕ) → j < length b.statements → from j < length a.statements
+  pub to_from : (i : ℕ) → i < length a.statements → from (to i) ≡ i
+  pub from_to : (j : ℕ) → j < length b.statements → to (from j) ≡ j
+  pub statements_moved : (i : ℕ) (s : PlainStatement) → slice_get a.statements i ≡ Some s → slice_get b.statements (to i) ≡ Some (carried to s)
+  pub ending_moved : b.ending ≡ carried_ending to a.ending
+  pub condition_order : (i j : ℕ) → Has (conditions a) i → Has (conditions a) j → i < j → to i < to j
+
+-- the bytes end in a newline
+abbrev pub IsLine : List ℕ → Type 0
+IsLine l = (text : List ℕ) × (l ≡ text ++ 10 ∷ [])
+
+-- each of the first lists is one of the others, in order
+abbrev pub IsSublist : List (List ℕ) → List (List ℕ) → Type 0
+IsSublist [] ys = Unit {0}
+IsSublist (x ∷ xs) [] = ⊥
+IsSublist (x ∷ xs) (y ∷ ys) = ((x ≡ y) × IsSublist xs ys) ⊎ IsSublist (x ∷ xs) ys
+
+-- the canonical text begins with lines among which are those of all path conditions, in the order in which the item has them
+pub record HasConditionLines (a : Item) : Type 0 where
+  pub lines : List (List ℕ)
+  pub rest : List ℕ
+  pub whole : text_of a ≡ flat_map (λ l. l) lines ++ rest
+  pub each_line : AllByRecursion IsLine lines
+  pub conditions_among : IsSublist (map (line_at a.statements) (conditions a)) lines
+
+-- the text of the item, with a newline after it, spells the item renumbered
+abbrev pub ReadsBack : ItemType → Item → List ℕ → Type 0
+ReadsBack k a text = TextSpells k (text ++ 10 ∷ []) (renumbered a ∷ [])
