@@ -195,4 +195,4 @@ pub next_gap : (gap : List ℕ) (t : Lexeme) (rest bs : List ℕ) → Stands gap
 next_gap gap t rest bs h = let e = ap length h.text ∙ length-append gap (spelling t ++ rest) in let f = ap length (next_complete gap t rest bs h) in omega arith
 
 pub next_ends : (bs : List ℕ) → IsLastGap bs → next_of bs ≡ ends
-next_ends bs h = ap token_at (ap after_gap h.4 ∙ past_gap h.0 h.1 h.2 ∙ last_comment_ends h.1 h.3)
+next_ends bs h = ap token_at (ap after_gap h.text ∙ past_gap h.gap h.last h.is_gap ∙ last_comment_ends h.last h.is_last)

@@ -26,9 +26,9 @@ onto_fault (t ∷ ts) x = onto_fault ts x
 begins_lexed : (ts : List (ℕ × Lexeme)) (n : ℕ) (bs rest : List ℕ) → Begins n bs ts rest → (m : ℕ) × (lexed_of n bs ≡ onto ts (lexed_of m rest))
 begins_lexed [] n bs rest h = (n, ap (lexed_of n) h)
 begins_lexed (t ∷ ts) n bs rest h =
-    let at : n + gap_len bs ≡ t.0 = ap (λ k. n + k) (next_gap h.0 t.1 h.1 bs h.2) ∙ sym h.3 in
-    let more = begins_lexed ts (t.0 + length (spelling t.1)) h.1 rest h.4 in
-    (more.0, lexed_found n bs t.1 h.1 (next_found h.0 t.1 h.1 bs h.2) ∙ (λ i. before (at i) t.1 (lexed_of (at i + length (spelling t.1)) h.1)) ∙ ap (before t.0 t.1) more.1)
+    let at : n + gap_len bs ≡ t.0 = ap (λ k. n + k) (next_gap h.gap t.1 h.after bs h.stands) ∙ sym h.offset_is in
+    let more = begins_lexed ts (t.0 + length (spelling t.1)) h.after rest h.more in
+    (more.0, lexed_found n bs t.1 h.after (next_found h.gap t.1 h.after bs h.stands) ∙ (λ i. before (at i) t.1 (lexed_of (at i + length (spelling t.1)) h.after)) ∙ ap (before t.0 t.1) more.1)
 
 text_lexed : (bs : List ℕ) (ts : List (ℕ × Lexeme)) → IsTextOf bs ts → (m : ℕ) × (lexed_of 0 bs ≡ onto ts (record { tokens = []; fault = false; len = m }))
 text_lexed bs ts h =
@@ -59,7 +59,7 @@ read_by k n bs (found t rest) e utf8 ih =
     let h = next_stands bs t rest utf8 e in
     let more = ih (n + gap_len bs + length (spelling t)) rest (found_shorter bs t rest e) h.utf8 in
     subst (Reading n bs) (sym (within_found k n bs t rest e))
-    (record { rest = more.rest; front = (h.gap, rest, h.stands, ap (λ g. n + g) h.gap_len, more.front); outcome = more.outcome })
+    (record { rest = more.rest; front = record { gap = h.gap; after = rest; stands = h.stands; offset_is = ap (λ g. n + g) h.gap_len; more = more.front }; outcome = more.outcome })
 
 read_within : (k n : ℕ) (bs : List ℕ) → length bs < k → IsUtf8 bs → Reading n bs (lexed_within k n bs)
 read_within zero n bs l utf8 = absurd (omega arith)
@@ -94,29 +94,29 @@ tokens_law bs utf8 =
 begins_length : (ts : List (ℕ × Lexeme)) (n : ℕ) (bs rest : List ℕ) → Begins n bs ts rest → length rest ≤ length bs
 begins_length [] n bs rest h = omega (arith, ap length h)
 begins_length (t ∷ ts) n bs rest h =
-    let s = h.2 in
-    omega (arith, ap length s.text ∙ length-append h.0 (spelling t.1 ++ h.1), length-append (spelling t.1) h.1, begins_length ts (t.0 + length (spelling t.1)) h.1 rest h.4)
+    let s = h.stands in
+    omega (arith, ap length s.text ∙ length-append h.gap (spelling t.1 ++ h.after), length-append (spelling t.1) h.after, begins_length ts (t.0 + length (spelling t.1)) h.after rest h.more)
 
 -- a list of tokens, and then another
 pub begins_append : (ts us : List (ℕ × Lexeme)) (n : ℕ) (bs mid rest : List ℕ) → Begins n bs ts mid → Begins (n + (length bs - length mid)) mid us rest → Begins n bs (ts ++ us) rest
 begins_append [] us n bs mid rest h g = let e : n + (length bs - length mid) ≡ n = omega (arith, ap length h) in subst (λ l. Begins n l us rest) (sym h) (subst (λ m. Begins m mid us rest) e g)
 begins_append (t ∷ ts) us n bs mid rest h g =
-    let s = h.2 in
-    let l : length bs ≡ length h.0 + (length (spelling t.1) + length h.1) = ap length s.text ∙ length-append h.0 (spelling t.1 ++ h.1) ∙ ap (λ k. length h.0 + k) (length-append (spelling t.1) h.1) in
-    let shorter = begins_length ts (t.0 + length (spelling t.1)) h.1 mid h.4 in
-    let e : n + (length bs - length mid) ≡ t.0 + length (spelling t.1) + (length h.1 - length mid) = omega (arith, h.3) in
-    (h.0, h.1, h.2, h.3, begins_append ts us (t.0 + length (spelling t.1)) h.1 mid rest h.4 (subst (λ m. Begins m mid us rest) e g))
+    let s = h.stands in
+    let l : length bs ≡ length h.gap + (length (spelling t.1) + length h.after) = ap length s.text ∙ length-append h.gap (spelling t.1 ++ h.after) ∙ ap (λ k. length h.gap + k) (length-append (spelling t.1) h.after) in
+    let shorter = begins_length ts (t.0 + length (spelling t.1)) h.after mid h.more in
+    let e : n + (length bs - length mid) ≡ t.0 + length (spelling t.1) + (length h.after - length mid) = omega (arith, h.offset_is) in
+    record { gap = h.gap; after = h.after; stands = s; offset_is = h.offset_is; more = begins_append ts us (t.0 + length (spelling t.1)) h.after mid rest h.more (subst (λ m. Begins m mid us rest) e g) }
 
 -- each token stands at its offset: xs is what stands before bs in the text
 in_place : (ts : List (ℕ × Lexeme)) (text xs bs rest : List ℕ) → text ≡ xs ++ bs → Begins (length xs) bs ts rest → AllByRecursion (StandsAt text) ts
 in_place [] text xs bs rest e h = tt
 in_place (t ∷ ts) text xs bs rest e h =
-    let s = h.2 in
-    let split : text ≡ (xs ++ h.0) ++ (spelling t.1 ++ h.1) = e ∙ ap (λ l. xs ++ l) s.text ∙ sym (append_assoc xs h.0 (spelling t.1 ++ h.1)) in
-    let at : length (xs ++ h.0) ≡ t.0 = length-append xs h.0 ∙ sym h.3 in
-    let past : length ((xs ++ h.0) ++ spelling t.1) ≡ t.0 + length (spelling t.1) = length-append (xs ++ h.0) (spelling t.1) ∙ ap (λ k. k + length (spelling t.1)) at in (
-      ap (λ l. take (length (spelling t.1)) (drop t.0 l)) split ∙ ap (take (length (spelling t.1))) (drop_at (xs ++ h.0) (spelling t.1 ++ h.1) t.0 at) ∙ take_at (spelling t.1) h.1 (length (spelling t.1)) refl,
-      in_place ts text ((xs ++ h.0) ++ spelling t.1) h.1 rest (split ∙ sym (append_assoc (xs ++ h.0) (spelling t.1) h.1)) (subst (λ m. Begins m h.1 ts rest) (sym past) h.4),
+    let s = h.stands in
+    let split : text ≡ (xs ++ h.gap) ++ (spelling t.1 ++ h.after) = e ∙ ap (λ l. xs ++ l) s.text ∙ sym (append_assoc xs h.gap (spelling t.1 ++ h.after)) in
+    let at : length (xs ++ h.gap) ≡ t.0 = length-append xs h.gap ∙ sym h.offset_is in
+    let past : length ((xs ++ h.gap) ++ spelling t.1) ≡ t.0 + length (spelling t.1) = length-append (xs ++ h.gap) (spelling t.1) ∙ ap (λ k. k + length (spelling t.1)) at in (
+      ap (λ l. take (length (spelling t.1)) (drop t.0 l)) split ∙ ap (take (length (spelling t.1))) (drop_at (xs ++ h.gap) (spelling t.1 ++ h.after) t.0 at) ∙ take_at (spelling t.1) h.after (length (spelling t.1)) refl,
+      in_place ts text ((xs ++ h.gap) ++ spelling t.1) h.after rest (split ∙ sym (append_assoc (xs ++ h.gap) (spelling t.1) h.after)) (subst (λ m. Begins m h.after ts rest) (sym past) h.more),
     )
 
 -- a token's content is the slice at its place

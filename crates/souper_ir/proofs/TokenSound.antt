@@ -225,4 +225,10 @@ no_token (c ∷ bs) e = absurd (front_not_ends c bs e)
 pub ends_stands : (bs : List ℕ) → IsUtf8 bs → next_of bs ≡ ends → IsLastGap bs
 ends_stands bs utf8 e =
     let p = gap_parted bs utf8 in
-    (p.gap, p.last, p.is_gap, p.is_last, p.text ∙ ap (λ l. p.gap ++ (p.last ++ l)) (no_token (after_gap bs) e) ∙ ap (λ l. p.gap ++ l) (append-nil p.last))
+    record {
+      gap = p.gap;
+      last = p.last;
+      is_gap = p.is_gap;
+      is_last = p.is_last;
+      text = p.text ∙ ap (λ l. p.gap ++ (p.last ++ l)) (no_token (after_gap bs) e) ∙ ap (λ l. p.gap ++ l) (append-nil p.last);
+    }

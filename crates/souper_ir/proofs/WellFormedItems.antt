@@ -33,7 +33,7 @@ all_right (t ∷ a) b h = all_right a b h.1
 
 begun : (n : ℕ) (bs : List ℕ) (ts : List (ℕ × Lexeme)) (rest : List ℕ) → Begins n bs ts rest → AllLexemes (kinds ts)
 begun n bs [] rest h = tt
-begun n bs (t ∷ ts) rest h = (h.2.is_token, begun (t.0 + length (spelling t.1)) h.1 ts rest h.4)
+begun n bs (t ∷ ts) rest h = (h.stands.is_token, begun (t.0 + length (spelling t.1)) h.after ts rest h.more)
 
 -- ---- operands and right sides
 

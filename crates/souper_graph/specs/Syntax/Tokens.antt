@@ -117,8 +117,12 @@ IsLastComment [] = Unit {0}
 IsLastComment (c ∷ s) = (c ≡ 59) × IsOneLine s
 
 -- a gap up to the end of the text
-abbrev pub IsLastGap : List ℕ → Type 0
-IsLastGap bs = (gap : List ℕ) × (last : List ℕ) × IsGap gap × IsLastComment last × (bs ≡ gap ++ last)
+pub record IsLastGap (bs : List ℕ) : Type 0 where
+  pub gap : List ℕ
+  pub last : List ℕ
+  pub is_gap : IsGap gap
+  pub is_last : IsLastComment last
+  pub text : bs ≡ gap ++ last
 
 -- bs is a gap, the token t, which is over there, and rest
 pub record Stands (gap : List ℕ) (t : Lexeme) (rest : List ℕ) (bs : List ℕ) : Type 0 where
@@ -127,10 +131,18 @@ pub record Stands (gap : List ℕ) (t : Lexeme) (rest : List ℕ) (bs : List ℕ
   pub is_over : Stops (continues t) rest
   pub text : bs ≡ gap ++ (spelling t ++ rest)
 
+-- bs, which begins at offset n of a text, is a gap and the token t at its offset, and P holds of what stands after it
+pub record BeginsWith (n : ℕ) (t : ℕ × Lexeme) (P : List ℕ → Type 0) (bs : List ℕ) : Type 0 where
+  pub gap : List ℕ
+  pub after : List ℕ
+  pub stands : Stands gap t.1 after bs
+  pub offset_is : t.0 ≡ n + length gap
+  pub more : P after
+
 -- bs, which begins at offset n of a text, is these tokens at their offsets, each after a gap, and then rest
 abbrev pub Begins : ℕ → List ℕ → List (ℕ × Lexeme) → List ℕ → Type 0
 Begins n bs [] rest = bs ≡ rest
-Begins n bs (t ∷ ts) rest = (gap : List ℕ) × (after : List ℕ) × Stands gap t.1 after bs × (t.0 ≡ n + length gap) × Begins (t.0 + length (spelling t.1)) after ts rest
+Begins n bs (t ∷ ts) rest = BeginsWith n t (λ after. Begins (t.0 + length (spelling t.1)) after ts rest) bs
 
 -- the text is these tokens, and a gap up to its end
 abbrev pub IsTextOf : List ℕ → List (ℕ × Lexeme) → Type 0
