@@ -6,7 +6,6 @@ mod files;
 mod item;
 mod last_lines;
 mod message;
-mod names;
 mod numbers;
 mod operands;
 mod parser;
