@@ -15,6 +15,7 @@ mod sink;
 mod statements;
 mod tokens;
 mod traits;
+mod unstyled;
 mod words;
 
 pub use error::{ParseError, ParseErrorKind};
