@@ -11,6 +11,7 @@ pub mod Options
 pub mod Lists
 pub mod Names
 pub mod Placing
+pub mod Unstyled
 pub mod Failing
 pub mod Operands
 pub mod Numerals

@@ -6,6 +6,7 @@ use Rattle.souper_ir.specs.declared.parse.error.Cause.TheVariants.{Io as IoCause
 use Rattle.souper_ir.specs.declared.parse.error.ParseError.{ParseError}
 use Rattle.souper_ir.specs.declared.parse.error.ParseErrorKind.{ParseErrorKind}
 use Rattle.souper_ir.specs.declared.parse.error.ParseErrorKind.TheVariants.{Io, Parse, Memory}
+use Rattle.souper_ir.specs.declared.parse.error.Refusal.{Refusal}
 use Rattle.souper_ir.specs.declared.parse.place.Place.{Place}
 use Rattle.souper_ir.specs.Places.{IsPlace, IsRefusalText, direct_text, file_or_unknown, shown_refusal}
 
@@ -53,10 +54,14 @@ abbrev pub shown_by_place : Option Place → ℕ → List ℕ → List ℕ
 shown_by_place None offset message = direct_text offset message
 shown_by_place (Some place) offset message = shown_at place message
 
+-- the text that a refusal shows
+abbrev pub shown_refusal_of : Refusal → List ℕ
+shown_refusal_of refusal = shown_by_place refusal.place refusal.offset (string_bytes refusal.message)
+
 -- the text that a cause shows
 abbrev pub shown_cause : Cause → Option (List ℕ)
 shown_cause (IoCause fault) = None
-shown_cause (ParseCause refusal) = Some (shown_by_place refusal.value.place refusal.value.offset (string_bytes refusal.value.message))
+shown_cause (ParseCause refusal) = Some (shown_refusal_of refusal.value)
 shown_cause MemoryCause = Some (codes "out of memory")
 
 -- the text that the error shows, but for the text of an I/O error, of which nothing is said

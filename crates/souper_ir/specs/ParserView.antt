@@ -1,12 +1,11 @@
 -- What a parser is seen as.
 use Rattle.std.specs.Prelude.{◌≡◌, ℕ, ◌≤◌, List, ◌∷◌, map, Option, Some, None, option_map}
+use Rattle.std.specs.Borrow.{Bor}
 use Rattle.std.specs.BTreeMap.{BTreeMap, get_by}
 use Rattle.std.specs.Cmp.Lexicographic.{slice_cmp}
-use Rattle.std.specs.declared.cmp.Ordering.{Ordering}
-use Rattle.std.specs.Ordering.{nat_cmp, ordering_then}
+use Rattle.std.specs.Ordering.{nat_cmp}
 use Rattle.souper_graph.specs.View.{view_statement}
 use Rattle.souper_ir.specs.declared.lexer.Token.{Token}
-use Rattle.souper_ir.specs.declared.parse.names.Key.{Key}
 use Rattle.souper_ir.specs.declared.parse.parser.Failure.{Failure}
 use Rattle.souper_ir.specs.declared.parse.parser.Failure.TheVariants.{Refused, Memory}
 use Rattle.souper_ir.specs.declared.parse.parser.Parser.TheInside.{Inside}
@@ -15,7 +14,6 @@ use Rattle.souper_ir.specs.TokenView.{lexeme_of}
 use Rattle.souper_graph.specs.Syntax.Spelling.{Scope, entry_of}
 use Rattle.souper_ir.specs.Parsing.{Parsing}
 use Rattle.souper_ir.specs.FailureView.{cause_of_failure}
-use Rattle.souper_ir.specs.Keys.{tail_of}
 
 abbrev pub placed_lexeme : ℕ × Token → ℕ × Lexeme
 placed_lexeme t = (t.0, lexeme_of t.1)
@@ -34,13 +32,9 @@ parsing_of p = record {
   failed = option_map cause_of_failure p.failed;
 }
 
--- how the key of a name compares to a key
-abbrev pub name_cmp : List ℕ → Key → Ordering
-name_cmp n k = ordering_then (nat_cmp (tail_of n) k.tail) (slice_cmp nat_cmp n k.name.now)
-
 -- the map has each name of the scope with its position and the ways into its block, and no other
-abbrev pub NamesAre : BTreeMap Key (ℕ × Option ℕ) → Scope → Type 0
-NamesAre names s = (n : List ℕ) → get_by (name_cmp n) names ≡ entry_of s n
+abbrev pub NamesAre : BTreeMap (Bor (List ℕ)) (ℕ × Option ℕ) → Scope → Type 0
+NamesAre names s = (n : List ℕ) → get_by (λ (k : Bor (List ℕ)). slice_cmp nat_cmp n k.now) names ≡ entry_of s n
 
 abbrev pub FailedWithin : ℕ → Option Failure → Type 0
 FailedWithin len None = Unit {0}

@@ -6,7 +6,6 @@ mod files;
 mod item;
 mod last_lines;
 mod message;
-mod names;
 mod numbers;
 mod operands;
 mod parser;
@@ -16,6 +15,7 @@ mod sink;
 mod statements;
 mod tokens;
 mod traits;
+mod unstyled;
 mod words;
 
 pub use error::{ParseError, ParseErrorKind};

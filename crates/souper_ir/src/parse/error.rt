@@ -1,10 +1,11 @@
 //! The error of a parse.
 ghost use Rattle.std.specs.Prelude.{◌≡◌, ◌≤◌, ◌⊎◌, length, string_bytes, option_copied, IfOk, IfSome, Some};
-ghost use Rattle.std.specs.Fmt.{WritesOnOk};
+ghost use Rattle.std.specs.Fmt.{DisplaysOnOk, DisplaysStyledOnOk};
 ghost use Rattle.souper_ir.specs.Places.{direct_text};
-ghost use Rattle.souper_ir.specs.Errors.{kind_of, offset_of, fault_of, shown_error, shown_by_place, IsLocated, IsRefusalAt};
+ghost use Rattle.souper_ir.specs.Errors.{kind_of, offset_of, fault_of, shown_error, shown_refusal_of, IsLocated, IsRefusalAt};
 
 use crate::parse::place::Place;
+use crate::parse::unstyled::write_unstyled;
 use std::alloc::{AllocError, AllocFailed, Global};
 use std::error::Error;
 use std::{fmt, io};
@@ -124,10 +125,10 @@ fn locate(mut refusal: Box<Refusal>, alloc: Global, source: &str, file: Option<&
     }
 }
 
-impl Refusal {
-    fn show<W: fmt::Write>(&self, f: &mut fmt::Formatter<W>) -> fmt::Result
-        ensures { WritesOnOk W.write_str_gives f.old result (shown_by_place self.now.place self.now.offset (string_bytes self.now.message)) f.new }
-    {
+impl fmt::Display for Refusal {
+    ghost output = { λ refusal. Some (shown_refusal_of refusal) };
+
+    fn fmt<W: fmt::Write>(&self, f: &mut fmt::Formatter<W>) -> fmt::Result {
         let message = self.message.as_str();
         match &self.place {
             Some(place) => place.show(f, message),
@@ -142,22 +143,29 @@ impl Refusal {
     }
 }
 
+/// Width, fill, precision and sign play no part.
 impl fmt::Display for ParseError {
     ghost output = { shown_error };
+
+    ghost styled_output = { λ error _. shown_error error };
 
     fn fmt<W: fmt::Write>(&self, f: &mut fmt::Formatter<W>) -> fmt::Result {
         match &self.cause {
             Cause::Io(fault) => write!(f, "IO error: {fault}"),
-            Cause::Parse(refusal) => refusal.show(f),
-            Cause::Memory => write!(f, "out of memory"),
+            Cause::Parse(refusal) => write_unstyled(f, refusal),
+            Cause::Memory => f.write_str("out of memory"),
         }
     }
 }
 
+/// Shows the same text as `Display`. Width, fill, precision and sign play no part.
 impl fmt::Debug for ParseError {
     ghost debug_output = { shown_error };
 
-    fn fmt<W: fmt::Write>(&self, f: &mut fmt::Formatter<W>) -> fmt::Result {
+    fn fmt<W: fmt::Write>(&self, f: &mut fmt::Formatter<W>) -> fmt::Result
+        ensures writes { DisplaysOnOk W.write_str_gives f.old result (shown_error self.now) f.new }
+        ensures styled { DisplaysStyledOnOk W.write_str_gives f.old result (shown_error self.now) f.new }
+    {
         fmt::Display::fmt(self, f)
     }
 }

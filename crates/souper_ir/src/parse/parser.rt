@@ -17,7 +17,6 @@ ghost use Rattle.souper_ir.specs.Reading.{Fails, FailsForMemory, Gives, cause_of
 use crate::lexer::{Fault, Lexer, Token};
 use crate::parse::error::ParseError;
 use crate::parse::message::Message;
-use crate::parse::names::{Key, key_of};
 use souper_graph::ast::{Arena, Assignment, AssignmentRhs, BlockId, Id, Statement, ValueId};
 use std::alloc::{AllocError, Global};
 use std::collections::BTreeMap;
@@ -48,7 +47,7 @@ pub struct Parser<'a> {
     // The statements of the item so far.
     statements: Arena<Statement>,
     // The names that they define, each with its value and, for a block, the number of ways into it.
-    names: BTreeMap<Key<'a>, (ValueId, Option<u32>)>,
+    names: BTreeMap<&'a str, (ValueId, Option<u32>)>,
     failed: Option<Failure>,
 }
 
@@ -232,15 +231,15 @@ fn ways(rhs: &AssignmentRhs) -> Option<u32>
 
 impl<'a> Parser<'a> {
     /// The value that a name stands for, and the number of ways into it where it is that of a block.
-    pub(crate) fn entry(&self, name: &'a str) -> Option<(ValueId, Option<u32>)>
+    pub(crate) fn entry(&self, name: &str) -> Option<(ValueId, Option<u32>)>
         requires { self.now.failed ≡ None }
         ensures { result ≡ entry_of self.now.scope name.now }
     {
-        self.names.get(&key_of(name)).copied()
+        self.names.get(name).copied()
     }
 
     /// The value that a name stands for.
-    pub(crate) fn value_named(&self, name: &'a str) -> Option<ValueId>
+    pub(crate) fn value_named(&self, name: &str) -> Option<ValueId>
         requires { self.now.failed ≡ None }
         ensures { result ≡ position_of self.now.scope name.now }
     {
@@ -251,7 +250,7 @@ impl<'a> Parser<'a> {
     }
 
     /// The block that a name stands for, and the number of ways into it.
-    pub(crate) fn block_named(&self, name: &'a str) -> Option<(BlockId, u32)>
+    pub(crate) fn block_named(&self, name: &str) -> Option<(BlockId, u32)>
         requires { self.now.failed ≡ None }
         ensures { result ≡ block_entry (entry_of self.now.scope name.now) }
     {
@@ -276,7 +275,7 @@ impl<'a> Parser<'a> {
                 return Err(ParseError::memory());
             }
         };
-        match self.names.insert(key_of(name), (id.into(), ways)) {
+        match self.names.insert(name, (id.into(), ways)) {
             Ok(_) => Ok(()),
             Err(_) => {
                 self.failed = Some(Failure::Memory);

@@ -9,8 +9,23 @@ fn shows(rt: &impl Abort, alloc: Global, error: &ParseError, want: &str) -> Resu
     assert_eq!(rt; shown.as_str(), want);
     let shown = format!(in alloc; "{error:?}")?;
     assert_eq!(rt; shown.as_str(), want);
-    let shown = format!(in alloc; "{error:*>300}")?;
-    assert_eq!(rt; shown.as_str(), want);
+    shows_whatever_the_options(rt, alloc, error, want)
+}
+
+// Width, fill, precision and sign play no part.
+fn shows_whatever_the_options(
+    rt: &impl Abort,
+    alloc: Global,
+    error: &ParseError,
+    want: &str,
+) -> Result<(), Fail> {
+    let shown = format!(in alloc; "{error:*>300}{error:*^300}{error:300}")?;
+    let thrice = format!(in alloc; "{want}{want}{want}")?;
+    assert_eq!(rt; shown.as_str(), thrice.as_str());
+    let shown = format!(in alloc; "{error:.3}{error:+}{error:+0300.0}")?;
+    assert_eq!(rt; shown.as_str(), thrice.as_str());
+    let shown = format!(in alloc; "{error:*<300?}{error:.3?}{error:+0300?}")?;
+    assert_eq!(rt; shown.as_str(), thrice.as_str());
     Ok(())
 }
 

@@ -1,7 +1,6 @@
-use Rattle.std.proofs.Common.{◌≡◌, None, ◌∙◌, sym, ap, map, subst}
+use Rattle.std.proofs.Common.{◌≡◌, None, ◌∙◌, sym, map, subst}
 use Rattle.std.proofs.lemmas.List.{map-append, length-map}
 use Rattle.souper_graph.specs.View.{view_statement, view_assignment}
-use Rattle.souper_ir.specs.Keys.{tail_of}
 use Rattle.souper_graph.specs.Syntax.Spelling.{position_of}
 use Rattle.souper_ir.specs.Parsing.{Parsing}
 use Rattle.souper_ir.proofs.Names.{names_push}
@@ -11,11 +10,9 @@ pub invariant_of-self-in-Ok-insert : goal.invariant_of-self-in-Ok-insert
 invariant_of-self-in-Ok-insert c = record {
   offset = c.self.invariant.offset;
   failed = c.self.invariant.failed;
-  names = λ live. rw (c.in-Ok.ensures.grows, c.into.ensures, map-append) (names_push c.self.inside.names c.insert.new.self (map view_statement c.self.inside.statements) c.key_of.result (view_assignment c.args.assignment) c.into-2.result c.ways-ways.result
-      (c.self.invariant.names live) c.in-Ok-insert.ensures.updates
-      (c.key_of.ensures.tail ∙ ap tail_of (sym c.requires.named))
-      (c.key_of.ensures.name ∙ sym c.requires.named)
-      (rw c.requires.named (subst (λ (p : Parsing). position_of p.scope c.args.name.now ≡ None) (sym c.self.view_is) c.requires.fresh))
+  names = λ live. rw (c.in-Ok.ensures.grows, c.into.ensures, map-append) (names_push c.self.inside.names c.insert.new.self (map view_statement c.self.inside.statements) c.args.name (view_assignment c.args.assignment) c.into-2.result c.ways-ways.result
+      (c.self.invariant.names live) c.in-Ok-insert.ensures.updates c.requires.named
+      (subst (λ (p : Parsing). position_of p.scope c.args.name.now ≡ None) (sym c.self.view_is) c.requires.fresh)
       (c.into-2.ensures ∙ c.in-Ok.ensures.position ∙ sym (length-map c.self.inside.statements view_statement))
       c.ways-ways.ensures);
 }
