@@ -19,3 +19,4 @@ pub mod Answered
 pub mod Bits
 pub mod Naming
 pub mod Lower
+pub mod Styled
