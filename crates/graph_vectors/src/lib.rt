@@ -12,4 +12,6 @@ mod building;
 #[cfg(test)]
 mod nodes;
 #[cfg(test)]
+mod styles;
+#[cfg(test)]
 mod texts_of_graphs;

@@ -20,3 +20,4 @@ pub mod Bits
 pub mod Naming
 pub mod Lower
 pub mod RoundTrip
+pub mod Styled

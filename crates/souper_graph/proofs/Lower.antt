@@ -1,13 +1,13 @@
 -- Where the statements of the printed order use positions below them alone, all needed statements do.
-use Rattle.std.proofs.Common.{◌≡◌, ℕ, ◌<◌, ◌↔◌, inl, inr, List, [], ◌∷◌, Bool, true, false, refl, sym, ap, ◌∙◌, subst, arith, lt-ltb, le-ltb, nat_lt}
+use Rattle.std.proofs.Common.{◌≡◌, ℕ, ◌<◌, inl, inr, List, [], ◌∷◌, Bool, true, false, refl, sym, ◌∙◌, subst, lt-ltb, le-ltb, nat_lt}
 use Rattle.std.specs.Prelude.{◌&&◌, Result, Some, None, if◌then◌else◌}
-use Rattle.std.specs.Fmt.{WritesOnOk, DisplaysOnOk}
+use Rattle.std.specs.Fmt.{WritesOnOk, DisplaysOnOk, WritesStyledOnOk, DisplaysStyledOnOk}
 use Rattle.std.specs.declared.fmt.Error.{Error}
 use Rattle.std.specs.declared.fmt.Formatter.{Formatter}
 use Rattle.souper_graph.specs.Text.{text_of, shown_text}
 use Rattle.std.proofs.lemmas.Bool.{cases_lt}
 use Rattle.souper_graph.specs.Values.{PlainStatement, Item}
-use Rattle.souper_graph.specs.Uses.{Has, used_at, walks_of, Needed, walked, used, NeededIn, UsesBelow}
+use Rattle.souper_graph.specs.Uses.{Has, used_at, walks_of, Needed, walked, used, UsesBelow}
 use Rattle.souper_graph.specs.Order.{order_of_walks, printed_order, are_below, use_below, uses_below}
 use Rattle.souper_graph.proofs.Lists.{Has-here, Has-later, Has-head}
 use Rattle.souper_graph.proofs.Facts.{printed-needed, printed-closed, walks-printed}
@@ -69,3 +69,12 @@ if_shown took a false text f g r same h = tt
 pub shown : {W : Type 0} (took : W → List ℕ → W → Type 0) (a : Item) (text : List ℕ) (f g : Formatter W) (r : Result (Unit {0}) Error)
     → (UsesBelow a → text ≡ text_of a) → WritesOnOk took f r text g → DisplaysOnOk took f r (shown_text a) g
 shown took a text f g r same h = if_shown took a (uses_below a) text f g r (λ e. same (below_if_lower a e)) h
+
+if_shown_styled : {W : Type 0} (took : W → List ℕ → W → Type 0) (a : Item) (b : Bool) (text : List ℕ) (f g : Formatter W) (r : Result (Unit {0}) Error)
+    → (b ≡ true → text ≡ text_of a) → WritesStyledOnOk took f r text g → DisplaysStyledOnOk took f r (if b then Some (text_of a) else None) g
+if_shown_styled took a true text f g r same h = subst (λ (x : List ℕ). WritesStyledOnOk took f r x g) (same refl) h
+if_shown_styled took a false text f g r same h = tt
+
+pub shown_styled : {W : Type 0} (took : W → List ℕ → W → Type 0) (a : Item) (text : List ℕ) (f g : Formatter W) (r : Result (Unit {0}) Error)
+    → (UsesBelow a → text ≡ text_of a) → WritesStyledOnOk took f r text g → DisplaysStyledOnOk took f r (shown_text a) g
+shown_styled took a text f g r same h = if_shown_styled took a (uses_below a) text f g r (λ e. same (below_if_lower a e)) h

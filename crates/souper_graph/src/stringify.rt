@@ -8,6 +8,7 @@ mod lines;
 mod marks;
 mod names;
 mod nodes;
+mod numbers;
 mod order;
 mod text;
 

@@ -9,15 +9,13 @@ ghost use Rattle.souper_graph.specs.declared.stringify.errors.TextError.TheVaria
 use crate::ast::{Attribute, Block, Constant, RootAttribute, Type};
 use crate::stringify::errors::TextError;
 use crate::stringify::leaves::{bit_text, known_bit_text};
-use itoa::Buffer;
 
 pub(crate) fn append_type(ty: Type, out: &mut String) -> Result<(), TextError>
     ensures ok { OnOk result (string_bytes out.new ≡ string_bytes out.old ++ text_of_type ty) }
     ensures memory { IfErr result (λ error. error ≡ OutOfMemory) }
 {
-    let mut digits = Buffer::new();
-    out.push_str("i")?;
-    out.push_str(digits.format(ty.width))?;
+    let width = ty.width;
+    write!(out, "i{width}")?;
     Ok(())
 }
 
@@ -39,8 +37,8 @@ pub(crate) fn append_constant(constant: Constant, out: &mut String) -> Result<()
     ensures ok { OnOk result (string_bytes out.new ≡ string_bytes out.old ++ text_of_constant constant) }
     ensures memory { IfErr result (λ error. error ≡ OutOfMemory) }
 {
-    let mut digits = Buffer::new();
-    out.push_str(digits.format(constant.value))?;
+    let value = constant.value;
+    write!(out, "{value}")?;
     append_optional_type(constant.ty, out)
 }
 
@@ -48,9 +46,8 @@ pub(crate) fn append_block(block: Block, out: &mut String) -> Result<(), TextErr
     ensures ok { OnOk result (string_bytes out.new ≡ string_bytes out.old ++ text_of_block block) }
     ensures memory { IfErr result (λ error. error ≡ OutOfMemory) }
 {
-    let mut digits = Buffer::new();
-    out.push_str("block ")?;
-    out.push_str(digits.format(block.predecessors))?;
+    let predecessors = block.predecessors;
+    write!(out, "block {predecessors}")?;
     Ok(())
 }
 
@@ -106,19 +103,11 @@ fn append_attribute(attribute: &Attribute, out: &mut String) -> Result<(), TextE
             Ok(())
         }
         Attribute::SignBits(count) => {
-            let mut digits = Buffer::new();
-            out.push_str("(signBits=")?;
-            out.push_str(digits.format(*count))?;
-            out.push_str(")")?;
+            write!(out, "(signBits={count})")?;
             Ok(())
         }
         Attribute::Range(low, high) => {
-            let mut digits = Buffer::new();
-            out.push_str("(range=[")?;
-            out.push_str(digits.format(*low))?;
-            out.push_str(",")?;
-            out.push_str(digits.format(*high))?;
-            out.push_str("))")?;
+            write!(out, "(range=[{low},{high}))")?;
             Ok(())
         }
     }

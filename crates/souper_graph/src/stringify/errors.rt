@@ -1,9 +1,11 @@
 //! Why an item or a node has no text.
 
-ghost use Rattle.std.specs.Prelude.{◌≡◌};
+ghost use Rattle.std.specs.Prelude.{◌≡◌, ◌++◌, codes, decimal};
+ghost use Rattle.std.specs.Fmt.{WritesOnOk, WritesStyledOnOk};
 ghost use Rattle.souper_graph.specs.declared.stringify.errors.TextError.TheVariants.{OutOfMemory};
 
 use crate::ast::{Id, Statement};
+use crate::stringify::numbers::write_number;
 use std::alloc::{AllocError, AllocFailed};
 use std::error::Error;
 use std::fmt;
@@ -24,27 +26,35 @@ pub enum TextError {
     OutOfMemory,
 }
 
+// `statement id 3` and what is wrong with it.
+#[tactic(auto, using(crate::proofs::Styled::styled_three))]
+fn write_fault<W: fmt::Write>(
+    id: Id<Statement>,
+    fault: &str,
+    f: &mut fmt::Formatter<W>,
+) -> fmt::Result
+    ensures writes { WritesOnOk W.write_str_gives f.old result (codes "statement id " ++ (decimal id ++ fault.now)) f.new }
+    ensures styled { WritesStyledOnOk W.write_str_gives f.old result (codes "statement id " ++ (decimal id ++ fault.now)) f.new }
+{
+    f.write_str("statement id ")?;
+    write_number(id.index(), f)?;
+    f.write_str(fault)
+}
+
 impl fmt::Display for TextError {
     ghost use Rattle.std.specs.Prelude.{Some};
     ghost use Rattle.souper_graph.specs.Faults.{text_of_error};
 
     ghost output = { λ error. Some (text_of_error error) };
 
+    ghost styled_output = { λ error _. Some (text_of_error error) };
+
     fn fmt<W: fmt::Write>(&self, f: &mut fmt::Formatter<W>) -> fmt::Result {
-        match self {
-            TextError::OutOfRange(id) => {
-                let index = id.index();
-                write!(f, "statement id {index} is out of range")
-            }
-            TextError::NotAnAssignment(id) => {
-                let index = id.index();
-                write!(f, "statement id {index} is not an assignment")
-            }
-            TextError::NotABlock(id) => {
-                let index = id.index();
-                write!(f, "statement id {index} is not a block")
-            }
-            TextError::OutOfMemory => write!(f, "out of memory"),
+        match *self {
+            TextError::OutOfRange(id) => write_fault(id, " is out of range", f),
+            TextError::NotAnAssignment(id) => write_fault(id, " is not an assignment", f),
+            TextError::NotABlock(id) => write_fault(id, " is not a block", f),
+            TextError::OutOfMemory => f.write_str("out of memory"),
         }
     }
 }

@@ -18,7 +18,6 @@ use crate::stringify::append::{
 };
 use crate::stringify::errors::TextError;
 use crate::stringify::names::{name_of_block, name_of_value};
-use itoa::Buffer;
 
 // A node that is put at the end of a text, of which a refusal may leave a part.
 pub(crate) trait Append {
@@ -176,11 +175,11 @@ impl Append for BlockPc {
     ghost uses = { λ pc. block_use pc.block ∷ (uses_of_operand pc.x ++ uses_of_operand pc.y) };
 
     fn append(&self, statements: &Arena<Statement>, out: &mut String) -> Result<(), TextError> {
-        let mut digits = Buffer::new();
+        let predecessor = self.predecessor;
         out.push_str("blockpc ")?;
         self.block.append(statements, out)?;
         out.push_str(" ")?;
-        out.push_str(digits.format(self.predecessor))?;
+        write!(out, "{predecessor}")?;
         out.push_str(" ")?;
         self.x.append(statements, out)?;
         out.push_str(" ")?;

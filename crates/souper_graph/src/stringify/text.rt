@@ -1,6 +1,6 @@
 //! The canonical text of items.
 
-ghost use Rattle.std.specs.Prelude.{◌≡◌, ◌≤◌, ◌++◌, length, flat_map, None, IfOk, IfErr, OnOk};
+ghost use Rattle.std.specs.Prelude.{◌≡◌, ◌≤◌, ◌++◌, length, flat_map, IfOk, IfErr, OnOk};
 ghost use Rattle.std.specs.Fmt.{DisplaysOnOk, DisplaysStyledOnOk};
 ghost use Rattle.souper_graph.specs.Shown.{ShowsLines};
 ghost use Rattle.std.specs.String.{string_bytes};
@@ -98,14 +98,16 @@ impl fmt::Display for LeftHandSide {
 
     ghost output = { λ item. shown_text (view_left_hand_side item) };
 
+    ghost styled_output = { λ item _. shown_text (view_left_hand_side item) };
+
     fn fmt<W: fmt::Write>(&self, f: &mut fmt::Formatter<W>) -> fmt::Result
         ensures writes { DisplaysOnOk W.write_str_gives f.old result (shown_text (view_left_hand_side self.now)) f.new }
-        ensures styled { DisplaysStyledOnOk W.write_str_gives f.old result None f.new }
+        ensures styled { DisplaysStyledOnOk W.write_str_gives f.old result (shown_text (view_left_hand_side self.now)) f.new }
         ensures lines { ShowsLines W.write_str_gives (view_left_hand_side self.now) f.old result f.new }
         ensures no_bad_id { OnOk result (¬ HasBadId (view_left_hand_side self.now)) }
     {
         match self.to_text() {
-            Ok(text) => write!(f, "{text}"),
+            Ok(text) => f.write_str(&text),
             Err(_) => Err(fmt::Error),
         }
     }
@@ -118,14 +120,16 @@ impl fmt::Display for RightHandSide {
 
     ghost output = { λ item. shown_text (view_right_hand_side item) };
 
+    ghost styled_output = { λ item _. shown_text (view_right_hand_side item) };
+
     fn fmt<W: fmt::Write>(&self, f: &mut fmt::Formatter<W>) -> fmt::Result
         ensures writes { DisplaysOnOk W.write_str_gives f.old result (shown_text (view_right_hand_side self.now)) f.new }
-        ensures styled { DisplaysStyledOnOk W.write_str_gives f.old result None f.new }
+        ensures styled { DisplaysStyledOnOk W.write_str_gives f.old result (shown_text (view_right_hand_side self.now)) f.new }
         ensures lines { ShowsLines W.write_str_gives (view_right_hand_side self.now) f.old result f.new }
         ensures no_bad_id { OnOk result (¬ HasBadId (view_right_hand_side self.now)) }
     {
         match self.to_text() {
-            Ok(text) => write!(f, "{text}"),
+            Ok(text) => f.write_str(&text),
             Err(_) => Err(fmt::Error),
         }
     }
@@ -138,14 +142,16 @@ impl fmt::Display for Replacement {
 
     ghost output = { λ item. shown_text (view_replacement item) };
 
+    ghost styled_output = { λ item _. shown_text (view_replacement item) };
+
     fn fmt<W: fmt::Write>(&self, f: &mut fmt::Formatter<W>) -> fmt::Result
         ensures writes { DisplaysOnOk W.write_str_gives f.old result (shown_text (view_replacement self.now)) f.new }
-        ensures styled { DisplaysStyledOnOk W.write_str_gives f.old result None f.new }
+        ensures styled { DisplaysStyledOnOk W.write_str_gives f.old result (shown_text (view_replacement self.now)) f.new }
         ensures lines { ShowsLines W.write_str_gives (view_replacement self.now) f.old result f.new }
         ensures no_bad_id { OnOk result (¬ HasBadId (view_replacement self.now)) }
     {
         match self.to_text() {
-            Ok(text) => write!(f, "{text}"),
+            Ok(text) => f.write_str(&text),
             Err(_) => Err(fmt::Error),
         }
     }

@@ -1,4 +1,4 @@
-use Rattle.std.proofs.Common.{◌≡◌, ℕ, List, ◌++◌, map, ap, ◌∙◌}
+use Rattle.std.proofs.Common.{map}
 use Rattle.std.specs.Prelude.{codes, decimal}
 use Rattle.std.specs.String.{string_bytes}
 use Rattle.std.proofs.lemmas.Result.{on_ok_weaker}
@@ -10,12 +10,10 @@ use Rattle.souper_graph.proofs.stringify.nodes.BlockPcAppend.append.Goals as goa
 pub returns-clause-ok : goal.returns-clause-ok
 returns-clause-ok c =
     let ss = map view_statement c.args.statements.now in
-    let number : string_bytes c.push_str-3.new.self ≡ string_bytes c.push_str-2.new.self ++ decimal c.args.self.now.predecessor =
-    c.in_ok-push_str-3.ensures.bytes ∙ ap (λ (x : List ℕ). string_bytes c.push_str-2.new.self ++ x) c.format.ensures.text in
     on_ok_weaker c.append-3.result
     (eight_parts (string_bytes c.args.out.now) _ _ _ _ _ _ _ _
     (codes "blockpc ") (name_at ss c.args.self.now.block) (codes " ") (decimal c.args.self.now.predecessor) (codes " ")
     (text_of_operand ss c.args.self.now.x) (codes " ") (text_of_operand ss c.args.self.now.y)
-    c.in_ok-push_str.ensures.bytes c.in_ok-append.ensures.ok c.in_ok-push_str-2.ensures.bytes number c.in_ok-push_str-4.ensures.bytes
-    c.in_ok-append-2.ensures.ok c.in_ok-push_str-5.ensures.bytes)
+    c.in_ok-push_str.ensures.bytes c.in_ok-append.ensures.ok c.in_ok-push_str-2.ensures.bytes c.in_ok-write.ensures.bytes c.in_ok-push_str-3.ensures.bytes
+    c.in_ok-append-2.ensures.ok c.in_ok-push_str-4.ensures.bytes)
     c.append-3.ensures.ok

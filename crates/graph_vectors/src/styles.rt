@@ -1,0 +1,90 @@
+//! Width, fill, precision and sign play no part in the shown text of a node, an item or an error.
+use crate::building::{Graph, foreign_id, number, typed};
+use souper_graph::ast::{Attribute, Block, Constant, RootAttribute, Type};
+use souper_graph::stringify::TextError;
+use std::alloc::Global;
+use std::fmt::Display;
+use std::process::Abort;
+use std::test::Fail;
+
+// Whatever the options are, the text is the same.
+fn shows<D: Display>(rt: &impl Abort, alloc: Global, value: &D, want: &str) -> Result<(), Fail> {
+    assert_eq!(rt; format!(in alloc; "{value}")?.as_str(), want);
+    assert_eq!(rt; format!(in alloc; "{value:99}")?.as_str(), want);
+    assert_eq!(rt; format!(in alloc; "{value:*^99}")?.as_str(), want);
+    assert_eq!(rt; format!(in alloc; "{value:.1}")?.as_str(), want);
+    assert_eq!(rt; format!(in alloc; "{value:+}")?.as_str(), want);
+    assert_eq!(rt; format!(in alloc; "{value:#}")?.as_str(), want);
+    assert_eq!(rt; format!(in alloc; "{value:>+#099.3}")?.as_str(), want);
+    assert_eq!(rt;
+        format!(in alloc; "[{value:_<+99.0}]")?.len(),
+        want.len() + 2
+    );
+    Ok(())
+}
+
+#[test]
+fn leaves_have_no_style(rt: HostRuntime) -> Result<(), Fail> {
+    let alloc = rt.alloc();
+    let ty = Type { width: 32 };
+    shows(&rt, alloc, &ty, "i32")?;
+    shows(&rt, alloc, &Constant { value: 7, ty: None }, "7")?;
+    let typed = Constant {
+        value: -12,
+        ty: Some(ty),
+    };
+    shows(&rt, alloc, &typed, "-12:i32")?;
+    shows(&rt, alloc, &Block { predecessors: 12 }, "block 12")
+}
+
+#[test]
+fn attributes_have_no_style(rt: HostRuntime) -> Result<(), Fail> {
+    let alloc = rt.alloc();
+    let known = Vec::from_slice(alloc, &[Some(false), None, Some(true)])?;
+    shows(&rt, alloc, &Attribute::KnownBits(known), "(knownBits=0x1)")?;
+    shows(&rt, alloc, &Attribute::PowerOfTwo, "(powerOfTwo)")?;
+    shows(&rt, alloc, &Attribute::SignBits(3), "(signBits=3)")?;
+    shows(&rt, alloc, &Attribute::Range(-1, 5), "(range=[-1,5))")?;
+    let demanded = Vec::from_slice(alloc, &[true, false])?;
+    let demanded = RootAttribute::DemandedBits(demanded);
+    shows(&rt, alloc, &demanded, "(demandedBits=10)")?;
+    shows(
+        &rt,
+        alloc,
+        &RootAttribute::HarvestedFromUse,
+        "(harvestedFromUse)",
+    )
+}
+
+#[test]
+fn errors_have_no_style(rt: HostRuntime) -> Result<(), Fail> {
+    let alloc = rt.alloc();
+    let id = foreign_id(alloc, 3)?;
+    let fault = TextError::OutOfRange(id.into());
+    shows(&rt, alloc, &fault, "statement id 3 is out of range")?;
+    shows(&rt, alloc, &TextError::OutOfMemory, "out of memory")
+}
+
+#[test]
+fn items_have_no_style(rt: HostRuntime) -> Result<(), Fail> {
+    let alloc = rt.alloc();
+    let mut graph = Graph::new(alloc);
+    let x = graph.typed_var("%x", 8)?;
+    shows(&rt, alloc, &graph.infer(x), "%x:i8 = var\ninfer %x\n")?;
+    shows(
+        &rt,
+        alloc,
+        &Graph::new(alloc).result(typed(-5, 8)),
+        "result -5:i8",
+    )?;
+    let cand = Graph::new(alloc).cand(number(1), number(2));
+    shows(&rt, alloc, &cand, "cand 1 2\n")?;
+    let mut graph = Graph::new(alloc);
+    let x = graph.var("%x")?;
+    shows(
+        &rt,
+        alloc,
+        &graph.replaced(x, number(0)),
+        "%x = var\ninfer %x\nresult 0\n",
+    )
+}
