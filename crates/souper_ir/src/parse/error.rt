@@ -1,12 +1,14 @@
 //! The error of a parse.
-ghost use Rattle.std.specs.Prelude.{◌≡◌, ◌≤◌, ◌⊎◌, length, string_bytes, option_copied, IfOk, IfSome, Some};
-ghost use Rattle.std.specs.Fmt.{WritesOnOk};
+ghost use Rattle.std.specs.Prelude.{◌≡◌, ◌≤◌, ◌⊎◌, ◌↔◌, length, string_bytes, option_copied, IfOk, IfSome, IsSome, Some};
+ghost use Rattle.std.specs.Fmt.{WritesOnOk, DisplaysOnOk};
 ghost use Rattle.souper_ir.specs.Places.{direct_text};
-ghost use Rattle.souper_ir.specs.Errors.{kind_of, offset_of, fault_of, shown_error, shown_by_place, IsLocated, IsRefusalAt};
+ghost use Rattle.souper_ir.specs.Errors.{kind_of, offset_of, fault_of, shown_error, shown_by_place, IsLocated, IsRefusalAt, ShowsFault};
 
 use crate::parse::place::Place;
+use arrayvec::ArrayString;
 use std::alloc::{AllocError, AllocFailed, Global};
 use std::error::Error;
+use std::fmt::Write;
 use std::{fmt, io};
 
 #[cfg(test)]
@@ -106,6 +108,18 @@ impl ParseError {
             _ => None,
         }
     }
+
+    /// The error of the read: `Some` exactly for the kind `Io`.
+    pub fn io_error(&self) -> Option<&io::Error>
+        ensures fault { option_copied result ≡ fault_of self.now }
+        ensures kind { IsSome result ↔ (kind_of self.now ≡ ParseErrorKind.Io) }
+    {
+        match &self.cause {
+            Cause::Io(fault) => Some(fault),
+            Cause::Parse(_) => None,
+            Cause::Memory => None,
+        }
+    }
 }
 
 // Gives a refusal its place in the source.
@@ -142,12 +156,25 @@ impl Refusal {
     }
 }
 
+// An I/O error has no allocator, and its text, which the system gives, at most 279 bytes.
+fn show_fault<W: fmt::Write>(fault: &io::Error, f: &mut fmt::Formatter<W>) -> fmt::Result
+    ensures { ShowsFault W.write_str_gives f.old result f.new }
+{
+    let mut text = ArrayString::<512>::new();
+    write!(text, "{fault}")?;
+    let text = text.as_str();
+    write!(f, "IO error: {text}")
+}
+
 impl fmt::Display for ParseError {
     ghost output = { shown_error };
 
-    fn fmt<W: fmt::Write>(&self, f: &mut fmt::Formatter<W>) -> fmt::Result {
+    fn fmt<W: fmt::Write>(&self, f: &mut fmt::Formatter<W>) -> fmt::Result
+        ensures writes { DisplaysOnOk W.write_str_gives f.old result (shown_error self.now) f.new }
+        ensures fault { kind_of self.now ≡ ParseErrorKind.Io → ShowsFault W.write_str_gives f.old result f.new }
+    {
         match &self.cause {
-            Cause::Io(fault) => write!(f, "IO error: {fault}"),
+            Cause::Io(fault) => show_fault(fault, f),
             Cause::Parse(refusal) => refusal.show(f),
             Cause::Memory => write!(f, "out of memory"),
         }
@@ -157,7 +184,10 @@ impl fmt::Display for ParseError {
 impl fmt::Debug for ParseError {
     ghost debug_output = { shown_error };
 
-    fn fmt<W: fmt::Write>(&self, f: &mut fmt::Formatter<W>) -> fmt::Result {
+    fn fmt<W: fmt::Write>(&self, f: &mut fmt::Formatter<W>) -> fmt::Result
+        ensures writes { DisplaysOnOk W.write_str_gives f.old result (shown_error self.now) f.new }
+        ensures fault { kind_of self.now ≡ ParseErrorKind.Io → ShowsFault W.write_str_gives f.old result f.new }
+    {
         fmt::Display::fmt(self, f)
     }
 }
