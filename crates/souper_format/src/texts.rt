@@ -1,10 +1,11 @@
 //! The canonical texts of items, one behind the other.
-ghost use Rattle.std.specs.Prelude.{◌≡◌, ◌++◌, IfOk, IfErr, OnOk, option_copied};
+ghost use Rattle.std.specs.Prelude.{◌≡◌, [], ◌++◌, IfOk, IfErr, IsOkAnd, OnOk, option_copied};
 ghost use Rattle.std.specs.String.{string_bytes};
 ghost use Rattle.souper_graph.specs.Text.{text_of};
 ghost use Rattle.souper_graph.specs.Uses.{UsesBelow};
 ghost use Rattle.souper_graph.specs.WellFormed.{WellFormed};
 ghost use Rattle.souper_ir.specs.Answers.{IsStrError};
+ghost use Rattle.souper_ir.specs.Tokens.{IsLastGap};
 ghost use Rattle.souper_format.specs.Formatted.{text_with_newline, texts_of, IsFormatted};
 
 use souper_ir::ast::{LeftHandSide, Replacement, RightHandSide};
@@ -74,6 +75,7 @@ pub(crate) fn texts_of_source<T: Printed + Drop>(
 ) -> Result<String, ParseError>
     ensures formatted { IfOk result (λ text. IsFormatted T.item_type source.now (string_bytes text)) }
     ensures refused { IfErr result (λ e. IsStrError T.item_type (option_copied filename.entry) source.now e) }
+    ensures gaps { IsLastGap source.now → IsOkAnd result (λ text. string_bytes text ≡ []) }
 {
     let mut texts = Texts {
         text: String::new(alloc),
