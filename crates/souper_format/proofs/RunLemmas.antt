@@ -11,7 +11,7 @@ use Rattle.souper_ir.specs.declared.parse.ParseErrorKind.{ParseErrorKind}
 use Rattle.souper_ir.specs.declared.parse.ParseErrorKind.TheVariants.{Io, Parse, Memory}
 use Rattle.souper_format.specs.Streams.{Stream, IsGiven, IsGivenNothing}
 use Rattle.souper_format.specs.Reading.{ReadAll}
-use Rattle.souper_format.specs.Telling.{ToldLine, StoppedByMemory, ErrorTold}
+use Rattle.souper_format.specs.Telling.{ToldLine, ToldFault, StoppedByMemory, ErrorTold}
 use Rattle.souper_format.specs.Runs.{Formats, ToldRefusal, IsRun, IsKnownRun}
 
 -- a refusal at an offset of the source, as the parser answers it
@@ -34,7 +34,7 @@ stopped k input out err status nothing told =
 status_of_kind : (k : ItemType) (input out err : Stream) (source : List ℕ) (e : ParseError) (status : ℕ) (kind : ParseErrorKind)
     → ReadAll input source → IsUtf8 source → IsGivenNothing out
     → OnKind kind ⊥ (IsRefusal k None source e) (Unit {0})
-    → OnKind kind (((status ≡ 3) × ToldLine err e) ⊎ StoppedByMemory err status) (((status ≡ 1) × ToldLine err e) ⊎ StoppedByMemory err status) (StoppedByMemory err status)
+    → OnKind kind ((status ≡ 3) × ToldFault err) (((status ≡ 1) × ToldLine err e) ⊎ StoppedByMemory err status) (StoppedByMemory err status)
     → IsRun k input out err status
 status_of_kind k input out err source e status Io read text nothing fault told = absurd fault
 status_of_kind k input out err source e status Parse read text nothing refusal (inl told) =

@@ -17,10 +17,10 @@ use Rattle.souper_ir.specs.declared.parse.ParseErrorKind.TheVariants.{Io, Parse,
 use Rattle.souper_format.specs.declared.items.Items.{Items}
 use Rattle.souper_format.specs.Kinds.{kind_of_items, view_items}
 use Rattle.souper_format.specs.Streams.{Stream, IsGiven, IsGivenNothing}
-use Rattle.souper_format.specs.Telling.{ToldLine, ToldMemory, StoppedByMemory, ErrorTold}
+use Rattle.souper_format.specs.Telling.{ToldLine, ToldMemory, ToldFault, StoppedByMemory, ErrorTold}
 use Rattle.souper_format.specs.Runs.{OnStatus}
 use Rattle.souper_format.specs.Same.{SameItems}
-use Rattle.souper_format.specs.SameRuns.{FileRead, ReadSpells, ReadError, ReadRefused, ReadFailed, ToldSome, Says, IsSameRun, IsComparison}
+use Rattle.souper_format.specs.SameRuns.{FileRead, ReadSpells, ReadError, ReadRefused, ReadFailed, Says, IsSameRun, StoppedAtFirst, IsFilesRun, IsComparison}
 use Rattle.souper_format.proofs.RunLemmas.{IsRefusal, told_refusal}
 
 -- the error of a call that reads a file
@@ -37,14 +37,9 @@ by_memory : (k : ItemType) (path : List ℕ) (read : FileRead) (err : Stream) (s
     → StoppedByMemory err status → Outcome k path read err status
 by_memory k path read err status told = subst (Outcome k path read err) (sym told.0) (inr told.1)
 
-some_told : (err : Stream) (e : ParseError) → ToldLine err e → ToldSome err
-some_told err e told works =
-    let (line, (shown, is_shown, is_line), given) = told works in
-    (shown, subst (IsGiven err) is_line given)
-
 of_text : (k : ItemType) (path : List ℕ) (source : String Global) (err : Stream) (e : ParseError) (status : ℕ) (kind : ParseErrorKind)
     → OnKind kind ⊥ (IsRefusal k (Some path) (string_bytes source) e) (Unit {0})
-    → OnKind kind (((status ≡ 3) × ToldLine err e) ⊎ StoppedByMemory err status) (((status ≡ 1) × ToldLine err e) ⊎ StoppedByMemory err status) (StoppedByMemory err status)
+    → OnKind kind ((status ≡ 3) × ToldFault err) (((status ≡ 1) × ToldLine err e) ⊎ StoppedByMemory err status) (StoppedByMemory err status)
     → Outcome k path (Ok source) err status
 of_text k path source err e status Io fault told = absurd fault
 of_text k path source err e status Parse refusal (inl told) =
@@ -55,11 +50,9 @@ of_text k path source err e status Memory fault told = by_memory k path (Ok sour
 
 of_fault : (k : ItemType) (path : List ℕ) (fault : Error) (err : Stream) (e : ParseError) (status : ℕ) (kind : ParseErrorKind)
     → OnKind kind (fault_of e ≡ Some fault) ⊥ (error_kind fault ≡ OutOfMemory)
-    → OnKind kind (((status ≡ 3) × ToldLine err e) ⊎ StoppedByMemory err status) (((status ≡ 1) × ToldLine err e) ⊎ StoppedByMemory err status) (StoppedByMemory err status)
+    → OnKind kind ((status ≡ 3) × ToldFault err) (((status ≡ 1) × ToldLine err e) ⊎ StoppedByMemory err status) (StoppedByMemory err status)
     → Outcome k path (Err fault) err status
-of_fault k path fault err e status Io is (inl told) =
-    subst (Outcome k path (Err fault) err) (sym told.0) (inl (some_told err e told.1))
-of_fault k path fault err e status Io is (inr told) = by_memory k path (Err fault) err status told
+of_fault k path fault err e status Io is told = subst (Outcome k path (Err fault) err) (sym told.0) (inl told.1)
 of_fault k path fault err e status Parse is told = absurd is
 of_fault k path fault err e status Memory is told = by_memory k path (Err fault) err status told
 
@@ -68,20 +61,19 @@ outcome : (k : ItemType) (path : List ℕ) (read : FileRead) (err : Stream) (e :
 outcome k path (Ok source) err e status is told = of_text k path source err e status (kind_of e) is told
 outcome k path (Err fault) err e status is told = of_fault k path fault err e status (kind_of e) is told
 
-of_first : (k : ItemType) (a b : List ℕ) (first : FileRead) (out err : Stream) (status : ℕ)
-    → IsGivenNothing out → Outcome k a first err status → IsSameRun k a b first first out err status
-of_first k a b first out err zero nothing is = absurd is
-of_first k a b first out err (suc zero) nothing is = (inl is, nothing)
-of_first k a b first out err (suc (suc zero)) nothing is = absurd is
-of_first k a b first out err (suc (suc (suc zero))) nothing (inl failed) = (inl failed, λ works. nothing)
-of_first k a b first out err (suc (suc (suc zero))) nothing (inr told) = (inr (inr (inr told)), λ works. nothing)
-of_first k a b first out err (suc (suc (suc (suc n)))) nothing is = absurd is
+stopped_by : (k : ItemType) (a : List ℕ) (first : FileRead) (out err : Stream) (status : ℕ)
+    → IsGivenNothing out → Outcome k a first err status → StoppedAtFirst k a first out err status
+stopped_by k a first out err zero nothing is = absurd is
+stopped_by k a first out err (suc zero) nothing is = (is, nothing)
+stopped_by k a first out err (suc (suc zero)) nothing is = absurd is
+stopped_by k a first out err (suc (suc (suc zero))) nothing is = (is, nothing)
+stopped_by k a first out err (suc (suc (suc (suc n)))) nothing is = absurd is
 
 -- the first file's error is told, and the second is not read
-pub first_refused : (k : ItemType) (a b : List ℕ) (first : FileRead) (out err : Stream) (e : ParseError) (status : ℕ)
-    → IsGivenNothing out → ReadError k a first e → ErrorTold err status e → IsSameRun k a b first first out err status
-first_refused k a b first out err e status nothing is told =
-    of_first k a b first out err status nothing (outcome k a first err e status is told)
+pub first_refused : (k : ItemType) (a : List ℕ) (first : FileRead) (out err : Stream) (e : ParseError) (status : ℕ)
+    → IsGivenNothing out → ReadError k a first e → ErrorTold err status e → StoppedAtFirst k a first out err status
+first_refused k a first out err e status nothing is told =
+    stopped_by k a first out err status nothing (outcome k a first err e status is told)
 
 of_second : (k : ItemType) (a b : List ℕ) (first second : FileRead) (xs : List Item) (out err : Stream) (status : ℕ)
     → IsGivenNothing out → ReadSpells k first xs → Outcome k b second err status → IsSameRun k a b first second out err status
@@ -114,3 +106,19 @@ compared k a b first second x y out err (suc zero) kinds spells other_spells is 
 compared k a b first second x y out err (suc (suc zero)) kinds spells other_spells is = absurd is
 compared k a b first second x y out err (suc (suc (suc zero))) kinds spells other_spells is = (inr (inr is.0), is.1)
 compared k a b first second x y out err (suc (suc (suc (suc n)))) kinds spells other_spells is = absurd is
+
+of_stopped : (k : ItemType) (a b : List ℕ) (first : FileRead) (out err : Stream) (status : ℕ)
+    → StoppedAtFirst k a first out err status → IsSameRun k a b first first out err status
+of_stopped k a b first out err zero is = absurd is
+of_stopped k a b first out err (suc zero) is = (inl is.0, is.1)
+of_stopped k a b first out err (suc (suc zero)) is = absurd is
+of_stopped k a b first out err (suc (suc (suc zero))) (inl failed, nothing) = (inl failed, λ works. nothing)
+of_stopped k a b first out err (suc (suc (suc zero))) (inr told, nothing) = (inr (inr (inr told)), λ works. nothing)
+of_stopped k a b first out err (suc (suc (suc (suc n)))) is = absurd is
+
+-- a run over files is one over some reads: where the second file was not read, the first read stands for it
+pub some_reads : (k : ItemType) (gives : List ℕ → FileRead → Type 0) (a b : List ℕ) (out err : Stream) (status : ℕ)
+    → IsFilesRun k gives a b out err status → (first : FileRead) × (second : FileRead) × IsSameRun k a b first second out err status
+some_reads k gives a b out err status (first, given, inl stopped) =
+    (first, first, of_stopped k a b first out err status stopped)
+some_reads k gives a b out err status (first, given, inr (second, other_given, run)) = (first, second, run)

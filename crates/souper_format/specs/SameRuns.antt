@@ -1,4 +1,4 @@
--- What each status of a comparison of two files says of the two reads and of the writers.
+-- Definitions: what each status of a comparison of two files says of the two reads and of the writers.
 use Rattle.std.specs.Prelude.{◌≡◌, ℕ, List, [], ◌∷◌, ◌++◌, true, false, codes, string_bytes, Some, Result, Ok, Err, String, ◌⊎◌}
 use Rattle.std.specs.List.{AllZip}
 use Rattle.std.specs.declared.alloc.Global.{Global}
@@ -32,14 +32,10 @@ abbrev pub ReadRefused : ItemType → List ℕ → FileRead → Stream → Type 
 ReadRefused k path (Ok source) err = SpellsNone k (string_bytes source) × ToldRefusal (Some path) (string_bytes source) err
 ReadRefused k path (Err fault) err = ⊥
 
--- unless the writer has failed, it was given a line
-abbrev pub ToldSome : Stream → Type 0
-ToldSome err = err.failed ≡ false → (shown : List ℕ) × IsGiven err (shown ++ 10 ∷ [])
-
 -- the read failed, and that was told
 abbrev pub ReadFailed : FileRead → Stream → Type 0
 ReadFailed (Ok source) err = ⊥
-ReadFailed (Err fault) err = ToldSome err
+ReadFailed (Err fault) err = ToldFault err
 
 -- the writer was given `same` where the fact holds, else `different`
 abbrev pub Says : Type 0 → Stream → Type 0
@@ -69,6 +65,19 @@ IsSameRun k a b first second out err status = OnStatus status
     (Compared k first second out err)
     (OneRefused k a b first second out err)
     (NotCompared first second out err)
+
+-- the first read was refused, or it has failed, or memory was refused, and that was told; nothing was written
+abbrev pub StoppedAtFirst : ItemType → List ℕ → FileRead → Stream → Stream → ℕ → Type 0
+StoppedAtFirst k a first out err status = OnStatus status
+    ⊥
+    (ReadRefused k a first err × IsGivenNothing out)
+    ((ReadFailed first err ⊎ ToldMemory err) × IsGivenNothing out)
+
+-- what the status says where gives tells what the read of a path may give: the first file was read, and with it the run
+-- stopped, or the second was read too
+abbrev pub IsFilesRun : ItemType → (List ℕ → FileRead → Type 0) → List ℕ → List ℕ → Stream → Stream → ℕ → Type 0
+IsFilesRun k gives a b out err status = (first : FileRead) × gives a first × (StoppedAtFirst k a first out err status
+    ⊎ ((second : FileRead) × gives b second × IsSameRun k a b first second out err status))
 
 -- what the status of a comparison of two lists says
 abbrev pub IsComparison : Type 0 → Stream → Stream → ℕ → Type 0

@@ -39,6 +39,6 @@ StoppedByMemory err status = (status ≡ 3) × ToldMemory err
 -- the status of an error and what was told of it: memory may be refused for its line
 abbrev pub ErrorTold : Stream → ℕ → ParseError → Type 0
 ErrorTold err status e = OnKind (kind_of e)
-    (((status ≡ 3) × ToldLine err e) ⊎ StoppedByMemory err status)
+    ((status ≡ 3) × ToldFault err)
     (((status ≡ 1) × ToldLine err e) ⊎ StoppedByMemory err status)
     (StoppedByMemory err status)

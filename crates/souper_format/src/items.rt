@@ -1,9 +1,10 @@
 //! Items of one kind: reading them from a text, and their canonical texts.
-ghost use Rattle.std.specs.Prelude.{◌≡◌, IfOk, IfErr, option_copied};
+ghost use Rattle.std.specs.Prelude.{◌≡◌, [], IfOk, IfErr, IsOkAnd, option_copied};
 ghost use Rattle.std.specs.List.{AllByRecursion};
 ghost use Rattle.std.specs.String.{string_bytes};
 ghost use Rattle.souper_graph.specs.WellFormed.{WellFormed, EachClosed};
 ghost use Rattle.souper_graph.specs.Syntax.Spelling.{TextSpells};
+ghost use Rattle.souper_graph.specs.Syntax.Tokens.{IsLastGap};
 ghost use Rattle.souper_ir.specs.Answers.{IsStrError};
 ghost use Rattle.souper_format.specs.Kinds.{item_type_of, kind_of_items, view_items};
 ghost use Rattle.souper_format.specs.Formatted.{IsFormatted, SpellsRenumbered};
@@ -32,7 +33,8 @@ pub enum Items {
 /// The items of the kind that the text spells.
 ///
 /// The error is that of the parser of the kind: the text spells no list of such items, or memory was refused.
-/// An error shows `filename` as the name of the text.
+/// An error shows `filename` as the name of the text. A text of white space and comments alone has no items, and takes no
+/// memory.
 pub fn read_items(
     alloc: Global,
     kind: Kind,
@@ -44,6 +46,7 @@ pub fn read_items(
     ensures well_formed { IfOk result (λ items. AllByRecursion WellFormed (view_items items)) }
     ensures each_closed { IfOk result (λ items. AllByRecursion EachClosed (view_items items)) }
     ensures refused { IfErr result (λ e. IsStrError (item_type_of kind) (option_copied filename.entry) source.now e) }
+    ensures gaps { IsLastGap source.now → IsOkAnd result (λ items. view_items items ≡ []) }
 {
     match kind {
         Kind::Lhs => match parse_left_hand_sides_str(alloc, source, filename) {
@@ -64,7 +67,8 @@ pub fn read_items(
 /// The canonical text of each item that the text spells, a newline after each.
 ///
 /// An item is printed when it has been read, and then dropped. Formatting is idempotent: the text spells the items
-/// with their needed statements in printed order, and formatted again it stays. The errors are those of [`read_items`].
+/// with their needed statements in printed order, and formatted again it stays. The text of white space and comments
+/// alone is empty, and takes no memory. The errors are those of [`read_items`].
 pub fn format_text(
     alloc: Global,
     kind: Kind,
@@ -75,6 +79,7 @@ pub fn format_text(
     ensures reads_back { IfOk result (λ text. SpellsRenumbered (item_type_of kind) source.now (string_bytes text)) }
     ensures again { IfOk result (λ text. IsFormatted (item_type_of kind) (string_bytes text) (string_bytes text)) }
     ensures refused { IfErr result (λ e. IsStrError (item_type_of kind) (option_copied filename.entry) source.now e) }
+    ensures gaps { IsLastGap source.now → IsOkAnd result (λ text. string_bytes text ≡ []) }
 {
     match kind {
         Kind::Lhs => texts_of_source::<LeftHandSide>(alloc, source, filename),

@@ -2,6 +2,8 @@
 #![tactic(auto)]
 
 pub mod command;
+pub mod dispatch;
+pub mod files;
 pub mod items;
 pub mod run;
 pub mod same;

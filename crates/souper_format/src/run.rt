@@ -1,11 +1,12 @@
 //! One run of the formatter, over any reader and two writers.
-ghost use Rattle.std.specs.Prelude.{◌≡◌, false, true, codes, string_bytes, IfOk, IfErr, OnOk, OnErr};
+ghost use Rattle.std.specs.Prelude.{◌≡◌, false, true, string_bytes, IfOk, IfErr, OnOk, OnErr};
 ghost use Rattle.souper_format.specs.Kinds.{item_type_of};
 ghost use Rattle.souper_format.specs.Watching.{watched_inner, has_failed, has_ended};
 ghost use Rattle.souper_format.specs.Streams.{stream, IsGiven};
 ghost use Rattle.souper_format.specs.Reading.{ReadAll, FaultMeans};
 ghost use Rattle.souper_format.specs.Telling.{ToldFault};
 ghost use Rattle.souper_format.specs.Runs.{IsRun, IsKnownRun};
+ghost use Rattle.souper_format.specs.Dispatch.{ToldUsage};
 
 use crate::command::Kind;
 use crate::items::format_text;
@@ -142,11 +143,10 @@ pub fn report<E: Write>(alloc: Global, fault: &io::Error, err: &mut Watched<E>) 
     3
 }
 
-/// Tells how the program is used, and answers the status of the program, which is 2.
+/// Tells how the program is used, and returns the status of the program, which is 2.
 pub fn usage<E: Write>(err: &mut Watched<E>) -> u8
     ensures status { result ≡ 2 }
-    ensures told { has_failed err.new ≡ false → IsGiven (stream E.contents err.old err.new)
-        (codes "usage: souper_fmt lhs|rhs|rep\n       souper_fmt same lhs|rhs|rep PATH PATH\n") }
+    ensures told { ToldUsage (stream E.contents err.old err.new) }
 {
     let _ = err.write_all(
         b"usage: souper_fmt lhs|rhs|rep\n       souper_fmt same lhs|rhs|rep PATH PATH\n",

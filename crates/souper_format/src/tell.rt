@@ -47,26 +47,20 @@ fn line_of_error(alloc: Global, error: &ParseError) -> Result<String, AllocError
     Ok(line)
 }
 
-/// Tells an error of a parser, and answers the status of the program: 1 where it refused a text, else 3.
+/// Tells an error of a parser, and returns the status of the program: 1 where it refused a text, else 3.
 pub(crate) fn tell_error<E: Write>(alloc: Global, error: &ParseError, err: &mut Watched<E>) -> u8
     ensures { ErrorTold (stream E.contents err.old err.new) result error.now }
 {
-    let status = match error.kind() {
-        ParseErrorKind::Io => 3,
-        ParseErrorKind::Parse => 1,
-        ParseErrorKind::Memory => {
-            tell_memory(err);
-            return 3;
-        }
-    };
-    match line_of_error(alloc, error) {
-        Ok(line) => {
-            let _ = err.write_all(line.as_bytes());
-            status
-        }
-        Err(_) => {
-            tell_memory(err);
-            3
-        }
+    if let Some(fault) = error.io_error() {
+        tell_fault(alloc, fault, err);
+        return 3;
     }
+    if error.kind() == ParseErrorKind::Parse
+        && let Ok(line) = line_of_error(alloc, error)
+    {
+        let _ = err.write_all(line.as_bytes());
+        return 1;
+    }
+    tell_memory(err);
+    3
 }

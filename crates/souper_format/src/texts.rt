@@ -1,5 +1,5 @@
 //! The canonical texts of items, one after the other.
-ghost use Rattle.std.specs.Prelude.{◌≡◌, ◌↔◌, ◌++◌, IfOk, IfErr, OnOk, IsTrue, option_copied};
+ghost use Rattle.std.specs.Prelude.{◌≡◌, ◌↔◌, [], ◌++◌, IfOk, IfErr, IsOkAnd, OnOk, IsTrue, option_copied};
 ghost use Rattle.std.specs.String.{string_bytes};
 ghost use Rattle.souper_graph.specs.Text.{text_of, text_with_newline, texts_of};
 ghost use Rattle.souper_graph.specs.Uses.{UsesBelow};
@@ -8,6 +8,7 @@ ghost use Rattle.souper_graph.specs.Syntax.Spelling.{IsEndingOf};
 ghost use Rattle.souper_graph.proofs.RoundTrip.ReadBack.{replacement-ending};
 ghost use Rattle.souper_graph.specs.WellFormed.{WellFormed};
 ghost use Rattle.souper_ir.specs.Answers.{IsStrError};
+ghost use Rattle.souper_graph.specs.Syntax.Tokens.{IsLastGap};
 ghost use Rattle.souper_format.specs.Formatted.{IsFormatted, SpellsRenumbered};
 
 use souper_ir::ast::{LeftHandSide, Replacement, RightHandSide};
@@ -101,6 +102,7 @@ pub(crate) fn texts_of_source<T: Printed + Drop>(
     ensures reads_back { IfOk result (λ text. SpellsRenumbered T.item_type source.now (string_bytes text)) }
     ensures again { IfOk result (λ text. IsFormatted T.item_type (string_bytes text) (string_bytes text)) }
     ensures refused { IfErr result (λ e. IsStrError T.item_type (option_copied filename.entry) source.now e) }
+    ensures gaps { IsLastGap source.now → IsOkAnd result (λ text. string_bytes text ≡ []) }
 {
     let mut texts = Texts {
         text: String::new(alloc),

@@ -1,5 +1,8 @@
 -- What an error tells: its kind, its offset and the text that it shows.
-use Rattle.std.specs.Prelude.{◌≡◌, ℕ, List, ◌⊎◌, codes, Option, None, Some, IfSome, IsSomeAnd, option_map, string_bytes}
+use Rattle.std.specs.Prelude.{◌≡◌, ℕ, List, ◌++◌, ◌⊎◌, codes, Option, None, Some, Result, IfSome, IsOk, IsSomeAnd, option_map, string_bytes}
+use Rattle.std.specs.Fmt.{WritesOnOk}
+use Rattle.std.specs.declared.fmt.Error.{Error as FormatError}
+use Rattle.std.specs.declared.fmt.Formatter.{Formatter}
 use Rattle.std.specs.declared.io.Error.{Error}
 use Rattle.souper_ir.specs.declared.parse.error.Cause.{Cause}
 use Rattle.souper_ir.specs.declared.parse.error.Cause.TheVariants.{Io as IoCause, Parse as ParseCause, Memory as MemoryCause}
@@ -64,9 +67,13 @@ shown_cause (IoCause fault) = None
 shown_cause (ParseCause refusal) = Some (shown_refusal_of refusal.value)
 shown_cause MemoryCause = Some (codes "out of memory")
 
--- the text that the error shows, but for the text of an I/O error, of which nothing is said
+-- the text that the error shows, but for the text of an I/O error, which has its own clause (`ShowsFault`)
 abbrev pub shown_error : ParseError → Option (List ℕ)
 shown_error e = shown_cause e.cause
+
+-- where r is `Ok`, g is f after writing a text that begins with `IO error: `
+abbrev pub ShowsFault : {W : Type 0} → (W → List ℕ → W → Type 0) → Formatter W → Result (Unit {0}) FormatError → Formatter W → Type 0
+ShowsFault took f r g = IsOk r → (shown : List ℕ) × WritesOnOk took f r (codes "IO error: " ++ shown) g
 
 -- the place is that of the offset in the source, which has that file name
 abbrev pub IsPlaceIn : Option (List ℕ) → List ℕ → ℕ → Place → Type 0

@@ -1,13 +1,15 @@
 //! The error of a parse.
-ghost use Rattle.std.specs.Prelude.{◌≡◌, ◌≤◌, ◌⊎◌, length, string_bytes, option_copied, IfOk, IfSome, Some};
-ghost use Rattle.std.specs.Fmt.{DisplaysOnOk, DisplaysStyledOnOk};
+ghost use Rattle.std.specs.Prelude.{◌≡◌, ◌≤◌, ◌⊎◌, ◌↔◌, length, string_bytes, option_copied, IfOk, IfSome, IsSome, Some};
+ghost use Rattle.std.specs.Fmt.{WritesOnOk, DisplaysOnOk, DisplaysStyledOnOk};
 ghost use Rattle.souper_ir.specs.Places.{direct_text};
-ghost use Rattle.souper_ir.specs.Errors.{kind_of, offset_of, fault_of, shown_error, shown_refusal_of, IsLocated, IsRefusalAt};
+ghost use Rattle.souper_ir.specs.Errors.{kind_of, offset_of, fault_of, shown_error, shown_refusal_of, IsLocated, IsRefusalAt, ShowsFault};
 
 use crate::parse::place::Place;
 use crate::parse::unstyled::write_unstyled;
+use arrayvec::ArrayString;
 use std::alloc::{AllocError, AllocFailed, Global};
 use std::error::Error;
+use std::fmt::Write;
 use std::{fmt, io};
 
 #[cfg(test)]
@@ -107,6 +109,18 @@ impl ParseError {
             _ => None,
         }
     }
+
+    /// The error of the read: `Some` exactly for the kind `Io`.
+    pub fn io_error(&self) -> Option<&io::Error>
+        ensures fault { option_copied result ≡ fault_of self.now }
+        ensures kind { IsSome result ↔ (kind_of self.now ≡ ParseErrorKind.Io) }
+    {
+        match &self.cause {
+            Cause::Io(fault) => Some(fault),
+            Cause::Parse(_) => None,
+            Cause::Memory => None,
+        }
+    }
 }
 
 // Gives a refusal its place in the source.
@@ -143,15 +157,29 @@ impl fmt::Display for Refusal {
     }
 }
 
+// An I/O error has no allocator, and its text, which the system gives, at most 279 bytes.
+fn show_fault<W: fmt::Write>(fault: &io::Error, f: &mut fmt::Formatter<W>) -> fmt::Result
+    ensures { ShowsFault W.write_str_gives f.old result f.new }
+{
+    let mut text = ArrayString::<512>::new();
+    write!(text, "{fault}")?;
+    let text = text.as_str();
+    write!(f, "IO error: {text}")
+}
+
 /// Width, fill, precision and sign play no part.
 impl fmt::Display for ParseError {
     ghost output = { shown_error };
 
     ghost styled_output = { λ error _. shown_error error };
 
-    fn fmt<W: fmt::Write>(&self, f: &mut fmt::Formatter<W>) -> fmt::Result {
+    fn fmt<W: fmt::Write>(&self, f: &mut fmt::Formatter<W>) -> fmt::Result
+        ensures writes { DisplaysOnOk W.write_str_gives f.old result (shown_error self.now) f.new }
+        ensures styled { DisplaysStyledOnOk W.write_str_gives f.old result (shown_error self.now) f.new }
+        ensures fault { kind_of self.now ≡ ParseErrorKind.Io → ShowsFault W.write_str_gives f.old result f.new }
+    {
         match &self.cause {
-            Cause::Io(fault) => write!(f, "IO error: {fault}"),
+            Cause::Io(fault) => show_fault(fault, f),
             Cause::Parse(refusal) => write_unstyled(f, refusal),
             Cause::Memory => f.write_str("out of memory"),
         }
@@ -165,6 +193,7 @@ impl fmt::Debug for ParseError {
     fn fmt<W: fmt::Write>(&self, f: &mut fmt::Formatter<W>) -> fmt::Result
         ensures writes { DisplaysOnOk W.write_str_gives f.old result (shown_error self.now) f.new }
         ensures styled { DisplaysStyledOnOk W.write_str_gives f.old result (shown_error self.now) f.new }
+        ensures fault { kind_of self.now ≡ ParseErrorKind.Io → ShowsFault W.write_str_gives f.old result f.new }
     {
         fmt::Display::fmt(self, f)
     }

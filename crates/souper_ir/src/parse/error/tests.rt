@@ -127,6 +127,12 @@ fn errors_of_no_source(rt: HostRuntime) -> Result<(), Fail> {
     let fault = io::Error::from(io::ErrorKind::NotFound);
     let error = ParseError::from(fault).locate(rt.alloc(), "", None);
     assert_eq!(&rt; (error.kind(), error.offset()), (ParseErrorKind::Io, None));
+    assert!(&rt;
+        error
+            .io_error()
+            .is_some_and(|told| told.kind() == fault.kind())
+    );
+    assert!(&rt; memory.io_error().is_none());
     let want = format!(in rt.alloc(); "IO error: {fault}")?;
     shows(&rt, rt.alloc(), &error, want.as_str())
 }
