@@ -1,10 +1,11 @@
 //! Texts that are cut off, and a long one.
-use crate::cut_texts::{
-    ATTRIBUTES, BLOCKS, DEFINITIONS, FAULTY_ATTRIBUTES, NAMES, PAIRS, PRINTED, RESULTS,
-    RIGHT_HAND_SIDES, VALUES, WAYS,
-};
 use crate::grammar::{ones, words};
 use crate::orders::chain;
+use crate::sources::{
+    ATTRIBUTES, BLOCKS, DEFINITIONS, FAULTY_ATTRIBUTES, FAULTY_REPLACEMENTS,
+    FAULTY_RIGHT_HAND_SIDES, GAPS, NAMES, PAIRS, PRINTED_PAIRS, RESULTS, RIGHT_HAND_SIDES, VALUES,
+    WAYS,
+};
 use crate::texts::thousand;
 use souper_format::command::Kind;
 use souper_format::items::read_items;
@@ -109,7 +110,9 @@ fn fronts_of_refused_texts_are_read_or_refused(rt: HostRuntime) -> Result<(), Fa
     cuts(&rt, rt.alloc(), Kind::Lhs, &NAMES)?;
     cuts(&rt, rt.alloc(), Kind::Lhs, &WAYS)?;
     cuts(&rt, rt.alloc(), Kind::Lhs, &DEFINITIONS)?;
-    cuts(&rt, rt.alloc(), Kind::Lhs, &FAULTY_ATTRIBUTES)
+    cuts(&rt, rt.alloc(), Kind::Lhs, &FAULTY_ATTRIBUTES)?;
+    cuts(&rt, rt.alloc(), Kind::Rhs, &FAULTY_RIGHT_HAND_SIDES)?;
+    cuts(&rt, rt.alloc(), Kind::Rep, &FAULTY_REPLACEMENTS)
 }
 
 #[test]
@@ -117,7 +120,8 @@ fn fronts_of_other_items_are_read_or_refused(rt: HostRuntime) -> Result<(), Fail
     cuts(&rt, rt.alloc(), Kind::Rhs, &RIGHT_HAND_SIDES)?;
     cuts(&rt, rt.alloc(), Kind::Rep, &RESULTS)?;
     cuts(&rt, rt.alloc(), Kind::Rep, &PAIRS)?;
-    cuts(&rt, rt.alloc(), Kind::Rep, &PRINTED)
+    cuts(&rt, rt.alloc(), Kind::Rep, &PRINTED_PAIRS)?;
+    cuts(&rt, rt.alloc(), Kind::Rep, &GAPS)
 }
 
 #[test]

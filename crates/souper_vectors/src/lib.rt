@@ -4,11 +4,11 @@
 #![tactic(auto)]
 
 #[cfg(test)]
+mod again;
+#[cfg(test)]
 mod changed;
 #[cfg(test)]
 mod commands;
-#[cfg(test)]
-mod cut_texts;
 #[cfg(test)]
 mod cuts;
 #[cfg(test)]
@@ -25,6 +25,10 @@ mod refusals;
 mod runs;
 #[cfg(test)]
 mod same;
+#[cfg(test)]
+mod same_runs;
+#[cfg(test)]
+mod sources;
 #[cfg(test)]
 mod streams;
 #[cfg(test)]

@@ -1,9 +1,13 @@
 //! Printed orders of items that are read.
+use souper_format::command::Kind;
+use souper_format::items::{Items, read_items};
+use souper_format::same::same;
 use souper_ir::parse::{
     parse_left_hand_sides_str, parse_replacements_str, parse_right_hand_sides_str,
 };
 use souper_ir::stringify::Order;
 use std::alloc::{AllocError, Global};
+use std::process::Abort;
 use std::test::Fail;
 
 // The number of statements in printed order, those before an infer line, and the turns.
@@ -83,17 +87,39 @@ pub fn chain(alloc: Global, doublings: u32) -> Result<String, AllocError> {
     Ok(text)
 }
 
-#[test]
-fn chain_of_doublings_prints_itself(rt: HostRuntime) -> Result<(), Fail> {
-    let source = chain(rt.alloc(), 199)?;
-    let source = source.as_str();
-    assert_eq!(rt; source.lines().count(), 201);
-    let items = parse_left_hand_sides_str(rt.alloc(), source, None)?;
-    assert_eq!(rt; items.len(), 1);
-    let item = items.first().ok_or("no item")?;
-    assert!(rt; item.to_text()?.as_str() == source);
-    assert!(rt; item.to_string(rt.alloc())?.as_str() == source);
+// The chain is read as one item that prints itself, has so many statements and turns, and is the same as itself.
+fn is_kept(
+    rt: &impl Abort,
+    alloc: Global,
+    text: &str,
+    statements: usize,
+    turns: u128,
+) -> Result<(), Fail> {
+    let source = text.strip_suffix("\n").ok_or("no newline")?;
+    let items = read_items(alloc, Kind::Lhs, source, None)?;
+    let Items::Lhs(chains) = &items else {
+        return Err(Fail::new("another kind"));
+    };
+    assert_eq!(rt; chains.len(), 1);
+    let item = chains.first().ok_or("no item")?;
+    assert!(rt; item.to_text()?.as_str() == text);
+    assert!(rt; item.to_string(alloc)?.as_str() == text);
     assert!(rt; item.is_well_formed()?);
-    assert_eq!(rt; counts(&item.print_order()?), (200, 200, 599));
+    let order = item.print_order()?;
+    assert_eq!(rt; counts(&order), (statements, statements, turns));
+    assert!(rt; same(alloc, &items, &items)?);
+    Ok(())
+}
+
+#[test]
+fn chains_of_doublings_print_themselves(rt: HostRuntime) -> Result<(), Fail> {
+    for (doublings, lines, statements, turns) in [
+        (199, 201, 200, 599),
+        (299_999, 300_001, 300_000, 899_999),
+    ] {
+        let text = chain(rt.alloc(), doublings)?;
+        assert_eq!(rt; text.lines().count(), lines);
+        is_kept(&rt, rt.alloc(), text.as_str(), statements, turns)?;
+    }
     Ok(())
 }

@@ -97,6 +97,41 @@ fn ways_into_blocks_are_judged(rt: HostRuntime) -> Result<(), Fail> {
     Ok(())
 }
 
+// The block comes first, then the predecessor's number, then the operands.
+#[test]
+fn predecessors_are_judged_after_blocks_and_before_operands(rt: HostRuntime) -> Result<(), Fail> {
+    for row in [
+        (
+            "%bb = block 1\nblockpc %bb 1 %u 1\ninfer %bb",
+            26,
+            "unknown:2:12: predecessor 1 out of range for block '%bb'\n     |\n   2 | blockpc %bb 1 %u 1\n     |            ^",
+        ),
+        (
+            "%bb = block 1\nblockpc %bb 1 1 %u\ninfer %bb",
+            26,
+            "unknown:2:12: predecessor 1 out of range for block '%bb'\n     |\n   2 | blockpc %bb 1 1 %u\n     |            ^",
+        ),
+        (
+            "%bb = block 1\nblockpc %bb 1",
+            26,
+            "unknown:2:12: predecessor 1 out of range for block '%bb'\n     |\n   2 | blockpc %bb 1\n     |            ^",
+        ),
+        (
+            "%bb = block 1\nblockpc %bb 0 %u 1\ninfer %bb",
+            28,
+            "unknown:2:14: unknown value '%u'\n     |\n   2 | blockpc %bb 0 %u 1\n     |              ^",
+        ),
+        (
+            "%x = var\nblockpc %x 1 %u 1\ninfer %x",
+            17,
+            "unknown:2:8: unknown block '%x'\n     |\n   2 | blockpc %x 1 %u 1\n     |        ^",
+        ),
+    ] {
+        refuses(&rt, rt.alloc(), Kind::Lhs, row)?;
+    }
+    Ok(())
+}
+
 #[test]
 fn other_tokens_of_definitions_are_refused(rt: HostRuntime) -> Result<(), Fail> {
     for row in [
@@ -345,6 +380,17 @@ fn numbers_out_of_range_are_refused(rt: HostRuntime) -> Result<(), Fail> {
             (
                 "unknown:1:11: ",
                 "\n     |\n   1 | %b = block -1\n     |           ^",
+            ),
+        ),
+        (
+            (
+                Kind::Lhs,
+                "%b = block 1\nblockpc %b 4294967296 %u 1\ninfer %b",
+                24,
+            ),
+            (
+                "unknown:2:11: ",
+                "\n     |\n   2 | blockpc %b 4294967296 %u 1\n     |           ^",
             ),
         ),
         (

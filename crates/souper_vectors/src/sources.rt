@@ -1,7 +1,10 @@
-//! Texts that are cut at each character, by kind and by what they show.
+//! Texts of each kind that are read, and texts that are refused.
+
+/// Gaps alone, of every kind.
+pub const GAPS: [&str; 2] = ["", ";;"];
 
 /// Left-hand sides of variables, instructions and other right sides without operands.
-pub const VALUES: [&str; 16] = [
+pub const VALUES: [&str; 20] = [
     "%a = var\n%b = var\ninfer %b",
     "%b = var\n%a = var\n%c = add %a, %b\ninfer %c",
     "%a = var\n%b = var\n%c = add %a, %b\ninfer %c",
@@ -17,14 +20,19 @@ pub const VALUES: [&str; 16] = [
     ";\u{e9}\n%x = var\ninfer %x",
     "%a = var\ninfer %a",
     "%b = var\ninfer %b",
+    "%b = var\ninfer %b\n",
+    "%x = var\ninfer %x\n",
     "%1 = var\ninfer %1\n",
+    "%999 = var\ninfer %999\n",
+    "%a = var\n%b = var\n%c = add %a, %b\ninfer %c\n",
 ];
 
 /// Left-hand sides with blocks, phis and conditions.
-pub const BLOCKS: [&str; 12] = [
+pub const BLOCKS: [&str; 13] = [
     "%bb = block 2\n%x:i8 = var\nblockpc %bb 0 %x 1\ninfer %x",
     "%bb = block 2\n%x:i8 = var\nblockpc %bb 0 1 %x\ninfer %x",
     "%x:i8 = var\n%bb = block 2\nblockpc %bb 0 %x 1\ninfer %x\n",
+    "%x:i8 = var\n%bb = block 2\nblockpc %bb 0 1 %x\ninfer %x\n",
     "%bb = block 2\n%x = var\nblockpc %bb 1 %x 1\ninfer %x",
     "%x = var\n%bb = block 2\nblockpc %bb 1 %x 1\ninfer %x\n",
     "%x:i8 = var\n%bb = block 3\nblockpc %bb 2 %x 1\ninfer %x\n",
@@ -116,21 +124,27 @@ pub const FAULTY_ATTRIBUTES: [&str; 12] = [
 ];
 
 /// Right-hand sides.
-pub const RIGHT_HAND_SIDES: [&str; 13] = [
+pub const RIGHT_HAND_SIDES: [&str; 12] = [
+    "result 1",
     "result 007:i008",
     "result -170141183460469231731687303715884105728",
-    "result 170141183460469231731687303715884105728",
-    "result -",
     "result -0",
     "result -000",
     "result 0",
     "result 7:i8",
     "result 1:i65535",
     "result 1\nresult 2",
+    "result 1\nresult 2\n",
     "%x = var\npc %x 1\nresult 2",
     "result \
      0000000000000000000000000000000000000000000000000000000000000000000000000000000000000000000000000000\
      1:i00000065535",
+];
+
+/// Refused as right-hand sides.
+pub const FAULTY_RIGHT_HAND_SIDES: [&str; 3] = [
+    "result 170141183460469231731687303715884105728",
+    "result -",
     "x",
 ];
 
@@ -140,15 +154,13 @@ pub const RESULTS: [&str; 7] = [
     "%x = var\n%y = var\npc %y 1\ninfer %x\nresult %y\n",
     "%x = var\ninfer %x\nresult 1:i8",
     "%a = var\n%b = var\ninfer %a\nresult %b",
+    "%a = var\ninfer %a\n%b = var\nresult %b\n",
     "%a = var\ninfer %a\nresult 1",
-    "%x = var\ninfer %x\ninfer %x",
     "%1 = var\ninfer %1\nresult 1\n",
 ];
 
 /// Replacements by a pair.
-pub const PAIRS: [&str; 17] = [
-    "",
-    ";;",
+pub const PAIRS: [&str; 8] = [
     "%x:i32 = var\n%2lx = slt 2, %x\npc %2lx 1\n%1lx = slt 1, %x\ncand %1lx 1\n\
      %bb = block 3\n%phi1 = phi %bb, 1:i32, 2, 3\n%phi2 = phi %bb, 2:i32, 4, 6\n\
      %phi1x2 = mul %phi1, 2\ncand %phi2 %phi1x2\n",
@@ -161,17 +173,10 @@ pub const PAIRS: [&str; 17] = [
     "%a = var\ncand %a 1",
     "cand 1-2",
     "cand 1:i8,-2",
-    "cand 1,,2",
-    "cand , 1 2",
-    "cand 1 2,",
-    "cand 1,",
-    "pc 1, 2\ncand 1 2",
-    "%x = var",
-    "x",
 ];
 
-/// Replacements as they are printed.
-pub const PRINTED: [&str; 9] = [
+/// Replacements by a pair, as they are printed.
+pub const PRINTED_PAIRS: [&str; 8] = [
     "%x:i32 = var\n%1lx = slt 1, %x\n%2lx = slt 2, %x\npc %2lx 1\ncand %1lx 1\n",
     "%bb = block 3\n%phi2 = phi %bb, 2:i32, 4, 6\n%phi1 = phi %bb, 1:i32, 2, 3\n\
      %phi1x2 = mul %phi1, 2\ncand %phi2 %phi1x2\n",
@@ -179,7 +184,19 @@ pub const PRINTED: [&str; 9] = [
     "%0 = var\n%1 = and %0, %0\ncand %1 %0\n",
     "%a = var\npc %a 1\n%b = var\npc %b 1\ncand %a 2\n",
     "%a = var\n%b = var\npc %b 1\npc %a 1\ncand %a 2\n",
-    "%a = var\ninfer %a\n%b = var\nresult %b\n",
     "cand 1 -2\n",
     "cand 1:i8 -2\n",
+];
+
+/// Refused as replacements.
+pub const FAULTY_REPLACEMENTS: [&str; 9] = [
+    "%x = var\ninfer %x\ninfer %x",
+    "%1 = var\n%1 = add %1, 1\ninfer %1\nresult 1\n",
+    "cand 1,,2",
+    "cand , 1 2",
+    "cand 1 2,",
+    "cand 1,",
+    "pc 1, 2\ncand 1 2",
+    "%x = var",
+    "x",
 ];
