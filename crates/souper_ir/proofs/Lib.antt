@@ -5,7 +5,6 @@ pub mod TokenSteps
 pub mod TokenComplete
 pub mod TokenSound
 pub mod TokenLaws
-pub mod Literal
 pub mod WhiteSpace
 pub mod Options
 pub mod Lists

@@ -138,13 +138,13 @@ last_is_gap (newline ∷ ps) g h = last_is_gap ps (g ++ 10 ∷ []) (gap_append g
 
 begins_parts : (ps : List Part) (n m : ℕ) (g : List ℕ) → IsGap g → m ≡ n + length g → AreSound ps → Begins n (g ++ printed ps) (placed m ps) (last_gap g ps)
 begins_parts [] n m g h e s = append-nil g
-begins_parts (word t ∷ ps) n m g h e s = (
-      g,
-      printed ps,
-      record { is_gap = h; is_token = s.0; is_over = stops_by (is_punctuation t) t ps refl s.1; text = refl },
-      e,
-      begins_parts ps (m + length (spelling t)) (m + length (spelling t)) [] no_gap (omega arith) s.2,
-    )
+begins_parts (word t ∷ ps) n m g h e s = record {
+  gap = g;
+  after = printed ps;
+  stands = record { is_gap = h; is_token = s.0; is_over = stops_by (is_punctuation t) t ps refl s.1; text = refl };
+  offset_is = e;
+  more = begins_parts ps (m + length (spelling t)) (m + length (spelling t)) [] no_gap (omega arith) s.2;
+}
 begins_parts (one_space ∷ ps) n m g h e s =
     subst (λ (l : List ℕ). Begins n l (placed (m + 1) ps) (last_gap (g ++ 32 ∷ []) ps)) (append_assoc g (32 ∷ []) (printed ps))
     (begins_parts ps n (m + 1) (g ++ 32 ∷ []) (gap_append g (32 ∷ []) h space_gap) (omega (arith, length-append g (32 ∷ []))) s)
@@ -157,7 +157,7 @@ pub text_from_parts : (ps : List Part) → AreSound ps → IsTextOf (printed ps)
 text_from_parts ps s = (
       last_gap [] ps,
       begins_parts ps 0 0 [] no_gap (omega arith) s,
-      (last_gap [] ps, [], last_is_gap ps [] no_gap, tt, sym (append-nil (last_gap [] ps))),
+      record { gap = last_gap [] ps; last = []; is_gap = last_is_gap ps [] no_gap; is_last = tt; text = sym (append-nil (last_gap [] ps)) },
     )
 
 -- ---- joining parts
