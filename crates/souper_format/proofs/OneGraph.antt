@@ -1,15 +1,13 @@
 -- Lemmas. Items with one text are one graph; what is formatted spells the renumbered items, and stays when it is formatted again.
-use Rattle.std.proofs.Common.{◌≡◌, ℕ, List, [], ◌∷◌, ◌++◌, map, Bool, true, refl, sym, ◌∙◌, ap, subst}
+use Rattle.std.proofs.Common.{◌≡◌, ℕ, List, [], ◌∷◌, ◌++◌, map, refl, sym, ◌∙◌, ap, subst}
 use Rattle.std.proofs.lemmas.List.{append_cancel_right}
-use Rattle.std.specs.List.{AllByRecursion}
-use Rattle.std.specs.Prelude.{flat_map, bytes_eq, IsTrue}
+use Rattle.std.specs.Prelude.{bytes_eq, IsTrue}
 use Rattle.std.proofs.lemmas.Slice.Eq.{bytes_eq-Decides}
 use Rattle.souper_graph.specs.Values.{Item}
 use Rattle.souper_graph.specs.Text.{text_of, text_with_newline, texts_of}
-use Rattle.souper_graph.specs.WellFormed.{WellFormed}
 use Rattle.souper_graph.specs.Sameness.{renumbered, SameGraph}
 use Rattle.souper_graph.specs.CanonicalText.{IsWellFormedOf, AreWellFormed}
-use Rattle.souper_graph.specs.Syntax.Spelling.{ItemType, IsEndingOf, TextSpells}
+use Rattle.souper_graph.specs.Syntax.Spelling.{ItemType, TextSpells}
 use Rattle.souper_graph.proofs.RoundTrip.ReadBack.{texts-read-back, text-again}
 use Rattle.souper_ir.proofs.ItemLists.{text_alone}
 use Rattle.souper_ir.proofs.OneText.{texts_exact, texts_spell, one_text, spelled_well_formed}

@@ -8,3 +8,12 @@ returns-in-Rhs-clause-reads_back c = rw c.in-Rhs.is c.texts_of_source-in-Rhs.ens
 
 pub returns-in-Rep-clause-reads_back : goal.returns-in-Rep-clause-reads_back
 returns-in-Rep-clause-reads_back c = rw c.in-Rep.is c.texts_of_source-in-Rep.ensures.reads_back
+
+pub returns-in-Lhs-clause-again : goal.returns-in-Lhs-clause-again
+returns-in-Lhs-clause-again c = rw c.in-Lhs.is c.texts_of_source.ensures.again
+
+pub returns-in-Rhs-clause-again : goal.returns-in-Rhs-clause-again
+returns-in-Rhs-clause-again c = rw c.in-Rhs.is c.texts_of_source-in-Rhs.ensures.again
+
+pub returns-in-Rep-clause-again : goal.returns-in-Rep-clause-again
+returns-in-Rep-clause-again c = rw c.in-Rep.is c.texts_of_source-in-Rep.ensures.again

@@ -1,4 +1,4 @@
-use Rattle.std.proofs.Common.{◌≡◌, ℕ, ◌++◌, List, [], ap, ◌∙◌}
+use Rattle.std.proofs.Common.{◌≡◌, ℕ, ◌++◌, List, ap, ◌∙◌}
 use Rattle.std.specs.String.{string_bytes}
 use Rattle.souper_graph.specs.Text.{text_with_newline}
 use Rattle.souper_format.proofs.OneGraph.{same_lines}

@@ -1,6 +1,4 @@
 use Rattle.std.proofs.Common.{[]}
-use Rattle.std.specs.String.{string_bytes}
-use Rattle.souper_format.specs.Formatted.{IsFormatted}
 use Rattle.souper_format.proofs.OneGraph.{formatted_spells, formatted_again}
 use Rattle.souper_format.proofs.texts.texts_of_source.Goals as goal
 
