@@ -1,7 +1,7 @@
 -- Writes to a formatter with any options.
 use Rattle.std.proofs.Common.{◌≡◌, ℕ, List, [], ◌∷◌, ◌++◌, refl, sym, ap, subst, ◌∙◌}
 use Rattle.std.specs.Prelude.{Option, Some, None, Result}
-use Rattle.std.specs.List.{concat, FoldsTo}
+use Rattle.std.specs.List.{FoldsTo}
 use Rattle.std.specs.Fmt.{WritesText, HasWritten, HasWrittenStyled, WritesOnOk, WritesStyledOnOk, DisplaysOnOk, DisplaysStyledOnOk}
 use Rattle.std.specs.declared.fmt.Error.{Error}
 use Rattle.std.specs.declared.fmt.Formatter.{Formatter}

@@ -1,6 +1,6 @@
 //! Laws of the definitions that the contracts of this crate cite. No function here does anything.
 
-ghost use Rattle.std.specs.Prelude.{◌≡◌, ◌↔◌, IsTrue, List, map};
+ghost use Rattle.std.specs.Prelude.{◌≡◌, ◌↔◌, ℕ, IsTrue, List, map};
 ghost use Rattle.souper_graph.specs.Values.{Item};
 ghost use Rattle.souper_graph.specs.WellFormed.{WellFormed, EachClosed};
 ghost use Rattle.souper_graph.specs.Text.{text_of, texts_of};
@@ -10,6 +10,22 @@ ghost use Rattle.souper_graph.specs.Uses.{UsesBelow};
 ghost use Rattle.souper_graph.specs.Faults.{HasBadId};
 ghost use Rattle.souper_graph.specs.Order.{printed_order, uses_below};
 ghost use Rattle.souper_graph.specs.Sameness.{OrdersNeeded, SameGraph, SameNeeded, renumbered};
+
+use crate::ast::{BlockId, Id, ValueId};
+use std::hash::Hash;
+
+/// Two ids are equal if and only if their positions are, and equal ids hash alike.
+///
+/// An id is seen as its position, which [`Id::index`] returns. The ghost members named here are what `==` and `hash`
+/// compute.
+pub fn law_of_ids<T>()
+    ensures id_equal { (a b : ℕ) → IsTrue (⟦<Id<T> as PartialEq>⟧.eq a b) ↔ (a ≡ b) }
+    ensures id_hash { (a b : ℕ) → IsTrue (⟦<Id<T> as PartialEq>⟧.eq a b) → ⟦<Id<T> as Hash>⟧.hash_input a ≡ ⟦<Id<T> as Hash>⟧.hash_input b }
+    ensures value_equal { (a b : ℕ) → IsTrue (⟦<ValueId as PartialEq>⟧.eq a b) ↔ (a ≡ b) }
+    ensures value_hash { (a b : ℕ) → IsTrue (⟦<ValueId as PartialEq>⟧.eq a b) → ⟦<ValueId as Hash>⟧.hash_input a ≡ ⟦<ValueId as Hash>⟧.hash_input b }
+    ensures block_equal { (a b : ℕ) → IsTrue (⟦<BlockId as PartialEq>⟧.eq a b) ↔ (a ≡ b) }
+    ensures block_hash { (a b : ℕ) → IsTrue (⟦<BlockId as PartialEq>⟧.eq a b) → ⟦<BlockId as Hash>⟧.hash_input a ≡ ⟦<BlockId as Hash>⟧.hash_input b }
+{}
 
 /// A well-formed item names no bad id, and each use of a needed statement lies below it.
 ///
