@@ -7,6 +7,8 @@
 #![tactic(auto)]
 
 #[cfg(test)]
+mod files;
+#[cfg(test)]
 mod growing;
 #[cfg(test)]
 mod items;

@@ -7,8 +7,8 @@ use std::alloc::Global;
 use std::process::Abort;
 use std::test::Fail;
 
-// Whether the array was given these bytes and no others.
-fn holds(array: &[u8], bytes: &[u8]) -> bool {
+/// Whether the array was given these bytes and no others.
+pub fn holds(array: &[u8], bytes: &[u8]) -> bool {
     match array.strip_prefix(bytes) {
         Some(rest) => rest.iter().all(|byte| *byte == 0),
         None => false,

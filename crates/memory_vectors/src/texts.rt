@@ -1,6 +1,6 @@
 //! Texts that are read.
 use crate::met::{Met, answered, strictly};
-use souper_ir::ast::{LeftHandSide, Replacement};
+use souper_ir::ast::{LeftHandSide, Replacement, RightHandSide};
 use souper_ir::parse::{
     ParseError, ParseErrorKind, parse_left_hand_sides_str, parse_replacements_str,
 };
@@ -37,6 +37,14 @@ pub fn replacement_text(item: &Replacement) -> Result<String, TextError> {
 
 /// The left-hand side's text, in the same way.
 pub fn left_hand_side_text(item: &LeftHandSide) -> Result<String, TextError> {
+    match item.to_text() {
+        Err(TextError::OutOfMemory) => item.to_text(),
+        other => other,
+    }
+}
+
+/// The right-hand side's text, in the same way.
+pub fn right_hand_side_text(item: &RightHandSide) -> Result<String, TextError> {
     match item.to_text() {
         Err(TextError::OutOfMemory) => item.to_text(),
         other => other,

@@ -1,0 +1,242 @@
+//! Files that are read, and files that are compared. The writers are arrays, which need no memory.
+use crate::met::{Met, answered, strictly};
+use crate::runs::holds;
+use crate::texts::{
+    ATTRIBUTES, ATTRIBUTES_TEXT, TWO_ITEMS, TWO_TEXTS, left_hand_side_text, replacement_text,
+    right_hand_side_text, shown, wants_memory,
+};
+use souper_format::command::Kind;
+use souper_format::same_run::same_run;
+use souper_format::watched::Watched;
+use souper_ir::parse::{
+    ParseError, ParseErrorKind, parse_left_hand_sides_file, parse_replacements_file,
+    parse_right_hand_sides_file,
+};
+use std::alloc::Global;
+use std::fs;
+use std::process::Abort;
+use std::rt::Files;
+use std::test::Fail;
+
+// The error is want of memory, or tells of a read that failed.
+fn is_for_memory(rt: &impl Abort, alloc: Global, error: &ParseError) -> Result<(), Fail> {
+    if error.kind() != ParseErrorKind::Io {
+        return wants_memory(rt, alloc, error);
+    }
+    assert!(rt; error.offset().is_none());
+    let text = shown(alloc, error)?;
+    assert!(rt; text.as_str().starts_with("IO error: "));
+    Ok(())
+}
+
+// Reads the item with attributes.
+fn attributes<R: Files + AllocGlobal + Abort>(rt: &R, alloc: Global) -> Result<Met, Fail> {
+    let Ok(()) = fs::write(rt, "attributes", ATTRIBUTES) else {
+        return Ok(Met::Unreached);
+    };
+    match parse_left_hand_sides_file(rt, alloc, "attributes") {
+        Ok(items) => {
+            let met = answered(alloc);
+            assert_eq!(rt; items.len(), 1);
+            for item in items.iter() {
+                let text = left_hand_side_text(item)?;
+                assert_eq!(rt; text.as_str(), ATTRIBUTES_TEXT);
+            }
+            Ok(met)
+        }
+        Err(error) => {
+            is_for_memory(rt, alloc, &error)?;
+            Ok(Met::Refused)
+        }
+    }
+}
+
+#[test]
+fn reading_left_hand_sides_answers(rt: HostRuntime) -> Result<(), Fail> {
+    strictly(attributes(&rt, rt.alloc())?)
+}
+
+#[test]
+fn reading_left_hand_sides(rt: HostRuntime) -> Result<(), Fail> {
+    attributes(&rt, rt.alloc())?;
+    Ok(())
+}
+
+// Reads two results.
+fn results<R: Files + AllocGlobal + Abort>(rt: &R, alloc: Global) -> Result<Met, Fail> {
+    let Ok(()) = fs::write(rt, "results", "result 1\nresult 2") else {
+        return Ok(Met::Unreached);
+    };
+    match parse_right_hand_sides_file(rt, alloc, "results") {
+        Ok(items) => {
+            let met = answered(alloc);
+            assert_eq!(rt; items.len(), 2);
+            for (item, want) in items.iter().zip(&["result 1", "result 2"]) {
+                let text = right_hand_side_text(item)?;
+                assert_eq!(rt; text.as_str(), *want);
+            }
+            Ok(met)
+        }
+        Err(error) => {
+            is_for_memory(rt, alloc, &error)?;
+            Ok(Met::Refused)
+        }
+    }
+}
+
+#[test]
+fn reading_right_hand_sides_answers(rt: HostRuntime) -> Result<(), Fail> {
+    strictly(results(&rt, rt.alloc())?)
+}
+
+#[test]
+fn reading_right_hand_sides(rt: HostRuntime) -> Result<(), Fail> {
+    results(&rt, rt.alloc())?;
+    Ok(())
+}
+
+// Reads the two items.
+fn two_items<R: Files + AllocGlobal + Abort>(rt: &R, alloc: Global) -> Result<Met, Fail> {
+    let Ok(()) = fs::write(rt, "two_items", TWO_ITEMS) else {
+        return Ok(Met::Unreached);
+    };
+    match parse_replacements_file(rt, alloc, "two_items") {
+        Ok(items) => {
+            let met = answered(alloc);
+            assert_eq!(rt; items.len(), 2);
+            for (item, want) in items.iter().zip(&TWO_TEXTS) {
+                let text = replacement_text(item)?;
+                assert_eq!(rt; text.as_str(), *want);
+            }
+            Ok(met)
+        }
+        Err(error) => {
+            is_for_memory(rt, alloc, &error)?;
+            Ok(Met::Refused)
+        }
+    }
+}
+
+#[test]
+fn reading_replacements_answers(rt: HostRuntime) -> Result<(), Fail> {
+    strictly(two_items(&rt, rt.alloc())?)
+}
+
+#[test]
+fn reading_replacements(rt: HostRuntime) -> Result<(), Fail> {
+    two_items(&rt, rt.alloc())?;
+    Ok(())
+}
+
+const REFUSED: &str = "infer %x";
+
+const REFUSAL: &str =
+    "refused:1:6: no value named '%x' in scope\n     |\n   1 | infer %x\n     |      ^\n";
+
+// Refuses a text, and shows the path.
+fn refusal<R: Files + AllocGlobal + Abort>(rt: &R, alloc: Global) -> Result<Met, Fail> {
+    let Ok(()) = fs::write(rt, "refused", REFUSED) else {
+        return Ok(Met::Unreached);
+    };
+    let Err(error) = parse_left_hand_sides_file(rt, alloc, "refused") else {
+        return Err(Fail::new("a name is unknown"));
+    };
+    if error.kind() != ParseErrorKind::Parse {
+        is_for_memory(rt, alloc, &error)?;
+        return Ok(Met::Refused);
+    }
+    let met = answered(alloc);
+    assert!(rt; error.offset() == Some(6));
+    let text = shown(alloc, &error)?;
+    assert!(rt; REFUSAL.strip_suffix("\n") == Some(text.as_str()));
+    Ok(met)
+}
+
+#[test]
+fn refusing_a_file_answers(rt: HostRuntime) -> Result<(), Fail> {
+    strictly(refusal(&rt, rt.alloc())?)
+}
+
+#[test]
+fn refusing_a_file(rt: HostRuntime) -> Result<(), Fail> {
+    refusal(&rt, rt.alloc())?;
+    Ok(())
+}
+
+const FIRST: &str = "%b = var\n%a = var\n%c = add %a, %b\ninfer %c";
+
+const SECOND: &str = "%a = var\n%b = var\n%c = add %a, %b\ninfer %c";
+
+// Compares two files, which ends in this status with these bytes, or in want of memory.
+fn compare<R: Files + AllocGlobal + Abort>(
+    rt: &R,
+    alloc: Global,
+    (first, second): (&str, &str),
+    want: u8,
+    output: &[u8],
+    line: &[u8],
+) -> Result<Met, Fail> {
+    let mut written = [0u8; 100];
+    let mut told = [0u8; 100];
+    let mut out = Watched::new(written.as_mut_slice());
+    let mut err = Watched::new(told.as_mut_slice());
+    let status = same_run(rt, alloc, Kind::Lhs, first, second, &mut out, &mut err);
+    let met = if status == want {
+        answered(alloc)
+    } else {
+        Met::Refused
+    };
+    assert!(rt; !out.failed() && !err.failed());
+    if status == want {
+        assert!(rt; holds(&written, output) && holds(&told, line));
+    } else {
+        assert_eq!(rt; status, 3);
+        assert!(rt; holds(&written, b""));
+        assert!(rt; holds(&told, b"out of memory\n") || told.as_slice().starts_with(b"IO error: "));
+    }
+    Ok(met)
+}
+
+// Files that differ in the order of their definitions.
+fn comparison<R: Files + AllocGlobal + Abort>(rt: &R, alloc: Global) -> Result<Met, Fail> {
+    let Ok(()) = fs::write(rt, "first", FIRST) else {
+        return Ok(Met::Unreached);
+    };
+    let Ok(()) = fs::write(rt, "second", SECOND) else {
+        return Ok(Met::Unreached);
+    };
+    compare(rt, alloc, ("first", "second"), 0, b"same\n", b"")
+}
+
+#[test]
+fn comparing_files_answers(rt: HostRuntime) -> Result<(), Fail> {
+    strictly(comparison(&rt, rt.alloc())?)
+}
+
+#[test]
+fn comparing_files(rt: HostRuntime) -> Result<(), Fail> {
+    comparison(&rt, rt.alloc())?;
+    Ok(())
+}
+
+// Files of which the second is refused.
+fn refused_comparison<R: Files + AllocGlobal + Abort>(rt: &R, alloc: Global) -> Result<Met, Fail> {
+    let Ok(()) = fs::write(rt, "first", FIRST) else {
+        return Ok(Met::Unreached);
+    };
+    let Ok(()) = fs::write(rt, "refused", REFUSED) else {
+        return Ok(Met::Unreached);
+    };
+    compare(rt, alloc, ("first", "refused"), 1, b"", REFUSAL.as_bytes())
+}
+
+#[test]
+fn telling_a_refused_file_answers(rt: HostRuntime) -> Result<(), Fail> {
+    strictly(refused_comparison(&rt, rt.alloc())?)
+}
+
+#[test]
+fn telling_a_refused_file(rt: HostRuntime) -> Result<(), Fail> {
+    refused_comparison(&rt, rt.alloc())?;
+    Ok(())
+}
