@@ -16,7 +16,7 @@ use Rattle.souper_ir.specs.declared.parse.ParseErrorKind.{ParseErrorKind}
 use Rattle.souper_ir.specs.declared.parse.ParseErrorKind.TheVariants.{Io, Parse, Memory}
 use Rattle.souper_format.specs.declared.items.Items.{Items}
 use Rattle.souper_format.specs.Kinds.{kind_of_items, view_items}
-use Rattle.souper_format.specs.Streams.{Stream, IsGiven, IsGivenNothing}
+use Rattle.souper_format.specs.Streams.{Stream, IsGivenNothing}
 use Rattle.souper_format.specs.Telling.{ToldLine, ToldMemory, ToldFault, StoppedByMemory, ErrorTold}
 use Rattle.souper_format.specs.Runs.{OnStatus}
 use Rattle.souper_format.specs.Same.{SameItems}
