@@ -1,6 +1,4 @@
 //! Runs of the program by its words, over files, readers and writers in memory.
-ghost use Rattle.souper_format.specs.SameRuns.{FileRead};
-
 use crate::streams::FaultyWriter;
 use souper_format::dispatch::run_command;
 use souper_format::files::TextFiles;
