@@ -1,1 +1,2 @@
 mod Conditions
+pub mod RoundTrips

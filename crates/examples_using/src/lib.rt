@@ -1,4 +1,4 @@
-//! The examples of `docs/USING.md`: texts that are read, walked, built, changed and compared.
+//! The examples of `docs/USING.md`: texts that are read, walked, built, changed, compared and printed.
 #![tactic(auto)]
 
 pub mod building;
@@ -6,4 +6,5 @@ pub mod changing;
 pub mod comparing;
 pub mod fragments;
 pub mod reading;
+pub mod round_trip;
 pub mod walking;

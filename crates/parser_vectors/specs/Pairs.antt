@@ -1,4 +1,4 @@
--- Pairs of constants: their grammar, and that it is one a parser can follow.
+-- Lemmas. Pairs of constants: their grammar, and that it is one a parser can follow.
 use Rattle.std.specs.Prelude.{◌≡◌, Bool, List, [], ◌∷◌, ◌++◌}
 use Rattle.std.proofs.Common.{sym, ◌∙◌, ap, subst}
 use Rattle.souper_graph.specs.declared.ast.operands.Constant.{Constant}

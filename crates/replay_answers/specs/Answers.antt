@@ -1,4 +1,4 @@
--- What a stored answer says of its text.
+-- Definitions. What a stored answer says of its text.
 use Rattle.std.specs.Prelude.{ℕ, List, [], Bool, true, false}
 use Rattle.souper_graph.specs.Syntax.Spelling.{ItemType, SpellsNone}
 use Rattle.souper_format.specs.Formatted.{IsFormatted}

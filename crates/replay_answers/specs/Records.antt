@@ -1,4 +1,4 @@
--- The bytes of a record.
+-- Definitions. The bytes of a record.
 use Rattle.std.specs.Prelude.{◌≡◌, ℕ, List, ◌∷◌, ◌++◌}
 use Rattle.replay_answers.specs.declared.records.Record.{Record}
 use Rattle.replay_answers.specs.Words.{IsHead}

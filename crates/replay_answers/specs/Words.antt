@@ -1,4 +1,4 @@
--- The first words of a record's head.
+-- Definitions. The first words of a record's head.
 use Rattle.std.specs.Prelude.{◌≡◌, ℕ, List, ◌∷◌, ◌++◌, Bool, true, false, Option, Some, None, if◌then◌else◌, codes, bytes_eq}
 use Rattle.souper_format.specs.declared.command.Kind.{Kind}
 use Rattle.souper_format.specs.Commands.{kind_of_word}

@@ -1,4 +1,4 @@
--- The commands, as words.
+-- Definitions. The commands, as words.
 use Rattle.std.specs.Prelude.{ℕ, List, [], ◌∷◌, Option, None, Some, if◌then◌else◌, codes, bytes_eq, string_bytes, String, option_map}
 use Rattle.std.specs.declared.alloc.Global.{Global}
 use Rattle.souper_format.specs.declared.command.Kind.{Kind}

@@ -1,4 +1,4 @@
--- Definitions: what a run of the program says, by the command that its words name.
+-- Definitions. What a run of the program says, by the command that its words name.
 use Rattle.std.specs.Prelude.{◌≡◌, ℕ, List, [], ◌∷◌, ◌++◌, false, codes, string_bytes, Option, None, Some}
 use Rattle.souper_format.specs.declared.command.Command.{Command}
 use Rattle.souper_format.specs.declared.command.Command.TheVariants.{Format, Same}

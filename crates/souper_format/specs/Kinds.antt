@@ -1,4 +1,4 @@
--- A list of items of one kind, as plain data.
+-- Definitions. A list of items of one kind, as plain data.
 use Rattle.std.specs.Prelude.{List, map}
 use Rattle.souper_graph.specs.Values.{Item}
 use Rattle.souper_graph.specs.View.{view_left_hand_side, view_right_hand_side, view_replacement}

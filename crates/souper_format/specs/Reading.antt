@@ -1,4 +1,4 @@
--- What it means to have read a stream to its end.
+-- Definitions. What it means to have read a stream to its end.
 use Rattle.std.specs.Prelude.{◌≡◌, ℕ, List, true, false}
 use Rattle.std.specs.Str.{IsUtf8}
 use Rattle.std.specs.Io.KnownBytes.{Consumes, IsAtEnd}

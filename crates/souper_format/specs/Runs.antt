@@ -1,4 +1,4 @@
--- What each status of a run says of the reader, of the writers and of what was read.
+-- Definitions. What each status of a run says of the reader, of the writers and of what was read.
 use Rattle.std.specs.Prelude.{◌≡◌, ℕ, zero, suc, ◌≤◌, List, [], ◌∷◌, ◌++◌, true, false, length, Option, None, IfSome, ◌⊎◌}
 use Rattle.std.specs.Str.{IsUtf8}
 use Rattle.souper_graph.specs.Syntax.Spelling.{ItemType, SpellsNone}

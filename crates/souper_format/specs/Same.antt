@@ -1,4 +1,4 @@
--- When two lists have pairwise the same graphs.
+-- Definitions. When two lists have pairwise the same graphs.
 use Rattle.std.specs.Prelude.{◌≡◌}
 use Rattle.std.specs.List.{AllZip}
 use Rattle.souper_graph.specs.Sameness.{SameGraph}

@@ -1,4 +1,4 @@
--- Definitions: what each status of a comparison of two files says of the two reads and of the writers.
+-- Definitions. What each status of a comparison of two files says of the two reads and of the writers.
 use Rattle.std.specs.Prelude.{◌≡◌, ℕ, List, [], ◌∷◌, ◌++◌, true, false, codes, string_bytes, Some, Result, Ok, Err, String, ◌⊎◌}
 use Rattle.std.specs.List.{AllZip}
 use Rattle.std.specs.declared.alloc.Global.{Global}

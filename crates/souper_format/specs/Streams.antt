@@ -1,4 +1,4 @@
--- What calls did to a stream.
+-- Definitions. What calls did to a stream.
 use Rattle.std.specs.Prelude.{ℕ, List, Bool, Option}
 use Rattle.std.specs.Io.KnownBytes.{Appends, Keeps}
 use Rattle.souper_format.specs.declared.watched.Watched.{Watched}

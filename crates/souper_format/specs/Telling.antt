@@ -1,4 +1,4 @@
--- The lines that are written of an error.
+-- Definitions. The lines that are written of an error.
 use Rattle.std.specs.Prelude.{◌≡◌, ℕ, List, [], ◌∷◌, ◌++◌, false, codes, IfSome, ◌⊎◌}
 use Rattle.souper_ir.specs.Errors.{kind_of, shown_error, OnKind}
 use Rattle.souper_ir.specs.declared.parse.ParseError.{ParseError}

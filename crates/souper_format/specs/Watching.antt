@@ -1,4 +1,4 @@
--- What a clause reads of a `Watched` stream.
+-- Definitions. What a clause reads of a `Watched` stream.
 use Rattle.std.specs.Prelude.{Bool}
 use Rattle.souper_format.specs.declared.watched.Watched.{Watched}
 

@@ -1,4 +1,4 @@
--- What the builders add to their arenas, and what they ask for.
+-- Definitions. What the builders add to their arenas, and what they ask for.
 use Rattle.std.specs.Prelude.{◌≡◌, ℕ, List, ◌∷◌, decimal, Option, Some, None, slice_get}
 use Rattle.std.specs.declared.alloc.Global.{Global}
 use Rattle.std.specs.declared.string.String.{String}

@@ -1,4 +1,4 @@
--- Ids that name nothing that they may name, and what is answered for them.
+-- Definitions. Ids that name nothing that they may name, and what is answered for them.
 use Rattle.std.specs.Prelude.{ℕ, ◌<◌, ◌≤◌, ◌⊎◌, ◌++◌, length, List, Option, Some, None, slice_get, codes, decimal}
 use Rattle.souper_graph.specs.declared.stringify.errors.TextError.{TextError}
 use Rattle.souper_graph.specs.declared.stringify.errors.TextError.TheVariants.{OutOfRange, NotAnAssignment, NotABlock, OutOfMemory}

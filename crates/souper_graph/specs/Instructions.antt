@@ -1,4 +1,4 @@
--- The instructions: their words, their operands, and a change of each operand.
+-- Definitions. The instructions: their words, their operands, and a change of each operand.
 use Rattle.std.specs.Prelude.{ℕ, List, [], ◌∷◌, codes}
 use Rattle.souper_graph.specs.declared.ast.operands.Operand.{Operand}
 use Rattle.souper_graph.specs.declared.ast.instructions.Instruction.{Instruction}

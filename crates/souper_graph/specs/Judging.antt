@@ -1,4 +1,4 @@
--- What the judges of single statements, of endings and of names answer.
+-- Definitions. What the judges of single statements, of endings and of names answer.
 use Rattle.std.specs.Prelude.{ℕ, ◌<◌, length, List, Option, Some, None, slice_get}
 use Rattle.std.specs.List.{AllByRecursion}
 use Rattle.souper_graph.specs.Values.{PlainStatement, assigned, condition, block_condition, Ending}

@@ -1,4 +1,4 @@
--- The bytes of types, constants, blocks and attributes.
+-- Definitions. The bytes of types, constants, blocks and attributes.
 use Rattle.std.specs.Prelude.{ℕ, Bool, true, false, List, [], ◌∷◌, ◌++◌, map, flat_map, codes, decimal, Option, Some, None}
 use Rattle.std.specs.Fmt.{signed_decimal}
 use Rattle.souper_graph.specs.declared.ast.operands.«Type».{«Type» as Ty}

@@ -1,4 +1,4 @@
--- What an arena ends as, where a `&mut` to one of its items is returned.
+-- Definitions. What an arena ends as, where a `&mut` to one of its items is returned.
 use Rattle.std.specs.Prelude.{ℕ, List, Option, slice_set}
 use Rattle.std.specs.Borrow.{LendsIf, Fml, RattleType, MutBor}
 use Rattle.souper_graph.specs.contracts.ast.arenas.Arena.{the_row}

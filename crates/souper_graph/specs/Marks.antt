@@ -1,4 +1,4 @@
--- Marks that are kept as bits of words.
+-- Definitions. Marks that are kept as bits of words.
 use Rattle.std.specs.Prelude.{ℕ, ◌/◌, ◌%◌, Bool, List, map, get_or, nat_eq}
 use Rattle.std.specs.List.{range_with_len}
 use Rattle.std.specs.Int.{bit_at}

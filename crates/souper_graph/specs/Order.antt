@@ -1,4 +1,4 @@
--- The printed order of an item, by full unfoldings, and what it costs to find it.
+-- Definitions. The printed order of an item, by full unfoldings, and what it costs to find it.
 use Rattle.std.specs.Prelude.{◌≡◌, ℕ, zero, suc, ◌+◌, ◌-◌, ◌^◌, min, ◌++◌, not, nat_lt, nat_eq, Bool, true, ◌&&◌, List, [], ◌∷◌, flat_map, filter, length}
 use Rattle.souper_graph.specs.Values.{PlainStatement, Item}
 use Rattle.souper_graph.specs.Uses.{Has, used_at, first_walks, walks_of}

@@ -1,4 +1,4 @@
--- When two items are the same graph, and an item renumbered.
+-- Definitions. When two items are the same graph, and an item renumbered.
 use Rattle.std.specs.Prelude.{◌≡◌, ◌↔◌, ℕ, suc, ◌<◌, List, [], ◌∷◌, map, flat_map, if◌then◌else◌, nat_eq, Option, Some, None, slice_get}
 use Rattle.souper_graph.specs.declared.ast.operands.Operand.{Operand}
 use Rattle.souper_graph.specs.declared.ast.operands.Operand.TheVariants.{Value, Constant}

@@ -1,4 +1,4 @@
--- What `Display` writes of an item whose statements need not be in printed order.
+-- Definitions. What `Display` writes of an item whose statements need not be in printed order.
 use Rattle.std.specs.Prelude.{ℕ, List, Result, IsOk}
 use Rattle.std.specs.Fmt.{WritesOnOk, WritesStyledOnOk}
 use Rattle.std.specs.declared.fmt.Error.{Error}

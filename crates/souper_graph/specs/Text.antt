@@ -1,4 +1,4 @@
--- The canonical text of an item: the lines of its needed statements in printed order, with its last lines.
+-- Definitions. The canonical text of an item: the lines of its needed statements in printed order, with its last lines.
 use Rattle.std.specs.Prelude.{◌≡◌, ℕ, ◌≤◌, ◌↔◌, List, [], ◌∷◌, ◌++◌, length, flat_map, take, drop, codes, decimal, Option, Some, None, if◌then◌else◌, slice_get}
 use Rattle.souper_graph.specs.declared.ast.operands.Operand.{Operand}
 use Rattle.souper_graph.specs.declared.ast.operands.Operand.TheVariants.{Value, Constant}

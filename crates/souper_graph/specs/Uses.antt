@@ -1,4 +1,4 @@
--- Which positions a node names, and which statements an item needs.
+-- Definitions. Which positions a node names, and which statements an item needs.
 use Rattle.std.specs.Prelude.{◌≡◌, ℕ, suc, ◌<◌, ◌⊎◌, Bool, true, false, List, [], ◌∷◌, ◌++◌, map, flat_map, Option, Some, None, if◌then◌else◌, slice_get}
 use Rattle.souper_graph.specs.declared.ast.operands.Operand.{Operand}
 use Rattle.souper_graph.specs.declared.ast.operands.Operand.TheVariants.{Value, Constant}

@@ -1,4 +1,4 @@
--- Nodes as plain data: lists in place of `Vec` and `String`, positions in place of ids, and nothing else different.
+-- Definitions. Nodes as plain data: lists in place of `Vec` and `String`, positions in place of ids, and nothing else different.
 use Rattle.std.specs.Prelude.{ℕ, ℤ, Bool, List, Option}
 use Rattle.souper_graph.specs.declared.ast.operands.«Type».{«Type» as Ty}
 use Rattle.souper_graph.specs.declared.ast.operands.Operand.{Operand}

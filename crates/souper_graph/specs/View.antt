@@ -1,4 +1,4 @@
--- Each node as plain data.
+-- Definitions. Each node as plain data.
 use Rattle.std.specs.Prelude.{map}
 use Rattle.std.specs.String.{string_bytes}
 use Rattle.souper_graph.specs.declared.ast.attributes.Attribute.{Attribute}

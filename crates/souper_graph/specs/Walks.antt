@@ -1,4 +1,4 @@
--- What the walks over a graph trace: its roots, its path conditions, and what these lead to.
+-- Definitions. What the walks over a graph trace: its roots, its path conditions, and what these lead to.
 use Rattle.std.specs.Prelude.{◌≡◌, ℕ, ◌<◌, ◌≤◌, ◌++◌, ◌↔◌, length, List, [], map, slice_get, take}
 use Rattle.souper_graph.specs.declared.stringify.errors.TextError.{TextError}
 use Rattle.souper_graph.specs.declared.stringify.errors.TextError.TheVariants.{OutOfRange, NotAnAssignment, NotABlock, OutOfMemory}

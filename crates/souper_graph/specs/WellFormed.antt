@@ -1,4 +1,4 @@
--- When an item is well formed. Statements that it does not need are not judged.
+-- Definitions. When an item is well formed. Statements that it does not need are not judged.
 use Rattle.std.specs.Prelude.{◌≡◌, ℕ, ◌<◌, ◌^◌, List, Option, Some, None, length, slice_get, FitsSigned}
 use Rattle.std.specs.Int.{w128}
 use Rattle.std.specs.List.{AllByRecursion}

@@ -1,4 +1,4 @@
--- What a call answers for a text that it refuses.
+-- Definitions. What a call answers for a text that it refuses.
 use Rattle.std.specs.Prelude.{◌≡◌, ℕ, ◌≤◌, List, length, Option, Some}
 use Rattle.souper_ir.specs.declared.parse.error.ParseError.{ParseError}
 use Rattle.souper_ir.specs.Errors.{kind_of, offset_of, shown_error, OnKind}

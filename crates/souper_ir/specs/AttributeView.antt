@@ -1,4 +1,4 @@
--- What the code's kinds of attributes are seen as.
+-- Definitions. What the code's kinds of attributes are seen as.
 use Rattle.std.specs.Prelude.{Bool, true, false}
 use Rattle.souper_ir.specs.declared.parse.attributes.Kind.{Kind}
 use Rattle.souper_ir.specs.declared.parse.attributes.Kind.TheVariants.{KnownBits, PowerOfTwo, Negative, NonNegative, NonZero, HasExternalUses, SignBits, Range}

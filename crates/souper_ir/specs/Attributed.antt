@@ -1,4 +1,4 @@
--- A node with attributes behind it: which tokens are its two parts, and what parsing one and then the other gives.
+-- Lemmas. A node with attributes behind it: which tokens are its two parts, and what parsing one and then the other gives.
 use Rattle.std.proofs.Common.{◌≡◌, true, List, [], ◌∷◌, ◌++◌, refl, sym, subst, ◌⊎◌, inl, inr}
 use Rattle.souper_ir.specs.declared.parse.error.ParseError.{ParseError}
 use Rattle.souper_ir.specs.Parsing.{Parsing}

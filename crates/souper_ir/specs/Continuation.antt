@@ -1,4 +1,4 @@
--- Which tokens continue a value, behind its spelling.
+-- Definitions. Which tokens continue a value, behind its spelling.
 use Rattle.std.specs.Prelude.{◌≡◌, ◌⊎◌, List, [], ◌∷◌, Option, Some, None}
 use Rattle.souper_graph.specs.declared.ast.operands.«Type».{«Type» as Ty}
 use Rattle.souper_graph.specs.declared.ast.operands.Constant.{Constant}

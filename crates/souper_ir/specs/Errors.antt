@@ -1,4 +1,4 @@
--- What an error tells: its kind, its offset and the text that it shows.
+-- Definitions. What an error tells: its kind, its offset and the text that it shows.
 use Rattle.std.specs.Prelude.{◌≡◌, ℕ, List, ◌++◌, ◌⊎◌, codes, Option, None, Some, Result, IfSome, IsOk, IsSomeAnd, option_map, string_bytes}
 use Rattle.std.specs.Fmt.{WritesOnOk}
 use Rattle.std.specs.declared.fmt.Error.{Error as FormatError}

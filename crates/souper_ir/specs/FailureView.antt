@@ -1,4 +1,4 @@
--- What a failure of the code is seen as.
+-- Definitions. What a failure of the code is seen as.
 use Rattle.souper_ir.specs.declared.parse.parser.Failure.{Failure}
 use Rattle.souper_ir.specs.declared.parse.parser.Failure.TheVariants.{Refused, Memory}
 use Rattle.souper_ir.specs.Parsing.{Cause, refused, no_memory}

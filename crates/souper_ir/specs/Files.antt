@@ -1,4 +1,4 @@
--- What a call answers to what the read of a file gave.
+-- Definitions. What a call answers to what the read of a file gave.
 use Rattle.std.specs.Prelude.{◌≡◌, ℕ, List, [], map, IfOk, IfErr, IsOkAnd, Result, Ok, Err, Some, String, Vec, string_bytes}
 use Rattle.std.specs.List.{AllByRecursion}
 use Rattle.std.specs.IoError.{error_kind}

@@ -1,4 +1,4 @@
--- What it is to parse a value, whatever the value is.
+-- Definitions. What it is to parse a value, whatever the value is.
 use Rattle.std.specs.Prelude.{◌≡◌, ℕ, Bool, true, false, List, [], ◌∷◌, ◌++◌, Option, Some, None, ◌⊎◌}
 use Rattle.souper_ir.specs.declared.parse.error.ParseError.{ParseError}
 use Rattle.souper_ir.specs.Parsing.{Parsing}

@@ -1,4 +1,4 @@
--- Items: what the statements' loop keeps, and that nothing is spelled where it is stuck.
+-- Lemmas. Items: what the statements' loop keeps, and that nothing is spelled where it is stuck.
 use Rattle.std.proofs.Common.{◌≡◌, ℕ, ◌<◌, Bool, true, false, List, [], ◌∷◌, ◌++◌, length, None, refl, sym, ◌∙◌, ap, subst, inl, inr, append_assoc, arith}
 use Rattle.std.specs.Prelude.{codes}
 use Rattle.std.proofs.lemmas.List.{append-nil, append_cancel_left, length-append}

@@ -1,4 +1,4 @@
--- Items that a parser takes, one after the other.
+-- Definitions. Items that a parser takes, one after the other.
 use Rattle.std.specs.Prelude.{◌≡◌, ℕ, false, List, [], ◌++◌, None}
 use Rattle.souper_graph.specs.Values.{Item}
 use Rattle.souper_ir.specs.declared.parse.error.ParseError.{ParseError}

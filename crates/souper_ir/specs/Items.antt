@@ -1,4 +1,4 @@
--- Statements in a row, and where no item is spelled behind them.
+-- Definitions. Statements in a row, and where no item is spelled behind them.
 use Rattle.std.specs.Prelude.{◌≡◌, ◌⊎◌, ℕ, Bool, true, false, List, [], ◌∷◌, ◌++◌, None}
 use Rattle.souper_graph.specs.Values.{PlainStatement}
 use Rattle.souper_ir.specs.declared.parse.error.ParseError.{ParseError}

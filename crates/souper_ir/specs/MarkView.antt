@@ -1,4 +1,4 @@
--- What contracts see of punctuation marks.
+-- Definitions. What contracts see of punctuation marks.
 use Rattle.souper_ir.specs.declared.parse.tokens.Mark.{Mark}
 use Rattle.souper_ir.specs.declared.parse.tokens.Mark.TheVariants.{Comma, Colon, Equals, OpenParen, CloseParen, OpenBracket}
 use Rattle.souper_graph.specs.Syntax.Tokens.{Lexeme, comma, colon, equals, open_paren, close_paren, open_bracket}

@@ -1,4 +1,4 @@
--- How each node is read from the tokens to come.
+-- Definitions. How each node is read from the tokens to come.
 use Rattle.std.specs.Prelude.{ℕ, zero, suc, ◌^◌, Bool, true, false, List, [], ◌∷◌, Option, Some, None, is_some, if◌then◌else◌, codes, bytes_eq, nat_lt}
 use Rattle.souper_graph.specs.declared.ast.operands.«Type».{«Type» as Ty}
 use Rattle.souper_graph.specs.declared.ast.operands.Constant.{Constant}

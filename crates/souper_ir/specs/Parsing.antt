@@ -1,4 +1,4 @@
--- What a parser has before it.
+-- Definitions. What a parser has before it.
 use Rattle.std.specs.Prelude.{ℕ, Bool, List, Option}
 use Rattle.souper_graph.specs.Syntax.Tokens.{Lexeme}
 use Rattle.souper_graph.specs.Syntax.Spelling.{Scope}

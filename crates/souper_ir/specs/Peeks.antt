@@ -1,4 +1,4 @@
--- What a peek tells.
+-- Lemmas. What a peek tells.
 use Rattle.std.proofs.Common.{◌≡◌, ℕ, Bool, true, false, List, [], ◌∷◌, ◌++◌, Option, Some, None, refl, sym, ◌∙◌, ap}
 use Rattle.souper_ir.specs.Parsing.{Cause, Parsing}
 use Rattle.souper_graph.specs.Syntax.Tokens.{Lexeme}

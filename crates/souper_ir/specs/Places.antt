@@ -1,4 +1,4 @@
--- The place of an offset in a source, and the text that shows a refusal there.
+-- Definitions. The place of an offset in a source, and the text that shows a refusal there.
 use Rattle.std.specs.Prelude.{◌≡◌, ℕ, ◌+◌, ◌-◌, ◌≤◌, List, [], ◌∷◌, ◌++◌, ◌⊎◌, ◌==◌, length, replicate, count_by, codes, decimal, Option, None, Some}
 
 -- the byte is the last of the text

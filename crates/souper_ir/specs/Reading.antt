@@ -1,4 +1,4 @@
--- Reading from left to right: a value and the parser behind it, or none.
+-- Definitions, and two lemmas on them. Reading from left to right: a value and the parser behind it, or none.
 use Rattle.std.specs.Prelude.{◌≡◌, ℕ, ◌≤◌, ◌≢◌, Bool, true, false, List, [], ◌∷◌, Option, Some, None, Result, Ok, Err, option_map, IsSomeAnd}
 use Rattle.std.proofs.Common.{◌∙◌}
 use Rattle.souper_graph.specs.Syntax.Optional.{◌>>=◌}

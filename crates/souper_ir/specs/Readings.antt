@@ -1,4 +1,4 @@
--- From a reading that is sound and complete to what the traits ask.
+-- Lemmas. From a reading that is sound and complete to what the traits ask.
 use Rattle.std.proofs.Common.{◌≡◌, false, List, [], ◌∷◌, ◌++◌, map, Option, Some, None, Result, Ok, Err, refl, sym, ◌∙◌, ap, subst}
 use Rattle.std.proofs.lemmas.List.{append_cancel_right}
 use Rattle.std.specs.Prelude.{IfOk, IfErr}

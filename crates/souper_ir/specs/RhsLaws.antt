@@ -1,4 +1,4 @@
--- Right sides: what is read is spelled so, and what is spelled so is read.
+-- Lemmas. Right sides: what is read is spelled so, and what is spelled so is read.
 use Rattle.std.proofs.Common.{◌≡◌, ℕ, ◌^◌, Bool, true, List, [], ◌∷◌, ◌++◌, length, Option, Some, None, refl, sym, ◌∙◌, ap, subst}
 use Rattle.std.specs.Prelude.{codes}
 use Rattle.souper_graph.specs.declared.ast.operands.Operand.{Operand}

@@ -1,4 +1,4 @@
--- One value after another: what two parses in a row took, and where the pair of them is not spelled.
+-- Lemmas. One value after another: what two parses in a row took, and where the pair of them is not spelled.
 use Rattle.std.specs.Prelude.{◌≡◌, ℕ, Bool, List, [], ◌∷◌, ◌++◌, Option, None}
 use Rattle.std.proofs.Common.{sym, ◌∙◌, ap, subst, append_assoc}
 use Rattle.std.proofs.lemmas.List.{append_cancel_left}

@@ -1,4 +1,4 @@
--- What a sink holds of the items that it was handed.
+-- Definitions. What a sink holds of the items that it was handed.
 use Rattle.std.specs.Prelude.{ℕ, List, ◌++◌}
 use Rattle.souper_graph.specs.Values.{Item}
 use Rattle.souper_graph.specs.Syntax.Spelling.{ItemType, TextSpells}

@@ -1,4 +1,4 @@
--- Statements and last lines: what is read is spelled so, what is spelled so is read, and one front at most spells one.
+-- Lemmas. Statements and last lines: what is read is spelled so, what is spelled so is read, and one front at most spells one.
 use Rattle.std.proofs.Common.{◌≡◌, ℕ, ◌^◌, ◌<◌, Bool, true, false, List, [], ◌∷◌, ◌++◌, Option, Some, None, refl, sym, ◌∙◌, ap, subst, append_assoc, ◌⊎◌, inl, inr}
 use Rattle.std.specs.Prelude.{codes, nat_lt, if◌then◌else◌}
 use Rattle.std.proofs.lemmas.Bool.Decides.{Decides-ltb}

@@ -1,4 +1,4 @@
--- Steps of a reading: what they took, and that they take what stands there.
+-- Lemmas. Steps of a reading: what they took, and that they take what stands there.
 use Rattle.std.proofs.Common.{◌≡◌, ℕ, Bool, true, false, List, [], ◌∷◌, ◌++◌, Option, Some, None, refl, sym, ◌∙◌, ap, subst, append_assoc}
 use Rattle.souper_ir.specs.Parsing.{Cause, Parsing}
 use Rattle.souper_graph.specs.Syntax.Tokens.{Lexeme}

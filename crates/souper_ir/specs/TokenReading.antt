@@ -1,4 +1,4 @@
--- Reading of tokens as a function of the bytes.
+-- Definitions. Reading of tokens as a function of the bytes.
 use Rattle.std.specs.Prelude.{ℕ, zero, suc, ◌+◌, ◌-◌, Bool, true, false, ◌==◌, List, [], ◌∷◌, length, take, drop, if◌then◌else◌, bytes_eq, chars, Option, Some, None}
 use Rattle.std.specs.List.{prefix_len}
 use Rattle.std.specs.Char.{is_whitespace, len_utf8, is_ascii_digit, is_ascii_alphabetic}

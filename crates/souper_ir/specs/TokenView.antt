@@ -1,4 +1,4 @@
--- What contracts see of the code's tokens.
+-- Definitions. What contracts see of the code's tokens.
 use Rattle.std.specs.Prelude.{◌≡◌, ℕ, ◌<◌, Bool, true, false, List, [], ◌∷◌, Option, Some, None, Result, Ok, Err}
 use Rattle.std.specs.Char.{is_ascii_digit}
 use denote.Ref.{Bor}

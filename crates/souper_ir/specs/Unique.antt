@@ -1,4 +1,4 @@
--- One front at most spells a value, for options and lists of what that holds of.
+-- Lemmas. One front at most spells a value, for options and lists of what that holds of.
 use Rattle.std.specs.Prelude.{◌≡◌, Bool, true, List, [], ◌∷◌, ◌++◌, Option, Some, None}
 use Rattle.std.proofs.Common.{refl, sym, ◌∙◌, ap, subst, inl, inr, append_assoc}
 use Rattle.std.proofs.lemmas.List.{append_cancel_left}

@@ -1,4 +1,4 @@
--- The words of the instructions: each names the opcode of its instruction, and no other.
+-- Lemmas. The words of the instructions: each names the opcode of its instruction, and no other.
 use Rattle.std.proofs.Common.{◌≡◌, ℕ, Bool, true, false, List, [], ◌∷◌, length, Option, Some, None, refl, sym, subst}
 use Rattle.std.specs.Prelude.{codes, bytes_eq, if◌then◌else◌}
 use Rattle.std.proofs.lemmas.Slice.Eq.{bytes_eq-Decides}

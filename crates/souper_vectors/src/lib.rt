@@ -12,6 +12,8 @@ mod commands;
 #[cfg(test)]
 mod cuts;
 #[cfg(test)]
+mod dispatch;
+#[cfg(test)]
 mod errors;
 #[cfg(test)]
 mod files;

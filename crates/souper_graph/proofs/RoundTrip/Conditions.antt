@@ -37,9 +37,10 @@ statement_line ss (condition p) = (text_of_pc ss p, refl)
 statement_line ss (block_condition p) = (text_of_block_pc ss p, refl)
 
 infer_line : (ss : List PlainStatement) (i : PlainInfer) → IsLine (text_of_infer ss i)
-infer_line ss i =
-    (codes "infer " ++ (name_at ss i.value ++ text_of_root_attributes i.attributes),
-      sym (append_assoc (codes "infer ") (name_at ss i.value ++ text_of_root_attributes i.attributes) (10 ∷ []) ∙ ap (λ (l : List ℕ). codes "infer " ++ l) (append_assoc (name_at ss i.value) (text_of_root_attributes i.attributes) (10 ∷ []))))
+infer_line ss i = (
+  codes "infer " ++ (name_at ss i.value ++ text_of_root_attributes i.attributes),
+  sym (append_assoc (codes "infer ") (name_at ss i.value ++ text_of_root_attributes i.attributes) (10 ∷ []) ∙ ap (λ (l : List ℕ). codes "infer " ++ l) (append_assoc (name_at ss i.value) (text_of_root_attributes i.attributes) (10 ∷ []))),
+)
 
 lines-each : (a : Item) → WellFormed a → (ids : List ℕ) → ((i : ℕ) → Has ids i → NeededIn a i) → AllByRecursion IsLine (map (line_at a.statements) ids)
 lines-each a wa [] h = tt
@@ -61,6 +62,7 @@ sublist-filter f p (x ∷ xs) = sublist-if (p x) f x (filter p xs) (map f xs) (s
     sublist-later : (x : List ℕ) (xs ys : List (List ℕ)) → IsSublist xs ys → IsSublist xs (x ∷ ys)
     sublist-later x [] ys h = tt
     sublist-later x (z ∷ xs) ys h = inr h
+
     sublist-if : (b : Bool) (f : ℕ → List ℕ) (x : ℕ) (ys : List ℕ) (zs : List (List ℕ)) → IsSublist (map f ys) zs → IsSublist (map f (cond b (x ∷ ys) ys)) (f x ∷ zs)
     sublist-if true f x ys zs h = inl (refl, h)
     sublist-if false f x ys zs h = sublist-later (f x) (map f ys) zs h

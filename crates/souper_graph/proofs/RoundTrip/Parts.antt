@@ -155,10 +155,10 @@ begins_parts (newline ∷ ps) n m g h e s =
 -- the printed parts are a text of their tokens
 pub text_from_parts : (ps : List Part) → AreSound ps → IsTextOf (printed ps) (placed 0 ps)
 text_from_parts ps s = (
-      last_gap [] ps,
-      begins_parts ps 0 0 [] no_gap (omega arith) s,
-      record { gap = last_gap [] ps; last = []; is_gap = last_is_gap ps [] no_gap; is_last = tt; text = sym (append-nil (last_gap [] ps)) },
-    )
+  last_gap [] ps,
+  begins_parts ps 0 0 [] no_gap (omega arith) s,
+  record { gap = last_gap [] ps; last = []; is_gap = last_is_gap ps [] no_gap; is_last = tt; text = sym (append-nil (last_gap [] ps)) },
+)
 
 -- ---- joining parts
 

@@ -157,10 +157,14 @@ module _ (s : Scope) (ss : List PlainStatement) where
   rhs_sound var h = (word_lexeme (codes "var") refl, refl, tt)
   rhs_sound (block b) h = block_sound b h.fits
   rhs_sound (phi p) h = (
-      word_lexeme (codes "phi") refl, refl,
-      (name_lexeme _ (known_here s ss (block_use p.block) (uses_of_operands p.values) h.known).0, further_loose p.values,
-        further_sound p.values (ready_operands s ss p.values h.fits (known_after s ss (block_use p.block) (uses_of_operands p.values) h.known))),
-    )
+    word_lexeme (codes "phi") refl,
+    refl,
+    (
+      name_lexeme _ (known_here s ss (block_use p.block) (uses_of_operands p.values) h.known).0,
+      further_loose p.values,
+      further_sound p.values (ready_operands s ss p.values h.fits (known_after s ss (block_use p.block) (uses_of_operands p.values) h.known)),
+    ),
+  )
   rhs_sound reserved_inst h = (word_lexeme (codes "reservedinst") refl, refl, tt)
   rhs_sound reserved_const h = (word_lexeme (codes "reservedconst") refl, refl, tt)
   rhs_sound (instruction i) h = (word_lexeme (word_of i) (word_of_is i), operands_loose (operands_of i), operands_sound (operands_of i) (ready_operands s ss (operands_of i) h.fits h.known))
@@ -170,17 +174,24 @@ module _ (s : Scope) (ss : List PlainStatement) where
 
   statement_sound : (v : PlainStatement) → ReadyStatement s ss v → AreSound (parts_of_statement ss v)
   statement_sound (assigned a) h = (
-      name_lexeme a.name h.fits.name_fits, loose_append (parts_of_optional_type a.ty) _ (optional_type_loose a.ty) refl,
-      sound_append (parts_of_optional_type a.ty) _ (optional_type_sound a.ty h.fits.type_fits)
-      (tt, refl, sound_append (parts_of_rhs ss a.value) (parts_of_attributes a.attributes) (rhs_sound a.value (ready_rhs s ss a h)) (attributes_sound a.attributes h.fits.attributes_fit) (attributes_loose a.attributes)) refl,
-    )
+    name_lexeme a.name h.fits.name_fits,
+    loose_append (parts_of_optional_type a.ty) _ (optional_type_loose a.ty) refl,
+    sound_append (parts_of_optional_type a.ty) _ (optional_type_sound a.ty h.fits.type_fits)
+        (tt, refl, sound_append (parts_of_rhs ss a.value) (parts_of_attributes a.attributes) (rhs_sound a.value (ready_rhs s ss a h)) (attributes_sound a.attributes h.fits.attributes_fit) (attributes_loose a.attributes)) refl,
+  )
   statement_sound (condition p) h =
       (word_lexeme (codes "pc") refl, refl, pair_sound p.x p.y (ready_first s ss p.x p.y h.fits.0 h.known) (ready_second s ss p.x p.y h.fits.1 h.known))
   statement_sound (block_condition p) h =
       let us = uses_of_operand p.x ++ uses_of_operand p.y in
-      let k : AreKnown s ss us = known_after s ss (block_use p.block) us h.known in
-      (word_lexeme (codes "blockpc") refl, refl, (name_lexeme _ (known_here s ss (block_use p.block) us h.known).0, refl,
-        (count_lexeme p.predecessor h.fits.0, refl, pair_sound p.x p.y (ready_first s ss p.x p.y h.fits.1 k) (ready_second s ss p.x p.y h.fits.2 k))))
+      let k : AreKnown s ss us = known_after s ss (block_use p.block) us h.known in (
+        word_lexeme (codes "blockpc") refl,
+        refl,
+        (
+          name_lexeme _ (known_here s ss (block_use p.block) us h.known).0,
+          refl,
+          (count_lexeme p.predecessor h.fits.0, refl, pair_sound p.x p.y (ready_first s ss p.x p.y h.fits.1 k) (ready_second s ss p.x p.y h.fits.2 k)),
+        ),
+      )
 
   pub infer_sound : (i : PlainInfer) → FitsInfer i → Known s ss (value_use i.value) → AreSound (parts_of_infer ss i)
   infer_sound i h k = (word_lexeme (codes "infer") refl, refl, (name_lexeme _ k.0, root_attributes_loose i.attributes, root_attributes_sound i.attributes h))
@@ -188,16 +199,23 @@ module _ (s : Scope) (ss : List PlainStatement) where
   -- an infer line, and anything after it
   pub infer_then : (i : PlainInfer) (qs : List Part) → FitsInfer i → Known s ss (value_use i.value) → AreSound qs → AreSound (parts_of_infer ss i ++ qs)
   infer_then i qs h k q =
-      line_then (word (ident (codes "infer")) ∷ one_space ∷ word (val_name (name_at ss i.value)) ∷ parts_of_root_attributes i.attributes) qs
-      (word_lexeme (codes "infer") refl, refl, (name_lexeme _ k.0, loose_each root_attribute_parts (λ x. refl) i.attributes,
-        sound_each root_attribute_parts FitsRootAttribute (λ x k. root_attribute_sound x k) (λ x. refl) i.attributes h)) q
+      line_then (word (ident (codes "infer")) ∷ one_space ∷ word (val_name (name_at ss i.value)) ∷ parts_of_root_attributes i.attributes) qs (
+        word_lexeme (codes "infer") refl,
+        refl,
+        (
+          name_lexeme _ k.0,
+          loose_each root_attribute_parts (λ x. refl) i.attributes,
+          sound_each root_attribute_parts FitsRootAttribute (λ x k. root_attribute_sound x k) (λ x. refl) i.attributes h,
+        ),
+      ) q
 
   pub cand_sound : (c : PlainCand) → ReadyOperand s ss c.lhs → ReadyOperand s ss c.rhs → AllByRecursion FitsRootAttribute c.attributes → AreSound (parts_of_cand ss c)
   cand_sound c h k a = (
-      word_lexeme (codes "cand") refl, refl,
-      sound_append (parts_of_operand ss c.lhs) _ (operand_sound c.lhs h)
-      (sound_append (parts_of_operand ss c.rhs) _ (operand_sound c.rhs k) (root_attributes_sound c.attributes a) (root_attributes_loose c.attributes)) refl,
-    )
+    word_lexeme (codes "cand") refl,
+    refl,
+    sound_append (parts_of_operand ss c.lhs) _ (operand_sound c.lhs h)
+        (sound_append (parts_of_operand ss c.rhs) _ (operand_sound c.rhs k) (root_attributes_sound c.attributes a) (root_attributes_loose c.attributes)) refl,
+  )
 
   pub result_sound : (r : Operand) → ReadyOperand s ss r → AreSound (parts_of_result ss r)
   result_sound r h = (word_lexeme (codes "result") refl, refl, operand_sound r h)

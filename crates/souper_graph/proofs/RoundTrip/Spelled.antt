@@ -82,16 +82,16 @@ module _ (s : Scope) (ss : List PlainStatement) where
   further_spelled : (xs : List Operand) → AllByRecursion (ReadyOperand s ss) xs → further_spells s xs (words_of (parts_of_further ss xs))
   further_spelled [] h = refl
   further_spelled (x ∷ xs) h = (
-      words_of (parts_of_operand ss x) ++ words_of (parts_of_further ss xs),
-      words_append (further_parts ss x) (parts_of_further ss xs),
-      record {
-        prefix = words_of (parts_of_operand ss x);
-        suffix = words_of (parts_of_further ss xs);
-        whole = refl;
-        first = operand_spelled x h.0;
-        second = further_spelled xs h.1;
-      },
-    )
+    words_of (parts_of_operand ss x) ++ words_of (parts_of_further ss xs),
+    words_append (further_parts ss x) (parts_of_further ss xs),
+    record {
+      prefix = words_of (parts_of_operand ss x);
+      suffix = words_of (parts_of_further ss xs);
+      whole = refl;
+      first = operand_spelled x h.0;
+      second = further_spelled xs h.1;
+    },
+  )
 
   operands_spelled : (xs : List Operand) → AllByRecursion (ReadyOperand s ss) xs → operands_spells s xs (words_of (parts_of_operands ss xs))
   operands_spelled [] h = refl

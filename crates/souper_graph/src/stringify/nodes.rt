@@ -178,9 +178,7 @@ impl Append for BlockPc {
         let predecessor = self.predecessor;
         out.push_str("blockpc ")?;
         self.block.append(statements, out)?;
-        out.push_str(" ")?;
-        write!(out, "{predecessor}")?;
-        out.push_str(" ")?;
+        write!(out, " {predecessor} ")?;
         self.x.append(statements, out)?;
         out.push_str(" ")?;
         self.y.append(statements, out)
