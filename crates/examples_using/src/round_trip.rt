@@ -10,8 +10,6 @@ use souper_ir::parse::{ParseError, parse_left_hand_sides_str};
 use std::alloc::{AllocError, Global};
 
 /// The items that the canonical text of the item has: it alone, with its needed statements in printed order.
-///
-/// Of a well-formed item neither call is refused for another reason than memory.
 pub fn print_and_read(alloc: Global, item: &LeftHandSide) -> Result<Vec<LeftHandSide>, ParseError>
     requires { WellFormed (view_left_hand_side item.now) }
     ensures { IfOk result (λ items. map view_left_hand_side items.items ≡ renumbered (view_left_hand_side item.now) ∷ []) }

@@ -10,6 +10,8 @@ mod builders;
 #[cfg(test)]
 mod building;
 #[cfg(test)]
+mod instructions;
+#[cfg(test)]
 mod nodes;
 #[cfg(test)]
 mod styles;

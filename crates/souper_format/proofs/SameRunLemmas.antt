@@ -80,7 +80,7 @@ of_second : (k : ItemType) (a b : List ℕ) (first second : FileRead) (xs : List
 of_second k a b first second xs out err zero nothing spells is = absurd is
 of_second k a b first second xs out err (suc zero) nothing spells is = (inr ((xs, spells), is), nothing)
 of_second k a b first second xs out err (suc (suc zero)) nothing spells is = absurd is
-of_second k a b first second xs out err (suc (suc (suc zero))) nothing spells (inl failed) = (inr (inl failed), λ works. nothing)
+of_second k a b first second xs out err (suc (suc (suc zero))) nothing spells (inl failed) = (inr (inl ((xs, spells), failed)), λ works. nothing)
 of_second k a b first second xs out err (suc (suc (suc zero))) nothing spells (inr told) = (inr (inr (inr told)), λ works. nothing)
 of_second k a b first second xs out err (suc (suc (suc (suc n)))) nothing spells is = absurd is
 
@@ -121,4 +121,4 @@ pub some_reads : (k : ItemType) (gives : List ℕ → FileRead → Type 0) (a b 
     → IsFilesRun k gives a b out err status → (first : FileRead) × (second : FileRead) × IsSameRun k a b first second out err status
 some_reads k gives a b out err status (first, given, inl stopped) =
     (first, first, of_stopped k a b first out err status stopped)
-some_reads k gives a b out err status (first, given, inr (second, other_given, run)) = (first, second, run)
+some_reads k gives a b out err status (first, given, inr (spells, (second, other_given, run))) = (first, second, run)

@@ -22,6 +22,10 @@ abbrev pub ReadSpells : ItemType → FileRead → List Item → Type 0
 ReadSpells k (Ok source) items = TextSpells k (string_bytes source) items
 ReadSpells k (Err fault) items = ⊥
 
+-- the read gave a text that spells items
+abbrev pub ReadSpellsSome : ItemType → FileRead → Type 0
+ReadSpellsSome k read = (xs : List Item) × ReadSpells k read xs
+
 -- the error that a read makes: the refusal of its text, which has that file name, or its fault
 abbrev pub ReadError : ItemType → List ℕ → FileRead → ParseError → Type 0
 ReadError k path (Ok source) e = IsStrError k (Some path) (string_bytes source) e
@@ -50,13 +54,14 @@ Compared k first second out err =
 -- the first read was refused, or the second where the first spells items; nothing was written
 abbrev pub OneRefused : ItemType → List ℕ → List ℕ → FileRead → FileRead → Stream → Stream → Type 0
 OneRefused k a b first second out err =
-    (ReadRefused k a first err ⊎ (((xs : List Item) × ReadSpells k first xs) × ReadRefused k b second err))
+    (ReadRefused k a first err ⊎ (ReadSpellsSome k first × ReadRefused k b second err))
     × IsGivenNothing out
 
--- a read or `out` has failed, or memory was refused, and that was told; nothing was written, unless `out` has failed
-abbrev pub NotCompared : FileRead → FileRead → Stream → Stream → Type 0
-NotCompared first second out err =
-    (ReadFailed first err ⊎ (ReadFailed second err ⊎ (((out.failed ≡ true) × ToldFault err) ⊎ ToldMemory err)))
+-- the first read has failed, or the second where the first spells items, or `out`, or memory was refused, and that was
+-- written to `err`; nothing was written to `out`, unless it has failed
+abbrev pub NotCompared : ItemType → FileRead → FileRead → Stream → Stream → Type 0
+NotCompared k first second out err =
+    (ReadFailed first err ⊎ ((ReadSpellsSome k first × ReadFailed second err) ⊎ (((out.failed ≡ true) × ToldFault err) ⊎ ToldMemory err)))
     × (out.failed ≡ false → IsGivenNothing out)
 
 -- what the status of a comparison of two files says
@@ -64,7 +69,7 @@ abbrev pub IsSameRun : ItemType → List ℕ → List ℕ → FileRead → FileR
 IsSameRun k a b first second out err status = OnStatus status
     (Compared k first second out err)
     (OneRefused k a b first second out err)
-    (NotCompared first second out err)
+    (NotCompared k first second out err)
 
 -- the first read was refused, or it has failed, or memory was refused, and that was told; nothing was written
 abbrev pub StoppedAtFirst : ItemType → List ℕ → FileRead → Stream → Stream → ℕ → Type 0
@@ -73,11 +78,11 @@ StoppedAtFirst k a first out err status = OnStatus status
     (ReadRefused k a first err × IsGivenNothing out)
     ((ReadFailed first err ⊎ ToldMemory err) × IsGivenNothing out)
 
--- what the status says where gives tells what the read of a path may give: the first file was read, and with it the run
--- stopped, or the second was read too
+-- what the status says where `gives` is what the read of a path may give: the first file was read, and with it the run
+-- stopped, or its text spells items and the second was read too
 abbrev pub IsFilesRun : ItemType → (List ℕ → FileRead → Type 0) → List ℕ → List ℕ → Stream → Stream → ℕ → Type 0
 IsFilesRun k gives a b out err status = (first : FileRead) × gives a first × (StoppedAtFirst k a first out err status
-    ⊎ ((second : FileRead) × gives b second × IsSameRun k a b first second out err status))
+    ⊎ (ReadSpellsSome k first × ((second : FileRead) × gives b second × IsSameRun k a b first second out err status)))
 
 -- what the status of a comparison of two lists says
 abbrev pub IsComparison : Type 0 → Stream → Stream → ℕ → Type 0

@@ -162,6 +162,10 @@ from-has k (n ∷ g) (suc i) e =
 pub is-condition : (a : Item) (i : ℕ) → is_condition (statement_at a.statements i) ≡ true → Has (conditions a) i
 is-condition a i e = subst (λ (z : ℕ). Has (conditions a) z) (let q : 0 + i ≡ i = omega arith in q) (from-has 0 a.statements i e)
 
+-- a path condition is needed
+pub condition-needed : (a : Item) (i : ℕ) → is_condition (statement_at a.statements i) ≡ true → NeededIn a i
+condition-needed a i e = walked (in-conditions a i (is-condition a i e))
+
 unfoldable pub Increasing : List ℕ → Type 0
 Increasing [] = Unit {0}
 Increasing (x ∷ xs) = ((j : ℕ) → Has xs j → x < j) × Increasing xs

@@ -1,9 +1,9 @@
 -- Definitions. What the laws of canonical texts speak of: items of one type, items in another arena order, the lines of a text.
-use Rattle.std.specs.Prelude.{◌≡◌, ◌⊎◌, ℕ, ◌<◌, List, [], ◌∷◌, ◌++◌, map, flat_map, length, Some, slice_get}
+use Rattle.std.specs.Prelude.{◌≡◌, ◌⊎◌, ℕ, ◌<◌, List, [], ◌∷◌, ◌++◌, flat_map, length, Some, slice_get}
 use Rattle.std.specs.List.{AllByRecursion}
-use Rattle.souper_graph.specs.Values.{PlainStatement, Item}
+use Rattle.souper_graph.specs.Values.{PlainStatement, assigned, condition, block_condition, Item}
 use Rattle.souper_graph.specs.Uses.{Has, conditions, NeededIn}
-use Rattle.souper_graph.specs.Text.{line_at, text_of}
+use Rattle.souper_graph.specs.Text.{text_of_statement, text_of}
 use Rattle.souper_graph.specs.WellFormed.{WellFormed}
 use Rattle.souper_graph.specs.Sameness.{carried, carried_ending, renumbered}
 use Rattle.souper_graph.specs.Syntax.Spelling.{ItemType, IsEndingOf, TextSpells}
@@ -42,13 +42,20 @@ IsSublist [] ys = Unit {0}
 IsSublist (x ∷ xs) [] = ⊥
 IsSublist (x ∷ xs) (y ∷ ys) = ((x ≡ y) × IsSublist xs ys) ⊎ IsSublist (x ∷ xs) ys
 
+-- the lines of the path conditions among some statements of ss, in order
+abbrev pub condition_lines : List PlainStatement → List PlainStatement → List (List ℕ)
+condition_lines ss [] = []
+condition_lines ss (assigned a ∷ us) = condition_lines ss us
+condition_lines ss (condition p ∷ us) = text_of_statement ss (condition p) ∷ condition_lines ss us
+condition_lines ss (block_condition p ∷ us) = text_of_statement ss (block_condition p) ∷ condition_lines ss us
+
 -- the canonical text begins with lines among which are those of all path conditions, in the order in which the item has them
 pub record HasConditionLines (a : Item) : Type 0 where
   pub lines : List (List ℕ)
   pub rest : List ℕ
   pub whole : text_of a ≡ flat_map (λ l. l) lines ++ rest
   pub each_line : AllByRecursion IsLine lines
-  pub conditions_among : IsSublist (map (line_at a.statements) (conditions a)) lines
+  pub conditions_among : IsSublist (condition_lines a.statements a.statements) lines
 
 -- the text of the item, with a newline after it, spells the item renumbered
 abbrev pub ReadsBack : ItemType → Item → List ℕ → Type 0

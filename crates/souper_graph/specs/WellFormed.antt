@@ -125,7 +125,7 @@ pub record WellFormed (a : Item) : Type 0 where
   pub closed : (p : ℕ) (s : PlainStatement) → NeededIn a p → slice_get a.statements p ≡ Some s → Closed a.statements p s
   pub named_apart : AreNamedApart a.statements (NeededIn a)
 
--- every statement, needed or not, may stand where it stands, and all names are distinct
+-- every statement, needed or not, is closed, and all names are distinct
 pub record EachClosed (a : Item) : Type 0 where
   pub roots_met : AreMet a.statements (roots_of a.ending)
   pub ending_fits : FitsEnding a.ending

@@ -1,17 +1,18 @@
 //! Laws of the definitions that the contracts of this crate cite. No function here does anything.
 
-ghost use Rattle.std.specs.Prelude.{◌≡◌, ◌↔◌, ℕ, IsTrue, List, map};
-ghost use Rattle.souper_graph.specs.Values.{Item};
+ghost use Rattle.std.specs.Prelude.{◌≡◌, ◌↔◌, ℕ, IsTrue, List, map, Some, slice_get};
+ghost use Rattle.souper_graph.specs.Values.{condition, block_condition, Item};
 ghost use Rattle.souper_graph.specs.WellFormed.{WellFormed, EachClosed};
 ghost use Rattle.souper_graph.specs.Text.{text_of, texts_of};
 ghost use Rattle.souper_graph.specs.CanonicalText.{AreWellFormed, AllNeeded, IsRearranged, HasConditionLines};
-ghost use Rattle.souper_graph.specs.Syntax.Spelling.{ItemType, TextSpells};
-ghost use Rattle.souper_graph.specs.Uses.{UsesBelow};
+ghost use Rattle.souper_graph.specs.Syntax.Spelling.{ItemType, left_hand_side, right_hand_side, replacement, IsEndingOf, TextSpells};
+ghost use Rattle.souper_graph.specs.View.{view_left_hand_side, view_right_hand_side, view_replacement};
+ghost use Rattle.souper_graph.specs.Uses.{NeededIn, UsesBelow};
 ghost use Rattle.souper_graph.specs.Faults.{HasBadId};
 ghost use Rattle.souper_graph.specs.Order.{printed_order, uses_below};
 ghost use Rattle.souper_graph.specs.Sameness.{OrdersNeeded, SameGraph, SameNeeded, renumbered};
 
-use crate::ast::{BlockId, Id, ValueId};
+use crate::ast::{BlockId, BlockPc, Id, LeftHandSide, Pc, Replacement, RightHandSide, ValueId};
 use std::hash::Hash;
 
 /// Two ids are equal if and only if their positions are, and equal ids hash alike.
@@ -29,11 +30,14 @@ pub fn law_of_ids<T>()
 
 /// A well-formed item names no bad id, and each use of a needed statement lies below it.
 ///
-/// Whether the latter holds of an item, well formed or not, is told by the printed order.
+/// Whether the latter holds of an item, well formed or not, is computed from the printed order. Every path condition of
+/// any item is needed.
 pub fn law_of_well_formedness()
     ensures no_bad_id { (a : Item) → WellFormed a → ¬ HasBadId a }
     ensures below { (a : Item) → WellFormed a → UsesBelow a }
     ensures told { (a : Item) → IsTrue (uses_below a) ↔ UsesBelow a }
+    ensures conditions_needed { (a : Item) (i : ℕ) (p : Pc) → slice_get a.statements i ≡ Some (condition p) → NeededIn a i }
+    ensures block_conditions_needed { (a : Item) (i : ℕ) (p : BlockPc) → slice_get a.statements i ≡ Some (block_condition p) → NeededIn a i }
 {}
 
 /// Two well-formed items are renumbered to one value exactly where they are the same graph.
@@ -58,8 +62,10 @@ pub fn law_of_sameness()
 /// - `defined`: in a renumbered item every statement is closed, so that each name is defined once and before its first
 ///   use, and every statement is needed.
 /// - `conditions`: the canonical text has the line of each path condition, in the order in which the item has them.
-/// - `same_graph`, `unneeded`, `rearranged`: items that are the same graph have the same canonical text; so have items
-///   that differ in unneeded statements alone, and items that differ in the arena order alone.
+/// - `same_graph`: items that are the same graph have the same canonical text, so neither unneeded statements nor the
+///   arena order of assignments play a part. `unneeded` says it of items whose needed statements keep their positions,
+///   `rearranged` of items that have the same statements in another order.
+/// - `types`: the last lines of each type of value are those of its type of item.
 pub fn law_of_canonical_texts()
     ensures reads_back { (k : ItemType) (items : List Item) → AreWellFormed k items → TextSpells k (texts_of items) (map renumbered items) }
     ensures again { (a : Item) → WellFormed a → text_of (renumbered a) ≡ text_of a }
@@ -68,4 +74,7 @@ pub fn law_of_canonical_texts()
     ensures same_graph { (a b : Item) → WellFormed a → WellFormed b → SameGraph a b → text_of a ≡ text_of b }
     ensures unneeded { (a b : Item) → WellFormed a → SameNeeded a b → text_of b ≡ text_of a }
     ensures rearranged { (a b : Item) → WellFormed a → WellFormed b → IsRearranged a b → text_of b ≡ text_of a }
+    ensures types { ((l : LeftHandSide) → IsEndingOf left_hand_side (view_left_hand_side l).ending)
+        × ((r : RightHandSide) → IsEndingOf right_hand_side (view_right_hand_side r).ending)
+        × ((r : Replacement) → IsEndingOf replacement (view_replacement r).ending) }
 {}

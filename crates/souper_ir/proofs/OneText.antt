@@ -5,10 +5,10 @@ use Rattle.souper_graph.specs.Values.{PlainStatement, Ending, inferred, resultin
 use Rattle.souper_graph.specs.WellFormed.{EachClosed}
 use Rattle.souper_graph.specs.Text.{text_of, texts_of}
 use Rattle.souper_graph.specs.Sameness.{renumbered, SameGraph}
-use Rattle.souper_graph.specs.CanonicalText.{IsWellFormedOf, AreWellFormed}
+use Rattle.souper_graph.specs.CanonicalText.{IsWellFormedOf, AreWellFormed, AllNeeded}
 use Rattle.souper_graph.specs.Syntax.Tokens.{Lexeme}
 use Rattle.souper_graph.specs.Syntax.Spelling.{kinds, Scope, ItemType, left_hand_side, right_hand_side, replacement, IsEndingOf, tail_spells, item_spells, list_spells, TextSpells}
-use Rattle.souper_graph.proofs.RoundTrip.ReadBack.{texts-read-back, same-graph-text}
+use Rattle.souper_graph.proofs.RoundTrip.ReadBack.{renumbered-closed, renumbered-needed, texts-read-back, same-graph-text}
 use Rattle.souper_graph.proofs.Sameness.{same-renumbered}
 use Rattle.souper_ir.proofs.ItemLists.{text_alone}
 use Rattle.souper_ir.proofs.WellFormedItems.{closed_well, text_closed}
@@ -61,3 +61,12 @@ same_text_graph k a b wa wb e =
 
 pub one_text : (k : ItemType) (a b : Item) → IsWellFormedOf k a → IsWellFormedOf k b → (text_of a ≡ text_of b → SameGraph a b) × (SameGraph a b → text_of a ≡ text_of b)
 one_text k a b wa wb = (same_text_graph k a b wa wb, same-graph-text a b wa.0 wb.0)
+
+-- what a canonical text spells has closed and needed statements alone
+each_defined : (k : ItemType) (items : List Item) → AreWellFormed k items → AllByRecursion (λ (b : Item). EachClosed b × AllNeeded b) (map renumbered items)
+each_defined k [] h = tt
+each_defined k (a ∷ items) h = ((renumbered-closed a h.0.0, renumbered-needed a h.0.0), each_defined k items h.1)
+
+pub texts_defined : (k : ItemType) (items others : List Item) → AreWellFormed k items → TextSpells k (texts_of items) others → AllByRecursion (λ (b : Item). EachClosed b × AllNeeded b) others
+texts_defined k items others h s =
+    subst (λ (l : List Item). AllByRecursion (λ (b : Item). EachClosed b × AllNeeded b) l) (sym (texts_exact k items others h s)) (each_defined k items h)

@@ -7,7 +7,16 @@ use Rattle.souper_graph.specs.Uses.{Has, Use, value_use, block_use, position_of 
 use Rattle.souper_graph.specs.Faults.{IsAssigned, IsBlockRhs, IsBlock, IsMet, AreMet}
 use Rattle.souper_graph.specs.WellFormed.{predecessors_of_rhs, predecessors_of, AgreesRhs, AgreesWithBlock, Closed}
 use Rattle.souper_graph.specs.Syntax.Spelling.{Scope, ways_of, entry_from, entry_of, position_of}
+use Rattle.souper_graph.specs.declared.ast.statements.Statement.{Statement}
+use Rattle.souper_graph.specs.declared.ast.statements.Statement.TheVariants.{Assignment as AssignmentStatement}
+use Rattle.souper_graph.specs.declared.ast.statements.Assignment.{Assignment}
+use Rattle.souper_graph.specs.View.{view_statement, view_assignment, view_rhs}
+use Rattle.souper_ir.specs.declared.parse.parser.Failure.{Failure}
+use Rattle.souper_ir.specs.FailureView.{cause_of_failure}
+use Rattle.std.specs.Prelude.{map, string_bytes}
+use Rattle.std.proofs.lemmas.Option.{slice_get-map}
 use Rattle.souper_ir.specs.Peeks.{some_is}
+pub use Rattle.souper_ir.specs.ParserView.{Named}
 use Rattle.souper_ir.proofs.Names.{Entry, or_else, entry_push, entry_pass, no_entry}
 
 -- ---- names
@@ -52,12 +61,28 @@ position_stands s n i h =
     let e = entry_at (entry_of s n) i h in
     (e.0, entry_stands s n i e.0 e.1)
 
--- each name is found where it was given
-abbrev pub Named : Scope → Type 0
-Named ss = (p : ℕ) (v : PlainAssignment) → slice_get ss p ≡ Some (assigned v) → position_of ss v.name ≡ Some p
-
 pub nothing_named : Named []
 nothing_named p v e = absurd cc
+
+-- the entry of the name of the assignment at a position
+pub entry_named : (ss : Scope) (p : ℕ) (a : PlainAssignment) → Named ss → slice_get ss p ≡ Some (assigned a) → entry_of ss a.name ≡ Some (p, ways_of a.value)
+entry_named ss p a named e =
+    let found = entry_at (entry_of ss a.name) p (named p a e) in
+    let stands = entry_stands ss a.name p found.0 found.1 in
+    let same : ◌≡◌ {A = PlainStatement} (assigned stands.0) (assigned a) = some_is (sym stands.1 ∙ e) in
+    let is : stands.0 ≡ a = cc in
+    found.1 ∙ ap (λ (w : Option ℕ). Some (p, w)) (sym stands.2 ∙ ap (λ (x : PlainAssignment). ways_of x.value) is)
+
+-- the same over the statements of the code
+pub entry_seen : (statements : List Statement) (p : ℕ) (a : Assignment) (n : List ℕ) → Named (map view_statement statements) → slice_get statements p ≡ Some (AssignmentStatement a) → string_bytes a.name ≡ n
+    → entry_of (map view_statement statements) n ≡ Some (p, ways_of (view_rhs a.value))
+entry_seen statements p a n named e same =
+    subst (λ (x : List ℕ). entry_of (map view_statement statements) x ≡ Some (p, ways_of (view_rhs a.value))) same
+    (entry_named (map view_statement statements) p (view_assignment a) named (slice_get-map view_statement statements p ∙ ap (option_map view_statement) e))
+
+pub live_inside : (o : Option Failure) → option_map cause_of_failure o ≡ None → o ≡ None
+live_inside None h = refl
+live_inside (Some f) h = absurd cc
 
 pub get_push : (ss : Scope) (s t : PlainStatement) (p : ℕ) → slice_get (ss ++ s ∷ []) p ≡ Some t → (slice_get ss p ≡ Some t) ⊎ ((p ≡ length ss) × (s ≡ t))
 get_push [] s t zero e = inr (refl, cc)

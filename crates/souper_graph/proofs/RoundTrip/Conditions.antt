@@ -1,22 +1,23 @@
 -- Lemmas. The line of each path condition is in the canonical text, in order; an item in another arena order is the same graph.
-use Rattle.std.proofs.Common.{◌≡◌, ℕ, ◌<◌, ◌⊎◌, inl, inr, Bool, true, false, cond, List, [], ◌∷◌, ◌++◌, length, map, take, drop, Option, Some, None, refl, sym, ap, ◌∙◌, subst, arith, append_assoc, append-nil}
+use Rattle.std.proofs.Common.{◌≡◌, ℕ, suc, ◌<◌, ◌⊎◌, inl, inr, Bool, true, false, cond, List, [], ◌∷◌, ◌++◌, length, map, take, drop, Option, Some, None, refl, sym, ap, ◌∙◌, subst, arith, append_assoc, append-nil}
 use Rattle.std.specs.Prelude.{flat_map, filter, codes, slice_get}
 use Rattle.std.specs.List.{AllByRecursion}
-use Rattle.std.proofs.lemmas.List.{take-append-drop, map-append}
+use Rattle.std.proofs.lemmas.List.{take-append-drop, map-append, length_push}
 use Rattle.std.proofs.lemmas.Grind.{flat_map-append}
 use Rattle.std.proofs.lemmas.Option.{slice_get_within}
 use Rattle.souper_graph.specs.Values.{PlainStatement, assigned, condition, block_condition, PlainInfer, Ending, inferred, resulting, replaced, candidate, Item}
-use Rattle.souper_graph.specs.Uses.{Has, used_at, uses_of_optional, position_of, walks_of, walked, used, conditions, NeededIn}
+use Rattle.souper_graph.specs.Uses.{Has, used_at, uses_of_optional, position_of, walks_of, walked, used, conditions_from, conditions, NeededIn}
 use Rattle.souper_graph.specs.Order.{printed_order, lead_of}
 use Rattle.souper_graph.specs.Text.{text_of_statement, text_of_infer, line_of, line_at, lines_of, text_in_order, text_of, text_of_assignment, text_of_pc, text_of_block_pc, name_at}
 use Rattle.souper_graph.specs.Leaves.{text_of_root_attributes}
 use Rattle.souper_graph.specs.WellFormed.{WellFormed}
 use Rattle.souper_graph.specs.Sameness.{carried, SameGraph}
-use Rattle.souper_graph.specs.CanonicalText.{IsRearranged, IsLine, IsSublist, HasConditionLines}
+use Rattle.souper_graph.specs.CanonicalText.{IsRearranged, IsLine, IsSublist, condition_lines, HasConditionLines}
 use Rattle.souper_graph.proofs.Lists.{Has-left, Has-right, Has-here, Has-later, Has-map, Has-mapped}
 use Rattle.souper_graph.proofs.Closedness.{stood, statement_at, stands, from-inside, well_formed_inside, well_formed_stands}
 use Rattle.souper_graph.proofs.Facts.{condition_at, condition-holds, is-condition, conditions-printed, from-increasing, same-increasing}
 use Rattle.souper_graph.proofs.Sameness.{needs, condition-at, used-carried, walks-carried, increasing-map}
+use Rattle.souper_graph.proofs.RoundTrip.Scopes.{get_middle}
 use Rattle.souper_graph.proofs.RoundTrip.ReadBack.{same-graph-text}
 
 -- ---- lines
@@ -73,6 +74,23 @@ sublist-insert (x ∷ xs) [] z zs h = inr h
 sublist-insert (x ∷ xs) (y ∷ ys) z zs (inl h) = inl (h.0, sublist-insert xs ys z zs h.1)
 sublist-insert (x ∷ xs) (y ∷ ys) z zs (inr h) = inr (sublist-insert (x ∷ xs) ys z zs h)
 
+-- ---- the lines of the path conditions
+
+conditions-at : (ss pre us : List PlainStatement) → ss ≡ pre ++ us → map (line_at ss) (conditions_from (length pre) us) ≡ condition_lines ss us
+conditions-at ss pre [] e = refl
+conditions-at ss pre (u ∷ us) e =
+    let next : suc (length pre) ≡ length (pre ++ u ∷ []) = (let q = length_push pre u in omega arith) in
+    let rest : map (line_at ss) (conditions_from (suc (length pre)) us) ≡ condition_lines ss us =
+    ap (λ (k : ℕ). map (line_at ss) (conditions_from k us)) next ∙ conditions-at ss (pre ++ u ∷ []) us (e ∙ sym (append_assoc pre (u ∷ []) us)) in
+    let here : line_at ss (length pre) ≡ text_of_statement ss u = ap (λ (x : List PlainStatement). line_of ss (slice_get x (length pre))) e ∙ ap (line_of ss) (get_middle pre us u) in
+    one_line ss u us (length pre) here rest
+  where
+    one_line : (ss : List PlainStatement) (u : PlainStatement) (us : List PlainStatement) (k : ℕ) → line_at ss k ≡ text_of_statement ss u → map (line_at ss) (conditions_from (suc k) us) ≡ condition_lines ss us
+        → map (line_at ss) (conditions_from k (u ∷ us)) ≡ condition_lines ss (u ∷ us)
+    one_line ss (assigned a) us k here rest = rest
+    one_line ss (condition p) us k here rest = (λ j. here j ∷ rest j)
+    one_line ss (block_condition p) us k here rest = (λ j. here j ∷ rest j)
+
 -- ---- the lines of an item's text
 
 module _ (a : Item) (wa : WellFormed a) where
@@ -82,8 +100,10 @@ module _ (a : Item) (wa : WellFormed a) where
   abbrev shown : List ℕ → List (List ℕ)
   shown is = map (line_at a.statements) is
 
-  among : IsSublist (map (line_at a.statements) (conditions a)) (shown ids)
-  among = subst (λ (z : List ℕ). IsSublist (map (line_at a.statements) z) (shown ids)) (conditions-printed a wa) (sublist-filter (line_at a.statements) (condition_at a) ids)
+  among : IsSublist (condition_lines a.statements a.statements) (shown ids)
+  among =
+      subst (λ (z : List (List ℕ)). IsSublist z (shown ids)) (ap (map (line_at a.statements)) (conditions-printed a wa) ∙ conditions-at a.statements [] a.statements refl)
+      (sublist-filter (line_at a.statements) (condition_at a) ids)
 
   all-lines : AllByRecursion IsLine (shown ids)
   all-lines = lines-each a wa ids (needs a)
@@ -114,7 +134,7 @@ module _ (a : Item) (wa : WellFormed a) where
         each_line = each-append front (infer ∷ back)
             (lines-each a wa (take n ids) (λ k h. needs a k (subst (λ (z : List ℕ). Has z k) (take-append-drop n ids) (Has-left (take n ids) (drop n ids) k h))))
             (infer_line a.statements i, lines-each a wa (drop n ids) (λ k h. needs a k (subst (λ (z : List ℕ). Has z k) (take-append-drop n ids) (Has-right (take n ids) (drop n ids) k h))));
-        conditions_among = sublist-insert (map (line_at a.statements) (conditions a)) front infer back (subst (IsSublist (map (line_at a.statements) (conditions a))) halves among);
+        conditions_among = sublist-insert (condition_lines a.statements a.statements) front infer back (subst (IsSublist (condition_lines a.statements a.statements)) halves among);
       }
 
   by_ending : (e : Ending) → a.ending ≡ e → HasConditionLines a

@@ -1,5 +1,5 @@
 //! A parser with one token of lookahead.
-ghost use Rattle.std.specs.Prelude.{◌≡◌, ◌≤◌, ◌++◌, ◌∷◌, [], length, map, ℕ, List, true, false, Some, None, IfOk, OnOk, OnErr, IfErr, IsOk, IsSomeAnd, option_map, is_some, ◌≢◌};
+ghost use Rattle.std.specs.Prelude.{◌≡◌, ◌≤◌, ◌++◌, ◌∷◌, [], length, map, ℕ, List, true, false, Some, None, IfOk, IfSome, OnOk, OnErr, IfErr, IsOk, IsSomeAnd, option_map, is_some, ◌≢◌};
 ghost use Rattle.std.specs.String.{string_bytes};
 ghost use Rattle.souper_graph.specs.View.{view_rhs, view_statement, view_assignment};
 ghost use Rattle.souper_graph.specs.Values.{assigned};
@@ -17,6 +17,7 @@ ghost use Rattle.souper_ir.specs.Reading.{Fails, FailsForMemory, Gives, cause_of
 use crate::lexer::{Fault, Lexer, Token};
 use crate::parse::error::ParseError;
 use crate::parse::message::Message;
+use crate::parse::recent::Recent;
 use souper_graph::ast::{Arena, Assignment, AssignmentRhs, BlockId, Id, Statement, ValueId};
 use std::alloc::{AllocError, Global};
 use std::collections::BTreeMap;
@@ -48,6 +49,8 @@ pub struct Parser<'a> {
     statements: Arena<Statement>,
     // The names that they define, each with its value and, for a block, the number of ways into it.
     names: BTreeMap<&'a str, (ValueId, Option<u32>)>,
+    // Is looked at before the map: most uses are of a value that was defined last.
+    recent: Recent,
     failed: Option<Failure>,
 }
 
@@ -79,6 +82,7 @@ impl<'a> Parser<'a> {
             offset: 0,
             statements: Arena::new(alloc),
             names: BTreeMap::new(alloc),
+            recent: Recent::new(),
             failed: None,
         }
     }
@@ -230,12 +234,34 @@ fn ways(rhs: &AssignmentRhs) -> Option<u32>
 }
 
 impl<'a> Parser<'a> {
+    // What a name stands for, where the value of its slot has that name.
+    #[inline(always)]
+    fn recent_entry(&self, name: &str) -> Option<(ValueId, Option<u32>)>
+        requires { self.now.failed ≡ None }
+        ensures { IfSome result (λ e. entry_of self.now.scope name.now ≡ Some e) }
+    {
+        let value = self.recent.get(name)?;
+        match self.statements.get(value.into()) {
+            Some(Statement::Assignment(assignment)) => {
+                if assignment.name.as_str() == name {
+                    Some((value, ways(&assignment.value)))
+                } else {
+                    None
+                }
+            }
+            _ => None,
+        }
+    }
+
     /// The value that a name stands for, and the number of ways into it where it is that of a block.
     pub(crate) fn entry(&self, name: &str) -> Option<(ValueId, Option<u32>)>
         requires { self.now.failed ≡ None }
         ensures { result ≡ entry_of self.now.scope name.now }
     {
-        self.names.get(name).copied()
+        match self.recent_entry(name) {
+            Some(entry) => Some(entry),
+            None => self.names.get(name).copied(),
+        }
     }
 
     /// The value that a name stands for.
@@ -275,7 +301,9 @@ impl<'a> Parser<'a> {
                 return Err(ParseError::memory());
             }
         };
-        match self.names.insert(name, (id.into(), ways)) {
+        let value: ValueId = id.into();
+        self.recent.put(name, value);
+        match self.names.insert(name, (value, ways)) {
             Ok(_) => Ok(()),
             Err(_) => {
                 self.failed = Some(Failure::Memory);
