@@ -11,125 +11,489 @@ fn word_is(rt: &impl Abort, instruction: Instruction, word: &str, operands: usiz
 
 #[test]
 fn sums_and_products_have_their_words(rt: HostRuntime) -> Result<(), Fail> {
-    let (a, b) = (number(1), number(2));
-    word_is(&rt, Instruction::Add { a, b }, "add", 2);
-    word_is(&rt, Instruction::AddNsw { a, b }, "addnsw", 2);
-    word_is(&rt, Instruction::AddNuw { a, b }, "addnuw", 2);
-    word_is(&rt, Instruction::AddNw { a, b }, "addnw", 2);
-    word_is(&rt, Instruction::Sub { a, b }, "sub", 2);
-    word_is(&rt, Instruction::SubNsw { a, b }, "subnsw", 2);
-    word_is(&rt, Instruction::SubNuw { a, b }, "subnuw", 2);
-    word_is(&rt, Instruction::SubNw { a, b }, "subnw", 2);
-    word_is(&rt, Instruction::Mul { a, b }, "mul", 2);
-    word_is(&rt, Instruction::MulNsw { a, b }, "mulnsw", 2);
-    word_is(&rt, Instruction::MulNuw { a, b }, "mulnuw", 2);
-    word_is(&rt, Instruction::MulNw { a, b }, "mulnw", 2);
+    word_is(
+        &rt,
+        Instruction::Add {
+            a: number(1),
+            b: number(2),
+        },
+        "add",
+        2,
+    );
+    word_is(
+        &rt,
+        Instruction::AddNsw {
+            a: number(1),
+            b: number(2),
+        },
+        "addnsw",
+        2,
+    );
+    word_is(
+        &rt,
+        Instruction::AddNuw {
+            a: number(1),
+            b: number(2),
+        },
+        "addnuw",
+        2,
+    );
+    word_is(
+        &rt,
+        Instruction::AddNw {
+            a: number(1),
+            b: number(2),
+        },
+        "addnw",
+        2,
+    );
+    word_is(
+        &rt,
+        Instruction::Sub {
+            a: number(1),
+            b: number(2),
+        },
+        "sub",
+        2,
+    );
+    word_is(
+        &rt,
+        Instruction::SubNsw {
+            a: number(1),
+            b: number(2),
+        },
+        "subnsw",
+        2,
+    );
+    word_is(
+        &rt,
+        Instruction::SubNuw {
+            a: number(1),
+            b: number(2),
+        },
+        "subnuw",
+        2,
+    );
+    word_is(
+        &rt,
+        Instruction::SubNw {
+            a: number(1),
+            b: number(2),
+        },
+        "subnw",
+        2,
+    );
+    word_is(
+        &rt,
+        Instruction::Mul {
+            a: number(1),
+            b: number(2),
+        },
+        "mul",
+        2,
+    );
+    word_is(
+        &rt,
+        Instruction::MulNsw {
+            a: number(1),
+            b: number(2),
+        },
+        "mulnsw",
+        2,
+    );
+    word_is(
+        &rt,
+        Instruction::MulNuw {
+            a: number(1),
+            b: number(2),
+        },
+        "mulnuw",
+        2,
+    );
+    word_is(
+        &rt,
+        Instruction::MulNw {
+            a: number(1),
+            b: number(2),
+        },
+        "mulnw",
+        2,
+    );
     Ok(())
 }
 
 #[test]
 fn quotients_and_bits_have_their_words(rt: HostRuntime) -> Result<(), Fail> {
-    let (a, b) = (number(1), number(2));
-    word_is(&rt, Instruction::Udiv { a, b }, "udiv", 2);
-    word_is(&rt, Instruction::Sdiv { a, b }, "sdiv", 2);
-    word_is(&rt, Instruction::UdivExact { a, b }, "udivexact", 2);
-    word_is(&rt, Instruction::SdivExact { a, b }, "sdivexact", 2);
-    word_is(&rt, Instruction::Urem { a, b }, "urem", 2);
-    word_is(&rt, Instruction::Srem { a, b }, "srem", 2);
-    word_is(&rt, Instruction::And { a, b }, "and", 2);
-    word_is(&rt, Instruction::Or { a, b }, "or", 2);
-    word_is(&rt, Instruction::Xor { a, b }, "xor", 2);
+    word_is(
+        &rt,
+        Instruction::Udiv {
+            a: number(1),
+            b: number(2),
+        },
+        "udiv",
+        2,
+    );
+    word_is(
+        &rt,
+        Instruction::Sdiv {
+            a: number(1),
+            b: number(2),
+        },
+        "sdiv",
+        2,
+    );
+    word_is(
+        &rt,
+        Instruction::UdivExact {
+            a: number(1),
+            b: number(2),
+        },
+        "udivexact",
+        2,
+    );
+    word_is(
+        &rt,
+        Instruction::SdivExact {
+            a: number(1),
+            b: number(2),
+        },
+        "sdivexact",
+        2,
+    );
+    word_is(
+        &rt,
+        Instruction::Urem {
+            a: number(1),
+            b: number(2),
+        },
+        "urem",
+        2,
+    );
+    word_is(
+        &rt,
+        Instruction::Srem {
+            a: number(1),
+            b: number(2),
+        },
+        "srem",
+        2,
+    );
+    word_is(
+        &rt,
+        Instruction::And {
+            a: number(1),
+            b: number(2),
+        },
+        "and",
+        2,
+    );
+    word_is(
+        &rt,
+        Instruction::Or {
+            a: number(1),
+            b: number(2),
+        },
+        "or",
+        2,
+    );
+    word_is(
+        &rt,
+        Instruction::Xor {
+            a: number(1),
+            b: number(2),
+        },
+        "xor",
+        2,
+    );
     Ok(())
 }
 
 #[test]
 fn shifts_have_their_words(rt: HostRuntime) -> Result<(), Fail> {
-    let (a, b) = (number(1), number(2));
-    word_is(&rt, Instruction::Shl { a, b }, "shl", 2);
-    word_is(&rt, Instruction::ShlNsw { a, b }, "shlnsw", 2);
-    word_is(&rt, Instruction::ShlNuw { a, b }, "shlnuw", 2);
-    word_is(&rt, Instruction::ShlNw { a, b }, "shlnw", 2);
-    word_is(&rt, Instruction::Lshr { a, b }, "lshr", 2);
-    word_is(&rt, Instruction::LshrExact { a, b }, "lshrexact", 2);
-    word_is(&rt, Instruction::Ashr { a, b }, "ashr", 2);
-    word_is(&rt, Instruction::AshrExact { a, b }, "ashrexact", 2);
+    word_is(
+        &rt,
+        Instruction::Shl {
+            a: number(1),
+            b: number(2),
+        },
+        "shl",
+        2,
+    );
+    word_is(
+        &rt,
+        Instruction::ShlNsw {
+            a: number(1),
+            b: number(2),
+        },
+        "shlnsw",
+        2,
+    );
+    word_is(
+        &rt,
+        Instruction::ShlNuw {
+            a: number(1),
+            b: number(2),
+        },
+        "shlnuw",
+        2,
+    );
+    word_is(
+        &rt,
+        Instruction::ShlNw {
+            a: number(1),
+            b: number(2),
+        },
+        "shlnw",
+        2,
+    );
+    word_is(
+        &rt,
+        Instruction::Lshr {
+            a: number(1),
+            b: number(2),
+        },
+        "lshr",
+        2,
+    );
+    word_is(
+        &rt,
+        Instruction::LshrExact {
+            a: number(1),
+            b: number(2),
+        },
+        "lshrexact",
+        2,
+    );
+    word_is(
+        &rt,
+        Instruction::Ashr {
+            a: number(1),
+            b: number(2),
+        },
+        "ashr",
+        2,
+    );
+    word_is(
+        &rt,
+        Instruction::AshrExact {
+            a: number(1),
+            b: number(2),
+        },
+        "ashrexact",
+        2,
+    );
     Ok(())
 }
 
 #[test]
 fn comparisons_have_their_words(rt: HostRuntime) -> Result<(), Fail> {
-    let (a, b) = (number(1), number(2));
-    word_is(&rt, Instruction::Eq { a, b }, "eq", 2);
-    word_is(&rt, Instruction::Ne { a, b }, "ne", 2);
-    word_is(&rt, Instruction::Ult { a, b }, "ult", 2);
-    word_is(&rt, Instruction::Slt { a, b }, "slt", 2);
-    word_is(&rt, Instruction::Ule { a, b }, "ule", 2);
-    word_is(&rt, Instruction::Sle { a, b }, "sle", 2);
+    word_is(
+        &rt,
+        Instruction::Eq {
+            a: number(1),
+            b: number(2),
+        },
+        "eq",
+        2,
+    );
+    word_is(
+        &rt,
+        Instruction::Ne {
+            a: number(1),
+            b: number(2),
+        },
+        "ne",
+        2,
+    );
+    word_is(
+        &rt,
+        Instruction::Ult {
+            a: number(1),
+            b: number(2),
+        },
+        "ult",
+        2,
+    );
+    word_is(
+        &rt,
+        Instruction::Slt {
+            a: number(1),
+            b: number(2),
+        },
+        "slt",
+        2,
+    );
+    word_is(
+        &rt,
+        Instruction::Ule {
+            a: number(1),
+            b: number(2),
+        },
+        "ule",
+        2,
+    );
+    word_is(
+        &rt,
+        Instruction::Sle {
+            a: number(1),
+            b: number(2),
+        },
+        "sle",
+        2,
+    );
     Ok(())
 }
 
 #[test]
 fn overflowing_operations_have_their_words(rt: HostRuntime) -> Result<(), Fail> {
-    let (a, b) = (number(1), number(2));
     word_is(
         &rt,
-        Instruction::SaddWithOverflow { a, b },
+        Instruction::SaddWithOverflow {
+            a: number(1),
+            b: number(2),
+        },
         "sadd.with.overflow",
         2,
     );
     word_is(
         &rt,
-        Instruction::UaddWithOverflow { a, b },
+        Instruction::UaddWithOverflow {
+            a: number(1),
+            b: number(2),
+        },
         "uadd.with.overflow",
         2,
     );
     word_is(
         &rt,
-        Instruction::SsubWithOverflow { a, b },
+        Instruction::SsubWithOverflow {
+            a: number(1),
+            b: number(2),
+        },
         "ssub.with.overflow",
         2,
     );
     word_is(
         &rt,
-        Instruction::UsubWithOverflow { a, b },
+        Instruction::UsubWithOverflow {
+            a: number(1),
+            b: number(2),
+        },
         "usub.with.overflow",
         2,
     );
     word_is(
         &rt,
-        Instruction::SmulWithOverflow { a, b },
+        Instruction::SmulWithOverflow {
+            a: number(1),
+            b: number(2),
+        },
         "smul.with.overflow",
         2,
     );
     word_is(
         &rt,
-        Instruction::UmulWithOverflow { a, b },
+        Instruction::UmulWithOverflow {
+            a: number(1),
+            b: number(2),
+        },
         "umul.with.overflow",
         2,
     );
-    word_is(&rt, Instruction::SaddSat { a, b }, "sadd.sat", 2);
-    word_is(&rt, Instruction::UaddSat { a, b }, "uadd.sat", 2);
-    word_is(&rt, Instruction::SsubSat { a, b }, "ssub.sat", 2);
-    word_is(&rt, Instruction::UsubSat { a, b }, "usub.sat", 2);
-    word_is(&rt, Instruction::ExtractValue { a, b }, "extractvalue", 2);
+    word_is(
+        &rt,
+        Instruction::SaddSat {
+            a: number(1),
+            b: number(2),
+        },
+        "sadd.sat",
+        2,
+    );
+    word_is(
+        &rt,
+        Instruction::UaddSat {
+            a: number(1),
+            b: number(2),
+        },
+        "uadd.sat",
+        2,
+    );
+    word_is(
+        &rt,
+        Instruction::SsubSat {
+            a: number(1),
+            b: number(2),
+        },
+        "ssub.sat",
+        2,
+    );
+    word_is(
+        &rt,
+        Instruction::UsubSat {
+            a: number(1),
+            b: number(2),
+        },
+        "usub.sat",
+        2,
+    );
+    word_is(
+        &rt,
+        Instruction::ExtractValue {
+            a: number(1),
+            b: number(2),
+        },
+        "extractvalue",
+        2,
+    );
     Ok(())
 }
 
 #[test]
 fn other_instructions_have_their_words(rt: HostRuntime) -> Result<(), Fail> {
-    let (a, b, c) = (number(1), number(2), number(3));
     word_is(&rt, Instruction::Hole, "hole", 0);
-    word_is(&rt, Instruction::Zext { a }, "zext", 1);
-    word_is(&rt, Instruction::Sext { a }, "sext", 1);
-    word_is(&rt, Instruction::Trunc { a }, "trunc", 1);
-    word_is(&rt, Instruction::Ctpop { a }, "ctpop", 1);
-    word_is(&rt, Instruction::Bswap { a }, "bswap", 1);
-    word_is(&rt, Instruction::BitReverse { a }, "bitreverse", 1);
-    word_is(&rt, Instruction::Cttz { a }, "cttz", 1);
-    word_is(&rt, Instruction::Ctlz { a }, "ctlz", 1);
-    word_is(&rt, Instruction::Freeze { a }, "freeze", 1);
-    word_is(&rt, Instruction::Select { a, b, c }, "select", 3);
-    word_is(&rt, Instruction::Fshl { a, b, c }, "fshl", 3);
-    word_is(&rt, Instruction::Fshr { a, b, c }, "fshr", 3);
+    word_is(&rt, Instruction::Zext { a: number(1) }, "zext", 1);
+    word_is(&rt, Instruction::Sext { a: number(1) }, "sext", 1);
+    word_is(&rt, Instruction::Trunc { a: number(1) }, "trunc", 1);
+    word_is(&rt, Instruction::Ctpop { a: number(1) }, "ctpop", 1);
+    word_is(&rt, Instruction::Bswap { a: number(1) }, "bswap", 1);
+    word_is(
+        &rt,
+        Instruction::BitReverse { a: number(1) },
+        "bitreverse",
+        1,
+    );
+    word_is(&rt, Instruction::Cttz { a: number(1) }, "cttz", 1);
+    word_is(&rt, Instruction::Ctlz { a: number(1) }, "ctlz", 1);
+    word_is(&rt, Instruction::Freeze { a: number(1) }, "freeze", 1);
+    word_is(
+        &rt,
+        Instruction::Select {
+            a: number(1),
+            b: number(2),
+            c: number(3),
+        },
+        "select",
+        3,
+    );
+    word_is(
+        &rt,
+        Instruction::Fshl {
+            a: number(1),
+            b: number(2),
+            c: number(3),
+        },
+        "fshl",
+        3,
+    );
+    word_is(
+        &rt,
+        Instruction::Fshr {
+            a: number(1),
+            b: number(2),
+            c: number(3),
+        },
+        "fshr",
+        3,
+    );
     Ok(())
 }
