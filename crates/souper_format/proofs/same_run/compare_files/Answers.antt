@@ -24,12 +24,12 @@ returns-in-Err-items_of_read g c =
       inr (
         (view_items c.in-Ok.items, c.in-Ok.ensures.spelled),
         (
-        c.read_text-2.result,
-        c.read_text-2.ensures,
-        second_refused (item_type_of c.args.kind) c.args.a.now c.args.b.now c.read_text.result c.read_text-2.result
-            (view_items c.in-Ok.items) out err c.in-Err-items_of_read.error c.tell_error-in-Err-items_of_read.result
-            (Keeps-refl _) c.in-Ok.ensures.spelled c.in-Err-items_of_read.ensures.refused
-            c.tell_error-in-Err-items_of_read.ensures,
+          c.read_text-2.result,
+          c.read_text-2.ensures,
+          second_refused (item_type_of c.args.kind) c.args.a.now c.args.b.now c.read_text.result c.read_text-2.result
+              (view_items c.in-Ok.items) out err c.in-Err-items_of_read.error c.tell_error-in-Err-items_of_read.result
+              (Keeps-refl _) c.in-Ok.ensures.spelled c.in-Err-items_of_read.ensures.refused
+              c.tell_error-in-Err-items_of_read.ensures,
         ),
       ),
     )
@@ -44,11 +44,11 @@ returns g c =
       inr (
         (view_items c.in-Ok.items, c.in-Ok.ensures.spelled),
         (
-        c.read_text-2.result,
-        c.read_text-2.ensures,
-        compared (item_type_of c.args.kind) c.args.a.now c.args.b.now c.read_text.result c.read_text-2.result
-            c.in-Ok.items c.in-Ok-items_of_read.items out err c.compare.result kinds c.in-Ok.ensures.spelled
-            c.in-Ok-items_of_read.ensures.spelled c.compare.ensures,
+          c.read_text-2.result,
+          c.read_text-2.ensures,
+          compared (item_type_of c.args.kind) c.args.a.now c.args.b.now c.read_text.result c.read_text-2.result
+              c.in-Ok.items c.in-Ok-items_of_read.items out err c.compare.result kinds c.in-Ok.ensures.spelled
+              c.in-Ok-items_of_read.ensures.spelled c.compare.ensures,
         ),
       ),
     )
