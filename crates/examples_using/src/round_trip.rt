@@ -33,6 +33,8 @@ mod tests {
     fn a_printed_item_is_read_back(rt: HostRuntime) -> Result<(), Fail> {
         let source = "%unused = var\n%b = var\n%a = var\npc %b 1\ninfer %a";
         let item = read_one(rt.alloc(), source)?.ok_or("not one")?;
+        let well_formed = item.is_well_formed()?;
+        assert!(rt; well_formed);
         let items = print_and_read(rt.alloc(), &item)?;
         assert_eq!(rt; items.len(), 1);
         for again in &items {
