@@ -1,6 +1,6 @@
 """Has the crate, whose printer drops path conditions, print them too.
 
-In an accepted text each condition is changed for a value of its operands, and each item's root for a phi of the roots and
+In an accepted text each condition is replaced by a value of its operands, and each item's root for a phi of the roots and
 of those values. The crate prints that phi's uses in order. In what it prints the values are changed back to conditions and
 the phi to the roots, and that is the text that is to be printed: the crate's own lines in the crate's own order.
 """

@@ -1,7 +1,7 @@
-//! What `souper-ir` answers for a text: `driver format KIND` reads standard input and parses it as KIND (lhs, rhs, rep).
-//! Where it is accepted, each item is printed as the crate prints it, with a newline behind it, and the status is 0.
-//! Where it is refused, the error is printed on standard error with a newline behind it, and the status is 1.
-//! `driver time KIND TURNS` does so TURNS times, without printing, and tells the seconds of the fastest turn.
+//! What `souper-ir` gives for a text: `driver format KIND` reads standard input and parses it as KIND (lhs, rhs, rep).
+//! If it is accepted, each item is printed as the crate prints it, with a newline after it, and the status is 0.
+//! If it is refused, the error is printed on standard error with a newline after it, and the status is 1.
+//! `driver time KIND TURNS` does so TURNS times, without printing, and prints the seconds of the fastest turn.
 use souper_ir::parse::{
     parse_left_hand_sides_str, parse_replacements_str, parse_right_hand_sides_str, Result,
 };

@@ -3,7 +3,7 @@
 
     large.py KIND ITEMS STATEMENTS [SEED]      KIND: lhs, rhs, rep
 
-Each item has about STATEMENTS statements, all of them in use or not, path conditions among them.
+Each item has about STATEMENTS statements, needed ones and others, path conditions among them.
 """
 import random
 import sys

@@ -1,5 +1,5 @@
 #!/usr/bin/env python3
-"""Asks the ported crate and this repository's program for the same texts, and compares their answers.
+"""Runs the ported crate and this repository's program on the same texts, and compares their results.
 
     run.py DRIVER PROGRAM [COUNT [SEED [FILE]]]
 
@@ -22,12 +22,12 @@ CHUNK = 200
 Answer = collections.namedtuple("Answer", "status out err")
 ACCEPTED, REFUSED, PANIC = 0, 1, 101
 
-# A text with the crate's answer and ours.
+# A text with the crate's result and ours.
 Case = collections.namedtuple("Case", "kind family text crate ours")
 
 
 class Programs:
-    """The two programs that are asked."""
+    """The two programs that are compared."""
 
     def __init__(self, driver, program):
         self.driver, self.program = driver, program
@@ -52,12 +52,12 @@ def first_line(answer):
 
 
 def first_line_alone(answer):
-    """The answer with no line of the source, which may have been changed, in its error."""
+    """The result with no line of the source, which may have been changed, in its error."""
     return answer._replace(err=first_line(answer))
 
 
 def place(answer):
-    """The line, the column and the message of an error; None where there is no error."""
+    """The line, the column and the message of an error; None if there is no error."""
     found = re.match(r"unknown:([0-9]+):([0-9]+): (.*)", answer.err, re.S)
     return found and (int(found[1]), int(found[2]), found[3].split("\n     |\n")[0])
 
@@ -68,10 +68,10 @@ def offset(text, line, column):
     return sum(len(part) + 1 for part in lines[:line - 1]) + column
 
 
-# The classes of explained differences. Each answers whether a case belongs to it.
+# The classes of explained differences. Each returns whether a case belongs to it.
 
 def path_conditions(case, programs):
-    """The crate's printer drops the path conditions, and prints what is printed here where they are made values."""
+    """The crate's printer drops the path conditions, and prints what is printed here when they are made values."""
     if case.crate.status != ACCEPTED or case.ours.status != ACCEPTED or not conditions.has_conditions(case.text):
         return False
     disguise = conditions.Disguise(case.kind, case.text)
@@ -80,8 +80,8 @@ def path_conditions(case, programs):
 
 
 def wide_column(case, programs):
-    """The crate panics where the mark's column is past 65535, the greatest width of a formatter. Of the text with some
-    blanks fewer it says the same at a lower column."""
+    """The crate panics if the mark's column is past 65535, the greatest width of a formatter. Of the text with some
+    spaces fewer it says the same at a lower column."""
     found, fewer = place(case.ours), 60000
     if case.crate.status != PANIC or case.ours.status != REFUSED or found[1] <= 65535:
         return False
@@ -90,12 +90,12 @@ def wide_column(case, programs):
 
 
 def ways(source):
-    """The number of ways into the block that a name stands for at the end of a source, one item or the front of one."""
+    """The number of predecessors of each block, by its name, at the end of a source, one item or a prefix of one."""
     return dict(re.findall(r"(%[0-9A-Za-z_.]+) (?:: i[0-9]+ )?= block (-?[0-9]+)", " ".join(words(source))))
 
 
 def bad_way(case, programs):
-    """The crate takes any number of a way; one that does not lead into the block is refused here."""
+    """The crate takes any number of a predecessor; one that the block does not have is refused here."""
     found = place(case.ours)
     said = found and re.fullmatch(r"predecessor ([0-9]+) out of range for block '(%.*)'", found[2])
     if not said or place(case.crate) and place(case.crate)[:2] <= found[:2]:
@@ -116,8 +116,8 @@ CLASSES = (path_conditions, wide_column, bad_way, number_fault)
 
 
 def without_comma(case):
-    """The text with a blank for the comma in a `cand` line at which the crate refuses it; None where it does not. A colon
-    behind the comma, which would now continue the first operand, becomes another mark that begins no operand."""
+    """The text with a space for the comma in a `cand` line at which the crate refuses it; None if it does not. A colon
+    after the comma, which would now continue the first operand, becomes another mark that begins no operand."""
     found = place(case.crate)
     if found is None or found[2] != "expected an integer literal" or case.kind != "rep":
         return None
@@ -135,7 +135,7 @@ def without_comma(case):
 
 
 def classify(case, programs):
-    """The name of the case's class, or None where nothing explains the difference."""
+    """The name of the case's class, or None if nothing explains the difference."""
     if case.crate == case.ours and case.crate.status == REFUSED:
         return "same error"
     if case.crate == case.ours and case.crate.status == ACCEPTED and not conditions.has_conditions(case.text):

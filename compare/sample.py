@@ -1,11 +1,11 @@
 #!/usr/bin/env python3
-"""A stored sample of answers, which is compared without the crate.
+"""A stored sample of results, which is compared without the crate.
 
-    sample.py write DRIVER PROGRAM FILE      asks both programs for many texts, and writes a sample of them
-    sample.py check FILE                     reads a sample, and prints how many answers of each class it holds
-    sample.py replay PROGRAM FILE            asks the program for each text of a sample, and compares
+    sample.py write DRIVER PROGRAM FILE      runs both programs on many texts, and writes a sample of them
+    sample.py check FILE                     reads a sample, and prints how many results of each class it holds
+    sample.py replay PROGRAM FILE            runs the program on each text of a sample, and compares
 
-The format of FILE stands in SAMPLE.md.
+SAMPLE.md has the format of FILE.
 """
 import collections
 import re
@@ -18,10 +18,10 @@ from conditions import words
 COUNT, SEED = 12000, 2
 LONGEST = 400
 
-# The class is `same` where the crate gives the same answer; else it says why it gives another.
+# The class is `same` if the crate gives the same result; else it says why it gives another.
 Record = collections.namedtuple("Record", "kind status reason text answer")
 
-# The classes of texts whose answers are in a sample, with their names in it.
+# The classes of texts whose results are in a sample, with their names in it.
 REASONS = {"same text": "same", "same error": "same", "comma in cand": "comma", "bad way": "way", "number fault": "number"}
 
 
@@ -56,13 +56,13 @@ def unpack(data):
 
 
 def record_of(case, name):
-    """The record of a case, whose answer is the printed text or the error without its newline."""
+    """The record of a case. Its answer is the printed text, or the error without its newline."""
     answer = case.ours.out if case.ours.status == run.ACCEPTED else case.ours.err.removesuffix("\n")
     return Record(case.kind, case.ours.status, REASONS[name], case.text, answer)
 
 
 def features(case, name):
-    """What a case shows, each with how many cases of a sample shall show it."""
+    """What a case shows, each with how many cases of a sample have to show it."""
     kind, accepted = case.kind, case.ours.status == run.ACCEPTED
     yield (kind, case.family, accepted), 2
     yield (kind, name), 5

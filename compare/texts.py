@@ -3,7 +3,7 @@
 
     texts.py COUNT [SEED]      prints how many texts there are of each kind and family
 
-`all_texts(count, seed)` answers COUNT different texts for each kind. The same arguments give the same texts.
+`all_texts(count, seed)` returns COUNT different texts for each kind. The same arguments give the same texts.
 """
 import collections
 import random
@@ -193,7 +193,7 @@ class Maker:
         return self.r.choice(("\n", "\r\n", "\t", "  ")) if k < 0.93 else self.r.choice(COMMENTS)
 
     def plain(self, lines):
-        """The lines, with blanks where people write them."""
+        """The lines, with spaces where people write them."""
         out = []
         for line in lines:
             text = " ".join(line)
@@ -202,7 +202,7 @@ class Maker:
         return "".join(out)
 
     def wild(self, lines):
-        """The tokens with any gaps between them, or none where none is needed."""
+        """The tokens with any gaps between them, or none if none is needed."""
         out, before = [self.gap() if self.chance(0.3) else ""], None
         for token in (t for line in lines for t in line):
             if before is not None and (sticks(before, token) or self.chance(0.5)):
@@ -223,7 +223,7 @@ PUNCTUATION = [",", "=", ":", "(", ")", "[", "]", "%", ";", "-", "+", "\"", "'",
 
 
 def damage_character(r, text):
-    """One character dropped, doubled, changed for another, or another put before it."""
+    """One character dropped, doubled, replaced by another, or another put before it."""
     if not text:
         return r.choice(PUNCTUATION)
     i = r.randrange(len(text))
@@ -239,7 +239,7 @@ def swap_characters(r, text):
 
 
 def damage_token(r, text):
-    """One token dropped, doubled, changed for another of the text or of the language, or swapped with another."""
+    """One token dropped, doubled, replaced by another of the text or of the language, or swapped with another."""
     parts = tokens(text)
     places = [i for i, t in enumerate(parts) if not is_gap(t)]
     if not places:
@@ -261,7 +261,7 @@ def damage_token(r, text):
 
 
 def replace_some(r, text, is_one, others):
-    """One token of a sort changed for another spelling, where the text has one."""
+    """One token of a sort replaced by another spelling, if the text has one."""
     parts = tokens(text)
     places = [i for i, t in enumerate(parts) if is_one(t)]
     if not places:
@@ -280,13 +280,13 @@ def damage_type(r, text):
 
 
 def damage_name(r, text):
-    """A name changed for another of the text, which may define it twice, or for one that is not defined."""
+    """A name replaced by another of the text, which may define it twice, or by one that is not defined."""
     return replace_some(r, text, lambda t: len(t) > 1 and t[0] == "%",
                         lambda parts: [t for t in parts if t[0] == "%"] + ["%nope", "%", "%é", "%日", "% x", "%%x"])
 
 
 def damage_attribute(r, text):
-    """An attribute of some sort, sound or not, put behind a line."""
+    """An attribute of some sort, sound or not, put after a line."""
     lines = text.split("\n")
     i = r.randrange(len(lines))
     lines[i] += " " + r.choice(r.choice((ATTRIBUTES, BAD_ATTRIBUTES, ROOT_ATTRIBUTES, BAD_ROOT_ATTRIBUTES)))
@@ -319,7 +319,7 @@ def cut(r, text):
 
 
 def damage_way(r, text):
-    """A `blockpc` for a way that may not lead into its block, put behind some line."""
+    """A `blockpc` whose number may be none of its block's predecessors, put after some line."""
     blocks = re.findall(r"(%[0-9A-Za-z_.]+) *= *block ([0-9]+)", text)
     if not blocks:
         return None
@@ -433,7 +433,7 @@ def odd_characters(end):
 
 
 def odd_lines(end):
-    """Lines of each sort of end, with a fault at the front, in the middle and at the end."""
+    """Lines of each sort of end, with a fault at the start, in the middle and at the end."""
     for line_end in ("\n", "\r\n", "\r", "\n\n", "\r\r\n", "\n\r"):
         for fault in ("]", "%x = varr", "%r = var", "infer %zz", "result %zz", "%", "1", "é", ""):
             yield line_end.join(("%r = var", fault, end, ""))

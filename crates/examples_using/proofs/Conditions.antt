@@ -1,4 +1,4 @@
--- The path conditions among statements that stand with their positions.
+-- The path conditions among statements with their positions.
 use Rattle.std.proofs.Common.{◌≡◌, ℕ, suc, ◌+◌, List, [], ◌∷◌, map, if◌then◌else◌, refl, ap, subst, arith}
 use Rattle.std.specs.List.{enumerate_from}
 use Rattle.souper_graph.specs.declared.ast.statements.Statement.{Statement}

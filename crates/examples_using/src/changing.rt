@@ -2,7 +2,7 @@
 use souper_ir::ast::{LeftHandSide, Statement, Type};
 use souper_ir::stringify::TextError;
 
-/// Writes a type behind the name of the value that is to be replaced, and answers the new text.
+/// Writes a type after the name of the value that is to be replaced, and returns the new text.
 pub fn typed(item: &mut LeftHandSide, width: u16) -> Result<String, TextError> {
     let root = item.infer.value;
     if let Some(Statement::Assignment(assignment)) = item.statements.get_mut(root.into()) {

@@ -1,4 +1,4 @@
-//! Reading a text, and what to say where it is refused.
+//! Reading a text, and what to say if it is refused.
 ghost use Rattle.std.specs.Prelude.{◌∷◌, [], IfOk, IfSome};
 ghost use Rattle.souper_graph.specs.View.{view_left_hand_side};
 ghost use Rattle.souper_graph.specs.Syntax.Spelling.{TextSpells, left_hand_side};
@@ -7,19 +7,19 @@ use souper_ir::ast::LeftHandSide;
 use souper_ir::parse::{ParseError, parse_left_hand_sides_str};
 use std::alloc::{AllocError, Global};
 
-/// How many left-hand sides the text has, or where and why it is refused.
+/// The number of left-hand sides in the text, or where and why it is refused.
 pub fn report(alloc: Global, source: &str) -> Result<String, AllocError> {
     match parse_left_hand_sides_str(alloc, source, Some("input.souper")) {
         Ok(items) => format!(in alloc; "left-hand sides: {}", items.len()),
         Err(error) => match error.offset() {
             Some(offset) => format!(in alloc; "refused at byte {offset}\n{error}"),
-            // Of a text, the kind `ParseErrorKind::Memory` alone is left.
+            // For a text, the only other kind is `ParseErrorKind::Memory`.
             None => Err(AllocError),
         },
     }
 }
 
-/// The left-hand side that the text spells, where it spells one and no more.
+/// The left-hand side that the text spells, if it spells exactly one.
 pub fn read_one(alloc: Global, source: &str) -> Result<Option<LeftHandSide>, ParseError>
     ensures { IfOk result (λ found. IfSome found (λ item. TextSpells left_hand_side source.now (view_left_hand_side item ∷ []))) }
 {

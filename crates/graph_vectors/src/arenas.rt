@@ -153,8 +153,10 @@ fn text_errors_are_shown(rt: HostRuntime) -> Result<(), Fail> {
 }
 
 #[test]
-fn shrunk_and_copied_arenas_keep_their_statements(rt: HostRuntime) -> Result<(), Fail> {
+fn grown_shrunk_and_copied_arenas_keep_their_statements(rt: HostRuntime) -> Result<(), Fail> {
     let mut statements = variables(rt.alloc(), &["%a", "%b"])?;
+    statements.reserve(16)?;
+    assert_eq!(rt; statements.len(), 2);
     statements.shrink_to_fit();
     assert_eq!(rt; statements.len(), 2);
     let copy = statements.clone()?;

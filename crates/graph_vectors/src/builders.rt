@@ -159,7 +159,7 @@ fn left_hand_side_builder_grows_too(rt: HostRuntime) -> Result<(), Fail> {
     Ok(())
 }
 
-// A block of two ways with a condition on the second.
+// A block with two predecessors and a condition on the second.
 fn conditioned(alloc: Global) -> Result<LeftHandSide, Fail> {
     let mut builder = LeftHandSideBuilder::new(alloc);
     let block = builder.block(name(alloc, "%b")?, 2)?;
@@ -187,7 +187,7 @@ fn conditions_on_ways_are_put(rt: HostRuntime) -> Result<(), Fail> {
     Ok(())
 }
 
-// A value that was just put is got.
+// A value that was just appended is found.
 fn own_name(alloc: Global, text: &str) -> Result<String, Fail> {
     let mut builder = LeftHandSideBuilder::new(alloc);
     let x = builder.assignment(
@@ -242,7 +242,7 @@ fn values_are_got_by_their_id(rt: HostRuntime) -> Result<(), Fail> {
     Ok(())
 }
 
-// What is shown for `{:?}` is not promised, but that something is.
+// What is shown for `{:?}` is not specified, but that something is.
 #[test]
 fn builders_and_orders_have_a_debug_text(rt: HostRuntime) -> Result<(), Fail> {
     let builder = LeftHandSideBuilder::new(rt.alloc());

@@ -151,7 +151,7 @@ pub fn typed(value: i128, width: u16) -> Operand {
     Constant { value, ty }.into()
 }
 
-// The id of the position, of an arena that is not at hand.
+// The id of the position, for an arena that is not at hand.
 pub fn foreign_id(alloc: Global, index: usize) -> Result<ValueId, AllocError> {
     let mut other = Graph::new(alloc);
     let mut id = other.var("%0")?;

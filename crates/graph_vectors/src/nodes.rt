@@ -10,7 +10,7 @@ use std::default::Default;
 use std::process::Abort;
 use std::test::Fail;
 
-// The instruction has this word, so many operands, and this text.
+// The instruction has this word, this number of operands, and this text.
 fn instruction_is(
     rt: &impl Abort,
     alloc: Global,
@@ -106,7 +106,7 @@ fn attributes_are_shown(rt: HostRuntime) -> Result<(), Fail> {
     Ok(())
 }
 
-// Behind the text that `out` holds the node's text is put, and is that of the node.
+// The node's text is appended to what `out` holds, and is that of the node.
 fn displays<N: DisplayWithContext>(
     rt: &impl Abort,
     alloc: Global,
@@ -122,7 +122,7 @@ fn displays<N: DisplayWithContext>(
     Ok(())
 }
 
-// A variable and a block of two ways.
+// A variable and a block with two predecessors.
 fn two_values(alloc: Global) -> Result<(Graph, ValueId, BlockId), AllocError> {
     let mut graph = Graph::new(alloc);
     let x = graph.typed_var("%x", 8)?;

@@ -1,4 +1,4 @@
-//! Width, fill, precision and sign play no part in the shown text of a node, an item or an error.
+//! Width, fill, precision and sign are ignored in the shown text of a node, an item or an error.
 use crate::building::{Graph, foreign_id, number, typed};
 use souper_graph::ast::{Attribute, Block, Constant, RootAttribute, Type};
 use souper_graph::stringify::TextError;

@@ -19,6 +19,9 @@ macro_rules! checks {
         assert_eq!($rt; $item.is_well_formed()?, $well_formed, "in {:?}", $want);
         let again = $item.clone()?.to_text()?;
         assert_eq!($rt; again.as_str(), $want);
+        let mut appended = String::from_str($alloc, "before\n")?;
+        $item.append_text(&mut appended)?;
+        assert_eq!($rt; appended.strip_prefix("before\n"), Some($want));
     }};
 }
 
@@ -209,7 +212,7 @@ fn turned_conditions_stay_turned(rt: HostRuntime) -> Result<(), Fail> {
     replacement_is(&rt, rt.alloc(), &item, text, true)
 }
 
-// A condition on a way into a block of so many.
+// A condition on a predecessor of a block with `predecessors` predecessors.
 fn on_a_way(alloc: Global, predecessors: u32) -> Result<(LeftHandSide, Id<Statement>), AllocError> {
     let mut graph = Graph::new(alloc);
     let block = graph.block("%bb", predecessors)?;
@@ -315,7 +318,7 @@ fn unneeded_statements_are_neither_printed_nor_judged(rt: HostRuntime) -> Result
     Ok(())
 }
 
-// What an item is refused for, by each of its texts.
+// The error of an item, by each of its texts.
 fn refused(
     rt: &impl Abort,
     alloc: Global,
@@ -323,6 +326,9 @@ fn refused(
     want: TextError,
 ) -> Result<(), Fail> {
     assert_eq!(rt; item.to_text().err(), Some(want));
+    let mut kept = String::from_str(alloc, "before")?;
+    assert_eq!(rt; item.append_text(&mut kept).err(), Some(want));
+    assert_eq!(rt; kept.as_str(), "before");
     assert_eq!(rt; item.print_order().err(), Some(want));
     assert!(rt; item.to_string(alloc).is_err());
     assert_eq!(rt; item.is_well_formed()?, false);
@@ -418,7 +424,7 @@ fn statements_that_use_each_other_have_a_text(rt: HostRuntime) -> Result<(), Fai
     Ok(())
 }
 
-// A variable, and so many doublings of the one before.
+// A variable, and a chain of doublings, each of the one before.
 fn chain(alloc: Global, doublings: u32) -> Result<(LeftHandSide, String), AllocError> {
     let mut graph = Graph::new(alloc);
     let mut text = String::from_str(alloc, "%0 = var\n")?;

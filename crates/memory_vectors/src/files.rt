@@ -1,9 +1,9 @@
-//! Files that are read, and files that are compared. The writers are arrays, which need no memory.
+//! Files that are read, and files that are compared. The writers are arrays, which do not allocate.
 use crate::met::{Met, answered, strictly};
 use crate::runs::holds;
 use crate::texts::{
-    ATTRIBUTES, ATTRIBUTES_TEXT, TWO_ITEMS, TWO_TEXTS, left_hand_side_text, replacement_text,
-    right_hand_side_text, shown, wants_memory,
+    ATTRIBUTES, TWO_ITEMS, are_attributes, are_two_items, is_refusal, right_hand_side_text, shown,
+    wants_memory,
 };
 use souper_format::command::Kind;
 use souper_format::same_run::same_run;
@@ -18,15 +18,15 @@ use std::process::Abort;
 use std::rt::Files;
 use std::test::Fail;
 
-// The error is want of memory, or tells of a read that failed.
-fn is_for_memory(rt: &impl Abort, alloc: Global, error: &ParseError) -> Result<(), Fail> {
+// The error is out of memory, or that of a read that failed.
+fn is_for_memory(rt: &impl Abort, alloc: Global, error: &ParseError) -> Result<Met, Fail> {
     if error.kind() != ParseErrorKind::Io {
         return wants_memory(rt, alloc, error);
     }
     assert!(rt; error.offset().is_none());
     let text = shown(alloc, error)?;
     assert!(rt; text.as_str().starts_with("IO error: "));
-    Ok(())
+    Ok(Met::Refused)
 }
 
 // Reads the item with attributes.
@@ -35,19 +35,8 @@ fn attributes<R: Files + AllocGlobal + Abort>(rt: &R, alloc: Global) -> Result<M
         return Ok(Met::Unreached);
     };
     match parse_left_hand_sides_file(rt, alloc, "attributes") {
-        Ok(items) => {
-            let met = answered(alloc);
-            assert_eq!(rt; items.len(), 1);
-            for item in items.iter() {
-                let text = left_hand_side_text(item)?;
-                assert_eq!(rt; text.as_str(), ATTRIBUTES_TEXT);
-            }
-            Ok(met)
-        }
-        Err(error) => {
-            is_for_memory(rt, alloc, &error)?;
-            Ok(Met::Refused)
-        }
+        Ok(items) => are_attributes(rt, alloc, items.as_slice()),
+        Err(error) => is_for_memory(rt, alloc, &error),
     }
 }
 
@@ -77,10 +66,7 @@ fn results<R: Files + AllocGlobal + Abort>(rt: &R, alloc: Global) -> Result<Met,
             }
             Ok(met)
         }
-        Err(error) => {
-            is_for_memory(rt, alloc, &error)?;
-            Ok(Met::Refused)
-        }
+        Err(error) => is_for_memory(rt, alloc, &error),
     }
 }
 
@@ -101,19 +87,8 @@ fn two_items<R: Files + AllocGlobal + Abort>(rt: &R, alloc: Global) -> Result<Me
         return Ok(Met::Unreached);
     };
     match parse_replacements_file(rt, alloc, "two_items") {
-        Ok(items) => {
-            let met = answered(alloc);
-            assert_eq!(rt; items.len(), 2);
-            for (item, want) in items.iter().zip(&TWO_TEXTS) {
-                let text = replacement_text(item)?;
-                assert_eq!(rt; text.as_str(), *want);
-            }
-            Ok(met)
-        }
-        Err(error) => {
-            is_for_memory(rt, alloc, &error)?;
-            Ok(Met::Refused)
-        }
+        Ok(items) => are_two_items(rt, alloc, items.as_slice()),
+        Err(error) => is_for_memory(rt, alloc, &error),
     }
 }
 
@@ -142,14 +117,10 @@ fn refusal<R: Files + AllocGlobal + Abort>(rt: &R, alloc: Global) -> Result<Met,
         return Err(Fail::new("a name is unknown"));
     };
     if error.kind() != ParseErrorKind::Parse {
-        is_for_memory(rt, alloc, &error)?;
-        return Ok(Met::Refused);
+        return is_for_memory(rt, alloc, &error);
     }
-    let met = answered(alloc);
-    assert!(rt; error.offset() == Some(6));
-    let text = shown(alloc, &error)?;
-    assert!(rt; REFUSAL.strip_suffix("\n") == Some(text.as_str()));
-    Ok(met)
+    let want = REFUSAL.strip_suffix("\n").ok_or("no newline")?;
+    is_refusal(rt, alloc, &error, 6, want)
 }
 
 #[test]
@@ -167,7 +138,7 @@ const FIRST: &str = "%b = var\n%a = var\n%c = add %a, %b\ninfer %c";
 
 const SECOND: &str = "%a = var\n%b = var\n%c = add %a, %b\ninfer %c";
 
-// Compares two files, which ends in this status with these bytes, or in want of memory.
+// Compares two files, which ends in this status with these bytes, or in out of memory.
 fn compare<R: Files + AllocGlobal + Abort>(
     rt: &R,
     alloc: Global,

@@ -1,4 +1,4 @@
-//! An arena that grows where it has no room left, and what tests of builders share.
+//! An arena that grows when it is full, and what tests of builders share.
 ghost use Rattle.std.specs.Prelude.{IfOk};
 ghost use Rattle.souper_graph.specs.Building.{BeginsWithPercent};
 
@@ -14,7 +14,7 @@ pub fn number(value: i128) -> Operand {
     Constant { value, ty: None }.into()
 }
 
-/// The name, or none where the text does not begin with `%`.
+/// The name, or none if the text does not begin with `%`.
 pub fn name(alloc: Global, text: &str) -> Result<Option<String>, AllocError>
     ensures { IfOk result (λ name. BeginsWithPercent name) }
 {
@@ -33,7 +33,7 @@ pub fn met(alloc: Global, has_grown: bool) -> Met {
     }
 }
 
-/// The arena has the statements with these lines, and the one of the last line where the call put it.
+/// The arena has the statements with these lines, and the one of the last line if the call appended it.
 pub fn holds(
     rt: &impl Abort,
     alloc: Global,
@@ -45,7 +45,7 @@ pub fn holds(
     assert_eq!(rt; statements.len(), len);
     for ((_, statement), want) in statements.iter().zip(lines) {
         let mut out = String::new(alloc);
-        // One request of a run is refused, so that a second try has its memory.
+        // One allocation of a run fails, so that a second try has its memory.
         if let Err(TextError::OutOfMemory) = statement.display(statements, &mut out) {
             statement.display(statements, &mut out)?;
         }

@@ -87,7 +87,7 @@ fn ordering(rt: HostRuntime) -> Result<(), Fail> {
     Ok(())
 }
 
-// Judges whether the items are well formed.
+// Checks whether the items are well formed.
 fn judgements(rt: &impl Abort, alloc: Global) -> Result<Met, Fail> {
     let Ok(items) = parse_replacements_str(alloc, TWO_ITEMS, None) else {
         return Ok(Met::Unreached);
@@ -196,7 +196,7 @@ fn copying_attributes(rt: HostRuntime) -> Result<(), Fail> {
     Ok(())
 }
 
-// Writes the lines of the statements of one item, each behind a text that is there.
+// Writes the lines of the statements of one item, each after a text that is there.
 fn lines(rt: &impl Abort, alloc: Global, index: usize, wants: &[&str; 4]) -> Result<Met, Fail> {
     let Ok(items) = parse_replacements_str(alloc, TWO_ITEMS, None) else {
         return Ok(Met::Unreached);

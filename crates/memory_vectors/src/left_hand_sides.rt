@@ -1,4 +1,4 @@
-//! Builders of left-hand sides. Each call is made where the arena has no room left.
+//! Builders of left-hand sides. Each call is made when the arena is full.
 ghost use Rattle.std.specs.Prelude.{map, slice_get, ◌<◌, IfOk};
 ghost use Rattle.souper_graph.specs.Faults.{IsBlock};
 ghost use Rattle.souper_graph.specs.View.{view_statement};
@@ -11,7 +11,7 @@ use std::alloc::{AllocError, Global};
 use std::process::Abort;
 use std::test::Fail;
 
-// A builder of a block of two ways and three conditions.
+// A builder of a block with two predecessors and three conditions.
 fn filled(alloc: Global) -> Result<(LeftHandSideBuilder, BlockId), AllocError>
     ensures block { IfOk result (λ filled. IsBlock (slice_get (map view_statement filled.0) filled.1)) }
     ensures ways { IfOk result (λ filled. 1 < predecessors_at (map view_statement filled.0) filled.1) }
@@ -24,7 +24,7 @@ fn filled(alloc: Global) -> Result<(LeftHandSideBuilder, BlockId), AllocError>
     Ok((builder, block))
 }
 
-// The item has the statements of `filled`, and the one of the line where the call put it.
+// The item has the statements of `filled`, and the one of the line if the call appended it.
 fn ends(
     rt: &impl Abort,
     alloc: Global,
@@ -36,7 +36,7 @@ fn ends(
     holds(rt, alloc, &item.statements, &lines, met)
 }
 
-// Puts a named assignment.
+// Appends a named assignment.
 fn named_assignment(rt: &impl Abort, alloc: Global) -> Result<Met, Fail> {
     let Ok((mut builder, block)) = filled(alloc) else {
         return Ok(Met::Unreached);
@@ -67,7 +67,7 @@ fn putting_a_named_assignment(rt: HostRuntime) -> Result<(), Fail> {
     Ok(())
 }
 
-// Puts an unnamed assignment.
+// Appends an unnamed assignment.
 fn unnamed_assignment(rt: &impl Abort, alloc: Global) -> Result<Met, Fail> {
     let Ok((mut builder, block)) = filled(alloc) else {
         return Ok(Met::Unreached);
@@ -94,7 +94,7 @@ fn putting_an_unnamed_assignment(rt: HostRuntime) -> Result<(), Fail> {
     Ok(())
 }
 
-// Puts a named block.
+// Appends a named block.
 fn named_block(rt: &impl Abort, alloc: Global) -> Result<Met, Fail> {
     let Ok((mut builder, block)) = filled(alloc) else {
         return Ok(Met::Unreached);
@@ -119,7 +119,7 @@ fn putting_a_named_block(rt: HostRuntime) -> Result<(), Fail> {
     Ok(())
 }
 
-// Puts an unnamed block.
+// Appends an unnamed block.
 fn unnamed_block(rt: &impl Abort, alloc: Global) -> Result<Met, Fail> {
     let Ok((mut builder, block)) = filled(alloc) else {
         return Ok(Met::Unreached);
@@ -141,7 +141,7 @@ fn putting_an_unnamed_block(rt: HostRuntime) -> Result<(), Fail> {
     Ok(())
 }
 
-// Puts a condition.
+// Appends a condition.
 fn condition(rt: &impl Abort, alloc: Global) -> Result<Met, Fail> {
     let Ok((mut builder, block)) = filled(alloc) else {
         return Ok(Met::Unreached);
@@ -163,7 +163,7 @@ fn putting_a_condition(rt: HostRuntime) -> Result<(), Fail> {
     Ok(())
 }
 
-// Puts a condition on a way.
+// Appends a condition on a predecessor.
 fn condition_on_a_way(rt: &impl Abort, alloc: Global) -> Result<Met, Fail> {
     let Ok((mut builder, block)) = filled(alloc) else {
         return Ok(Met::Unreached);

@@ -1,9 +1,9 @@
-//! Tests of calls that are refused memory.
+//! Tests of calls in which an allocation fails.
 //!
-//! Each case is a function that makes its call and asserts that the answer is one of those that are allowed: what is
-//! answered with ample memory, which is written out, or want of memory with all as before. It has two tests. The one
-//! named `_answers` passes only for the answer of ample memory, the other for both. `.ci/refused-memory` runs them with
-//! each request for memory refused in turn.
+//! Each case is a function that makes its call and asserts that the result is one of those that are allowed: the result
+//! with ample memory, which is written out, or out of memory with all as before. It has two tests. The one named
+//! `_answers` passes only for the result with ample memory, the other for both. `.ci/refused-memory` runs them with
+//! each allocation failing in turn.
 #![tactic(auto)]
 
 #[cfg(test)]

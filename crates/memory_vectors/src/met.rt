@@ -1,21 +1,21 @@
-//! What became of a call while one request for memory was refused.
+//! What became of a call while one allocation failed.
 use std::alloc::Global;
 use std::test::Fail;
 
-/// What became of a call whose answer was allowed.
+/// What became of a call whose result was allowed.
 #[derive(Clone, Copy)]
 pub enum Met {
-    /// Memory was refused before the call.
+    /// An allocation failed before the call.
     Unreached,
-    /// The call answered want of memory.
+    /// The call returned out of memory.
     Refused,
-    /// The call answered what it answers with ample memory.
+    /// The call returned its result with ample memory.
     Answered,
-    /// The same, and the refused request is the next one after the call's.
+    /// The same, and the allocation that fails is the next one after the call's.
     NoneRefused,
 }
 
-/// The call just answered what it answers with ample memory.
+/// The call just returned its result with ample memory.
 pub fn answered(alloc: Global) -> Met {
     match Vec::from_slice(alloc, b"next") {
         Ok(_) => Met::Answered,
@@ -23,7 +23,7 @@ pub fn answered(alloc: Global) -> Met {
     }
 }
 
-/// Passes only for the answer of ample memory, and tells the script why not.
+/// Passes only for the result with ample memory, and reports to the script why not.
 pub fn strictly(met: Met) -> Result<(), Fail> {
     match met {
         Met::Answered => Ok(()),

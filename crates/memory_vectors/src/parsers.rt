@@ -10,7 +10,7 @@ use std::alloc::Global;
 use std::process::Abort;
 use std::test::Fail;
 
-// The parser answers want of memory to every call.
+// The parser returns out of memory from every call.
 fn stays_failed(rt: &impl Abort, alloc: Global, parser: &mut Parser<'_>) -> Result<(), Fail> {
     let error = LeftHandSide::parse(parser).err().ok_or("an item")?;
     wants_memory(rt, alloc, &error)?;
@@ -19,7 +19,8 @@ fn stays_failed(rt: &impl Abort, alloc: Global, parser: &mut Parser<'_>) -> Resu
     let error = <Vec<Assignment>>::parse(parser).err().ok_or("a list")?;
     wants_memory(rt, alloc, &error)?;
     let error = Replacement::parse(parser).err().ok_or("an item")?;
-    wants_memory(rt, alloc, &error)
+    wants_memory(rt, alloc, &error)?;
+    Ok(())
 }
 
 // Takes the two items.
@@ -88,7 +89,7 @@ fn taking_attributes(rt: HostRuntime) -> Result<(), Fail> {
     Ok(())
 }
 
-// The error is a refusal at offset 6 with the message, or want of memory. Whether it is the refusal.
+// The error is a refusal at offset 6 with the message, or out of memory. Whether it is the refusal.
 fn refuses(rt: &impl Abort, alloc: Global, error: &ParseError, want: &str) -> Result<bool, Fail> {
     if error.kind() != ParseErrorKind::Parse {
         wants_memory(rt, alloc, error)?;

@@ -1,4 +1,4 @@
-//! Runs of the formatter. The writers are arrays, which need no memory.
+//! Runs of the formatter. The writers are arrays, which do not allocate.
 use crate::met::{Met, answered, strictly};
 use souper_format::command::Kind;
 use souper_format::run::format_run;
@@ -7,7 +7,7 @@ use std::alloc::Global;
 use std::process::Abort;
 use std::test::Fail;
 
-/// Whether the array was given these bytes and no others.
+/// Whether these bytes, and no others, were written to the array.
 pub fn holds(array: &[u8], bytes: &[u8]) -> bool {
     match array.strip_prefix(bytes) {
         Some(rest) => rest.iter().all(|byte| *byte == 0),
@@ -15,7 +15,7 @@ pub fn holds(array: &[u8], bytes: &[u8]) -> bool {
     }
 }
 
-// Formats the source, which ends in this status with these bytes, or in want of memory.
+// Formats the source, which ends in this status with these bytes, or in out of memory.
 fn run(
     rt: &impl Abort,
     alloc: Global,

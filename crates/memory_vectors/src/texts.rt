@@ -27,7 +27,7 @@ pub const ATTRIBUTES: &str =
 pub const ATTRIBUTES_TEXT: &str =
     "%x:i4 = var (knownBits=01x1) (signBits=1)\ninfer %x (demandedBits=0011) (harvestedFromUse)\n";
 
-/// The replacement's text. One request of a run is refused, so that a second try has its memory.
+/// The replacement's text. One allocation of a run fails, so that a second try has its memory.
 pub fn replacement_text(item: &Replacement) -> Result<String, TextError> {
     match item.to_text() {
         Err(TextError::OutOfMemory) => item.to_text(),
@@ -59,31 +59,57 @@ pub fn shown(alloc: Global, error: &ParseError) -> Result<String, Fail> {
     }
 }
 
-/// The error is want of memory.
-pub fn wants_memory(rt: &impl Abort, alloc: Global, error: &ParseError) -> Result<(), Fail> {
+/// The error is out of memory.
+pub fn wants_memory(rt: &impl Abort, alloc: Global, error: &ParseError) -> Result<Met, Fail> {
     assert!(rt; error.kind() == ParseErrorKind::Memory);
     assert!(rt; error.offset().is_none());
     let text = shown(alloc, error)?;
     assert_eq!(rt; text.as_str(), "out of memory");
-    Ok(())
+    Ok(Met::Refused)
+}
+
+/// A call just returned the two items.
+pub fn are_two_items(rt: &impl Abort, alloc: Global, items: &[Replacement]) -> Result<Met, Fail> {
+    let met = answered(alloc);
+    assert_eq!(rt; items.len(), 2);
+    for (item, want) in items.iter().zip(&TWO_TEXTS) {
+        let text = replacement_text(item)?;
+        assert_eq!(rt; text.as_str(), *want);
+    }
+    Ok(met)
+}
+
+/// A call just returned the item with attributes.
+pub fn are_attributes(rt: &impl Abort, alloc: Global, items: &[LeftHandSide]) -> Result<Met, Fail> {
+    let met = answered(alloc);
+    assert_eq!(rt; items.len(), 1);
+    for item in items.iter() {
+        let text = left_hand_side_text(item)?;
+        assert_eq!(rt; text.as_str(), ATTRIBUTES_TEXT);
+    }
+    Ok(met)
+}
+
+/// A call just returned a refusal, which is at this offset and shows this text.
+pub fn is_refusal(
+    rt: &impl Abort,
+    alloc: Global,
+    error: &ParseError,
+    offset: usize,
+    want: &str,
+) -> Result<Met, Fail> {
+    let met = answered(alloc);
+    assert!(rt; error.offset() == Some(offset));
+    let text = shown(alloc, error)?;
+    assert_eq!(rt; text.as_str(), want);
+    Ok(met)
 }
 
 // Reads the two items.
 fn two_items(rt: &impl Abort, alloc: Global) -> Result<Met, Fail> {
     match parse_replacements_str(alloc, TWO_ITEMS, None) {
-        Ok(items) => {
-            let met = answered(alloc);
-            assert_eq!(rt; items.len(), 2);
-            for (item, want) in items.iter().zip(&TWO_TEXTS) {
-                let text = replacement_text(item)?;
-                assert_eq!(rt; text.as_str(), *want);
-            }
-            Ok(met)
-        }
-        Err(error) => {
-            wants_memory(rt, alloc, &error)?;
-            Ok(Met::Refused)
-        }
+        Ok(items) => are_two_items(rt, alloc, items.as_slice()),
+        Err(error) => wants_memory(rt, alloc, &error),
     }
 }
 
@@ -101,19 +127,8 @@ fn reading_two_items(rt: HostRuntime) -> Result<(), Fail> {
 // Reads the item with attributes.
 fn attributes(rt: &impl Abort, alloc: Global) -> Result<Met, Fail> {
     match parse_left_hand_sides_str(alloc, ATTRIBUTES, None) {
-        Ok(items) => {
-            let met = answered(alloc);
-            assert_eq!(rt; items.len(), 1);
-            for item in items.iter() {
-                let text = left_hand_side_text(item)?;
-                assert_eq!(rt; text.as_str(), ATTRIBUTES_TEXT);
-            }
-            Ok(met)
-        }
-        Err(error) => {
-            wants_memory(rt, alloc, &error)?;
-            Ok(Met::Refused)
-        }
+        Ok(items) => are_attributes(rt, alloc, items.as_slice()),
+        Err(error) => wants_memory(rt, alloc, &error),
     }
 }
 
@@ -135,15 +150,10 @@ fn name_twice(rt: &impl Abort, alloc: Global) -> Result<Met, Fail> {
         return Err(Fail::new("a name is defined twice"));
     };
     if error.kind() != ParseErrorKind::Parse {
-        wants_memory(rt, alloc, &error)?;
-        return Ok(Met::Refused);
+        return wants_memory(rt, alloc, &error);
     }
-    let met = answered(alloc);
-    assert!(rt; error.offset() == Some(9));
-    let text = shown(alloc, &error)?;
     let want = "unknown:1:9: cannot redefine '%x'\n     |\n   1 | %x = var\n     |         ^";
-    assert_eq!(rt; text.as_str(), want);
-    Ok(met)
+    is_refusal(rt, alloc, &error, 9, want)
 }
 
 #[test]

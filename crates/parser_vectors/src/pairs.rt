@@ -1,4 +1,4 @@
-//! Two constants, one after the other: a type of a user of the parser, with a grammar of its own.
+//! Two constants in sequence: a type of a user of the parser, with a grammar of its own.
 
 ghost use Rattle.std.specs.Prelude.{refl};
 ghost use Rattle.souper_ir.specs.NodeReadings.{is_int};
@@ -7,7 +7,7 @@ ghost use Rattle.parser_vectors.specs.Pairs.{pair_spells, pair_continues, pair_a
 use souper_ir::ast::Constant;
 use souper_ir::parse::{Parse, Parser, Peek, Result};
 
-/// Two constants that stand one after the other.
+/// Two constants in sequence.
 #[derive(Clone, Copy, Debug, PartialEq, Eq)]
 pub struct Pair {
     pub first: Constant,

@@ -9,7 +9,7 @@ use std::io;
 use std::process::Abort;
 use std::test::Fail;
 
-// The error is a refusal at the offset, with the message and no place.
+// The error is a refusal at the offset, with the message and without a place.
 pub fn tells(
     rt: &impl Abort,
     alloc: Global,
@@ -40,7 +40,7 @@ fn parsed<P: Parse>(alloc: Global, source: &str) -> Result<P, ParseError> {
     P::parse(&mut Parser::new(alloc, source))
 }
 
-// Whether a value begins the source.
+// Whether the source begins with a value.
 fn peeked<P: Peek>(alloc: Global, source: &str) -> Result<bool, ParseError> {
     P::peek(&mut Parser::new(alloc, source))
 }
@@ -270,7 +270,7 @@ fn lexical_fault_is_refused_by_peek(rt: HostRuntime) -> Result<(), Fail> {
     tells(&rt, rt.alloc(), error, 0, failed)
 }
 
-// The value is seen to come at the front of the source, and not at an equals sign.
+// The source begins with a value, as `peek` returns; an equals sign does not.
 fn sees<P: Peek>(rt: &impl Abort, alloc: Global, source: &str) -> Result<(), Fail> {
     assert!(rt; peeked::<P>(alloc, source)?, "in {source:?}");
     assert!(rt; !peeked::<P>(alloc, "=")?, "in {source:?}");
@@ -381,7 +381,7 @@ fn other_faults_are_told_by_their_kind(rt: HostRuntime) -> Result<(), Fail> {
     Ok(())
 }
 
-// What is shown for `{:?}` is not promised, but that something is.
+// What is shown for `{:?}` is not specified, but that something is.
 #[test]
 fn parsers_have_a_debug_text(rt: HostRuntime) -> Result<(), Fail> {
     let parser = Parser::new(rt.alloc(), "infer %x");

@@ -1,4 +1,4 @@
--- Definitions. What a stored answer says of its text.
+-- Definitions. What a stored result says of its text.
 use Rattle.std.specs.Prelude.{ℕ, List, [], Bool, true, false}
 use Rattle.souper_graph.specs.Syntax.Spelling.{ItemType, SpellsNone}
 use Rattle.souper_format.specs.Formatted.{IsFormatted}
@@ -6,7 +6,7 @@ use Rattle.souper_format.specs.Kinds.{item_type_of}
 use Rattle.replay_answers.specs.declared.records.Record.{Record}
 use Rattle.replay_answers.specs.Records.{IsTaken}
 
--- the text spells no items where it is refused, and else the answer is the canonical texts of the items that it spells
+-- the text spells no items if it is refused, and else the result is the canonical texts of the items that it spells
 abbrev pub right_of : ItemType → Bool → List ℕ → List ℕ → Type 0
 right_of k true text answer = SpellsNone k text
 right_of k false text answer = IsFormatted k text answer

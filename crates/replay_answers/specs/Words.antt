@@ -9,7 +9,7 @@ is_refused_by_word word =
     if bytes_eq word (codes "0") then Some false else (
     if bytes_eq word (codes "1") then Some true else None)
 
--- the line begins with a word for the kind and one for the status, with a blank behind each
+-- the line begins with a word for the kind and one for the status, with a space after each
 abbrev pub IsHead : List ℕ → Kind → Bool → Type 0
 IsHead line kind is_refused =
     (word : List ℕ) × (status : List ℕ) × (rest : List ℕ) × (line ≡ word ++ 32 ∷ (status ++ 32 ∷ rest))

@@ -1,4 +1,4 @@
-//! The answers to the texts of records, beside the stored ones.
+//! The results for the texts of records, compared with the stored ones.
 ghost use Rattle.std.specs.Prelude.{IfOk, IsTrue};
 ghost use Rattle.replay_answers.specs.Answers.{IsRight, AllRight};
 
@@ -8,7 +8,7 @@ use souper_ir::parse::ParseErrorKind;
 use std::alloc::{AllocError, Global};
 use std::io;
 
-// True where the answer to the text is the stored one.
+// True if the result for the text is the stored one.
 fn is_as_stored(alloc: Global, stored: &Record<'_>) -> Result<bool, AllocError>
     ensures { IfOk result (λ same. IsTrue same → IsRight stored.now) }
 {
@@ -24,9 +24,9 @@ fn is_as_stored(alloc: Global, stored: &Record<'_>) -> Result<bool, AllocError>
     }
 }
 
-/// Compares the answer to each record with the stored one, and prints what that comes to.
+/// Compares the result for each record with the stored one, and prints a summary.
 ///
-/// True where the bytes are records from end to end, and each answer is as stored.
+/// True if the bytes are records from end to end, and each result is as stored.
 pub fn replay<R: Print + AllocGlobal>(rt: &R, bytes: &[u8]) -> io::Result<bool>
     ensures { IfOk result (λ all_same. IsTrue all_same → AllRight bytes.now) }
 {

@@ -1,6 +1,6 @@
-//! Replays stored answers: reads records from standard input, asks for the answer to each text, and compares.
+//! Replays stored results: reads records from standard input, computes the result for each text, and compares.
 //!
-//! It prints a line for each record whose answer is another now, and at the end how many are as stored.
+//! It prints a line for each record whose result is another now, and at the end how many are as stored.
 #![tactic(auto)]
 
 mod answers;

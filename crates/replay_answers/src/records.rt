@@ -1,4 +1,4 @@
-//! Records of stored answers. `compare/SAMPLE.md` has their form.
+//! Records of stored results. `compare/SAMPLE.md` has their form.
 ghost use Rattle.std.specs.Prelude.{◌≡◌, ◌<◌, ◌++◌, ◌∷◌, length, IfSome};
 ghost use Rattle.souper_format.specs.Commands.{kind_of_word};
 ghost use Rattle.replay_answers.specs.Words.{is_refused_by_word, IsHead};
@@ -6,19 +6,19 @@ ghost use Rattle.replay_answers.specs.Records.{IsTaken};
 
 use souper_format::command::Kind;
 
-/// A text, and the answer to it that is stored.
+/// A text, and the stored result for it.
 #[derive(Clone, Copy)]
 pub struct Record<'a> {
     /// Which items the text is read as.
     pub kind: Kind,
 
-    /// Whether the text is refused: then the answer is the error, else the canonical texts.
+    /// Whether the text is refused: then the result is the error, else the canonical texts.
     pub is_refused: bool,
 
-    /// What is given.
+    /// The text.
     pub text: &'a str,
 
-    /// What is answered.
+    /// The stored result.
     pub answer: &'a str,
 }
 
@@ -53,7 +53,7 @@ fn read_status(word: &str) -> Option<bool>
     }
 }
 
-// What stands before the first blank, and what behind it.
+// What is before the first space, and what is after it.
 #[tactic(auto, using(std::proofs::lemmas::Str::Pattern::split_parts))]
 fn take_word(line: &str) -> Option<(&str, &str)>
     ensures { IfSome result (λ taken. line.now ≡ taken.0.now ++ 32 ∷ taken.1.now) }
@@ -80,7 +80,7 @@ fn read_head(line: &str) -> Option<Head>
     })
 }
 
-// So many bytes as text, and what stands behind the newline that follows them.
+// The first `len` bytes as text, and what is after the newline that follows them.
 fn take_text(bytes: &[u8], len: usize) -> Option<(&str, &[u8])>
     ensures { IfSome result (λ taken. bytes.now ≡ taken.0.now ++ 10 ∷ taken.1.now) }
 {
@@ -94,7 +94,7 @@ fn take_text(bytes: &[u8], len: usize) -> Option<(&str, &[u8])>
     }
 }
 
-/// The record that the bytes begin with, and what follows it. None where they begin with no record.
+/// The record that the bytes begin with, and what follows it. `None` if they begin with no record.
 pub fn take_record(bytes: &[u8]) -> Option<(Record<'_>, &[u8])>
     ensures taken { IfSome result (λ taken. IsTaken bytes.now taken.0 taken.1.now) }
     ensures shorter { IfSome result (λ taken. length taken.1.now < length bytes.now) }

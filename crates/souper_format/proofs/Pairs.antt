@@ -3,12 +3,6 @@ use Rattle.std.proofs.Common.{◌≡◌, ℕ, zero, suc, ◌+◌, ◌<◌, lengt
 use Rattle.std.specs.List.{AllZip}
 use Rattle.std.proofs.lemmas.List.{get_or-map}
 
--- where two lists have one list of images, each pair has one image
-pub image_at : {A B C : Type 0} (f : A → C) (g : B → C) (xs : List A) (ys : List B) (n : ℕ) (x : A) (y : B)
-    → n < length xs → n < length ys → x ≡ get_or xs n x → y ≡ get_or ys n y → map f xs ≡ map g ys → f x ≡ g y
-image_at f g xs ys n x y lx ly ex ey h =
-    ap f ex ∙ sym (get_or-map f xs n x (f x) lx) ∙ ap (λ z. get_or z n (f x)) h ∙ get_or-map g ys n y (f x) ly ∙ ap g (sym ey)
-
 -- one related pair more
 pub related_more : {A B : Type 0} (R : B → B → Type 0) (f : A → B) (xs ys : List A) (n m : ℕ) (x y : A)
     → n < length xs → n < length ys → m ≡ n + 1 → x ≡ get_or xs n x → y ≡ get_or ys n y → R (f x) (f y)

@@ -1,4 +1,4 @@
--- What an error of the parser makes of a run, and what a run says where the reader's bytes are known.
+-- What an error of the parser makes of a run, and what a run says if the reader's bytes are known.
 use Rattle.std.proofs.Common.{◌≡◌, ◌≤◌, ℕ, List, [], ◌∷◌, ◌++◌, Option, zero, suc, None, Some, IfSome, ◌⊎◌, inl, inr, length, sym, ap, ◌∙◌, subst, append-nil}
 use Rattle.std.specs.Str.{IsUtf8}
 use Rattle.std.specs.Io.KnownBytes.{Consumes, IsAtEnd}
@@ -14,7 +14,7 @@ use Rattle.souper_format.specs.Reading.{ReadAll}
 use Rattle.souper_format.specs.Telling.{ToldLine, ToldFault, StoppedByMemory, ErrorTold}
 use Rattle.souper_format.specs.Runs.{Formats, ToldRefusal, IsRun, IsKnownRun}
 
--- a refusal at an offset of the source, as the parser answers it
+-- a refusal at an offset of the source, as the parser returns it
 abbrev pub IsRefusal : ItemType → Option (List ℕ) → List ℕ → ParseError → Type 0
 IsRefusal k file source e = (offset : ℕ) × (offset_of e ≡ Some offset) × (offset ≤ length source) × SpellsNone k source
     × ((shown : List ℕ) × (shown_error e ≡ Some shown) × IsRefusalText file source offset shown)
@@ -43,14 +43,14 @@ status_of_kind k input out err source e status Parse read text nothing refusal (
 status_of_kind k input out err source e status Parse read text nothing refusal (inr told) = stopped k input out err status nothing told
 status_of_kind k input out err source e status Memory read text nothing fault told = stopped k input out err status nothing told
 
--- an error that is told gives one of the statuses
+-- an error that is reported gives one of the statuses
 pub status_of_error : (k : ItemType) (input out err : Stream) (source : List ℕ) (e : ParseError) (status : ℕ)
     → ReadAll input source → IsUtf8 source → IsGivenNothing out → IsStrError k None source e → ErrorTold err status e
     → IsRun k input out err status
 status_of_error k input out err source e status read text nothing fault told =
     status_of_kind k input out err source e status (kind_of e) read text nothing fault told
 
--- where the reader's bytes are known, what holds of all that was read holds of them
+-- if the reader's bytes are known, what holds of all that was read holds of them
 of_known : (P : List ℕ → Type 0) (before after : Option (List ℕ)) (source : List ℕ)
     → Consumes before after source → IsAtEnd after → P source → IfSome before P
 of_known P None after source read ended held = tt

@@ -23,12 +23,6 @@ use Rattle.souper_format.specs.Same.{SameItems}
 use Rattle.souper_format.specs.SameRuns.{FileRead, ReadSpells, ReadError, ReadRefused, ReadFailed, Says, IsSameRun, StoppedAtFirst, IsFilesRun, IsComparison}
 use Rattle.souper_format.proofs.RunLemmas.{IsRefusal, told_refusal}
 
--- the error of a call that reads a file
-pub error_of_file : {T : Type 0} (k : ItemType) (view : T → Item) (path : List ℕ) (read : FileRead) (e : ParseError)
-    → AnswersRead k view path read (Err e) → ReadError k path read e
-error_of_file k view path (Ok source) e answer = answer.refused
-error_of_file k view path (Err fault) e answer = answer
-
 -- what the status of an error says of the read
 abbrev Outcome : ItemType → List ℕ → FileRead → Stream → ℕ → Type 0
 Outcome k path read err status = OnStatus status ⊥ (ReadRefused k path read err) (ReadFailed read err ⊎ ToldMemory err)
@@ -69,7 +63,7 @@ stopped_by k a first out err (suc (suc zero)) nothing is = absurd is
 stopped_by k a first out err (suc (suc (suc zero))) nothing is = (is, nothing)
 stopped_by k a first out err (suc (suc (suc (suc n)))) nothing is = absurd is
 
--- the first file's error is told, and the second is not read
+-- the first file's error is reported, and the second is not read
 pub first_refused : (k : ItemType) (a : List ℕ) (first : FileRead) (out err : Stream) (e : ParseError) (status : ℕ)
     → IsGivenNothing out → ReadError k a first e → ErrorTold err status e → StoppedAtFirst k a first out err status
 first_refused k a first out err e status nothing is told =
@@ -84,7 +78,7 @@ of_second k a b first second xs out err (suc (suc (suc zero))) nothing spells (i
 of_second k a b first second xs out err (suc (suc (suc zero))) nothing spells (inr told) = (inr (inr (inr told)), λ works. nothing)
 of_second k a b first second xs out err (suc (suc (suc (suc n)))) nothing spells is = absurd is
 
--- the second file's error is told
+-- the second file's error is reported
 pub second_refused : (k : ItemType) (a b : List ℕ) (first second : FileRead) (xs : List Item) (out err : Stream) (e : ParseError) (status : ℕ)
     → IsGivenNothing out → ReadSpells k first xs → ReadError k b second e → ErrorTold err status e
     → IsSameRun k a b first second out err status
@@ -116,7 +110,7 @@ of_stopped k a b first out err (suc (suc (suc zero))) (inl failed, nothing) = (i
 of_stopped k a b first out err (suc (suc (suc zero))) (inr told, nothing) = (inr (inr (inr told)), λ works. nothing)
 of_stopped k a b first out err (suc (suc (suc (suc n)))) is = absurd is
 
--- a run over files is one over some reads: where the second file was not read, the first read stands for it
+-- a run over files is one over some reads: if the second file was not read, the first read is taken in its place
 pub some_reads : (k : ItemType) (gives : List ℕ → FileRead → Type 0) (a b : List ℕ) (out err : Stream) (status : ℕ)
     → IsFilesRun k gives a b out err status → (first : FileRead) × (second : FileRead) × IsSameRun k a b first second out err status
 some_reads k gives a b out err status (first, given, inl stopped) =

@@ -1,4 +1,4 @@
--- Definitions. What a run of the program says, by the command that its words name.
+-- Definitions. What a run of the program says, by the command that its arguments name.
 use Rattle.std.specs.Prelude.{◌≡◌, ℕ, List, [], ◌∷◌, ◌++◌, false, codes, string_bytes, Option, None, Some}
 use Rattle.souper_format.specs.declared.command.Command.{Command}
 use Rattle.souper_format.specs.declared.command.Command.TheVariants.{Format, Same}
@@ -12,7 +12,7 @@ abbrev pub usage_text : List ℕ
 usage_text =
     codes "usage: souper_fmt lhs|rhs|rep" ++ 10 ∷ [] ++ codes "       souper_fmt same lhs|rhs|rep PATH PATH" ++ 10 ∷ []
 
--- unless the writer has failed, it was given how the program is used
+-- unless the writer has failed, the usage text was written to it
 abbrev pub ToldUsage : Stream → Type 0
 ToldUsage err = err.failed ≡ false → IsGiven err usage_text
 
@@ -20,15 +20,15 @@ ToldUsage err = err.failed ≡ false → IsGiven err usage_text
 abbrev pub IsUnread : Stream → Type 0
 IsUnread input = input.after ≡ input.before
 
--- No command: how the program is used, and status 2. A kind: a run of the formatter over the reader. `same`, a kind and
--- two paths: a run over the two files, where gives tells what the read of a path may give.
+-- No command: the usage text, and status 2. A kind: a run of the formatter over the reader. `same`, a kind and two
+-- paths: a run over the two files, where gives says what the read of a path may return.
 abbrev pub IsCommandRun : (List ℕ → FileRead → Type 0) → Option Command → Stream → Stream → Stream → ℕ → Type 0
 IsCommandRun gives None input out err status = (status ≡ 2) × ToldUsage err × (IsGivenNothing out × IsUnread input)
 IsCommandRun gives (Some (Format kind)) input out err status = IsRun (item_type_of kind) input out err status
 IsCommandRun gives (Some (Same kind a b)) input out err status =
     IsFilesRun (item_type_of kind) gives (string_bytes a) (string_bytes b) out err status × IsUnread input
 
--- where the command is a kind and the reader's bytes are known: what status 0 and status 1 say of them
+-- if the command is a kind and the reader's bytes are known: what status 0 and status 1 say of them
 abbrev pub IsKnownCommandRun : Option Command → Option (List ℕ) → Stream → ℕ → Type 0
 IsKnownCommandRun (Some (Format kind)) bytes out status = IsKnownRun (item_type_of kind) bytes out status
 IsKnownCommandRun _ bytes out status = Unit {0}

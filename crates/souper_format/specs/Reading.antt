@@ -10,7 +10,7 @@ use Rattle.souper_format.specs.declared.run.ReadFault.TheVariants.{Failed, NotTe
 abbrev pub ReadAll : Stream → List ℕ → Type 0
 ReadAll input bytes = (input.failed ≡ false) × (input.ended ≡ true) × Consumes input.before input.after bytes × IsAtEnd input.after
 
--- all that was read is no UTF-8
+-- all that was read is not UTF-8
 abbrev pub ReadNoText : Stream → Type 0
 ReadNoText input = (bytes : List ℕ) × ReadAll input bytes × ¬ (IsUtf8 bytes)
 

@@ -8,26 +8,27 @@ use Rattle.souper_format.specs.Streams.{Stream, IsGiven, IsGivenNothing}
 use Rattle.souper_format.specs.Reading.{ReadAll, ReadNoText}
 use Rattle.souper_format.specs.Telling.{ToldMemory, ToldFault}
 
--- `out` was given the formatted source, and nothing else
+-- the formatted source was written to `out`, and nothing else
 abbrev pub Formats : ItemType → List ℕ → Stream → Type 0
 Formats k source out = (text : List ℕ) × IsFormatted k source text × IsGiven out text
 
--- all that was read spells items, their texts were written, and nothing was told
+-- all that was read spells items, their texts were written, and nothing was reported
 abbrev pub Done : ItemType → Stream → Stream → Stream → Type 0
 Done k input out err = ((source : List ℕ) × ReadAll input source × Formats k source out) × IsGivenNothing err
 
--- unless the writer has failed, it was given the line of a refusal at an offset of the source, which has that file name
+-- unless the writer has failed, the line of a refusal at an offset of the source, which has that file name, was written
+-- to it
 abbrev pub ToldRefusal : Option (List ℕ) → List ℕ → Stream → Type 0
 ToldRefusal file source err = err.failed ≡ false → (offset : ℕ) × (shown : List ℕ)
     × (offset ≤ length source) × IsRefusalText file source offset shown × IsGiven err (shown ++ 10 ∷ [])
 
--- all that was read is a text that spells no items, nothing was written, and the refusal was told
+-- all that was read is a text that spells no items, nothing was written, and the refusal was reported
 abbrev pub Refused : ItemType → Stream → Stream → Stream → Type 0
 Refused k input out err =
     ((source : List ℕ) × ReadAll input source × IsUtf8 source × SpellsNone k source × ToldRefusal None source err)
     × IsGivenNothing out
 
--- the reader or `out` has failed, or what was read is no text, or memory was refused, and that was told; nothing was
+-- the reader or `out` has failed, or what was read is no text, or memory ran out, and that was reported; nothing was
 -- written, unless `out` has failed
 abbrev pub Stopped : Stream → Stream → Stream → Type 0
 Stopped input out err =
@@ -45,7 +46,7 @@ OnStatus _ done refused stopped = ⊥
 abbrev pub IsRun : ItemType → Stream → Stream → Stream → ℕ → Type 0
 IsRun k input out err status = OnStatus status (Done k input out err) (Refused k input out err) (Stopped input out err)
 
--- where the reader's bytes are known: what status 0 and status 1 say of them
+-- if the reader's bytes are known: what status 0 and status 1 say of them
 abbrev pub IsKnownRun : ItemType → Option (List ℕ) → Stream → ℕ → Type 0
 IsKnownRun k bytes out status = IfSome bytes (λ source. OnStatus status
     (Formats k source out)

@@ -13,16 +13,16 @@ use Rattle.souper_format.specs.Streams.{Stream, IsGiven, IsGivenNothing}
 use Rattle.souper_format.specs.Telling.{ToldMemory, ToldFault}
 use Rattle.souper_format.specs.Runs.{ToldRefusal, OnStatus}
 
--- what the read of a file gave: a text or a fault
+-- what the read of a file returned: a text or a fault
 abbrev pub FileRead : Type 0
 FileRead = Result (String Global) Error
 
--- the read gave a text that spells the items
+-- the read returned a text that spells the items
 abbrev pub ReadSpells : ItemType → FileRead → List Item → Type 0
 ReadSpells k (Ok source) items = TextSpells k (string_bytes source) items
 ReadSpells k (Err fault) items = ⊥
 
--- the read gave a text that spells items
+-- the read returned a text that spells items
 abbrev pub ReadSpellsSome : ItemType → FileRead → Type 0
 ReadSpellsSome k read = (xs : List Item) × ReadSpells k read xs
 
@@ -31,34 +31,34 @@ abbrev pub ReadError : ItemType → List ℕ → FileRead → ParseError → Typ
 ReadError k path (Ok source) e = IsStrError k (Some path) (string_bytes source) e
 ReadError k path (Err fault) e = TellsFault fault e
 
--- the read gave a text that spells no items, and its refusal was told, which has that file name
+-- the read returned a text that spells no items, and its refusal was reported, which has that file name
 abbrev pub ReadRefused : ItemType → List ℕ → FileRead → Stream → Type 0
 ReadRefused k path (Ok source) err = SpellsNone k (string_bytes source) × ToldRefusal (Some path) (string_bytes source) err
 ReadRefused k path (Err fault) err = ⊥
 
--- the read failed, and that was told
+-- the read failed, and that was reported
 abbrev pub ReadFailed : FileRead → Stream → Type 0
 ReadFailed (Ok source) err = ⊥
 ReadFailed (Err fault) err = ToldFault err
 
--- the writer was given `same` where the fact holds, else `different`
+-- `same` was written if the fact holds, else `different`
 abbrev pub Says : Type 0 → Stream → Type 0
 Says fact out = (fact × IsGiven out (codes "same" ++ 10 ∷ [])) ⊎ (¬ fact × IsGiven out (codes "different" ++ 10 ∷ []))
 
--- both reads spell items, whether those are pairwise the same graphs was written, and nothing was told
+-- both reads spell items, whether those are pairwise the same graphs was written, and nothing was reported
 abbrev pub Compared : ItemType → FileRead → FileRead → Stream → Stream → Type 0
 Compared k first second out err =
     ((xs : List Item) × (ys : List Item) × ReadSpells k first xs × ReadSpells k second ys × Says (AllZip SameGraph xs ys) out)
     × IsGivenNothing err
 
--- the first read was refused, or the second where the first spells items; nothing was written
+-- the first read was refused, or the second if the first spells items; nothing was written
 abbrev pub OneRefused : ItemType → List ℕ → List ℕ → FileRead → FileRead → Stream → Stream → Type 0
 OneRefused k a b first second out err =
     (ReadRefused k a first err ⊎ (ReadSpellsSome k first × ReadRefused k b second err))
     × IsGivenNothing out
 
--- the first read has failed, or the second where the first spells items, or `out`, or memory was refused, and that was
--- written to `err`; nothing was written to `out`, unless it has failed
+-- the first read has failed, or the second if the first spells items, or `out`, or memory ran out, and that was written
+-- to `err`; nothing was written to `out`, unless it has failed
 abbrev pub NotCompared : ItemType → FileRead → FileRead → Stream → Stream → Type 0
 NotCompared k first second out err =
     (ReadFailed first err ⊎ ((ReadSpellsSome k first × ReadFailed second err) ⊎ (((out.failed ≡ true) × ToldFault err) ⊎ ToldMemory err)))
@@ -71,14 +71,14 @@ IsSameRun k a b first second out err status = OnStatus status
     (OneRefused k a b first second out err)
     (NotCompared k first second out err)
 
--- the first read was refused, or it has failed, or memory was refused, and that was told; nothing was written
+-- the first read was refused, or it has failed, or memory ran out, and that was reported; nothing was written
 abbrev pub StoppedAtFirst : ItemType → List ℕ → FileRead → Stream → Stream → ℕ → Type 0
 StoppedAtFirst k a first out err status = OnStatus status
     ⊥
     (ReadRefused k a first err × IsGivenNothing out)
     ((ReadFailed first err ⊎ ToldMemory err) × IsGivenNothing out)
 
--- what the status says where `gives` is what the read of a path may give: the first file was read, and with it the run
+-- what the status says if `gives` is what the read of a path may return: the first file was read, and with it the run
 -- stopped, or its text spells items and the second was read too
 abbrev pub IsFilesRun : ItemType → (List ℕ → FileRead → Type 0) → List ℕ → List ℕ → Stream → Stream → ℕ → Type 0
 IsFilesRun k gives a b out err status = (first : FileRead) × gives a first × (StoppedAtFirst k a first out err status

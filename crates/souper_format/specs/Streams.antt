@@ -4,8 +4,8 @@ use Rattle.std.specs.Io.KnownBytes.{Appends, Keeps}
 use Rattle.souper_format.specs.declared.watched.Watched.{Watched}
 use Rattle.souper_format.specs.Watching.{watched_inner, has_failed, has_ended}
 
--- its bytes before and after, where they are known (of a reader those that it has left, of a writer those that it
--- was given), and whether it has failed or ended by then
+-- its bytes before and after, if they are known (of a reader those that it has left, of a writer those that were
+-- written to it), and whether it has failed or ended by then
 pub record Stream : Type 0 where
   pub before : Option (List ℕ)
   pub after : Option (List ℕ)
@@ -21,10 +21,10 @@ stream bytes_of old new = record {
   ended = has_ended new;
 }
 
--- the writer was given the bytes, and nothing else
+-- the bytes were written to the writer, and nothing else
 abbrev pub IsGiven : Stream → List ℕ → Type 0
 IsGiven s bytes = Appends s.before s.after bytes
 
--- the writer was given nothing
+-- nothing was written to the writer
 abbrev pub IsGivenNothing : Stream → Type 0
 IsGivenNothing s = Keeps s.before s.after

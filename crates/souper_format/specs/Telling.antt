@@ -1,14 +1,14 @@
--- Definitions. The lines that are written of an error.
+-- Definitions. The lines that report an error.
 use Rattle.std.specs.Prelude.{◌≡◌, ℕ, List, [], ◌∷◌, ◌++◌, false, codes, IfSome, ◌⊎◌}
 use Rattle.souper_ir.specs.Errors.{kind_of, shown_error, OnKind}
 use Rattle.souper_ir.specs.declared.parse.ParseError.{ParseError}
 use Rattle.souper_format.specs.Streams.{Stream, IsGiven}
 
--- the line of want of memory
+-- the line for out of memory
 abbrev pub memory_line : List ℕ
 memory_line = codes "out of memory" ++ 10 ∷ []
 
--- unless the writer has failed, it was given the line of want of memory
+-- unless the writer has failed, the line for out of memory was written to it
 abbrev pub ToldMemory : Stream → Type 0
 ToldMemory err = err.failed ≡ false → IsGiven err memory_line
 
@@ -16,11 +16,11 @@ ToldMemory err = err.failed ≡ false → IsGiven err memory_line
 abbrev pub fault_line : List ℕ → List ℕ
 fault_line shown = codes "IO error: " ++ shown ++ 10 ∷ []
 
--- unless the writer has failed, it was given the line of an I/O error, or of want of memory
+-- unless the writer has failed, the line of an I/O error, or of out of memory, was written to it
 abbrev pub ToldFault : Stream → Type 0
 ToldFault err = err.failed ≡ false → ((shown : List ℕ) × IsGiven err (fault_line shown)) ⊎ IsGiven err memory_line
 
--- the bytes are what is shown of the error, where that is known
+-- the bytes are what is shown of the error, if that is known
 abbrev pub IsShown : ParseError → List ℕ → Type 0
 IsShown e bytes = IfSome (shown_error e) (λ shown. bytes ≡ shown)
 
@@ -28,15 +28,15 @@ IsShown e bytes = IfSome (shown_error e) (λ shown. bytes ≡ shown)
 abbrev pub IsErrorLine : ParseError → List ℕ → Type 0
 IsErrorLine e line = (shown : List ℕ) × IsShown e shown × (line ≡ shown ++ 10 ∷ [])
 
--- unless the writer has failed, it was given the line of the error
+-- unless the writer has failed, the line of the error was written to it
 abbrev pub ToldLine : Stream → ParseError → Type 0
 ToldLine err e = err.failed ≡ false → (line : List ℕ) × IsErrorLine e line × IsGiven err line
 
--- the status is 3, and want of memory was told
+-- the status is 3, and out of memory was reported
 abbrev pub StoppedByMemory : Stream → ℕ → Type 0
 StoppedByMemory err status = (status ≡ 3) × ToldMemory err
 
--- the status of an error and what was told of it: memory may be refused for its line
+-- the status of an error and what was reported of it: memory may run out for its line
 abbrev pub ErrorTold : Stream → ℕ → ParseError → Type 0
 ErrorTold err status e = OnKind (kind_of e)
     ((status ≡ 3) × ToldFault err)

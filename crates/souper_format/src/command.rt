@@ -1,4 +1,4 @@
-//! What the words after the program's name ask for.
+//! The command that the arguments after the program's name ask for.
 ghost use Rattle.std.specs.Prelude.{◌≡◌};
 ghost use Rattle.souper_format.specs.Commands.{kind_of_word, command_of};
 
@@ -8,7 +8,7 @@ pub enum Kind {
     /// Left-hand sides: what an optimization looks for.
     Lhs,
 
-    /// Right-hand sides: what may take its place.
+    /// Right-hand sides: what may replace it.
     Rhs,
 
     /// Replacements: both.
@@ -36,7 +36,7 @@ fn read_kind(word: &str) -> Option<Kind>
     }
 }
 
-/// The command that the words after the program's name say, or `None` where they say none.
+/// The command that the arguments after the program's name ask for, or `None` if they are no command.
 pub fn read_command(args: Vec<String>) -> Option<Command>
     ensures { result ≡ command_of args.items }
 {

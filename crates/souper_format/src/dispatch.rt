@@ -1,4 +1,4 @@
-//! One run of the program, by its words.
+//! One run of the program, by its arguments.
 ghost use Rattle.std.specs.Prelude.{◌≡◌, false};
 ghost use Rattle.souper_format.specs.Commands.{command_of};
 ghost use Rattle.souper_format.specs.Dispatch.{IsCommandRun, IsKnownCommandRun};
@@ -13,10 +13,10 @@ use crate::watched::Watched;
 use std::alloc::Global;
 use std::io::{Read, Write};
 
-/// Does what the words after the program's name ask for, and returns the status of the program.
+/// Does what the arguments after the program's name ask for, and returns the status of the program.
 ///
-/// A kind is [`format_run`], and `same`, a kind and two paths [`compare_files`]. Other words are no command: `err` was
-/// given the usage text, `out` nothing, and the status is 2.
+/// A kind is [`format_run`], and `same`, a kind and two paths [`compare_files`]. Other arguments are no command: the
+/// usage text is written to `err`, nothing to `out`, and the status is 2.
 pub fn run_command<F: TextFiles, R: Read, W: Write, E: Write>(
     files: &F,
     alloc: Global,

@@ -1,4 +1,4 @@
-//! What the texts of files are read from.
+//! What the texts of files are read from: the files of the system, or others.
 ghost use Rattle.std.specs.Prelude.{ℕ, List};
 ghost use Rattle.souper_format.specs.SameRuns.{FileRead};
 
@@ -7,7 +7,7 @@ use std::{fs, io};
 
 /// What the texts of files are read from: the files of the system, or others.
 ///
-/// It states what the read of a path may give. Of the system's files nothing is known.
+/// An implementor states what the read of a path may return. Of the system's files nothing is known.
 pub trait TextFiles {
     ghost gives: { Self → List ℕ → FileRead → Type 0 };
 

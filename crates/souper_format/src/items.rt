@@ -32,8 +32,8 @@ pub enum Items {
 
 /// The items of the kind that the text spells.
 ///
-/// The error is that of the parser of the kind: the text spells no list of such items, or memory was refused.
-/// An error shows `filename` as the name of the text. A text of white space and comments alone has no items, and takes no
+/// The error is that of the parser of the kind: the text spells no list of such items, or memory ran out. It shows
+/// `filename` as the name of the text. A text of white space and comments alone has no items, and never runs out of
 /// memory.
 pub fn read_items(
     alloc: Global,
@@ -66,9 +66,9 @@ pub fn read_items(
 
 /// The canonical text of each item that the text spells, a newline after each.
 ///
-/// An item is printed when it has been read, and then dropped. Formatting is idempotent: the text spells the items
-/// with their needed statements in printed order, and formatted again it stays. The text of white space and comments
-/// alone is empty, and takes no memory. The errors are those of [`read_items`].
+/// An item is printed when it has been read, and then dropped. Formatting is idempotent: the text spells the items with
+/// their needed statements in printed order, and formatting it again returns the same text. The text of white space and
+/// comments alone is empty, and never runs out of memory. The errors are those of [`read_items`].
 pub fn format_text(
     alloc: Global,
     kind: Kind,

@@ -24,7 +24,7 @@ enum ReadFault {
     OutOfMemory,
 }
 
-// Reads to the end. It tries no failed read again.
+// Reads to the end. A failed read is not tried again.
 fn read_text<R: Read>(alloc: Global, input: &mut Watched<R>) -> Result<String, ReadFault>
     requires works { has_failed input.old ≡ false }
     requires begins { has_ended input.old ≡ false }
@@ -49,11 +49,11 @@ fn read_text<R: Read>(alloc: Global, input: &mut Watched<R>) -> Result<String, R
             Err(fault) => return Err(ReadFault::Failed(fault)),
         }
     }
-    // Each turn gave a byte, and a vector holds fewer bytes than there were turns.
+    // Each turn read a byte, and a vector holds fewer bytes than there were turns.
     unreachable!()
 }
 
-/// Hands the whole text on.
+/// Writes the whole text and flushes.
 pub(crate) fn deliver<W: Write>(text: &str, out: &mut Watched<W>) -> io::Result<()>
     ensures given { OnOk result (IsGiven (stream W.contents out.old out.new) text.now) }
     ensures works { OnOk result (has_failed out.new ≡ has_failed out.old) }
@@ -63,16 +63,16 @@ pub(crate) fn deliver<W: Write>(text: &str, out: &mut Watched<W>) -> io::Result<
     out.flush()
 }
 
-/// Reads items of the kind to the end of `input`, writes the canonical text of each and a newline to `out`, and
-/// answers the status of the program.
+/// Reads items of the kind to the end of `input`, writes the canonical text of each and a newline to `out`, and returns
+/// the status of the program.
 ///
-/// - 0: done, and `err` was given nothing.
-/// - 1: what was read spells no list of such items. `out` was given nothing, and `err` the refusal, which shows no
-///   file name, and a newline.
-/// - 3: the reader or `out` failed, what was read is no UTF-8, or memory was refused. `err` was given a line that
-///   says so, and `out`, unless it failed, nothing.
+/// - 0: done, and nothing was written to `err`.
+/// - 1: what was read spells no list of such items. Nothing was written to `out`, and to `err` the refusal, which shows
+///   no file name, and a newline.
+/// - 3: the reader or `out` failed, what was read is not UTF-8, or memory ran out. A line that says so was written to
+///   `err`, and nothing to `out`, unless `out` failed.
 ///
-/// Where a write to `err` fails the status stays.
+/// If a write to `err` fails, the status is the same.
 pub fn format_run<R: Read, W: Write, E: Write>(
     alloc: Global,
     kind: Kind,
@@ -134,7 +134,7 @@ fn run_to_status<R: Read, W: Write, E: Write>(
     }
 }
 
-/// Tells a fault that kept the program from its command, and answers the status of the program, which is 3.
+/// Writes to `err` the fault that kept the program from its command, and returns the status of the program, which is 3.
 pub fn report<E: Write>(alloc: Global, fault: &io::Error, err: &mut Watched<E>) -> u8
     ensures status { result ≡ 3 }
     ensures told { ToldFault (stream E.contents err.old err.new) }
@@ -143,7 +143,7 @@ pub fn report<E: Write>(alloc: Global, fault: &io::Error, err: &mut Watched<E>) 
     3
 }
 
-/// Tells how the program is used, and returns the status of the program, which is 2.
+/// Writes to `err` how the program is used, and returns the status of the program, which is 2.
 pub fn usage<E: Write>(err: &mut Watched<E>) -> u8
     ensures status { result ≡ 2 }
     ensures told { ToldUsage (stream E.contents err.old err.new) }

@@ -11,13 +11,13 @@ use crate::items::Items;
 use crate::texts::{Printed, are_same_graph};
 use std::alloc::{AllocError, Global};
 
-/// Whether both lists have one kind and one length, and each item is the same graph as the one at its place in the
+/// Whether both lists have one kind and one length, and each item is the same graph as the one at its index in the
 /// other list.
 ///
-/// Two items are the same graph where a one-to-one map between their needed statements keeps names, types, attributes,
-/// operations, operands, the last lines and the order of the path conditions. In which order the other statements stand
-/// does not matter, nor do statements that no root and no path condition needs. Two items are the same graph if and only
-/// if they have the same canonical text, so texts are compared.
+/// Two items are the same graph if a one-to-one map between their needed statements keeps names, types, attributes,
+/// operations, operands, the last lines and the order of the path conditions. The order of the other statements does
+/// not matter, nor do statements that no root and no path condition needs. Two items are the same graph if and only if
+/// they have the same canonical text, so texts are compared.
 ///
 /// Each item must be well formed, as those of [`read_items`](crate::items::read_items) are. The error is out of memory.
 pub fn same(alloc: Global, a: &Items, b: &Items) -> Result<bool, AllocError>

@@ -73,16 +73,16 @@ fn compare<W: Write, E: Write>(
     }
 }
 
-/// Reads items of the kind from the file at `a`, then from the one at `b`, writes `same` or `different` and a newline to
-/// `out`, and returns the status of the program. The lists are the same as by [`same`](crate::same::same).
+/// Reads items of the kind from the file at `a`, then from the one at `b`, writes `same` or `different` and a newline
+/// to `out`, and returns the status of the program. The lists are the same as by [`same`](crate::same::same).
 ///
-/// - 0: done, and `err` was given nothing.
-/// - 1: the text of a file spells no list of such items. `out` was given nothing, and `err` the refusal, which shows the
-///   path, and a newline. After a refusal of the first file the second is not read.
-/// - 3: a read or `out` failed, what was read is no UTF-8, or memory was refused. `err` was given a line that says so,
-///   and `out`, unless it failed, nothing.
+/// - 0: done, and nothing was written to `err`.
+/// - 1: the text of a file spells no list of such items. Nothing was written to `out`, and to `err` the refusal, which
+///   shows the path, and a newline.
+/// - 3: a read or `out` failed, what was read is not UTF-8, or memory ran out. A line that says so was written to
+///   `err`, and nothing to `out`, unless `out` failed.
 ///
-/// Where a write to `err` fails the status stays.
+/// If a write to `err` fails, the status is the same.
 pub fn compare_files<F: TextFiles, W: Write, E: Write>(
     files: &F,
     alloc: Global,

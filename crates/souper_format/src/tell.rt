@@ -1,4 +1,4 @@
-//! The lines that are written of an error, each to a stream that may fail.
+//! The lines that report an error, each to a stream that may fail.
 ghost use Rattle.std.specs.Prelude.{◌≡◌, string_bytes, IfOk, ℕ, List};
 ghost use Rattle.souper_format.specs.Streams.{stream};
 ghost use Rattle.souper_format.specs.Telling.{fault_line, IsErrorLine, ToldMemory, ToldFault, ErrorTold};
@@ -9,7 +9,7 @@ use std::alloc::{AllocError, Global};
 use std::io;
 use std::io::Write;
 
-/// Tells want of memory. It takes none.
+/// Reports out of memory, without allocating.
 pub(crate) fn tell_memory<E: Write>(err: &mut Watched<E>)
     ensures { ToldMemory (stream E.contents err.old err.new) }
 {
@@ -27,7 +27,7 @@ fn line_of_fault(alloc: Global, fault: &io::Error) -> Result<String, AllocError>
     Ok(line)
 }
 
-/// Tells a fault of a stream.
+/// Reports a fault of a stream.
 pub(crate) fn tell_fault<E: Write>(alloc: Global, fault: &io::Error, err: &mut Watched<E>)
     ensures { ToldFault (stream E.contents err.old err.new) }
 {
@@ -47,7 +47,7 @@ fn line_of_error(alloc: Global, error: &ParseError) -> Result<String, AllocError
     Ok(line)
 }
 
-/// Tells an error of a parser, and returns the status of the program: 1 where it refused a text, else 3.
+/// Reports an error of a parser, and returns the status of the program: 1 if it refused a text, else 3.
 pub(crate) fn tell_error<E: Write>(alloc: Global, error: &ParseError, err: &mut Watched<E>) -> u8
     ensures { ErrorTold (stream E.contents err.old err.new) result error.now }
 {

@@ -1,4 +1,4 @@
-//! The canonical texts of items, one after the other.
+//! The canonical texts of items, in sequence.
 ghost use Rattle.std.specs.Prelude.{◌≡◌, ◌↔◌, [], ◌++◌, IfOk, IfErr, IsOkAnd, OnOk, IsTrue, option_copied};
 ghost use Rattle.std.specs.String.{string_bytes};
 ghost use Rattle.souper_graph.specs.Text.{text_of, text_with_newline, texts_of};
@@ -18,8 +18,9 @@ use std::alloc::{AllocError, Global};
 
 /// An item with its canonical text.
 pub(crate) trait Printed: WholeItem {
-    fn text(&self) -> Result<String, TextError>
-        ensures { UsesBelow (Self.view self.now) → IfOk result (λ text. string_bytes text ≡ text_of (Self.view self.now)) };
+    // Puts the text at the end of `out`.
+    fn append(&self, out: &mut String) -> Result<(), TextError>
+        ensures { UsesBelow (Self.view self.now) → OnOk result (string_bytes out.new ≡ string_bytes out.old ++ text_of (Self.view self.now)) };
 
     // The last lines are those of an item of the type.
     ghost ends: { (item : Self) → IsEndingOf Self.item_type (Self.view item).ending };
@@ -28,24 +29,24 @@ pub(crate) trait Printed: WholeItem {
 impl Printed for LeftHandSide {
     ghost ends = { λ item. tt };
 
-    fn text(&self) -> Result<String, TextError> {
-        self.to_text()
+    fn append(&self, out: &mut String) -> Result<(), TextError> {
+        self.append_text(out)
     }
 }
 
 impl Printed for RightHandSide {
     ghost ends = { λ item. tt };
 
-    fn text(&self) -> Result<String, TextError> {
-        self.to_text()
+    fn append(&self, out: &mut String) -> Result<(), TextError> {
+        self.append_text(out)
     }
 }
 
 impl Printed for Replacement {
     ghost ends = { replacement-ending };
 
-    fn text(&self) -> Result<String, TextError> {
-        self.to_text()
+    fn append(&self, out: &mut String) -> Result<(), TextError> {
+        self.append_text(out)
     }
 }
 
@@ -54,13 +55,12 @@ fn append_item<T: Printed>(item: &T, out: &mut String) -> Result<(), AllocError>
     requires { WellFormed (T.view item.now) }
     ensures { OnOk result (string_bytes out.new ≡ string_bytes out.old ++ text_with_newline (T.view item.now)) }
 {
-    match item.text() {
-        Ok(text) => {
-            out.push_str(&text)?;
+    match item.append(out) {
+        Ok(()) => {
             out.push('\n')?;
             Ok(())
         }
-        // A well-formed item names no bad id: what was refused is memory.
+        // A well-formed item has no bad id, so the error is out of memory.
         Err(_) => Err(AllocError),
     }
 }

@@ -1,4 +1,4 @@
-//! A stream that tells whether a call of it has failed, and a reader also whether it has ended.
+//! A stream that records whether a call of it has failed, and a reader also whether it has ended.
 ghost use Rattle.std.specs.Prelude.{◌≡◌, ◌<◌, ◌==◌, ◌&&◌, ◌||◌, not, length, true, false, IfOk, OnOk, OnErr};
 ghost use Rattle.std.specs.Io.{ReadsAtMost, WritesAtMost};
 ghost use Rattle.std.specs.Io.KnownBytes.{Appends, Keeps, ReadConsumes, WriteAppends};
@@ -7,7 +7,7 @@ ghost use Rattle.souper_format.specs.Watching.{watched_inner, has_failed, has_en
 use std::io;
 use std::io::{ErrorKind, Read, Write};
 
-/// A reader or a writer, with what its calls have come to.
+/// A reader or a writer that records how its calls ended.
 #[derive(Drop)]
 pub struct Watched<S> {
     inner: S,
@@ -16,7 +16,7 @@ pub struct Watched<S> {
 }
 
 impl<S> Watched<S> {
-    /// Watches the stream. No call of it counts as failed yet, and it has not ended.
+    /// Wraps the stream. No call of it counts as failed yet, and it has not ended.
     pub fn new(inner: S) -> Watched<S>
         ensures inner { watched_inner result ≡ inner }
         ensures failed { has_failed result ≡ false }
@@ -36,7 +36,7 @@ impl<S> Watched<S> {
         self.failed
     }
 
-    /// True from the first read on that succeeded and gave no byte into a buffer that is not empty.
+    /// True from the first read on that succeeded and read no byte into a buffer that is not empty.
     pub fn ended(&self) -> bool
         ensures { result ≡ has_ended self.now }
     {
@@ -73,7 +73,7 @@ impl<R: Read> Read for Watched<R> {
 impl<W: Write> Write for Watched<W> {
     ghost contents = { λ w. W.contents (watched_inner w) };
 
-    /// A write that takes nothing of a text that is not empty is a failed one.
+    /// A write that takes nothing of a text that is not empty counts as failed.
     fn write(&mut self, buf: &[u8]) -> io::Result<usize>
         ensures bound { WritesAtMost result buf.now }
         ensures bytes { WriteAppends (W.contents (watched_inner self.old)) (W.contents (watched_inner self.new)) result buf.now }
@@ -112,7 +112,7 @@ impl<W: Write> Write for Watched<W> {
         }
     }
 
-    /// Every call that it makes is counted, so it tries an interrupted one no second time.
+    /// Every call that it makes is counted, so it does not retry an interrupted one.
     fn write_all(&mut self, buf: &[u8]) -> io::Result<()>
         ensures bytes { OnOk result (Appends (W.contents (watched_inner self.old)) (W.contents (watched_inner self.new)) buf.now) }
         ensures ok { OnOk result (has_failed self.new ≡ has_failed self.old) }

@@ -1,4 +1,4 @@
--- What an answered order says, fact by fact.
+-- What a returned order says, fact by fact.
 use Rattle.std.proofs.Common.{◌≡◌, ℕ, ◌<◌, ◌≤◌, ◌↔◌, length, take, [], Ok, Err, Result, IfOk, OnOk}
 use Rattle.souper_graph.specs.declared.stringify.errors.TextError.{TextError}
 use Rattle.souper_graph.specs.declared.stringify.order.Order.{Order}

@@ -1,4 +1,4 @@
--- Names of assignments that differ from each other, gathered one by one.
+-- Distinct names of assignments, gathered one by one.
 use Rattle.std.proofs.Common.{◌≡◌, ℕ, zero, suc, ◌<◌, ◌⊎◌, inl, inr, ◌++◌, ◌||◌, length, get_or, take, List, [], ◌∷◌, Bool, true, false, cond, Option, Some, None, refl, sym, ◌∙◌, ap, subst, arith, not}
 use Rattle.std.specs.Prelude.{bytes_eq, slice_get}
 use Rattle.std.specs.Borrow.{Bor}
@@ -28,7 +28,7 @@ has_name ss (p ∷ ps) n = is_name (assigned_name_at ss p) n || has_name ss ps n
 abbrev pub NamesAre : BTreeSet (Bor (List ℕ)) → List PlainStatement → List ℕ → Type 0
 NamesAre names ss ids = (n : List ℕ) → contains_by (λ (k : Bor (List ℕ)). slice_cmp nat_cmp n k.now) names ≡ has_name ss ids n
 
--- no two of the assignments at the positions have one name
+-- the assignments at the positions have distinct names
 abbrev pub Apart : List PlainStatement → List ℕ → Type 0
 Apart ss ids = (p q : ℕ) (n : List ℕ) → Has ids p → Has ids q → assigned_name_at ss p ≡ Some n → assigned_name_at ss q ≡ Some n → p ≡ q
 
@@ -81,7 +81,7 @@ names_more old new ss ids x key tie up named n =
     up.0 q
     ∙ rw (is_eq-slice_cmp key.now n, tie n) (sym (has_name_push ss ids x n ∙ ap (λ (o : Option (List ℕ)). cond (is_name o n) true (has_name ss ids n)) named))
 
--- one more position, where no assignment stands
+-- one more position, at which there is no assignment
 pub names_same : (names : BTreeSet (Bor (List ℕ))) (ss : List PlainStatement) (ids : List ℕ) (x : ℕ) → NamesAre names ss ids → assigned_name_at ss x ≡ None → NamesAre names ss (ids ++ x ∷ [])
 names_same names ss ids x tie none n =
     tie n ∙ sym (has_name_push ss ids x n ∙ ap (λ (o : Option (List ℕ)). cond (is_name o n) true (has_name ss ids n)) none)

@@ -1,4 +1,4 @@
--- Nodes whose positions are carried: their uses, their kinds, and what they must be.
+-- Nodes with a map applied to their positions: their uses, their kinds, and their validity.
 use Rattle.std.proofs.Common.{◌≡◌, ℕ, ◌<◌, ◌++◌, inl, inr, map, List, [], ◌∷◌, Some, refl, sym, ap, ◌∙◌, subst}
 use Rattle.std.specs.List.{AllByRecursion}
 use Rattle.std.proofs.lemmas.List.{map-append, length-map}
@@ -93,7 +93,7 @@ roots-carried f e =
     ∙ ap (λ z. map (carried_use f) (first_roots e) ++ z) (last-carried f e)
     ∙ sym (map-append (carried_use f) (first_roots e) (last_roots e))
 
--- two maps that agree on the positions that are used carry alike
+-- two maps that agree on the used positions carry alike
 
 abbrev pub AgreeAt : (ℕ → ℕ) → (ℕ → ℕ) → List Use → Type 0
 AgreeAt f h us = (u : Use) → Has us u → f (position_of u) ≡ h (position_of u)
@@ -304,7 +304,7 @@ named-carried f (assigned a) v e = (a, refl, ap name_of e)
 named-carried f (condition p) v e = absurd (cc)
 named-carried f (block_condition p) v e = absurd (cc)
 
--- what nodes must be
+-- validity of nodes
 
 fits-operand : (f : ℕ → ℕ) (o : Operand) → FitsOperand o → FitsOperand (carried_operand f o)
 fits-operand f (Value i) h = tt
@@ -335,7 +335,7 @@ fits_ending-carried f (resulting r) h = fits-operand f r h
 fits_ending-carried f (replaced i r) h = (h.0, fits-operand f r h.1)
 fits_ending-carried f (candidate c) h = (fits-operand f c.lhs h.0, fits-operand f c.rhs h.1, h.2)
 
--- a block with as many ways into it stands where each use is carried to
+-- each use is carried to a position with as many predecessors
 abbrev pub SameWays : (ℕ → ℕ) → List PlainStatement → List PlainStatement → List Use → Type 0
 SameWays f ss ts us = (u : Use) → Has us u → predecessors_at ts (f (position_of u)) ≡ predecessors_at ss (position_of u)
 

@@ -1,4 +1,4 @@
--- What well-formedness says of each needed position: it is in range, its uses lie below it, and each use is met.
+-- What well-formedness says of each needed position: it is in range, its uses are lower, and each use resolves.
 use Rattle.std.proofs.Common.{◌≡◌, ℕ, zero, suc, ◌+◌, ◌<◌, ◌⊎◌, inl, inr, length, map, List, [], ◌∷◌, Bool, true, false, cond, Option, Some, None, refl, sym, ap, ◌∙◌, subst, arith}
 use Rattle.std.specs.List.{slice_get}
 use Rattle.std.proofs.lemmas.Option.{slice_get_within}
@@ -8,7 +8,7 @@ use Rattle.souper_graph.specs.Faults.{IsAssigned, IsBlock, IsMet, HasBadId}
 use Rattle.souper_graph.specs.WellFormed.{WellFormed}
 use Rattle.souper_graph.proofs.Lists.{Has-left, Has-right, Has-cases, Has-none, Has-head, Has-map, Has-mapped}
 
--- the statement that stands there, where one does, and an input variable with no name where none does
+-- the statement at the position, if there is one, else an input variable without a name
 abbrev pub stood : Option PlainStatement → PlainStatement
 stood None = assigned (record { name = []; ty = None; value = var; attributes = [] })
 stood (Some s) = s
@@ -16,7 +16,7 @@ stood (Some s) = s
 abbrev pub statement_at : List PlainStatement → ℕ → PlainStatement
 statement_at ss i = stood (slice_get ss i)
 
--- what a list has, or nothing
+-- what a list has at an index, or nothing
 pub slice_get_tells : {A : Type 0} (xs : List A) (i : ℕ) → ((x : A) × (slice_get xs i ≡ Some x)) ⊎ (slice_get xs i ≡ None)
 slice_get_tells {A = A} xs i = under (slice_get xs i) refl
   where
@@ -39,7 +39,7 @@ pub uses-stood : (o : Option PlainStatement) → uses_of_optional o ≡ uses_of 
 uses-stood None = refl
 uses-stood (Some s) = refl
 
--- a position that is met is in range, and no path condition
+-- a position that resolves is in range, and no path condition
 
 some-assigned : (o : Option PlainStatement) → IsAssigned o → (s : PlainStatement) × (o ≡ Some s) × (is_condition s ≡ false)
 some-assigned None h = absurd h
@@ -98,7 +98,7 @@ from-inside k (s ∷ ss) j h = under (is_condition s) (λ a. from-inside (suc k)
     under true f h = elim (Has-head k j (conditions_from (suc k) ss) h) [ inl e ↦ omega arith | inr a ↦ (let q = f a in omega arith) ]
     under false f h = let q = f h in omega arith
 
--- what a needed statement uses is met
+-- what a needed statement uses resolves
 pub uses-met : (a : Item) → WellFormed a → (p : ℕ) (u : Use) → NeededIn a p → Has (uses_at a.statements p) u → (position_of u < p) × IsMet a.statements u
 uses-met a wf p u d h = under (slice_get a.statements p) refl h
   where

@@ -34,7 +34,7 @@ has_under : (b : Bool) (k i : ℕ) (z : List ℕ) → Has (cond b (k ∷ z) z) i
 has_under true k i z h = h
 has_under false k i z h = inr h
 
--- a path condition stands in the list
+-- a path condition is in the list
 pub conditions-inside : (ss : List PlainStatement) (k i : ℕ) → Has (conditions_from k ss) i → i < k + length ss
 conditions-inside [] k i h = absurd h
 conditions-inside (x ∷ ss) k i h = elim (has_under (is_condition x) k i (conditions_from (suc k) ss) h) [
@@ -85,7 +85,7 @@ conditions_pushed old now next g n i s b h e same t f p =
     (ap (λ z. conditions_from 0 (take n (map view_statement g)) ++ cond z (n ∷ []) []) (sym (condition_is (view_statement s) (λ a. not_true (t.1 a))))
     ∙ sym (step g n s (ap (slice_get g) (sym same) ∙ e))))
 
--- a position with nothing there lies past the end
+-- a position with nothing at it is past the end
 pub nothing_there : (g : List Statement) (i n : ℕ) → None ≡ slice_get g i → i ≡ n → n < length g → ⊥
 nothing_there g i n e same h = elim (slice_get_cases g i).1 [
   | inl a ↦ (let q = a.2 in cc)

@@ -1,4 +1,4 @@
--- The work stack's loops: what each turn does to a run, and what a run that is over says of the item.
+-- The loops of the work stack: what each turn does to a run, and what a finished run says of the item.
 use Rattle.std.proofs.Common.{◌≡◌, ℕ, ◌+◌, ◌<◌, ◌≤◌, ◌++◌, ◌-◌, ◌^◌, ◌↔◌, ◌⊎◌, inl, inr, min, length, map, reverse, List, [], ◌∷◌, Bool, true, false, refl, sym, ap, ◌∙◌, subst, get_or, arith, length-append, append-nil, take, drop, take-append-drop, Some, slice_get}
 use Rattle.std.proofs.Math.ListN.{replicate, set}
 use Rattle.std.proofs.Math.Seq.{take-append_seam}
@@ -52,7 +52,7 @@ start_at ss n s m ids a b c d =
     let D : List ℕ → Type 0 = λ z. Running ss [] [] (replicate (length ss) false) z 0 in
     subst A (sym a) (subst B (sym (b ∙ ap (λ z. replicate z false) c)) (subst D (sym d) (running_start ss)))
 
--- the mark of a statement that stands there
+-- the mark of a statement that is there
 pub mark_there : (g : List Statement) (w : List Target) (s : List Entry) (m : List Bool) (ids : List ℕ) (turns i j : ℕ) (n : Statement) →
     Running (map view_statement g) w s m ids turns → slice_get g j ≡ Some n → i ≡ j → i < length m
 mark_there g w s m ids turns i j n r e at = let l = r.marked in let h = inside_there g j n e in omega arith
@@ -77,7 +77,7 @@ dropped_next ss w s s' m ids turns turns' i e t b r a f met at g h n =
     running_dropped ss w (reverse s') m ids turns turns' t (popped ss w s s' m ids turns e (Trace t) r a f) met
     (ap (λ z. get_or m z false) (sym at) ∙ sym g ∙ h) n
 
--- a finished statement is put out
+-- a finished statement is appended
 pub finished_next : (ss : List PlainStatement) (w : List Target) (s s' : List Entry) (m : List Bool) (ids ids' : List ℕ) (turns turns' i : ℕ) (e : Entry) →
     Running ss w (reverse s) m ids turns → s ≡ s' ++ e ∷ [] → e ≡ Finished i → ids' ≡ ids ++ i ∷ [] → turns' ≡ min (turns + 1) (2 ^ 128 - 1) →
     Running ss w (reverse s') m ids' turns'
@@ -85,7 +85,7 @@ finished_next ss w s s' m ids ids' turns turns' i e r a f d n =
     let P : List ℕ → Type 0 = λ z. Running ss w (reverse s') m z turns' in
     subst P (sym d) (running_finished ss w (reverse s') m ids turns turns' i (popped ss w s s' m ids turns e (Finished i) r a f) n)
 
--- what a target that is not marked puts onto the stack
+-- what a target that is not marked pushes
 entered_stack : (g : List Statement) (s' s'' s''' : List Entry) (i j : ℕ) (n : Statement) → slice_get g j ≡ Some n → i ≡ j → s'' ≡ s' ++ Finished i ∷ [] →
     reverse s''' ≡ traces_of (uses_of (view_statement n)) ++ reverse s'' →
     traces_of (uses_at (map view_statement g) j) ++ Finished j ∷ reverse s' ≡ reverse s'''
@@ -110,7 +110,7 @@ entered_next g w s s' s'' s''' m m' ids turns turns' i i' e t n b r a f met ther
     (running_entered ss w (reverse s') m ids turns turns' t (popped ss w s s' m ids turns e (Trace t) r a f) met (inside_there g j n there)
     (ap (λ z. get_or m z false) (sym at') ∙ sym q ∙ h) k))
 
--- the work falls by more than what comes onto the stack
+-- the work decreases by more than what is pushed
 pub entered_smaller : (g : List Statement) (w : List Target) (s s' s'' s''' : List Entry) (m m' : List Bool) (ids : List ℕ) (turns i i' : ℕ) (e : Entry) (t : Target) (n : Statement) (b : Bool) →
     Running (map view_statement g) w (reverse s) m ids turns → s ≡ s' ++ e ∷ [] →
     slice_get g (position_of_target t) ≡ Some n → i ≡ position_of_target t → i' ≡ position_of_target t → b ≡ get_or m i' false → b ≡ false → m' ≡ set m i true →
@@ -130,7 +130,7 @@ entered_smaller g w s s' s'' s''' m m' ids turns i i' e t n b r a there at at' q
     let six : length (used_at ss j) ≡ length (uses_of (view_statement n)) = length-map (uses_at ss j) position_of ∙ ap length (uses_there g j n there) in
     omega arith
 
--- a pop that found nothing
+-- a pop that returned nothing
 pub popped_none : (ss : List PlainStatement) (w : List Target) (s s' : List Entry) (m : List Bool) (ids : List ℕ) (turns n : ℕ) →
     Running ss w (reverse s) m ids turns → s ≡ s' ++ [] → s' ≡ take (n - 1) s → n ≡ 0 → (s' ≡ []) × Running ss w (reverse s') m ids turns
 popped_none ss w s s' m ids turns n r a b c =
@@ -213,7 +213,7 @@ lead_end : (ss : List PlainStatement) (walks : List Target) (k before lead : ℕ
     Below ss (positions walks) → lead ≡ length (order_of_walks ss (positions (take before walks)))
 lead_end ss walks k before lead h f ub = f ub ∙ ap (λ z. length (order_of_walks ss (positions z))) (walks_taken walks k before h)
 
--- what a run that is over says of the walks' positions
+-- what a finished run says of the walks' positions
 record Ended (ss : List PlainStatement) (w ids : List ℕ) (turns : ℕ) : Type 0 where
   inside : (i : ℕ) → Has ids i → i < length ss
   exact : (i : ℕ) → Has ids i ↔ Needed ss w i
@@ -279,9 +279,9 @@ lead_needs_end ss walks k before lead ids h f =
     let P : List Target → Type 0 = λ z. (i : ℕ) → Has (take lead ids) i ↔ Needed ss (positions z) i in
     subst P (walks_taken walks k before h) f
 
--- an error tells a bad id
+-- an error has a bad id
 
--- how an item names a target: a path condition stands in its list of statements
+-- how an item names a target: a path condition is in its list of statements
 abbrev NamesTarget : Item → Target → Type 0
 NamesTarget a (Value i) = NamedIn a (value_use i)
 NamesTarget a (Block i) = NamedIn a (block_use i)
@@ -313,9 +313,6 @@ fault_names a (Condition i) (OutOfRange j) n f = let e = f.0 in let l = f.1 in a
 fault_names a t (NotAnAssignment j) n f = (subst (NamesTarget a) f.0 n, f.1, f.2)
 fault_names a t (NotABlock j) n f = (subst (NamesTarget a) f.0 n, f.1, f.2)
 fault_names a t OutOfMemory n f = tt
-
-pub memory_fault : (a : Item) (error : TextError) → error ≡ OutOfMemory → IsFaultOf a error
-memory_fault a error e = subst (IsFaultOf a) (sym e) tt
 
 walks_are : (a : Item) (g : List PlainStatement) (walks : List Target) (before : ℕ) → IsWalkedBy a g walks before → positions walks ≡ walks_of a
 walks_are a g walks before w = ap positions w.same_walks ∙ positions-all a
@@ -357,7 +354,7 @@ no_bad a roots uses bad =
       | inr h ↦ uses h.0 u h.1 h.2
     ]))
 
--- a run that is over
+-- a finished run
 pub ordered_item : (a : Item) (g : List PlainStatement) (walks : List Target) (before k : ℕ) (s : List Entry) (m : List Bool) (ids : List ℕ) (turns lead : ℕ) →
     IsWalkedBy a g walks before → Running g (take k walks) (reverse s) m ids turns → s ≡ [] → length walks ≤ k → lead ≤ length ids → Leads g walks k before lead →
     (length walks ≤ before → lead ≡ length ids) → LeadNeeds g walks k before lead ids → IsOrderOf a ids lead turns

@@ -57,7 +57,7 @@ needed-gathered g w {j = j} ub (walked h) =
 needed-gathered g w {j = j} ub (used {i = i} n h) =
     steady_has g [] (gathered g w) (gathered-steady g w) i j (needed-gathered g w ub n) (below-has i (used_at g i) j h (ub i j n h))
 
--- a use stands at a lower place
+-- a use occurs at a lower index
 steady-place : (g : List PlainStatement) (k xs : List ℕ) (i u : ℕ) → Steady g k xs → Has xs i → Has (lower g i) u → Has k u ⊎ (Has xs u × (place xs u < place xs i))
 unfolding Steady
 steady-place g k [] i u s h l = absurd (Has-none i h)
@@ -94,7 +94,7 @@ printed-needed g w j h = gathered-needed g w j (subst (λ (z : List ℕ). Has z 
 pub needed-printed : (g : List PlainStatement) (w : List ℕ) {j : ℕ} → Below g w → Needed g w j → Has (order_of_walks g w) j
 needed-printed g w {j = j} ub n = subst (λ (z : List ℕ). Has z j) (sym (printed-is g w)) (needed-gathered g w ub n)
 
--- whatever uses lie below their users
+-- whether or not uses are below their users
 pub walks-printed : (g : List PlainStatement) (w : List ℕ) (j : ℕ) → Has w j → Has (order_of_walks g w) j
 walks-printed g w j h =
     subst (λ (z : List ℕ). Has z j) (sym (printed-is g w)) (with-has [] (flat_map (unfolding_of g) w) j (inr (flat-has (unfolding_of g) w j j h (unfold-self g (suc j) j (omega arith)))))
@@ -237,7 +237,7 @@ filter-conditions a wf (x ∷ xs) h =
     (filter-unfold a wf x here.0 ∙ ap (λ (b : Bool). cond b (x ∷ []) []) here.1)
     ∙ ap (λ z. x ∷ z) (filter-conditions a wf xs (λ i k. h i (Has-later x i xs k)))
 
--- the path conditions stand in the printed order in their own order
+-- the path conditions keep their order in the printed order
 pub conditions-printed : (a : Item) → WellFormed a → filter (condition_at a) (printed_order a) ≡ conditions a
 conditions-printed a wf =
     let U = flat_map (unfolding_of a.statements) in

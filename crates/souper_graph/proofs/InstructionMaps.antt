@@ -1,4 +1,4 @@
--- A change of each operand of an instruction: on its operands, twice, and where two changes agree.
+-- A change of each operand of an instruction: on its operands, twice, and if two changes agree.
 use Rattle.std.proofs.Common.{◌≡◌, List, [], ◌∷◌, map, refl, ap, ◌∙◌}
 use Rattle.souper_graph.specs.declared.ast.operands.Operand.{Operand}
 use Rattle.souper_graph.specs.declared.ast.instructions.Instruction.{Instruction}

@@ -1,4 +1,4 @@
--- From what the judges answer to when an item is well formed, and back.
+-- From what the checks return to when an item is well formed, and back.
 use Rattle.std.proofs.Common.{◌≡◌, ℕ, zero, suc, ◌<◌, ◌≤◌, inl, inr, ◌++◌, ◌↔◌, length, map, get_or, take, List, [], ◌∷◌, Option, Some, None, refl, sym, subst, arith, rules}
 use Rattle.std.specs.Prelude.{slice_get}
 use Rattle.std.proofs.lemmas.List.{take_all}
@@ -47,7 +47,7 @@ All-has P [] x h k = absurd k
 All-has P (y ∷ ys) x h (inl e) = subst P e h.0
 All-has P (y ∷ ys) x h (inr k) = All-has P ys x h.1 k
 
--- the uses of each operand are met
+-- the uses of each operand resolve
 pub met_of_operands : (ss : List PlainStatement) (limit : ℕ) (xs : List Operand) → AllByRecursion (λ x. AreMetBelow ss limit (uses_of_operand x)) xs → AreMetBelow ss limit (uses_of_operands xs)
 met_of_operands ss limit [] h = h
 met_of_operands ss limit (x ∷ xs) h = All-both (IsMetBelow ss limit) (uses_of_operand x) (uses_of_operands xs) h.0 (met_of_operands ss limit xs h.1)
@@ -66,7 +66,7 @@ block_below [] i h = absurd h
 block_below (s ∷ ss) zero h = omega arith
 block_below (s ∷ ss) (suc i) h = let below = block_below ss i h in omega arith
 
--- what is met lies in the arena
+-- what resolves is in the arena
 met_below : (ss : List PlainStatement) (u : Use) → IsMet ss u → IsMetBelow ss (length ss) u
 met_below ss (value_use i) h = (assigned_below ss i h, h)
 met_below ss (block_use i) h = (block_below ss i h, h)
@@ -77,7 +77,7 @@ AreMet-below ss us h = All-from_has (IsMetBelow ss (length ss)) us (λ u k. met_
 pub AreMet-from_below : (ss : List PlainStatement) (limit : ℕ) (us : List Use) → AreMetBelow ss limit us → AreMet ss us
 AreMet-from_below ss limit us h = λ u k. (All-has (IsMetBelow ss limit) us u h k).1
 
--- a statement that may stand at its position, and back
+-- a statement that is valid at its position, and back
 pub closed_of_stands : (ss : List PlainStatement) (p : ℕ) (s : PlainStatement) → slice_get ss p ≡ Some s → MayStandAt ss p → Closed ss p s
 closed_of_stands ss p s e h =
     let parts = subst (MayStand ss p) e h in
@@ -100,7 +100,7 @@ stands_of_closed ss p h = stands_any ss p (slice_get ss p) h
 pub ending_of_well_formed : (a : Item) → WellFormed a → StandsEnding a.statements a.ending
 ending_of_well_formed a w = (AreMet-below a.statements (roots_of a.ending) w.roots_met, w.ending_fits)
 
--- the statements at the needed positions stand, and their names are apart
+-- the statements at the needed positions are valid, and their names are distinct
 pub stand_of_well_formed : (a : Item) (ids : List ℕ) → ((i : ℕ) → Has ids i ↔ NeededIn a i) → WellFormed a → AllStand a.statements ids
 stand_of_well_formed a ids exact w = (
   All-from_has (MayStandAt a.statements) ids (λ p h. stands_of_closed a.statements p (λ s e. w.closed p s ((exact p).0 h) e)),
@@ -115,7 +115,7 @@ well_formed_of_stand a ids exact ending stand = record {
   named_apart = λ p q v x np nq. stand.1 p q v x ((exact p).1 np) ((exact q).1 nq);
 }
 
--- what stands at a use of a well formed item is what the use asks for
+-- what is at a use of a well formed item is what the use asks for
 met_of_optional : (a : Item) (p : ℕ) (o : Option PlainStatement) (u : Use) → WellFormed a → NeededIn a p → slice_get a.statements p ≡ o → Has (uses_of_optional o) u → IsMet a.statements u
 met_of_optional a p None u w needed e h = absurd h
 met_of_optional a p (Some s) u w needed e h = (w.closed p s needed e).met u h
@@ -124,7 +124,7 @@ met_of_named : (a : Item) (u : Use) → WellFormed a → NamedIn a u → IsMet a
 met_of_named a u w (inl root) = w.roots_met u root
 met_of_named a u w (inr other) = met_of_optional a other.0 (slice_get a.statements other.0) u w other.1 refl other.2
 
--- nothing but want of memory can be told of a well formed item
+-- the only error of a well formed item is out of memory
 pub fault_of_well_formed : (a : Item) (e : TextError) → WellFormed a → IsFaultOf a e → e ≡ OutOfMemory
 fault_of_well_formed a (OutOfRange i) w fault =
     elim fault.0 [

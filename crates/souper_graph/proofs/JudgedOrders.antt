@@ -1,4 +1,4 @@
--- From what the judges answer of an order to whether the item is well formed.
+-- From what the checks return for an order to whether the item is well formed.
 use Rattle.std.proofs.Common.{◌≡◌, ◌∙◌, ◌↔◌, ℕ, Bool, false, Result, Ok, Err, sym}
 use Rattle.std.specs.Prelude.{IsTrue, IfOk, IfErr, MatchResult}
 use Rattle.std.specs.declared.alloc.AllocError.{AllocError}
@@ -13,7 +13,7 @@ use Rattle.souper_graph.specs.WellFormed.{WellFormed}
 use Rattle.souper_graph.specs.Judging.{StandsEnding, AllStand}
 use Rattle.souper_graph.proofs.Judged.{well_formed_of_stand, stand_of_well_formed, fault_of_well_formed}
 
--- from what the judges answer of an order
+-- from what the checks return for an order
 pub judged : (a : Item) (order : Result Order TextError) (r : Result Bool AllocError)
     → IfErr order (λ e. IsFaultOf a e) → IfOk order (λ o. (i : ℕ) → Has o.ids.items i ↔ NeededIn a i) → StandsEnding a.statements a.ending
     → IfOk r (λ answer. MatchResult order (λ o. IsTrue answer ↔ AllStand a.statements o.ids.items) (λ e. (¬ (e ≡ OutOfMemory)) × (answer ≡ false)))

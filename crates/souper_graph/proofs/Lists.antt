@@ -1,4 +1,4 @@
--- Lists of positions: what they have, and that nothing stands twice.
+-- Lists of positions: their elements, and that none occurs twice.
 use Rattle.std.proofs.Common.{◌≡◌, ℕ, ◌+◌, ◌++◌, ◌⊎◌, inl, inr, length, map, List, [], ◌∷◌, refl, sym, ap, subst, arith}
 use Rattle.souper_graph.specs.Values.{PlainStatement}
 use Rattle.souper_graph.specs.Uses.{Has, used_at}

@@ -1,4 +1,4 @@
--- Where the statements of the printed order use positions below them alone, all needed statements do.
+-- If the statements of the printed order use positions below them alone, all needed statements do.
 use Rattle.std.proofs.Common.{◌≡◌, ℕ, ◌<◌, inl, inr, List, [], ◌∷◌, Bool, true, false, refl, sym, ◌∙◌, subst, lt-ltb, le-ltb, nat_lt}
 use Rattle.std.specs.Prelude.{◌&&◌, Result, Some, None, if◌then◌else◌}
 use Rattle.std.specs.Fmt.{WritesOnOk, DisplaysOnOk, WritesStyledOnOk, DisplaysStyledOnOk}

@@ -1,4 +1,4 @@
--- Uses that are met, faults among uses, and texts that grow part by part.
+-- Uses that resolve, faults among uses, and texts that grow part by part.
 use Rattle.std.proofs.Common.{◌≡◌, ℕ, zero, suc, ◌+◌, ◌<◌, inl, inr, List, [], ◌∷◌, ◌++◌, length, get_or, take, refl, sym, ap, subst, ◌∙◌, arith, append_assoc}
 use Rattle.std.specs.Prelude.{flat_map, Result, Ok, Err, IfErr, ◌↔◌}
 use Rattle.std.proofs.lemmas.Grind.{flat_map-append}
@@ -41,11 +41,11 @@ flat_map_front : {X A : Type 0} (f : X → List A) (xs : List X) (k : ℕ) (d : 
 flat_map_front f xs k d l at =
     flat_map_more f [] (take k xs) d ∙ ap (flat_map f) (ap (λ x. take k xs ++ x ∷ []) at ∙ sym (take_more xs k d l))
 
--- one more whose uses are met
+-- one more whose uses resolve
 pub AreMet-more : {X : Type 0} (ss : List PlainStatement) (f : X → List Use) (xs : List X) (k : ℕ) (d : X) → k < length xs → d ≡ get_or xs k d → AreMet ss (flat_map f (take k xs)) → AreMet ss (f d) → AreMet ss (flat_map f (take (k + 1) xs))
 AreMet-more ss f xs k d l at a b = subst (AreMet ss) (flat_map_front f xs k d l at) (AreMet-append ss (flat_map f (take k xs)) (f d) a b)
 
--- one more text at the end of those of the front
+-- one more text at the end of those of the prefix
 pub texts_more : {X : Type 0} (f : X → List ℕ) (xs : List X) (k : ℕ) (d : X) (a b t c : List ℕ) → k < length xs → d ≡ get_or xs k d → b ≡ a ++ flat_map f (take k xs) → t ≡ f d → c ≡ b ++ t → c ≡ a ++ flat_map f (take (k + 1) xs)
 texts_more f xs k d a b t c l at e u g =
     g ∙ (λ j. e j ++ u j) ∙ append_assoc a (flat_map f (take k xs)) (f d) ∙ ap (λ x. a ++ x) (flat_map_front f xs k d l at)
@@ -71,12 +71,12 @@ IsFaultAmong-second ss f roots xs ys zs e p h =
     IsFaultAmong-right ss roots (flat_map f zs) e
     (subst (λ us. IsFaultAmong ss us e) (flat_map_parts f xs ys zs p) (IsFaultAmong-right ss (flat_map f xs) (flat_map f ys) e h))
 
--- eight parts, one after the other
+-- eight parts in sequence
 pub eight_parts : (t t1 t2 t3 t4 t5 t6 t7 t8 a b c d e f g h : List ℕ) → t1 ≡ t ++ a → t2 ≡ t1 ++ b → t3 ≡ t2 ++ c → t4 ≡ t3 ++ d → t5 ≡ t4 ++ e → t6 ≡ t5 ++ f → t7 ≡ t6 ++ g → t8 ≡ t7 ++ h
     → t8 ≡ t ++ (a ++ (b ++ (c ++ (d ++ (e ++ (f ++ (g ++ h)))))))
 eight_parts t t1 t2 t3 t4 t5 t6 t7 t8 a b c d e f g h p1 p2 p3 p4 p5 p6 p7 p8 = rw (p8, p7, p6, p5, p4, p3, p2, p1) (simp append_assoc)
 
--- what the roots and the needed statements name, where ids are the needed statements
+-- what the roots and the needed statements use, if ids are the needed statements
 pub Has-flat_map : {X U : Type 0} (f : X → List U) (xs : List X) (u : U) → Has (flat_map f xs) u → (x : X) × Has xs x × Has (f x) u
 Has-flat_map f [] u h = absurd h
 Has-flat_map f (x ∷ xs) u h =
@@ -84,11 +84,6 @@ Has-flat_map f (x ∷ xs) u h =
       | inl a ↦ (x, inl refl, a)
       | inr b ↦ (let r = Has-flat_map f xs u b in (r.0, inr r.1, r.2))
     ]
-
-pub Has-in_flat_map : {X U : Type 0} (f : X → List U) (xs : List X) (x : X) (u : U) → Has xs x → Has (f x) u → Has (flat_map f xs) u
-Has-in_flat_map f [] x u h k = absurd h
-Has-in_flat_map f (y ∷ xs) x u (inl e) k = Has-left (f y) (flat_map f xs) u (subst (λ z. Has (f z) u) (sym e) k)
-Has-in_flat_map f (y ∷ xs) x u (inr h) k = Has-right (f y) (flat_map f xs) u (Has-in_flat_map f xs x u h k)
 
 NamedIn-among : (a : Item) (ids : List ℕ) (u : Use) → ((p : ℕ) → Has ids p → NeededIn a p) → Has (roots_of a.ending ++ flat_map (uses_at a.statements) ids) u → NamedIn a u
 NamedIn-among a ids u needed h =
@@ -105,17 +100,7 @@ IsFaultOf-among a ids (NotAnAssignment i) n h = (NamedIn-among a ids (value_use 
 IsFaultOf-among a ids (NotABlock i) n h = (NamedIn-among a ids (block_use i) n h.0, h.1, h.2)
 IsFaultOf-among a ids OutOfMemory n h = tt
 
--- where the roots and all needed statements are met, the item has no bad id
-pub HasBadId-none : (a : Item) (ids : List ℕ) → ((p : ℕ) → NeededIn a p → Has ids p) → AreMet a.statements (roots_of a.ending ++ flat_map (uses_at a.statements) ids) → ¬ HasBadId a
-HasBadId-none a ids all met = λ bad.
-    let roots = roots_of a.ending in
-    let uses = flat_map (uses_at a.statements) ids in
-    bad.2 (met bad.0 (elim bad.1 [
-      | inl r ↦ Has-left roots uses bad.0 r
-      | inr w ↦ Has-right roots uses bad.0 (Has-in_flat_map (uses_at a.statements) ids w.0 bad.0 (all w.0 w.1) w.2)
-    ]))
-
--- the same of an answer
+-- the same of a result
 pub IsFaultOf-answered : {T : Type 0} (a : Item) (ids : List ℕ) (r : Result T TextError) → ((p : ℕ) → Has ids p ↔ NeededIn a p)
     → IfErr r (λ e. IsFaultAmong a.statements (roots_of a.ending ++ flat_map (uses_at a.statements) ids) e) → IfErr r (λ e. IsFaultOf a e)
 IsFaultOf-answered a ids (Ok text) n h = tt

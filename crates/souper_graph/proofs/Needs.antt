@@ -1,4 +1,4 @@
--- What every run keeps: the statements that it holds are needed, stand once and are closed up to what is traced.
+-- What every run keeps: its statements are needed, occur once and are closed up to what is still to be visited.
 use Rattle.std.proofs.Common.{◌≡◌, ℕ, suc, ◌+◌, ◌<◌, ◌++◌, ◌⊎◌, inl, inr, length, map, List, [], ◌∷◌, Bool, true, false, refl, sym, ap, ◌∙◌, subst, arith, length-append, append_assoc, append-nil, get_or, get_or-set_same, get_or-set_other}
 use Rattle.std.proofs.Math.ListN.{replicate, set, length-set, length-replicate}
 use Rattle.std.proofs.lemmas.List.{length-map, get_or-replicate, get_or_past}
@@ -30,7 +30,7 @@ unfolding waiting
 waiting-uses [] s = refl
 waiting-uses (u ∷ us) s = waiting-uses us s
 
--- of a run: what it holds, what is still traced, the marks, how many entries wait, and its turns
+-- of a run: what it has, what is still to be visited, the marks, how many entries wait, and its turns
 pub record Kept (g : List PlainStatement) (w held traced : List ℕ) (m : List Bool) (n t : ℕ) : Type 0 where
   pub sized : length m ≡ length g
   pub marked_held : (i : ℕ) → get_or m i false ≡ true → Has held i
@@ -195,7 +195,7 @@ kept {g = g} (entered {i = i} {t = t} {walks = w} {s = s} {m = m} {ids = ids} r 
     (sym (length-append (map (λ u. trace u) (used_at g i)) (finish i ∷ s) ∙ ap (λ x. x + suc (length s)) (length-map (used_at g i) (λ u. trace u))))
     (kept_entered g w ids (waiting s) (traces s) m (length s) t i (kept r) h f)
 
--- of a run that is over
+-- of a finished run
 pub over : {g : List PlainStatement} {w : List ℕ} {m : List Bool} {ids : List ℕ} {t : ℕ} → Reached g w [] m ids t → Kept g w ids [] m 0 t
 unfolding traces waiting
 over {ids = ids} r = kept_moved (append-nil ids) refl refl (kept r)
@@ -203,9 +203,3 @@ over {ids = ids} r = kept_moved (append-nil ids) refl refl (kept r)
 pub needed_held : {g : List PlainStatement} {w held : List ℕ} {m : List Bool} {n t i : ℕ} → Kept g w held [] m n t → Needed g w i → Has held i
 needed_held {i = i} k (walked h) = elim (k.rooted i h) [ inl a ↦ a | inr b ↦ absurd (Has-none i b) ]
 needed_held k (used {i = i} {j = j} n h) = elim (k.closed i j (needed_held k n) h) [ inl a ↦ a | inr b ↦ absurd (Has-none j b) ]
-
--- what a trace entry at the top names is needed
-pub top_needed : {g : List PlainStatement} {w : List ℕ} {s : List Step} {m : List Bool} {ids : List ℕ} {t i : ℕ} →
-    Reached g w (trace i ∷ s) m ids t → Needed g w i
-unfolding traces
-top_needed {s = s} {i = i} r = (kept r).traced_needed i (Has-here i (traces s))

@@ -1,4 +1,4 @@
--- Where uses lie below their users, a run finishes the statements in printed order.
+-- If uses are below their users, a run finishes the statements in printed order.
 use Rattle.std.proofs.Common.{◌≡◌, ℕ, zero, suc, ◌<◌, ◌++◌, inl, inr, map, List, [], ◌∷◌, Bool, cond, refl, sym, ap, ◌∙◌, subst, arith, append_assoc, append-nil, lt-ltb, le-ltb, nat_lt}
 use Rattle.std.specs.List.{flat_map, filter}
 use Rattle.std.proofs.lemmas.Bool.{cases_lt}
@@ -95,7 +95,7 @@ unfold-inside g ids c (suc n) p h j k = elim (Has-cases (flat_map (unfold_to g n
   | inr b ↦ elim (Has-head p j [] b) [ inl e ↦ subst (λ (z : ℕ). Has ids z) e h | inr q ↦ absurd (Has-none j q) ]
 ]
 
--- each stands where its lower uses are had already
+-- each occurs after its lower uses that are not known before
 unfoldable pub Steady : List PlainStatement → List ℕ → List ℕ → Type 0
 Steady g known [] = Unit {0}
 Steady g known (x ∷ xs) = ((u : ℕ) → Has (lower g x) u → Has known u) × Steady g (known ++ x ∷ []) xs
@@ -185,7 +185,7 @@ yields-uses g [] s = refl
 yields-uses g (u ∷ us) s =
     ap (λ x. unfolding_of g u ++ x) (yields-uses g us s) ∙ sym (append_assoc (unfolding_of g u) (flat_map (unfolding_of g) us) (yields g s))
 
--- above an entry that waits stand lower ones
+-- above an entry that waits there are lower ones
 unfoldable pub Ordered : List Step → Type 0
 Ordered [] = Unit {0}
 Ordered (trace i ∷ s) = ((f : ℕ) → Has (waiting s) f → i < f) × Ordered s
@@ -289,7 +289,7 @@ pub over_printed : {g : List PlainStatement} {w : List ℕ} {m : List Bool} {ids
 unfolding yields with_new
 over_printed {g = g} {w = w} ub r = (sorted ub r).yielded ∙ sym (printed-is g w)
 
--- where an element of a steady list stands, its lower uses stand before it
+-- where an element of a steady list occurs, its lower uses occur before it
 steady-at : (g : List PlainStatement) (k front back : List ℕ) (i u : ℕ) → Steady g k (front ++ i ∷ back) → Has (lower g i) u → Has (k ++ front) u
 unfolding Steady
 steady-at g k [] back i u s h = subst (λ (z : List ℕ). Has z u) (sym (append-nil k)) (s.0 u h)

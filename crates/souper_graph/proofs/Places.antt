@@ -77,7 +77,7 @@ with-distinct k (x ∷ xs) d = elim (has_tells k x) [
   | inr t ↦ subst (λ (b : Bool). Distinct (with_new (cond b k (k ++ x ∷ [])) xs)) (sym t.1) (with-distinct (k ++ x ∷ []) xs (Distinct-push k x d t.0))
 ]
 
--- nothing new is dropped from a list in which nothing stands twice
+-- nothing new is dropped from a list in which nothing occurs twice
 pub with-all : (k xs : List ℕ) → Distinct xs → ((j : ℕ) → Has k j → Has xs j → ⊥) → with_new k xs ≡ k ++ xs
 unfolding with_new
 with-all k [] d h = sym (append-nil k)

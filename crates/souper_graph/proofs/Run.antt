@@ -5,13 +5,13 @@ use Rattle.std.proofs.lemmas.List.{length-map}
 use Rattle.souper_graph.specs.Values.{PlainStatement}
 use Rattle.souper_graph.specs.Uses.{Has, position_of, uses_of, used_at, Needed}
 
--- an entry of the stack: a position that is to be traced, or one whose uses are
+-- an entry of the stack: a position that is to be visited, or one whose uses are
 pub data Step : Type 0 where
   trace : ℕ → Step
   finish : ℕ → Step
 
--- what a run over the walks can come to: the stack with its top first, the marks, the statements
--- that are finished, and how many entries left the stack
+-- what a run over the walks can reach: the stack with its top first, the marks, the finished statements, and the number
+-- of entries that were popped
 pub data Reached (g : List PlainStatement) : List ℕ → List Step → List Bool → List ℕ → ℕ → Type 0 where
   start : Reached g [] [] (replicate (length g) false) [] 0
   walk : {i t : ℕ} {walks : List ℕ} {m : List Bool} {ids : List ℕ} →
@@ -24,11 +24,11 @@ pub data Reached (g : List PlainStatement) : List ℕ → List Step → List Boo
   finished : {i t : ℕ} {walks : List ℕ} {s : List Step} {m : List Bool} {ids : List ℕ} →
       Reached g walks (finish i ∷ s) m ids t → Reached g walks s m (ids ++ i ∷ []) (t + 1)
 
--- each use of a statement that the walks need lies below it
+-- each use of a statement that the walks need is below it
 abbrev pub Below : List PlainStatement → List ℕ → Type 0
 Below g walks = (i u : ℕ) → Needed g walks i → Has (used_at g i) u → u < i
 
--- what is left to do for the statements with no mark: an entry each, one for each use, and one more
+-- what is left to do for the statements without a mark: for each 2, and 1 per use
 unfoldable pub work : List PlainStatement → List Bool → ℕ
 work [] m = 0
 work (n ∷ g) [] = 0

@@ -1,4 +1,4 @@
--- Two well formed items have one renumbered item exactly where they are the same graph.
+-- Two well formed items have one renumbered item if and only if they are the same graph.
 use Rattle.std.proofs.Common.{◌≡◌, ℕ, zero, suc, ◌<◌, ◌++◌, inl, inr, length, map, List, [], ◌∷◌, Bool, true, false, cond, Option, Some, None, refl, sym, ap, ◌∙◌, subst, arith, get_or, append_assoc}
 use Rattle.std.specs.List.{flat_map, filter, slice_get}
 use Rattle.std.proofs.lemmas.List.{map-append, length-map, length_push, get_or-map, ext_get_or}
@@ -187,7 +187,7 @@ renumbered-same a b wa wb s = renumbered-is a wa ∙ numbered-same a b wa wb s �
 
 -- one renumbered item, so the same graph
 
--- the statement of b at the place that a's statement i has
+-- the statement of b that has in its printed order the index of a's statement i
 abbrev across : Item → Item → ℕ → ℕ
 across a b i = get_or (printed_order b) (place (printed_order a) i) 0
 
@@ -208,7 +208,7 @@ across-numbered a b wa e i d =
     ap (numbered a) (sym (at-place (printed_order a) i 0 (inside a wa i d))) ∙ sym (get_or-map (numbered a) (printed_order a) k 0 none l)
     ∙ ap (λ (x : Item). get_or x.statements k none) e ∙ get_or-map (numbered b) (printed_order b) k 0 none l'
 
--- each number goes back to the statement that it is the place of
+-- each number goes back to the statement whose index it is
 across-contents : (a b : Item) → WellFormed a → WellFormed b → numbered_item a ≡ numbered_item b → (i : ℕ) → NeededIn a i → NeededIn b (across a b i) →
     statement_at b.statements (across a b i) ≡ carried (across a b) (statement_at a.statements i)
 across-contents a b wa wb e i d db =
@@ -328,7 +328,7 @@ numbered-needed a wa {i = i} (used {i = v} n h) =
     used (numbered-needed a wa n)
     (subst (λ (z : List ℕ). Has z (place (printed_order a) i)) (sym (numbered-used a wa v n)) (Has-map (place (printed_order a)) (used_at a.statements v) i h))
 
--- where a position of the renumbered item uses another, so do the statements whose places they are
+-- if a position of the renumbered item uses another, so do the statements whose indices they are
 used-back : (a : Item) → WellFormed a → (i v j : ℕ) → NeededIn a i → place (printed_order a) i ≡ v → Has (used_at (numbered_item a).statements v) j →
     (u : ℕ) × Has (used_at a.statements i) u × (place (printed_order a) u ≡ j)
 used-back a wa i v j d e h =

@@ -1,4 +1,4 @@
--- The runs of the code's work stack: runs over positions, on which each target that left the stack was met.
+-- The runs of the code's work stack: runs over positions, in which each target that was popped resolves.
 use Rattle.std.proofs.Common.{◌≡◌, ℕ, ◌+◌, ◌<◌, ◌++◌, ◌-◌, ◌^◌, ◌⊎◌, inl, inr, min, length, map, List, [], ◌∷◌, Bool, true, false, refl, sym, ap, ◌∙◌, subst, get_or, arith, get_or-set_same, get_or-set_other}
 use Rattle.std.proofs.Math.ListN.{replicate, set, length-set, length-replicate}
 use Rattle.std.proofs.lemmas.List.{map-append, get_or-replicate, get_or_past}
@@ -28,13 +28,13 @@ traces_of us = map (λ u. Trace (target_of u)) us
 abbrev pub IsNamed : List PlainStatement → List Target → List Bool → Target → Type 0
 IsNamed ss walks m t = Has walks t ⊎ ((v : ℕ) × (u : Use) × (get_or m v false ≡ true) × Has (uses_at ss v) u × (target_of u ≡ t))
 
--- what is on the stack, its top first, is named, and all that is named and is not on it was met
+-- what is on the stack, its top first, is named, and all that is named and is not on it resolves
 pub record Judged (ss : List PlainStatement) (walks : List Target) (s : List Entry) (m : List Bool) : Type 0 where
   pub named : (t : Target) → Has s (Trace t) → IsNamed ss walks m t
   pub walks_met : (t : Target) → Has walks t → IsMetTarget ss t ⊎ Has s (Trace t)
   pub uses_met : (v : ℕ) (u : Use) → get_or m v false ≡ true → Has (uses_at ss v) u → IsMetTarget ss (target_of u) ⊎ Has s (Trace (target_of u))
 
--- the stack with its top first, and turns that stop at the top of their type
+-- the stack with its top first, and turns that stop at the greatest value of their type
 pub record Running (ss : List PlainStatement) (walks : List Target) (s : List Entry) (m : List Bool) (ids : List ℕ) (turns : ℕ) : Type 0 where
   pub count : ℕ
   pub counted : turns ≡ min (2 ^ 128 - 1) count
@@ -96,7 +96,7 @@ judged_walk ss w m t j = record {
   uses_met = λ v u h k. elim (j.uses_met v u h k) [ inl b ↦ inl b | inr n ↦ absurd (Has-none (Trace (target_of u)) n) ];
 }
 
--- the top was met and leaves
+-- the top resolved and is popped
 met_or_below : (ss : List PlainStatement) (s : List Entry) (t x : Target) → IsMetTarget ss t →
     IsMetTarget ss x ⊎ Has (Trace t ∷ s) (Trace x) → IsMetTarget ss x ⊎ Has s (Trace x)
 met_or_below ss s t x met (inl a) = inl a
@@ -156,7 +156,7 @@ judged_entered ss w s m t i j met h =
       ];
     }
 
--- the steps of the entries that come onto the stack
+-- the steps of the entries that are pushed
 
 pub use_position : (u : Use) → position_of_target (target_of u) ≡ position_of u
 use_position (value_use i) = refl

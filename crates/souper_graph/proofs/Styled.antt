@@ -10,7 +10,7 @@ use Rattle.std.proofs.lemmas.Fmt.{contents_after_writes}
 use Rattle.arrayvec.specs.ArrayString.{ArrayString}
 
 module _ {W : Type 0} (took : W → List ℕ → W → Type 0) where
-  folds-append : (w : W) (xs : List (List ℕ)) (v : W) (ys : List (List ℕ)) (u : W) → FoldsTo took w xs v → FoldsTo took v ys u → FoldsTo took w (xs ++ ys) u
+  pub folds-append : (w : W) (xs : List (List ℕ)) (v : W) (ys : List (List ℕ)) (u : W) → FoldsTo took w xs v → FoldsTo took v ys u → FoldsTo took w (xs ++ ys) u
   folds-append w [] v ys u p q = subst (λ (x : W). FoldsTo took x ys u) (sym p) q
   folds-append w (x ∷ xs) v ys u p q = (p.0, p.1, folds-append p.0 xs v ys u p.2 q)
 
@@ -20,7 +20,7 @@ module _ {W : Type 0} (took : W → List ℕ → W → Type 0) where
   has_written_styled_of_eq : (f : Formatter W) (a b : List ℕ) (g : Formatter W) → a ≡ b → HasWrittenStyled took f a g → HasWrittenStyled took f b g
   has_written_styled_of_eq f a b g e h = subst (λ (l : List ℕ). HasWrittenStyled took f l g) e h
 
-  has_written_styled_append : (f : Formatter W) (a : List ℕ) (g : Formatter W) (b : List ℕ) (h : Formatter W) → HasWrittenStyled took f a g → HasWrittenStyled took g b h → HasWrittenStyled took f (a ++ b) h
+  pub has_written_styled_append : (f : Formatter W) (a : List ℕ) (g : Formatter W) (b : List ℕ) (h : Formatter W) → HasWrittenStyled took f a g → HasWrittenStyled took g b h → HasWrittenStyled took f (a ++ b) h
   has_written_styled_append f a g b h p q = record {
     wrote = record {
       parts = p.wrote.parts ++ q.wrote.parts;
@@ -31,7 +31,7 @@ module _ {W : Type 0} (took : W → List ℕ → W → Type 0) where
     flush = q.flush;
   }
 
-  -- two, three and five writes in a row are one
+  -- two, three and five writes in sequence are one
   pub styled_two : (f g h : Formatter W) (a b all : List ℕ) → HasWrittenStyled took f a g → HasWrittenStyled took g b h → a ++ b ≡ all → HasWrittenStyled took f all h
   styled_two f g h a b all p q is = has_written_styled_of_eq _ _ all _ is (has_written_styled_append _ _ _ _ _ p q)
 

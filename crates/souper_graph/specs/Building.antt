@@ -1,4 +1,4 @@
--- Definitions. What the builders add to their arenas, and what they ask for.
+-- Definitions. What the builders append to their arenas, and what they require.
 use Rattle.std.specs.Prelude.{◌≡◌, ℕ, List, ◌∷◌, decimal, Option, Some, None, slice_get}
 use Rattle.std.specs.declared.alloc.Global.{Global}
 use Rattle.std.specs.declared.string.String.{String}
@@ -9,17 +9,17 @@ use Rattle.souper_graph.specs.declared.ast.items.Replacement.{Replacement}
 use Rattle.souper_graph.specs.declared.ast.items.Replacement.TheVariants.{LhsRhs, Cand}
 use Rattle.souper_graph.specs.Values.{PlainStatement, PlainRhs, PlainAttribute, assigned}
 
--- a name that is given begins with `%` (37)
+-- a given name begins with `%` (37)
 abbrev pub BeginsWithPercent : Option (String Global) → Type 0
 BeginsWithPercent None = Unit {0}
 BeginsWithPercent (Some name) = slice_get (string_bytes name) 0 ≡ Some 37
 
--- the name that is given, or `%` (37) and the number in decimal
+-- the given name, or `%` (37) and the number in decimal
 abbrev pub chosen_name : Option (String Global) → ℕ → List ℕ
 chosen_name None n = 37 ∷ decimal n
 chosen_name (Some name) n = string_bytes name
 
--- the assignment that is added behind n statements
+-- the assignment that is appended to n statements
 abbrev pub added_assignment : Option (String Global) → ℕ → Option Ty → PlainRhs → List PlainAttribute → PlainStatement
 added_assignment name n ty value attributes = assigned (record { name = chosen_name name n; ty = ty; value = value; attributes = attributes })
 

@@ -1,4 +1,5 @@
--- Definitions. What the laws of canonical texts speak of: items of one type, items in another arena order, the lines of a text.
+-- Definitions. What the laws of canonical texts speak of: items of one type, items in another arena order, the lines of
+-- a text.
 use Rattle.std.specs.Prelude.{◌≡◌, ◌⊎◌, ℕ, ◌<◌, List, [], ◌∷◌, ◌++◌, flat_map, length, Some, slice_get}
 use Rattle.std.specs.List.{AllByRecursion}
 use Rattle.souper_graph.specs.Values.{PlainStatement, assigned, condition, block_condition, Item}
@@ -49,7 +50,8 @@ condition_lines ss (assigned a ∷ us) = condition_lines ss us
 condition_lines ss (condition p ∷ us) = text_of_statement ss (condition p) ∷ condition_lines ss us
 condition_lines ss (block_condition p ∷ us) = text_of_statement ss (block_condition p) ∷ condition_lines ss us
 
--- the canonical text begins with lines among which are those of all path conditions, in the order in which the item has them
+-- the canonical text begins with lines among which are those of all path conditions, in the order in which the item has
+-- them
 pub record HasConditionLines (a : Item) : Type 0 where
   pub lines : List (List ℕ)
   pub rest : List ℕ

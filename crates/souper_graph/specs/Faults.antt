@@ -1,11 +1,11 @@
--- Definitions. Ids that name nothing that they may name, and what is answered for them.
+-- Definitions. Bad ids: those that name nothing that they may name, and the errors for them.
 use Rattle.std.specs.Prelude.{ℕ, ◌<◌, ◌≤◌, ◌⊎◌, ◌++◌, length, List, Option, Some, None, slice_get, codes, decimal}
 use Rattle.souper_graph.specs.declared.stringify.errors.TextError.{TextError}
 use Rattle.souper_graph.specs.declared.stringify.errors.TextError.TheVariants.{OutOfRange, NotAnAssignment, NotABlock, OutOfMemory}
 use Rattle.souper_graph.specs.Values.{PlainRhs, var, block, phi, reserved_inst, reserved_const, instruction, PlainStatement, assigned, condition, block_condition, Item}
 use Rattle.souper_graph.specs.Uses.{Has, Use, value_use, block_use, uses_at, roots_of, NeededIn}
 
--- an assignment stands there
+-- it is an assignment
 abbrev pub IsAssigned : Option PlainStatement → Type 0
 IsAssigned None = ⊥
 IsAssigned (Some (assigned a)) = Unit {0}
@@ -20,14 +20,14 @@ IsBlockRhs reserved_inst = ⊥
 IsBlockRhs reserved_const = ⊥
 IsBlockRhs (instruction i) = ⊥
 
--- the assignment of a block stands there
+-- it is the assignment of a block
 abbrev pub IsBlock : Option PlainStatement → Type 0
 IsBlock None = ⊥
 IsBlock (Some (assigned a)) = IsBlockRhs a.value
 IsBlock (Some (condition p)) = ⊥
 IsBlock (Some (block_condition p)) = ⊥
 
--- what stands at the position is what the use asks for
+-- what is at the position is what the use asks for
 abbrev pub IsMet : List PlainStatement → Use → Type 0
 IsMet ss (value_use i) = IsAssigned (slice_get ss i)
 IsMet ss (block_use i) = IsBlock (slice_get ss i)
@@ -35,22 +35,22 @@ IsMet ss (block_use i) = IsBlock (slice_get ss i)
 abbrev pub AreMet : List PlainStatement → List Use → Type 0
 AreMet ss us = (u : Use) → Has us u → IsMet ss u
 
--- the error tells what is wrong with one of the uses, or want of memory
+-- the error says what is wrong with one of the uses, or is out of memory
 abbrev pub IsFaultAmong : List PlainStatement → List Use → TextError → Type 0
 IsFaultAmong ss us (OutOfRange i) = (Has us (value_use i) ⊎ Has us (block_use i)) × (length ss ≤ i)
 IsFaultAmong ss us (NotAnAssignment i) = Has us (value_use i) × (i < length ss) × ¬ IsAssigned (slice_get ss i)
 IsFaultAmong ss us (NotABlock i) = Has us (block_use i) × (i < length ss) × ¬ IsBlock (slice_get ss i)
 IsFaultAmong ss us OutOfMemory = Unit {0}
 
--- a root, or a needed statement, names the position so
+-- a root or a needed statement has this use
 abbrev pub NamedIn : Item → Use → Type 0
 NamedIn a u = Has (roots_of a.ending) u ⊎ ((p : ℕ) × NeededIn a p × Has (uses_at a.statements p) u)
 
--- a root or a needed statement names a position where nothing stands that it may name
+-- a root or a needed statement names a position at which there is nothing that it may name
 abbrev pub HasBadId : Item → Type 0
 HasBadId a = (u : Use) × NamedIn a u × ¬ IsMet a.statements u
 
--- the error tells a bad id of the item under its own fault, or want of memory
+-- the error has a bad id of the item, in the variant for its fault, or is out of memory
 abbrev pub IsFaultOf : Item → TextError → Type 0
 IsFaultOf a (OutOfRange i) = (NamedIn a (value_use i) ⊎ NamedIn a (block_use i)) × (length a.statements ≤ i)
 IsFaultOf a (NotAnAssignment i) = NamedIn a (value_use i) × (i < length a.statements) × ¬ IsAssigned (slice_get a.statements i)

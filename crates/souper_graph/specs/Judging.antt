@@ -1,4 +1,4 @@
--- Definitions. What the judges of single statements, of endings and of names answer.
+-- Definitions. What the checks of single statements, of endings and of names return.
 use Rattle.std.specs.Prelude.{ℕ, ◌<◌, length, List, Option, Some, None, slice_get}
 use Rattle.std.specs.List.{AllByRecursion}
 use Rattle.souper_graph.specs.Values.{PlainStatement, assigned, condition, block_condition, Ending}
@@ -6,14 +6,14 @@ use Rattle.souper_graph.specs.Uses.{Has, Use, position_of, uses_of, roots_of}
 use Rattle.souper_graph.specs.Faults.{IsMet}
 use Rattle.souper_graph.specs.WellFormed.{FitsStatement, AgreesWithBlock, FitsEnding, AreNamedApart}
 
--- the use names a position below the limit, and what it asks for stands there
+-- the use is of a position below the limit, and what it asks for is there
 abbrev pub IsMetBelow : List PlainStatement → ℕ → Use → Type 0
 IsMetBelow ss limit u = (position_of u < limit) × IsMet ss u
 
 abbrev pub AreMetBelow : List PlainStatement → ℕ → List Use → Type 0
 AreMetBelow ss limit us = AllByRecursion (IsMetBelow ss limit) us
 
--- the statement, if there is one, may stand at position p
+-- the statement, if there is one, is valid at position p
 abbrev pub MayStand : List PlainStatement → ℕ → Option PlainStatement → Type 0
 MayStand ss p None = Unit {0}
 MayStand ss p (Some s) = FitsStatement s × AreMetBelow ss p (uses_of s) × AgreesWithBlock ss s
@@ -21,7 +21,7 @@ MayStand ss p (Some s) = FitsStatement s × AreMetBelow ss p (uses_of s) × Agre
 abbrev pub MayStandAt : List PlainStatement → ℕ → Type 0
 MayStandAt ss p = MayStand ss p (slice_get ss p)
 
--- the ending is as it must be, and what its roots ask for stands in the arena
+-- the ending is valid by itself, and what its roots ask for is in the arena
 abbrev pub StandsEnding : List PlainStatement → Ending → Type 0
 StandsEnding ss e = AreMetBelow ss (length ss) (roots_of e) × FitsEnding e
 
@@ -31,10 +31,10 @@ assigned_name (Some (assigned a)) = Some a.name
 assigned_name (Some (condition p)) = None
 assigned_name (Some (block_condition p)) = None
 
--- the name of the assignment at a position, where one stands there
+-- the name of the assignment at a position, if there is one
 abbrev pub assigned_name_at : List PlainStatement → ℕ → Option (List ℕ)
 assigned_name_at ss p = assigned_name (slice_get ss p)
 
--- the statements at these positions may stand there, and no two of the assignments have one name
+-- the statements at these positions are valid there, and their assignments have distinct names
 abbrev pub AllStand : List PlainStatement → List ℕ → Type 0
 AllStand ss ids = AllByRecursion (MayStandAt ss) ids × AreNamedApart ss (Has ids)

@@ -9,7 +9,7 @@ use Rattle.souper_graph.specs.Values.{PlainAttribute, known_bits, power_of_two, 
 abbrev pub text_of_type : Ty → List ℕ
 text_of_type t = codes "i" ++ decimal t.width
 
--- `:` and the type, where there is one
+-- `:` and the type, if there is one
 abbrev pub text_of_optional_type : Option Ty → List ℕ
 text_of_optional_type None = []
 text_of_optional_type (Some t) = codes ":" ++ text_of_type t
@@ -44,7 +44,7 @@ abbrev pub text_of_root_attribute : PlainRootAttribute → List ℕ
 text_of_root_attribute (demanded_bits bits) = codes "(demandedBits=" ++ (map text_of_bit bits ++ codes ")")
 text_of_root_attribute harvested_from_use = codes "(harvestedFromUse)"
 
--- a blank and the attribute, for each
+-- a space and the attribute, for each
 abbrev pub text_of_attributes : List PlainAttribute → List ℕ
 text_of_attributes xs = flat_map (λ x. 32 ∷ text_of_attribute x) xs
 

@@ -1,8 +1,9 @@
--- Definitions. What an arena ends as, where a `&mut` to one of its items is returned.
+-- Definitions. What an arena ends as, if a `&mut` to one of its items is returned.
 use Rattle.std.specs.Prelude.{ℕ, List, Option, slice_set}
 use Rattle.std.specs.Borrow.{LendsIf, Fml, RattleType, MutBor}
 use Rattle.souper_graph.specs.contracts.ast.arenas.Arena.{the_row}
 
--- once the borrow r ends, the item at the position is the last value written through r, and where there is no r all stays
+-- once the borrow r ends, the item at the position is the last value written through r; without r the arena is
+-- unchanged
 abbrev pub LendsItem : (T : RattleType) → MutBor (List T.Denot) → ℕ → Option (MutBor T.Denot) → Fml
 LendsItem T arena i r = LendsIf (the_row T) T arena r (slice_set arena.now i) arena.now

@@ -1,5 +1,6 @@
 pub mod Lending
 pub mod Instructions
+pub mod Operands
 pub mod Values
 pub mod Names
 pub mod View

@@ -17,7 +17,7 @@ abbrev pub firsts : List ℕ → List ℕ
 firsts [] = []
 firsts (x ∷ xs) = x ∷ filter (λ y. not (nat_eq x y)) (firsts xs)
 
--- the first occurrences in the unfoldings of the walks, one after the other
+-- the first occurrences in the unfoldings of the walks, in sequence
 abbrev pub order_of_walks : List PlainStatement → List ℕ → List ℕ
 order_of_walks ss walks = firsts (flat_map (unfolding_of ss) walks)
 
@@ -34,20 +34,20 @@ abbrev pub use_below : List PlainStatement → List ℕ → Bool
 use_below ss [] = true
 use_below ss (i ∷ is) = are_below i (used_at ss i) && use_below ss is
 
--- Each needed statement uses positions below it alone. Where those of the printed order do, it has all that are needed.
+-- Each needed statement uses positions below it alone. If those of the printed order do, it has all that are needed.
 abbrev pub uses_below : Item → Bool
 uses_below a = use_below a.statements (printed_order a)
 
--- how many statements stand before the infer line; in an item without a result behind it, all
+-- the number of statements before the infer line; in an item without a result line after it, of all
 abbrev pub lead_of : Item → ℕ
 lead_of a = length (order_of_walks a.statements (first_walks a))
 
--- no number stands twice
+-- no number occurs twice
 abbrev pub Distinct : List ℕ → Type 0
 Distinct [] = Unit {0}
 Distinct (x ∷ xs) = (¬ Has xs x) × Distinct xs
 
--- before each statement of the list stand all its uses
+-- all uses of each statement of the list occur before it
 abbrev pub EachAfterItsUses : List PlainStatement → List ℕ → Type 0
 EachAfterItsUses ss ids = (front back : List ℕ) (i u : ℕ) → ids ≡ front ++ i ∷ back → Has (used_at ss i) u → Has front u
 
@@ -56,6 +56,7 @@ abbrev pub cost : List PlainStatement → List ℕ → ℕ
 cost ss [] = 0
 cost ss (i ∷ is) = 1 + length (used_at ss i) + cost ss is
 
--- how many entries leave the work stack: for each walk 1, and the cost of the needed statements; a `u128` holds no more
+-- how often the work stack is popped: once per walk, and the cost of the needed statements, but at most what a `u128`
+-- holds
 abbrev pub turns_of : Item → List ℕ → ℕ
 turns_of a ids = min (2 ^ 128 - 1) (length (walks_of a) + cost a.statements ids)

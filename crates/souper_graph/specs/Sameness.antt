@@ -7,7 +7,7 @@ use Rattle.souper_graph.specs.Values.{PlainRhs, var, block, phi, reserved_inst, 
 use Rattle.souper_graph.specs.Uses.{Has, conditions, NeededIn}
 use Rattle.souper_graph.specs.Order.{printed_order, Distinct, EachAfterItsUses}
 
--- nodes in which f carries each position
+-- nodes with f applied to each position
 abbrev pub carried_operand : (ℕ → ℕ) → Operand → Operand
 carried_operand f (Value i) = Value (f i)
 carried_operand f (Constant c) = Constant c
@@ -47,7 +47,7 @@ pub record SameGraph (a b : Item) : Type 0 where
   pub ending : b.ending ≡ carried_ending to a.ending
   pub condition_order : (i j : ℕ) → Has (conditions a) i → Has (conditions a) j → i < j → to i < to j
 
--- the first place of a number in a list
+-- the index of the first occurrence of a number in a list
 abbrev pub place : List ℕ → ℕ → ℕ
 place [] i = 0
 place (x ∷ xs) i = if nat_eq x i then 0 else suc (place xs i)
@@ -56,11 +56,11 @@ abbrev pub carried_optional : (ℕ → ℕ) → Option PlainStatement → List P
 carried_optional f None = []
 carried_optional f (Some s) = carried f s ∷ []
 
--- the statements at these positions, in order, each position replaced by its place among them
+-- the statements at these positions, in order, each position replaced by its index among them
 abbrev pub taken : List PlainStatement → List ℕ → List PlainStatement
 taken ss ids = flat_map (λ i. carried_optional (place ids) (slice_get ss i)) ids
 
--- the needed statements in printed order, each position replaced by its place there
+-- the needed statements in printed order, each position replaced by its index there
 abbrev pub renumbered : Item → Item
 renumbered a = record {
   statements = taken a.statements (printed_order a);
@@ -73,7 +73,7 @@ pub record SameNeeded (a b : Item) : Type 0 where
   pub same_conditions : conditions b ≡ conditions a
   pub same_statements : (i : ℕ) → NeededIn a i → slice_get b.statements i ≡ slice_get a.statements i
 
--- the positions are the needed ones, each once and after all its uses, and path conditions stand in their own order
+-- the positions are the needed ones, each once and after all its uses, and path conditions keep their order
 pub record OrdersNeeded (a : Item) (ids : List ℕ) : Type 0 where
   pub needed : (i : ℕ) → Has ids i ↔ NeededIn a i
   pub once : Distinct ids

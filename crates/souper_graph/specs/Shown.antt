@@ -6,6 +6,7 @@ use Rattle.std.specs.declared.fmt.Formatter.{Formatter}
 use Rattle.souper_graph.specs.Values.{Item}
 use Rattle.souper_graph.specs.Text.{IsLinesOf}
 
--- where r is `Ok`, g is f after writing the lines of the item's needed statements and its last lines, whatever f's options are
+-- if r is `Ok`, g is f after writing the lines of the item's needed statements and its last lines, whatever f's options
+-- are
 abbrev pub ShowsLines : {W : Type 0} → (W → List ℕ → W → Type 0) → Item → Formatter W → Result (Unit {0}) Error → Formatter W → Type 0
 ShowsLines took a f r g = IsOk r → (text : List ℕ) × IsLinesOf a text × WritesOnOk took f r text g × WritesStyledOnOk took f r text g

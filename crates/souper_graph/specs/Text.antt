@@ -17,7 +17,7 @@ name_of (Some (assigned a)) = a.name
 name_of (Some (condition p)) = []
 name_of (Some (block_condition p)) = []
 
--- the name of the assignment at a position; nothing where there is none
+-- the name of the assignment at a position; empty if there is none
 abbrev pub name_at : List PlainStatement → ℕ → List ℕ
 name_at ss i = name_of (slice_get ss i)
 
@@ -25,11 +25,11 @@ abbrev pub text_of_operand : List PlainStatement → Operand → List ℕ
 text_of_operand ss (Value i) = name_at ss i
 text_of_operand ss (Constant c) = text_of_constant c
 
--- a comma and a blank before each
+-- a comma and a space before each
 abbrev pub text_of_further : List PlainStatement → List Operand → List ℕ
 text_of_further ss xs = flat_map (λ x. 44 ∷ 32 ∷ text_of_operand ss x) xs
 
--- a blank before them, and a comma and a blank between them
+-- a space before them, and a comma and a space between them
 abbrev pub text_of_operands : List PlainStatement → List Operand → List ℕ
 text_of_operands ss [] = []
 text_of_operands ss (x ∷ xs) = 32 ∷ (text_of_operand ss x ++ text_of_further ss xs)
@@ -82,7 +82,7 @@ line_at ss i = line_of ss (slice_get ss i)
 abbrev pub lines_of : List PlainStatement → List ℕ → List ℕ
 lines_of ss ids = flat_map (line_at ss) ids
 
--- the lines of the statements in an order, of which the first `lead` stand before an infer line that a result follows
+-- the lines of the statements in an order, of which the first `lead` are before an infer line that a result follows
 abbrev pub text_in_order : List PlainStatement → Ending → List ℕ → ℕ → List ℕ
 text_in_order ss (inferred i) ids lead = lines_of ss ids ++ text_of_infer ss i
 text_in_order ss (resulting r) ids lead = lines_of ss ids ++ text_of_result ss r
@@ -101,7 +101,7 @@ text_with_newline a = text_of a ++ 10 ∷ []
 abbrev pub texts_of : List Item → List ℕ
 texts_of items = flat_map text_with_newline items
 
--- the canonical text, where each needed statement uses positions below it alone
+-- the canonical text, if each needed statement uses positions below it alone
 abbrev pub shown_text : Item → Option (List ℕ)
 shown_text a = if uses_below a then Some (text_of a) else None
 
@@ -113,3 +113,7 @@ pub record IsLinesOf (a : Item) (text : List ℕ) : Type 0 where
   pub once : Distinct ids
   pub lead_within : lead ≤ length ids
   pub text_is : text ≡ text_in_order a.statements a.ending ids lead
+
+-- what was there, and then such lines
+abbrev pub AppendsLinesOf : Item → List ℕ → List ℕ → Type 0
+AppendsLinesOf a before after = (text : List ℕ) × (after ≡ before ++ text) × IsLinesOf a text

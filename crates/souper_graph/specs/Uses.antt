@@ -10,7 +10,7 @@ abbrev pub Has : {A : Type 0} → List A → A → Type 0
 Has [] i = ⊥
 Has (x ∷ xs) i = (x ≡ i) ⊎ Has xs i
 
--- a position that is named, as a value or as a block
+-- a use of a position, as that of a value or of a block
 pub data Use : Type 0 where
   value_use : ℕ → Use
   block_use : ℕ → Use
@@ -19,7 +19,7 @@ abbrev pub position_of : Use → ℕ
 position_of (value_use i) = i
 position_of (block_use i) = i
 
--- a constant names nothing
+-- a constant uses nothing
 abbrev pub uses_of_operand : Operand → List Use
 uses_of_operand (Value i) = value_use i ∷ []
 uses_of_operand (Constant c) = []
@@ -59,7 +59,7 @@ is_condition (assigned a) = false
 is_condition (condition p) = true
 is_condition (block_condition p) = true
 
--- the positions of the path conditions, ascending, where the first statement stands at k
+-- the positions of the path conditions, ascending, if the first statement is at k
 abbrev pub conditions_from : ℕ → List PlainStatement → List ℕ
 conditions_from k [] = []
 conditions_from k (s ∷ ss) = if is_condition s then k ∷ conditions_from (suc k) ss else conditions_from (suc k) ss
@@ -97,10 +97,10 @@ pub data Needed (ss : List PlainStatement) (walks : List ℕ) : ℕ → Type 0 w
   walked : {i : ℕ} → Has walks i → Needed ss walks i
   used : {i j : ℕ} → Needed ss walks i → Has (used_at ss i) j → Needed ss walks j
 
--- the statement at the position is a root, a path condition, or one that these lead to
+-- the statement at the position is a root, a path condition, or reachable from these
 abbrev pub NeededIn : Item → ℕ → Type 0
 NeededIn a i = Needed a.statements (walks_of a) i
 
--- each use of a needed statement lies below it
+-- each use of a needed statement is of a lower position
 abbrev pub UsesBelow : Item → Type 0
 UsesBelow a = (i u : ℕ) → NeededIn a i → Has (used_at a.statements i) u → u < i

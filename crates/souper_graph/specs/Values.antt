@@ -1,4 +1,5 @@
--- Definitions. Nodes as plain data: lists in place of `Vec` and `String`, positions in place of ids, and nothing else different.
+-- Definitions. Nodes as plain data: lists in place of `Vec` and `String`, positions in place of ids, and nothing else
+-- different.
 use Rattle.std.specs.Prelude.{ℕ, ℤ, Bool, List, Option}
 use Rattle.souper_graph.specs.declared.ast.operands.«Type».{«Type» as Ty}
 use Rattle.souper_graph.specs.declared.ast.operands.Operand.{Operand}
@@ -53,7 +54,7 @@ pub record PlainCand : Type 0 where
   pub rhs : Operand
   pub attributes : List PlainRootAttribute
 
--- what stands in an item besides its statements: of a left-hand side, of a right-hand side, and of the two replacements
+-- what an item has besides its statements: a left-hand side, a right-hand side, and the two replacements
 pub data Ending : Type 0 where
   inferred : PlainInfer → Ending
   resulting : Operand → Ending

@@ -1,4 +1,4 @@
--- Definitions. What the walks over a graph trace: its roots, its path conditions, and what these lead to.
+-- Definitions. What the walks over a graph visit: its roots, its path conditions, and what is reachable from these.
 use Rattle.std.specs.Prelude.{◌≡◌, ℕ, ◌<◌, ◌≤◌, ◌++◌, ◌↔◌, length, List, [], map, slice_get, take}
 use Rattle.souper_graph.specs.declared.stringify.errors.TextError.{TextError}
 use Rattle.souper_graph.specs.declared.stringify.errors.TextError.TheVariants.{OutOfRange, NotAnAssignment, NotABlock, OutOfMemory}
@@ -18,13 +18,13 @@ abbrev pub target_of : Use → Target
 target_of (value_use i) = Value i
 target_of (block_use i) = Block i
 
--- what stands at the position is what the target asks for
+-- what is at the position is what the target asks for
 abbrev pub IsMetTarget : List PlainStatement → Target → Type 0
 IsMetTarget ss (Value i) = IsAssigned (slice_get ss i)
 IsMetTarget ss (Block i) = IsBlock (slice_get ss i)
 IsMetTarget ss (Condition i) = i < length ss
 
--- the error tells what is wrong with the target, or want of memory
+-- the error says what is wrong with the target, or is out of memory
 abbrev pub IsFaultAt : List PlainStatement → Target → TextError → Type 0
 IsFaultAt ss t (OutOfRange i) = (position_of_target t ≡ i) × (length ss ≤ i)
 IsFaultAt ss t (NotAnAssignment i) = (t ≡ Value i) × (i < length ss) × ¬ IsAssigned (slice_get ss i)
@@ -39,13 +39,13 @@ first_targets a = map target_of (first_roots a.ending) ++ map (λ i. Condition i
 abbrev pub targets_of : Item → List Target
 targets_of a = first_targets a ++ map target_of (last_roots a.ending)
 
--- the item has these statements, and these are its walks, of which so many come before its infer line
+-- the item has these statements, and these are its walks, of which `before` come before its infer line
 pub record IsWalkedBy (a : Item) (ss : List PlainStatement) (walks : List Target) (before : ℕ) : Type 0 where
   pub same_statements : a.statements ≡ ss
   pub same_walks : walks ≡ targets_of a
   pub same_before : before ≡ length (first_targets a)
 
--- what an answered order of the item is
+-- what a returned order of the item is
 pub record IsOrderOf (a : Item) (ids : List ℕ) (lead turns : ℕ) : Type 0 where
   pub no_bad_id : ¬ HasBadId a
   pub inside : (i : ℕ) → Has ids i → i < length a.statements

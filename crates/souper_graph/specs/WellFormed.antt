@@ -1,4 +1,4 @@
--- Definitions. When an item is well formed. Statements that it does not need are not judged.
+-- Definitions. When an item is well formed. Statements that it does not need are not checked.
 use Rattle.std.specs.Prelude.{◌≡◌, ℕ, ◌<◌, ◌^◌, List, Option, Some, None, length, slice_get, FitsSigned}
 use Rattle.std.specs.Int.{w128}
 use Rattle.std.specs.List.{AllByRecursion}
@@ -27,7 +27,7 @@ abbrev pub FitsOperand : Operand → Type 0
 FitsOperand (Value i) = Unit {0}
 FitsOperand (constant_variant c) = FitsConstant c
 
--- bit lists are not empty, and numbers lie within their limits
+-- bit lists are not empty, and numbers are within their limits
 abbrev pub FitsAttribute : PlainAttribute → Type 0
 FitsAttribute (known_bits bits) = 0 < length bits
 FitsAttribute power_of_two = Unit {0}
@@ -50,14 +50,14 @@ FitsRhs reserved_inst = Unit {0}
 FitsRhs reserved_const = Unit {0}
 FitsRhs (instruction i) = AllByRecursion FitsOperand (operands_of i)
 
--- what an assignment itself must be
+-- an assignment is valid by itself
 pub record FitsAssignment (a : PlainAssignment) : Type 0 where
   pub name_fits : IsName a.name
   pub type_fits : FitsOptionalType a.ty
   pub value_fits : FitsRhs a.value
   pub attributes_fit : AllByRecursion FitsAttribute a.attributes
 
--- what a statement itself must be
+-- a statement is valid by itself
 abbrev pub FitsStatement : PlainStatement → Type 0
 FitsStatement (assigned a) = FitsAssignment a
 FitsStatement (condition p) = FitsOperand p.x × FitsOperand p.y
@@ -77,7 +77,7 @@ predecessors_of (Some (assigned a)) = predecessors_of_rhs a.value
 predecessors_of (Some (condition p)) = 0
 predecessors_of (Some (block_condition p)) = 0
 
--- how many ways lead into the block at a position; 0 where no block stands
+-- the number of predecessors of the block at a position; 0 if there is none
 abbrev pub predecessors_at : List PlainStatement → ℕ → ℕ
 predecessors_at ss i = predecessors_of (slice_get ss i)
 
@@ -89,20 +89,20 @@ AgreesRhs ss reserved_inst = Unit {0}
 AgreesRhs ss reserved_const = Unit {0}
 AgreesRhs ss (instruction i) = Unit {0}
 
--- a phi has a value for each way into its block, and a condition on a way into a block names one of them
+-- a phi has one value per predecessor of its block, and a condition on a predecessor of a block names one of them
 abbrev pub AgreesWithBlock : List PlainStatement → PlainStatement → Type 0
 AgreesWithBlock ss (assigned a) = AgreesRhs ss a.value
 AgreesWithBlock ss (condition p) = Unit {0}
 AgreesWithBlock ss (block_condition p) = p.predecessor < predecessors_at ss p.block
 
--- the statement s may stand at position p
+-- the statement s is valid at position p
 pub record Closed (ss : List PlainStatement) (p : ℕ) (s : PlainStatement) : Type 0 where
   pub fits : FitsStatement s
   pub below : (u : Use) → Has (uses_of s) u → position_of u < p
   pub met : AreMet ss (uses_of s)
   pub agrees : AgreesWithBlock ss s
 
--- what the last lines themselves must be
+-- the last lines are valid by themselves
 abbrev pub FitsInfer : PlainInfer → Type 0
 FitsInfer i = AllByRecursion FitsRootAttribute i.attributes
 
@@ -115,7 +115,7 @@ FitsEnding (resulting r) = FitsOperand r
 FitsEnding (replaced i r) = FitsInfer i × FitsOperand r
 FitsEnding (candidate c) = FitsCand c
 
--- no two of the needed assignments have one name
+-- the needed assignments have distinct names
 abbrev pub AreNamedApart : List PlainStatement → (ℕ → Type 0) → Type 0
 AreNamedApart ss In = (p q : ℕ) (v w : PlainAssignment) → In p → In q → slice_get ss p ≡ Some (assigned v) → slice_get ss q ≡ Some (assigned w) → v.name ≡ w.name → p ≡ q
 

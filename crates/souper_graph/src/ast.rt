@@ -16,6 +16,7 @@ pub use attributes::{Attribute, RootAttribute};
 pub use builders::{LeftHandSideBuilder, ReplacementBuilder};
 pub use ids::{BlockId, Id, ValueId};
 pub use instructions::Instruction;
+pub(crate) use instructions::Operands;
 pub use items::{Cand, Infer, LeftHandSide, Replacement, RightHandSide};
 pub use operands::{Constant, Operand, Type};
 pub use statements::{Assignment, AssignmentRhs, Block, BlockPc, Pc, Phi, Statement, Var};

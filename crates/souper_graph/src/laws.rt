@@ -28,7 +28,7 @@ pub fn law_of_ids<T>()
     ensures block_hash { (a b : ℕ) → IsTrue (⟦<BlockId as PartialEq>⟧.eq a b) → ⟦<BlockId as Hash>⟧.hash_input a ≡ ⟦<BlockId as Hash>⟧.hash_input b }
 {}
 
-/// A well-formed item names no bad id, and each use of a needed statement lies below it.
+/// A well-formed item has no bad id, and each use of a needed statement is of a lower position.
 ///
 /// Whether the latter holds of an item, well formed or not, is computed from the printed order. Every path condition of
 /// any item is needed.
@@ -40,7 +40,7 @@ pub fn law_of_well_formedness()
     ensures block_conditions_needed { (a : Item) (i : ℕ) (p : BlockPc) → slice_get a.statements i ≡ Some (block_condition p) → NeededIn a i }
 {}
 
-/// Two well-formed items are renumbered to one value exactly where they are the same graph.
+/// Two well-formed items are renumbered to one value if and only if they are the same graph.
 ///
 /// The renumbered item is itself well formed, the same graph as the item, and renumbered to itself. Statements that
 /// an item does not need do not change it. The printed order, by which it is renumbered, has the needed statements
@@ -62,9 +62,9 @@ pub fn law_of_sameness()
 /// - `defined`: in a renumbered item every statement is closed, so that each name is defined once and before its first
 ///   use, and every statement is needed.
 /// - `conditions`: the canonical text has the line of each path condition, in the order in which the item has them.
-/// - `same_graph`: items that are the same graph have the same canonical text, so neither unneeded statements nor the
-///   arena order of assignments play a part. `unneeded` says it of items whose needed statements keep their positions,
-///   `rearranged` of items that have the same statements in another order.
+/// - `same_graph`: items that are the same graph have the same canonical text, so it depends neither on unneeded
+///   statements nor on the arena order of assignments. `unneeded` says it of items whose needed statements keep their
+///   positions, `rearranged` of items that have the same statements in another order.
 /// - `types`: the last lines of each type of value are those of its type of item.
 pub fn law_of_canonical_texts()
     ensures reads_back { (k : ItemType) (items : List Item) → AreWellFormed k items → TextSpells k (texts_of items) (map renumbered items) }

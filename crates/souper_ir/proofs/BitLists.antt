@@ -1,4 +1,4 @@
--- What a pattern's characters stand for, one after the other.
+-- What a pattern's characters mean, in sequence.
 use Rattle.std.proofs.Common.{◌++◌, List, Option, Some}
 use Rattle.souper_graph.specs.Syntax.Optional.{◌>>=◌}
 

@@ -1,11 +1,16 @@
 -- How a parser fails.
-use Rattle.std.proofs.Common.{◌≡◌, ℕ, ◌≤◌, Option, Some, None, sym, ◌∙◌, ap, subst, arith}
-use Rattle.std.specs.Prelude.{IsSomeAnd}
+use Rattle.std.proofs.Common.{◌≡◌, ◌≢◌, ℕ, ◌≤◌, List, Option, Some, None, sym, ◌∙◌, ap, subst, arith}
+use Rattle.std.specs.Prelude.{IsSomeAnd, Result, Ok, Err, IfErr}
 use Rattle.souper_ir.specs.declared.parse.error.ParseError.{ParseError}
+use Rattle.souper_ir.specs.declared.parse.error.ParseErrorKind.{ParseErrorKind}
+use Rattle.souper_ir.specs.declared.parse.error.ParseErrorKind.TheVariants.{Io}
+use Rattle.souper_graph.specs.Syntax.Tokens.{Lexeme}
+use Rattle.souper_graph.specs.Syntax.Spelling.{Scope}
 use Rattle.souper_ir.specs.Places.{IsDirectRefusalText}
-use Rattle.souper_ir.specs.Errors.{shown_error}
+use Rattle.souper_ir.specs.Errors.{kind_of, offset_of, shown_error}
 use Rattle.souper_ir.specs.Parsing.{Cause, refused, Parsing}
-use Rattle.souper_ir.specs.Reading.{cause_of, Fails}
+use Rattle.souper_ir.specs.Reading.{cause_by, cause_of, Fails}
+use Rattle.souper_ir.specs.Grammar.{Refusal}
 
 pub refused_fails : (e : ParseError) (p q : Parsing) (o : ℕ) → cause_of e ≡ Some (refused o) → IsSomeAnd (shown_error e) (IsDirectRefusalText o)
     → o ≤ p.len → ((c : Cause) → p.failed ≡ Some c → c ≡ refused o) → q.failed ≡ Some (refused o) → q.len ≡ p.len → Fails e p q
@@ -18,3 +23,9 @@ refused_fails e p q o cause shown bound before after l = record {
       subst (λ (i : ℕ). IsSomeAnd (shown_error e) (IsDirectRefusalText i)) e2 shown;
   len = l;
 }
+
+-- a parser that refuses has met no I/O error
+pub not_io : {X V : Type 0} (spells : Scope → V → List Lexeme → Type 0) (continues : V → Lexeme → Type 0) (r : Result X ParseError) (p q : Parsing)
+    → IfErr r (λ e. Refusal spells continues e p q) → IfErr r (λ e. kind_of e ≢ Io)
+not_io spells continues (Ok x) p q h = tt
+not_io spells continues (Err e) p q h = λ io. h.failed.caused (ap (λ (k : ParseErrorKind). cause_by k (offset_of e)) io)

@@ -1,4 +1,4 @@
--- Items in a row: one list of them at most is spelled, and none where the parser is refused.
+-- Items in sequence: at most one list of them is spelled, and none if the parser refuses.
 use Rattle.std.proofs.Common.{◌≡◌, ℕ, ◌<◌, Bool, true, false, List, [], ◌∷◌, ◌++◌, length, map, None, refl, sym, ◌∙◌, ap, subst, append_assoc, arith}
 use Rattle.std.proofs.lemmas.List.{append-nil, append_cancel_left, length-append}
 use Rattle.std.specs.List.{AllByRecursion}
@@ -62,7 +62,7 @@ item_begins : (k : ItemType) (a : Item) (ts : List Lexeme) → item_spells k a t
 item_begins k a ts h =
     subst (λ (x : List Lexeme). Starts begins_line x) (sym h.whole) (begun_by [] h.first h.head h.tail h.head_spelled (tail_begins k h.first (h.last, a.ending) h.tail h.tail_spelled))
 
--- an item is not continued by what stands behind it
+-- an item is not continued by what is after it
 starts_free : (v : Item) (ts : List Lexeme) → Starts begins_line ts → Free (item_continues v) ts
 starts_free v [] h = tt
 starts_free v (t ∷ ts) h = ending_ends v.ending t h
@@ -75,7 +75,7 @@ free_stops : (v : Item) (ts : List Lexeme) → Free (item_continues v) ts → St
 free_stops v [] h = refl
 free_stops v (t ∷ ts) h = h
 
--- behind v stand further items, and then c
+-- after v come further items, and then c
 list_over : (k : ItemType) (v : Item) (vs : List Item) (a c : List Lexeme) → list_spells k vs a → Free (λ t. LastGoesOn item_continues (v ∷ vs) t) c → Free (item_continues v) (a ++ c)
 list_over k v [] a c m f = subst (λ (x : List Lexeme). Free (item_continues v) (x ++ c)) (sym m) f
 list_over k v (w ∷ vs) a c m f =
@@ -117,7 +117,7 @@ list_alone k (v ∷ vs) (w ∷ ws) ts m n =
     let more : list_spells k ws m.suffix = subst (λ (x : List Lexeme). list_spells k ws x) (sym same.1) n.second in
     ap (λ (x : Item). x ∷ vs) same.0 ∙ ap (λ (x : List Item). w ∷ x) (list_alone k vs ws m.suffix m.second more)
 
--- a text spells one list of items of a type at most
+-- a text spells at most one list of items of a type
 pub text_alone : (k : ItemType) (bs : List ℕ) (vs ws : List Item) → TextSpells k bs vs → TextSpells k bs ws → vs ≡ ws
 text_alone k bs vs ws m n =
     let same : m.0 ≡ n.0 = one_reading bs m.0 n.0 m.1 n.1 in
@@ -128,9 +128,6 @@ text_alone k bs vs ws m n =
 list_push : (k : ItemType) (vs : List Item) (v : Item) (a b : List Lexeme) → list_spells k vs a → item_spells k v b → list_spells k (vs ++ v ∷ []) (a ++ b)
 list_push k [] v a b m sp = joined_last a b m sp
 list_push k (w ∷ ws) v a b m sp = joined_longer b m (list_push k ws v m.suffix b m.second sp)
-
-pub runs_start : (k : ItemType) (p : Parsing) → p.scope ≡ [] → ItemsTaken k [] p p
-runs_start k p e = record { used = []; parts = refl; spelled = refl; free = none_last (kinds p.tokens); state = refl; empty = e }
 
 pub runs_on : (k : ItemType) (vs : List Item) (v : Item) (p q r : Parsing) → ItemsTaken k vs p q → Took (item_spells_after k) item_continues (λ s. []) v q r → ItemsTaken k (vs ++ v ∷ []) p r
 runs_on k vs v p q r so took =
@@ -188,7 +185,7 @@ some_start : (ts : List Lexeme) → Starts is_any ts → ts ≡ [] → ⊥
 some_start [] st e = st
 some_start (t ∷ ts) st e = absurd cc
 
--- no list is spelled where items are followed by no item
+-- no list is spelled if items are followed by no item
 no_list : (k : ItemType) (vs ws : List Item) (a c ts : List Lexeme) → ts ≡ a ++ c → list_spells k vs a → Free (λ t. LastGoesOn item_continues vs t) c → (c ≡ [] → ⊥) → NoFrontOf (item_spells k) item_continues false c → list_spells k ws ts → ⊥
 no_list k [] [] a c ts e m f some none n = some (ap (λ (x : List Lexeme). x ++ c) (sym m) ∙ sym e ∙ n)
 no_list k [] (w ∷ ws) a c ts e m f some none n =
@@ -214,12 +211,6 @@ item_refused k vs e p q m r so h bad =
           no_list k vs items (kinds so.used) (kinds q.tokens) (kinds p.tokens) (ap kinds so.parts ∙ kinds-append so.used q.tokens) so.spelled so.free (some_start (kinds q.tokens) (peeked_yes is_any q.faulty q.tokens seen.2)) none_here spelled) here.nothing;
     }
 
-pub list_memory : (k : ItemType) (vs : List Item) (e : ParseError) (p q r : Parsing) → ItemsTaken k vs p q → FailsForMemory e q r → ListRefusal k e p r
-list_memory k vs e p q r so h = record {
-  failed = fails_later e p q r (failed_same k vs p q so) (len_same k vs p q so) h.1;
-  nothing = of_memory _ e h.0;
-}
-
 -- ---- a text of gaps alone
 
 nil_left : (a b : List (ℕ × Lexeme)) → a ++ b ≡ [] → (a ≡ []) × (b ≡ [])
@@ -230,7 +221,7 @@ no_items : (k : ItemType) (vs : List Item) → list_spells k vs [] → vs ≡ []
 no_items k [] h = refl
 no_items k (v ∷ vs) h = absurd (item_some k v h.prefix h.suffix h.first (sym h.whole))
 
--- where there is no token, none was taken and there is no item
+-- if there is no token, none was taken and there is no item
 pub nothing_taken : (k : ItemType) (vs : List Item) (p q : Parsing) → ItemsTaken k vs p q → p.tokens ≡ [] → (q.tokens ≡ []) × (vs ≡ [])
 nothing_taken k vs p q so e =
     let none = nil_left so.used q.tokens (sym so.parts ∙ e) in
@@ -249,17 +240,13 @@ nothing_seen k vs p q m so e h =
 pub still_sound : (k : ItemType) (vs : List Item) (p q : Parsing) → ItemsTaken k vs p q → p.faulty ≡ false → p.failed ≡ None → (q.faulty ≡ false) × (q.failed ≡ None)
 still_sound k vs p q so f l = (ap (λ (x : Parsing). x.faulty) so.state ∙ f, ap (λ (x : Parsing). x.failed) so.state ∙ l)
 
-pub map_nil : {A B : Type 0} (f : A → B) (xs : List A) → map f xs ≡ [] → xs ≡ []
-map_nil f [] e = refl
-map_nil f (x ∷ xs) e = absurd cc
-
--- an item was read behind a look
+-- an item was read after a look
 pub read_behind : (k : ItemType) (v : Item) (q m r : Parsing) {b : Bool} → IsRead (peek_at is_any q) b q m → Took (item_spells_after k) item_continues (λ s. []) v m r → Took (item_spells_after k) item_continues (λ s. []) v q r
 read_behind k v q m r {b} h took =
     let seen = peeked is_any q m b h.0 in
     subst (λ (x : Parsing). Took (item_spells_after k) item_continues (λ s. []) v x r) seen.0 took
 
--- an item that was read behind others is well formed
+-- an item that was read after others is well formed
 pub read_well : (k : ItemType) (vs : List Item) (v : Item) (p q m r : Parsing) {b : Bool} → AllByRecursion IsLexeme (kinds p.tokens) → ItemsTaken k vs p q → IsRead (peek_at is_any q) b q m → Took (item_spells_after k) item_continues (λ s. []) v m r → WellFormed v
 read_well k vs v p q m r {b} l so h behind =
     let took = read_behind k v q m r h behind in

@@ -1,4 +1,4 @@
--- What a parser took of an item, and where it refused one.
+-- What a parser took of an item, and when it refused one.
 use Rattle.std.proofs.Common.{◌≡◌, ℕ, Bool, true, false, List, [], ◌∷◌, ◌++◌, None, refl, sym, ◌∙◌, ap, subst, append_assoc}
 use Rattle.std.specs.Prelude.{codes}
 use Rattle.std.proofs.lemmas.List.{append-nil, append_cancel_left}
@@ -75,7 +75,7 @@ tail_refused k new e p q r so h = record {
 
 -- ---- one last line
 
--- the scope stays where nothing is added
+-- the scope is unchanged if nothing is added
 nothing_added : (p q : Parsing) → q ≡ record p { tokens = q.tokens } → q ≡ record p { tokens = q.tokens; scope = p.scope ++ [] }
 nothing_added p q e = e ∙ ap (λ (x : Scope). record p { tokens = q.tokens; scope = x }) (sym (append-nil p.scope))
 
@@ -149,7 +149,7 @@ root_refused e p h q seen bad =
 pub root_behind : (i : PlainInfer) (p h q : Parsing) → SeesInfer true p h → TookInfer i h q → TookInfer i p q
 root_behind i p h q seen took = subst (λ (x : Parsing). TookInfer i x q) (peeked (is_word (codes "infer")) p h true seen.0).0 took
 
--- nothing is spelled where what follows the infer line is stuck
+-- nothing is spelled if what follows the infer line is stuck
 none_behind : (p q : Parsing) (j : PlainInfer) → TookInfer j p q → StuckAt (NoMore result_spells result_continues) q.scope q.faulty (kinds q.tokens) → NoFront (tail_spells replacement) tail_continues p
 none_behind p q j took stuck = none
   where

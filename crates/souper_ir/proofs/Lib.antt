@@ -20,6 +20,7 @@ pub mod Limits
 pub mod Scopes
 pub mod WellFormedItems
 pub mod Statements
+pub mod NextStatements
 pub mod ItemSteps
 pub mod ItemLists
 pub mod TextItems

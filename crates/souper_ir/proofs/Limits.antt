@@ -1,4 +1,4 @@
--- The numbers and widths that words spell lie within their limits.
+-- The numbers and widths that words spell are within their limits.
 use Rattle.std.proofs.Common.{◌≡◌, ℕ, ◌^◌, ◌<◌, ◌==◌, Bool, true, false, ◌&&◌, ℤ, pos, negsuc, List, [], ◌∷◌, Some, None, refl, subst}
 use Rattle.std.specs.Prelude.{nat_lt, FitsSigned, if◌then◌else◌}
 use Rattle.std.specs.Int.{w128}

@@ -1,4 +1,4 @@
--- Values one after the other, while a peek tells of one more.
+-- Values in sequence, while a peek returns that one more comes.
 use Rattle.souper_ir.specs.Readings.{of_memory, memory_refused}
 use Rattle.std.proofs.Common.{◌≡◌, ◌⊎◌, ℕ, ◌<◌, Bool, true, false, List, [], ◌∷◌, ◌++◌, length, map, Option, Some, None, refl, sym, ◌∙◌, ap, subst, inl, inr, append_assoc, arith}
 use Rattle.std.proofs.lemmas.List.{append-nil, map-append, length-append}
@@ -115,7 +115,7 @@ module _ {V : Type 0} (spells : Scope → V → List Lexeme → Type 0) (continu
   nothing_at s faulty ws (t ∷ c) (u ∷ d) (inl k) m e st = let no : t ∷ c ≡ [] = k.0 in absurd cc
   nothing_at s faulty ws (t ∷ c) (u ∷ d) (inr k) m e st = let same : t ≡ u = cc in st (inl (ap starts (sym same) ∙ k.0))
 
-  -- no list is spelled where the members end stuck
+  -- no list is spelled if the members end stuck
   no_list : (s : Scope) (faulty : Bool) (vs ws : List V) (a c b d : List Lexeme) → a ++ c ≡ b ++ d → Members (spells s) continues vs a → Free (λ t. LastGoesOn continues vs t) c
       → ((c ≡ []) × (faulty ≡ true)) ⊎ (Starts starts c × NoFrontOf (spells s) continues faulty c)
       → Members (spells s) continues ws b → Stops (λ t. ListGoesOn continues starts ws t) faulty d → ⊥

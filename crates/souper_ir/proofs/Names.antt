@@ -12,7 +12,7 @@ use Rattle.souper_graph.specs.Uses.{is_condition}
 use Rattle.souper_graph.specs.Syntax.Spelling.{Scope, ways_of, entry_from, entry_of, position_of}
 use Rattle.souper_ir.specs.ParserView.{NamesAre}
 
--- a position, and the ways into the block that stands there
+-- a position, and the number of predecessors of the block there
 abbrev pub Entry : Type 0
 Entry = ℕ × Option ℕ
 

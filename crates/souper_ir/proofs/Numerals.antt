@@ -1,4 +1,4 @@
--- What `parse` answers, in the words of numbers and widths.
+-- What `parse` returns, in terms of numbers and widths.
 use Rattle.std.proofs.Common.{◌≡◌, ℕ, ◌-◌, ◌^◌, ◌<◌, ◌≢◌, ◌==◌, Bool, true, false, ◌&&◌, ℤ, pos, negsuc, List, [], ◌∷◌, length, Option, Some, None, refl, sym, ◌∙◌, ap, subst, Decides, arith, eqb-true, ◌+◌, drop, lit<}
 use Rattle.std.specs.Prelude.{Result, Ok, Err, OkIff, if◌then◌else◌, nat_lt, int_le, FitsSigned}
 use Rattle.std.specs.Char.{is_ascii_digit}
@@ -84,7 +84,7 @@ no_width [] h = refl
 no_width (c ∷ ds) h = sym (none_if (((c == 105) && is_numeral ds) && (nat_lt 0 (digits_value 10 ds) && nat_lt (digits_value 10 ds) (2 ^ 16))) (digits_value 10 ds)
     (λ e. h ds (ap (λ (x : ℕ). x ∷ ds) (eqb-true c 105 (both (c == 105) (is_numeral ds) (both ((c == 105) && is_numeral ds) (nat_lt 0 (digits_value 10 ds) && nat_lt (digits_value 10 ds) (2 ^ 16)) e).0).0))))
 
--- behind the `i`, where the word begins with it
+-- after the `i`, if the word begins with it
 module _ (w : List ℕ) (r : Option (Bor (List ℕ))) (cases : MatchOption r (FindsCharPrefix 105 w None) (λ x. (n : ℕ) × FindsCharPrefix 105 w (Some n) × (x.now ≡ drop n w) × (length x.now + n ≡ length w))) where
   begins_or_not : (o : Option (Bor (List ℕ))) → MatchOption o ((rest : List ℕ) → w ≢ 105 ∷ rest) (λ x. w ≡ 105 ∷ x.now) → o ≡ None → None ≡ width_of w
   begins_or_not None h e = no_width w h
@@ -114,7 +114,7 @@ all_four ds e =
 each : (a b c d : Bool) → a ≡ true → b ≡ true → c ≡ true → d ≡ true → ((a && b) && (c && d)) ≡ true
 each a b c d e f g h = rw (e, f, g, h) refl
 
--- what `parse` answers where each byte is a digit
+-- what `parse` returns if each byte is a digit
 width_parsed : {E : Type 0} (ds : List ℕ) (r : Result ℕ E) → are_digits ds ≡ true → ParsesUnsigned 16 10 ds r → OkIff r ((0 < length ds) × (digits_value 10 ds < 2 ^ 16)) (digits_value 10 ds)
 width_parsed ds r d h = parse_digits digits_model 16 ds r h d
 

@@ -33,18 +33,6 @@ pub record IsReached (source rest : List ℕ) (number start position : ℕ) : Ty
   pub small : number ≤ start + 1
   pub below : start ≤ position
 
-pub reached_first : (source : List ℕ) (position : ℕ) → IsReached source source 1 0 position
-reached_first source position = record {
-  front = [];
-  parts = refl;
-  long = refl;
-  room = omega arith;
-  begins = inl refl;
-  counted = refl;
-  small = omega arith;
-  below = omega arith;
-}
-
 -- rest begins with a line that has no newline but its last byte
 pub record BeginsWithLine (rest body after : List ℕ) : Type 0 where
   pub is : rest ≡ body ++ 10 ∷ after

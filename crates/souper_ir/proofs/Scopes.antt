@@ -1,4 +1,4 @@
--- What stands where a scope has a name, and what still holds as the scope grows.
+-- What is where a scope has a name, and what still holds as the scope grows.
 use Rattle.std.proofs.Common.{◌≡◌, ◌⊎◌, ℕ, zero, suc, ◌+◌, ◌<◌, Bool, true, false, List, [], ◌∷◌, ◌++◌, length, Option, Some, None, refl, sym, ◌∙◌, ap, subst, inl, inr, arith}
 use Rattle.std.specs.Prelude.{bytes_eq, option_map, slice_get, if◌then◌else◌}
 use Rattle.std.proofs.lemmas.Slice.Eq.{bytes_eq-Decides}
@@ -21,7 +21,7 @@ use Rattle.souper_ir.proofs.Names.{Entry, or_else, entry_push, entry_pass, no_en
 
 -- ---- names
 
--- the assignment at a position has so many ways into its block
+-- the assignment at a position is of a block with this number of predecessors, or of no block
 abbrev pub StandsWith : Scope → ℕ → Option ℕ → Type 0
 StandsWith s i ways = (a : PlainAssignment) × (slice_get s i ≡ Some (assigned a)) × (ways_of a.value ≡ ways)
 
@@ -45,7 +45,7 @@ found_from k (assigned a ∷ s) n e h = found_if (bytes_eq a.name n) k a s (entr
 found_from k (condition p ∷ s) n e h = later k (condition p) s e (found_from (suc k) s n e h)
 found_from k (block_condition p ∷ s) n e h = later k (block_condition p) s e (found_from (suc k) s n e h)
 
--- what stands at the entry of a name
+-- what is at the entry of a name
 pub entry_stands : (s : Scope) (n : List ℕ) (i : ℕ) (ways : Option ℕ) → entry_of s n ≡ Some (i, ways) → StandsWith s i ways
 entry_stands s n i ways h =
     let r = found_from 0 s n (i, ways) h in
@@ -120,14 +120,14 @@ named_pass ss s named c p v e = by_place (get_push ss s (assigned v) p e)
     by_place (inl h) = ap (λ (o : Option (ℕ × Option ℕ)). option_map (λ (e : ℕ × Option ℕ). e.0) o) (sym (entry_pass 0 ss s v.name c)) ∙ named p v h
     by_place (inr h) = absurd (let no : true ≡ false = sym c ∙ ap is_condition h.1 in cc)
 
--- ---- what stands there
+-- ---- what is there
 
 get_in : (s : Scope) (i : ℕ) (x : PlainStatement) → slice_get s i ≡ Some x → i < length s
 get_in [] i x e = absurd cc
 get_in (y ∷ s) zero x e = omega arith
 get_in (y ∷ s) (suc i) x e = let more = get_in s i x e in omega arith
 
--- the use lies in the scope, and is met there
+-- the use is in the scope, and resolves there
 abbrev pub Reaches : Scope → Use → Type 0
 Reaches s u = (position_used u < length s) × IsMet s u
 
@@ -159,7 +159,7 @@ ways_are reserved_inst n e = absurd cc
 ways_are reserved_const n e = absurd cc
 ways_are (instruction i) n e = absurd cc
 
--- the block of a name, and the ways into it
+-- the block of a name, and its number of predecessors
 pub block_reaches : (s : Scope) (n : List ℕ) (i ways : ℕ) → entry_of s n ≡ Some (i, Some ways) → Reaches s (block_use i) × (ways ≡ predecessors_of (slice_get s i))
 block_reaches s n i ways e =
     let r = entry_stands s n i (Some ways) e in

@@ -1,4 +1,4 @@
--- Statements, by what their first token tells.
+-- Statements, by their first token.
 use Rattle.std.proofs.Common.{◌≡◌, ℕ, Bool, true, false, List, [], None, sym, ◌∙◌, subst}
 use Rattle.std.specs.Prelude.{codes}
 use Rattle.std.proofs.lemmas.List.{append-nil}
@@ -49,7 +49,7 @@ pc_refused e p q r h k =
     let f = is_refused pc_spells pc_continues pc_at pc_complete e p r (subst (λ (x : Parsing). IfRefused (cause_of e) (pc_at x ≡ None) × Fails e x r) seen.0 k) in
     record { failed = f.failed; nothing = if_refused (cause_of e) (λ none live. pc_none p (peeked_yes (is_word (codes "pc")) p.faulty p.tokens seen.2) (none live)) f.nothing }
 
--- ---- the word of a condition on a way comes
+-- ---- the word of a condition on a predecessor comes
 
 block_pc_none : (p : Parsing) → Starts (is_word (codes "blockpc")) (kinds p.tokens) → NoFront block_pc_spells block_pc_continues p → NoFront statement_spells statement_continues p
 block_pc_none p st none (assigned a) front rest e s stops =

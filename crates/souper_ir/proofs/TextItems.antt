@@ -1,4 +1,4 @@
--- Texts of items: what they spell, and what is answered where they spell none.
+-- Texts of items: what they spell, and what is returned if they spell none.
 use Rattle.std.proofs.Common.{◌≡◌, ◌⊎◌, ℕ, ◌≤◌, Bool, false, List, [], length, Option, Some, None, refl, sym, ◌∙◌, ap, subst, inl, inr, arith}
 use Rattle.std.specs.Prelude.{IsSomeAnd, IfSome}
 use Rattle.souper_graph.specs.Values.{Item}
@@ -41,15 +41,11 @@ some_bound : (e : ParseError) (p q : Parsing) (n : ℕ) → Fails e p q → p.le
 some_bound e p q n f l None at = tt
 some_bound e p q n f l (Some o) at = let bound = f.within o (offset_cause e o at) in omega (arith, bound, f.len, l)
 
--- the offset of a refusal lies within the text
-pub offset_bound : (e : ParseError) (p q : Parsing) (n : ℕ) → Fails e p q → p.len ≡ n → IfSome (offset_of e) (λ offset. offset ≤ n)
-offset_bound e p q n f l = some_bound e p q n f l (offset_of e) refl
-
 some_and : (o : Option (List ℕ)) (P : List ℕ → Type 0) → IsSomeAnd o P → (x : List ℕ) × (o ≡ Some x) × P x
 some_and None P h = absurd h
 some_and (Some x) P h = (x, refl, h)
 
--- what is known where the parser refused
+-- what is known if the parser refused
 none_spelled : (k : ItemType) (bs : List ℕ) (e : ParseError) (p q : Parsing) (o : ℕ) → p.failed ≡ None → ((ts : List (ℕ × Lexeme)) → IsTextOf bs ts → (p.tokens ≡ ts) × (p.faulty ≡ false))
     → ListRefusal k e p q → cause_of e ≡ Some (refused o) → SpellsNone k bs
 none_spelled k bs e p q o live only h cause items spelled =

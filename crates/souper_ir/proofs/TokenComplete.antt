@@ -1,4 +1,4 @@
--- A token behind a gap is found, whatever stands behind it.
+-- A token after a gap is found, whatever is after it.
 use Rattle.std.proofs.Common.{◌≡◌, ℕ, suc, ◌+◌, ◌<◌, ◌≤◌, ◌≢◌, Bool, true, false, cond, eqb, ◌&&◌, List, [], ◌∷◌, ◌++◌, length, take, drop, Option, Some, None, sym, refl, ap, ◌∙◌, arith, rules, append_assoc, append-nil, length-append}
 use Rattle.std.specs.Prelude.{if◌then◌else◌, bytes_eq, chars, flat_map}
 use Rattle.std.specs.List.{prefix_len, AllByRecursion}
@@ -14,7 +14,7 @@ use Rattle.souper_graph.specs.Syntax.Tokens.{Lexeme, ident, val_name, known_bits
 use Rattle.souper_ir.specs.TokenReading.{ends, found, run_of, after_run, bits_at, name_at, word_at, mark_of, longer_at, front_of, token_at, remark, first_space, space_len, after_from, after_gap, gap_len, next_of}
 use Rattle.souper_ir.proofs.TokenGap.{gap_past_space, gap_past_remark, gap_stops_above, remark_cons, remark_newline}
 
--- the longest front of s and rest that passes, where all of s does and rest does not go on
+-- the longest prefix of s and rest that passes, if all of s does and rest does not go on
 front_is : (p : ℕ → Bool) (s rest : List ℕ) → AllAre p s → Stops p rest → prefix_len p (s ++ rest) ≡ length s
 front_is p [] [] all over = refl
 front_is p [] (c ∷ rest) all over = ap (λ b. cond b (1 + prefix_len p rest) 0) over
@@ -184,7 +184,7 @@ unfolding after_from
 last_comment_ends [] is = refl
 last_comment_ends (c ∷ s) is = sym (gap_past_remark (c ∷ s) (omega arith) is.0) ∙ remark_to_end s is.1
 
--- what stands is what is read
+-- what is there is what is read
 pub next_complete : (gap : List ℕ) (t : Lexeme) (rest bs : List ℕ) → Stands gap t rest bs → after_gap bs ≡ spelling t ++ rest
 next_complete gap t rest bs h = ap after_gap h.text ∙ past_gap gap (spelling t ++ rest) h.is_gap ∙ solid t rest h.is_token
 

@@ -1,4 +1,4 @@
--- What a text begins with is a token of it, and a token at its front is found.
+-- What a text begins with is a token of it, and a token at its beginning is found.
 use Rattle.std.proofs.Common.{◌≡◌, ℕ, suc, ◌+◌, ◌<◌, ◌≢◌, Bool, true, false, cond, eqb, List, [], ◌∷◌, ◌++◌, length, take, drop, Option, Some, None, sym, refl, ap, ◌∙◌, subst, arith, take-append-drop}
 use Rattle.std.specs.Prelude.{if◌then◌else◌, bytes_eq}
 use Rattle.std.specs.List.{prefix_len}
@@ -12,7 +12,7 @@ use Rattle.souper_graph.specs.Names.{is_name_char}
 use Rattle.souper_graph.specs.Syntax.Tokens.{Lexeme, ident, val_name, known_bits, int, comma, colon, equals, open_paren, close_paren, open_bracket, AllAre, Stops, IsLexeme, continues, spelling, known_bits_word, is_bit, begins_int}
 use Rattle.souper_ir.specs.TokenReading.{Front, ends, faulty, found, run_of, after_run, bits_at, name_at, word_at, longer_at, front_of, token_at}
 
--- bs is the token t, which is over there, and rest
+-- bs is the token t, which ends there, and rest
 pub record Leads (t : Lexeme) (rest : List ℕ) (bs : List ℕ) : Type 0 where
   pub is_token : IsLexeme t
   pub is_over : Stops (continues t) rest
@@ -29,7 +29,7 @@ eq_of a b h = grind (arith, nat_tests)
 ne_of : (a b : ℕ) → eqb a b ≡ false → a ≢ b
 ne_of a b h = grind (arith, nat_tests)
 
--- the longest front that passes: all of it does, and what follows does not
+-- the longest prefix that passes: all of it does, and what follows does not
 all_front_cons : (p : ℕ → Bool) (x : ℕ) (xs : List ℕ) (b : Bool) → p x ≡ b → AllAre p (take (prefix_len p xs) xs) → AllAre p (take (cond b (1 + prefix_len p xs) 0) (x ∷ xs))
 all_front_cons p x xs true h all = let e : 1 + prefix_len p xs ≡ suc (prefix_len p xs) = omega arith in subst (λ n. AllAre p (take n (x ∷ xs))) (sym e) (h, all)
 all_front_cons p x xs false h all = tt
@@ -46,7 +46,7 @@ pub stops_front : (p : ℕ → Bool) (bs : List ℕ) → Stops p (drop (prefix_l
 stops_front p [] = tt
 stops_front p (x ∷ xs) = stops_front_cons p x xs (p x) refl (stops_front p xs)
 
--- what was found is a token at the front of bs
+-- what was found is a token at the beginning of bs
 abbrev pub IsFront : List ℕ → Front → Type 0
 IsFront bs ends = ⊥
 IsFront bs faulty = Unit {0}
@@ -107,7 +107,7 @@ stops_all : (p : ℕ → Bool) (bs : List ℕ) → ((x : ℕ) → p x ≡ false)
 stops_all p [] h = tt
 stops_all p (c ∷ bs) h = h c
 
--- a mark at the front
+-- a mark at the beginning
 mark_front : (c k : ℕ) (bs : List ℕ) (t : Lexeme) → IsLexeme t → ((x : ℕ) → continues t x ≡ false) → spelling t ≡ k ∷ [] → eqb c k ≡ true → Leads t bs (c ∷ bs)
 mark_front c k bs t is over spelled e = record { is_token = is; is_over = stops_all (continues t) bs over; text = (λ i. eq_of c k e i ∷ bs) ∙ sym (ap (λ l. l ++ bs) spelled) }
 

@@ -9,7 +9,7 @@ use Rattle.std.proofs.lemmas.List.{at_drop_more}
 use Rattle.std.proofs.lemmas.Bool.Decides.{nat_tests}
 use Rattle.souper_ir.specs.TokenReading.{inside, remark, first_space, space_len, after_from, after_gap}
 
--- the first character, where it is ASCII
+-- the first character, if it is ASCII
 chars_ascii : (b : ℕ) (bs : List ℕ) → b < 128 → chars (b ∷ bs) ≡ b ∷ chars bs
 chars_ascii b bs small =
     let ascii = IsAscii-cons b [] small IsAscii-nil in

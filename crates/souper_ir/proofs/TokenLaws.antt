@@ -9,7 +9,7 @@ use Rattle.souper_ir.proofs.TokenSteps.{found_shorter, within_ends, within_fault
 use Rattle.souper_ir.proofs.TokenComplete.{next_found, next_gap, next_ends}
 use Rattle.souper_ir.proofs.TokenSound.{next_stands, ends_stands}
 
--- tokens in front of others
+-- tokens before others
 abbrev onto : List (ℕ × Lexeme) → Lexed → Lexed
 onto [] x = x
 onto (t ∷ ts) x = before t.0 t.1 (onto ts x)
@@ -22,7 +22,7 @@ onto_fault : (ts : List (ℕ × Lexeme)) (x : Lexed) → (onto ts x).fault ≡ x
 onto_fault [] x = refl
 onto_fault (t ∷ ts) x = onto_fault ts x
 
--- what a front of the text is, is read first
+-- what a prefix of the text is, is read first
 begins_lexed : (ts : List (ℕ × Lexeme)) (n : ℕ) (bs rest : List ℕ) → Begins n bs ts rest → (m : ℕ) × (lexed_of n bs ≡ onto ts (lexed_of m rest))
 begins_lexed [] n bs rest h = (n, ap (lexed_of n) h)
 begins_lexed (t ∷ ts) n bs rest h =
@@ -44,7 +44,7 @@ text_tokens bs ts h =
 pub one_reading : OneReading
 one_reading bs ts us h g = sym (text_tokens bs ts h).0 ∙ (text_tokens bs us g).0
 
--- what is read is a front of the text, and what stands behind it
+-- what is read is a prefix of the text, and what is left after it
 pub record Reading (n : ℕ) (bs : List ℕ) (x : Lexed) : Type 0 where
   pub rest : List ℕ
   pub front : Begins n bs x.tokens rest
@@ -107,7 +107,7 @@ begins_append (t ∷ ts) us n bs mid rest h g =
     let e : n + (length bs - length mid) ≡ t.0 + length (spelling t.1) + (length h.after - length mid) = omega (arith, h.offset_is) in
     record { gap = h.gap; after = h.after; stands = s; offset_is = h.offset_is; more = begins_append ts us (t.0 + length (spelling t.1)) h.after mid rest h.more (subst (λ m. Begins m mid us rest) e g) }
 
--- each token stands at its offset: xs is what stands before bs in the text
+-- each token is at its offset: xs is what is before bs in the text
 in_place : (ts : List (ℕ × Lexeme)) (text xs bs rest : List ℕ) → text ≡ xs ++ bs → Begins (length xs) bs ts rest → AllByRecursion (StandsAt text) ts
 in_place [] text xs bs rest e h = tt
 in_place (t ∷ ts) text xs bs rest e h =

@@ -1,4 +1,4 @@
--- The tokens of a text, one after another.
+-- The tokens of a text, in sequence.
 use Rattle.std.proofs.Common.{◌≡◌, ℕ, zero, suc, ◌+◌, ◌-◌, ◌<◌, ◌≤◌, true, false, List, [], ◌∷◌, length, get_or, drop, sym, refl, ap, ◌∙◌, arith, length-append}
 use Rattle.souper_graph.specs.Syntax.Tokens.{Lexeme, spelling}
 use Rattle.souper_ir.specs.TokenReading.{Front, ends, faulty, found, inside, remark, Place, after_from, after_gap, gap_len, front_of, token_at, next_of, Lexed, before, lexed_within, lexed_of, space_len}

@@ -1,4 +1,4 @@
--- Where a text may be cut, and the longest front whose bytes pass a test.
+-- Where a text may be cut, and the longest prefix whose bytes pass a test.
 use Rattle.std.proofs.Common.{◌≡◌, ℕ, ◌+◌, ◌-◌, ◌<◌, Bool, true, List, ◌++◌, length, get_or, IsUtf8, sym, ◌∙◌, subst, ⊎_elim, arith}
 use Rattle.std.specs.List.{prefix_len}
 use Rattle.std.specs.Str.{IsCharBoundary}
@@ -11,7 +11,7 @@ use Rattle.souper_ir.specs.TokenView.{is_in}
 use Rattle.souper_ir.specs.declared.lexer.Class.{Class}
 use Rattle.souper_ir.specs.declared.lexer.Class.TheVariants as classes
 
--- a text may be cut behind its longest front of ASCII bytes that pass
+-- a text may be cut after its longest prefix of ASCII bytes that pass
 pub boundary_after_front : (p : ℕ → Bool) → ((b : ℕ) → p b ≡ true → b < 128) → (bs : List ℕ) → IsUtf8 bs → IsCharBoundary bs (prefix_len p bs)
 boundary_after_front p small bs utf8 = ⊎_elim
     (λ some. subst (IsCharBoundary bs) (let e : prefix_len p bs - 1 + 1 ≡ prefix_len p bs = omega arith in e)
@@ -24,11 +24,11 @@ is_in_ascii classes.Name b h = grind (arith, nat_tests)
 is_in_ascii classes.Digit b h = grind (arith, nat_tests)
 is_in_ascii classes.Bit b h = grind (arith, nat_tests)
 
--- a text may be cut behind an ASCII character
+-- a text may be cut after an ASCII character
 pub boundary_after_first : (bs : List ℕ) → IsUtf8 bs → 0 < length bs → get_or bs 0 0 < 128 → IsCharBoundary bs 1
 boundary_after_first bs utf8 l small = IsCharBoundary-after_ascii bs 0 utf8 l small
 
--- the same for a class, where its length is known by another name
+-- the same for a class, if its length is known by another name
 pub class_boundary : (bs : List ℕ) (k : Class) (n : ℕ) → n ≡ prefix_len (is_in k) bs → IsUtf8 bs → IsCharBoundary bs n
 class_boundary bs k n e utf8 = subst (IsCharBoundary bs) (sym e) (boundary_after_front (is_in k) (is_in_ascii k) bs utf8)
 

@@ -44,7 +44,7 @@ type_fits (Some t) ts m = width_fits m.2.0 t.width m.2.2
 constant_fits : (c : Constant) (ts : List Lexeme) → constant_spells c ts → FitsConstant c
 constant_fits c ts m = (number_fits m.word c.value m.value_is, type_fits c.ty m.rest m.ty_spelled)
 
--- the uses reach back into the scope, and the operands themselves are as they must be
+-- the uses are of statements in the scope, and the operands themselves are valid
 abbrev Sits : Scope → Operand → Type 0
 Sits s x = AllReach s (uses_of_operand x) × FitsOperand x
 
@@ -139,7 +139,7 @@ statement_sits s (block_condition p) ts l m =
       subst (λ (n : ℕ). p.predecessor < n) entry.1 m.within,
     )
 
--- each statement may stand where it does
+-- each statement is valid at its position
 abbrev AllClosed : Scope → Type 0
 AllClosed ss = (p : ℕ) (v : PlainStatement) → slice_get ss p ≡ Some v → Closed ss p v
 
@@ -179,7 +179,7 @@ stated_good s (v ∷ vs) ts l good m =
 
 -- ---- last lines
 
--- what the last lines of an item must be
+-- the last lines of an item are valid by themselves
 abbrev Ends : Scope → Ending → Type 0
 Ends ss y = AreMet ss (roots_of y) × FitsEnding y
 
@@ -282,6 +282,6 @@ taken_well k a p q r l taken parts used more m =
     let behind : AllLexemes (kinds q.tokens) = all_right (kinds taken) (kinds q.tokens) (subst AllLexemes (ap kinds parts ∙ kinds-append taken q.tokens) l) in
     closed_well a (item_closed k a (kinds used) (all_left (kinds used) (kinds r.tokens) (subst AllLexemes (ap kinds more ∙ kinds-append used r.tokens) behind)) m)
 
--- each statement of the items of a text may stand where it stands
+-- each statement of the items of a text is valid at its position
 pub text_closed : (k : ItemType) (items : List Item) (bs : List ℕ) → TextSpells k bs items → AllByRecursion EachClosed items
 text_closed k items bs h = all_closed k items (kinds h.0) (begun 0 bs h.0 h.1.0 h.1.1) h.2

@@ -42,7 +42,7 @@ both P false b f h = absurd cc
 one : (k n c : ℕ) → k < 25 → ((d : ℕ) → get_or white_space k d ≡ n) → (c == n) ≡ true → Contains white_space c
 one k n c h e t = (k, h, e c ∙ sym (eqb-true c n t))
 
--- a run of n characters from m on, which stands at index a
+-- a run of n characters from m on, which begins at index a
 run : (a m n c : ℕ) → a + n ≤ 25 → ((k d : ℕ) → k < n → get_or white_space (a + k) d ≡ m + k) → m ≤ c → c < m + n → Contains white_space c
 run a m n c fits e low high = (
   a + (c - m),

@@ -129,7 +129,7 @@ kind_means _ k e = absurd cc
 
 -- ---- attributes
 
--- what was read behind the kind's token
+-- what was read after the kind's token
 abbrev BodyRead : Lexeme → Parsing → PlainAttribute × Parsing → Type 0
 BodyRead t p x = (used : List Lexeme) × Takes p x.1 used × attribute_spells x.0 (open_paren ∷ t ∷ (used ++ close_paren ∷ []))
 
@@ -219,7 +219,7 @@ attribute_sound p q a e =
     let spelled = enclosed (attribute_spells b.0.0) j1.0 j2.0 j4.0 j3.0 (mark_means open_paren j1.0 j1.2) (mark_means close_paren j4.0 j4.2) j3.2 in
     moved (WasRead (λ s. attribute_spells) (λ a t. ⊥) p) (b.0.0, c.0.1) (a, q) c.2 (j1.0 ∷ j2.0 ∷ (j3.0 ++ j4.0 ∷ []), whole, spelled, never (kinds c.0.1.tokens))
 
--- these tokens stand next, and are read as the value
+-- these tokens come next, and are read as the value
 abbrev Reads : {A : Type 0} → (Parsing → Option (A × Parsing)) → A → Parsing → List Lexeme → Type 0
 Reads read a p rest = (q : Parsing) × (read p ≡ Some (a, q)) × At q rest × (q ≡ record p { tokens = q.tokens })
 
@@ -270,7 +270,7 @@ attribute_complete p (sign_bits n) front rest at s st =
 attribute_complete p (range low high) front rest at s st =
     between p (range low high) (ident (codes "range")) range_kind (equals ∷ open_bracket ∷ int s.low_word ∷ comma ∷ int s.high_word ∷ close_paren ∷ []) rest (subst (λ (x : List Lexeme). At p (x ++ rest)) s.whole at) refl (range_body low high s.low_word s.high_word rest s.low_is s.high_is)
 
--- behind an open parenthesis
+-- after an opening parenthesis
 opened : (ts more : List Lexeme) → ts ≡ open_paren ∷ more → Starts (is_mark open_paren) ts
 opened ts more e = subst (λ (x : List Lexeme). Starts (is_mark open_paren) x) (sym e) refl
 

@@ -1,4 +1,5 @@
--- Lemmas. A node with attributes behind it: which tokens are its two parts, and what parsing one and then the other gives.
+-- Lemmas. A node with attributes after it: which tokens are its two parts, and what parsing one and then the other
+-- returns.
 use Rattle.std.proofs.Common.{◌≡◌, true, List, [], ◌∷◌, ◌++◌, refl, sym, subst, ◌⊎◌, inl, inr}
 use Rattle.souper_ir.specs.declared.parse.error.ParseError.{ParseError}
 use Rattle.souper_ir.specs.Parsing.{Parsing}
@@ -11,7 +12,7 @@ use Rattle.souper_ir.specs.NodeReadings.{is_mark}
 use Rattle.souper_ir.specs.AttributeLaws.{one_more, more_if_open}
 use Rattle.souper_ir.specs.Sequence.{Split, both_alone, refused_first, refused_second, both_taken, respelled_taken, respelled_refused}
 
--- attributes one after the other, and the token that begins one more
+-- attributes in sequence, and the token that begins one more
 abbrev pub Row : {X : Type 0} → (X → List Lexeme → Type 0) → Scope → List X → List Lexeme → Type 0
 Row {X} spells s xs ts = Members spells (λ (x : X) t. ⊥) xs ts
 
@@ -53,7 +54,7 @@ module _ {X : Type 0} (spells : X → List Lexeme → Type 0) (first : (x : X) (
   attributes_only P [] y (t ∷ rest) m f g = neither (λ e. g (more_if_open {V = X} [] t e)) (subst (λ (z : List Lexeme). Free P (z ++ t ∷ rest)) m f)
   attributes_only P (x ∷ xs) y (t ∷ rest) m f g = λ e. g (more_if_open (x ∷ xs) t e)
 
--- what is known of a node C that is a node A with attributes X behind it
+-- what is known of a node C that is a node A with attributes X after it
 pub record Laws {A X C : Type 0} (spells_a : Scope → A → List Lexeme → Type 0) (goes_on_a : A → Lexeme → Type 0) (spells_x : X → List Lexeme → Type 0) (a_of : C → A) (xs_of : C → List X)
     (spells_c : Scope → C → List Lexeme → Type 0) (goes_on_c : C → Lexeme → Type 0) : Type 0 where
   pub alone : (s : Scope) (v w : C) (a b c d : List Lexeme) → a ++ c ≡ b ++ d → spells_c s v a → spells_c s w b → Free (goes_on_c v) c → Free (goes_on_c w) d → (a ≡ b) × (v ≡ w)

@@ -1,4 +1,4 @@
--- Definitions. Which tokens continue a value, behind its spelling.
+-- Definitions. Which tokens continue a value, after its spelling.
 use Rattle.std.specs.Prelude.{◌≡◌, ◌⊎◌, List, [], ◌∷◌, Option, Some, None}
 use Rattle.souper_graph.specs.declared.ast.operands.«Type».{«Type» as Ty}
 use Rattle.souper_graph.specs.declared.ast.operands.Constant.{Constant}
@@ -11,7 +11,7 @@ use Rattle.souper_graph.specs.Instructions.{operands_of}
 use Rattle.souper_graph.specs.Values.{PlainPhi, PlainRhs, var, block, phi, reserved_inst, reserved_const, instruction, PlainAssignment, PlainStatement, assigned, condition, block_condition, PlainInfer, PlainCand, Ending, inferred, resulting, replaced, candidate, Item}
 use Rattle.souper_graph.specs.Syntax.Tokens.{Lexeme, colon, open_paren}
 
--- a type may follow where none stands
+-- a type may follow if there is none
 abbrev pub optional_type_continues : Option Ty → Lexeme → Type 0
 optional_type_continues None t = t ≡ colon
 optional_type_continues (Some ty) t = ⊥
@@ -43,7 +43,7 @@ rhs_continues reserved_inst t = ⊥
 rhs_continues reserved_const t = ⊥
 rhs_continues (instruction i) t = instruction_continues i t
 
--- one more attribute continues a list of them, and where there is none, what continues the node before them does
+-- one more attribute continues a list of them; if the list is empty, so does what continues the node before it
 abbrev pub attributes_continue : {A : Type 0} → Type 0 → List A → Lexeme → Type 0
 attributes_continue before [] t = (t ≡ open_paren) ⊎ before
 attributes_continue before (x ∷ xs) t = t ≡ open_paren

@@ -1,6 +1,6 @@
--- Definitions. What an error tells: its kind, its offset and the text that it shows.
-use Rattle.std.specs.Prelude.{◌≡◌, ℕ, List, ◌++◌, ◌⊎◌, codes, Option, None, Some, Result, IfSome, IsOk, IsSomeAnd, option_map, string_bytes}
-use Rattle.std.specs.Fmt.{WritesOnOk}
+-- Definitions. What an error reports: its kind, its offset and the text that it shows.
+use Rattle.std.specs.Prelude.{◌≡◌, ℕ, List, ◌++◌, ◌⊎◌, codes, Option, None, Some, Result, Ok, Err, IfSome, IsOk, IsSomeAnd, option_map, string_bytes}
+use Rattle.std.specs.Fmt.{WritesOnOk, WritesStyledOnOk}
 use Rattle.std.specs.declared.fmt.Error.{Error as FormatError}
 use Rattle.std.specs.declared.fmt.Formatter.{Formatter}
 use Rattle.std.specs.declared.io.Error.{Error}
@@ -9,6 +9,8 @@ use Rattle.souper_ir.specs.declared.parse.error.Cause.TheVariants.{Io as IoCause
 use Rattle.souper_ir.specs.declared.parse.error.ParseError.{ParseError}
 use Rattle.souper_ir.specs.declared.parse.error.ParseErrorKind.{ParseErrorKind}
 use Rattle.souper_ir.specs.declared.parse.error.ParseErrorKind.TheVariants.{Io, Parse, Memory}
+use Rattle.souper_ir.specs.declared.parse.error.ReadError.{ReadError}
+use Rattle.souper_ir.specs.declared.parse.error.ReadError.TheVariants.{Refused as RefusedRead, Memory as MemoryRead}
 use Rattle.souper_ir.specs.declared.parse.error.Refusal.{Refusal}
 use Rattle.souper_ir.specs.declared.parse.place.Place.{Place}
 use Rattle.souper_ir.specs.Places.{IsPlace, IsRefusalText, direct_text, file_or_unknown, shown_refusal}
@@ -71,9 +73,10 @@ shown_cause MemoryCause = Some (codes "out of memory")
 abbrev pub shown_error : ParseError → Option (List ℕ)
 shown_error e = shown_cause e.cause
 
--- where r is `Ok`, g is f after writing a text that begins with `IO error: `
+-- if r is `Ok`, g is f after writing a text that begins with `IO error: `, whatever options f has
 abbrev pub ShowsFault : {W : Type 0} → (W → List ℕ → W → Type 0) → Formatter W → Result (Unit {0}) FormatError → Formatter W → Type 0
-ShowsFault took f r g = IsOk r → (shown : List ℕ) × WritesOnOk took f r (codes "IO error: " ++ shown) g
+ShowsFault took f r g = IsOk r →
+    (shown : List ℕ) × WritesOnOk took f r (codes "IO error: " ++ shown) g × WritesStyledOnOk took f r (codes "IO error: " ++ shown) g
 
 -- the place is that of the offset in the source, which has that file name
 abbrev pub IsPlaceIn : Option (List ℕ) → List ℕ → ℕ → Place → Type 0
@@ -85,10 +88,24 @@ abbrev pub IsRefusalAt : Option (List ℕ) → List ℕ → ℕ → ParseError �
 IsRefusalAt file source offset e =
     (kind_of e ≡ Parse) × (offset_of e ≡ Some offset) × IsSomeAnd (shown_error e) (IsRefusalText file source offset)
 
--- what became of an error when it was given its place in the source: a refusal at an offset shows its place there, or
--- there was no memory for that, and any other error stayed as it was
+-- what became of an error that was given its place in the source: a refusal at an offset shows its place there, or
+-- memory ran out for that; any other error is unchanged
 abbrev pub IsLocated : Option (List ℕ) → List ℕ → ParseError → ParseError → Type 0
 IsLocated file source old new = OnKind (kind_of old)
     (new ≡ old)
     (IfSome (offset_of old) (λ offset. (kind_of new ≡ Memory) ⊎ IsRefusalAt file source offset new))
     (new ≡ old)
+
+-- the cause of a reader's error
+abbrev pub cause_of_read : ReadError → Cause
+cause_of_read (RefusedRead refusal) = ParseCause refusal
+cause_of_read MemoryRead = MemoryCause
+
+-- the error that a caller of the parser gets for that of a reader
+abbrev pub error_of : ReadError → ParseError
+error_of e = record { cause = cause_of_read e }
+
+-- what a reader returned, with that error
+abbrev pub widened : {X : Type 0} → Result X ReadError → Result X ParseError
+widened (Ok x) = Ok x
+widened (Err e) = Err (error_of e)

@@ -7,17 +7,17 @@ use Rattle.souper_graph.specs.Syntax.Spelling.{kinds, Scope}
 use Rattle.souper_graph.specs.Syntax.Optional.{◌>>=◌}
 use Rattle.souper_ir.specs.Reading.{cause_of, IfRefused, Fails, look_at}
 
--- no token that goes on stands next
+-- the next token does not go on, if there is one
 abbrev pub Free : (Lexeme → Type 0) → List Lexeme → Type 0
 Free goes_on [] = Unit {0}
 Free goes_on (t ∷ ts) = ¬ goes_on t
 
--- a token that does not go on stands next, or the end of the text
+-- the next token does not go on, or the text ends without a fault
 abbrev pub Stops : (Lexeme → Type 0) → Bool → List Lexeme → Type 0
 Stops goes_on faulty [] = faulty ≡ false
 Stops goes_on faulty (t ∷ ts) = ¬ goes_on t
 
--- a token that starts a value stands next
+-- the next token starts a value
 abbrev pub Starts : (Lexeme → Bool) → List Lexeme → Type 0
 Starts starts [] = ⊥
 Starts starts (t ∷ ts) = starts t ≡ true
@@ -31,20 +31,20 @@ pub record Took {V : Type 0} (spells : Scope → V → List Lexeme → Type 0) (
   pub live : old.failed ≡ None
   pub state : new ≡ record old { tokens = new.tokens; scope = leaves old.scope }
 
--- no front of these tokens spells a value so that a token which does not continue it, or the end of the text, follows
+-- no prefix of these tokens spells a value so that a token which does not continue it, or the end of the text, follows
 abbrev pub NoFrontOf : {V : Type 0} → (V → List Lexeme → Type 0) → (V → Lexeme → Type 0) → Bool → List Lexeme → Type 0
 NoFrontOf {V} spells continues faulty ts = (v : V) (front rest : List Lexeme) → ts ≡ front ++ rest → spells v front → Stops (continues v) faulty rest → ⊥
 
--- no front of the tokens to come
+-- no prefix of the remaining tokens
 abbrev pub NoFront : {V : Type 0} → (Scope → V → List Lexeme → Type 0) → (V → Lexeme → Type 0) → Parsing → Type 0
 NoFront spells continues p = NoFrontOf (spells p.scope) continues p.faulty (kinds p.tokens)
 
--- a parser that had not failed refuses only where nothing is spelled
+-- a parser that had not failed refuses only if nothing is spelled
 pub record Refusal {V : Type 0} (spells : Scope → V → List Lexeme → Type 0) (continues : V → Lexeme → Type 0) (e : ParseError) (old new : Parsing) : Type 0 where
   pub failed : Fails e old new
   pub nothing : IfRefused (cause_of e) (old.failed ≡ None → NoFront spells continues old)
 
--- what a peek answers
+-- what a peek returns
 abbrev pub starts_next : (Lexeme → Bool) → Option Lexeme → Bool
 starts_next starts None = false
 starts_next starts (Some t) = starts t
@@ -63,7 +63,7 @@ pub record Followed (P : List Lexeme → Type 0) (goes_on : Lexeme → Type 0) (
   pub free : Free goes_on suffix
   pub second : Q suffix
 
--- one spelling of each member after the other, none continued by the next
+-- a spelling of each member in sequence, none continued by the next
 abbrev pub Members : {V : Type 0} → (V → List Lexeme → Type 0) → (V → Lexeme → Type 0) → List V → List Lexeme → Type 0
 Members spells continues [] ts = ts ≡ []
 Members spells continues (v ∷ vs) ts = Followed (spells v) (continues v) (Members spells continues vs) ts
@@ -77,7 +77,7 @@ LastGoesOn continues (v ∷ (w ∷ vs)) t = LastGoesOn continues (w ∷ vs) t
 abbrev pub ListGoesOn : {V : Type 0} → (V → Lexeme → Type 0) → (Lexeme → Bool) → List V → Lexeme → Type 0
 ListGoesOn continues starts vs t = (starts t ≡ true) ⊎ LastGoesOn continues vs t
 
--- members, and then a fault, or a token that starts one more where none is spelled
+-- members, and then a fault, or a token that starts one more though none is spelled
 pub record Stuck {V : Type 0} (spells : V → List Lexeme → Type 0) (continues : V → Lexeme → Type 0) (starts : Lexeme → Bool) (faulty : Bool) (ts : List Lexeme) : Type 0 where
   pub members : List V
   pub front : List Lexeme

@@ -1,4 +1,4 @@
--- Lemmas. Items: what the statements' loop keeps, and that nothing is spelled where it is stuck.
+-- Lemmas. Items: what the statements' loop keeps, and that nothing is spelled if it is stuck.
 use Rattle.std.proofs.Common.{◌≡◌, ℕ, ◌<◌, Bool, true, false, List, [], ◌∷◌, ◌++◌, length, None, refl, sym, ◌∙◌, ap, subst, inl, inr, append_assoc, arith}
 use Rattle.std.specs.Prelude.{codes}
 use Rattle.std.proofs.lemmas.List.{append-nil, append_cancel_left, length-append}
@@ -19,7 +19,7 @@ use Rattle.souper_ir.specs.OperandLaws.{never}
 use Rattle.souper_ir.specs.StatementLaws.{statement_first, statement_alone, statement_ends, starts_begins, infer_first, infer_alone, infer_ends, cand_alone, result_alone}
 use Rattle.souper_ir.specs.Items.{Opens, tail_continues, Entered, Stated, AllStated, NoStatement, NoMore, StuckAt, StatedRefusal}
 
--- ---- one part after the other
+-- ---- parts in sequence
 
 -- the last part of what was nothing before
 pub joined_last : {P : List Lexeme → Type 0} (a b : List Lexeme) → a ≡ [] → P b → Joined P (λ ts. ts ≡ []) (a ++ b)
@@ -35,7 +35,7 @@ joined_longer b h more = record { prefix = h.prefix; suffix = h.suffix ++ b; who
 pub start_ends : (v : PlainStatement) (t : Lexeme) → starts_statement t ≡ true → ¬ statement_continues v t
 start_ends v t e = statement_ends v t (starts_begins t e)
 
--- behind v stand further statements, and then c
+-- after v come further statements, and then c
 free_over : (s : Scope) (v : PlainStatement) (vs : List PlainStatement) (a c : List Lexeme) → Statements s vs a → Free (λ t. LastGoesOn statement_continues (v ∷ vs) t) c → Free (statement_continues v) (a ++ c)
 free_over s v [] a c m f = subst (λ (x : List Lexeme). Free (statement_continues v) (x ++ c)) (sym m) f
 free_over s v (w ∷ vs) a c m f =
@@ -154,7 +154,7 @@ member_refused vs e p q m r so h bad =
 
 -- ---- lists of tokens
 
--- a token list that begins as a statement does and as an opening does
+-- no token list begins both as a statement does and as an opening does
 clash : (a b c d : List Lexeme) → Starts starts_statement a → Opens c → a ++ b ≡ c ++ d → ⊥
 clash [] b c d st o e = st
 clash (t ∷ a) b [] d st o e = o
@@ -171,7 +171,7 @@ pub free_clash : (starts : Lexeme → Bool) (a b c : List Lexeme) → Starts sta
 free_clash starts [] b c st f e = st
 free_clash starts (t ∷ a) b c st f e = (subst (λ (x : List Lexeme). Free (λ t. starts t ≡ true) x) e f) st
 
--- the first statement, and what stands behind it
+-- the first statement, and what is after it
 pub split : (a f g c : List Lexeme) → a ≡ f ++ g → a ++ c ≡ f ++ (g ++ c)
 split a f g c e = ap (λ (x : List Lexeme). x ++ c) e ∙ append_assoc f g c
 
@@ -182,7 +182,7 @@ opens_over (t ∷ e) d o = o
 -- ---- where the statements end
 
 module _ {Y : Type 0} (tail : Scope → Y → List Lexeme → Type 0) (continues : Y → Lexeme → Type 0) (opens : (s : Scope) (y : Y) (ts : List Lexeme) → tail s y ts → Opens ts) where
-  -- no statements and their tail are spelled where the statements end stuck
+  -- no statements and their tail are spelled if the statements end stuck
   pub no_item : (faulty : Bool) (s : Scope) (vs ws : List PlainStatement) (a c b e d : List Lexeme) (y : Y) → a ++ c ≡ b ++ (e ++ d) → Statements s vs a → Free (λ t. LastGoesOn statement_continues vs t) c
       → NoMore tail continues (s ++ vs) faulty c → Statements s ws b → tail (s ++ ws) y e → Stops (continues y) faulty d → ⊥
   no_item faulty s [] [] a c b e d y eq m f (inl (inl k)) n sp st =
@@ -231,7 +231,7 @@ module _ {Y : Type 0} (tail : Scope → Y → List Lexeme → Type 0) (continues
   pub weaker : (s : Scope) (faulty : Bool) (ts : List Lexeme) → StuckAt NoStatement s faulty ts → StuckAt (NoMore tail continues) s faulty ts
   weaker s faulty ts h = record { members = h.members; front = h.front; rest = h.rest; parts = h.parts; spelled = h.spelled; free = h.free; stuck = inl h.stuck }
 
-  -- the tail refused behind statements
+  -- the tail is refused after statements
   pub stuck_tail : (new : List PlainStatement) (p q : Parsing) → AllStated new p q → NoFront tail continues q → StuckAt (NoMore tail continues) p.scope p.faulty (kinds p.tokens)
   stuck_tail new p q so none =
       stuck_at (NoMore tail continues) new p q so.stated (inr (Free-from_Stops (λ t. starts_statement t ≡ true) q.faulty (kinds q.tokens) so.quiet, none))

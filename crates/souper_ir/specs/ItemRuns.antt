@@ -1,4 +1,4 @@
--- Definitions. Items that a parser takes, one after the other.
+-- Definitions. Items that a parser takes, in sequence.
 use Rattle.std.specs.Prelude.{◌≡◌, ℕ, false, List, [], ◌++◌, None}
 use Rattle.souper_graph.specs.Values.{Item}
 use Rattle.souper_ir.specs.declared.parse.error.ParseError.{ParseError}
@@ -23,7 +23,7 @@ pub record SpellsAll (k : ItemType) (items : List Item) (p : Parsing) : Type 0 w
   pub spelled : list_spells k items (kinds p.tokens)
   pub sound : p.faulty ≡ false
 
--- the tokens to come, up to the end of the text, spell no items
+-- the remaining tokens, up to the end of the text, spell no items
 abbrev pub NoList : ItemType → Parsing → Type 0
 NoList k p = (items : List Item) → p.faulty ≡ false → list_spells k items (kinds p.tokens) → ⊥
 

@@ -1,4 +1,4 @@
--- Definitions. Statements in a row, and where no item is spelled behind them.
+-- Definitions. Statements in sequence, and when no item is spelled after them.
 use Rattle.std.specs.Prelude.{◌≡◌, ◌⊎◌, ℕ, Bool, true, false, List, [], ◌∷◌, ◌++◌, None}
 use Rattle.souper_graph.specs.Values.{PlainStatement}
 use Rattle.souper_ir.specs.declared.parse.error.ParseError.{ParseError}
@@ -39,25 +39,25 @@ pub record Stated (new : List PlainStatement) (p q : Parsing) : Type 0 where
   pub free : Free (λ t. LastGoesOn statement_continues new t) (kinds q.tokens)
   pub state : q ≡ record p { tokens = q.tokens; scope = p.scope ++ new }
 
--- no statement stands next, and no fault
+-- no statement comes next, and no fault
 pub record AllStated (new : List PlainStatement) (p q : Parsing) : Type 0 where
   pub stated : Stated new p q
   pub quiet : Stops (λ t. starts_statement t ≡ true) q.faulty (kinds q.tokens)
   pub live : p.failed ≡ None
 
--- the statements that the parser took, all that stood there
+-- the statements that the parser took, all that there are
 abbrev pub TakesStatements : Parsing → Parsing → Type 0
 TakesStatements p q = (new : List PlainStatement) × AllStated new p q
 
--- no statement stands next, though a fault or the first token of one does
+-- no statement comes next, though a fault or the first token of one does
 abbrev pub NoStatement : Scope → Bool → List Lexeme → Type 0
 NoStatement s faulty ts = ((ts ≡ []) × (faulty ≡ true)) ⊎ (Starts starts_statement ts × NoFrontOf (statement_spells s) statement_continues faulty ts)
 
--- neither a statement stands next nor what ends the statements
+-- neither a statement comes next nor what ends the statements
 abbrev pub NoMore : {Y : Type 0} → (Scope → Y → List Lexeme → Type 0) → (Y → Lexeme → Type 0) → Scope → Bool → List Lexeme → Type 0
 NoMore tail continues s faulty ts = NoStatement s faulty ts ⊎ (Free (λ t. starts_statement t ≡ true) ts × NoFrontOf (tail s) continues faulty ts)
 
--- statements, and behind them what next says of their scope and of the tokens that are left
+-- statements, and after them what next says of their scope and of the tokens that are left
 pub record StuckAt (next : Scope → Bool → List Lexeme → Type 0) (s : Scope) (faulty : Bool) (ts : List Lexeme) : Type 0 where
   pub members : List PlainStatement
   pub front : List Lexeme

@@ -1,4 +1,4 @@
--- Definitions. How each node is read from the tokens to come.
+-- Definitions. How each node is read from the remaining tokens.
 use Rattle.std.specs.Prelude.{ℕ, zero, suc, ◌^◌, Bool, true, false, List, [], ◌∷◌, Option, Some, None, is_some, if◌then◌else◌, codes, bytes_eq, nat_lt}
 use Rattle.souper_graph.specs.declared.ast.operands.«Type».{«Type» as Ty}
 use Rattle.souper_graph.specs.declared.ast.operands.Constant.{Constant}
@@ -11,6 +11,7 @@ use Rattle.souper_graph.specs.declared.ast.statements.BlockPc.{BlockPc}
 use Rattle.souper_graph.specs.Values.{PlainAttribute, known_bits as known_bits_attribute, power_of_two, negative, non_negative, non_zero, has_external_uses, sign_bits, range, PlainRootAttribute, demanded_bits, harvested_from_use, PlainPhi, PlainRhs, var, block, phi, reserved_inst, reserved_const, instruction}
 use Rattle.souper_graph.specs.Syntax.Tokens.{Lexeme, ident, val_name, known_bits, int, comma, colon, equals, open_paren, close_paren, open_bracket}
 use Rattle.souper_graph.specs.Syntax.Numbers.{number_of, count_of, width_of, bits_of, known_bits_of}
+use Rattle.souper_ir.specs.declared.parse.words.Opcode.{Opcode}
 use Rattle.souper_ir.specs.Words.{opcode_of, operand_count, instruction_by}
 use Rattle.souper_graph.specs.Syntax.Spelling.{entry_of, position_of}
 use Rattle.souper_ir.specs.Parsing.{Parsing}
@@ -54,11 +55,6 @@ is_word k _ = false
 
 abbrev pub word_of : List ℕ → Lexeme → Option (Unit {0})
 word_of k t = if is_word k t then Some tt else None
-
--- any word
-abbrev pub ident_of : Lexeme → Option (List ℕ)
-ident_of (ident w) = Some w
-ident_of _ = None
 
 abbrev pub is_int : Lexeme → Bool
 is_int (int w) = true
@@ -122,7 +118,7 @@ next_operand_at p = do
   c ← accept (mark_of comma) p
   operand_at c.1
 
--- so many, each with a comma before it
+-- this number of operands, each with a comma before it
 abbrev pub further_at : ℕ → Parsing → Option (List Operand × Parsing)
 further_at zero p = Some ([], p)
 further_at (suc k) p = do
@@ -131,7 +127,7 @@ further_at (suc k) p = do
   xs ← further_at k x.1
   Some (x.0 ∷ xs.0, xs.1)
 
--- so many, with commas between them
+-- this number of operands, with commas between them
 abbrev pub operands_at : ℕ → Parsing → Option (List Operand × Parsing)
 operands_at zero p = Some ([], p)
 operands_at (suc k) p = do
@@ -147,7 +143,7 @@ block_at p = do
   n ← accept (int_by (count_of (2 ^ 32))) k.1
   Some (record { predecessors = n.0 }, n.1)
 
--- the block of a name, with the ways into it
+-- the block of a name, with its number of predecessors
 abbrev pub block_entry : Option (ℕ × Option ℕ) → Option (ℕ × ℕ)
 block_entry e = e >>= λ x. (x.1 >>= λ ways. Some (x.0, ways))
 
@@ -169,6 +165,13 @@ instruction_at p = do
   o ← accept (ident_by opcode_of) p
   xs ← operands_at (operand_count o.0) o.1
   i ← instruction_by o.0 xs.0
+  Some (i, xs.1)
+
+-- the instruction of an opcode, whose operands stand next
+unfoldable pub instruction_of_at : Opcode → Parsing → Option (Instruction × Parsing)
+instruction_of_at o p = do
+  xs ← operands_at (operand_count o) p
+  i ← instruction_by o xs.0
   Some (i, xs.1)
 
 abbrev pub starts_instruction : Lexeme → Bool
@@ -299,7 +302,7 @@ pub record Definition : Type 0 where
   pub ty : Option Ty
   pub value : PlainRhs
 
--- nothing where the name is taken
+-- nothing if the name is taken
 abbrev pub fresh : Option ℕ → Option (Unit {0})
 fresh o = if is_some o then None else Some tt
 
@@ -325,7 +328,7 @@ pc_at p = do
   y ← operand_at x.1
   Some (record { x = x.0; y = y.0 }, y.1)
 
--- the number, where it is that of a way into the block
+-- the number, if it is that of a predecessor of the block
 abbrev pub way_of : ℕ → ℕ → Option ℕ
 way_of ways n = if nat_lt n ways then Some n else None
 

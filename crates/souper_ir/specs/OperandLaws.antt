@@ -66,7 +66,7 @@ pub never : (ts : List Lexeme) → Free (λ t. ⊥) ts
 never [] = tt
 never (t ∷ ts) = λ h. h
 
--- what holds of the value that was computed holds of the one it is
+-- what holds of the value that was computed holds of the one that it is
 pub moved : {Y : Type 0} (P : Y → Type 0) (x y : Y) → Some x ≡ Some y → P x → P y
 moved P x y e h = subst P (some_is e) h
 
@@ -80,7 +80,7 @@ scope_is p q used t = ap (λ (x : Parsing). x.scope) t.state
 pub live_still : (p q : Parsing) (used : List Lexeme) → Takes p q used → q.failed ≡ None
 live_still p q used t = ap (λ (x : Parsing). x.failed) t.state ∙ t.live
 
--- the parser behind two steps
+-- the parser after two steps
 pub state_then : (p q r : Parsing) → q ≡ record p { tokens = q.tokens } → r ≡ record q { tokens = r.tokens } → r ≡ record p { tokens = r.tokens }
 state_then p q r e f = f ∙ ap (λ (x : Parsing). record x { tokens = r.tokens }) e
 
@@ -112,7 +112,7 @@ type_complete p t front rest at s st =
     let ahead : At p (ident s.0 ∷ rest) = subst (λ (x : List Lexeme). At p (x ++ rest)) s.1 at in
     accepts (ident_by type_of_word) p (ident s.0) t rest ahead (type_of_word_is s.0 t s.2)
 
--- ---- a type behind a colon
+-- ---- a type after a colon
 
 pub optional_type_stops : (o : Option Ty) (t : Lexeme) → ¬ (t ≡ colon) → ¬ optional_type_continues o t
 optional_type_stops None t h = h
@@ -230,9 +230,9 @@ operand_over s x (Value i) faulty back rest h =
 operand_over s x (constant_variant c) faulty back rest h =
     subst (λ (b : List Lexeme). Stops (operand_continues x) faulty (b ++ rest)) (sym h.whole) (operand_stops x (int h.word) (λ e. cc))
 
--- ---- two operands in a row
+-- ---- two operands in sequence
 
--- both parts stand next
+-- both parts come next
 parted : {P Q : List Lexeme → Type 0} {front : List Lexeme} (p : Parsing) (rest : List Lexeme) → At p (front ++ rest) → (h : Joined P Q front) → At p (h.prefix ++ (h.suffix ++ rest))
 parted p rest at h = subst (At p) (ap (λ (z : List Lexeme). z ++ rest) h.whole ∙ append_assoc h.prefix h.suffix rest) at
 
@@ -252,13 +252,13 @@ pair_complete p x y front rest at s st =
     let k = operand_complete j.0 y s.suffix rest j.2 second (subst (λ (z : Bool). Stops (operand_continues y) z rest) (sym (same_fault p j.0 j.3)) st) in
     (j.0, k.0, j.1, k.1, k.2, state_then p j.0 k.0 j.3 k.3)
 
--- ---- operands behind commas
+-- ---- operands after commas
 
--- what was read behind the operand x
+-- what was read after the operand x
 abbrev pub ReadFurther : ℕ → Operand → Parsing → List Operand × Parsing → Type 0
 ReadFurther n x p r = (used : List Lexeme) × Takes p r.1 used × further_spells p.scope r.0 used × (length r.0 ≡ n) × Free (operands_continue (x ∷ r.0)) (kinds r.1.tokens)
 
--- so many further operands behind one at which the tokens stop
+-- this number of further operands after one at which the tokens stop
 pub further_behind : (n : ℕ) (p q : Parsing) (x : Operand) (xs : List Operand) → p.failed ≡ None → Free (operand_continues x) (kinds p.tokens) → further_at n p ≡ Some (xs, q) → ReadFurther n x p (xs, q)
 further_behind zero p q x xs live free e =
     moved (ReadFurther zero x p) ([], p) (xs, q) e ([], Takes-none p p refl live, refl, refl, free)
@@ -286,7 +286,7 @@ further_sound n p q xs live e =
     let k = further_behind n p q (Value 0) xs live (never (kinds p.tokens)) e in
     (k.0, k.1, k.2, k.3, Free-weaker (operands_continue (Value 0 ∷ xs)) (operands_continue xs) (kinds q.tokens) (behind_value 0 xs) k.4)
 
--- the operands behind the first do not continue it
+-- the operands after the first do not continue it
 further_over : (s : Scope) (x : Operand) (xs : List Operand) (faulty : Bool) (back rest : List Lexeme) → further_spells s xs back → Stops (operands_continue (x ∷ xs)) faulty rest → Stops (operand_continues x) faulty (back ++ rest)
 further_over s x [] faulty back rest h st = subst (λ (b : List Lexeme). Stops (operand_continues x) faulty (b ++ rest)) (sym h) st
 further_over s x (y ∷ ys) faulty back rest h st =
@@ -296,7 +296,7 @@ later_continues : (x : Operand) (xs : List Operand) (t : Lexeme) → operands_co
 later_continues x [] t h = absurd h
 later_continues x (y ∷ ys) t h = h
 
--- an operand and further ones stand next
+-- an operand and further ones come next
 abbrev NextOperands : Parsing → Operand → List Operand → List Lexeme → Type 0
 NextOperands p x xs rest = (m : Parsing) × (q : Parsing) × (operand_at p ≡ Some (x, m)) × (further_at (length xs) m ≡ Some (xs, q)) × At q rest × (q ≡ record p { tokens = q.tokens })
 

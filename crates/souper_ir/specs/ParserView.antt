@@ -33,11 +33,11 @@ parsing_of p = record {
   failed = option_map cause_of_failure p.failed;
 }
 
--- the map has each name of the scope with its position and the ways into its block, and no other
+-- the map has each name of the scope with its position and its block's number of predecessors, and no other
 abbrev pub NamesAre : BTreeMap (Bor (List ℕ)) (ℕ × Option ℕ) → Scope → Type 0
 NamesAre names s = (n : List ℕ) → get_by (λ (k : Bor (List ℕ)). slice_cmp nat_cmp n k.now) names ≡ entry_of s n
 
--- each name is found where it was given
+-- each name resolves to the position of its assignment
 abbrev pub Named : Scope → Type 0
 Named s = (p : ℕ) (a : PlainAssignment) → slice_get s p ≡ Some (assigned a) → position_of s a.name ≡ Some p
 
@@ -46,7 +46,8 @@ FailedWithin len None = Unit {0}
 FailedWithin len (Some (Refused o)) = o ≤ len
 FailedWithin len (Some Memory) = Unit {0}
 
--- offsets lie within the text, and until the parser fails the map is that of the statements so far, whose names are distinct
+-- offsets are within the text, and until the parser fails the map is that of the statements so far, whose names are
+-- distinct
 pub record IsParser (p : Inside) : Type 0 where
   pub offset : p.offset ≤ p.lexer.len
   pub failed : FailedWithin p.lexer.len p.failed

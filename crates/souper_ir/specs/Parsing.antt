@@ -1,4 +1,4 @@
--- Definitions. What a parser has before it.
+-- Definitions. What remains for a parser, and its state.
 use Rattle.std.specs.Prelude.{ℕ, Bool, List, Option}
 use Rattle.souper_graph.specs.Syntax.Tokens.{Lexeme}
 use Rattle.souper_graph.specs.Syntax.Spelling.{Scope}
@@ -9,7 +9,7 @@ pub data Cause : Type 0 where
   no_memory : Cause
 
 pub record Parsing : Type 0 where
-  -- the tokens to come, with their offsets
+  -- the remaining tokens, with their offsets
   pub tokens : List (ℕ × Lexeme)
   -- whether a lexical fault follows them
   pub faulty : Bool

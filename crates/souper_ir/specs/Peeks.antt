@@ -1,4 +1,4 @@
--- Lemmas. What a peek tells.
+-- Lemmas. What a peek returns.
 use Rattle.std.proofs.Common.{◌≡◌, ℕ, Bool, true, false, List, [], ◌∷◌, ◌++◌, Option, Some, None, refl, sym, ◌∙◌, ap}
 use Rattle.souper_ir.specs.Parsing.{Cause, Parsing}
 use Rattle.souper_graph.specs.Syntax.Tokens.{Lexeme}
@@ -7,7 +7,7 @@ use Rattle.souper_graph.specs.Syntax.Optional.{◌>>=◌}
 use Rattle.souper_ir.specs.Reading.{IfRefused, if_refused, look_in, look_at}
 use Rattle.souper_ir.specs.Grammar.{Stops, Starts, NoFront, starts_next, peek_at}
 
--- the first token answers, and at the end no fault stands
+-- the first token decides, and at the end there is no fault
 abbrev pub Answers : (Lexeme → Bool) → Bool → Bool → List (ℕ × Lexeme) → Type 0
 Answers starts b faulty [] = (b ≡ false) × (faulty ≡ false)
 Answers starts b faulty (t ∷ ts) = starts t.1 ≡ b

@@ -5,7 +5,7 @@ use Rattle.std.specs.Prelude.{◌≡◌, ℕ, ◌+◌, ◌-◌, ◌≤◌, List,
 abbrev pub EndsIn : List ℕ → ℕ → Type 0
 EndsIn xs b = (front : List ℕ) × (xs ≡ front ++ b ∷ [])
 
--- how many newlines the text has
+-- the number of newlines in the text
 abbrev pub newlines : List ℕ → ℕ
 newlines xs = count_by (λ b. b == 10) xs
 
@@ -18,8 +18,8 @@ abbrev pub IsLineText : List ℕ → List ℕ → List ℕ → Type 0
 IsLineText body [] text = text ≡ body
 IsLineText body (b ∷ bs) text = (b ≡ 10) × IsWithoutReturn body text
 
--- the place of the byte before the offset, or of the first where the offset is 0: a newline ends its line, and lines
--- and columns are counted from 1
+-- the place of the byte before the offset, or of the first if the offset is 0: a newline ends its line, and lines and
+-- columns are counted from 1, columns in bytes
 pub record IsPlace (source : List ℕ) (offset line column : ℕ) (text : List ℕ) : Type 0 where
   pub front : List ℕ
   pub body : List ℕ
@@ -33,7 +33,7 @@ pub record IsPlace (source : List ℕ) (offset line column : ℕ) (text : List �
   pub line_is : line ≡ newlines front + 1
   pub column_is : column ≡ offset - 1 - length front + 1
 
--- the text after as many blanks as give it that width
+-- the text after as many spaces as bring it to that width
 abbrev pub right_aligned : ℕ → List ℕ → List ℕ
 right_aligned width text = replicate (width - length text) 32 ++ text
 

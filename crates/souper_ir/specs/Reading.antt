@@ -1,4 +1,4 @@
--- Definitions, and two lemmas on them. Reading from left to right: a value and the parser behind it, or none.
+-- Definitions, and two lemmas on them. Reading from left to right: a value and the parser after it, or none.
 use Rattle.std.specs.Prelude.{◌≡◌, ℕ, ◌≤◌, ◌≢◌, Bool, true, false, List, [], ◌∷◌, Option, Some, None, Result, Ok, Err, option_map, IsSomeAnd}
 use Rattle.std.proofs.Common.{◌∙◌}
 use Rattle.souper_graph.specs.Syntax.Optional.{◌>>=◌}
@@ -19,8 +19,9 @@ cause_by Memory o = Some no_memory
 abbrev pub cause_of : ParseError → Option Cause
 cause_of e = cause_by (kind_of e) (offset_of e)
 
--- The error leaves the parser failed by its cause, which is no I/O error. A parser that had failed fails by the same cause again, or
--- for want of memory. The offset of a refusal lies within the text, and it shows that offset and some message.
+-- The error leaves the parser failed by its cause, which is no I/O error. A parser that had failed fails by the same
+-- cause again, or with out of memory. The offset of a refusal is within the text, and it shows that offset and some
+-- message.
 pub record Fails (e : ParseError) (old new : Parsing) : Type 0 where
   pub stays : new.failed ≡ cause_of e
   pub caused : cause_of e ≢ None
@@ -29,11 +30,11 @@ pub record Fails (e : ParseError) (old new : Parsing) : Type 0 where
   pub shown : (o : ℕ) → cause_of e ≡ Some (refused o) → IsSomeAnd (shown_error e) (IsDirectRefusalText o)
   pub len : new.len ≡ old.len
 
--- the error is want of memory, and leaves the parser failed by it
+-- the error is out of memory, and leaves the parser failed by it
 abbrev pub FailsForMemory : ParseError → Parsing → Parsing → Type 0
 FailsForMemory e old new = (cause_of e ≡ Some no_memory) × Fails e old new
 
--- the fact, where the parser refused the text
+-- the fact, if the parser refused the text
 abbrev pub IfRefused : Option Cause → Type 0 → Type 0
 IfRefused (Some (refused o)) fact = fact
 IfRefused (Some no_memory) fact = Unit {0}
@@ -44,11 +45,11 @@ if_refused (Some (refused o)) g h = g h
 if_refused (Some no_memory) g h = tt
 if_refused None g h = tt
 
--- the reading gives the value, and the parser goes on behind it
+-- the reading returns the value, and the parser goes on after it
 abbrev pub IsRead : {Y : Type 0} → Option (Y × Parsing) → Y → Parsing → Parsing → Type 0
 IsRead read y old new = (read ≡ Some (y, new)) × (old.failed ≡ None) × (new.failed ≡ None) × (new.len ≡ old.len)
 
--- What a function returned, seen by view, is what reading gives, unless memory ran out.
+-- What a function returned, seen by view, is what reading returns, unless memory ran out.
 abbrev pub Gives : {X Y : Type 0} → (X → Y) → Result X ParseError → Option (Y × Parsing) → Parsing → Parsing → Type 0
 Gives view (Ok x) read old new = IsRead read (view x) old new
 Gives view (Err e) read old new = IfRefused (cause_of e) (read ≡ None) × Fails e old new
@@ -72,7 +73,7 @@ take_in None (t ∷ ts) = Some (t.1, ts)
 unfoldable pub take_at : Parsing → Option (Lexeme × Parsing)
 take_at p = take_in p.failed p.tokens >>= λ t. Some (t.0, record p { tokens = t.1 })
 
--- a refusal behind steps that changed neither the cause nor the length
+-- a refusal after steps that changed neither the cause nor the length
 pub fails_later : (e : ParseError) (p q r : Parsing) → q.failed ≡ p.failed → q.len ≡ p.len → Fails e q r → Fails e p r
 fails_later e p q r f l h = record {
   stays = h.stays;

@@ -71,7 +71,7 @@ module _ {Y : Type 0} (spells : Scope → Y → List Lexeme → Type 0) (continu
       let rest : c ≡ d = sym j.2.kinds_are ∙ ap (λ (x : Y × Parsing). kinds x.1.tokens) same ∙ k.2.kinds_are in
       (append_cancel_right a b c (e ∙ ap (λ (x : List Lexeme). b ++ x) (sym rest)), ap (λ (x : Y × Parsing). x.0) same)
 
--- want of memory refuses no text
+-- out of memory refuses no text
 pub of_memory : (P : Type 0) (e : ParseError) → cause_of e ≡ Some no_memory → IfRefused (cause_of e) P
 of_memory P e h = subst (λ (o : Option Cause). IfRefused o P) (sym h) tt
 

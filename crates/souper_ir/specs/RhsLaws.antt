@@ -64,7 +64,7 @@ entry_means (Some x) b e = ap Some (ways_mean x.0 x.1 b e)
 entry_is : (o : Option (ℕ × Option ℕ)) (b : ℕ × ℕ) → o ≡ Some (b.0, Some b.1) → block_entry o ≡ Some b
 entry_is o b e = rw e refl
 
--- the name of a block was read, of this id and so many ways
+-- the name of a block was read, with this id and number of predecessors
 abbrev pub ReadBlockName : Parsing → (ℕ × ℕ) × Parsing → Type 0
 ReadBlockName p r = (n : List ℕ) × Takes p r.1 (val_name n ∷ []) × (entry_of p.scope n ≡ Some (r.0.0, Some r.0.1))
 
@@ -170,7 +170,7 @@ looked_in p (Some c) faulty ts t rest live e = absurd cc
 looked_in p None faulty [] t rest live e = absurd cc
 looked_in p None faulty (u ∷ ts) t rest live e = let same : u.1 ≡ t = cc in ap (λ (x : Lexeme). Some (Some x)) same
 
--- a look sees the token that stands next
+-- a look sees the next token
 looks : (p : Parsing) (t : Lexeme) (rest : List Lexeme) → At p (t ∷ rest) → look_at p ≡ Some (Some t, p)
 unfolding look_at
 looks p t rest at = rw (looked_in p p.failed p.faulty p.tokens t rest at.live at.kinds_are) refl

@@ -1,4 +1,5 @@
--- Lemmas. Statements and last lines: what is read is spelled so, what is spelled so is read, and one front at most spells one.
+-- Lemmas. Statements and last lines: what is read is spelled so, what is spelled so is read, and at most one prefix
+-- spells one.
 use Rattle.std.proofs.Common.{◌≡◌, ℕ, ◌^◌, ◌<◌, Bool, true, false, List, [], ◌∷◌, ◌++◌, Option, Some, None, refl, sym, ◌∙◌, ap, subst, append_assoc, ◌⊎◌, inl, inr}
 use Rattle.std.specs.Prelude.{codes, nat_lt, if◌then◌else◌}
 use Rattle.std.proofs.lemmas.Bool.Decides.{Decides-ltb}
@@ -392,9 +393,6 @@ result_complete p v front rest at s st =
 pub result_alone : (s : Scope) (v w : Operand) (a b c d : List Lexeme) → a ++ c ≡ b ++ d → result_spells s v a → result_spells s w b → Free (result_continues v) c → Free (result_continues w) d → (a ≡ b) × (v ≡ w)
 result_alone = one_alone result_spells result_continues result_at result_complete
 
-pub result_first : (s : Scope) (v : Operand) (ts : List Lexeme) → result_spells s v ts → Starts (is_word (codes "result")) ts
-result_first s v ts h = subst (λ (x : List Lexeme). Starts (is_word (codes "result")) x) (sym h.1) (word_is (codes "result"))
-
 -- ---- what continues no line
 
 optional_type_more : (o : Option Ty) (t : Lexeme) → optional_type_continues o t → t ≡ colon
@@ -445,10 +443,6 @@ pub starts_begins : (t : Lexeme) → starts_statement t ≡ true → begins_line
 starts_begins (val_name n) e = refl
 starts_begins (ident w) e = refl
 starts_begins _ e = absurd cc
-
-pub word_begins : (k : List ℕ) (t : Lexeme) → is_word k t ≡ true → begins_line t ≡ true
-word_begins k (ident w) e = refl
-word_begins k _ e = absurd cc
 
 begins_no_more : (t : Lexeme) → begins_line t ≡ true → GoesOn t → ⊥
 begins_no_more t b (inl e) = let bad : false ≡ true = subst (λ (u : Lexeme). begins_line u ≡ true) e b in cc
@@ -605,9 +599,6 @@ assignment_first s a ts h = subst (λ (x : List Lexeme). Starts is_name x) (sym 
 
 pub infer_first : (s : Scope) (i : PlainInfer) (ts : List Lexeme) → infer_spells s i ts → Starts (is_word (codes "infer")) ts
 infer_first s i ts h = subst (λ (x : List Lexeme). Starts (is_word (codes "infer")) x) (sym h.whole) (word_is (codes "infer"))
-
-pub cand_first : (s : Scope) (c : PlainCand) (ts : List Lexeme) → cand_spells s c ts → Starts (is_word (codes "cand")) ts
-cand_first s c ts h = subst (λ (x : List Lexeme). Starts (is_word (codes "cand")) x) (sym h.whole) (word_is (codes "cand"))
 
 pub statement_first : (s : Scope) (v : PlainStatement) (ts : List Lexeme) → statement_spells s v ts → Starts starts_statement ts
 statement_first s (assigned a) ts h = subst (λ (x : List Lexeme). Starts starts_statement x) (sym h.whole) refl

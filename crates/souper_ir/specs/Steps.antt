@@ -1,4 +1,4 @@
--- Lemmas. Steps of a reading: what they took, and that they take what stands there.
+-- Lemmas. Steps of a reading: what they took, and that they take what comes next.
 use Rattle.std.proofs.Common.{◌≡◌, ℕ, Bool, true, false, List, [], ◌∷◌, ◌++◌, Option, Some, None, refl, sym, ◌∙◌, ap, subst, append_assoc}
 use Rattle.souper_ir.specs.Parsing.{Cause, Parsing}
 use Rattle.souper_graph.specs.Syntax.Tokens.{Lexeme}
@@ -33,7 +33,7 @@ Takes-then p q r a b m n = record {
 pub Takes-none : (p q : Parsing) → q ≡ p → p.failed ≡ None → Takes p q []
 Takes-none p q e live = subst (λ (x : Parsing). Takes p x []) (sym e) (record { places = []; parts = refl; kinds_are = refl; state = refl; live = live })
 
--- these tokens stand next
+-- these tokens come next
 pub record At (p : Parsing) (ts : List Lexeme) : Type 0 where
   pub kinds_are : kinds p.tokens ≡ ts
   pub live : p.failed ≡ None

@@ -5,12 +5,13 @@ use Rattle.std.specs.Char.{is_whitespace, len_utf8, is_ascii_digit, is_ascii_alp
 use Rattle.souper_graph.specs.Names.{is_name_char}
 use Rattle.souper_graph.specs.Syntax.Tokens.{Lexeme, ident, val_name, known_bits, int, comma, colon, equals, open_paren, close_paren, open_bracket, is_bit, begins_int, known_bits_word, spelling}
 
--- where a byte of a gap stands: in a white space character of which so many bytes are left (0: between two pieces), or in a comment
+-- where a byte of a gap is: in a white space character of which a number of bytes are left (0: between two pieces), or
+-- in a comment
 pub data Place : Type 0 where
   inside : ℕ → Place
   remark : Place
 
--- how many bytes the white space character has that the text begins with, or 0
+-- the length in bytes of the white space character that the text begins with, or 0
 abbrev pub first_space : List ℕ → ℕ
 first_space [] = 0
 first_space (c ∷ cs) = if is_whitespace c then len_utf8 c else 0
@@ -18,7 +19,7 @@ first_space (c ∷ cs) = if is_whitespace c then len_utf8 c else 0
 unfoldable pub space_len : List ℕ → ℕ
 space_len bs = first_space (chars bs)
 
--- what stands after the longest gap: 59 is `;`, 10 the newline
+-- what is left after the longest gap: 59 is `;`, 10 the newline
 unfoldable pub after_from : Place → List ℕ → List ℕ
 after_from p [] = []
 after_from (inside zero) (b ∷ bs) = elim (space_len (b ∷ bs)) [ zero ↦ if b == 59 then after_from remark bs else b ∷ bs | suc k ↦ after_from (inside k) bs ]
@@ -28,7 +29,7 @@ after_from remark (b ∷ bs) = if b == 10 then after_from (inside zero) bs else 
 abbrev pub after_gap : List ℕ → List ℕ
 after_gap bs = after_from (inside 0) bs
 
--- what a text begins with: nothing, a token with what stands after it, or neither
+-- what a text begins with: nothing, a token with what is after it, or neither
 pub data Front : Type 0 where
   ends : Front
   faulty : Front
@@ -49,7 +50,7 @@ word_at s rest = if bytes_eq s known_bits_word then bits_at rest else found (ide
 unfoldable pub name_at : List ℕ → List ℕ → Front
 name_at s rest = if length s == 1 then faulty else found (val_name s) rest
 
--- the first byte of a token and the bytes behind it that pass; what stands after them
+-- the first byte of a token and the bytes after it that pass; what is left after them
 abbrev pub run_of : (ℕ → Bool) → ℕ → List ℕ → List ℕ
 run_of p c bs = c ∷ take (prefix_len p bs) bs
 
@@ -92,15 +93,15 @@ pub record Lexed : Type 0 where
   pub fault : Bool
   pub len : ℕ
 
--- how many bytes a gap takes
+-- the length of a gap in bytes
 abbrev pub gap_len : List ℕ → ℕ
 gap_len bs = length bs - length (after_gap bs)
 
--- what follows a token that stands at the given offset
+-- what follows a token at the given offset
 abbrev pub before : ℕ → Lexeme → Lexed → Lexed
 before at t more = record { tokens = (at, t) ∷ more.tokens; fault = more.fault; len = more.len }
 
--- of at most so many tokens: a text bs that begins at offset n
+-- of at most this number of tokens: a text bs that begins at offset n
 unfoldable pub lexed_within : ℕ → ℕ → List ℕ → Lexed
 lexed_within zero n bs = record { tokens = []; fault = true; len = n + length bs }
 lexed_within (suc k) n bs =

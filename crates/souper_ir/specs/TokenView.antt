@@ -34,7 +34,7 @@ abbrev pub Reads : Result (Token × Bor (List ℕ)) Fault → Front → Type 0
 Reads (Ok x) front = front ≡ found (lexeme_of x.0) x.1.now
 Reads (Err f) front = front ≡ faulty
 
--- what a call of `next_token` on old gives: its first token, or that there is none, or that a fault stands there
+-- what a call of `next_token` on old returns: its first token, or that there is none, or that there is a fault
 abbrev pub Yields : Lexed → Result (Option (ℕ × Token)) Fault → Lexed → Type 0
 Yields old (Ok (Some x)) new = (old.tokens ≡ (x.0, lexeme_of x.1) ∷ new.tokens) × (old.fault ≡ new.fault) × (old.len ≡ new.len) × (x.0 < old.len)
 Yields old (Ok None) new = (old.tokens ≡ []) × (old.fault ≡ false) × (new ≡ old)

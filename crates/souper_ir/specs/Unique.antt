@@ -1,11 +1,11 @@
--- Lemmas. One front at most spells a value, for options and lists of what that holds of.
+-- Lemmas. At most one prefix spells a value, for options and lists of what that holds of.
 use Rattle.std.specs.Prelude.{◌≡◌, Bool, true, List, [], ◌∷◌, ◌++◌, Option, Some, None}
 use Rattle.std.proofs.Common.{refl, sym, ◌∙◌, ap, subst, inl, inr, append_assoc}
 use Rattle.std.proofs.lemmas.List.{append_cancel_left}
 use Rattle.souper_graph.specs.Syntax.Tokens.{Lexeme}
 use Rattle.souper_ir.specs.Grammar.{Free, Stops, Starts, Members, LastGoesOn, ListGoesOn, OptionSpells, OptionGoesOn}
 
--- ---- what stands next
+-- ---- what comes next
 
 pub Free-weaker : (P Q : Lexeme → Type 0) (ts : List Lexeme) → ((t : Lexeme) → Q t → P t) → Free P ts → Free Q ts
 Free-weaker P Q [] f h = tt
@@ -23,7 +23,7 @@ pub Free-front : (P : Lexeme → Type 0) (a b : List Lexeme) → Free P (a ++ b)
 Free-front P [] b h = tt
 Free-front P (t ∷ a) b h = h
 
--- what starts stands where no start stands
+-- a list that begins with a start is no prefix of one that does not
 pub clash : (starts : Lexeme → Bool) (b c d : List Lexeme) → Starts starts b → c ≡ b ++ d → Free (λ t. starts t ≡ true) c → ⊥
 clash starts [] c d st e f = st
 clash starts (t ∷ b) c d st e f = (subst (Free (λ t. starts t ≡ true)) e f) st

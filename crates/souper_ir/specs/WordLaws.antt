@@ -1,6 +1,6 @@
 -- Lemmas. The words of the instructions: each names the opcode of its instruction, and no other.
-use Rattle.std.proofs.Common.{◌≡◌, ℕ, Bool, true, false, List, [], ◌∷◌, length, Option, Some, None, refl, sym, subst}
-use Rattle.std.specs.Prelude.{codes, bytes_eq, if◌then◌else◌}
+use Rattle.std.proofs.Common.{◌≡◌, ℕ, Bool, true, false, List, [], ◌∷◌, length, Option, Some, refl, sym, subst}
+use Rattle.std.specs.Prelude.{codes, bytes_eq, nat_eq, if◌then◌else◌}
 use Rattle.std.proofs.lemmas.Slice.Eq.{bytes_eq-Decides}
 use Rattle.souper_graph.specs.declared.ast.operands.Operand.{Operand}
 use Rattle.souper_graph.specs.declared.ast.instructions.Instruction.{Instruction}
@@ -8,7 +8,7 @@ use Rattle.souper_graph.specs.declared.ast.instructions.Instruction.TheVariants.
 use Rattle.souper_graph.specs.Instructions.{word_of, operands_of}
 use Rattle.souper_ir.specs.declared.parse.words.Opcode.{Opcode}
 use Rattle.souper_ir.specs.declared.parse.words.Opcode.TheVariants.{Add as do_add, AddNsw as do_add_nsw, AddNuw as do_add_nuw, AddNw as do_add_nw, Sub as do_sub, SubNsw as do_sub_nsw, SubNuw as do_sub_nuw, SubNw as do_sub_nw, Mul as do_mul, MulNsw as do_mul_nsw, MulNuw as do_mul_nuw, MulNw as do_mul_nw, Udiv as do_udiv, Sdiv as do_sdiv, UdivExact as do_udiv_exact, SdivExact as do_sdiv_exact, Urem as do_urem, Srem as do_srem, And as do_and, Or as do_or, Xor as do_xor, Shl as do_shl, ShlNsw as do_shl_nsw, ShlNuw as do_shl_nuw, ShlNw as do_shl_nw, Lshr as do_lshr, LshrExact as do_lshr_exact, Ashr as do_ashr, AshrExact as do_ashr_exact, Eq as do_eq, Ne as do_ne, Ult as do_ult, Slt as do_slt, Ule as do_ule, Sle as do_sle, SaddWithOverflow as do_sadd_with_overflow, UaddWithOverflow as do_uadd_with_overflow, SsubWithOverflow as do_ssub_with_overflow, UsubWithOverflow as do_usub_with_overflow, SmulWithOverflow as do_smul_with_overflow, UmulWithOverflow as do_umul_with_overflow, SaddSat as do_sadd_sat, UaddSat as do_uadd_sat, SsubSat as do_ssub_sat, UsubSat as do_usub_sat, ExtractValue as do_extract_value, Zext as do_zext, Sext as do_sext, Trunc as do_trunc, Ctpop as do_ctpop, Bswap as do_bswap, BitReverse as do_bit_reverse, Cttz as do_cttz, Ctlz as do_ctlz, Freeze as do_freeze, Select as do_select, Fshl as do_fshl, Fshr as do_fshr, Hole as do_hole}
-use Rattle.souper_ir.specs.Words.{arithmetic_of, bitwise_of, comparison_of, checked_of, unary_of, ternary_of, nullary_of, first_some, opcode_of, Shape, no_operand, one_operand, two_operands, three_operands, shape_of, operand_count, instruction_of_shape, instruction_by}
+use Rattle.souper_ir.specs.Words.{two_letters_of, three_letters_of, four_letters_of, five_letters_of, six_letters_of, longer_of, opcode_of_length, opcode_of, Shape, no_operand, one_operand, two_operands, three_operands, shape_of, operand_count, instruction_of_shape, instruction_by}
 use Rattle.souper_ir.specs.NodeReadings.{is_instruction, rhs_kind_of_word}
 use Rattle.souper_ir.specs.Peeks.{some_is}
 
@@ -178,52 +178,70 @@ named_if false w x o rest e here there = there e
 named : (w k : List ℕ) (x o : Opcode) (rest : Option Opcode) → (if bytes_eq w k then Some x else rest) ≡ Some o → Names k (shape_of x) → (rest ≡ Some o → Names w (shape_of o)) → Names w (shape_of o)
 named w k x o rest e h there = named_if (bytes_eq w k) w x o rest e (λ q. subst (λ (z : List ℕ). Names z (shape_of x)) (sym ((bytes_eq-Decides w k).0 q)) h) there
 
-arithmetic_named : (w : List ℕ) (o : Opcode) → arithmetic_of w ≡ Some o → Names w (shape_of o)
-arithmetic_named w o e =
-    named w (codes "add") do_add o _ e (λ a b. (refl, refl)) (λ e.
-    named w (codes "addnsw") do_add_nsw o _ e (λ a b. (refl, refl)) (λ e.
-    named w (codes "addnuw") do_add_nuw o _ e (λ a b. (refl, refl)) (λ e.
-    named w (codes "addnw") do_add_nw o _ e (λ a b. (refl, refl)) (λ e.
-    named w (codes "sub") do_sub o _ e (λ a b. (refl, refl)) (λ e.
-    named w (codes "subnsw") do_sub_nsw o _ e (λ a b. (refl, refl)) (λ e.
-    named w (codes "subnuw") do_sub_nuw o _ e (λ a b. (refl, refl)) (λ e.
-    named w (codes "subnw") do_sub_nw o _ e (λ a b. (refl, refl)) (λ e.
-    named w (codes "mul") do_mul o _ e (λ a b. (refl, refl)) (λ e.
-    named w (codes "mulnsw") do_mul_nsw o _ e (λ a b. (refl, refl)) (λ e.
-    named w (codes "mulnuw") do_mul_nuw o _ e (λ a b. (refl, refl)) (λ e.
-    named w (codes "mulnw") do_mul_nw o _ e (λ a b. (refl, refl)) (λ e.
-    named w (codes "udiv") do_udiv o _ e (λ a b. (refl, refl)) (λ e.
-    named w (codes "sdiv") do_sdiv o _ e (λ a b. (refl, refl)) (λ e.
-    named w (codes "udivexact") do_udiv_exact o _ e (λ a b. (refl, refl)) (λ e.
-    named w (codes "sdivexact") do_sdiv_exact o _ e (λ a b. (refl, refl)) (λ e.
-    named w (codes "urem") do_urem o _ e (λ a b. (refl, refl)) (λ e.
-    named w (codes "srem") do_srem o _ e (λ a b. (refl, refl)) (λ e. absurd cc))))))))))))))))))
-
-bitwise_named : (w : List ℕ) (o : Opcode) → bitwise_of w ≡ Some o → Names w (shape_of o)
-bitwise_named w o e =
-    named w (codes "and") do_and o _ e (λ a b. (refl, refl)) (λ e.
+two_letters_named : (w : List ℕ) (o : Opcode) → two_letters_of w ≡ Some o → Names w (shape_of o)
+two_letters_named w o e =
     named w (codes "or") do_or o _ e (λ a b. (refl, refl)) (λ e.
+    named w (codes "eq") do_eq o _ e (λ a b. (refl, refl)) (λ e.
+    named w (codes "ne") do_ne o _ e (λ a b. (refl, refl)) (λ e. absurd cc)))
+
+three_letters_named : (w : List ℕ) (o : Opcode) → three_letters_of w ≡ Some o → Names w (shape_of o)
+three_letters_named w o e =
+    named w (codes "add") do_add o _ e (λ a b. (refl, refl)) (λ e.
+    named w (codes "sub") do_sub o _ e (λ a b. (refl, refl)) (λ e.
+    named w (codes "mul") do_mul o _ e (λ a b. (refl, refl)) (λ e.
+    named w (codes "and") do_and o _ e (λ a b. (refl, refl)) (λ e.
     named w (codes "xor") do_xor o _ e (λ a b. (refl, refl)) (λ e.
     named w (codes "shl") do_shl o _ e (λ a b. (refl, refl)) (λ e.
-    named w (codes "shlnsw") do_shl_nsw o _ e (λ a b. (refl, refl)) (λ e.
-    named w (codes "shlnuw") do_shl_nuw o _ e (λ a b. (refl, refl)) (λ e.
-    named w (codes "shlnw") do_shl_nw o _ e (λ a b. (refl, refl)) (λ e.
-    named w (codes "lshr") do_lshr o _ e (λ a b. (refl, refl)) (λ e.
-    named w (codes "lshrexact") do_lshr_exact o _ e (λ a b. (refl, refl)) (λ e.
-    named w (codes "ashr") do_ashr o _ e (λ a b. (refl, refl)) (λ e.
-    named w (codes "ashrexact") do_ashr_exact o _ e (λ a b. (refl, refl)) (λ e. absurd cc)))))))))))
-
-comparison_named : (w : List ℕ) (o : Opcode) → comparison_of w ≡ Some o → Names w (shape_of o)
-comparison_named w o e =
-    named w (codes "eq") do_eq o _ e (λ a b. (refl, refl)) (λ e.
-    named w (codes "ne") do_ne o _ e (λ a b. (refl, refl)) (λ e.
     named w (codes "ult") do_ult o _ e (λ a b. (refl, refl)) (λ e.
     named w (codes "slt") do_slt o _ e (λ a b. (refl, refl)) (λ e.
     named w (codes "ule") do_ule o _ e (λ a b. (refl, refl)) (λ e.
-    named w (codes "sle") do_sle o _ e (λ a b. (refl, refl)) (λ e. absurd cc))))))
+    named w (codes "sle") do_sle o _ e (λ a b. (refl, refl)) (λ e. absurd cc))))))))))
 
-checked_named : (w : List ℕ) (o : Opcode) → checked_of w ≡ Some o → Names w (shape_of o)
-checked_named w o e =
+four_letters_named : (w : List ℕ) (o : Opcode) → four_letters_of w ≡ Some o → Names w (shape_of o)
+four_letters_named w o e =
+    named w (codes "udiv") do_udiv o _ e (λ a b. (refl, refl)) (λ e.
+    named w (codes "sdiv") do_sdiv o _ e (λ a b. (refl, refl)) (λ e.
+    named w (codes "urem") do_urem o _ e (λ a b. (refl, refl)) (λ e.
+    named w (codes "srem") do_srem o _ e (λ a b. (refl, refl)) (λ e.
+    named w (codes "lshr") do_lshr o _ e (λ a b. (refl, refl)) (λ e.
+    named w (codes "ashr") do_ashr o _ e (λ a b. (refl, refl)) (λ e.
+    named w (codes "zext") do_zext o _ e (λ a. (refl, refl)) (λ e.
+    named w (codes "sext") do_sext o _ e (λ a. (refl, refl)) (λ e.
+    named w (codes "cttz") do_cttz o _ e (λ a. (refl, refl)) (λ e.
+    named w (codes "ctlz") do_ctlz o _ e (λ a. (refl, refl)) (λ e.
+    named w (codes "fshl") do_fshl o _ e (λ a b c. (refl, refl)) (λ e.
+    named w (codes "fshr") do_fshr o _ e (λ a b c. (refl, refl)) (λ e.
+    named w (codes "hole") do_hole o _ e (refl, refl) (λ e. absurd cc)))))))))))))
+
+five_letters_named : (w : List ℕ) (o : Opcode) → five_letters_of w ≡ Some o → Names w (shape_of o)
+five_letters_named w o e =
+    named w (codes "addnw") do_add_nw o _ e (λ a b. (refl, refl)) (λ e.
+    named w (codes "subnw") do_sub_nw o _ e (λ a b. (refl, refl)) (λ e.
+    named w (codes "mulnw") do_mul_nw o _ e (λ a b. (refl, refl)) (λ e.
+    named w (codes "shlnw") do_shl_nw o _ e (λ a b. (refl, refl)) (λ e.
+    named w (codes "trunc") do_trunc o _ e (λ a. (refl, refl)) (λ e.
+    named w (codes "ctpop") do_ctpop o _ e (λ a. (refl, refl)) (λ e.
+    named w (codes "bswap") do_bswap o _ e (λ a. (refl, refl)) (λ e. absurd cc)))))))
+
+six_letters_named : (w : List ℕ) (o : Opcode) → six_letters_of w ≡ Some o → Names w (shape_of o)
+six_letters_named w o e =
+    named w (codes "addnsw") do_add_nsw o _ e (λ a b. (refl, refl)) (λ e.
+    named w (codes "addnuw") do_add_nuw o _ e (λ a b. (refl, refl)) (λ e.
+    named w (codes "subnsw") do_sub_nsw o _ e (λ a b. (refl, refl)) (λ e.
+    named w (codes "subnuw") do_sub_nuw o _ e (λ a b. (refl, refl)) (λ e.
+    named w (codes "mulnsw") do_mul_nsw o _ e (λ a b. (refl, refl)) (λ e.
+    named w (codes "mulnuw") do_mul_nuw o _ e (λ a b. (refl, refl)) (λ e.
+    named w (codes "shlnsw") do_shl_nsw o _ e (λ a b. (refl, refl)) (λ e.
+    named w (codes "shlnuw") do_shl_nuw o _ e (λ a b. (refl, refl)) (λ e.
+    named w (codes "freeze") do_freeze o _ e (λ a. (refl, refl)) (λ e.
+    named w (codes "select") do_select o _ e (λ a b c. (refl, refl)) (λ e. absurd cc))))))))))
+
+longer_named : (w : List ℕ) (o : Opcode) → longer_of w ≡ Some o → Names w (shape_of o)
+longer_named w o e =
+    named w (codes "udivexact") do_udiv_exact o _ e (λ a b. (refl, refl)) (λ e.
+    named w (codes "sdivexact") do_sdiv_exact o _ e (λ a b. (refl, refl)) (λ e.
+    named w (codes "lshrexact") do_lshr_exact o _ e (λ a b. (refl, refl)) (λ e.
+    named w (codes "ashrexact") do_ashr_exact o _ e (λ a b. (refl, refl)) (λ e.
     named w (codes "sadd.with.overflow") do_sadd_with_overflow o _ e (λ a b. (refl, refl)) (λ e.
     named w (codes "uadd.with.overflow") do_uadd_with_overflow o _ e (λ a b. (refl, refl)) (λ e.
     named w (codes "ssub.with.overflow") do_ssub_with_overflow o _ e (λ a b. (refl, refl)) (λ e.
@@ -234,42 +252,20 @@ checked_named w o e =
     named w (codes "uadd.sat") do_uadd_sat o _ e (λ a b. (refl, refl)) (λ e.
     named w (codes "ssub.sat") do_ssub_sat o _ e (λ a b. (refl, refl)) (λ e.
     named w (codes "usub.sat") do_usub_sat o _ e (λ a b. (refl, refl)) (λ e.
-    named w (codes "extractvalue") do_extract_value o _ e (λ a b. (refl, refl)) (λ e. absurd cc)))))))))))
+    named w (codes "extractvalue") do_extract_value o _ e (λ a b. (refl, refl)) (λ e.
+    named w (codes "bitreverse") do_bit_reverse o _ e (λ a. (refl, refl)) (λ e. absurd cc))))))))))))))))
 
-unary_named : (w : List ℕ) (o : Opcode) → unary_of w ≡ Some o → Names w (shape_of o)
-unary_named w o e =
-    named w (codes "zext") do_zext o _ e (λ a. (refl, refl)) (λ e.
-    named w (codes "sext") do_sext o _ e (λ a. (refl, refl)) (λ e.
-    named w (codes "trunc") do_trunc o _ e (λ a. (refl, refl)) (λ e.
-    named w (codes "ctpop") do_ctpop o _ e (λ a. (refl, refl)) (λ e.
-    named w (codes "bswap") do_bswap o _ e (λ a. (refl, refl)) (λ e.
-    named w (codes "bitreverse") do_bit_reverse o _ e (λ a. (refl, refl)) (λ e.
-    named w (codes "cttz") do_cttz o _ e (λ a. (refl, refl)) (λ e.
-    named w (codes "ctlz") do_ctlz o _ e (λ a. (refl, refl)) (λ e.
-    named w (codes "freeze") do_freeze o _ e (λ a. (refl, refl)) (λ e. absurd cc)))))))))
+either_named : (b : Bool) (x y : Option Opcode) (w : List ℕ) (o : Opcode) → (if b then x else y) ≡ Some o → (x ≡ Some o → Names w (shape_of o)) → (y ≡ Some o → Names w (shape_of o)) → Names w (shape_of o)
+either_named true x y w o e f g = f e
+either_named false x y w o e f g = g e
 
-ternary_named : (w : List ℕ) (o : Opcode) → ternary_of w ≡ Some o → Names w (shape_of o)
-ternary_named w o e =
-    named w (codes "select") do_select o _ e (λ a b c. (refl, refl)) (λ e.
-    named w (codes "fshl") do_fshl o _ e (λ a b c. (refl, refl)) (λ e.
-    named w (codes "fshr") do_fshr o _ e (λ a b c. (refl, refl)) (λ e. absurd cc)))
-
-nullary_named : (w : List ℕ) (o : Opcode) → nullary_of w ≡ Some o → Names w (shape_of o)
-nullary_named w o e =
-    named w (codes "hole") do_hole o _ e (refl, refl) (λ e. absurd cc)
-
-first_named : (a b : Option Opcode) (w : List ℕ) (o : Opcode) → first_some a b ≡ Some o → (a ≡ Some o → Names w (shape_of o)) → (b ≡ Some o → Names w (shape_of o)) → Names w (shape_of o)
-first_named (Some x) b w o e f g = f e
-first_named None b w o e f g = g e
-
-opcode_fits : (w : List ℕ) (o : Opcode) → opcode_of w ≡ Some o → Names w (shape_of o)
-opcode_fits w o e =
-    first_named (arithmetic_of w) _ w o e (arithmetic_named w o) (λ e.
-    first_named (bitwise_of w) _ w o e (bitwise_named w o) (λ e.
-    first_named (comparison_of w) _ w o e (comparison_named w o) (λ e.
-    first_named (checked_of w) _ w o e (checked_named w o) (λ e.
-    first_named (unary_of w) _ w o e (unary_named w o) (λ e.
-    first_named (ternary_of w) _ w o e (ternary_named w o) (nullary_named w o))))))
+opcode_fits : (n : ℕ) (w : List ℕ) (o : Opcode) → opcode_of_length n w ≡ Some o → Names w (shape_of o)
+opcode_fits n w o e =
+    either_named (nat_eq n 2) (two_letters_of w) _ w o e (two_letters_named w o) (λ e.
+    either_named (nat_eq n 3) (three_letters_of w) _ w o e (three_letters_named w o) (λ e.
+    either_named (nat_eq n 4) (four_letters_of w) _ w o e (four_letters_named w o) (λ e.
+    either_named (nat_eq n 5) (five_letters_of w) _ w o e (five_letters_named w o) (λ e.
+    either_named (nat_eq n 6) (six_letters_of w) (longer_of w) w o e (six_letters_named w o) (longer_named w o)))))
 
 pub opcode_makes : (w : List ℕ) (xs : List Operand) (o : Opcode) (i : Instruction) → opcode_of w ≡ Some o → instruction_by o xs ≡ Some i → Makes w xs i
-opcode_makes w xs o i e m = shape_makes (shape_of o) w xs i (opcode_fits w o e) m
+opcode_makes w xs o i e m = shape_makes (shape_of o) w xs i (opcode_fits (length w) w o e) m

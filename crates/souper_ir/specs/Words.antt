@@ -1,57 +1,75 @@
 -- Definitions. The instruction that a word and operands make.
-use Rattle.std.specs.Prelude.{ℕ, List, [], ◌∷◌, Option, Some, None, codes, bytes_eq, if◌then◌else◌}
+use Rattle.std.specs.Prelude.{ℕ, List, [], ◌∷◌, length, Option, Some, None, codes, bytes_eq, nat_eq, if◌then◌else◌}
 use Rattle.souper_graph.specs.declared.ast.operands.Operand.{Operand}
 use Rattle.souper_graph.specs.declared.ast.instructions.Instruction.{Instruction}
 use Rattle.souper_graph.specs.declared.ast.instructions.Instruction.TheVariants.{Add, AddNsw, AddNuw, AddNw, Sub, SubNsw, SubNuw, SubNw, Mul, MulNsw, MulNuw, MulNw, Udiv, Sdiv, UdivExact, SdivExact, Urem, Srem, And, Or, Xor, Shl, ShlNsw, ShlNuw, ShlNw, Lshr, LshrExact, Ashr, AshrExact, Eq, Ne, Ult, Slt, Ule, Sle, SaddWithOverflow, UaddWithOverflow, SsubWithOverflow, UsubWithOverflow, SmulWithOverflow, UmulWithOverflow, SaddSat, UaddSat, SsubSat, UsubSat, ExtractValue, Zext, Sext, Trunc, Ctpop, Bswap, BitReverse, Cttz, Ctlz, Freeze, Select, Fshl, Fshr, Hole}
 use Rattle.souper_ir.specs.declared.parse.words.Opcode.{Opcode}
 use Rattle.souper_ir.specs.declared.parse.words.Opcode.TheVariants.{Add as do_add, AddNsw as do_add_nsw, AddNuw as do_add_nuw, AddNw as do_add_nw, Sub as do_sub, SubNsw as do_sub_nsw, SubNuw as do_sub_nuw, SubNw as do_sub_nw, Mul as do_mul, MulNsw as do_mul_nsw, MulNuw as do_mul_nuw, MulNw as do_mul_nw, Udiv as do_udiv, Sdiv as do_sdiv, UdivExact as do_udiv_exact, SdivExact as do_sdiv_exact, Urem as do_urem, Srem as do_srem, And as do_and, Or as do_or, Xor as do_xor, Shl as do_shl, ShlNsw as do_shl_nsw, ShlNuw as do_shl_nuw, ShlNw as do_shl_nw, Lshr as do_lshr, LshrExact as do_lshr_exact, Ashr as do_ashr, AshrExact as do_ashr_exact, Eq as do_eq, Ne as do_ne, Ult as do_ult, Slt as do_slt, Ule as do_ule, Sle as do_sle, SaddWithOverflow as do_sadd_with_overflow, UaddWithOverflow as do_uadd_with_overflow, SsubWithOverflow as do_ssub_with_overflow, UsubWithOverflow as do_usub_with_overflow, SmulWithOverflow as do_smul_with_overflow, UmulWithOverflow as do_umul_with_overflow, SaddSat as do_sadd_sat, UaddSat as do_uadd_sat, SsubSat as do_ssub_sat, UsubSat as do_usub_sat, ExtractValue as do_extract_value, Zext as do_zext, Sext as do_sext, Trunc as do_trunc, Ctpop as do_ctpop, Bswap as do_bswap, BitReverse as do_bit_reverse, Cttz as do_cttz, Ctlz as do_ctlz, Freeze as do_freeze, Select as do_select, Fshl as do_fshl, Fshr as do_fshr, Hole as do_hole}
 
-abbrev pub arithmetic_of : List ℕ → Option Opcode
-arithmetic_of w =
-    if bytes_eq w (codes "add") then Some do_add else (
-    if bytes_eq w (codes "addnsw") then Some do_add_nsw else (
-    if bytes_eq w (codes "addnuw") then Some do_add_nuw else (
-    if bytes_eq w (codes "addnw") then Some do_add_nw else (
-    if bytes_eq w (codes "sub") then Some do_sub else (
-    if bytes_eq w (codes "subnsw") then Some do_sub_nsw else (
-    if bytes_eq w (codes "subnuw") then Some do_sub_nuw else (
-    if bytes_eq w (codes "subnw") then Some do_sub_nw else (
-    if bytes_eq w (codes "mul") then Some do_mul else (
-    if bytes_eq w (codes "mulnsw") then Some do_mul_nsw else (
-    if bytes_eq w (codes "mulnuw") then Some do_mul_nuw else (
-    if bytes_eq w (codes "mulnw") then Some do_mul_nw else (
-    if bytes_eq w (codes "udiv") then Some do_udiv else (
-    if bytes_eq w (codes "sdiv") then Some do_sdiv else (
-    if bytes_eq w (codes "udivexact") then Some do_udiv_exact else (
-    if bytes_eq w (codes "sdivexact") then Some do_sdiv_exact else (
-    if bytes_eq w (codes "urem") then Some do_urem else (
-    if bytes_eq w (codes "srem") then Some do_srem else None)))))))))))))))))
-
-abbrev pub bitwise_of : List ℕ → Option Opcode
-bitwise_of w =
-    if bytes_eq w (codes "and") then Some do_and else (
+abbrev pub two_letters_of : List ℕ → Option Opcode
+two_letters_of w =
     if bytes_eq w (codes "or") then Some do_or else (
+    if bytes_eq w (codes "eq") then Some do_eq else (
+    if bytes_eq w (codes "ne") then Some do_ne else None))
+
+abbrev pub three_letters_of : List ℕ → Option Opcode
+three_letters_of w =
+    if bytes_eq w (codes "add") then Some do_add else (
+    if bytes_eq w (codes "sub") then Some do_sub else (
+    if bytes_eq w (codes "mul") then Some do_mul else (
+    if bytes_eq w (codes "and") then Some do_and else (
     if bytes_eq w (codes "xor") then Some do_xor else (
     if bytes_eq w (codes "shl") then Some do_shl else (
-    if bytes_eq w (codes "shlnsw") then Some do_shl_nsw else (
-    if bytes_eq w (codes "shlnuw") then Some do_shl_nuw else (
-    if bytes_eq w (codes "shlnw") then Some do_shl_nw else (
-    if bytes_eq w (codes "lshr") then Some do_lshr else (
-    if bytes_eq w (codes "lshrexact") then Some do_lshr_exact else (
-    if bytes_eq w (codes "ashr") then Some do_ashr else (
-    if bytes_eq w (codes "ashrexact") then Some do_ashr_exact else None))))))))))
-
-abbrev pub comparison_of : List ℕ → Option Opcode
-comparison_of w =
-    if bytes_eq w (codes "eq") then Some do_eq else (
-    if bytes_eq w (codes "ne") then Some do_ne else (
     if bytes_eq w (codes "ult") then Some do_ult else (
     if bytes_eq w (codes "slt") then Some do_slt else (
     if bytes_eq w (codes "ule") then Some do_ule else (
-    if bytes_eq w (codes "sle") then Some do_sle else None)))))
+    if bytes_eq w (codes "sle") then Some do_sle else None)))))))))
 
-abbrev pub checked_of : List ℕ → Option Opcode
-checked_of w =
+abbrev pub four_letters_of : List ℕ → Option Opcode
+four_letters_of w =
+    if bytes_eq w (codes "udiv") then Some do_udiv else (
+    if bytes_eq w (codes "sdiv") then Some do_sdiv else (
+    if bytes_eq w (codes "urem") then Some do_urem else (
+    if bytes_eq w (codes "srem") then Some do_srem else (
+    if bytes_eq w (codes "lshr") then Some do_lshr else (
+    if bytes_eq w (codes "ashr") then Some do_ashr else (
+    if bytes_eq w (codes "zext") then Some do_zext else (
+    if bytes_eq w (codes "sext") then Some do_sext else (
+    if bytes_eq w (codes "cttz") then Some do_cttz else (
+    if bytes_eq w (codes "ctlz") then Some do_ctlz else (
+    if bytes_eq w (codes "fshl") then Some do_fshl else (
+    if bytes_eq w (codes "fshr") then Some do_fshr else (
+    if bytes_eq w (codes "hole") then Some do_hole else None))))))))))))
+
+abbrev pub five_letters_of : List ℕ → Option Opcode
+five_letters_of w =
+    if bytes_eq w (codes "addnw") then Some do_add_nw else (
+    if bytes_eq w (codes "subnw") then Some do_sub_nw else (
+    if bytes_eq w (codes "mulnw") then Some do_mul_nw else (
+    if bytes_eq w (codes "shlnw") then Some do_shl_nw else (
+    if bytes_eq w (codes "trunc") then Some do_trunc else (
+    if bytes_eq w (codes "ctpop") then Some do_ctpop else (
+    if bytes_eq w (codes "bswap") then Some do_bswap else None))))))
+
+abbrev pub six_letters_of : List ℕ → Option Opcode
+six_letters_of w =
+    if bytes_eq w (codes "addnsw") then Some do_add_nsw else (
+    if bytes_eq w (codes "addnuw") then Some do_add_nuw else (
+    if bytes_eq w (codes "subnsw") then Some do_sub_nsw else (
+    if bytes_eq w (codes "subnuw") then Some do_sub_nuw else (
+    if bytes_eq w (codes "mulnsw") then Some do_mul_nsw else (
+    if bytes_eq w (codes "mulnuw") then Some do_mul_nuw else (
+    if bytes_eq w (codes "shlnsw") then Some do_shl_nsw else (
+    if bytes_eq w (codes "shlnuw") then Some do_shl_nuw else (
+    if bytes_eq w (codes "freeze") then Some do_freeze else (
+    if bytes_eq w (codes "select") then Some do_select else None)))))))))
+
+abbrev pub longer_of : List ℕ → Option Opcode
+longer_of w =
+    if bytes_eq w (codes "udivexact") then Some do_udiv_exact else (
+    if bytes_eq w (codes "sdivexact") then Some do_sdiv_exact else (
+    if bytes_eq w (codes "lshrexact") then Some do_lshr_exact else (
+    if bytes_eq w (codes "ashrexact") then Some do_ashr_exact else (
     if bytes_eq w (codes "sadd.with.overflow") then Some do_sadd_with_overflow else (
     if bytes_eq w (codes "uadd.with.overflow") then Some do_uadd_with_overflow else (
     if bytes_eq w (codes "ssub.with.overflow") then Some do_ssub_with_overflow else (
@@ -62,42 +80,23 @@ checked_of w =
     if bytes_eq w (codes "uadd.sat") then Some do_uadd_sat else (
     if bytes_eq w (codes "ssub.sat") then Some do_ssub_sat else (
     if bytes_eq w (codes "usub.sat") then Some do_usub_sat else (
-    if bytes_eq w (codes "extractvalue") then Some do_extract_value else None))))))))))
+    if bytes_eq w (codes "extractvalue") then Some do_extract_value else (
+    if bytes_eq w (codes "bitreverse") then Some do_bit_reverse else None)))))))))))))))
 
-abbrev pub unary_of : List ℕ → Option Opcode
-unary_of w =
-    if bytes_eq w (codes "zext") then Some do_zext else (
-    if bytes_eq w (codes "sext") then Some do_sext else (
-    if bytes_eq w (codes "trunc") then Some do_trunc else (
-    if bytes_eq w (codes "ctpop") then Some do_ctpop else (
-    if bytes_eq w (codes "bswap") then Some do_bswap else (
-    if bytes_eq w (codes "bitreverse") then Some do_bit_reverse else (
-    if bytes_eq w (codes "cttz") then Some do_cttz else (
-    if bytes_eq w (codes "ctlz") then Some do_ctlz else (
-    if bytes_eq w (codes "freeze") then Some do_freeze else None))))))))
-
-abbrev pub ternary_of : List ℕ → Option Opcode
-ternary_of w =
-    if bytes_eq w (codes "select") then Some do_select else (
-    if bytes_eq w (codes "fshl") then Some do_fshl else (
-    if bytes_eq w (codes "fshr") then Some do_fshr else None))
-
-abbrev pub nullary_of : List ℕ → Option Opcode
-nullary_of w =
-    if bytes_eq w (codes "hole") then Some do_hole else None
-
-abbrev pub first_some : {A : Type 0} → Option A → Option A → Option A
-first_some (Some x) o = Some x
-first_some None o = o
-
-abbrev pub other_of : List ℕ → Option Opcode
-other_of w = first_some (checked_of w) (first_some (unary_of w) (first_some (ternary_of w) (nullary_of w)))
+-- the opcode that a word of that length names
+abbrev pub opcode_of_length : ℕ → List ℕ → Option Opcode
+opcode_of_length n w =
+    if nat_eq n 2 then two_letters_of w else (
+    if nat_eq n 3 then three_letters_of w else (
+    if nat_eq n 4 then four_letters_of w else (
+    if nat_eq n 5 then five_letters_of w else (
+    if nat_eq n 6 then six_letters_of w else longer_of w))))
 
 -- the opcode that a word names
 abbrev pub opcode_of : List ℕ → Option Opcode
-opcode_of w = first_some (arithmetic_of w) (first_some (bitwise_of w) (first_some (comparison_of w) (other_of w)))
+opcode_of w = opcode_of_length (length w) w
 
--- an instruction by its operands, as many as it takes
+-- an instruction by its operands, if they are as many as it takes
 pub data Shape : Type 0 where
   no_operand : Instruction → Shape
   one_operand : (Operand → Instruction) → Shape
@@ -171,7 +170,7 @@ count_of_shape (one_operand f) = 1
 count_of_shape (two_operands f) = 2
 count_of_shape (three_operands f) = 3
 
--- how many operands an opcode takes
+-- the number of operands that an opcode takes
 abbrev pub operand_count : Opcode → ℕ
 operand_count o = count_of_shape (shape_of o)
 

@@ -1,7 +1,7 @@
 //! Laws of the definitions that the contracts of this crate cite. No function here does anything.
 //!
-//! What a type's `parse` promises is said in the ghost members of its `Parse`, and what its `peek` answers in those of its
-//! `Peek`. The laws of the types say what these members are.
+//! What a type's `parse` promises is said in the ghost members of its `Parse`, and what its `peek` returns in those of
+//! its `Peek`. The laws of the types say what these members are.
 
 ghost use Rattle.std.specs.Prelude.{◌≡◌, ◌↔◌, ℕ, List, [], Option, map, option_map, codes};
 ghost use Rattle.std.specs.List.{AllByRecursion};
@@ -150,7 +150,7 @@ pub fn law_of_pc()
     ensures starts { (t : Lexeme) → ⟦<Pc as Peek>⟧.starts t ≡ is_word (codes "pc") t }
 {}
 
-/// What parsing a path condition on one way into a block promises.
+/// What parsing a path condition on one predecessor of a block promises.
 pub fn law_of_block_pc()
     ensures view { (v : _) → ⟦<BlockPc as Parse>⟧.view v ≡ v }
     ensures spells { (s : Scope) (v : _) (ts : List Lexeme) → ⟦<BlockPc as Parse>⟧.spells s v ts ↔ block_pc_spells s v ts }
@@ -209,7 +209,7 @@ pub fn law_of_replacement()
     ensures leaves { (s : Scope) → ⟦<Replacement as Parse>⟧.leaves s ≡ [] }
 {}
 
-/// What parsing a value or none promises.
+/// What parsing an optional value promises.
 pub fn law_of_option<P: Peek>()
     ensures view { (o : _) → ⟦<Option<P> as Parse>⟧.view o ≡ option_map P.view o }
     ensures spells { (s : Scope) (o : Option P.Plain) (ts : List Lexeme) → ⟦<Option<P> as Parse>⟧.spells s o ts ↔ OptionSpells (P.spells s) o ts }
@@ -217,7 +217,7 @@ pub fn law_of_option<P: Peek>()
     ensures leaves { (s : Scope) → ⟦<Option<P> as Parse>⟧.leaves s ≡ s }
 {}
 
-/// What parsing values in a row promises.
+/// What parsing a sequence of values promises.
 pub fn law_of_vec<P: Peek + Drop>()
     ensures view { (v : _) → ⟦<Vec<P> as Parse>⟧.view v ≡ map P.view v.items }
     ensures spells { (s : Scope) (vs : List P.Plain) (ts : List Lexeme) → ⟦<Vec<P> as Parse>⟧.spells s vs ts ↔ Members (P.spells s) P.continues vs ts }

@@ -21,7 +21,7 @@ pub enum Token<'a> {
     /// `%` and one or more name characters, all of it.
     ValName(&'a str),
 
-    /// What stands behind `knownBits=`: one or more of `0`, `1`, `x`.
+    /// What is after `knownBits=`: one or more of `0`, `1`, `x`.
     KnownBits(&'a str),
 
     /// A digit or `-`, and digits.
@@ -46,19 +46,19 @@ pub enum Token<'a> {
     OpenBracket,
 }
 
-/// Why no token stands at an offset.
+/// Why there is no token at an offset.
 #[derive(Clone, Copy, Debug, PartialEq, Eq)]
 pub enum FaultKind {
-    /// No name character behind a `%`.
+    /// No name character after a `%`.
     ExpectedValueName,
 
-    /// This character behind `knownBits`.
+    /// This character after `knownBits`.
     ExpectedEquals(char),
 
-    /// The end of the text behind `knownBits`.
+    /// The end of the text after `knownBits`.
     UnexpectedEnd,
 
-    /// No bit behind `knownBits=`.
+    /// No bit after `knownBits=`.
     ExpectedBits,
 
     /// A character that begins no token.
@@ -77,7 +77,7 @@ impl fmt::Display for FaultKind {
     }
 }
 
-/// Where no token stands, in bytes from the source's first, and why.
+/// Where there is no token, in bytes from the source's first byte, and why.
 #[derive(Clone, Copy, Debug, PartialEq, Eq)]
 pub struct Fault {
     pub offset: usize,
@@ -108,7 +108,7 @@ fn is_in(class: Class, b: u8) -> bool
     }
 }
 
-// How many bytes at the front are of the class.
+// The length in bytes of the longest prefix whose bytes are all of the class.
 #[tactic(auto, using(crate::proofs::TokenText::class_boundary))]
 fn front_len(text: &str, class: Class) -> usize
     ensures len { result ≡ prefix_len (is_in class) text.now }
@@ -122,7 +122,7 @@ fn front_len(text: &str, class: Class) -> usize
     n
 }
 
-// What stands after a comment whose `;` has been taken: the newline, or nothing.
+// What is left after a comment whose `;` has been taken: the newline and what follows it, or nothing.
 #[tactic(auto, using(crate::proofs::TokenGap::remark_more, crate::proofs::TokenGap::remark_all))]
 fn after_comment(text: &str) -> &str
     ensures rest { after_gap result.now ≡ after_from remark text.now }
@@ -136,7 +136,7 @@ fn after_comment(text: &str) -> &str
     &text[n..]
 }
 
-// How many bytes the white space character has that the text begins with, or 0.
+// The length in bytes of the white space character that the text begins with, or 0.
 fn space_len(text: &str) -> usize
     ensures len { result ≡ space_len text.now }
     ensures boundary { IsCharBoundary text.now result }
@@ -147,7 +147,7 @@ fn space_len(text: &str) -> usize
     }
 }
 
-// What stands after the gap.
+// What is left after the gap.
 #[tactic(auto, using(crate::proofs::TokenGap::gap_past_blank, crate::proofs::TokenGap::gap_past_control, crate::proofs::TokenGap::gap_past_remark, crate::proofs::TokenGap::gap_past_space, crate::proofs::TokenGap::gap_stops_below, crate::proofs::TokenGap::gap_stops_above, crate::proofs::TokenGap::gap_stops_wide, crate::proofs::TokenGap::gap_nil))]
 fn after_gap(text: &str) -> &str
     ensures rest { result.now ≡ after_gap text.now }
@@ -171,7 +171,7 @@ fn after_gap(text: &str) -> &str
     }
 }
 
-// What stands behind an ASCII character.
+// What is left after the first character, which is ASCII.
 #[tactic(auto, using(crate::proofs::TokenText::boundary_after_first))]
 fn after_first(text: &str) -> &str
     requires { (0 < length text.now) × (slice_index text.now 0 < 128) }
@@ -189,7 +189,7 @@ fn first_char(text: &str) -> char
     }
 }
 
-// A token's first byte with the bytes of the class behind it, and the rest.
+// The longest run of a token's first byte and bytes of the class after it, and the rest.
 fn split_run(text: &str, class: Class) -> (&str, &str)
     requires { (0 < length text.now) × (slice_index text.now 0 < 128) }
     ensures run { result.0.now ≡ run_of (is_in class) (slice_index text.now 0) (drop 1 text.now) }
@@ -279,7 +279,7 @@ fn begins_int(b: u8) -> bool
     b.is_ascii_digit() || b == b'-'
 }
 
-// A token of more characters, and what stands after it.
+// A token of more than one character, and what is left after it.
 #[tactic(auto, unfolding(crate::specs::TokenReading::longer_at))]
 fn longer_at(offset: usize, text: &str) -> Result<(Token<'_>, &str), Fault>
     requires some { 0 < length text.now }
@@ -306,7 +306,7 @@ fn longer_at(offset: usize, text: &str) -> Result<(Token<'_>, &str), Fault>
     })
 }
 
-// The token that the text begins with, and what stands after it.
+// The token that the text begins with, and what is left after it.
 #[tactic(auto, unfolding(crate::specs::TokenReading::front_of))]
 fn token_at(offset: usize, text: &str) -> Result<(Token<'_>, &str), Fault>
     requires some { 0 < length text.now }

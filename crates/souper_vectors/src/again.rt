@@ -1,10 +1,8 @@
 //! What is read is well formed and is copied whole, and a formatted text is formatted as itself.
-use crate::grammar::{ones, words};
-use crate::orders::chain;
 use crate::sources::{
-    ATTRIBUTES, BLOCKS, GAPS, PAIRS, PRINTED_PAIRS, RESULTS, RIGHT_HAND_SIDES, VALUES,
+    ATTRIBUTES, BLOCKS, GAPS, PAIRS, PRINTED_PAIRS, RESULTS, RIGHT_HAND_SIDES, VALUES, chain, ones,
+    thousand, words,
 };
-use crate::texts::thousand;
 use souper_format::command::Kind;
 use souper_format::items::{Items, format_text, read_items};
 use souper_ir::ast::{LeftHandSide, Replacement, RightHandSide};
@@ -60,7 +58,7 @@ fn are_kept(rt: &impl Abort, items: &Items) -> Result<(), Fail> {
     Ok(())
 }
 
-// The source is read, and what is formatted is formatted as itself.
+// The source is read, and its formatted text is formatted as itself.
 fn formats_again(rt: &impl Abort, alloc: Global, kind: Kind, source: &str) -> Result<(), Fail> {
     let items = read_items(alloc, kind, source, None)?;
     are_kept(rt, &items)?;

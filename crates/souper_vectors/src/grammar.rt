@@ -1,8 +1,9 @@
 //! Texts of the three kinds that are read and printed.
+use crate::sources::{ones, words};
 use souper_format::command::Kind;
 use souper_format::items::{Items, format_text, read_items};
 use souper_ir::ast::{LeftHandSide, Replacement, RightHandSide};
-use std::alloc::{AllocError, Global};
+use std::alloc::Global;
 use std::process::Abort;
 use std::test::Fail;
 
@@ -267,80 +268,6 @@ fn comma_may_stand_in_cand(rt: HostRuntime) -> Result<(), Fail> {
                   %0 = var\n%1 = and %0, %0\n    cand %1 %0\n";
     reads(&rt, alloc, Kind::Rep, source, &[first, second])?;
     reads(&rt, alloc, Kind::Rep, "cand 1:i8,-2", &["cand 1:i8 -2\n"])
-}
-
-/// The words, each with how many operands it has.
-pub fn words() -> [(&'static str, usize); 59] {
-    [
-        ("add", 2),
-        ("addnsw", 2),
-        ("addnuw", 2),
-        ("addnw", 2),
-        ("sub", 2),
-        ("subnsw", 2),
-        ("subnuw", 2),
-        ("subnw", 2),
-        ("mul", 2),
-        ("mulnsw", 2),
-        ("mulnuw", 2),
-        ("mulnw", 2),
-        ("udiv", 2),
-        ("sdiv", 2),
-        ("udivexact", 2),
-        ("sdivexact", 2),
-        ("urem", 2),
-        ("srem", 2),
-        ("and", 2),
-        ("or", 2),
-        ("xor", 2),
-        ("shl", 2),
-        ("shlnsw", 2),
-        ("shlnuw", 2),
-        ("shlnw", 2),
-        ("lshr", 2),
-        ("lshrexact", 2),
-        ("ashr", 2),
-        ("ashrexact", 2),
-        ("select", 3),
-        ("zext", 1),
-        ("sext", 1),
-        ("trunc", 1),
-        ("eq", 2),
-        ("ne", 2),
-        ("ult", 2),
-        ("slt", 2),
-        ("ule", 2),
-        ("sle", 2),
-        ("ctpop", 1),
-        ("bswap", 1),
-        ("bitreverse", 1),
-        ("cttz", 1),
-        ("ctlz", 1),
-        ("fshl", 3),
-        ("fshr", 3),
-        ("sadd.with.overflow", 2),
-        ("uadd.with.overflow", 2),
-        ("ssub.with.overflow", 2),
-        ("usub.with.overflow", 2),
-        ("smul.with.overflow", 2),
-        ("umul.with.overflow", 2),
-        ("sadd.sat", 2),
-        ("uadd.sat", 2),
-        ("ssub.sat", 2),
-        ("usub.sat", 2),
-        ("extractvalue", 2),
-        ("hole", 0),
-        ("freeze", 1),
-    ]
-}
-
-/// So many operands, with commas between them.
-pub fn ones(alloc: Global, count: usize) -> Result<String, AllocError> {
-    let mut operands = String::new(alloc);
-    for index in 0..count {
-        operands.push_str(if index == 0 { " 1" } else { ", 1" })?;
-    }
-    Ok(operands)
 }
 
 #[test]

@@ -1,4 +1,5 @@
 //! Printed orders of items that are read.
+use crate::sources::chain;
 use souper_format::command::Kind;
 use souper_format::items::{Items, read_items};
 use souper_format::same::same;
@@ -6,7 +7,7 @@ use souper_ir::parse::{
     parse_left_hand_sides_str, parse_replacements_str, parse_right_hand_sides_str,
 };
 use souper_ir::stringify::Order;
-use std::alloc::{AllocError, Global};
+use std::alloc::Global;
 use std::process::Abort;
 use std::test::Fail;
 
@@ -74,20 +75,7 @@ fn orders_of_replacements_are_counted(rt: HostRuntime) -> Result<(), Fail> {
     Ok(())
 }
 
-/// The text of a variable, and of so many doublings of the one before.
-pub fn chain(alloc: Global, doublings: u32) -> Result<String, AllocError> {
-    let mut text = String::from_str(alloc, "%0 = var\n")?;
-    for k in 1..=doublings {
-        let before = k - 1;
-        let line = format!(in alloc; "%{k} = add %{before}, %{before}\n")?;
-        text.push_str(line.as_str())?;
-    }
-    let line = format!(in alloc; "infer %{doublings}\n")?;
-    text.push_str(line.as_str())?;
-    Ok(text)
-}
-
-// The chain is read as one item that prints itself, has so many statements and turns, and is the same as itself.
+// The chain is read as one item that prints itself, has this number of statements and turns, and is the same as itself.
 fn is_kept(
     rt: &impl Abort,
     alloc: Global,

@@ -1,8 +1,9 @@
 //! Texts that are read, and the texts of their items.
+use crate::sources::thousand;
 use souper_format::command::Kind;
 use souper_format::items::{format_text, read_items};
 use souper_ir::parse::parse_left_hand_sides_str;
-use std::alloc::{AllocError, Global};
+use std::alloc::Global;
 use std::process::Abort;
 use std::test::Fail;
 
@@ -92,16 +93,6 @@ fn names_are_longest(rt: HostRuntime) -> Result<(), Fail> {
     Ok(())
 }
 
-/// A thousand definitions, from `%0` to `%999`, a line each.
-pub fn thousand(alloc: Global) -> Result<String, AllocError> {
-    let mut lines = String::new(alloc);
-    for k in 0..1000u32 {
-        let line = format!(in alloc; "%{k} = var\n")?;
-        lines.push_str(line.as_str())?;
-    }
-    Ok(lines)
-}
-
 #[test]
 fn thousand_statements_are_read(rt: HostRuntime) -> Result<(), Fail> {
     let mut source = thousand(rt.alloc())?;
@@ -123,14 +114,14 @@ fn second_definition_among_a_thousand_is_refused(rt: HostRuntime) -> Result<(), 
         .ok_or("no refusal")?;
     assert_eq!(rt; error.offset(), Some(10890));
     let shown = error.to_string(rt.alloc())?;
-    // The first byte of a line stands one past the text of the line before.
+    // The first byte of a line is one past the text of the line before.
     let want =
         "unknown:1000:11: cannot redefine '%500'\n     |\n1000 | %999 = var\n     |           ^";
     assert_eq!(rt; shown.as_str(), want);
     Ok(())
 }
 
-// What is shown for `{:?}` is not promised, but that something is.
+// What is shown for `{:?}` is not specified, but that something is.
 #[test]
 fn items_have_a_debug_text(rt: HostRuntime) -> Result<(), Fail> {
     let lhs =

@@ -1,4 +1,4 @@
--- Lemmas. The text of a node that is carried to other positions is the same, where the names there are the same.
+-- Lemmas. The text of a node that is carried to other positions is the same, if the names there are the same.
 use Rattle.std.proofs.Common.{◌≡◌, ℕ, List, [], ◌∷◌, ◌++◌, map, refl, sym, ap, ◌∙◌, inl, inr}
 use Rattle.std.specs.Prelude.{codes, flat_map, decimal}
 use Rattle.souper_graph.specs.declared.ast.operands.«Type».{«Type» as Ty}

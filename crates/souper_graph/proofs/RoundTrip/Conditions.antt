@@ -1,4 +1,5 @@
--- Lemmas. The line of each path condition is in the canonical text, in order; an item in another arena order is the same graph.
+-- Lemmas. The line of each path condition is in the canonical text, in order; an item in another arena order is the
+-- same graph.
 use Rattle.std.proofs.Common.{◌≡◌, ℕ, suc, ◌<◌, ◌⊎◌, inl, inr, Bool, true, false, cond, List, [], ◌∷◌, ◌++◌, length, map, take, drop, Option, Some, None, refl, sym, ap, ◌∙◌, subst, arith, append_assoc, append-nil}
 use Rattle.std.specs.Prelude.{flat_map, filter, codes, slice_get}
 use Rattle.std.specs.List.{AllByRecursion}

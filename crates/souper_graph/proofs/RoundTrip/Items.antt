@@ -1,4 +1,5 @@
--- Lemmas. An item whose statements are all closed and named apart is spelled by the tokens of its listed parts, which are sound.
+-- Lemmas. An item whose statements are all closed and named apart is spelled by the tokens of its listed parts, which
+-- are sound.
 use Rattle.std.proofs.Common.{◌≡◌, ℕ, ◌<◌, ◌≤◌, List, [], ◌∷◌, ◌++◌, length, take, drop, Option, Some, None, refl, sym, ap, ◌∙◌, subst, arith, append_assoc, append-nil, length-take, inl, inr}
 use Rattle.std.proofs.lemmas.List.{take-append-drop}
 use Rattle.std.specs.List.{AllByRecursion}

@@ -53,7 +53,7 @@ place-left (x ∷ xs) ys i h = elim (cases_eq x i) [
   ]
 ]
 
--- a root that is walked first stands before the end of the lead
+-- a root that is walked first comes before the end of the lead
 pub first_leads : (a : Item) (i : ℕ) → Has (first_walks a) i → place (printed_order a) i < lead_of a
 first_leads a i h =
     let r = order-prefix a.statements (first_walks a) (map position_of (last_roots a.ending)) in

@@ -121,7 +121,8 @@ parts_of_cand ss c = word (ident (codes "cand")) ∷ one_space ∷ (parts_of_ope
 abbrev pub parts_of_result : List PlainStatement → Operand → List Part
 parts_of_result ss r = word (ident (codes "result")) ∷ one_space ∷ parts_of_operand ss r
 
--- the parts of the statements as they are listed, of which the first `lead` are before an infer line that a result follows
+-- the parts of the statements as they are listed, of which the first `lead` are before an infer line that a result
+-- follows
 abbrev pub listed_parts : List PlainStatement → Ending → ℕ → List Part
 listed_parts ss (inferred i) lead = parts_of_lines ss ss ++ parts_of_infer ss i
 listed_parts ss (resulting r) lead = parts_of_lines ss ss ++ parts_of_result ss r

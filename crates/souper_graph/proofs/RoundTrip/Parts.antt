@@ -1,4 +1,5 @@
--- A printed text in parts: tokens, and the spaces and newlines between them. A sound list of parts is a text of its tokens.
+-- A printed text in parts: tokens, and the spaces and newlines between them. A sound list of parts is a text of its
+-- tokens.
 use Rattle.std.proofs.Common.{◌≡◌, ℕ, zero, suc, ◌+◌, Bool, true, false, ◌||◌, List, [], ◌∷◌, ◌++◌, length, refl, sym, ap, ◌∙◌, subst, arith, append_assoc, append-nil, length-append, map}
 use Rattle.std.specs.Prelude.{flat_map}
 use Rattle.std.specs.List.{AllByRecursion}
@@ -30,7 +31,7 @@ part_words newline = []
 abbrev pub words_of : List Part → List Lexeme
 words_of ps = flat_map part_words ps
 
--- the tokens at their offsets, where the parts begin at offset n
+-- the tokens at their offsets, if the parts begin at offset n
 abbrev pub placed : ℕ → List Part → List (ℕ × Lexeme)
 placed n [] = []
 placed n (word t ∷ ps) = (n, t) ∷ placed (n + length (spelling t)) ps
@@ -123,7 +124,7 @@ no_gap = ([], tt, refl)
 
 -- ---- parts
 
--- what is after the last token, where g is before the parts
+-- what is after the last token, if g is before the parts
 abbrev last_gap : List ℕ → List Part → List ℕ
 last_gap g [] = g
 last_gap g (word t ∷ ps) = last_gap [] ps

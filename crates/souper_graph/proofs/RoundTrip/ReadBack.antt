@@ -1,6 +1,6 @@
 -- Lemmas. The canonical text of a well-formed item lists the statements of its renumbered item, and reads back as it.
 use Rattle.std.proofs.Common.{◌≡◌, ℕ, ◌<◌, List, [], ◌∷◌, ◌++◌, length, map, take, drop, get_or, Option, Some, None, refl, sym, ap, ◌∙◌, subst, arith, inl, inr, append-nil}
-use Rattle.std.specs.Prelude.{flat_map, codes, slice_get, Result, Ok, Err, IfOk}
+use Rattle.std.specs.Prelude.{flat_map, codes, slice_get}
 use Rattle.std.specs.List.{AllByRecursion}
 use Rattle.std.proofs.lemmas.List.{take-map, drop-map, take-append-drop, length-map}
 use Rattle.std.proofs.lemmas.Option.{slice_get_within}
@@ -189,14 +189,9 @@ pub reads-back : (k : ItemType) (a : Item) (text : List ℕ) → IsWellFormedOf 
 reads-back k a text h e =
     subst (λ (bs : List ℕ). TextSpells k bs (renumbered a ∷ [])) (append-nil (text_of a ++ 10 ∷ []) ∙ ap (λ (l : List ℕ). l ++ 10 ∷ []) (sym e)) (texts-read-back k (a ∷ []) (h, tt))
 
--- what a call returns that writes the lines in an order, which is the printed order where uses lie below their users
-pub order-reads-back : {T E : Type 0} (k : ItemType) (a : Item) (bytes : T → List ℕ) (r : Result T E) (ids : List ℕ) (lead : ℕ) → IsEndingOf k a.ending
-    → IfOk r (λ (t : T). bytes t ≡ text_in_order a.statements a.ending ids lead) → (UsesBelow a → ids ≡ printed_order a) → (UsesBelow a → lead ≡ lead_of a)
-    → WellFormed a → IfOk r (λ (t : T). ReadsBack k a (bytes t))
-order-reads-back k a bytes (Ok t) ids lead i h p l w =
-    let below = well_formed_below a w in
-    reads-back k a (bytes t) (w, i) (h ∙ (λ j. text_in_order a.statements a.ending (p below j) (l below j)))
-order-reads-back k a bytes (Err e) ids lead i h p l w = tt
+-- a text with nothing before it, which is the canonical one if uses lie below their users
+pub canonical-reads-back : (k : ItemType) (a : Item) (before text : List ℕ) → IsEndingOf k a.ending → before ≡ [] → (UsesBelow a → text ≡ before ++ text_of a) → WellFormed a → ReadsBack k a text
+canonical-reads-back k a before text i e h w = reads-back k a text (w, i) (h (well_formed_below a w) ∙ ap (λ (l : List ℕ). l ++ text_of a) e)
 
 pub replacement-ending : (r : Replacement) → IsEndingOf replacement (view_replacement r).ending
 replacement-ending (LhsRhs ss l r) = tt

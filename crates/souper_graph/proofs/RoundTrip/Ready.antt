@@ -1,4 +1,5 @@
--- When a node can be written in a scope: what it is must fit, and each position that it names has a name that the scope knows.
+-- When a node can be written in a scope: it is valid by itself, and each position that it names has a name that the
+-- scope knows.
 use Rattle.std.proofs.Common.{◌≡◌, ℕ, ◌<◌, List, [], ◌∷◌, ◌++◌, length, map, Option, Some, None, inl, inr}
 use Rattle.std.specs.List.{AllByRecursion}
 use Rattle.souper_graph.specs.declared.ast.operands.«Type».{«Type» as Ty}
@@ -73,7 +74,7 @@ known_after s ss u us k v h = k v (inr h)
 pub known_here : (s : Scope) (ss : List PlainStatement) (u : Use) (us : List Use) → AreKnown s ss (u ∷ us) → Known s ss u
 known_here s ss u us k = k u (inl (λ i. u))
 
--- statements one after the other, each in the scope of those before it
+-- statements in sequence, each in the scope of those before it
 abbrev pub AreReady : Scope → List PlainStatement → List PlainStatement → Type 0
 AreReady s ss [] = Unit {0}
 AreReady s ss (v ∷ vs) = ReadyStatement s ss v × AreReady (s ++ v ∷ []) ss vs

@@ -1,4 +1,5 @@
--- Lemmas. In an item whose statements are all closed and named apart, each statement can be written in the scope of those before it.
+-- Lemmas. In an item whose statements are all closed and named apart, each statement can be written in the scope of
+-- those before it.
 use Rattle.std.proofs.Common.{◌≡◌, ℕ, zero, suc, ◌+◌, ◌<◌, ◌≤◌, Bool, true, false, List, [], ◌∷◌, ◌++◌, length, Option, Some, None, refl, sym, ap, ◌∙◌, subst, arith, append_assoc, length-append}
 use Rattle.std.specs.Prelude.{bytes_eq, option_map, slice_get}
 use Rattle.std.proofs.lemmas.Option.{slice_get_within}

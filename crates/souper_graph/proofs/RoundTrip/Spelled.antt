@@ -181,7 +181,7 @@ module _ (s : Scope) (ss : List PlainStatement) where
   pub result_spelled : (r : Operand) → ReadyOperand s ss r → result_spells s r (words_of (parts_of_result ss r))
   result_spelled r h = (words_of (parts_of_operand ss r), refl, operand_spelled r h)
 
--- statements one after the other
+-- statements in sequence
 pub lines_spelled : (s : Scope) (ss us : List PlainStatement) → AreReady s ss us → Statements s us (words_of (parts_of_lines ss us))
 lines_spelled s ss [] h = refl
 lines_spelled s ss (u ∷ us) h = record {

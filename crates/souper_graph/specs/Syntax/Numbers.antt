@@ -17,7 +17,7 @@ is_numeral ds = nat_lt 0 (length ds) && are_digits ds
 abbrev pub is_within : ℤ → Bool
 is_within z = int_le (neg_ℤ (pos (2 ^ 127))) z && int_le z (pos (2 ^ 127 - 1))
 
--- The number of a word of digits, with `-` before them or nothing. No token of digits begins with `+`.
+-- The number of a word of digits, perhaps with `-` before them. No token of digits begins with `+`.
 abbrev pub number_of : List ℕ → Option ℤ
 number_of w = if (is_numeral (without_leading_sign w) && is_within (signed_digits_value 10 w)) then Some (signed_digits_value 10 w) else None
 
@@ -25,7 +25,7 @@ abbrev pub below : ℕ → ℤ → Option ℕ
 below limit (pos n) = if nat_lt n limit then Some n else None
 below limit (negsuc n) = None
 
--- the number of a word where it is from 0 to below the limit: `-0` is 0
+-- the number of a word, if it is from 0 to below the limit: `-0` is 0
 abbrev pub count_of : ℕ → List ℕ → Option ℕ
 count_of limit w = number_of w >>= below limit
 
@@ -45,7 +45,7 @@ bit_of c = if c == 48 then Some false else (if c == 49 then Some true else None)
 abbrev pub known_bit_of : ℕ → Option (Option Bool)
 known_bit_of c = if c == 120 then Some None else (bit_of c >>= λ b. Some (Some b))
 
--- what each character stands for, where each stands for something
+-- what the characters mean, if each means something
 abbrev pub all_of : {A : Type 0} → (ℕ → Option A) → List ℕ → Option (List A)
 all_of one [] = Some []
 all_of one (c ∷ cs) = one c >>= λ b. (all_of one cs >>= λ bs. Some (b ∷ bs))
@@ -54,7 +54,7 @@ abbrev pub listed : {A : Type 0} → List A → Option (List A)
 listed [] = None
 listed (b ∷ bs) = Some (b ∷ bs)
 
--- the entries of a pattern, one at least
+-- the entries of a pattern, in order; at least one
 abbrev pub bits_of : List ℕ → Option (List Bool)
 bits_of w = all_of bit_of w >>= listed
 

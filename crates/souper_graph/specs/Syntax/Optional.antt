@@ -1,4 +1,4 @@
--- Definitions. One step after another, each of which may give nothing.
+-- Definitions. Steps in sequence, each of which may return nothing.
 use Rattle.std.specs.Prelude.{Option, Some, None}
 
 infixl 10 ◌>>=◌

@@ -1,4 +1,4 @@
--- Definitions. Which tokens spell a value, made from the finished value. Tokens stand here without their offsets.
+-- Definitions. Which tokens spell a value, defined from the finished value. Tokens have no offsets here.
 use Rattle.std.specs.Prelude.{◌≡◌, ◌⊎◌, ℕ, ℤ, suc, ◌<◌, ◌^◌, List, [], ◌∷◌, ◌++◌, map, length, Option, Some, None, codes, bytes_eq, if◌then◌else◌, option_map}
 use Rattle.souper_graph.specs.declared.ast.operands.«Type».{«Type» as Ty}
 use Rattle.souper_graph.specs.declared.ast.operands.Constant.{Constant}
@@ -22,7 +22,7 @@ kinds ts = map (λ t. t.1) ts
 abbrev pub Scope : Type 0
 Scope = List PlainStatement
 
--- how many predecessors a block has; of no other right side
+-- a block's number of predecessors; none for any other right side
 abbrev pub ways_of : PlainRhs → Option ℕ
 ways_of var = None
 ways_of (block b) = Some b.predecessors
@@ -31,7 +31,7 @@ ways_of reserved_inst = None
 ways_of reserved_const = None
 ways_of (instruction i) = None
 
--- the position of the assignment of a name, and the number of predecessors of its block, where the first statement is at k
+-- the position of the assignment of a name, and the number of predecessors of its block, if the first statement is at k
 abbrev pub entry_from : ℕ → Scope → List ℕ → Option (ℕ × Option ℕ)
 entry_from k [] n = None
 entry_from k (assigned a ∷ ss) n = if bytes_eq a.name n then Some (k, ways_of a.value) else entry_from (suc k) ss n
@@ -57,7 +57,7 @@ pub record Joined (P Q : List Lexeme → Type 0) (ts : List Lexeme) : Type 0 whe
 abbrev pub type_spells : Ty → List Lexeme → Type 0
 type_spells t ts = (w : List ℕ) × (ts ≡ ident w ∷ []) × (width_of w ≡ Some t.width)
 
--- `:` and the type, where there is one
+-- `:` and the type, if there is one
 abbrev pub optional_type_spells : Option Ty → List Lexeme → Type 0
 optional_type_spells None ts = ts ≡ []
 optional_type_spells (Some t) ts = (rest : List Lexeme) × (ts ≡ colon ∷ rest) × type_spells t rest
@@ -138,7 +138,7 @@ abbrev pub root_attribute_spells : PlainRootAttribute → List Lexeme → Type 0
 root_attribute_spells (demanded_bits bits) ts = (ts ≡ open_paren ∷ ident (codes "demandedBits") ∷ equals ∷ int (map text_of_bit bits) ∷ close_paren ∷ []) × (0 < length bits)
 root_attribute_spells harvested_from_use ts = ts ≡ word_attribute (codes "harvestedFromUse")
 
--- one after the other
+-- in sequence
 abbrev pub attributes_spell : List PlainAttribute → List Lexeme → Type 0
 attributes_spell [] ts = ts ≡ []
 attributes_spell (x ∷ xs) ts = Joined (attribute_spells x) (attributes_spell xs) ts
@@ -209,7 +209,7 @@ result_spells s r ts = (rest : List Lexeme) × (ts ≡ ident (codes "result") �
 
 -- ---- items
 
--- statements one after the other, each in the scope of those before it
+-- statements in sequence, each in the scope of those before it
 abbrev pub Statements : Scope → List PlainStatement → List Lexeme → Type 0
 Statements s [] ts = ts ≡ []
 Statements s (v ∷ vs) ts = Joined (statement_spells s v) (Statements (s ++ v ∷ []) vs) ts
@@ -264,7 +264,8 @@ tail_spells replacement s (new, resulting r) ts = ⊥
 tail_spells replacement s (new, replaced i r) ts = replaced_spells s new i r ts
 tail_spells replacement s (new, candidate c) ts = (new ≡ []) × cand_spells s c ts
 
--- the item has the statements of the scope, and the tokens are its further statements, its last lines, and in a replacement statements between these
+-- the item has the statements of the scope, and the tokens are its further statements, its last lines, and in a
+-- replacement statements between these
 pub record item_spells_after (k : ItemType) (s : Scope) (a : Item) (ts : List Lexeme) : Type 0 where
   pub first : List PlainStatement
   pub last : List PlainStatement
@@ -275,11 +276,11 @@ pub record item_spells_after (k : ItemType) (s : Scope) (a : Item) (ts : List Le
   pub head_spelled : Statements s first head
   pub tail_spelled : tail_spells k (s ++ first) (last, a.ending) tail
 
--- an item is spelled where no name is taken
+-- an item is spelled in the empty scope
 abbrev pub item_spells : ItemType → Item → List Lexeme → Type 0
 item_spells k a ts = item_spells_after k [] a ts
 
--- items of one type, one after the other
+-- items of one type, in sequence
 abbrev pub list_spells : ItemType → List Item → List Lexeme → Type 0
 list_spells k [] ts = ts ≡ []
 list_spells k (a ∷ rest) ts = Joined (item_spells k a) (list_spells k rest) ts
@@ -292,6 +293,6 @@ TextSpells k bs items = (ts : List (ℕ × Lexeme)) × IsTextOf bs ts × list_sp
 abbrev pub SpellsNone : ItemType → List ℕ → Type 0
 SpellsNone k bs = (items : List Item) → TextSpells k bs items → ⊥
 
--- a text spells one list of items of a type at most
+-- a text spells at most one list of items of a type
 abbrev pub OneList : Type 0
 OneList = (k : ItemType) (bs : List ℕ) (a b : List Item) → TextSpells k bs a → TextSpells k bs b → a ≡ b

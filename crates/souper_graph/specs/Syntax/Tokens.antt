@@ -17,14 +17,14 @@ pub data Lexeme : Type 0 where
   close_paren : Lexeme
   open_bracket : Lexeme
 
--- the white space characters: tab to carriage return, the blank, and 18 more
+-- the white space characters: tab to carriage return, the space, and 18 more
 abbrev pub white_space : List ℕ
 white_space =
     0x09 ∷ 0x0a ∷ 0x0b ∷ 0x0c ∷ 0x0d ∷ 0x20 ∷ 0x85 ∷ 0xa0 ∷ 0x1680
     ∷ 0x2000 ∷ 0x2001 ∷ 0x2002 ∷ 0x2003 ∷ 0x2004 ∷ 0x2005 ∷ 0x2006 ∷ 0x2007 ∷ 0x2008 ∷ 0x2009 ∷ 0x200a
     ∷ 0x2028 ∷ 0x2029 ∷ 0x202f ∷ 0x205f ∷ 0x3000 ∷ []
 
--- std's test of white space passes exactly these
+-- std's test of white space passes these and no others
 abbrev pub IsWhiteSpaceListed : Type 0
 IsWhiteSpaceListed = (c : ℕ) → (is_whitespace c ≡ true) ↔ Contains white_space c
 
@@ -73,7 +73,7 @@ IsLexeme open_paren = Unit {0}
 IsLexeme close_paren = Unit {0}
 IsLexeme open_bracket = Unit {0}
 
--- the character c, right behind the token, would be part of it
+-- the character c, right after the token, would be part of it
 abbrev pub continues : Lexeme → ℕ → Bool
 continues (ident s) c = is_name_char c
 continues (val_name s) c = is_name_char c
@@ -91,7 +91,7 @@ abbrev pub Stops : (ℕ → Bool) → List ℕ → Type 0
 Stops p [] = Unit {0}
 Stops p (c ∷ rest) = p c ≡ false
 
--- A gap consists of white space characters and of comments, each with the newline behind it: 59 is `;`, 10 the newline.
+-- A gap consists of white space characters and of comments, each with the newline after it: 59 is `;`, 10 the newline.
 pub data Piece : Type 0 where
   space : ℕ → Piece
   comment : List ℕ → Piece
@@ -100,7 +100,7 @@ abbrev pub piece_text : Piece → List ℕ
 piece_text (space c) = encode_utf8 c
 piece_text (comment s) = 59 ∷ (s ++ 10 ∷ [])
 
--- no newline in it
+-- it has no newline
 abbrev pub IsOneLine : List ℕ → Type 0
 IsOneLine s = AllByRecursion (λ c. (c == 10) ≡ false) s
 
@@ -124,14 +124,14 @@ pub record IsLastGap (bs : List ℕ) : Type 0 where
   pub is_last : IsLastComment last
   pub text : bs ≡ gap ++ last
 
--- bs is a gap, the token t, which is over there, and rest
+-- bs is a gap, the token t, which ends there, and rest
 pub record Stands (gap : List ℕ) (t : Lexeme) (rest : List ℕ) (bs : List ℕ) : Type 0 where
   pub is_gap : IsGap gap
   pub is_token : IsLexeme t
   pub is_over : Stops (continues t) rest
   pub text : bs ≡ gap ++ (spelling t ++ rest)
 
--- bs, which begins at offset n of a text, is a gap and the token t at its offset, and P holds of what stands after it
+-- bs, which begins at offset n of a text, is a gap and the token t at its offset, and P holds of what is after it
 pub record BeginsWith (n : ℕ) (t : ℕ × Lexeme) (P : List ℕ → Type 0) (bs : List ℕ) : Type 0 where
   pub gap : List ℕ
   pub after : List ℕ
@@ -148,7 +148,8 @@ Begins n bs (t ∷ ts) rest = BeginsWith n t (λ after. Begins (t.0 + length (sp
 abbrev pub IsTextOf : List ℕ → List (ℕ × Lexeme) → Type 0
 IsTextOf bs ts = (rest : List ℕ) × Begins 0 bs ts rest × IsLastGap rest
 
--- The tokens of any text: a front of it is they, each list that a front of it is begins them, and a fault follows where what is left is no gap.
+-- The tokens of any text: they are a prefix of it, every list of tokens that is a prefix of it is a prefix of them, and
+-- a fault follows if and only if what is left is no gap.
 pub record AreTokensOf (bs : List ℕ) (ts : List (ℕ × Lexeme)) (fault : Bool) : Type 0 where
   pub rest : List ℕ
   pub front : Begins 0 bs ts rest
@@ -156,7 +157,7 @@ pub record AreTokensOf (bs : List ℕ) (ts : List (ℕ × Lexeme)) (fault : Bool
   pub ended : fault ≡ false → IsLastGap rest
   pub faulty : fault ≡ true → IsLastGap rest → ⊥
 
--- a text is of one list of tokens at most
+-- a text has at most one list of tokens
 abbrev pub OneReading : Type 0
 OneReading = (bs : List ℕ) (ts us : List (ℕ × Lexeme)) → IsTextOf bs ts → IsTextOf bs us → ts ≡ us
 
@@ -164,7 +165,7 @@ OneReading = (bs : List ℕ) (ts us : List (ℕ × Lexeme)) → IsTextOf bs ts �
 abbrev pub StandsAt : List ℕ → ℕ × Lexeme → Type 0
 StandsAt bs t = take (length (spelling t.1)) (drop t.0 bs) ≡ spelling t.1
 
--- each token that a front of a text is stands at its offset
+-- each token of a prefix of a text is the slice at its offset
 abbrev pub EachInText : Type 0
 EachInText = (bs : List ℕ) (ts : List (ℕ × Lexeme)) (rest : List ℕ) → Begins 0 bs ts rest → AllByRecursion (StandsAt bs) ts
 
@@ -172,6 +173,6 @@ EachInText = (bs : List ℕ) (ts : List (ℕ × Lexeme)) (rest : List ℕ) → B
 abbrev pub GapEndsToken : Type 0
 GapEndsToken = (t : Lexeme) (gap body : List ℕ) → IsGap gap → (length gap ≡ 0 → Stops (continues t) body) → Stops (continues t) (gap ++ body)
 
--- a front of tokens, and behind it another, are a front of both
+-- a prefix of tokens, and after it another, are together a prefix
 abbrev pub FrontsJoin : Type 0
 FrontsJoin = (ts us : List (ℕ × Lexeme)) (n : ℕ) (bs mid rest : List ℕ) → Begins n bs ts mid → Begins (n + (length bs - length mid)) mid us rest → Begins n bs (ts ++ us) rest

@@ -26,7 +26,7 @@ impl<T: Drop> Model for Arena<T> {
 }
 
 impl<T: Drop> Arena<T> {
-    /// An empty arena. It takes no memory.
+    /// An empty arena. It does not allocate.
     pub fn new(alloc: Global) -> Self
         ensures { result ≡ [] }
     {
@@ -35,14 +35,16 @@ impl<T: Drop> Arena<T> {
         }
     }
 
-    /// Puts the item at the end and answers its position.
+    /// Appends the item and returns its position. If memory runs out, the arena is unchanged.
+    #[inline(always)]
     pub fn alloc(&mut self, item: T) -> Result<Id<T>, AllocError>
         ensures position { IfOk result (λ id. id ≡ length self.old) }
         ensures grows { IfOk result (λ _. self.new ≡ self.old ++ item ∷ []) }
         ensures err { OnErr result (self.new ≡ self.old) }
     {
         let index = self.items.len();
-        self.items.push(item)?;
+        self.items.reserve(1)?;
+        self.items.push_reserved(item);
         Ok(Id::at(index))
     }
 
@@ -63,14 +65,21 @@ impl<T: Drop> Arena<T> {
         self.items.get_mut(id.index())
     }
 
-    /// Gives back the memory that no item takes.
+    /// Makes room for this number of further items. The items stay.
+    pub fn reserve(&mut self, further: usize) -> Result<(), AllocError>
+        ensures { self.new ≡ self.old }
+    {
+        self.items.reserve(further)
+    }
+
+    /// Shrinks the capacity to the length. The items stay.
     pub fn shrink_to_fit(&mut self)
         ensures { self.new ≡ self.old }
     {
         self.items.shrink_to_fit();
     }
 
-    /// How many items there are.
+    /// The number of items.
     pub fn len(&self) -> usize
         ensures { result ≡ length self.now }
     {

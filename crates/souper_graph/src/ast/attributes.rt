@@ -3,9 +3,10 @@
 /// What is known of the root of an item.
 #[derive(Debug, Drop)]
 pub enum RootAttribute {
-    /// Which bits of the root's value are used: an entry a bit of its type, `true` where it is used.
+    /// Which bits of the root's value are used: one entry per bit of its type, `true` if the bit is used, in the order
+    /// in which a text writes them.
     ///
-    /// A text has one entry at least.
+    /// In a text there is at least one entry.
     DemandedBits(Vec<bool>),
 
     /// The root was harvested from a use of the value, not from its definition.
@@ -15,19 +16,19 @@ pub enum RootAttribute {
 /// What data-flow analysis knows of a value.
 #[derive(Debug, Drop)]
 pub enum Attribute {
-    /// Which bits are known: an entry a bit of the value's type, `Some(true)` where the bit is set, `Some(false)`
-    /// where it is not, and `None` where that is not known.
+    /// Which bits are known: one entry per bit of the value's type, `Some(true)` if the bit is set, `Some(false)` if it
+    /// is not, and `None` if that is not known, in the order in which a text writes them.
     ///
-    /// A text has one entry at least.
+    /// In a text there is at least one entry.
     KnownBits(Vec<Option<bool>>),
 
     /// The value is a power of two.
     PowerOfTwo,
 
-    /// The value is below 0.
+    /// The value is less than 0.
     Negative,
 
-    /// The value is not below 0.
+    /// The value is not less than 0.
     NonNegative,
 
     /// The value is not 0.
@@ -36,9 +37,9 @@ pub enum Attribute {
     /// The value is used outside of the item too.
     HasExternalUses,
 
-    /// So many of the value's first bits equal its sign.
+    /// The value has at least this many sign bits: its top bits that equal the sign bit.
     SignBits(u8),
 
-    /// The value is at or above the first number and below the second.
+    /// The value is at least the first number and less than the second.
     Range(i128, i128),
 }

@@ -117,7 +117,7 @@ impl Model for ReplacementBuilder {
 }
 
 impl ReplacementBuilder {
-    /// An empty builder. It takes no memory.
+    /// An empty builder. It does not allocate.
     pub fn new(alloc: Global) -> Self
         ensures { result ≡ [] }
     {
@@ -126,10 +126,10 @@ impl ReplacementBuilder {
         }
     }
 
-    /// Puts an assignment at the end, and answers the id of its value.
+    /// Appends an assignment and returns the id of its value.
     ///
-    /// A name that is given has to begin with `%`. Without one, the name is `%` and the number of the statements
-    /// before it. An error is a refused growth, and then nothing is put.
+    /// A given name has to begin with `%`. Without one, the name is `%` and the number of statements before it. If
+    /// memory runs out, the builder is unchanged.
     pub fn assignment(
         &mut self,
         name: Option<String>,
@@ -146,10 +146,10 @@ impl ReplacementBuilder {
         put_assignment(&mut self.statements, name, ty, value, attributes)
     }
 
-    /// Puts the assignment of a block at the end, and answers the block's id.
+    /// Appends the assignment of a block and returns the block's id.
     ///
-    /// So many ways lead into the block. A name that is given has to begin with `%`. Without one, the name is `%` and
-    /// the number of the statements before it. An error is a refused growth, and then nothing is put.
+    /// `predecessors` is the block's number of predecessors. A given name has to begin with `%`. Without one, the name
+    /// is `%` and the number of statements before it. If memory runs out, the builder is unchanged.
     pub fn block(&mut self, name: Option<String>, predecessors: u32) -> Result<BlockId, AllocError>
         requires { BeginsWithPercent name }
         ensures position { IfOk result (λ id. id ≡ length self.old) }
@@ -160,9 +160,9 @@ impl ReplacementBuilder {
         put_block(&mut self.statements, name, predecessors)
     }
 
-    /// Puts the path condition that `x` equals `y` at the end.
+    /// Appends the path condition that `x` equals `y`.
     ///
-    /// An error is a refused growth, and then nothing is put.
+    /// If memory runs out, the builder is unchanged.
     pub fn pc(&mut self, x: Operand, y: Operand) -> Result<(), AllocError>
         ensures grows { OnOk result
             (map view_statement self.new ≡ map view_statement self.old ++ condition (record { x = x; y = y }) ∷ []) }
@@ -171,10 +171,10 @@ impl ReplacementBuilder {
         put_pc(&mut self.statements, x, y)
     }
 
-    /// Puts at the end the path condition that `x` equals `y` on one way into the block.
+    /// Appends the path condition that `x` equals `y` if control comes from one predecessor of the block.
     ///
-    /// The id has to be that of a block's assignment in this arena, and `predecessor`, which counts from 0, below the
-    /// number of the ways into that block. An error is a refused growth, and then nothing is put.
+    /// The id has to be that of a block's assignment in this arena, and `predecessor`, which counts from 0, less than
+    /// the block's number of predecessors. If memory runs out, the builder is unchanged.
     pub fn block_pc(
         &mut self,
         block: BlockId,
@@ -215,7 +215,7 @@ impl ReplacementBuilder {
         }
     }
 
-    /// A copy with all statements. An error is a refused growth.
+    /// A copy with all statements. The error is out of memory.
     pub fn clone(&self) -> Result<Self, AllocError>
         ensures { IfOk result (λ copy. map view_statement copy ≡ map view_statement self.now) }
     {
@@ -241,7 +241,7 @@ impl Model for LeftHandSideBuilder {
 }
 
 impl LeftHandSideBuilder {
-    /// An empty builder. It takes no memory.
+    /// An empty builder. It does not allocate.
     pub fn new(alloc: Global) -> Self
         ensures { result ≡ [] }
     {
@@ -250,10 +250,10 @@ impl LeftHandSideBuilder {
         }
     }
 
-    /// Puts an assignment at the end, and answers the id of its value.
+    /// Appends an assignment and returns the id of its value.
     ///
-    /// A name that is given has to begin with `%`. Without one, the name is `%` and the number of the statements
-    /// before it. An error is a refused growth, and then nothing is put.
+    /// A given name has to begin with `%`. Without one, the name is `%` and the number of statements before it. If
+    /// memory runs out, the builder is unchanged.
     pub fn assignment(
         &mut self,
         name: Option<String>,
@@ -270,10 +270,10 @@ impl LeftHandSideBuilder {
         put_assignment(&mut self.statements, name, ty, value, attributes)
     }
 
-    /// Puts the assignment of a block at the end, and answers the block's id.
+    /// Appends the assignment of a block and returns the block's id.
     ///
-    /// So many ways lead into the block. A name that is given has to begin with `%`. Without one, the name is `%` and
-    /// the number of the statements before it. An error is a refused growth, and then nothing is put.
+    /// `predecessors` is the block's number of predecessors. A given name has to begin with `%`. Without one, the name
+    /// is `%` and the number of statements before it. If memory runs out, the builder is unchanged.
     pub fn block(&mut self, name: Option<String>, predecessors: u32) -> Result<BlockId, AllocError>
         requires { BeginsWithPercent name }
         ensures position { IfOk result (λ id. id ≡ length self.old) }
@@ -284,9 +284,9 @@ impl LeftHandSideBuilder {
         put_block(&mut self.statements, name, predecessors)
     }
 
-    /// Puts the path condition that `x` equals `y` at the end.
+    /// Appends the path condition that `x` equals `y`.
     ///
-    /// An error is a refused growth, and then nothing is put.
+    /// If memory runs out, the builder is unchanged.
     pub fn pc(&mut self, x: Operand, y: Operand) -> Result<(), AllocError>
         ensures grows { OnOk result
             (map view_statement self.new ≡ map view_statement self.old ++ condition (record { x = x; y = y }) ∷ []) }
@@ -295,10 +295,10 @@ impl LeftHandSideBuilder {
         put_pc(&mut self.statements, x, y)
     }
 
-    /// Puts at the end the path condition that `x` equals `y` on one way into the block.
+    /// Appends the path condition that `x` equals `y` if control comes from one predecessor of the block.
     ///
-    /// The id has to be that of a block's assignment in this arena, and `predecessor`, which counts from 0, below the
-    /// number of the ways into that block. An error is a refused growth, and then nothing is put.
+    /// The id has to be that of a block's assignment in this arena, and `predecessor`, which counts from 0, less than
+    /// the block's number of predecessors. If memory runs out, the builder is unchanged.
     pub fn block_pc(
         &mut self,
         block: BlockId,
@@ -321,7 +321,7 @@ impl LeftHandSideBuilder {
         put_block_pc(&mut self.statements, block_pc)
     }
 
-    /// The left-hand side that is about the value `lhs`, with all the statements.
+    /// The left-hand side whose root is the value `lhs`, with all the statements.
     ///
     /// The attributes say what is known of that value.
     pub fn finish(self, lhs: ValueId, attributes: Vec<RootAttribute>) -> LeftHandSide
@@ -345,7 +345,7 @@ impl LeftHandSideBuilder {
         assignment_at(&self.statements, id)
     }
 
-    /// A copy with all statements. An error is a refused growth.
+    /// A copy with all statements. The error is out of memory.
     pub fn clone(&self) -> Result<Self, AllocError>
         ensures { IfOk result (λ copy. map view_statement copy ≡ map view_statement self.now) }
     {
@@ -358,7 +358,7 @@ impl LeftHandSideBuilder {
 impl Replacement {
     /// The assignment that defines the value.
     ///
-    /// The id has to be that of an assignment in this item's arena. [`Arena::get`] answers whether it is.
+    /// The id has to be that of an assignment in this item's arena, which [`Arena::get`] shows.
     pub fn assignment(&self, id: ValueId) -> &Assignment
         requires { IsAssigned (slice_get (map view_statement (statements_of self.now)) id) }
         ensures { slice_get (statements_of self.now) id ≡ Some (assignment_variant result.now) }

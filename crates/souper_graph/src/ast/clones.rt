@@ -10,7 +10,7 @@ use crate::ast::statements::{Assignment, AssignmentRhs, Phi, Statement, Var};
 use std::alloc::AllocError;
 
 impl Attribute {
-    /// A copy. An error is a refused growth.
+    /// A copy. The error is out of memory.
     pub fn clone(&self) -> Result<Self, AllocError>
         ensures { IfOk result (λ copy. view_attribute copy ≡ view_attribute self.now) }
     {
@@ -28,7 +28,7 @@ impl Attribute {
 }
 
 impl RootAttribute {
-    /// A copy. An error is a refused growth.
+    /// A copy. The error is out of memory.
     pub fn clone(&self) -> Result<Self, AllocError>
         ensures { IfOk result (λ copy. view_root_attribute copy ≡ view_root_attribute self.now) }
     {
@@ -62,7 +62,7 @@ fn clone_root_attributes(attributes: &Vec<RootAttribute>) -> Result<Vec<RootAttr
 }
 
 impl Var {
-    /// A copy. An error is a refused growth.
+    /// A copy. The error is out of memory.
     pub fn clone(&self) -> Result<Self, AllocError>
         ensures { IfOk result
             (λ copy. map view_attribute copy.attributes.items ≡ map view_attribute self.now.attributes.items) }
@@ -74,7 +74,7 @@ impl Var {
 }
 
 impl Phi {
-    /// A copy. An error is a refused growth.
+    /// A copy. The error is out of memory.
     pub fn clone(&self) -> Result<Self, AllocError>
         ensures { IfOk result (λ copy. view_phi copy ≡ view_phi self.now) }
     {
@@ -86,7 +86,7 @@ impl Phi {
 }
 
 impl AssignmentRhs {
-    /// A copy. An error is a refused growth.
+    /// A copy. The error is out of memory.
     pub fn clone(&self) -> Result<Self, AllocError>
         ensures { IfOk result (λ copy. view_rhs copy ≡ view_rhs self.now) }
     {
@@ -102,7 +102,7 @@ impl AssignmentRhs {
 }
 
 impl Assignment {
-    /// A copy. An error is a refused growth.
+    /// A copy. The error is out of memory.
     pub fn clone(&self) -> Result<Self, AllocError>
         ensures { IfOk result (λ copy. view_assignment copy ≡ view_assignment self.now) }
     {
@@ -116,7 +116,7 @@ impl Assignment {
 }
 
 impl Statement {
-    /// A copy. An error is a refused growth.
+    /// A copy. The error is out of memory.
     pub fn clone(&self) -> Result<Self, AllocError>
         ensures { IfOk result (λ copy. view_statement copy ≡ view_statement self.now) }
     {
@@ -129,7 +129,7 @@ impl Statement {
 }
 
 impl Arena<Statement> {
-    /// A copy of all statements, each at its position. An error is a refused growth.
+    /// A copy of all statements, each at its position. The error is out of memory.
     pub fn clone(&self) -> Result<Self, AllocError>
         ensures { IfOk result (λ copy. map view_statement copy ≡ map view_statement self.now) }
     {
@@ -142,7 +142,7 @@ impl Arena<Statement> {
 }
 
 impl Infer {
-    /// A copy. An error is a refused growth.
+    /// A copy. The error is out of memory.
     pub fn clone(&self) -> Result<Self, AllocError>
         ensures { IfOk result (λ copy. view_infer copy ≡ view_infer self.now) }
     {
@@ -154,7 +154,7 @@ impl Infer {
 }
 
 impl Cand {
-    /// A copy. An error is a refused growth.
+    /// A copy. The error is out of memory.
     pub fn clone(&self) -> Result<Self, AllocError>
         ensures { IfOk result (λ copy. view_cand copy ≡ view_cand self.now) }
     {
@@ -167,7 +167,7 @@ impl Cand {
 }
 
 impl LeftHandSide {
-    /// A copy with all statements, also those that the item does not need. An error is a refused growth.
+    /// A copy with all statements, also those that the item does not need. The error is out of memory.
     pub fn clone(&self) -> Result<Self, AllocError>
         ensures { IfOk result (λ copy. view_left_hand_side copy ≡ view_left_hand_side self.now) }
     {
@@ -179,7 +179,7 @@ impl LeftHandSide {
 }
 
 impl RightHandSide {
-    /// A copy with all statements, also those that the item does not need. An error is a refused growth.
+    /// A copy with all statements, also those that the item does not need. The error is out of memory.
     pub fn clone(&self) -> Result<Self, AllocError>
         ensures { IfOk result (λ copy. view_right_hand_side copy ≡ view_right_hand_side self.now) }
     {
@@ -191,7 +191,7 @@ impl RightHandSide {
 }
 
 impl Replacement {
-    /// A copy with all statements, also those that the item does not need. An error is a refused growth.
+    /// A copy with all statements, also those that the item does not need. The error is out of memory.
     pub fn clone(&self) -> Result<Self, AllocError>
         ensures { IfOk result (λ copy. view_replacement copy ≡ view_replacement self.now) }
     {

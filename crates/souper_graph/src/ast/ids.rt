@@ -99,7 +99,7 @@ impl From<BlockId> for ValueId {
     }
 }
 
-/// Any position may become a value's id. Whether an assignment stands there is asked where the id is used.
+/// Any position may become a value's id. Whether an assignment is there is checked where the id is used.
 impl From<Id<Statement>> for ValueId {
     ghost from_gives = { λ id value. value ≡ id };
 
@@ -108,7 +108,7 @@ impl From<Id<Statement>> for ValueId {
     }
 }
 
-/// Any position may become a block's id. Whether a block stands there is asked where the id is used.
+/// Any position may become a block's id. Whether a block is there is checked where the id is used.
 impl From<Id<Statement>> for BlockId {
     ghost from_gives = { λ id block. block ≡ id };
 

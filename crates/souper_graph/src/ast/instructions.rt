@@ -2,47 +2,49 @@
 
 ghost use Rattle.std.specs.Prelude.{◌≡◌};
 ghost use Rattle.souper_graph.specs.Instructions.{word_of, operands_of};
+ghost use Rattle.souper_graph.specs.Operands.{operands_seen};
 
 use crate::ast::operands::Operand;
 use arrayvec::ArrayVec;
 
-/// An operation on operands.
+/// An operation on operands. What it computes is described by the LLVM Language Reference, whose poison is called
+/// undefined behaviour here; no contract states it.
 #[derive(Clone, Copy, Debug, PartialEq, Eq)]
 pub enum Instruction {
     /// The sum, which wraps around.
     Add { a: Operand, b: Operand },
 
-    /// The sum, where a signed overflow is undefined behaviour.
+    /// The sum; signed overflow is undefined behaviour.
     AddNsw { a: Operand, b: Operand },
 
-    /// The sum, where an unsigned overflow is undefined behaviour.
+    /// The sum; unsigned overflow is undefined behaviour.
     AddNuw { a: Operand, b: Operand },
 
-    /// The sum, where any overflow is undefined behaviour.
+    /// The sum; any overflow is undefined behaviour.
     AddNw { a: Operand, b: Operand },
 
     /// The difference, which wraps around.
     Sub { a: Operand, b: Operand },
 
-    /// The difference, where a signed overflow is undefined behaviour.
+    /// The difference; signed overflow is undefined behaviour.
     SubNsw { a: Operand, b: Operand },
 
-    /// The difference, where an unsigned overflow is undefined behaviour.
+    /// The difference; unsigned overflow is undefined behaviour.
     SubNuw { a: Operand, b: Operand },
 
-    /// The difference, where any overflow is undefined behaviour.
+    /// The difference; any overflow is undefined behaviour.
     SubNw { a: Operand, b: Operand },
 
     /// The product, which wraps around.
     Mul { a: Operand, b: Operand },
 
-    /// The product, where a signed overflow is undefined behaviour.
+    /// The product; signed overflow is undefined behaviour.
     MulNsw { a: Operand, b: Operand },
 
-    /// The product, where an unsigned overflow is undefined behaviour.
+    /// The product; unsigned overflow is undefined behaviour.
     MulNuw { a: Operand, b: Operand },
 
-    /// The product, where any overflow is undefined behaviour.
+    /// The product; any overflow is undefined behaviour.
     MulNw { a: Operand, b: Operand },
 
     /// The quotient of `a` by `b`, both unsigned.
@@ -51,10 +53,10 @@ pub enum Instruction {
     /// The quotient of `a` by `b`, both signed.
     Sdiv { a: Operand, b: Operand },
 
-    /// The unsigned quotient, where a remainder is undefined behaviour.
+    /// The unsigned quotient; a remainder is undefined behaviour.
     UdivExact { a: Operand, b: Operand },
 
-    /// The signed quotient, where a remainder is undefined behaviour.
+    /// The signed quotient; a remainder is undefined behaviour.
     SdivExact { a: Operand, b: Operand },
 
     /// The remainder of `a` by `b`, both unsigned.
@@ -69,40 +71,40 @@ pub enum Instruction {
     /// The bits that are set in one or in both.
     Or { a: Operand, b: Operand },
 
-    /// The bits that are set in one alone.
+    /// The bits that are set in exactly one.
     Xor { a: Operand, b: Operand },
 
-    /// `a` shifted left by `b` bits. A `b` that is not below the width is undefined behaviour.
+    /// `a` shifted left by `b` bits. A `b` that is not less than the width is undefined behaviour.
     Shl { a: Operand, b: Operand },
 
-    /// The left shift, where a bit shifted out that differs from the sign is undefined behaviour.
+    /// The left shift; shifting out a bit that differs from the sign is undefined behaviour.
     ShlNsw { a: Operand, b: Operand },
 
-    /// The left shift, where a set bit shifted out is undefined behaviour.
+    /// The left shift; shifting out a set bit is undefined behaviour.
     ShlNuw { a: Operand, b: Operand },
 
     /// The left shift with both conditions, those of `shlnsw` and of `shlnuw`.
     ShlNw { a: Operand, b: Operand },
 
-    /// `a` shifted right by `b` bits, filled with zeros. A `b` that is not below the width is undefined behaviour.
+    /// `a` shifted right by `b` bits, filled with zeros. A `b` that is not less than the width is undefined behaviour.
     Lshr { a: Operand, b: Operand },
 
-    /// The right shift filled with zeros, where a set bit shifted out is undefined behaviour.
+    /// The right shift filled with zeros; shifting out a set bit is undefined behaviour.
     LshrExact { a: Operand, b: Operand },
 
     /// `a` shifted right by `b` bits, filled with copies of its sign.
     Ashr { a: Operand, b: Operand },
 
-    /// The right shift filled with the sign, where a set bit shifted out is undefined behaviour.
+    /// The right shift filled with the sign; shifting out a set bit is undefined behaviour.
     AshrExact { a: Operand, b: Operand },
 
-    /// `b` where `a` is 1, and `c` otherwise.
+    /// `b` if `a` is 1, else `c`.
     Select { a: Operand, b: Operand, c: Operand },
 
-    /// `a`, made wider with zeros.
+    /// `a`, zero-extended.
     Zext { a: Operand },
 
-    /// `a`, made wider with copies of its sign.
+    /// `a`, sign-extended.
     Sext { a: Operand },
 
     /// The low bits of `a`.
@@ -114,10 +116,10 @@ pub enum Instruction {
     /// Whether `a` differs from `b`.
     Ne { a: Operand, b: Operand },
 
-    /// Whether `a` is below `b`, both unsigned.
+    /// Whether `a` is less than `b`, both unsigned.
     Ult { a: Operand, b: Operand },
 
-    /// Whether `a` is below `b`, both signed.
+    /// Whether `a` is less than `b`, both signed.
     Slt { a: Operand, b: Operand },
 
     /// Whether `a` is at most `b`, both unsigned.
@@ -126,7 +128,7 @@ pub enum Instruction {
     /// Whether `a` is at most `b`, both signed.
     Sle { a: Operand, b: Operand },
 
-    /// How many bits of `a` are set.
+    /// The number of set bits of `a`.
     Ctpop { a: Operand },
 
     /// The bytes of `a` in reverse order: `0xddccbbaa` of `0xaabbccdd`.
@@ -135,56 +137,65 @@ pub enum Instruction {
     /// The bits of `a` in reverse order.
     BitReverse { a: Operand },
 
-    /// How many zero bits end `a`.
+    /// The number of trailing zero bits of `a`.
     Cttz { a: Operand },
 
-    /// How many zero bits begin `a`.
+    /// The number of leading zero bits of `a`.
     Ctlz { a: Operand },
 
-    /// The high half of `a` and `b`, one behind the other, shifted left by `c` bits.
+    /// Funnel shift left: the high half of `a:b` (`a` is the high half) shifted left by `c` bits.
     Fshl { a: Operand, b: Operand, c: Operand },
 
-    /// The low half of `a` and `b`, one behind the other, shifted right by `c` bits.
+    /// Funnel shift right: the low half of `a:b` (`a` is the high half) shifted right by `c` bits.
     Fshr { a: Operand, b: Operand, c: Operand },
 
-    /// The signed sum, and one bit that tells whether it overflowed.
+    /// The signed sum, and one bit that is set if it overflowed.
     SaddWithOverflow { a: Operand, b: Operand },
 
-    /// The unsigned sum, and one bit that tells whether it overflowed.
+    /// The unsigned sum, and one bit that is set if it overflowed.
     UaddWithOverflow { a: Operand, b: Operand },
 
-    /// The signed difference, and one bit that tells whether it overflowed.
+    /// The signed difference, and one bit that is set if it overflowed.
     SsubWithOverflow { a: Operand, b: Operand },
 
-    /// The unsigned difference, and one bit that tells whether it overflowed.
+    /// The unsigned difference, and one bit that is set if it overflowed.
     UsubWithOverflow { a: Operand, b: Operand },
 
-    /// The signed product, and one bit that tells whether it overflowed.
+    /// The signed product, and one bit that is set if it overflowed.
     SmulWithOverflow { a: Operand, b: Operand },
 
-    /// The unsigned product, and one bit that tells whether it overflowed.
+    /// The unsigned product, and one bit that is set if it overflowed.
     UmulWithOverflow { a: Operand, b: Operand },
 
-    /// The signed sum, or the nearest limit where it overflows.
+    /// The signed sum, or the nearest limit if it overflows.
     SaddSat { a: Operand, b: Operand },
 
-    /// The unsigned sum, or the greatest number where it overflows.
+    /// The unsigned sum, or the greatest number if it overflows.
     UaddSat { a: Operand, b: Operand },
 
-    /// The signed difference, or the nearest limit where it overflows.
+    /// The signed difference, or the nearest limit if it overflows.
     SsubSat { a: Operand, b: Operand },
 
-    /// The unsigned difference, or 0 where it is below.
+    /// The unsigned difference, or 0 if it is less than 0.
     UsubSat { a: Operand, b: Operand },
 
     /// The part of `a` at index `b`.
     ExtractValue { a: Operand, b: Operand },
 
-    /// A place for an instruction that is not known yet.
+    /// A placeholder for an instruction that is not known yet.
     Hole,
 
-    /// `a`, or some fixed value where `a` is poison or undefined.
+    /// `a`, or some fixed value if `a` is poison or undefined.
     Freeze { a: Operand },
+}
+
+// The operands of an instruction, where they stand in it.
+#[derive(Clone, Copy)]
+pub(crate) enum Operands<'a> {
+    Zero,
+    One(&'a Operand),
+    Two(&'a Operand, &'a Operand),
+    Three(&'a Operand, &'a Operand, &'a Operand),
 }
 
 impl Instruction {
@@ -193,8 +204,31 @@ impl Instruction {
         ensures { result.items ≡ operands_of self.now }
     {
         let mut operands = ArrayVec::new();
-        match *self {
-            Instruction::Hole => {}
+        match self.operands_in_place() {
+            Operands::Zero => {}
+            Operands::One(a) => {
+                operands.push(*a);
+            }
+            Operands::Two(a, b) => {
+                operands.push(*a);
+                operands.push(*b);
+            }
+            Operands::Three(a, b, c) => {
+                operands.push(*a);
+                operands.push(*b);
+                operands.push(*c);
+            }
+        }
+        operands
+    }
+
+    // The operands where they stand, from left to right.
+    #[inline(always)]
+    pub(crate) fn operands_in_place(&self) -> Operands<'_>
+        ensures { operands_seen result ≡ operands_of self.now }
+    {
+        match self {
+            Instruction::Hole => Operands::Zero,
             Instruction::Zext { a }
             | Instruction::Sext { a }
             | Instruction::Trunc { a }
@@ -203,9 +237,7 @@ impl Instruction {
             | Instruction::BitReverse { a }
             | Instruction::Cttz { a }
             | Instruction::Ctlz { a }
-            | Instruction::Freeze { a } => {
-                operands.push(a);
-            }
+            | Instruction::Freeze { a } => Operands::One(a),
             Instruction::Add { a, b }
             | Instruction::AddNsw { a, b }
             | Instruction::AddNuw { a, b }
@@ -251,22 +283,14 @@ impl Instruction {
             | Instruction::UaddSat { a, b }
             | Instruction::SsubSat { a, b }
             | Instruction::UsubSat { a, b }
-            | Instruction::ExtractValue { a, b } => {
-                operands.push(a);
-                operands.push(b);
-            }
+            | Instruction::ExtractValue { a, b } => Operands::Two(a, b),
             Instruction::Select { a, b, c }
             | Instruction::Fshl { a, b, c }
-            | Instruction::Fshr { a, b, c } => {
-                operands.push(a);
-                operands.push(b);
-                operands.push(c);
-            }
+            | Instruction::Fshr { a, b, c } => Operands::Three(a, b, c),
         }
-        operands
     }
 
-    /// The word that stands for the instruction in a text.
+    /// The instruction's word in a text.
     pub fn instruction_name(&self) -> &'static str
         ensures { result.now ≡ word_of self.now }
     {

@@ -6,7 +6,7 @@ use crate::ast::ids::ValueId;
 use crate::ast::operands::Operand;
 use crate::ast::statements::Statement;
 
-/// An optimization: what is looked for, and what may stand in its place.
+/// An optimization: what is looked for, and what may replace it.
 #[derive(Debug, Drop)]
 pub enum Replacement {
     /// A left-hand side and the result that replaces it.
@@ -70,6 +70,6 @@ pub struct RightHandSide {
     /// The statements of its graph.
     pub statements: Arena<Statement>,
 
-    /// The value that takes the place.
+    /// The operand that replaces the left-hand side.
     pub result: Operand,
 }

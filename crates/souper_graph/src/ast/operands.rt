@@ -6,27 +6,27 @@ ghost use Rattle.souper_graph.specs.declared.ast.operands.Operand.TheVariants.{C
 use crate::ast::ids::ValueId;
 use std::default::Default;
 
-/// The type of a value: an integer of so many bits.
+/// The type of a value: an integer of this width.
 #[derive(Clone, Copy, Debug, PartialEq, Eq)]
 pub struct Type {
-    /// How many bits. A text has widths from 1 on.
+    /// The width in bits. In a text it is at least 1.
     pub width: u16,
 }
 
-/// A number, with its type where that is written.
+/// A number, with its type if that is written.
 #[derive(Clone, Copy, Debug, PartialEq, Eq)]
 pub struct Constant {
     /// The number.
     pub value: i128,
 
-    /// The type that is written behind it, if any.
+    /// The type that is written after it, if any.
     pub ty: Option<Type>,
 }
 
 /// What an operation works on.
 #[derive(Clone, Copy, Debug, PartialEq, Eq)]
 pub enum Operand {
-    /// The value of an assignment that stands earlier.
+    /// The value of an earlier assignment.
     Value(ValueId),
 
     /// A number.

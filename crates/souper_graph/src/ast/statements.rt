@@ -18,7 +18,7 @@ pub enum Statement {
     /// A path condition.
     Pc(Pc),
 
-    /// A path condition on one way into a block.
+    /// A path condition on one predecessor of a block.
     BlockPc(BlockPc),
 }
 
@@ -52,7 +52,7 @@ pub struct Assignment {
     /// The name of the value, with its `%`.
     pub name: String,
 
-    /// The type that is written behind the name, if any.
+    /// The type that is written after the name, if any.
     pub ty: Option<Type>,
 
     /// What the value is.
@@ -71,13 +71,13 @@ pub enum AssignmentRhs {
     /// A basic block of the control flow.
     Block(Block),
 
-    /// A value that is chosen by the way into a block.
+    /// A value that is chosen by the predecessor from which control enters a block.
     Phi(Phi),
 
-    /// A place for an instruction that is not known yet.
+    /// A placeholder for an instruction that is not known yet.
     ReservedInst,
 
-    /// A place for a constant that is not known yet.
+    /// A placeholder for a constant that is not known yet.
     ReservedConst,
 
     /// The result of an instruction.
@@ -120,20 +120,20 @@ pub struct Var {
 /// A basic block of the control flow.
 #[derive(Clone, Copy, Debug, PartialEq, Eq)]
 pub struct Block {
-    /// How many ways lead into the block.
+    /// The block's number of predecessors.
     pub predecessors: u32,
 }
 
-/// A value that is chosen by the way into a block.
+/// A value that is chosen by the predecessor from which control enters a block.
 ///
-/// Two phis of one block choose alike: where control comes in by the block's second predecessor, each has its second
-/// value. A text has as many values as the block has predecessors.
+/// Two phis of one block choose alike: if control comes from the block's second predecessor, each has its second value.
+/// In a text a phi has one value per predecessor of its block.
 #[derive(Debug, Drop)]
 pub struct Phi {
-    /// The block in which the phi stands.
+    /// The block of the phi.
     pub block: BlockId,
 
-    /// The value for each way into the block, in the order of its predecessors.
+    /// The value for each predecessor of the block, in order.
     pub values: Vec<Operand>,
 }
 
@@ -147,18 +147,18 @@ pub struct Pc {
     pub y: Operand,
 }
 
-/// A path condition on one way into a block: `x` equals `y` where control comes in by that predecessor.
+/// A path condition on one predecessor of a block: `x` equals `y` if control comes from it.
 #[derive(Clone, Copy, Debug, PartialEq, Eq)]
 pub struct BlockPc {
     /// The block.
     pub block: BlockId,
 
-    /// Which way into the block, counted from 0.
+    /// Which predecessor of the block, counted from 0.
     pub predecessor: u32,
 
-    /// What equals `y` on that way.
+    /// What equals `y` then.
     pub x: Operand,
 
-    /// What equals `x` on that way.
+    /// What equals `x` then.
     pub y: Operand,
 }

@@ -34,7 +34,7 @@ fn all_stand(statements: &Arena<Statement>, ids: &[Id<Statement>]) -> Result<boo
     are_named_apart(statements, ids)
 }
 
-// Whether an order was found, and the statements in it stand.
+// Whether an order was found, its statements are valid at their positions, and their names are distinct.
 fn ordered_stand(
     statements: &Arena<Statement>,
     order: Result<Order, TextError>,
@@ -53,7 +53,7 @@ fn ordered_stand(
 impl LeftHandSide {
     /// Whether the item is well formed, by the conditions of [`Replacement::is_well_formed`].
     ///
-    /// An error is a refused growth.
+    /// The error is out of memory.
     pub fn is_well_formed(&self) -> Result<bool, AllocError>
         ensures { IfOk result
             (λ answer. IsTrue answer ↔ WellFormed (view_left_hand_side self.now)) }
@@ -68,7 +68,7 @@ impl LeftHandSide {
 impl RightHandSide {
     /// Whether the item is well formed, by the conditions of [`Replacement::is_well_formed`].
     ///
-    /// An error is a refused growth.
+    /// The error is out of memory.
     pub fn is_well_formed(&self) -> Result<bool, AllocError>
         ensures { IfOk result
             (λ answer. IsTrue answer ↔ WellFormed (view_right_hand_side self.now)) }
@@ -81,17 +81,18 @@ impl RightHandSide {
 }
 
 impl Replacement {
-    /// Whether the item is well formed. It is where each of these holds:
+    /// Whether the item is well formed: it is if and only if each of these holds.
     ///
-    /// - Each root is a constant, or names an assignment.
-    /// - In each statement that the item needs, each use lies at a lower position and names an assignment, and that of
-    ///   a block the assignment of a block.
-    /// - There a phi has as many values as ways lead into its block, and a condition on a way into a block names one of
-    ///   these ways.
-    /// - There and in the roots widths are above 0, and lists of bits are not empty.
-    /// - The name of each needed assignment is `%` and one or more letters, digits, `_` or `.`, and no two have one name.
+    /// - Each root is a constant or names an assignment.
+    /// - In each statement that the item needs, each use is of a lower position and names an assignment, and a use of a
+    ///   block names the assignment of a block.
+    /// - In these a phi has one value per predecessor of its block, and a condition on a predecessor of a block names
+    ///   one that the block has.
+    /// - In these and in the roots widths are above 0, and lists of bits are not empty.
+    /// - The name of each needed assignment is `%` and one or more letters, digits, `_` or `.`, and the names are
+    ///   distinct.
     ///
-    /// Statements that the item does not need are not judged. An error is a refused growth.
+    /// Statements that the item does not need are not checked. The error is out of memory.
     pub fn is_well_formed(&self) -> Result<bool, AllocError>
         ensures { IfOk result
             (λ answer. IsTrue answer ↔ WellFormed (view_replacement self.now)) }

@@ -1,4 +1,4 @@
-//! Nodes that name no other, put at the end of a text. A refusal may leave a part of them there.
+//! Nodes that name no other, appended to a text. On an error a part of them may be left there.
 
 ghost use Rattle.std.specs.Prelude.{◌≡◌, ◌++◌, map, OnOk, IfErr};
 ghost use Rattle.std.specs.String.{string_bytes};
@@ -19,7 +19,7 @@ pub(crate) fn append_type(ty: Type, out: &mut String) -> Result<(), TextError>
     Ok(())
 }
 
-// `:` and the type, where there is one.
+// `:` and the type, if there is one.
 pub(crate) fn append_optional_type(ty: Option<Type>, out: &mut String) -> Result<(), TextError>
     ensures ok { OnOk result (string_bytes out.new ≡ string_bytes out.old ++ text_of_optional_type ty) }
     ensures memory { IfErr result (λ error. error ≡ OutOfMemory) }
@@ -33,8 +33,8 @@ pub(crate) fn append_optional_type(ty: Option<Type>, out: &mut String) -> Result
     }
 }
 
-pub(crate) fn append_constant(constant: Constant, out: &mut String) -> Result<(), TextError>
-    ensures ok { OnOk result (string_bytes out.new ≡ string_bytes out.old ++ text_of_constant constant) }
+pub(crate) fn append_constant(constant: &Constant, out: &mut String) -> Result<(), TextError>
+    ensures ok { OnOk result (string_bytes out.new ≡ string_bytes out.old ++ text_of_constant constant.now) }
     ensures memory { IfErr result (λ error. error ≡ OutOfMemory) }
 {
     let value = constant.value;
@@ -131,7 +131,7 @@ fn append_root_attribute(attribute: &RootAttribute, out: &mut String) -> Result<
     }
 }
 
-// Each attribute with a blank before it.
+// Each attribute with a space before it.
 pub(crate) fn append_attributes(attributes: &[Attribute], out: &mut String) -> Result<(), TextError>
     ensures ok { OnOk result (string_bytes out.new ≡ string_bytes out.old ++ text_of_attributes (map view_attribute attributes.now)) }
     ensures memory { IfErr result (λ error. error ≡ OutOfMemory) }
@@ -143,7 +143,7 @@ pub(crate) fn append_attributes(attributes: &[Attribute], out: &mut String) -> R
     Ok(())
 }
 
-// Each attribute with a blank before it.
+// Each attribute with a space before it.
 pub(crate) fn append_root_attributes(
     attributes: &[RootAttribute],
     out: &mut String,

@@ -1,4 +1,4 @@
-//! The text of a node, where names are taken from an arena.
+//! The text of a node, with the names of an arena's statements.
 
 ghost use Rattle.std.specs.Prelude.{◌≡◌, ◌++◌, ◌∷◌, [], List, ℕ, map, OnOk, OnErr, IfErr};
 ghost use Rattle.std.specs.String.{string_bytes};
@@ -18,19 +18,18 @@ use crate::stringify::nodes::Append;
 
 /// A node whose text has the names of statements.
 pub trait DisplayWithContext {
-    // The bytes, where names are taken from the statements.
+    // The bytes, with the names of an arena's statements.
     ghost text: { List PlainStatement → Self → List ℕ };
 
-    // What the node itself names.
+    // The uses of the node itself.
     ghost uses: { Self → List Use };
 
-    /// Puts the node's text at the end of `out`, each id as the name of its assignment.
+    /// Appends the node's text to `out`, with each id as the name of its assignment.
     ///
     /// Statements, infer lines and cand lines end in a newline; no other node does.
     ///
-    /// The ids that the node itself holds are judged, and no statement that they name. Where one of them is past the
-    /// arena's end, or names no assignment, or as a block's id no assignment of a block, the answer is such an id
-    /// under its fault. On any refusal, want of memory included, `out` is as it was.
+    /// The ids that the node itself has are checked, but not the statements that they name. Errors: `OutOfRange`,
+    /// `NotAnAssignment` or `NotABlock` with a bad id of the node; `OutOfMemory`. On an error `out` is unchanged.
     fn display(&self, statements: &Arena<Statement>, out: &mut String) -> Result<(), TextError>
         ensures ok { OnOk result (string_bytes out.new ≡ string_bytes out.old ++ text (map view_statement statements.now) self.now) }
         ensures met { OnOk result (AreMet (map view_statement statements.now) (uses self.now)) }
@@ -38,7 +37,7 @@ pub trait DisplayWithContext {
         ensures kept { OnErr result (string_bytes out.new ≡ string_bytes out.old) };
 }
 
-// Through a text of its own, so that a refusal leaves `out` as it was.
+// By a text of its own, so that `out` is unchanged on an error.
 fn display_whole<N: Append>(
     node: &N,
     statements: &Arena<Statement>,
@@ -110,7 +109,7 @@ impl DisplayWithContext for Phi {
     }
 }
 
-/// What stands behind the `=`, as `var` or `add %0, 1:i8`.
+/// What is after the `=`, as `var` or `add %0, 1:i8`.
 impl DisplayWithContext for AssignmentRhs {
     ghost text = { λ ss rhs. text_of_rhs ss (view_rhs rhs) };
 

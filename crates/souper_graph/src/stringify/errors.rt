@@ -22,7 +22,7 @@ pub enum TextError {
     /// The id of a block is in range, and names no assignment of a block.
     NotABlock(Id<Statement>),
 
-    /// A growth was refused.
+    /// An allocation failed.
     OutOfMemory,
 }
 

@@ -61,7 +61,7 @@ impl fmt::Display for Type {
     }
 }
 
-/// Writes the number, and its type where it has one, as `-1:i32`.
+/// Writes the number, and its type if it has one, as `-1:i32`.
 #[tactic(auto, using(crate::proofs::Styled::styled_three))]
 impl fmt::Display for Constant {
     ghost output = { λ constant. Some (text_of_constant constant) };

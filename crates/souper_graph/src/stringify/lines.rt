@@ -1,4 +1,4 @@
-//! Whole items, their statements in a given order, put at the end of a text. A refusal may leave a part of them there.
+//! Whole items, their statements in a given order, appended to a text. On an error a part of them may be left there.
 
 ghost use Rattle.std.specs.Prelude.{◌≡◌, ◌++◌, ◌≤◌, length, map, flat_map, OnOk, IfErr};
 ghost use Rattle.std.specs.String.{string_bytes};
@@ -12,7 +12,7 @@ use crate::ast::{Arena, Id, Infer, LeftHandSide, Operand, Replacement, RightHand
 use crate::stringify::errors::TextError;
 use crate::stringify::nodes::Append;
 
-// The line of the statement at the position; none past the end.
+// The line of the statement at the position; nothing past the end.
 fn append_line(
     statements: &Arena<Statement>,
     id: Id<Statement>,
@@ -28,7 +28,7 @@ fn append_line(
     }
 }
 
-// The lines of the statements at these positions, in order; none for a position past the end.
+// The lines of the statements at these positions, in order; nothing for a position past the end.
 pub(crate) fn append_lines(
     statements: &Arena<Statement>,
     ids: &[Id<Statement>],
@@ -58,13 +58,13 @@ pub(crate) fn append_result(
     operand.append(statements, out)
 }
 
-// An item whose lines are put at the end of a text, its statements in a given order.
+// An item whose lines are appended to a text, its statements in a given order.
 pub(crate) trait AppendInOrder {
     // The item as plain data.
     ghost item: { Self → Item };
 
-    // The statements at these positions and the last lines; an infer line that a result follows stands behind the
-    // first `lead` of the statements.
+    // The statements at these positions and the last lines; an infer line that a result follows comes after the first
+    // `lead` of the statements.
     fn append_in_order(
         &self,
         ids: &[Id<Statement>],

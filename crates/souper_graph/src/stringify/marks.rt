@@ -24,7 +24,7 @@ impl Model for Marks {
 }
 
 impl Marks {
-    /// None of so many statements is marked.
+    /// No marks, on `len` statements.
     pub fn none(alloc: Global, len: usize) -> Result<Self, AllocError>
         ensures { IfOk result (λ marks. marks ≡ replicate len false) }
     {

@@ -1,4 +1,4 @@
-//! The names that stand for ids.
+//! The names that are written for ids.
 
 ghost use Rattle.std.specs.Prelude.{◌≡◌, ◌∷◌, [], map, OnOk, IfOk, IfErr};
 ghost use Rattle.souper_graph.specs.View.{view_statement};

@@ -1,4 +1,4 @@
-//! Nodes that name statements, put at the end of a text.
+//! Nodes that name statements, appended to a text.
 
 ghost use Rattle.std.specs.Prelude.{◌≡◌, ◌++◌, ◌∷◌, [], List, ℕ, map, OnOk, IfErr};
 ghost use Rattle.std.specs.String.{string_bytes};
@@ -10,8 +10,8 @@ ghost use Rattle.souper_graph.specs.Text.{name_at, text_of_operand, text_of_furt
 ghost use Rattle.souper_graph.specs.Faults.{AreMet, IsFaultAmong};
 
 use crate::ast::{
-    Arena, Assignment, AssignmentRhs, BlockId, BlockPc, Cand, Infer, Instruction, Operand, Pc, Phi,
-    Statement, ValueId,
+    Arena, Assignment, AssignmentRhs, BlockId, BlockPc, Cand, Infer, Instruction, Operand,
+    Operands, Pc, Phi, Statement, ValueId,
 };
 use crate::stringify::append::{
     append_attributes, append_block, append_constant, append_optional_type, append_root_attributes,
@@ -19,12 +19,12 @@ use crate::stringify::append::{
 use crate::stringify::errors::TextError;
 use crate::stringify::names::{name_of_block, name_of_value};
 
-// A node that is put at the end of a text, of which a refusal may leave a part.
+// A node that is appended to a text. On an error a part of it may be left there.
 pub(crate) trait Append {
-    // The bytes, where names are taken from the statements.
+    // The bytes, with the names of an arena's statements.
     ghost text: { List PlainStatement → Self → List ℕ };
 
-    // What the node itself names.
+    // The uses of the node itself.
     ghost uses: { Self → List Use };
 
     fn append(&self, statements: &Arena<Statement>, out: &mut String) -> Result<(), TextError>
@@ -61,14 +61,42 @@ impl Append for Operand {
     ghost uses = { λ operand. uses_of_operand operand };
 
     fn append(&self, statements: &Arena<Statement>, out: &mut String) -> Result<(), TextError> {
-        match *self {
+        match self {
             Operand::Value(id) => id.append(statements, out),
             Operand::Constant(constant) => append_constant(constant, out),
         }
     }
 }
 
-// Each operand with a comma and a blank before it.
+// The operand after a space.
+fn append_first(
+    operand: &Operand,
+    statements: &Arena<Statement>,
+    out: &mut String,
+) -> Result<(), TextError>
+    ensures ok { OnOk result (string_bytes out.new ≡ string_bytes out.old ++ (32 ∷ text_of_operand (map view_statement statements.now) operand.now)) }
+    ensures met { OnOk result (AreMet (map view_statement statements.now) (uses_of_operand operand.now)) }
+    ensures refused { IfErr result (λ error. IsFaultAmong (map view_statement statements.now) (uses_of_operand operand.now) error) }
+{
+    out.push_str(" ")?;
+    operand.append(statements, out)
+}
+
+// The operand after a comma and a space.
+fn append_next(
+    operand: &Operand,
+    statements: &Arena<Statement>,
+    out: &mut String,
+) -> Result<(), TextError>
+    ensures ok { OnOk result (string_bytes out.new ≡ string_bytes out.old ++ (44 ∷ 32 ∷ text_of_operand (map view_statement statements.now) operand.now)) }
+    ensures met { OnOk result (AreMet (map view_statement statements.now) (uses_of_operand operand.now)) }
+    ensures refused { IfErr result (λ error. IsFaultAmong (map view_statement statements.now) (uses_of_operand operand.now) error) }
+{
+    out.push_str(", ")?;
+    operand.append(statements, out)
+}
+
+// Each operand with a comma and a space before it.
 fn append_further(
     operands: &[Operand],
     statements: &Arena<Statement>,
@@ -79,8 +107,7 @@ fn append_further(
     ensures refused { IfErr result (λ error. IsFaultAmong (map view_statement statements.now) (uses_of_operands operands.now) error) }
 {
     for operand in operands {
-        out.push_str(", ")?;
-        operand.append(statements, out)?;
+        append_next(operand, statements, out)?;
     }
     Ok(())
 }
@@ -92,13 +119,17 @@ impl Append for Instruction {
 
     fn append(&self, statements: &Arena<Statement>, out: &mut String) -> Result<(), TextError> {
         out.push_str(self.instruction_name())?;
-        let operands = self.operands();
-        match operands.as_slice() {
-            [] => Ok(()),
-            [first, further @ ..] => {
-                out.push_str(" ")?;
-                first.append(statements, out)?;
-                append_further(further, statements, out)
+        match self.operands_in_place() {
+            Operands::Zero => Ok(()),
+            Operands::One(a) => append_first(a, statements, out),
+            Operands::Two(a, b) => {
+                append_first(a, statements, out)?;
+                append_next(b, statements, out)
+            }
+            Operands::Three(a, b, c) => {
+                append_first(a, statements, out)?;
+                append_next(b, statements, out)?;
+                append_next(c, statements, out)
             }
         }
     }

@@ -6,7 +6,7 @@ use arrayvec::ArrayString;
 use std::fmt;
 use std::fmt::Write as _;
 
-// Writes the number as `{}` does, whatever the formatter's options are. The longest, `i128::MIN`, has 40 bytes.
+// Writes the number as `{}` does, whatever the formatter's options. The longest, `i128::MIN`, has 40 bytes.
 pub(crate) fn write_number<N: fmt::Display + Drop, W: fmt::Write>(
     number: N,
     f: &mut fmt::Formatter<W>,

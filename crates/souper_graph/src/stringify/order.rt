@@ -6,14 +6,15 @@ ghost use Rattle.souper_graph.specs.declared.stringify.order.Entry.TheVariants.{
 ghost use Rattle.souper_graph.specs.declared.stringify.order.Target.TheVariants.{Condition};
 ghost use Rattle.souper_graph.specs.Values.{Item};
 ghost use Rattle.souper_graph.specs.View.{view_rhs, view_statement, view_left_hand_side, view_right_hand_side, view_replacement};
+ghost use Rattle.souper_graph.specs.Instructions.{operands_of};
 ghost use Rattle.souper_graph.specs.Uses.{Has, uses_of_operand, uses_of_operands, uses_of_rhs, uses_of, conditions_from, first_roots, last_roots, first_walks, Needed, NeededIn, UsesBelow};
 ghost use Rattle.souper_graph.specs.Order.{printed_order, lead_of, turns_of, Distinct, EachAfterItsUses};
 ghost use Rattle.souper_graph.specs.Faults.{IsAssigned, IsBlock, HasBadId, IsFaultOf};
 ghost use Rattle.souper_graph.specs.Walks.{position_of_target, target_of, IsMetTarget, IsFaultAt, IsWalkedBy, IsOrderOf};
 
 use crate::ast::{
-    Arena, Assignment, AssignmentRhs, BlockId, Id, LeftHandSide, Operand, Replacement,
-    RightHandSide, Statement, ValueId,
+    Arena, Assignment, AssignmentRhs, BlockId, Id, Instruction, LeftHandSide, Operand, Operands,
+    Replacement, RightHandSide, Statement, ValueId,
 };
 use crate::stringify::errors::TextError;
 use crate::stringify::marks::Marks;
@@ -24,18 +25,18 @@ pub struct Order {
     /// The statements, each once, in printed order.
     pub ids: Vec<Id<Statement>>,
 
-    /// How many of them stand before the infer line of a [`Replacement::LhsRhs`]. In every other item all of them.
+    /// How many of them come before the infer line of a [`Replacement::LhsRhs`]; in every other item all of them.
     pub lead: usize,
 
-    /// How many entries left the work stack on the way, or `u128::MAX` where that is less.
+    /// The number of times that the work stack was popped, or `u128::MAX` if that is less.
     pub turns: u128,
 }
 
 impl LeftHandSide {
     /// The statements that the text has, in its order.
     ///
-    /// Refused is a root or a needed statement that names a position where nothing stands that it may name, and want of
-    /// memory.
+    /// Errors: `OutOfRange`, `NotAnAssignment` or `NotABlock` with a bad id of a root or of a needed statement;
+    /// `OutOfMemory`.
     pub fn print_order(&self) -> Result<Order, TextError>
         ensures refused { IfErr result (λ error. IsFaultOf (view_left_hand_side self.now) error) }
         ensures no_bad_id { OnOk result (¬ HasBadId (view_left_hand_side self.now)) }
@@ -55,8 +56,8 @@ impl LeftHandSide {
 impl RightHandSide {
     /// The statements that the text has, in its order.
     ///
-    /// Refused is a root or a needed statement that names a position where nothing stands that it may name, and want of
-    /// memory.
+    /// Errors: `OutOfRange`, `NotAnAssignment` or `NotABlock` with a bad id of a root or of a needed statement;
+    /// `OutOfMemory`.
     pub fn print_order(&self) -> Result<Order, TextError>
         ensures refused { IfErr result (λ error. IsFaultOf (view_right_hand_side self.now) error) }
         ensures no_bad_id { OnOk result (¬ HasBadId (view_right_hand_side self.now)) }
@@ -76,8 +77,8 @@ impl RightHandSide {
 impl Replacement {
     /// The statements that the text has, in its order.
     ///
-    /// Refused is a root or a needed statement that names a position where nothing stands that it may name, and want of
-    /// memory.
+    /// Errors: `OutOfRange`, `NotAnAssignment` or `NotABlock` with a bad id of a root or of a needed statement;
+    /// `OutOfMemory`.
     pub fn print_order(&self) -> Result<Order, TextError>
         ensures refused { IfErr result (λ error. IsFaultOf (view_replacement self.now) error) }
         ensures no_bad_id { OnOk result (¬ HasBadId (view_replacement self.now)) }
@@ -128,9 +129,9 @@ impl Target {
 // An entry of the work stack.
 #[derive(Clone, Copy)]
 enum Entry {
-    // What is to be walked.
+    // What is to be visited.
     Trace(Target),
-    // A statement whose uses stand in the order when the entry leaves the stack.
+    // A statement whose uses are in the order when the entry is popped.
     Finished(Id<Statement>),
 }
 
@@ -150,7 +151,7 @@ fn order_between(
     ensures refused { (a : Item) → a.statements ≡ map view_statement statements.now → first_roots a.ending ≡ uses_of_operands first.now → last_roots a.ending ≡ uses_of_operands last.now → IfErr result (λ error. IsFaultOf a error) }
     ensures ordered { (a : Item) → a.statements ≡ map view_statement statements.now → first_roots a.ending ≡ uses_of_operands first.now → last_roots a.ending ≡ uses_of_operands last.now → IfOk result (λ order. IsOrderOf a order.ids.items order.lead order.turns) }
 {
-    let mut targets = Vec::new(statements.allocator());
+    let mut targets = Vec::with_capacity(statements.allocator(), 8)?;
     push_roots(&mut targets, first)?;
     push_conditions(&mut targets, statements)?;
     let before = targets.len();
@@ -158,7 +159,7 @@ fn order_between(
     order_of(statements, &Walks { targets, before })
 }
 
-// Puts the roots that name a value at the end.
+// Appends the roots that name a value.
 fn push_roots(targets: &mut Vec<Target>, roots: &[Operand]) -> Result<(), TextError>
     ensures ok { OnOk result (targets.new.items ≡ targets.old.items ++ map target_of (uses_of_operands roots.now)) }
     ensures err { IfErr result (λ error. error ≡ OutOfMemory) }
@@ -171,7 +172,7 @@ fn push_roots(targets: &mut Vec<Target>, roots: &[Operand]) -> Result<(), TextEr
     Ok(())
 }
 
-// Puts the path conditions at the end.
+// Appends the path conditions.
 fn push_conditions(
     targets: &mut Vec<Target>,
     statements: &Arena<Statement>,
@@ -190,15 +191,15 @@ fn push_conditions(
     Ok(())
 }
 
-// Walks from each target in turn, and puts each statement behind all that it uses, where that is possible.
+// Walks from each target in turn, and puts each statement after all that it uses, if that is possible.
 fn order_of(statements: &Arena<Statement>, walks: &Walks) -> Result<Order, TextError>
     ensures refused { (a : Item) → IsWalkedBy a (map view_statement statements.now) walks.now.targets.items walks.now.before → IfErr result (λ error. IsFaultOf a error) }
     ensures ordered { (a : Item) → IsWalkedBy a (map view_statement statements.now) walks.now.targets.items walks.now.before → IfOk result (λ order. IsOrderOf a order.ids.items order.lead order.turns) }
 {
     let alloc = statements.allocator();
-    let mut stack: Vec<Entry> = Vec::new(alloc);
+    let mut stack: Vec<Entry> = Vec::with_capacity(alloc, 16)?;
     let mut marks = Marks::none(alloc, statements.len())?;
-    let mut ids: Vec<Id<Statement>> = Vec::new(alloc);
+    let mut ids: Vec<Id<Statement>> = Vec::with_capacity(alloc, statements.len())?;
     let mut turns: u128 = 0;
     let mut lead = 0;
     for (k, walk) in walks.targets.iter().enumerate() {
@@ -225,7 +226,7 @@ fn order_of(statements: &Arena<Statement>, walks: &Walks) -> Result<Order, TextE
     Ok(Order { ids, lead, turns })
 }
 
-// The statement that the target names, where it is what the target asks for.
+// The statement that the target names, if it is what the target asks for.
 fn judged<'a>(statements: &'a Arena<Statement>, target: &Target) -> Result<&'a Statement, TextError>
     ensures there { IfOk result (λ statement. slice_get statements.now (position_of_target target.now) ≡ Some statement.now) }
     ensures met { OnOk result (IsMetTarget (map view_statement statements.now) target.now) }
@@ -268,12 +269,12 @@ fn push_uses(stack: &mut Vec<Entry>, statement: &Statement) -> Result<(), TextEr
     match statement {
         Statement::Assignment(assignment) => push_uses_of_rhs(stack, &assignment.value),
         Statement::Pc(pc) => {
-            push_operand(stack, pc.y)?;
-            push_operand(stack, pc.x)
+            push_operand(stack, &pc.y)?;
+            push_operand(stack, &pc.x)
         }
         Statement::BlockPc(block_pc) => {
-            push_operand(stack, block_pc.y)?;
-            push_operand(stack, block_pc.x)?;
+            push_operand(stack, &block_pc.y)?;
+            push_operand(stack, &block_pc.x)?;
             Ok(stack.push(Entry::Trace(Target::Block(block_pc.block)))?)
         }
     }
@@ -292,7 +293,26 @@ fn push_uses_of_rhs(stack: &mut Vec<Entry>, rhs: &AssignmentRhs) -> Result<(), T
             push_operands(stack, &phi.values)?;
             Ok(stack.push(Entry::Trace(Target::Block(phi.block)))?)
         }
-        AssignmentRhs::Instruction(instruction) => { push_operands(stack, &instruction.operands()) }
+        AssignmentRhs::Instruction(instruction) => push_operands_of(stack, instruction),
+    }
+}
+
+fn push_operands_of(stack: &mut Vec<Entry>, instruction: &Instruction) -> Result<(), TextError>
+    ensures ok { OnOk result (reverse stack.new.items ≡ map (λ named. Trace (target_of named)) (uses_of_operands (operands_of instruction.now)) ++ reverse stack.old.items) }
+    ensures err { IfErr result (λ error. error ≡ OutOfMemory) }
+{
+    match instruction.operands_in_place() {
+        Operands::Zero => Ok(()),
+        Operands::One(a) => push_operand(stack, a),
+        Operands::Two(a, b) => {
+            push_operand(stack, b)?;
+            push_operand(stack, a)
+        }
+        Operands::Three(a, b, c) => {
+            push_operand(stack, c)?;
+            push_operand(stack, b)?;
+            push_operand(stack, a)
+        }
     }
 }
 
@@ -303,17 +323,17 @@ fn push_operands(stack: &mut Vec<Entry>, operands: &[Operand]) -> Result<(), Tex
     let mut left = operands.len();
     while left > 0 {
         left -= 1;
-        push_operand(stack, operands[left])?;
+        push_operand(stack, &operands[left])?;
     }
     Ok(())
 }
 
-fn push_operand(stack: &mut Vec<Entry>, operand: Operand) -> Result<(), TextError>
-    ensures ok { OnOk result (reverse stack.new.items ≡ map (λ named. Trace (target_of named)) (uses_of_operand operand) ++ reverse stack.old.items) }
+fn push_operand(stack: &mut Vec<Entry>, operand: &Operand) -> Result<(), TextError>
+    ensures ok { OnOk result (reverse stack.new.items ≡ map (λ named. Trace (target_of named)) (uses_of_operand operand.now) ++ reverse stack.old.items) }
     ensures err { IfErr result (λ error. error ≡ OutOfMemory) }
 {
     match operand {
-        Operand::Value(id) => Ok(stack.push(Entry::Trace(Target::Value(id)))?),
+        Operand::Value(id) => Ok(stack.push(Entry::Trace(Target::Value(*id)))?),
         Operand::Constant(_) => Ok(()),
     }
 }

@@ -8,7 +8,7 @@ ghost use Rattle.souper_graph.specs.Values.{Item};
 ghost use Rattle.souper_graph.specs.View.{view_left_hand_side, view_right_hand_side, view_replacement};
 ghost use Rattle.souper_graph.specs.Uses.{Has, uses_at, roots_of, NeededIn, UsesBelow};
 ghost use Rattle.souper_graph.specs.Order.{Distinct};
-ghost use Rattle.souper_graph.specs.Text.{text_in_order, text_of, shown_text, IsLinesOf};
+ghost use Rattle.souper_graph.specs.Text.{text_in_order, text_of, shown_text, IsLinesOf, AppendsLinesOf};
 ghost use Rattle.souper_graph.specs.WellFormed.{WellFormed};
 ghost use Rattle.souper_graph.specs.CanonicalText.{ReadsBack};
 ghost use Rattle.souper_graph.specs.Syntax.Spelling.{left_hand_side, right_hand_side, replacement};
@@ -18,28 +18,44 @@ use crate::ast::{LeftHandSide, Replacement, RightHandSide};
 use crate::stringify::errors::TextError;
 use crate::stringify::lines::AppendInOrder;
 use crate::stringify::order::Order;
-use std::alloc::Global;
 use std::fmt;
 
-// The text of an item, its statements in this order.
-fn text_by<T: AppendInOrder>(alloc: Global, item: &T, order: &Order) -> Result<String, TextError>
+// Appends the text of the item, its statements in this order.
+fn append_by<T: AppendInOrder>(item: &T, order: &Order, out: &mut String) -> Result<(), TextError>
     requires { order.now.lead ≤ length order.now.ids.items }
-    ensures ok { IfOk result (λ text. string_bytes text ≡ text_in_order (T.item item.now).statements (T.item item.now).ending order.now.ids.items order.now.lead) }
+    ensures ok { OnOk result (string_bytes out.new ≡ string_bytes out.old ++ text_in_order (T.item item.now).statements (T.item item.now).ending order.now.ids.items order.now.lead) }
     ensures refused { IfErr result (λ error. IsFaultAmong (T.item item.now).statements (roots_of (T.item item.now).ending ++ flat_map (uses_at (T.item item.now).statements) order.now.ids.items) error) }
 {
-    // A line has some thirty bytes: so much is reserved, and the text grows from there.
-    let mut out = String::with_capacity(alloc, order.ids.len().saturating_mul(32))?;
-    item.append_in_order(&order.ids, order.lead, &mut out)?;
-    Ok(out)
+    // A line has about thirty bytes: 32 per line are reserved, and the text grows from there.
+    out.reserve(order.ids.len().saturating_mul(32))?;
+    item.append_in_order(&order.ids, order.lead, out)?;
+    Ok(())
 }
 
 impl LeftHandSide {
+    /// Appends the canonical text, that of [`LeftHandSide::to_text`], to `out`.
+    ///
+    /// The errors are those of `to_text`. If the item has a bad id, `out` is unchanged; if memory runs out, a part of the
+    /// text may be left in it.
+    pub fn append_text(&self, out: &mut String) -> Result<(), TextError>
+        ensures refused { IfErr result (λ error. IsFaultOf (view_left_hand_side self.now) error) }
+        ensures no_bad_id { OnOk result (¬ HasBadId (view_left_hand_side self.now)) }
+        ensures canonical { UsesBelow (view_left_hand_side self.now) → OnOk result (string_bytes out.new ≡ string_bytes out.old ++ text_of (view_left_hand_side self.now)) }
+        ensures lines { OnOk result (AppendsLinesOf (view_left_hand_side self.now) (string_bytes out.old) (string_bytes out.new)) }
+        ensures kept { HasBadId (view_left_hand_side self.now) → string_bytes out.new ≡ string_bytes out.old }
+    {
+        let order = self.print_order()?;
+        append_by(self, &order, out)
+    }
+
     /// The canonical text: the needed statements in printed order, a line each, and the infer line.
     ///
-    /// Needed are the root and the path conditions, and all that these use. The text ends in a newline.
-    /// Where a root or a needed statement names a position where nothing stands that it may name, the answer is such
-    /// an id, under the number of its fault. Where a needed statement uses itself or a later one, the text has the line
-    /// of each needed statement once, in an order that is not fixed.
+    /// Needed are the root and the path conditions, and all that these use. The text ends in a newline. If a needed
+    /// statement uses itself or a later one, the text has the line of each needed statement once, in an order that is
+    /// not specified.
+    ///
+    /// Errors: if a root or a needed statement has a bad id, such an id in the variant of [`TextError`] for its fault;
+    /// `OutOfMemory`.
     pub fn to_text(&self) -> Result<String, TextError>
         ensures refused { IfErr result (λ error. IsFaultOf (view_left_hand_side self.now) error) }
         ensures no_bad_id { OnOk result (¬ HasBadId (view_left_hand_side self.now)) }
@@ -47,15 +63,31 @@ impl LeftHandSide {
         ensures reads_back { WellFormed (view_left_hand_side self.now) → IfOk result (λ text. ReadsBack left_hand_side (view_left_hand_side self.now) (string_bytes text)) }
         ensures lines { IfOk result (λ text. IsLinesOf (view_left_hand_side self.now) (string_bytes text)) }
     {
-        let order = self.print_order()?;
-        text_by(self.statements.allocator(), self, &order)
+        let mut text = String::new(self.statements.allocator());
+        self.append_text(&mut text)?;
+        Ok(text)
     }
 }
 
 impl RightHandSide {
+    /// Appends the canonical text, that of [`RightHandSide::to_text`], to `out`.
+    ///
+    /// The errors are those of `to_text`. If the item has a bad id, `out` is unchanged; if memory runs out, a part of the
+    /// text may be left in it.
+    pub fn append_text(&self, out: &mut String) -> Result<(), TextError>
+        ensures refused { IfErr result (λ error. IsFaultOf (view_right_hand_side self.now) error) }
+        ensures no_bad_id { OnOk result (¬ HasBadId (view_right_hand_side self.now)) }
+        ensures canonical { UsesBelow (view_right_hand_side self.now) → OnOk result (string_bytes out.new ≡ string_bytes out.old ++ text_of (view_right_hand_side self.now)) }
+        ensures lines { OnOk result (AppendsLinesOf (view_right_hand_side self.now) (string_bytes out.old) (string_bytes out.new)) }
+        ensures kept { HasBadId (view_right_hand_side self.now) → string_bytes out.new ≡ string_bytes out.old }
+    {
+        let order = self.print_order()?;
+        append_by(self, &order, out)
+    }
+
     /// The canonical text: the needed statements in printed order, a line each, and the result line without a newline.
     ///
-    /// Needed are the root and the path conditions, and all that these use. Refusals are those of
+    /// Needed are the root and the path conditions, and all that these use. The errors are those of
     /// [`LeftHandSide::to_text`].
     pub fn to_text(&self) -> Result<String, TextError>
         ensures refused { IfErr result (λ error. IsFaultOf (view_right_hand_side self.now) error) }
@@ -64,16 +96,32 @@ impl RightHandSide {
         ensures reads_back { WellFormed (view_right_hand_side self.now) → IfOk result (λ text. ReadsBack right_hand_side (view_right_hand_side self.now) (string_bytes text)) }
         ensures lines { IfOk result (λ text. IsLinesOf (view_right_hand_side self.now) (string_bytes text)) }
     {
-        let order = self.print_order()?;
-        text_by(self.statements.allocator(), self, &order)
+        let mut text = String::new(self.statements.allocator());
+        self.append_text(&mut text)?;
+        Ok(text)
     }
 }
 
 impl Replacement {
-    /// The canonical text: the needed statements in printed order, a line each, and the cand line; or the infer line
-    /// behind the statements that it and the path conditions need, and the result line at the end.
+    /// Appends the canonical text, that of [`Replacement::to_text`], to `out`.
     ///
-    /// Needed are the roots and the path conditions, and all that these use. The text ends in a newline. Refusals are
+    /// The errors are those of `to_text`. If the item has a bad id, `out` is unchanged; if memory runs out, a part of the
+    /// text may be left in it.
+    pub fn append_text(&self, out: &mut String) -> Result<(), TextError>
+        ensures refused { IfErr result (λ error. IsFaultOf (view_replacement self.now) error) }
+        ensures no_bad_id { OnOk result (¬ HasBadId (view_replacement self.now)) }
+        ensures canonical { UsesBelow (view_replacement self.now) → OnOk result (string_bytes out.new ≡ string_bytes out.old ++ text_of (view_replacement self.now)) }
+        ensures lines { OnOk result (AppendsLinesOf (view_replacement self.now) (string_bytes out.old) (string_bytes out.new)) }
+        ensures kept { HasBadId (view_replacement self.now) → string_bytes out.new ≡ string_bytes out.old }
+    {
+        let order = self.print_order()?;
+        append_by(self, &order, out)
+    }
+
+    /// The canonical text: the needed statements in printed order, a line each, and the cand line; or the infer line
+    /// after the statements that it and the path conditions need, and the result line at the end.
+    ///
+    /// Needed are the roots and the path conditions, and all that these use. The text ends in a newline. The errors are
     /// those of [`LeftHandSide::to_text`].
     pub fn to_text(&self) -> Result<String, TextError>
         ensures refused { IfErr result (λ error. IsFaultOf (view_replacement self.now) error) }
@@ -82,16 +130,17 @@ impl Replacement {
         ensures reads_back { WellFormed (view_replacement self.now) → IfOk result (λ text. ReadsBack replacement (view_replacement self.now) (string_bytes text)) }
         ensures lines { IfOk result (λ text. IsLinesOf (view_replacement self.now) (string_bytes text)) }
     {
-        let order = self.print_order()?;
-        let alloc = match self {
-            Replacement::LhsRhs { statements, .. } => statements.allocator(),
-            Replacement::Cand { statements, .. } => statements.allocator(),
+        let statements = match self {
+            Replacement::LhsRhs { statements, .. } => statements,
+            Replacement::Cand { statements, .. } => statements,
         };
-        text_by(alloc, self, &order)
+        let mut text = String::new(statements.allocator());
+        self.append_text(&mut text)?;
+        Ok(text)
     }
 }
 
-/// Writes the bytes of `to_text`, or answers `fmt::Error` where that has none or the writer fails.
+/// Writes the bytes of `to_text`, or returns `fmt::Error` if that or the writer fails.
 impl fmt::Display for LeftHandSide {
     ghost use Rattle.souper_graph.specs.View.{view_left_hand_side};
     ghost use Rattle.souper_graph.specs.Text.{shown_text};
@@ -113,7 +162,7 @@ impl fmt::Display for LeftHandSide {
     }
 }
 
-/// Writes the bytes of `to_text`, or answers `fmt::Error` where that has none or the writer fails.
+/// Writes the bytes of `to_text`, or returns `fmt::Error` if that or the writer fails.
 impl fmt::Display for RightHandSide {
     ghost use Rattle.souper_graph.specs.View.{view_right_hand_side};
     ghost use Rattle.souper_graph.specs.Text.{shown_text};
@@ -135,7 +184,7 @@ impl fmt::Display for RightHandSide {
     }
 }
 
-/// Writes the bytes of `to_text`, or answers `fmt::Error` where that has none or the writer fails.
+/// Writes the bytes of `to_text`, or returns `fmt::Error` if that or the writer fails.
 impl fmt::Display for Replacement {
     ghost use Rattle.souper_graph.specs.View.{view_replacement};
     ghost use Rattle.souper_graph.specs.Text.{shown_text};

@@ -5,6 +5,7 @@ ghost use Rattle.souper_graph.specs.View.{view_attribute, view_root_attribute};
 ghost use Rattle.souper_graph.specs.Syntax.Spelling.{attribute_spells, root_attribute_spells};
 ghost use Rattle.souper_graph.specs.Syntax.Tokens.{open_paren};
 ghost use Rattle.souper_graph.specs.Syntax.Numbers.{bits_of};
+ghost use Rattle.souper_ir.specs.Errors.{widened};
 ghost use Rattle.souper_ir.specs.Reading.{Gives};
 ghost use Rattle.souper_ir.specs.NodeReadings.{bits_kind, sign_bits_kind, range_kind, accept, is_mark, int_by, ident_by, attribute_kind_of_word, attribute_kind_of, attribute_by, attribute_at, root_kind_of_word, root_attribute_by, root_attribute_at};
 ghost use Rattle.souper_ir.specs.AttributeView.{view_kind, has_bits};
@@ -12,9 +13,10 @@ ghost use Rattle.souper_ir.specs.Readings.{one_alone};
 ghost use Rattle.souper_ir.specs.AttributeLaws.{attribute_complete, attribute_first, root_attribute_complete, root_attribute_first};
 
 use crate::lexer::Token;
+use crate::parse::error::widen;
 use crate::parse::message::Message;
 use crate::parse::numbers::{bits, known_bits};
-use crate::parse::parser::{Parser, Result};
+use crate::parse::parser::{Parser, Read, Result};
 use crate::parse::tokens::{Mark, bit_count, integer, mark_comes, punctuation};
 use crate::parse::traits::{Parse, Peek};
 use souper_graph::ast::{Attribute, RootAttribute};
@@ -51,8 +53,8 @@ fn kind_of_word<'a>(word: &str) -> Option<Kind<'a>>
 }
 
 #[tactic(auto, unfolding(crate::specs::NodeReadings::accept))]
-fn attribute_kind<'a>(parser: &mut Parser<'a>) -> Result<Kind<'a>>
-    ensures { Gives view_kind result (accept attribute_kind_of parser.old) parser.old parser.new }
+fn attribute_kind<'a>(parser: &mut Parser<'a>) -> Read<Kind<'a>>
+    ensures { Gives view_kind (widened result) (accept attribute_kind_of parser.old) parser.old parser.new }
 {
     match parser.token()? {
         Token::KnownBits(pattern) => Ok(Kind::KnownBits(pattern)),
@@ -65,9 +67,9 @@ fn attribute_kind<'a>(parser: &mut Parser<'a>) -> Result<Kind<'a>>
 }
 
 // The attribute of a pattern that was taken.
-fn known_bits_attribute(parser: &mut Parser<'_>, pattern: &str) -> Result<Attribute>
+fn known_bits_attribute(parser: &mut Parser<'_>, pattern: &str) -> Read<Attribute>
     requires { parser.old.failed ≡ None }
-    ensures { Gives view_attribute result (attribute_by (bits_kind pattern.now) parser.old) parser.old parser.new }
+    ensures { Gives view_attribute (widened result) (attribute_by (bits_kind pattern.now) parser.old) parser.old parser.new }
 {
     match known_bits(parser.alloc(), pattern) {
         Ok(Some(bits)) => Ok(Attribute::KnownBits(bits)),
@@ -77,8 +79,8 @@ fn known_bits_attribute(parser: &mut Parser<'_>, pattern: &str) -> Result<Attrib
 }
 
 // `=` and the number of bits.
-fn sign_bits(parser: &mut Parser<'_>) -> Result<Attribute>
-    ensures { Gives view_attribute result (attribute_by sign_bits_kind parser.old) parser.old parser.new }
+fn sign_bits(parser: &mut Parser<'_>) -> Read<Attribute>
+    ensures { Gives view_attribute (widened result) (attribute_by sign_bits_kind parser.old) parser.old parser.new }
 {
     punctuation(parser, Mark::Equals)?;
     let count = bit_count(parser)?;
@@ -86,8 +88,8 @@ fn sign_bits(parser: &mut Parser<'_>) -> Result<Attribute>
 }
 
 // `=[`, the two numbers with a comma between them, and `)`.
-fn range(parser: &mut Parser<'_>) -> Result<Attribute>
-    ensures { Gives view_attribute result (attribute_by range_kind parser.old) parser.old parser.new }
+fn range(parser: &mut Parser<'_>) -> Read<Attribute>
+    ensures { Gives view_attribute (widened result) (attribute_by range_kind parser.old) parser.old parser.new }
 {
     punctuation(parser, Mark::Equals)?;
     punctuation(parser, Mark::OpenBracket)?;
@@ -98,10 +100,10 @@ fn range(parser: &mut Parser<'_>) -> Result<Attribute>
     Ok(Attribute::Range(low, high))
 }
 
-// What follows the kind, up to the last parenthesis.
-fn attribute_of_kind(parser: &mut Parser<'_>, kind: Kind<'_>) -> Result<Attribute>
+// What follows the kind, up to the closing parenthesis.
+fn attribute_of_kind(parser: &mut Parser<'_>, kind: Kind<'_>) -> Read<Attribute>
     requires { parser.old.failed ≡ None }
-    ensures { Gives view_attribute result (attribute_by (view_kind kind.entry) parser.old) parser.old parser.new }
+    ensures { Gives view_attribute (widened result) (attribute_by (view_kind kind.entry) parser.old) parser.old parser.new }
 {
     match kind {
         Kind::KnownBits(pattern) => known_bits_attribute(parser, pattern),
@@ -116,8 +118,8 @@ fn attribute_of_kind(parser: &mut Parser<'_>, kind: Kind<'_>) -> Result<Attribut
 }
 
 #[tactic(auto, unfolding(crate::specs::NodeReadings::attribute_at))]
-pub(crate) fn attribute(parser: &mut Parser<'_>) -> Result<Attribute>
-    ensures { Gives view_attribute result (attribute_at parser.old) parser.old parser.new }
+pub(crate) fn attribute(parser: &mut Parser<'_>) -> Read<Attribute>
+    ensures { Gives view_attribute (widened result) (attribute_at parser.old) parser.old parser.new }
 {
     punctuation(parser, Mark::OpenParen)?;
     let kind = attribute_kind(parser)?;
@@ -134,8 +136,8 @@ enum RootKind {
 }
 
 #[tactic(auto, unfolding(crate::specs::NodeReadings::accept))]
-fn root_kind(parser: &mut Parser<'_>) -> Result<RootKind>
-    ensures { Gives has_bits result (accept (ident_by root_kind_of_word) parser.old) parser.old parser.new }
+fn root_kind(parser: &mut Parser<'_>) -> Read<RootKind>
+    ensures { Gives has_bits (widened result) (accept (ident_by root_kind_of_word) parser.old) parser.old parser.new }
 {
     match parser.token()? {
         Token::Ident("demandedBits") => Ok(RootKind::DemandedBits),
@@ -145,8 +147,8 @@ fn root_kind(parser: &mut Parser<'_>) -> Result<RootKind>
 }
 
 #[tactic(auto, unfolding(crate::specs::NodeReadings::accept))]
-fn bit_list(parser: &mut Parser<'_>) -> Result<Vec<bool>>
-    ensures { Gives (λ bits. bits.items) result (accept (int_by bits_of) parser.old) parser.old parser.new }
+fn bit_list(parser: &mut Parser<'_>) -> Read<Vec<bool>>
+    ensures { Gives (λ bits. bits.items) (widened result) (accept (int_by bits_of) parser.old) parser.old parser.new }
 {
     let pattern = match parser.token()? {
         Token::Int(pattern) => pattern,
@@ -159,10 +161,10 @@ fn bit_list(parser: &mut Parser<'_>) -> Result<Vec<bool>>
     }
 }
 
-// What follows the kind, up to the last parenthesis.
-fn root_attribute_of_kind(parser: &mut Parser<'_>, kind: RootKind) -> Result<RootAttribute>
+// What follows the kind, up to the closing parenthesis.
+fn root_attribute_of_kind(parser: &mut Parser<'_>, kind: RootKind) -> Read<RootAttribute>
     requires { parser.old.failed ≡ None }
-    ensures { Gives view_root_attribute result (root_attribute_by (has_bits kind) parser.old) parser.old parser.new }
+    ensures { Gives view_root_attribute (widened result) (root_attribute_by (has_bits kind) parser.old) parser.old parser.new }
 {
     match kind {
         RootKind::DemandedBits => {
@@ -175,8 +177,8 @@ fn root_attribute_of_kind(parser: &mut Parser<'_>, kind: RootKind) -> Result<Roo
 }
 
 #[tactic(auto, unfolding(crate::specs::NodeReadings::root_attribute_at))]
-pub(crate) fn root_attribute(parser: &mut Parser<'_>) -> Result<RootAttribute>
-    ensures { Gives view_root_attribute result (root_attribute_at parser.old) parser.old parser.new }
+pub(crate) fn root_attribute(parser: &mut Parser<'_>) -> Read<RootAttribute>
+    ensures { Gives view_root_attribute (widened result) (root_attribute_at parser.old) parser.old parser.new }
 {
     punctuation(parser, Mark::OpenParen)?;
     let kind = root_kind(parser)?;
@@ -198,7 +200,7 @@ impl Parse for Attribute {
     ghost alone = { one_alone (λ s. attribute_spells) (λ a t. ⊥) attribute_at attribute_complete };
 
     fn parse<'a>(parser: &mut Parser<'a>) -> Result<Self> {
-        attribute(parser)
+        widen(attribute(parser))
     }
 }
 
@@ -210,7 +212,7 @@ impl Peek for Attribute {
     ghost stays = { λ s. refl };
 
     fn peek<'a>(parser: &mut Parser<'a>) -> Result<bool> {
-        mark_comes(parser, Mark::OpenParen)
+        widen(mark_comes(parser, Mark::OpenParen))
     }
 }
 
@@ -227,7 +229,7 @@ impl Parse for RootAttribute {
     ghost alone = { one_alone (λ s. root_attribute_spells) (λ a t. ⊥) root_attribute_at root_attribute_complete };
 
     fn parse<'a>(parser: &mut Parser<'a>) -> Result<Self> {
-        root_attribute(parser)
+        widen(root_attribute(parser))
     }
 }
 
@@ -239,6 +241,6 @@ impl Peek for RootAttribute {
     ghost stays = { λ s. refl };
 
     fn peek<'a>(parser: &mut Parser<'a>) -> Result<bool> {
-        mark_comes(parser, Mark::OpenParen)
+        widen(mark_comes(parser, Mark::OpenParen))
     }
 }

@@ -1,8 +1,8 @@
 //! The error of a parse.
-ghost use Rattle.std.specs.Prelude.{◌≡◌, ◌≤◌, ◌⊎◌, ◌↔◌, length, string_bytes, option_copied, IfOk, IfSome, IsSome, Some};
+ghost use Rattle.std.specs.Prelude.{◌≡◌, ◌≢◌, ◌≤◌, ◌⊎◌, ◌↔◌, length, string_bytes, option_copied, IfOk, IfErr, IfSome, IsSome, Some};
 ghost use Rattle.std.specs.Fmt.{WritesOnOk, DisplaysOnOk, DisplaysStyledOnOk};
 ghost use Rattle.souper_ir.specs.Places.{direct_text};
-ghost use Rattle.souper_ir.specs.Errors.{kind_of, offset_of, fault_of, shown_error, shown_refusal_of, IsLocated, IsRefusalAt, ShowsFault};
+ghost use Rattle.souper_ir.specs.Errors.{error_of, widened, kind_of, offset_of, fault_of, shown_error, shown_refusal_of, IsLocated, IsRefusalAt, ShowsFault};
 
 use crate::parse::place::Place;
 use crate::parse::unstyled::write_unstyled;
@@ -18,15 +18,15 @@ mod tests;
 /// Why a parse failed.
 #[derive(Clone, Copy, Debug, PartialEq, Eq)]
 pub enum ParseErrorKind {
-    /// A read failed, or what was read is no text.
+    /// A read failed, or what was read is not UTF-8.
     Io,
     /// The text was refused.
     Parse,
-    /// There was no memory for the result, or for the error.
+    /// Memory ran out, for the result or for the error.
     Memory,
 }
 
-/// The error of a parse. It shows why the parse failed and, for a text that was refused, where.
+/// The error of a parse. It shows why the parse failed and, if a text was refused, where.
 #[derive(Drop)]
 pub struct ParseError {
     cause: Cause,
@@ -35,40 +35,84 @@ pub struct ParseError {
 #[derive(Drop)]
 enum Cause {
     Io(io::Error),
-    // In a box, since every answer of a parser has room for it.
     Parse(Box<Refusal>),
     Memory,
 }
 
 // A refusal of a text. It has no place until its source is known.
 #[derive(Drop)]
-struct Refusal {
+pub(crate) struct Refusal {
     offset: usize,
     message: String,
     place: Option<Place>,
 }
 
-impl ParseError {
+/// Why a reader failed: a `ParseError` that is no I/O error, small enough for registers.
+#[derive(Drop)]
+pub(crate) enum ReadError {
+    Refused(Box<Refusal>),
+    Memory,
+}
+
+impl ReadError {
     /// A refusal at an offset, in bytes.
     pub(crate) fn refused(
         alloc: Global,
         offset: usize,
         message: String,
-    ) -> Result<ParseError, AllocError>
-        ensures kind { IfOk result (λ error. kind_of error ≡ ParseErrorKind.Parse) }
-        ensures offset { IfOk result (λ error. offset_of error ≡ Some offset) }
-        ensures shown { IfOk result (λ error. shown_error error ≡ Some (direct_text offset (string_bytes message))) }
+    ) -> Result<ReadError, AllocError>
+        ensures kind { IfOk result (λ error. kind_of (error_of error) ≡ ParseErrorKind.Parse) }
+        ensures offset { IfOk result (λ error. offset_of (error_of error) ≡ Some offset) }
+        ensures shown { IfOk result (λ error. shown_error (error_of error) ≡ Some (direct_text offset (string_bytes message))) }
     {
         let refusal = Refusal {
             offset,
             message,
             place: None,
         };
-        let cause = Cause::Parse(Box::new(alloc, refusal)?);
-        Ok(ParseError { cause })
+        Ok(ReadError::Refused(Box::new(alloc, refusal)?))
     }
+}
 
-    /// Want of memory.
+impl From<ReadError> for ParseError {
+    ghost from_gives = { λ read e. e ≡ error_of read };
+
+    fn from(read: ReadError) -> ParseError {
+        let cause = match read {
+            ReadError::Refused(refusal) => Cause::Parse(refusal),
+            ReadError::Memory => Cause::Memory,
+        };
+        ParseError { cause }
+    }
+}
+
+/// What a reader returned, with the error that callers of the parser get.
+pub(crate) fn widen<T>(read: Result<T, ReadError>) -> Result<T, ParseError>
+    ensures { result ≡ widened read }
+{
+    match read {
+        Ok(value) => Ok(value),
+        Err(error) => Err(error.into()),
+    }
+}
+
+/// What a parser returned, with the error of a reader. It is no I/O error.
+pub(crate) fn narrow<T>(parsed: Result<T, ParseError>) -> Result<T, ReadError>
+    requires { IfErr parsed (λ error. kind_of error ≢ ParseErrorKind.Io) }
+    ensures { widened result ≡ parsed }
+{
+    match parsed {
+        Ok(value) => Ok(value),
+        Err(error) => match error.cause {
+            Cause::Parse(refusal) => Err(ReadError::Refused(refusal)),
+            Cause::Memory => Err(ReadError::Memory),
+            Cause::Io(_) => unreachable!(),
+        },
+    }
+}
+
+impl ParseError {
+    /// The error for out of memory.
     pub(crate) fn memory() -> ParseError
         ensures { kind_of result ≡ ParseErrorKind.Memory }
     {
@@ -99,8 +143,8 @@ impl ParseError {
         }
     }
 
-    /// Where the text was refused: `Some` exactly for the kind `Parse`. An offset is a number of bytes from the text's
-    /// first byte, and lies in 0 to the text's length.
+    /// Where the text was refused: `Some` if and only if the kind is `Parse`. An offset is a number of bytes from the
+    /// text's first byte, from 0 to the text's length.
     pub fn offset(&self) -> Option<usize>
         ensures { result ≡ offset_of self.now }
     {
@@ -110,7 +154,7 @@ impl ParseError {
         }
     }
 
-    /// The error of the read: `Some` exactly for the kind `Io`.
+    /// The error of the read: `Some` if and only if the kind is `Io`.
     pub fn io_error(&self) -> Option<&io::Error>
         ensures fault { option_copied result ≡ fault_of self.now }
         ensures kind { IsSome result ↔ (kind_of self.now ≡ ParseErrorKind.Io) }
@@ -163,11 +207,11 @@ fn show_fault<W: fmt::Write>(fault: &io::Error, f: &mut fmt::Formatter<W>) -> fm
 {
     let mut text = ArrayString::<512>::new();
     write!(text, "{fault}")?;
-    let text = text.as_str();
-    write!(f, "IO error: {text}")
+    f.write_str("IO error: ")?;
+    f.write_str(text.as_str())
 }
 
-/// Width, fill, precision and sign play no part.
+/// Width, fill, precision and sign are ignored.
 impl fmt::Display for ParseError {
     ghost output = { shown_error };
 
@@ -186,7 +230,7 @@ impl fmt::Display for ParseError {
     }
 }
 
-/// Shows the same text as `Display`. Width, fill, precision and sign play no part.
+/// Shows the same text as `Display`. Width, fill, precision and sign are ignored.
 impl fmt::Debug for ParseError {
     ghost debug_output = { shown_error };
 

@@ -16,7 +16,7 @@ use std::io::ErrorKind;
 use std::rt::Files;
 use std::{fs, io};
 
-// The items of the text that a read gave.
+// The items of the text that was read.
 fn answer_read<T: WholeItem + Drop>(
     alloc: Global,
     read: io::Result<String>,
@@ -38,9 +38,9 @@ fn answer_read<T: WholeItem + Drop>(
 
 /// The left-hand sides of a file, in order.
 ///
-/// The file is read, and its text is answered as by [`parse_left_hand_sides_str`](crate::parse::parse_left_hand_sides_str),
-/// with the path as file name. Where the read fails, also since the bytes are no UTF-8, the error is of the kind `Io`,
-/// or want of memory.
+/// The file is read, and its text is parsed as by
+/// [`parse_left_hand_sides_str`](crate::parse::parse_left_hand_sides_str), with the path as file name. If the read
+/// fails, also because the bytes are not UTF-8, the error is of the kind `Io` or `Memory`.
 pub fn parse_left_hand_sides_file<R: Files + AllocGlobal>(
     rt: &R,
     alloc: Global,
@@ -53,9 +53,9 @@ pub fn parse_left_hand_sides_file<R: Files + AllocGlobal>(
 
 /// The right-hand sides of a file, in order.
 ///
-/// The file is read, and its text is answered as by [`parse_right_hand_sides_str`](crate::parse::parse_right_hand_sides_str),
-/// with the path as file name. Where the read fails, also since the bytes are no UTF-8, the error is of the kind `Io`,
-/// or want of memory.
+/// The file is read, and its text is parsed as by
+/// [`parse_right_hand_sides_str`](crate::parse::parse_right_hand_sides_str), with the path as file name. If the read
+/// fails, also because the bytes are not UTF-8, the error is of the kind `Io` or `Memory`.
 pub fn parse_right_hand_sides_file<R: Files + AllocGlobal>(
     rt: &R,
     alloc: Global,
@@ -68,9 +68,9 @@ pub fn parse_right_hand_sides_file<R: Files + AllocGlobal>(
 
 /// The replacements of a file, in order.
 ///
-/// The file is read, and its text is answered as by [`parse_replacements_str`](crate::parse::parse_replacements_str), with
-/// the path as file name. Where the read fails, also since the bytes are no UTF-8, the error is of the kind `Io`, or want
-/// of memory.
+/// The file is read, and its text is parsed as by [`parse_replacements_str`](crate::parse::parse_replacements_str),
+/// with the path as file name. If the read fails, also because the bytes are not UTF-8, the error is of the kind `Io`
+/// or `Memory`.
 pub fn parse_replacements_file<R: Files + AllocGlobal>(
     rt: &R,
     alloc: Global,

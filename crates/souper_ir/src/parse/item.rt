@@ -7,49 +7,95 @@ ghost use Rattle.souper_graph.specs.WellFormed.{WellFormed, EachClosed};
 ghost use Rattle.souper_graph.specs.Values.{Item};
 ghost use Rattle.souper_graph.specs.Syntax.Tokens.{IsLastGap, IsLexeme};
 ghost use Rattle.souper_graph.specs.Syntax.Spelling.{kinds, ItemType, left_hand_side, right_hand_side, replacement, statement_spells, item_spells_after, TextSpells};
+ghost use Rattle.souper_ir.specs.Errors.{error_of, widened};
 ghost use Rattle.souper_ir.specs.Continuation.{statement_continues, item_continues};
 ghost use Rattle.souper_ir.specs.Grammar.{Took, Refusal};
+ghost use Rattle.souper_ir.specs.declared.parse.item.Next.{Next};
+ghost use Rattle.souper_ir.specs.NextStatement.{next_at, Begins};
+ghost use Rattle.souper_ir.specs.Reading.{Gives};
 ghost use Rattle.souper_ir.specs.Items.{Enters, TakesStatements, StatedRefusal};
 ghost use Rattle.souper_ir.specs.ItemLaws.{item_alone};
 ghost use Rattle.souper_ir.specs.ItemRuns.{SpellsAll, ListRefusal};
 ghost use Rattle.souper_ir.specs.Answers.{IsStrError};
 ghost use Rattle.souper_ir.specs.Sinks.{TakesOver, TakesText};
 
+use crate::lexer::Token;
 use crate::parse::last_lines::{cand, infer, result};
-use crate::parse::parser::{Parser, Result};
+use crate::parse::parser::{Parser, Read, Result};
 use crate::parse::sink::Sink;
 use crate::parse::statements::{assignment, block_pc, pc};
 use crate::parse::tokens::{token_comes, word_comes};
-use crate::parse::traits::{Parse, Peek};
-use souper_graph::ast::{LeftHandSide, Replacement, RightHandSide, Statement};
+use crate::parse::traits::Parse;
+use souper_graph::ast::{LeftHandSide, Replacement, RightHandSide};
 use std::alloc::Global;
 
-// The statement that stands next, which is entered into the scope.
-fn enter_statement(parser: &mut Parser<'_>) -> Result<()>
-    ensures ok { OnOk result (Enters parser.old parser.new) }
-    ensures err { IfErr result (λ e. Refusal statement_spells statement_continues e parser.old parser.new) }
+// What the next token begins.
+#[derive(Clone, Copy)]
+enum Next {
+    Assignment,
+    Pc,
+    BlockPc,
+    Other,
+}
+
+#[tactic(auto, unfolding(crate::specs::NextStatement::next_at))]
+fn next_kind(parser: &mut Parser<'_>) -> Read<Next>
+    ensures { Gives (λ n. n) (widened result) (next_at parser.old) parser.old parser.new }
 {
-    if word_comes(parser, "pc")? {
-        let condition = pc(parser)?;
-        parser.add(condition.into())
-    } else if word_comes(parser, "blockpc")? {
-        let condition = block_pc(parser)?;
-        parser.add(condition.into())
-    } else {
-        let (name, assignment) = assignment(parser)?;
-        parser.define(name, assignment)
+    match parser.lookahead()? {
+        Some(Token::ValName(_)) => Ok(Next::Assignment),
+        Some(Token::Ident("pc")) => Ok(Next::Pc),
+        Some(Token::Ident("blockpc")) => Ok(Next::BlockPc),
+        _ => Ok(Next::Other),
     }
 }
 
-// The statements that stand next, which are entered into the scope.
-fn statements(parser: &mut Parser<'_>) -> Result<()>
-    ensures ok { OnOk result (TakesStatements parser.old parser.new) }
-    ensures err { IfErr result (λ e. StatedRefusal e parser.old parser.new) }
+// The next statement, a path condition, which is entered into the scope.
+#[inline(never)]
+fn enter_pc(parser: &mut Parser<'_>) -> Read<()>
+    requires { Begins Next.Pc parser.old }
+    ensures ok { OnOk result (Enters parser.old parser.new) }
+    ensures err { IfErr result (λ e. Refusal statement_spells statement_continues (error_of e) parser.old parser.new) }
 {
-    while Statement::peek(parser)? {
-        enter_statement(parser)?;
+    let condition = pc(parser)?;
+    parser.add(condition.into())
+}
+
+// The next statement, a path condition on a predecessor of a block, which is entered into the scope.
+#[inline(never)]
+fn enter_block_pc(parser: &mut Parser<'_>) -> Read<()>
+    requires { Begins Next.BlockPc parser.old }
+    ensures ok { OnOk result (Enters parser.old parser.new) }
+    ensures err { IfErr result (λ e. Refusal statement_spells statement_continues (error_of e) parser.old parser.new) }
+{
+    let condition = block_pc(parser)?;
+    parser.add(condition.into())
+}
+
+// The next statement, an assignment, which is entered into the scope.
+#[inline(never)]
+fn enter_assignment(parser: &mut Parser<'_>) -> Read<()>
+    requires { Begins Next.Assignment parser.old }
+    ensures ok { OnOk result (Enters parser.old parser.new) }
+    ensures err { IfErr result (λ e. Refusal statement_spells statement_continues (error_of e) parser.old parser.new) }
+{
+    let (name, assignment) = assignment(parser)?;
+    parser.define(name, assignment)
+}
+
+// The next statements, which are entered into the scope.
+fn statements(parser: &mut Parser<'_>) -> Read<()>
+    ensures ok { OnOk result (TakesStatements parser.old parser.new) }
+    ensures err { IfErr result (λ e. StatedRefusal (error_of e) parser.old parser.new) }
+{
+    loop {
+        match next_kind(parser)? {
+            Next::Assignment => enter_assignment(parser)?,
+            Next::Pc => enter_pc(parser)?,
+            Next::BlockPc => enter_block_pc(parser)?,
+            Next::Other => return Ok(()),
+        }
     }
-    Ok(())
 }
 
 /// A whole item: a left-hand side, a right-hand side or a replacement.
@@ -58,7 +104,7 @@ pub trait WholeItem: Sized {
 
     ghost view: { Self → Item };
 
-    /// Takes the tokens of an item. The scope is empty behind it.
+    /// Takes the tokens of an item. The scope is empty after it.
     fn item(parser: &mut Parser<'_>) -> Result<Self>
         ensures ok { IfOk result (λ v. Took (item_spells_after item_type) item_continues (λ s. []) (view v) parser.old parser.new) }
         ensures err { IfErr result (λ e. Refusal (item_spells_after item_type) item_continues e parser.old parser.new) };
@@ -115,7 +161,7 @@ impl WholeItem for Replacement {
     }
 }
 
-/// Its statements may use the names of those before them, and of no others. The scope is empty behind it.
+/// Its statements may use the names of those before them, and of no others. The scope is empty after it.
 impl Parse for LeftHandSide {
     ghost Plain = { Item };
 
@@ -134,7 +180,7 @@ impl Parse for LeftHandSide {
     }
 }
 
-/// Its statements may use the names of those before them, and of no others. The scope is empty behind it.
+/// Its statements may use the names of those before them, and of no others. The scope is empty after it.
 impl Parse for RightHandSide {
     ghost Plain = { Item };
 
@@ -154,7 +200,7 @@ impl Parse for RightHandSide {
 }
 
 /// Either an infer line and a result line, with further statements between them, or a cand line. The scope is empty
-/// behind it.
+/// after it.
 impl Parse for Replacement {
     ghost Plain = { Item };
 
@@ -173,7 +219,7 @@ impl Parse for Replacement {
     }
 }
 
-// Hands the items up to the end of the text to the sink.
+// Passes the items up to the end of the text to the sink.
 fn items<T: WholeItem, S: Sink<T>>(parser: &mut Parser<'_>, sink: &mut S) -> Result<()>
     requires scope { parser.old.scope ≡ [] }
     requires lexemes { AllByRecursion IsLexeme (kinds parser.old.tokens) }
@@ -186,18 +232,18 @@ fn items<T: WholeItem, S: Sink<T>>(parser: &mut Parser<'_>, sink: &mut S) -> Res
         let item = T::item(parser)?;
         match sink.take(item) {
             Ok(()) => {}
-            Err(_) => return Err(parser.want_memory()),
+            Err(_) => return Err(parser.want_memory().into()),
         }
     }
     Ok(())
 }
 
-/// Hands the items of a text to a sink, one at a time and in order, so that they need not stand in memory together.
+/// Passes the items of a text to a sink, one at a time and in order, so that they need not be in memory together.
 ///
-/// The type of the items is [`LeftHandSide`], [`RightHandSide`] or [`Replacement`]. The file name is for the error, which
-/// shows `unknown` without one. An error of the kind `Parse` says that the text spells no list of such items; the other
-/// kind is want of memory. Behind an error the sink may have taken items. A text of white space and comments alone has no
-/// items, and takes no memory.
+/// The type of the items is [`LeftHandSide`], [`RightHandSide`] or [`Replacement`]. The file name is for the error,
+/// which shows `unknown` without one. An error of the kind `Parse` says that the text spells no list of such items; the
+/// other kind is `Memory`. After an error the sink may have taken items. A text of white space and comments alone has
+/// no items.
 pub fn parse_into<T: WholeItem, S: Sink<T>>(
     alloc: Global,
     source: &str,
@@ -234,8 +280,9 @@ pub(crate) fn parse_str<T: WholeItem + Drop>(
 
 /// The left-hand sides of a text, in order.
 ///
-/// The file name is for the error, which shows `unknown` without one. A text that is refused has no items: the error is of
-/// the kind `Parse`, or want of memory. A text of white space and comments alone has no items, and takes no memory.
+/// The file name is for the error, which shows `unknown` without one. A text that is refused has no items: the error is
+/// of the kind `Parse` or `Memory`. A text of white space and comments alone has no items, and never runs out of
+/// memory.
 pub fn parse_left_hand_sides_str(
     alloc: Global,
     source: &str,
@@ -252,8 +299,9 @@ pub fn parse_left_hand_sides_str(
 
 /// The right-hand sides of a text, in order.
 ///
-/// The file name is for the error, which shows `unknown` without one. A text that is refused has no items: the error is of
-/// the kind `Parse`, or want of memory. A text of white space and comments alone has no items, and takes no memory.
+/// The file name is for the error, which shows `unknown` without one. A text that is refused has no items: the error is
+/// of the kind `Parse` or `Memory`. A text of white space and comments alone has no items, and never runs out of
+/// memory.
 pub fn parse_right_hand_sides_str(
     alloc: Global,
     source: &str,
@@ -270,8 +318,9 @@ pub fn parse_right_hand_sides_str(
 
 /// The replacements of a text, in order.
 ///
-/// The file name is for the error, which shows `unknown` without one. A text that is refused has no items: the error is of
-/// the kind `Parse`, or want of memory. A text of white space and comments alone has no items, and takes no memory.
+/// The file name is for the error, which shows `unknown` without one. A text that is refused has no items: the error is
+/// of the kind `Parse` or `Memory`. A text of white space and comments alone has no items, and never runs out of
+/// memory.
 pub fn parse_replacements_str(
     alloc: Global,
     source: &str,

@@ -4,23 +4,25 @@ ghost use Rattle.std.specs.Prelude.{◌≡◌, codes, refl, IfOk, IfErr};
 ghost use Rattle.souper_graph.specs.Values.{PlainInfer, PlainCand};
 ghost use Rattle.souper_graph.specs.View.{view_infer, view_cand};
 ghost use Rattle.souper_graph.specs.Syntax.Spelling.{infer_spells, cand_spells};
+ghost use Rattle.souper_ir.specs.Errors.{error_of, widened};
 ghost use Rattle.souper_ir.specs.Continuation.{infer_continues, cand_continues};
 ghost use Rattle.souper_ir.specs.Reading.{Gives};
 ghost use Rattle.souper_ir.specs.Grammar.{Took, Refusal};
 ghost use Rattle.souper_ir.specs.NodeReadings.{is_word, root_at, optional_comma_at, pair_at, result_at};
 ghost use Rattle.souper_ir.specs.StatementLaws.{infer_alone, infer_first, cand_alone};
 
+use crate::parse::error::{narrow, widen};
 use crate::parse::message::Message;
 use crate::parse::operands::operand;
-use crate::parse::parser::{Parser, Result};
+use crate::parse::parser::{Parser, Read, Result};
 use crate::parse::tokens::{Mark, keyword, mark_comes, punctuation, value_name, word_comes};
 use crate::parse::traits::{Parse, Peek};
 use souper_graph::ast::{Cand, Infer, Operand, RootAttribute, ValueId};
 
 // The value that an infer line names.
 #[tactic(auto, unfolding(crate::specs::NodeReadings::root_at))]
-fn root(parser: &mut Parser<'_>) -> Result<ValueId>
-    ensures { Gives (λ i. i) result (root_at parser.old) parser.old parser.new }
+fn root(parser: &mut Parser<'_>) -> Read<ValueId>
+    ensures { Gives (λ i. i) (widened result) (root_at parser.old) parser.old parser.new }
 {
     keyword(parser, "infer")?;
     let name = value_name(parser)?;
@@ -30,18 +32,18 @@ fn root(parser: &mut Parser<'_>) -> Result<ValueId>
     }
 }
 
-pub(crate) fn infer(parser: &mut Parser<'_>) -> Result<Infer>
+pub(crate) fn infer(parser: &mut Parser<'_>) -> Read<Infer>
     ensures ok { IfOk result (λ i. Took infer_spells infer_continues (λ s. s) (view_infer i) parser.old parser.new) }
-    ensures err { IfErr result (λ e. Refusal infer_spells infer_continues e parser.old parser.new) }
+    ensures err { IfErr result (λ e. Refusal infer_spells infer_continues (error_of e) parser.old parser.new) }
 {
     let value = root(parser)?;
-    let attributes = Vec::<RootAttribute>::parse(parser)?;
+    let attributes = narrow(Vec::<RootAttribute>::parse(parser))?;
     Ok(Infer { value, attributes })
 }
 
 #[tactic(auto, unfolding(crate::specs::NodeReadings::optional_comma_at))]
-fn optional_comma(parser: &mut Parser<'_>) -> Result<()>
-    ensures { Gives (λ u. u) result (optional_comma_at parser.old) parser.old parser.new }
+fn optional_comma(parser: &mut Parser<'_>) -> Read<()>
+    ensures { Gives (λ u. u) (widened result) (optional_comma_at parser.old) parser.old parser.new }
 {
     if mark_comes(parser, Mark::Comma)? {
         punctuation(parser, Mark::Comma)?;
@@ -51,8 +53,8 @@ fn optional_comma(parser: &mut Parser<'_>) -> Result<()>
 
 // The two operands of a cand line.
 #[tactic(auto, unfolding(crate::specs::NodeReadings::pair_at))]
-fn pair(parser: &mut Parser<'_>) -> Result<(Operand, Operand)>
-    ensures { Gives (λ r. (r.0, r.1)) result (pair_at parser.old) parser.old parser.new }
+fn pair(parser: &mut Parser<'_>) -> Read<(Operand, Operand)>
+    ensures { Gives (λ r. (r.0, r.1)) (widened result) (pair_at parser.old) parser.old parser.new }
 {
     keyword(parser, "cand")?;
     let lhs = operand(parser)?;
@@ -61,12 +63,12 @@ fn pair(parser: &mut Parser<'_>) -> Result<(Operand, Operand)>
     Ok((lhs, rhs))
 }
 
-pub(crate) fn cand(parser: &mut Parser<'_>) -> Result<Cand>
+pub(crate) fn cand(parser: &mut Parser<'_>) -> Read<Cand>
     ensures ok { IfOk result (λ c. Took cand_spells cand_continues (λ s. s) (view_cand c) parser.old parser.new) }
-    ensures err { IfErr result (λ e. Refusal cand_spells cand_continues e parser.old parser.new) }
+    ensures err { IfErr result (λ e. Refusal cand_spells cand_continues (error_of e) parser.old parser.new) }
 {
     let (lhs, rhs) = pair(parser)?;
-    let attributes = Vec::<RootAttribute>::parse(parser)?;
+    let attributes = narrow(Vec::<RootAttribute>::parse(parser))?;
     Ok(Cand {
         lhs,
         rhs,
@@ -75,14 +77,14 @@ pub(crate) fn cand(parser: &mut Parser<'_>) -> Result<Cand>
 }
 
 #[tactic(auto, unfolding(crate::specs::NodeReadings::result_at))]
-pub(crate) fn result(parser: &mut Parser<'_>) -> Result<Operand>
-    ensures { Gives (λ x. x) result (result_at parser.old) parser.old parser.new }
+pub(crate) fn result(parser: &mut Parser<'_>) -> Read<Operand>
+    ensures { Gives (λ x. x) (widened result) (result_at parser.old) parser.old parser.new }
 {
     keyword(parser, "result")?;
     operand(parser)
 }
 
-/// Its name has to stand for a value in scope.
+/// Its name has to be that of a value in scope.
 impl Parse for Infer {
     ghost Plain = { PlainInfer };
 
@@ -95,7 +97,7 @@ impl Parse for Infer {
     ghost alone = { infer_alone };
 
     fn parse<'a>(parser: &mut Parser<'a>) -> Result<Self> {
-        infer(parser)
+        widen(infer(parser))
     }
 }
 
@@ -107,11 +109,11 @@ impl Peek for Infer {
     ghost stays = { λ s. refl };
 
     fn peek<'a>(parser: &mut Parser<'a>) -> Result<bool> {
-        word_comes(parser, "infer")
+        widen(word_comes(parser, "infer"))
     }
 }
 
-/// Each name has to stand for a value in scope. A comma may stand between the two operands.
+/// Each name has to be that of a value in scope. A comma may come between the two operands.
 impl Parse for Cand {
     ghost Plain = { PlainCand };
 
@@ -124,6 +126,6 @@ impl Parse for Cand {
     ghost alone = { cand_alone };
 
     fn parse<'a>(parser: &mut Parser<'a>) -> Result<Self> {
-        cand(parser)
+        widen(cand(parser))
     }
 }

@@ -8,7 +8,7 @@ ghost use Rattle.souper_graph.specs.Syntax.Numbers.{number_of, count_of, width_o
 use std::alloc::{AllocError, Global};
 use std::num::IntErrorKind;
 
-/// The number of a word of digits, with `-` before them or nothing.
+/// The number of a word of digits, perhaps with `-` before them.
 pub(crate) fn number(word: &str) -> Result<i128, IntErrorKind>
     ensures { MatchResult result (λ n. number_of word.now ≡ Some n) (λ _. number_of word.now ≡ None) }
 {
@@ -18,7 +18,7 @@ pub(crate) fn number(word: &str) -> Result<i128, IntErrorKind>
     }
 }
 
-// Why a number has no place in an unsigned type.
+// Why a number does not fit an unsigned type.
 fn misfit(value: i128) -> IntErrorKind {
     if value < 0 {
         IntErrorKind::NegOverflow
@@ -27,7 +27,7 @@ fn misfit(value: i128) -> IntErrorKind {
     }
 }
 
-/// The number of a word where it is that of a `u32`.
+/// The number of a word, if a `u32` holds it.
 pub(crate) fn count(word: &str) -> Result<u32, IntErrorKind>
     ensures { MatchResult result (λ n. count_of (2 ^ 32) word.now ≡ Some n) (λ _. count_of (2 ^ 32) word.now ≡ None) }
 {
@@ -38,7 +38,7 @@ pub(crate) fn count(word: &str) -> Result<u32, IntErrorKind>
     }
 }
 
-/// The number of a word where it is that of a `u8`.
+/// The number of a word, if a `u8` holds it.
 pub(crate) fn small_count(word: &str) -> Result<u8, IntErrorKind>
     ensures { MatchResult result (λ n. count_of (2 ^ 8) word.now ≡ Some n) (λ _. count_of (2 ^ 8) word.now ≡ None) }
 {
@@ -91,7 +91,7 @@ fn known_bit(byte: u8) -> Option<Option<bool>>
     }
 }
 
-/// The entries of a pattern of `0` and `1`, or `None` where it is empty or has another character.
+/// The entries of a pattern of `0` and `1`, in order, or `None` if it is empty or has another character.
 pub(crate) fn bits(alloc: Global, pattern: &str) -> Result<Option<Vec<bool>>, AllocError>
     ensures { IfOk result (λ bits. option_map (λ v. v.items) bits ≡ bits_of pattern.now) }
 {
@@ -105,7 +105,7 @@ pub(crate) fn bits(alloc: Global, pattern: &str) -> Result<Option<Vec<bool>>, Al
     Ok(if bits.is_empty() { None } else { Some(bits) })
 }
 
-/// The entries of a pattern of `0`, `1` and `x`, or `None` where it is empty or has another character.
+/// The entries of a pattern of `0`, `1` and `x`, in order, or `None` if it is empty or has another character.
 pub(crate) fn known_bits(
     alloc: Global,
     pattern: &str,

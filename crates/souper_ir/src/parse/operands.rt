@@ -1,27 +1,28 @@
 //! Types, constants and operands.
 
-ghost use Rattle.std.specs.Prelude.{◌≡◌, ◌≤◌, None, refl};
+ghost use Rattle.std.specs.Prelude.{◌≡◌, None, refl};
+ghost use Rattle.souper_ir.specs.Errors.{widened};
 ghost use Rattle.souper_ir.specs.Reading.{Gives};
 ghost use Rattle.souper_graph.specs.Syntax.Spelling.{type_spells, constant_spells, operand_spells};
 ghost use Rattle.souper_ir.specs.Continuation.{constant_continues, operand_continues};
-ghost use Rattle.souper_ir.specs.NodeReadings.{is_int, type_at, optional_type_at, constant_at, operand_at, next_operand_at, further_at, operands_at};
+ghost use Rattle.souper_ir.specs.NodeReadings.{is_int, type_at, optional_type_at, constant_at, operand_at, next_operand_at, further_at};
 ghost use Rattle.souper_ir.specs.Readings.{one_alone};
 ghost use Rattle.souper_ir.specs.OperandLaws.{type_complete, constant_complete, constant_first, operand_complete};
 
 use crate::lexer::Token;
+use crate::parse::error::widen;
 use crate::parse::message::Message;
 use crate::parse::numbers::width;
-use crate::parse::parser::{Parser, Result};
+use crate::parse::parser::{Parser, Read, Result};
 use crate::parse::tokens::{
     Mark, integer, integer_comes, mark_comes, punctuation, value_name, value_name_comes,
 };
 use crate::parse::traits::{Parse, Peek};
-use arrayvec::ArrayVec;
 use souper_graph::ast::{Constant, Operand, Type};
 
 #[tactic(auto, unfolding(crate::specs::NodeReadings::accept))]
-pub(crate) fn type_alone(parser: &mut Parser<'_>) -> Result<Type>
-    ensures { Gives (λ t. t) result (type_at parser.old) parser.old parser.new }
+pub(crate) fn type_alone(parser: &mut Parser<'_>) -> Read<Type>
+    ensures { Gives (λ t. t) (widened result) (type_at parser.old) parser.old parser.new }
 {
     match parser.token()? {
         Token::Ident(word) => match width(word) {
@@ -32,10 +33,10 @@ pub(crate) fn type_alone(parser: &mut Parser<'_>) -> Result<Type>
     }
 }
 
-/// A type behind a colon, where one comes.
+/// A type after a colon, if a colon comes next.
 #[tactic(auto, unfolding(crate::specs::NodeReadings::optional_type_at))]
-pub(crate) fn optional_type(parser: &mut Parser<'_>) -> Result<Option<Type>>
-    ensures { Gives (λ t. t) result (optional_type_at parser.old) parser.old parser.new }
+pub(crate) fn optional_type(parser: &mut Parser<'_>) -> Read<Option<Type>>
+    ensures { Gives (λ t. t) (widened result) (optional_type_at parser.old) parser.old parser.new }
 {
     if mark_comes(parser, Mark::Colon)? {
         punctuation(parser, Mark::Colon)?;
@@ -46,8 +47,8 @@ pub(crate) fn optional_type(parser: &mut Parser<'_>) -> Result<Option<Type>>
 }
 
 #[tactic(auto, unfolding(crate::specs::NodeReadings::constant_at))]
-pub(crate) fn constant(parser: &mut Parser<'_>) -> Result<Constant>
-    ensures { Gives (λ c. c) result (constant_at parser.old) parser.old parser.new }
+pub(crate) fn constant(parser: &mut Parser<'_>) -> Read<Constant>
+    ensures { Gives (λ c. c) (widened result) (constant_at parser.old) parser.old parser.new }
 {
     let value = integer(parser)?;
     let ty = optional_type(parser)?;
@@ -55,8 +56,8 @@ pub(crate) fn constant(parser: &mut Parser<'_>) -> Result<Constant>
 }
 
 #[tactic(auto, unfolding(crate::specs::NodeReadings::operand_at))]
-pub(crate) fn operand(parser: &mut Parser<'_>) -> Result<Operand>
-    ensures { Gives (λ x. x) result (operand_at parser.old) parser.old parser.new }
+pub(crate) fn operand(parser: &mut Parser<'_>) -> Read<Operand>
+    ensures { Gives (λ x. x) (widened result) (operand_at parser.old) parser.old parser.new }
 {
     if value_name_comes(parser)? {
         let name = value_name(parser)?;
@@ -69,19 +70,19 @@ pub(crate) fn operand(parser: &mut Parser<'_>) -> Result<Operand>
     }
 }
 
-// An operand behind a comma.
+/// An operand after a comma.
 #[tactic(auto, unfolding(crate::specs::NodeReadings::next_operand_at))]
-fn next_operand(parser: &mut Parser<'_>) -> Result<Operand>
-    ensures { Gives (λ x. x) result (next_operand_at parser.old) parser.old parser.new }
+pub(crate) fn next_operand(parser: &mut Parser<'_>) -> Read<Operand>
+    ensures { Gives (λ x. x) (widened result) (next_operand_at parser.old) parser.old parser.new }
 {
     punctuation(parser, Mark::Comma)?;
     operand(parser)
 }
 
-/// So many operands, each behind a comma.
-pub(crate) fn further(parser: &mut Parser<'_>, count: u32) -> Result<Vec<Operand>>
+/// `count` operands, each after a comma.
+pub(crate) fn further(parser: &mut Parser<'_>, count: u32) -> Read<Vec<Operand>>
     requires { parser.old.failed ≡ None }
-    ensures { Gives (λ v. v.items) result (further_at count parser.old) parser.old parser.new }
+    ensures { Gives (λ v. v.items) (widened result) (further_at count parser.old) parser.old parser.new }
 {
     let mut operands = Vec::new(parser.alloc());
     for _ in 0..count {
@@ -90,23 +91,6 @@ pub(crate) fn further(parser: &mut Parser<'_>, count: u32) -> Result<Vec<Operand
             Ok(()) => {}
             Err(_) => return Err(parser.want_memory()),
         }
-    }
-    Ok(operands)
-}
-
-/// So many operands with commas between them.
-pub(crate) fn operands(parser: &mut Parser<'_>, count: usize) -> Result<ArrayVec<Operand, 3>>
-    requires live { parser.old.failed ≡ None }
-    requires room { count ≤ 3 }
-    ensures { Gives (λ v. v.items) result (operands_at count parser.old) parser.old parser.new }
-{
-    let mut operands = ArrayVec::new();
-    if count == 0 {
-        return Ok(operands);
-    }
-    operands.push(operand(parser)?);
-    for _ in 1..count {
-        operands.push(next_operand(parser)?);
     }
     Ok(operands)
 }
@@ -123,7 +107,7 @@ impl Parse for Type {
     ghost alone = { one_alone (λ s. type_spells) (λ t u. ⊥) type_at type_complete };
 
     fn parse<'a>(parser: &mut Parser<'a>) -> Result<Self> {
-        type_alone(parser)
+        widen(type_alone(parser))
     }
 }
 
@@ -139,7 +123,7 @@ impl Parse for Constant {
     ghost alone = { one_alone (λ s. constant_spells) constant_continues constant_at constant_complete };
 
     fn parse<'a>(parser: &mut Parser<'a>) -> Result<Self> {
-        constant(parser)
+        widen(constant(parser))
     }
 }
 
@@ -151,11 +135,11 @@ impl Peek for Constant {
     ghost stays = { λ s. refl };
 
     fn peek<'a>(parser: &mut Parser<'a>) -> Result<bool> {
-        integer_comes(parser)
+        widen(integer_comes(parser))
     }
 }
 
-/// A name has to stand for a value in scope.
+/// A name has to be that of a value in scope.
 impl Parse for Operand {
     ghost Plain = { Self };
 
@@ -168,6 +152,6 @@ impl Parse for Operand {
     ghost alone = { one_alone operand_spells operand_continues operand_at operand_complete };
 
     fn parse<'a>(parser: &mut Parser<'a>) -> Result<Self> {
-        operand(parser)
+        widen(operand(parser))
     }
 }

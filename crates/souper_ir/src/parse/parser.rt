@@ -10,12 +10,12 @@ ghost use Rattle.souper_graph.specs.Syntax.Spelling.{ways_of, entry_of, position
 ghost use Rattle.souper_ir.specs.NodeReadings.{block_entry};
 ghost use Rattle.souper_ir.specs.Parsing.{Cause, refused, no_memory};
 ghost use Rattle.souper_ir.specs.FailureView.{cause_of_failure};
-ghost use Rattle.souper_ir.specs.Errors.{shown_error};
+ghost use Rattle.souper_ir.specs.Errors.{error_of, widened, shown_error};
 ghost use Rattle.souper_ir.specs.Places.{IsDirectRefusalText};
 ghost use Rattle.souper_ir.specs.Reading.{Fails, FailsForMemory, Gives, cause_of, look_at, take_at};
 
 use crate::lexer::{Fault, Lexer, Token};
-use crate::parse::error::ParseError;
+use crate::parse::error::{ParseError, ReadError};
 use crate::parse::message::Message;
 use crate::parse::recent::Recent;
 use souper_graph::ast::{Arena, Assignment, AssignmentRhs, BlockId, Id, Statement, ValueId};
@@ -24,8 +24,11 @@ use std::collections::BTreeMap;
 use std::marker::Model;
 use std::mem;
 
-/// What parsing answers.
+/// The result of parsing.
 pub type Result<T> = std::result::Result<T, ParseError>;
+
+/// What a reader returns.
+pub(crate) type Read<T> = std::result::Result<T, ReadError>;
 
 // Why a parser has failed.
 #[derive(Clone, Copy, Debug)]
@@ -36,7 +39,7 @@ enum Failure {
 
 /// A parser of a text, with one token of lookahead.
 ///
-/// After a refusal it stays failed: every later call answers the same offset, or want of memory.
+/// After a refusal it stays failed: every later call returns an error at the same offset, or out of memory.
 #[derive(Debug, Drop)]
 pub struct Parser<'a> {
     alloc: Global,
@@ -47,9 +50,9 @@ pub struct Parser<'a> {
     offset: usize,
     // The statements of the item so far.
     statements: Arena<Statement>,
-    // The names that they define, each with its value and, for a block, the number of ways into it.
+    // The names that they define, each with its value and, for a block, its number of predecessors.
     names: BTreeMap<&'a str, (ValueId, Option<u32>)>,
-    // Is looked at before the map: most uses are of a value that was defined last.
+    // Is looked up before the map: most uses are of a value that was defined last.
     recent: Recent,
     failed: Option<Failure>,
 }
@@ -92,8 +95,8 @@ impl<'a> Parser<'a> {
     }
 }
 
-// Lexes the next token into `ahead`, which stays `None` at the end of the text, and sets `offset` to where it begins. The
-// parser reads the token there: as an answer it would be copied once more in each caller.
+// Lexes the next token into `ahead`, which stays `None` at the end of the text, and sets `offset` to where it begins.
+// The parser reads the token there: as a result it would be copied once more in each caller.
 #[inline(never)]
 fn lex<'a>(
     lexer: &mut Lexer<'a>,
@@ -117,20 +120,20 @@ impl<'a> Parser<'a> {
         &self,
         offset: usize,
         message: Message<'_>,
-    ) -> std::result::Result<ParseError, AllocError>
-        ensures { IfOk result (λ error. (cause_of error ≡ Some (refused offset)) × IsSomeAnd (shown_error error) (IsDirectRefusalText offset)) }
+    ) -> std::result::Result<ReadError, AllocError>
+        ensures { IfOk result (λ error. (cause_of (error_of error) ≡ Some (refused offset)) × IsSomeAnd (shown_error (error_of error)) (IsDirectRefusalText offset)) }
     {
         let text = message.to_string(self.alloc)?;
-        ParseError::refused(self.alloc, offset, text)
+        ReadError::refused(self.alloc, offset, text)
     }
 
-    // Fails at the offset, and from now on. Where there is no memory for the refusal, it fails for want of memory.
+    // Fails at the offset, and from now on. If there is no memory for the refusal, it fails with out of memory.
     #[cold]
     #[inline(never)]
-    fn fail_at(&mut self, offset: usize, message: Message<'_>) -> ParseError
+    fn fail_at(&mut self, offset: usize, message: Message<'_>) -> ReadError
         requires within { offset ≤ self.old.len }
         requires again { (c : Cause) → self.old.failed ≡ Some c → c ≡ refused offset }
-        ensures { Fails result self.old self.new }
+        ensures { Fails (error_of result) self.old self.new }
     {
         match self.refusal(offset, message) {
             Ok(error) => {
@@ -144,21 +147,21 @@ impl<'a> Parser<'a> {
     // A parser that has failed fails the same again.
     #[cold]
     #[inline(never)]
-    fn fail_again(&mut self) -> ParseError
+    fn fail_again(&mut self) -> ReadError
         requires { self.old.failed ≢ None }
-        ensures { Fails result self.old self.new }
+        ensures { Fails (error_of result) self.old self.new }
     {
         match self.failed {
             Some(Failure::Refused(offset)) => self.fail_at(offset, Message::AlreadyFailed),
-            _ => ParseError::memory(),
+            _ => ReadError::Memory,
         }
     }
 
     /// Refuses the token last lexed. A parser that has failed fails as before.
     #[cold]
     #[inline(never)]
-    pub(crate) fn refuse(&mut self, message: Message<'_>) -> ParseError
-        ensures { Fails result self.old self.new }
+    pub(crate) fn refuse(&mut self, message: Message<'_>) -> ReadError
+        ensures { Fails (error_of result) self.old self.new }
     {
         match self.failed {
             None => self.fail_at(self.offset, message),
@@ -166,19 +169,19 @@ impl<'a> Parser<'a> {
         }
     }
 
-    /// Fails for want of memory.
-    pub(crate) fn want_memory(&mut self) -> ParseError
-        ensures { FailsForMemory result self.old self.new }
+    /// Fails with out of memory.
+    pub(crate) fn want_memory(&mut self) -> ReadError
+        ensures { FailsForMemory (error_of result) self.old self.new }
     {
         self.failed = Some(Failure::Memory);
-        ParseError::memory()
+        ReadError::Memory
     }
 
     /// The next token, which is not taken, or `None` at the end of the text.
     #[inline(always)]
     #[tactic(auto, unfolding(crate::specs::Reading::look_at))]
-    pub(crate) fn lookahead(&mut self) -> Result<Option<Token<'a>>>
-        ensures next { Gives (option_map lexeme_of) result (look_at self.old) self.old self.new }
+    pub(crate) fn lookahead(&mut self) -> Read<Option<Token<'a>>>
+        ensures next { Gives (option_map lexeme_of) (widened result) (look_at self.old) self.old self.new }
         // The end of the text needs no memory.
         ensures ended { self.old.tokens ≡ [] → self.old.faulty ≡ false → self.old.failed ≡ None → IsOk result }
     {
@@ -199,8 +202,8 @@ impl<'a> Parser<'a> {
     /// The next token, taken. The end of the text is refused.
     #[inline(always)]
     #[tactic(auto, unfolding(crate::specs::Reading::take_at))]
-    pub(crate) fn token(&mut self) -> Result<Token<'a>>
-        ensures { Gives lexeme_of result (take_at self.old) self.old self.new }
+    pub(crate) fn token(&mut self) -> Read<Token<'a>>
+        ensures { Gives lexeme_of (widened result) (take_at self.old) self.old self.new }
     {
         if self.failed.is_some() {
             return Err(self.fail_again());
@@ -223,7 +226,7 @@ impl<'a> Parser<'a> {
     }
 }
 
-// How many ways lead into a block.
+// A block's number of predecessors; `None` for any other right side.
 fn ways(rhs: &AssignmentRhs) -> Option<u32>
     ensures { result ≡ ways_of (view_rhs rhs.now) }
 {
@@ -234,7 +237,7 @@ fn ways(rhs: &AssignmentRhs) -> Option<u32>
 }
 
 impl<'a> Parser<'a> {
-    // What a name stands for, where the value of its slot has that name.
+    // The entry of a name, if the value in its slot has that name.
     #[inline(always)]
     fn recent_entry(&self, name: &str) -> Option<(ValueId, Option<u32>)>
         requires { self.now.failed ≡ None }
@@ -253,7 +256,7 @@ impl<'a> Parser<'a> {
         }
     }
 
-    /// The value that a name stands for, and the number of ways into it where it is that of a block.
+    /// The value of a name, and the number of predecessors if it is a block.
     pub(crate) fn entry(&self, name: &str) -> Option<(ValueId, Option<u32>)>
         requires { self.now.failed ≡ None }
         ensures { result ≡ entry_of self.now.scope name.now }
@@ -264,7 +267,7 @@ impl<'a> Parser<'a> {
         }
     }
 
-    /// The value that a name stands for.
+    /// The value of a name.
     pub(crate) fn value_named(&self, name: &str) -> Option<ValueId>
         requires { self.now.failed ≡ None }
         ensures { result ≡ position_of self.now.scope name.now }
@@ -275,7 +278,7 @@ impl<'a> Parser<'a> {
         }
     }
 
-    /// The block that a name stands for, and the number of ways into it.
+    /// The block of a name, and its number of predecessors.
     pub(crate) fn block_named(&self, name: &str) -> Option<(BlockId, u32)>
         requires { self.now.failed ≡ None }
         ensures { result ≡ block_entry (entry_of self.now.scope name.now) }
@@ -286,19 +289,19 @@ impl<'a> Parser<'a> {
     }
 
     /// Adds the definition of a name to the statements.
-    pub(crate) fn define(&mut self, name: &'a str, assignment: Assignment) -> Result<()>
+    pub(crate) fn define(&mut self, name: &'a str, assignment: Assignment) -> Read<()>
         requires live { self.old.failed ≡ None }
         requires named { string_bytes assignment.name ≡ name.now }
         requires fresh { position_of self.old.scope name.now ≡ None }
         ensures ok { OnOk result (self.new ≡ record self.old { scope = self.old.scope ++ assigned (view_assignment assignment) ∷ [] }) }
-        ensures err { IfErr result (λ error. FailsForMemory error self.old self.new) }
+        ensures err { IfErr result (λ error. FailsForMemory (error_of error) self.old self.new) }
     {
         let ways = ways(&assignment.value);
         let id = match self.statements.alloc(assignment.into()) {
             Ok(id) => id,
             Err(_) => {
                 self.failed = Some(Failure::Memory);
-                return Err(ParseError::memory());
+                return Err(ReadError::Memory);
             }
         };
         let value: ValueId = id.into();
@@ -307,28 +310,28 @@ impl<'a> Parser<'a> {
             Ok(_) => Ok(()),
             Err(_) => {
                 self.failed = Some(Failure::Memory);
-                Err(ParseError::memory())
+                Err(ReadError::Memory)
             }
         }
     }
 
     /// Adds a path condition to the statements.
-    pub(crate) fn add(&mut self, condition: Statement) -> Result<()>
+    pub(crate) fn add(&mut self, condition: Statement) -> Read<()>
         requires live { self.old.failed ≡ None }
         requires unnamed { is_condition (view_statement condition) ≡ true }
         ensures ok { OnOk result (self.new ≡ record self.old { scope = self.old.scope ++ view_statement condition ∷ [] }) }
-        ensures err { IfErr result (λ error. FailsForMemory error self.old self.new) }
+        ensures err { IfErr result (λ error. FailsForMemory (error_of error) self.old self.new) }
     {
         match self.statements.alloc(condition) {
             Ok(_) => Ok(()),
             Err(_) => {
                 self.failed = Some(Failure::Memory);
-                Err(ParseError::memory())
+                Err(ReadError::Memory)
             }
         }
     }
 
-    /// Ends an item: hands its statements out, and empties the scope.
+    /// Ends an item: returns its statements, and empties the scope.
     pub(crate) fn finish(&mut self) -> Arena<Statement>
         requires { self.old.failed ≡ None }
         ensures statements { map view_statement result ≡ self.old.scope }

@@ -15,7 +15,7 @@ struct Line<'a> {
     text: &'a str,
 }
 
-/// Where an offset of a source stands, as an error shows it.
+/// Where an offset is in a source, as an error shows it.
 #[derive(Drop)]
 pub(super) struct Place {
     file: Option<String>,
@@ -49,7 +49,7 @@ impl Place {
         })
     }
 
-    /// Writes a message, the line that it is about and a mark below the column.
+    /// Writes a message, the line that it is about and a caret below the column.
     pub(super) fn show<W: fmt::Write>(
         &self,
         f: &mut fmt::Formatter<W>,
@@ -73,7 +73,7 @@ impl Place {
     }
 }
 
-// The line of the byte before the offset, or of the first byte where the offset is 0.
+// The line of the byte before the offset, or of the first byte if the offset is 0.
 fn line_of(source: &str, offset: usize) -> Line<'_>
     requires { offset ≤ length source.now }
     ensures { IsPlace source.now offset result.number result.column result.text.now }

@@ -3,37 +3,39 @@
 ghost use Rattle.std.specs.Prelude.{◌≡◌, None, codes, refl};
 ghost use Rattle.souper_graph.specs.Values.{PlainPhi, PlainRhs};
 ghost use Rattle.souper_graph.specs.View.{view_phi, view_rhs};
+ghost use Rattle.souper_ir.specs.Errors.{widened};
 ghost use Rattle.souper_ir.specs.Reading.{Gives};
 ghost use Rattle.souper_ir.specs.Grammar.{peek_at};
 ghost use Rattle.souper_graph.specs.Syntax.Spelling.{block_spells, phi_spells, instruction_spells, rhs_spells};
 ghost use Rattle.souper_ir.specs.Continuation.{phi_continues, instruction_continues, rhs_continues};
-ghost use Rattle.souper_ir.specs.NodeReadings.{accept, ident_by, is_word, starts_instruction, block_at, block_name_at, phi_at, instruction_at, rhs_at};
+ghost use Rattle.souper_ir.specs.NodeReadings.{accept, ident_by, is_word, starts_instruction, block_at, block_name_at, phi_at, instruction_at, instruction_of_at, rhs_at};
 ghost use Rattle.souper_ir.specs.Words.{opcode_of};
 ghost use Rattle.souper_ir.specs.Readings.{one_alone};
 ghost use Rattle.souper_ir.specs.RhsLaws.{block_complete, block_first, phi_complete, phi_first, instruction_complete, instruction_first, rhs_complete};
 
 use crate::lexer::Token;
+use crate::parse::error::widen;
 use crate::parse::message::Message;
-use crate::parse::operands::{further, operands};
-use crate::parse::parser::{Parser, Result};
+use crate::parse::operands::{further, next_operand, operand};
+use crate::parse::parser::{Parser, Read, Result};
 use crate::parse::tokens::{keyword, value_name, way_count, word_comes};
 use crate::parse::traits::{Parse, Peek};
 use crate::parse::words::{Opcode, opcode_named};
 use souper_graph::ast::{AssignmentRhs, Block, BlockId, Instruction, Phi};
 
 #[tactic(auto, unfolding(crate::specs::NodeReadings::block_at))]
-pub(crate) fn block(parser: &mut Parser<'_>) -> Result<Block>
-    ensures { Gives (λ b. b) result (block_at parser.old) parser.old parser.new }
+pub(crate) fn block(parser: &mut Parser<'_>) -> Read<Block>
+    ensures { Gives (λ b. b) (widened result) (block_at parser.old) parser.old parser.new }
 {
     keyword(parser, "block")?;
     let predecessors = way_count(parser)?;
     Ok(Block { predecessors })
 }
 
-/// The name of a block: its id, the number of ways into it, and the name.
+/// The block of a name: its id, its number of predecessors, and the name.
 #[tactic(auto, unfolding(crate::specs::NodeReadings::block_name_at))]
-pub(crate) fn block_name<'a>(parser: &mut Parser<'a>) -> Result<(BlockId, u32, &'a str)>
-    ensures { Gives (λ r. (r.0, r.1)) result (block_name_at parser.old) parser.old parser.new }
+pub(crate) fn block_name<'a>(parser: &mut Parser<'a>) -> Read<(BlockId, u32, &'a str)>
+    ensures { Gives (λ r. (r.0, r.1)) (widened result) (block_name_at parser.old) parser.old parser.new }
 {
     let name = value_name(parser)?;
     match parser.block_named(name) {
@@ -43,8 +45,8 @@ pub(crate) fn block_name<'a>(parser: &mut Parser<'a>) -> Result<(BlockId, u32, &
 }
 
 #[tactic(auto, unfolding(crate::specs::NodeReadings::phi_at))]
-pub(crate) fn phi(parser: &mut Parser<'_>) -> Result<Phi>
-    ensures { Gives view_phi result (phi_at parser.old) parser.old parser.new }
+pub(crate) fn phi(parser: &mut Parser<'_>) -> Read<Phi>
+    ensures { Gives view_phi (widened result) (phi_at parser.old) parser.old parser.new }
 {
     keyword(parser, "phi")?;
     let (block, ways, _) = block_name(parser)?;
@@ -53,8 +55,8 @@ pub(crate) fn phi(parser: &mut Parser<'_>) -> Result<Phi>
 }
 
 #[tactic(auto, unfolding(crate::specs::NodeReadings::accept))]
-fn instruction_word(parser: &mut Parser<'_>) -> Result<Opcode>
-    ensures { Gives (λ o. o) result (accept (ident_by opcode_of) parser.old) parser.old parser.new }
+fn instruction_word(parser: &mut Parser<'_>) -> Read<Opcode>
+    ensures { Gives (λ o. o) (widened result) (accept (ident_by opcode_of) parser.old) parser.old parser.new }
 {
     match parser.token()? {
         Token::Ident(word) => match opcode_named(word) {
@@ -65,21 +67,38 @@ fn instruction_word(parser: &mut Parser<'_>) -> Result<Opcode>
     }
 }
 
-#[tactic(auto, unfolding(crate::specs::NodeReadings::instruction_at))]
-pub(crate) fn instruction(parser: &mut Parser<'_>) -> Result<Instruction>
-    ensures { Gives (λ i. i) result (instruction_at parser.old) parser.old parser.new }
+// The instruction of an opcode, whose operands stand next.
+fn instruction_of(parser: &mut Parser<'_>, opcode: Opcode) -> Read<Instruction>
+    requires { parser.old.failed ≡ None }
+    ensures { Gives (λ i. i) (widened result) (instruction_of_at opcode parser.old) parser.old parser.new }
+{
+    let count = opcode.operand_count();
+    if count == 0 {
+        return Ok(opcode.nullary());
+    }
+    let a = operand(parser)?;
+    if count == 1 {
+        return Ok(opcode.unary(a));
+    }
+    let b = next_operand(parser)?;
+    if count == 2 {
+        return Ok(opcode.binary(a, b));
+    }
+    let c = next_operand(parser)?;
+    Ok(opcode.ternary(a, b, c))
+}
+
+#[tactic(auto, unfolding(crate::specs::NodeReadings::instruction_at, crate::specs::NodeReadings::instruction_of_at))]
+pub(crate) fn instruction(parser: &mut Parser<'_>) -> Read<Instruction>
+    ensures { Gives (λ i. i) (widened result) (instruction_at parser.old) parser.old parser.new }
 {
     let opcode = instruction_word(parser)?;
-    let operands = operands(parser, opcode.operand_count())?;
-    match opcode.with(operands.as_slice()) {
-        Some(instruction) => Ok(instruction),
-        None => Err(parser.refuse(Message::ExpectedInstruction)),
-    }
+    instruction_of(parser, opcode)
 }
 
 #[tactic(auto, unfolding(crate::specs::NodeReadings::rhs_at))]
-pub(crate) fn rhs(parser: &mut Parser<'_>) -> Result<AssignmentRhs>
-    ensures { Gives view_rhs result (rhs_at parser.old) parser.old parser.new }
+pub(crate) fn rhs(parser: &mut Parser<'_>) -> Read<AssignmentRhs>
+    ensures { Gives view_rhs (widened result) (rhs_at parser.old) parser.old parser.new }
 {
     let word = match parser.lookahead()? {
         Some(Token::Ident(word)) => word,
@@ -100,10 +119,13 @@ pub(crate) fn rhs(parser: &mut Parser<'_>) -> Result<AssignmentRhs>
             keyword(parser, "reservedconst")?;
             Ok(AssignmentRhs::ReservedConst)
         }
-        _ if opcode_named(word).is_some() => {
-            Ok(AssignmentRhs::Instruction(instruction(parser)?))
-        }
-        _ => Err(parser.refuse(Message::ExpectedRhs)),
+        _ => match opcode_named(word) {
+            Some(opcode) => {
+                parser.token()?;
+                Ok(AssignmentRhs::Instruction(instruction_of(parser, opcode)?))
+            }
+            None => Err(parser.refuse(Message::ExpectedRhs)),
+        },
     }
 }
 
@@ -119,7 +141,7 @@ impl Parse for Block {
     ghost alone = { one_alone (λ s. block_spells) (λ b t. ⊥) block_at block_complete };
 
     fn parse<'a>(parser: &mut Parser<'a>) -> Result<Self> {
-        block(parser)
+        widen(block(parser))
     }
 }
 
@@ -131,11 +153,11 @@ impl Peek for Block {
     ghost stays = { λ s. refl };
 
     fn peek<'a>(parser: &mut Parser<'a>) -> Result<bool> {
-        word_comes(parser, "block")
+        widen(word_comes(parser, "block"))
     }
 }
 
-/// Its name has to stand for a block in scope, and it has a value for each way into that.
+/// Its name has to be that of a block in scope, and it has one value per predecessor of that block.
 impl Parse for Phi {
     ghost Plain = { PlainPhi };
 
@@ -148,7 +170,7 @@ impl Parse for Phi {
     ghost alone = { one_alone phi_spells phi_continues phi_at phi_complete };
 
     fn parse<'a>(parser: &mut Parser<'a>) -> Result<Self> {
-        phi(parser)
+        widen(phi(parser))
     }
 }
 
@@ -160,7 +182,7 @@ impl Peek for Phi {
     ghost stays = { λ s. refl };
 
     fn peek<'a>(parser: &mut Parser<'a>) -> Result<bool> {
-        word_comes(parser, "phi")
+        widen(word_comes(parser, "phi"))
     }
 }
 
@@ -176,7 +198,7 @@ impl Parse for Instruction {
     ghost alone = { one_alone instruction_spells instruction_continues instruction_at instruction_complete };
 
     fn parse<'a>(parser: &mut Parser<'a>) -> Result<Self> {
-        instruction(parser)
+        widen(instruction(parser))
     }
 }
 
@@ -208,6 +230,6 @@ impl Parse for AssignmentRhs {
     ghost alone = { one_alone rhs_spells rhs_continues rhs_at rhs_complete };
 
     fn parse<'a>(parser: &mut Parser<'a>) -> Result<Self> {
-        rhs(parser)
+        widen(rhs(parser))
     }
 }

@@ -8,13 +8,13 @@ use std::alloc::AllocError;
 
 /// What takes the items of a text one at a time, in order: a `Vec` keeps them.
 ///
-/// An implementor states when it holds a list of items. It owes that, where it held a list and took an item, it holds the
+/// An implementor states when it holds a list of items. It owes that, if it held a list and took an item, it holds the
 /// list with that item at its end.
 pub trait Sink<T: WholeItem> {
     // The sink holds the items.
     ghost holds: { Self → List Item → Type 0 };
 
-    /// Takes the next item. The error is want of memory, and ends the reading; what the sink holds then is not said.
+    /// Takes the next item. The error is out of memory, and ends the parse; what the sink holds then is not specified.
     fn take(&mut self, item: T) -> Result<(), AllocError>
         requires { WellFormed (T.view item) }
         ensures { OnOk result ((items : List Item) → holds self.old items → holds self.new (items ++ T.view item ∷ [])) };

@@ -7,6 +7,7 @@ ghost use Rattle.souper_graph.specs.declared.ast.statements.BlockPc.{BlockPc as 
 ghost use Rattle.souper_graph.specs.Values.{PlainAssignment, PlainStatement};
 ghost use Rattle.souper_graph.specs.View.{view_rhs, view_assignment, view_statement};
 ghost use Rattle.souper_graph.specs.Syntax.Spelling.{assignment_spells, pc_spells, block_pc_spells, statement_spells};
+ghost use Rattle.souper_ir.specs.Errors.{error_of, widened};
 ghost use Rattle.souper_ir.specs.Continuation.{assignment_continues, pc_continues, block_pc_continues, statement_continues};
 ghost use Rattle.souper_ir.specs.Reading.{Gives};
 ghost use Rattle.souper_ir.specs.Grammar.{Took, Refusal, peek_at};
@@ -14,9 +15,10 @@ ghost use Rattle.souper_ir.specs.NodeReadings.{is_name, is_word, definition_at, 
 ghost use Rattle.souper_ir.specs.StatementLaws.{assignment_alone, assignment_first, pc_alone, pc_first, block_pc_alone, block_pc_first, statement_alone, statement_first};
 
 use crate::lexer::Token;
+use crate::parse::error::{narrow, widen};
 use crate::parse::message::Message;
 use crate::parse::operands::{operand, optional_type};
-use crate::parse::parser::{Parser, Result};
+use crate::parse::parser::{Parser, Read, Result};
 use crate::parse::rhs::{block_name, rhs};
 use crate::parse::tokens::{
     Mark, keyword, punctuation, value_name, value_name_comes, way_count, word_comes,
@@ -26,8 +28,8 @@ use souper_graph::ast::{Assignment, AssignmentRhs, Attribute, BlockPc, Pc, State
 
 // An assignment up to its attributes: its name, type and right side.
 #[tactic(auto, unfolding(crate::specs::NodeReadings::definition_at))]
-fn definition<'a>(parser: &mut Parser<'a>) -> Result<(&'a str, Option<Type>, AssignmentRhs)>
-    ensures { Gives (λ r. record { name = r.0.now; ty = r.1; value = view_rhs r.2 }) result (definition_at parser.old) parser.old parser.new }
+fn definition<'a>(parser: &mut Parser<'a>) -> Read<(&'a str, Option<Type>, AssignmentRhs)>
+    ensures { Gives (λ r. record { name = r.0.now; ty = r.1; value = view_rhs r.2 }) (widened result) (definition_at parser.old) parser.old parser.new }
 {
     let name = value_name(parser)?;
     if parser.value_named(name).is_some() {
@@ -40,13 +42,13 @@ fn definition<'a>(parser: &mut Parser<'a>) -> Result<(&'a str, Option<Type>, Ass
 }
 
 /// An assignment, and its name as a slice of the text. It is not entered into the scope.
-pub(crate) fn assignment<'a>(parser: &mut Parser<'a>) -> Result<(&'a str, Assignment)>
+pub(crate) fn assignment<'a>(parser: &mut Parser<'a>) -> Read<(&'a str, Assignment)>
     ensures ok { IfOk result (λ r. Took assignment_spells assignment_continues (λ s. s) (view_assignment r.1) parser.old parser.new) }
     ensures name { IfOk result (λ r. string_bytes r.1.name ≡ r.0.now) }
-    ensures err { IfErr result (λ e. Refusal assignment_spells assignment_continues e parser.old parser.new) }
+    ensures err { IfErr result (λ e. Refusal assignment_spells assignment_continues (error_of e) parser.old parser.new) }
 {
     let (name, ty, value) = definition(parser)?;
-    let attributes = Vec::<Attribute>::parse(parser)?;
+    let attributes = narrow(Vec::<Attribute>::parse(parser))?;
     match String::from_str(parser.alloc(), name) {
         Ok(text) => {
             let assignment = Assignment {
@@ -62,8 +64,8 @@ pub(crate) fn assignment<'a>(parser: &mut Parser<'a>) -> Result<(&'a str, Assign
 }
 
 #[tactic(auto, unfolding(crate::specs::NodeReadings::pc_at))]
-pub(crate) fn pc(parser: &mut Parser<'_>) -> Result<Pc>
-    ensures { Gives (λ p. p) result (pc_at parser.old) parser.old parser.new }
+pub(crate) fn pc(parser: &mut Parser<'_>) -> Read<Pc>
+    ensures { Gives (λ p. p) (widened result) (pc_at parser.old) parser.old parser.new }
 {
     keyword(parser, "pc")?;
     let x = operand(parser)?;
@@ -72,8 +74,8 @@ pub(crate) fn pc(parser: &mut Parser<'_>) -> Result<Pc>
 }
 
 #[tactic(auto, unfolding(crate::specs::NodeReadings::block_pc_at))]
-pub(crate) fn block_pc(parser: &mut Parser<'_>) -> Result<BlockPc>
-    ensures { Gives (λ p. p) result (block_pc_at parser.old) parser.old parser.new }
+pub(crate) fn block_pc(parser: &mut Parser<'_>) -> Read<BlockPc>
+    ensures { Gives (λ p. p) (widened result) (block_pc_at parser.old) parser.old parser.new }
 {
     keyword(parser, "blockpc")?;
     let (block, ways, name) = block_name(parser)?;
@@ -117,7 +119,7 @@ impl Peek for Assignment {
     ghost stays = { λ s. refl };
 
     fn peek<'a>(parser: &mut Parser<'a>) -> Result<bool> {
-        value_name_comes(parser)
+        widen(value_name_comes(parser))
     }
 }
 
@@ -134,7 +136,7 @@ impl Parse for Pc {
     ghost alone = { pc_alone };
 
     fn parse<'a>(parser: &mut Parser<'a>) -> Result<Self> {
-        pc(parser)
+        widen(pc(parser))
     }
 }
 
@@ -146,11 +148,12 @@ impl Peek for Pc {
     ghost stays = { λ s. refl };
 
     fn peek<'a>(parser: &mut Parser<'a>) -> Result<bool> {
-        word_comes(parser, "pc")
+        widen(word_comes(parser, "pc"))
     }
 }
 
-/// Its name has to stand for a block in scope, and its number for a way into that. Called by itself, it adds no statement.
+/// Its name has to be that of a block in scope, and its number that of a predecessor of the block, counted from 0.
+/// Called by itself, it adds no statement.
 impl Parse for BlockPc {
     ghost Plain = { block_pc_value };
 
@@ -163,7 +166,7 @@ impl Parse for BlockPc {
     ghost alone = { block_pc_alone };
 
     fn parse<'a>(parser: &mut Parser<'a>) -> Result<Self> {
-        block_pc(parser)
+        widen(block_pc(parser))
     }
 }
 
@@ -175,7 +178,7 @@ impl Peek for BlockPc {
     ghost stays = { λ s. refl };
 
     fn peek<'a>(parser: &mut Parser<'a>) -> Result<bool> {
-        word_comes(parser, "blockpc")
+        widen(word_comes(parser, "blockpc"))
     }
 }
 

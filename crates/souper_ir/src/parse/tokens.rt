@@ -1,6 +1,7 @@
-//! Single tokens that a parser takes or sees to come.
+//! Single tokens that a parser takes or looks at.
 
 ghost use Rattle.std.specs.Prelude.{◌≡◌, ◌^◌, [], false, None, IsOk};
+ghost use Rattle.souper_ir.specs.Errors.{widened};
 ghost use Rattle.souper_ir.specs.Reading.{Gives};
 ghost use Rattle.souper_ir.specs.Grammar.{peek_at};
 ghost use Rattle.souper_graph.specs.Syntax.Numbers.{number_of, count_of};
@@ -11,7 +12,7 @@ ghost use Rattle.souper_ir.specs.NodeReadings.{accept, name_of, is_name, is_any,
 use crate::lexer::Token;
 use crate::parse::message::Message;
 use crate::parse::numbers::{count, number, small_count};
-use crate::parse::parser::{Parser, Result};
+use crate::parse::parser::{Parser, Read};
 use std::fmt;
 
 /// A punctuation mark, a token of its own.
@@ -53,8 +54,8 @@ fn is_token(mark: Mark, token: Token<'_>) -> bool
 }
 
 #[tactic(auto, unfolding(crate::specs::NodeReadings::accept))]
-pub(crate) fn punctuation(parser: &mut Parser<'_>, mark: Mark) -> Result<()>
-    ensures { Gives (λ u. u) result (accept (mark_of (lexeme_of_mark mark)) parser.old) parser.old parser.new }
+pub(crate) fn punctuation(parser: &mut Parser<'_>, mark: Mark) -> Read<()>
+    ensures { Gives (λ u. u) (widened result) (accept (mark_of (lexeme_of_mark mark)) parser.old) parser.old parser.new }
 {
     let token = parser.token()?;
     if is_token(mark, token) {
@@ -65,8 +66,8 @@ pub(crate) fn punctuation(parser: &mut Parser<'_>, mark: Mark) -> Result<()>
 }
 
 #[tactic(auto, unfolding(crate::specs::Grammar::peek_at))]
-pub(crate) fn mark_comes(parser: &mut Parser<'_>, mark: Mark) -> Result<bool>
-    ensures { Gives (λ b. b) result (peek_at (is_mark (lexeme_of_mark mark)) parser.old) parser.old parser.new }
+pub(crate) fn mark_comes(parser: &mut Parser<'_>, mark: Mark) -> Read<bool>
+    ensures { Gives (λ b. b) (widened result) (peek_at (is_mark (lexeme_of_mark mark)) parser.old) parser.old parser.new }
 {
     match parser.lookahead()? {
         Some(token) => Ok(is_token(mark, token)),
@@ -75,8 +76,8 @@ pub(crate) fn mark_comes(parser: &mut Parser<'_>, mark: Mark) -> Result<bool>
 }
 
 #[tactic(auto, unfolding(crate::specs::NodeReadings::accept))]
-pub(crate) fn value_name<'a>(parser: &mut Parser<'a>) -> Result<&'a str>
-    ensures { Gives (λ name. name.now) result (accept name_of parser.old) parser.old parser.new }
+pub(crate) fn value_name<'a>(parser: &mut Parser<'a>) -> Read<&'a str>
+    ensures { Gives (λ name. name.now) (widened result) (accept name_of parser.old) parser.old parser.new }
 {
     match parser.token()? {
         Token::ValName(name) => Ok(name),
@@ -85,8 +86,8 @@ pub(crate) fn value_name<'a>(parser: &mut Parser<'a>) -> Result<&'a str>
 }
 
 #[tactic(auto, unfolding(crate::specs::NodeReadings::accept))]
-pub(crate) fn keyword(parser: &mut Parser<'_>, word: &'static str) -> Result<()>
-    ensures { Gives (λ u. u) result (accept (word_of word.now) parser.old) parser.old parser.new }
+pub(crate) fn keyword(parser: &mut Parser<'_>, word: &'static str) -> Read<()>
+    ensures { Gives (λ u. u) (widened result) (accept (word_of word.now) parser.old) parser.old parser.new }
 {
     match parser.token()? {
         Token::Ident(other) if other == word => Ok(()),
@@ -96,8 +97,8 @@ pub(crate) fn keyword(parser: &mut Parser<'_>, word: &'static str) -> Result<()>
 
 /// A number within the signed numbers of 128 bits.
 #[tactic(auto, unfolding(crate::specs::NodeReadings::accept))]
-pub(crate) fn integer(parser: &mut Parser<'_>) -> Result<i128>
-    ensures { Gives (λ n. n) result (accept (int_by number_of) parser.old) parser.old parser.new }
+pub(crate) fn integer(parser: &mut Parser<'_>) -> Read<i128>
+    ensures { Gives (λ n. n) (widened result) (accept (int_by number_of) parser.old) parser.old parser.new }
 {
     match parser.token()? {
         Token::Int(word) => match number(word) {
@@ -108,10 +109,10 @@ pub(crate) fn integer(parser: &mut Parser<'_>) -> Result<i128>
     }
 }
 
-/// A number of ways into a block, or of one of them.
+/// A block's number of predecessors, or the number of one of them.
 #[tactic(auto, unfolding(crate::specs::NodeReadings::accept))]
-pub(crate) fn way_count(parser: &mut Parser<'_>) -> Result<u32>
-    ensures { Gives (λ n. n) result (accept (int_by (count_of (2 ^ 32))) parser.old) parser.old parser.new }
+pub(crate) fn way_count(parser: &mut Parser<'_>) -> Read<u32>
+    ensures { Gives (λ n. n) (widened result) (accept (int_by (count_of (2 ^ 32))) parser.old) parser.old parser.new }
 {
     match parser.token()? {
         Token::Int(word) => match count(word) {
@@ -124,8 +125,8 @@ pub(crate) fn way_count(parser: &mut Parser<'_>) -> Result<u32>
 
 /// A number of bits.
 #[tactic(auto, unfolding(crate::specs::NodeReadings::accept))]
-pub(crate) fn bit_count(parser: &mut Parser<'_>) -> Result<u8>
-    ensures { Gives (λ n. n) result (accept (int_by (count_of (2 ^ 8))) parser.old) parser.old parser.new }
+pub(crate) fn bit_count(parser: &mut Parser<'_>) -> Read<u8>
+    ensures { Gives (λ n. n) (widened result) (accept (int_by (count_of (2 ^ 8))) parser.old) parser.old parser.new }
 {
     match parser.token()? {
         Token::Int(word) => match small_count(word) {
@@ -137,22 +138,22 @@ pub(crate) fn bit_count(parser: &mut Parser<'_>) -> Result<u8>
 }
 
 #[tactic(auto, unfolding(crate::specs::Grammar::peek_at))]
-pub(crate) fn value_name_comes(parser: &mut Parser<'_>) -> Result<bool>
-    ensures { Gives (λ b. b) result (peek_at is_name parser.old) parser.old parser.new }
+pub(crate) fn value_name_comes(parser: &mut Parser<'_>) -> Read<bool>
+    ensures { Gives (λ b. b) (widened result) (peek_at is_name parser.old) parser.old parser.new }
 {
     Ok(matches!(parser.lookahead()?, Some(Token::ValName(_))))
 }
 
 #[tactic(auto, unfolding(crate::specs::Grammar::peek_at))]
-pub(crate) fn integer_comes(parser: &mut Parser<'_>) -> Result<bool>
-    ensures { Gives (λ b. b) result (peek_at is_int parser.old) parser.old parser.new }
+pub(crate) fn integer_comes(parser: &mut Parser<'_>) -> Read<bool>
+    ensures { Gives (λ b. b) (widened result) (peek_at is_int parser.old) parser.old parser.new }
 {
     Ok(matches!(parser.lookahead()?, Some(Token::Int(_))))
 }
 
 #[tactic(auto, unfolding(crate::specs::Grammar::peek_at))]
-pub(crate) fn word_comes(parser: &mut Parser<'_>, word: &str) -> Result<bool>
-    ensures { Gives (λ b. b) result (peek_at (is_word word.now) parser.old) parser.old parser.new }
+pub(crate) fn word_comes(parser: &mut Parser<'_>, word: &str) -> Read<bool>
+    ensures { Gives (λ b. b) (widened result) (peek_at (is_word word.now) parser.old) parser.old parser.new }
 {
     match parser.lookahead()? {
         Some(Token::Ident(next)) => Ok(next == word),
@@ -161,8 +162,8 @@ pub(crate) fn word_comes(parser: &mut Parser<'_>, word: &str) -> Result<bool>
 }
 
 #[tactic(auto, unfolding(crate::specs::Grammar::peek_at))]
-pub(crate) fn token_comes(parser: &mut Parser<'_>) -> Result<bool>
-    ensures next { Gives (λ b. b) result (peek_at is_any parser.old) parser.old parser.new }
+pub(crate) fn token_comes(parser: &mut Parser<'_>) -> Read<bool>
+    ensures next { Gives (λ b. b) (widened result) (peek_at is_any parser.old) parser.old parser.new }
     // The end of the text needs no memory.
     ensures ended { parser.old.tokens ≡ [] → parser.old.faulty ≡ false → parser.old.failed ≡ None → IsOk result }
 {

@@ -1,7 +1,7 @@
 //! The instruction that a word and operands make.
 
-ghost use Rattle.std.specs.Prelude.{◌≡◌, ◌≤◌, ◌∷◌, []};
-ghost use Rattle.souper_ir.specs.Words.{opcode_of, arithmetic_of, bitwise_of, comparison_of, checked_of, unary_of, ternary_of, nullary_of, other_of, operand_count, instruction_by};
+ghost use Rattle.std.specs.Prelude.{◌≡◌, ◌∷◌, [], Some};
+ghost use Rattle.souper_ir.specs.Words.{opcode_of, two_letters_of, three_letters_of, four_letters_of, five_letters_of, six_letters_of, longer_of, operand_count, instruction_by};
 
 use souper_graph::ast::{Instruction, Operand};
 
@@ -69,57 +69,27 @@ pub(crate) enum Opcode {
     Hole,
 }
 
-fn arithmetic(word: &str) -> Option<Opcode>
-    ensures { result ≡ arithmetic_of word.now }
+fn two_letters(word: &str) -> Option<Opcode>
+    ensures { result ≡ two_letters_of word.now }
+{
+    match word {
+        "or" => Some(Opcode::Or),
+        "eq" => Some(Opcode::Eq),
+        "ne" => Some(Opcode::Ne),
+        _ => None,
+    }
+}
+
+fn three_letters(word: &str) -> Option<Opcode>
+    ensures { result ≡ three_letters_of word.now }
 {
     match word {
         "add" => Some(Opcode::Add),
-        "addnsw" => Some(Opcode::AddNsw),
-        "addnuw" => Some(Opcode::AddNuw),
-        "addnw" => Some(Opcode::AddNw),
         "sub" => Some(Opcode::Sub),
-        "subnsw" => Some(Opcode::SubNsw),
-        "subnuw" => Some(Opcode::SubNuw),
-        "subnw" => Some(Opcode::SubNw),
         "mul" => Some(Opcode::Mul),
-        "mulnsw" => Some(Opcode::MulNsw),
-        "mulnuw" => Some(Opcode::MulNuw),
-        "mulnw" => Some(Opcode::MulNw),
-        "udiv" => Some(Opcode::Udiv),
-        "sdiv" => Some(Opcode::Sdiv),
-        "udivexact" => Some(Opcode::UdivExact),
-        "sdivexact" => Some(Opcode::SdivExact),
-        "urem" => Some(Opcode::Urem),
-        "srem" => Some(Opcode::Srem),
-        _ => None,
-    }
-}
-
-fn bitwise(word: &str) -> Option<Opcode>
-    ensures { result ≡ bitwise_of word.now }
-{
-    match word {
         "and" => Some(Opcode::And),
-        "or" => Some(Opcode::Or),
         "xor" => Some(Opcode::Xor),
         "shl" => Some(Opcode::Shl),
-        "shlnsw" => Some(Opcode::ShlNsw),
-        "shlnuw" => Some(Opcode::ShlNuw),
-        "shlnw" => Some(Opcode::ShlNw),
-        "lshr" => Some(Opcode::Lshr),
-        "lshrexact" => Some(Opcode::LshrExact),
-        "ashr" => Some(Opcode::Ashr),
-        "ashrexact" => Some(Opcode::AshrExact),
-        _ => None,
-    }
-}
-
-fn comparison(word: &str) -> Option<Opcode>
-    ensures { result ≡ comparison_of word.now }
-{
-    match word {
-        "eq" => Some(Opcode::Eq),
-        "ne" => Some(Opcode::Ne),
         "ult" => Some(Opcode::Ult),
         "slt" => Some(Opcode::Slt),
         "ule" => Some(Opcode::Ule),
@@ -128,10 +98,68 @@ fn comparison(word: &str) -> Option<Opcode>
     }
 }
 
-fn checked(word: &str) -> Option<Opcode>
-    ensures { result ≡ checked_of word.now }
+fn four_letters(word: &str) -> Option<Opcode>
+    ensures { result ≡ four_letters_of word.now }
 {
     match word {
+        "udiv" => Some(Opcode::Udiv),
+        "sdiv" => Some(Opcode::Sdiv),
+        "urem" => Some(Opcode::Urem),
+        "srem" => Some(Opcode::Srem),
+        "lshr" => Some(Opcode::Lshr),
+        "ashr" => Some(Opcode::Ashr),
+        "zext" => Some(Opcode::Zext),
+        "sext" => Some(Opcode::Sext),
+        "cttz" => Some(Opcode::Cttz),
+        "ctlz" => Some(Opcode::Ctlz),
+        "fshl" => Some(Opcode::Fshl),
+        "fshr" => Some(Opcode::Fshr),
+        "hole" => Some(Opcode::Hole),
+        _ => None,
+    }
+}
+
+fn five_letters(word: &str) -> Option<Opcode>
+    ensures { result ≡ five_letters_of word.now }
+{
+    match word {
+        "addnw" => Some(Opcode::AddNw),
+        "subnw" => Some(Opcode::SubNw),
+        "mulnw" => Some(Opcode::MulNw),
+        "shlnw" => Some(Opcode::ShlNw),
+        "trunc" => Some(Opcode::Trunc),
+        "ctpop" => Some(Opcode::Ctpop),
+        "bswap" => Some(Opcode::Bswap),
+        _ => None,
+    }
+}
+
+fn six_letters(word: &str) -> Option<Opcode>
+    ensures { result ≡ six_letters_of word.now }
+{
+    match word {
+        "addnsw" => Some(Opcode::AddNsw),
+        "addnuw" => Some(Opcode::AddNuw),
+        "subnsw" => Some(Opcode::SubNsw),
+        "subnuw" => Some(Opcode::SubNuw),
+        "mulnsw" => Some(Opcode::MulNsw),
+        "mulnuw" => Some(Opcode::MulNuw),
+        "shlnsw" => Some(Opcode::ShlNsw),
+        "shlnuw" => Some(Opcode::ShlNuw),
+        "freeze" => Some(Opcode::Freeze),
+        "select" => Some(Opcode::Select),
+        _ => None,
+    }
+}
+
+fn longer(word: &str) -> Option<Opcode>
+    ensures { result ≡ longer_of word.now }
+{
+    match word {
+        "udivexact" => Some(Opcode::UdivExact),
+        "sdivexact" => Some(Opcode::SdivExact),
+        "lshrexact" => Some(Opcode::LshrExact),
+        "ashrexact" => Some(Opcode::AshrExact),
         "sadd.with.overflow" => Some(Opcode::SaddWithOverflow),
         "uadd.with.overflow" => Some(Opcode::UaddWithOverflow),
         "ssub.with.overflow" => Some(Opcode::SsubWithOverflow),
@@ -143,60 +171,8 @@ fn checked(word: &str) -> Option<Opcode>
         "ssub.sat" => Some(Opcode::SsubSat),
         "usub.sat" => Some(Opcode::UsubSat),
         "extractvalue" => Some(Opcode::ExtractValue),
-        _ => None,
-    }
-}
-
-fn unary(word: &str) -> Option<Opcode>
-    ensures { result ≡ unary_of word.now }
-{
-    match word {
-        "zext" => Some(Opcode::Zext),
-        "sext" => Some(Opcode::Sext),
-        "trunc" => Some(Opcode::Trunc),
-        "ctpop" => Some(Opcode::Ctpop),
-        "bswap" => Some(Opcode::Bswap),
         "bitreverse" => Some(Opcode::BitReverse),
-        "cttz" => Some(Opcode::Cttz),
-        "ctlz" => Some(Opcode::Ctlz),
-        "freeze" => Some(Opcode::Freeze),
         _ => None,
-    }
-}
-
-fn ternary(word: &str) -> Option<Opcode>
-    ensures { result ≡ ternary_of word.now }
-{
-    match word {
-        "select" => Some(Opcode::Select),
-        "fshl" => Some(Opcode::Fshl),
-        "fshr" => Some(Opcode::Fshr),
-        _ => None,
-    }
-}
-
-fn nullary(word: &str) -> Option<Opcode>
-    ensures { result ≡ nullary_of word.now }
-{
-    match word {
-        "hole" => Some(Opcode::Hole),
-        _ => None,
-    }
-}
-
-// The opcode of a word of the families that are left.
-fn other_opcode(word: &str) -> Option<Opcode>
-    ensures { result ≡ other_of word.now }
-{
-    match checked(word) {
-        Some(opcode) => Some(opcode),
-        None => match unary(word) {
-            Some(opcode) => Some(opcode),
-            None => match ternary(word) {
-                Some(opcode) => Some(opcode),
-                None => nullary(word),
-            },
-        },
     }
 }
 
@@ -205,23 +181,20 @@ fn other_opcode(word: &str) -> Option<Opcode>
 pub(crate) fn opcode_named(word: &str) -> Option<Opcode>
     ensures { result ≡ opcode_of word.now }
 {
-    match arithmetic(word) {
-        Some(opcode) => Some(opcode),
-        None => match bitwise(word) {
-            Some(opcode) => Some(opcode),
-            None => match comparison(word) {
-                Some(opcode) => Some(opcode),
-                None => other_opcode(word),
-            },
-        },
+    match word.len() {
+        2 => two_letters(word),
+        3 => three_letters(word),
+        4 => four_letters(word),
+        5 => five_letters(word),
+        6 => six_letters(word),
+        _ => longer(word),
     }
 }
 
 impl Opcode {
-    /// How many operands it takes.
+    /// The number of operands that it takes.
     pub(crate) fn operand_count(self) -> usize
-        ensures count { result ≡ operand_count self }
-        ensures few { result ≤ 3 }
+        ensures { result ≡ operand_count self }
     {
         match self {
             Opcode::Hole => 0,
@@ -239,119 +212,102 @@ impl Opcode {
         }
     }
 
-    fn nullary(self) -> Option<Instruction>
-        ensures { result ≡ instruction_by self ([]) }
+    /// The instruction without operands.
+    pub(crate) fn nullary(self) -> Instruction
+        requires { operand_count self ≡ 0 }
+        ensures { instruction_by self ([]) ≡ Some result }
     {
         match self {
-            Opcode::Hole => Some(Instruction::Hole),
-            _ => None,
+            Opcode::Hole => Instruction::Hole,
+            _ => unreachable!(),
         }
     }
 
-    fn unary(self, a: &Operand) -> Option<Instruction>
-        ensures { result ≡ instruction_by self (a.now ∷ []) }
+    /// The instruction with this operand.
+    pub(crate) fn unary(self, a: Operand) -> Instruction
+        requires { operand_count self ≡ 1 }
+        ensures { instruction_by self (a ∷ []) ≡ Some result }
     {
         match self {
-            Opcode::Zext => Some(Instruction::Zext { a: *a }),
-            Opcode::Sext => Some(Instruction::Sext { a: *a }),
-            Opcode::Trunc => Some(Instruction::Trunc { a: *a }),
-            Opcode::Ctpop => Some(Instruction::Ctpop { a: *a }),
-            Opcode::Bswap => Some(Instruction::Bswap { a: *a }),
-            Opcode::BitReverse => Some(Instruction::BitReverse { a: *a }),
-            Opcode::Cttz => Some(Instruction::Cttz { a: *a }),
-            Opcode::Ctlz => Some(Instruction::Ctlz { a: *a }),
-            Opcode::Freeze => Some(Instruction::Freeze { a: *a }),
-            _ => None,
-        }
-    }
-
-    fn binary(self, a: &Operand, b: &Operand) -> Option<Instruction>
-        ensures { result ≡ instruction_by self (a.now ∷ (b.now ∷ [])) }
-    {
-        match self {
-            Opcode::Add => Some(Instruction::Add { a: *a, b: *b }),
-            Opcode::AddNsw => Some(Instruction::AddNsw { a: *a, b: *b }),
-            Opcode::AddNuw => Some(Instruction::AddNuw { a: *a, b: *b }),
-            Opcode::AddNw => Some(Instruction::AddNw { a: *a, b: *b }),
-            Opcode::Sub => Some(Instruction::Sub { a: *a, b: *b }),
-            Opcode::SubNsw => Some(Instruction::SubNsw { a: *a, b: *b }),
-            Opcode::SubNuw => Some(Instruction::SubNuw { a: *a, b: *b }),
-            Opcode::SubNw => Some(Instruction::SubNw { a: *a, b: *b }),
-            Opcode::Mul => Some(Instruction::Mul { a: *a, b: *b }),
-            Opcode::MulNsw => Some(Instruction::MulNsw { a: *a, b: *b }),
-            Opcode::MulNuw => Some(Instruction::MulNuw { a: *a, b: *b }),
-            Opcode::MulNw => Some(Instruction::MulNw { a: *a, b: *b }),
-            Opcode::Udiv => Some(Instruction::Udiv { a: *a, b: *b }),
-            Opcode::Sdiv => Some(Instruction::Sdiv { a: *a, b: *b }),
-            Opcode::UdivExact => Some(Instruction::UdivExact { a: *a, b: *b }),
-            Opcode::SdivExact => Some(Instruction::SdivExact { a: *a, b: *b }),
-            Opcode::Urem => Some(Instruction::Urem { a: *a, b: *b }),
-            Opcode::Srem => Some(Instruction::Srem { a: *a, b: *b }),
-            Opcode::And => Some(Instruction::And { a: *a, b: *b }),
-            Opcode::Or => Some(Instruction::Or { a: *a, b: *b }),
-            Opcode::Xor => Some(Instruction::Xor { a: *a, b: *b }),
-            Opcode::Shl => Some(Instruction::Shl { a: *a, b: *b }),
-            Opcode::ShlNsw => Some(Instruction::ShlNsw { a: *a, b: *b }),
-            Opcode::ShlNuw => Some(Instruction::ShlNuw { a: *a, b: *b }),
-            Opcode::ShlNw => Some(Instruction::ShlNw { a: *a, b: *b }),
-            Opcode::Lshr => Some(Instruction::Lshr { a: *a, b: *b }),
-            Opcode::LshrExact => Some(Instruction::LshrExact { a: *a, b: *b }),
-            Opcode::Ashr => Some(Instruction::Ashr { a: *a, b: *b }),
-            Opcode::AshrExact => Some(Instruction::AshrExact { a: *a, b: *b }),
-            Opcode::Eq => Some(Instruction::Eq { a: *a, b: *b }),
-            Opcode::Ne => Some(Instruction::Ne { a: *a, b: *b }),
-            Opcode::Ult => Some(Instruction::Ult { a: *a, b: *b }),
-            Opcode::Slt => Some(Instruction::Slt { a: *a, b: *b }),
-            Opcode::Ule => Some(Instruction::Ule { a: *a, b: *b }),
-            Opcode::Sle => Some(Instruction::Sle { a: *a, b: *b }),
-            Opcode::SaddWithOverflow => Some(Instruction::SaddWithOverflow { a: *a, b: *b }),
-            Opcode::UaddWithOverflow => Some(Instruction::UaddWithOverflow { a: *a, b: *b }),
-            Opcode::SsubWithOverflow => Some(Instruction::SsubWithOverflow { a: *a, b: *b }),
-            Opcode::UsubWithOverflow => Some(Instruction::UsubWithOverflow { a: *a, b: *b }),
-            Opcode::SmulWithOverflow => Some(Instruction::SmulWithOverflow { a: *a, b: *b }),
-            Opcode::UmulWithOverflow => Some(Instruction::UmulWithOverflow { a: *a, b: *b }),
-            Opcode::SaddSat => Some(Instruction::SaddSat { a: *a, b: *b }),
-            Opcode::UaddSat => Some(Instruction::UaddSat { a: *a, b: *b }),
-            Opcode::SsubSat => Some(Instruction::SsubSat { a: *a, b: *b }),
-            Opcode::UsubSat => Some(Instruction::UsubSat { a: *a, b: *b }),
-            Opcode::ExtractValue => Some(Instruction::ExtractValue { a: *a, b: *b }),
-            _ => None,
-        }
-    }
-
-    fn ternary(self, a: &Operand, b: &Operand, c: &Operand) -> Option<Instruction>
-        ensures { result ≡ instruction_by self (a.now ∷ (b.now ∷ (c.now ∷ []))) }
-    {
-        match self {
-            Opcode::Select => Some(Instruction::Select {
-                a: *a,
-                b: *b,
-                c: *c,
-            }),
-            Opcode::Fshl => Some(Instruction::Fshl {
-                a: *a,
-                b: *b,
-                c: *c,
-            }),
-            Opcode::Fshr => Some(Instruction::Fshr {
-                a: *a,
-                b: *b,
-                c: *c,
-            }),
-            _ => None,
+            Opcode::Zext => Instruction::Zext { a },
+            Opcode::Sext => Instruction::Sext { a },
+            Opcode::Trunc => Instruction::Trunc { a },
+            Opcode::Ctpop => Instruction::Ctpop { a },
+            Opcode::Bswap => Instruction::Bswap { a },
+            Opcode::BitReverse => Instruction::BitReverse { a },
+            Opcode::Cttz => Instruction::Cttz { a },
+            Opcode::Ctlz => Instruction::Ctlz { a },
+            Opcode::Freeze => Instruction::Freeze { a },
+            _ => unreachable!(),
         }
     }
 
     /// The instruction with these operands, from left to right.
-    pub(crate) fn with(self, operands: &[Operand]) -> Option<Instruction>
-        ensures { result ≡ instruction_by self operands.now }
+    pub(crate) fn binary(self, a: Operand, b: Operand) -> Instruction
+        requires { operand_count self ≡ 2 }
+        ensures { instruction_by self (a ∷ (b ∷ [])) ≡ Some result }
     {
-        match operands {
-            [] => self.nullary(),
-            [a] => self.unary(a),
-            [a, b] => self.binary(a, b),
-            [a, b, c] => self.ternary(a, b, c),
-            _ => None,
+        match self {
+            Opcode::Add => Instruction::Add { a, b },
+            Opcode::AddNsw => Instruction::AddNsw { a, b },
+            Opcode::AddNuw => Instruction::AddNuw { a, b },
+            Opcode::AddNw => Instruction::AddNw { a, b },
+            Opcode::Sub => Instruction::Sub { a, b },
+            Opcode::SubNsw => Instruction::SubNsw { a, b },
+            Opcode::SubNuw => Instruction::SubNuw { a, b },
+            Opcode::SubNw => Instruction::SubNw { a, b },
+            Opcode::Mul => Instruction::Mul { a, b },
+            Opcode::MulNsw => Instruction::MulNsw { a, b },
+            Opcode::MulNuw => Instruction::MulNuw { a, b },
+            Opcode::MulNw => Instruction::MulNw { a, b },
+            Opcode::Udiv => Instruction::Udiv { a, b },
+            Opcode::Sdiv => Instruction::Sdiv { a, b },
+            Opcode::UdivExact => Instruction::UdivExact { a, b },
+            Opcode::SdivExact => Instruction::SdivExact { a, b },
+            Opcode::Urem => Instruction::Urem { a, b },
+            Opcode::Srem => Instruction::Srem { a, b },
+            Opcode::And => Instruction::And { a, b },
+            Opcode::Or => Instruction::Or { a, b },
+            Opcode::Xor => Instruction::Xor { a, b },
+            Opcode::Shl => Instruction::Shl { a, b },
+            Opcode::ShlNsw => Instruction::ShlNsw { a, b },
+            Opcode::ShlNuw => Instruction::ShlNuw { a, b },
+            Opcode::ShlNw => Instruction::ShlNw { a, b },
+            Opcode::Lshr => Instruction::Lshr { a, b },
+            Opcode::LshrExact => Instruction::LshrExact { a, b },
+            Opcode::Ashr => Instruction::Ashr { a, b },
+            Opcode::AshrExact => Instruction::AshrExact { a, b },
+            Opcode::Eq => Instruction::Eq { a, b },
+            Opcode::Ne => Instruction::Ne { a, b },
+            Opcode::Ult => Instruction::Ult { a, b },
+            Opcode::Slt => Instruction::Slt { a, b },
+            Opcode::Ule => Instruction::Ule { a, b },
+            Opcode::Sle => Instruction::Sle { a, b },
+            Opcode::SaddWithOverflow => Instruction::SaddWithOverflow { a, b },
+            Opcode::UaddWithOverflow => Instruction::UaddWithOverflow { a, b },
+            Opcode::SsubWithOverflow => Instruction::SsubWithOverflow { a, b },
+            Opcode::UsubWithOverflow => Instruction::UsubWithOverflow { a, b },
+            Opcode::SmulWithOverflow => Instruction::SmulWithOverflow { a, b },
+            Opcode::UmulWithOverflow => Instruction::UmulWithOverflow { a, b },
+            Opcode::SaddSat => Instruction::SaddSat { a, b },
+            Opcode::UaddSat => Instruction::UaddSat { a, b },
+            Opcode::SsubSat => Instruction::SsubSat { a, b },
+            Opcode::UsubSat => Instruction::UsubSat { a, b },
+            Opcode::ExtractValue => Instruction::ExtractValue { a, b },
+            _ => unreachable!(),
+        }
+    }
+
+    /// The instruction with these operands, from left to right.
+    pub(crate) fn ternary(self, a: Operand, b: Operand, c: Operand) -> Instruction
+        requires { operand_count self ≡ 3 }
+        ensures { instruction_by self (a ∷ (b ∷ (c ∷ []))) ≡ Some result }
+    {
+        match self {
+            Opcode::Select => Instruction::Select { a, b, c },
+            Opcode::Fshl => Instruction::Fshl { a, b, c },
+            Opcode::Fshr => Instruction::Fshr { a, b, c },
+            _ => unreachable!(),
         }
     }
 }

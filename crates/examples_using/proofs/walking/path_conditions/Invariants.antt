@@ -1,4 +1,4 @@
--- The conditions so far, and then those to come, are all.
+-- The conditions so far, and then the remaining ones, are all.
 use Rattle.std.proofs.Common.{◌≡◌, ◌++◌, map}
 use Rattle.souper_graph.specs.Uses.{conditions_from}
 use Rattle.souper_graph.specs.View.{view_statement}

@@ -1,4 +1,4 @@
--- Each record so far took a byte, and where each was as stored the bytes are right if the rest is.
+-- Each record so far took a byte, and if each was as stored the bytes are right if the rest is.
 use Rattle.std.proofs.Common.{IsTrue, ◌+◌, ◌≤◌, length}
 use Rattle.replay_answers.specs.Answers.{AllRight}
 use Rattle.replay_answers.proofs.answers.replay.Given as goal

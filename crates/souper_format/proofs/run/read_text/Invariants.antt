@@ -1,4 +1,4 @@
--- All bytes so far were the reader's, it has neither failed nor ended, and each turn gave one.
+-- All bytes so far were the reader's, it has neither failed nor ended, and each turn read one.
 use Rattle.std.proofs.Common.{◌≡◌, ◌≤◌, false, length}
 use Rattle.std.specs.Io.KnownBytes.{Consumes}
 use Rattle.souper_format.proofs.run.read_text.Given as goal

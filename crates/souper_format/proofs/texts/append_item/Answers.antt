@@ -6,6 +6,7 @@ use Rattle.souper_format.proofs.texts.append_item.Goals as goal
 
 pub returns-in_ok-push-in-Ok : goal.returns-in_ok-push-in-Ok
 returns-in_ok-push-in-Ok g c =
-    let text_is : string_bytes c.in-Ok.text ≡ text_of (g.T.WholeItem.view c.args.item.now) = c.in-Ok.ensures (well_formed_below (g.T.WholeItem.view c.args.item.now) c.requires) in
-    let whole : string_bytes c.push.new.self ≡ string_bytes c.args.out.now ++ (string_bytes c.in-Ok.text ++ 10 ∷ []) = search (rules, append_assoc) in
-    whole ∙ ap (λ (x : List ℕ). string_bytes c.args.out.now ++ (x ++ 10 ∷ [])) text_is
+    let item = g.T.WholeItem.view c.args.item.now in
+    let text : string_bytes c.append.new.out ≡ string_bytes c.args.out.now ++ text_of item = c.in-Ok.ensures (well_formed_below item c.requires) in
+    let line : string_bytes c.push.new.self ≡ string_bytes c.append.new.out ++ 10 ∷ [] = search rules in
+    line ∙ ap (λ (x : List ℕ). x ++ 10 ∷ []) text ∙ append_assoc (string_bytes c.args.out.now) (text_of item) (10 ∷ [])

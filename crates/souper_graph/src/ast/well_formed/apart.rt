@@ -1,4 +1,4 @@
-//! A judge of names: whether no two assignments share one.
+//! The check of names: whether those of assignments are distinct.
 
 ghost use Rattle.std.specs.Prelude.{◌≡◌, ◌↔◌, map, IsTrue, IfOk, option_copied};
 ghost use Rattle.souper_graph.specs.View.{view_statement};
@@ -22,7 +22,7 @@ fn name_at(statements: &Arena<Statement>, id: Id<Statement>) -> Option<&str>
     }
 }
 
-// Whether no two of the assignments at these positions have one name.
+// Whether the assignments at these positions have distinct names.
 pub(crate) fn are_named_apart(
     statements: &Arena<Statement>,
     ids: &[Id<Statement>],

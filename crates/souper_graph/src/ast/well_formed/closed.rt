@@ -1,4 +1,4 @@
-//! Judges of uses: whether they lie below the statement, and what stands there.
+//! The checks of uses: whether each is below its statement, and what is there.
 
 ghost use Rattle.std.specs.Prelude.{◌≡◌, ◌<◌, ◌↔◌, ◌∷◌, [], map, length, slice_get, Some, None, IsTrue, MatchOption};
 ghost use Rattle.std.specs.List.{AllByRecursion};
@@ -55,7 +55,7 @@ fn operands_are_met(statements: &Arena<Statement>, operands: &[Operand], limit: 
     true
 }
 
-// How many ways lead into the block, or `None` where no block stands.
+// The block's number of predecessors, or `None` if no block is there.
 fn predecessors_of(statements: &Arena<Statement>, block: BlockId) -> Option<u32>
     ensures { MatchOption result (¬ IsBlock (slice_get (map view_statement statements.now) block)) (λ count. IsBlock (slice_get (map view_statement statements.now) block) × (count ≡ predecessors_at (map view_statement statements.now) block)) }
 {
@@ -72,7 +72,7 @@ fn predecessors_of(statements: &Arena<Statement>, block: BlockId) -> Option<u32>
     }
 }
 
-// How many ways lead into the block, or `None` where no block stands below the limit.
+// The block's number of predecessors, or `None` if the position is not below the limit or has no block.
 fn predecessors_below(statements: &Arena<Statement>, block: BlockId, limit: usize) -> Option<u32>
     ensures { MatchOption result (¬ IsMetBelow (map view_statement statements.now) limit (block_use block)) (λ count. IsMetBelow (map view_statement statements.now) limit (block_use block) × (count ≡ predecessors_at (map view_statement statements.now) block)) }
 {
@@ -126,7 +126,7 @@ fn statement_is_met(statements: &Arena<Statement>, statement: &Statement, limit:
     }
 }
 
-// Whether the statement at the position may stand there.
+// Whether the statement at the position is valid there; true if there is none.
 fn may_stand(statements: &Arena<Statement>, id: Id<Statement>) -> bool
     ensures { IsTrue result ↔ MayStandAt (map view_statement statements.now) id }
 {

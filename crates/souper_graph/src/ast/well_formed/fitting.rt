@@ -1,4 +1,4 @@
-//! Judges of nodes by themselves: widths, bit lists and names.
+//! The checks of single nodes: widths, bit lists and names.
 
 ghost use Rattle.std.specs.Prelude.{◌≡◌, ◌↔◌, map, true, IsTrue};
 ghost use Rattle.std.specs.List.{AllByRecursion};
@@ -50,7 +50,7 @@ fn attribute_fits(attribute: &Attribute) -> bool
         | Attribute::NonZero
         | Attribute::HasExternalUses => true,
 
-        // Any number of its type fits. The read tells the proof that it is one.
+        // Any number of its type is valid. The read shows the proof that it is one.
         Attribute::SignBits(count) => {
             let _count = *count;
             true
@@ -100,7 +100,7 @@ fn rhs_fits(value: &AssignmentRhs) -> bool
     match value {
         AssignmentRhs::Phi(phi) => operands_fit(phi.values.as_slice()),
         AssignmentRhs::Instruction(instruction) => operands_fit(instruction.operands().as_slice()),
-        // Any count of its type fits. The read tells the proof that it is one.
+        // Any count of its type is valid. The read shows the proof that it is one.
         AssignmentRhs::Block(block) => {
             let _predecessors = block.predecessors;
             true
@@ -150,7 +150,7 @@ pub(crate) fn statement_fits(statement: &Statement) -> bool
     match statement {
         Statement::Assignment(assignment) => assignment_fits(assignment),
         Statement::Pc(pc) => operand_fits(pc.x) && operand_fits(pc.y),
-        // Any predecessor fits by itself. The read tells the proof that it is a number of its type.
+        // Any predecessor is valid by itself. The read shows the proof that it is a number of its type.
         Statement::BlockPc(block_pc) => {
             let _predecessor = block_pc.predecessor;
             operand_fits(block_pc.x) && operand_fits(block_pc.y)

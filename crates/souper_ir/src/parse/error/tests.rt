@@ -12,7 +12,7 @@ fn shows(rt: &impl Abort, alloc: Global, error: &ParseError, want: &str) -> Resu
     shows_whatever_the_options(rt, alloc, error, want)
 }
 
-// Width, fill, precision and sign play no part.
+// Width, fill, precision and sign are ignored.
 fn shows_whatever_the_options(
     rt: &impl Abort,
     alloc: Global,
@@ -29,7 +29,7 @@ fn shows_whatever_the_options(
     Ok(())
 }
 
-// A refusal with the message `what`, in its place.
+// A refusal with the message `what`, with its place.
 fn located(
     alloc: Global,
     source: &str,
@@ -39,14 +39,14 @@ fn located(
     requires { offset ≤ length source.now }
 {
     let message = String::from_str(alloc, "what")?;
-    Ok(ParseError::refused(alloc, offset, message)?.locate(alloc, source, file))
+    Ok(ParseError::from(ReadError::refused(alloc, offset, message)?).locate(alloc, source, file))
 }
 
 #[test]
 fn place_of_a_refusal(rt: HostRuntime) -> Result<(), Fail> {
     let source = "hello, how are you?\n> I am good, thanks\nthats good\n";
     let message = String::from_str(rt.alloc(), "missing apostrophe")?;
-    let error = ParseError::refused(rt.alloc(), 45, message)?;
+    let error = ParseError::from(ReadError::refused(rt.alloc(), 45, message)?);
     let error = error.locate(rt.alloc(), source, Some("path/to/foo.txt"));
     assert_eq!(&rt;
         (error.kind(), error.offset()),
@@ -115,7 +115,7 @@ fn far_places(rt: HostRuntime) -> Result<(), Fail> {
 #[test]
 fn errors_of_no_source(rt: HostRuntime) -> Result<(), Fail> {
     let message = String::from_str(rt.alloc(), "what")?;
-    let error = ParseError::refused(rt.alloc(), 7, message)?;
+    let error = ParseError::from(ReadError::refused(rt.alloc(), 7, message)?);
     let want = "unknown:1:1: what\n     |\n   1 | byte offset 7\n     | ^";
     shows(&rt, rt.alloc(), &error, want)?;
     let memory = ParseError::from(AllocError).locate(rt.alloc(), "", None);

@@ -7,7 +7,7 @@ use Rattle.souper_graph.specs.Text.{lines_of}
 use Rattle.souper_graph.specs.Faults.{AreMet}
 use Rattle.souper_graph.proofs.stringify.lines.append_lines.Given as goal
 
--- the lines so far are written, and what they name is met
+-- the lines so far are written, and what they use resolves
 abbrev pub invariant-loop-id : goal.invariant-loop-id
 invariant-loop-id l = record {
   written : string_bytes l.out ≡ string_bytes l.initial.out ++ lines_of (map view_statement l.statements) (take l.id-index l.ids);

@@ -6,7 +6,7 @@ use Rattle.souper_graph.specs.Text.{text_of_further}
 use Rattle.souper_graph.specs.Faults.{AreMet}
 use Rattle.souper_graph.proofs.stringify.nodes.append_further.Given as goal
 
--- the operands so far are written, and what they name is met
+-- the operands so far are written, and what they use resolves
 abbrev pub invariant-loop-operand : goal.invariant-loop-operand
 invariant-loop-operand l = record {
   written : string_bytes l.out ≡ string_bytes l.initial.out ++ text_of_further (map view_statement l.statements) (take l.operand-index l.operands);

@@ -10,13 +10,13 @@ use Rattle.souper_graph.proofs.stringify.order.order_of.Goals.{then-k-walks, els
 
 pub loop-k-init : goal.loop-k-init
 loop-k-init c = (
-  c.new-stack.ensures.items,
-  start_at (map view_statement c.args.statements.now) c.len.result c.new-stack.result.items c.in_ok-marks.marks c.new-ids.result.items
-      c.new-stack.ensures.items c.in_ok-marks.ensures (c.len.ensures ∙ sym (length-map c.args.statements.now view_statement)) c.new-ids.ensures.items,
+  c.in_ok-stack.ensures.items,
+  start_at (map view_statement c.args.statements.now) c.len.result c.in_ok-stack.stack.items c.in_ok-marks.marks c.in_ok-ids.ids.items
+      c.in_ok-stack.ensures.items c.in_ok-marks.ensures (c.len.ensures ∙ sym (length-map c.args.statements.now view_statement)) c.in_ok-ids.ensures.items,
   omega arith,
   lead_start (map view_statement c.args.statements.now) c.args.walks.now.targets.items c.args.walks.now.before,
-  λ h. sym (ap length c.new-ids.ensures.items),
-  lead_needs_start (map view_statement c.args.statements.now) c.args.walks.now.targets.items c.args.walks.now.before c.new-ids.result.items,
+  λ h. sym (ap length c.in_ok-ids.ensures.items),
+  lead_needs_start (map view_statement c.args.statements.now) c.args.walks.now.targets.items c.args.walks.now.before c.in_ok-ids.ids.items,
 )
 
 pub loop-entry-init : goal.loop-entry-init
@@ -30,8 +30,8 @@ loop-entry-init c = (
   c.loop-k.invariant.5,
 )
 
-pub loop-entry-preserved-in-Continue-branch-3 : goal.loop-entry-preserved-in-Continue-branch-3
-loop-entry-preserved-in-Continue-branch-3 c = (
+pub loop-entry-preserved-in-Continue-branch-5 : goal.loop-entry-preserved-in-Continue-branch-5
+loop-entry-preserved-in-Continue-branch-5 c = (
   finished_next (map view_statement c.args.statements.now) (take (c.loop-k.k + 1) c.args.walks.now.targets.items) c.loop-entry.stack.items c.pop.new.self.items
       c.loop-entry.marks c.loop-entry.ids.items c.push-in-Finished.new.self.items c.loop-entry.turns c.saturating_add-turns.result c.in-Finished.id c.in-Some.entry
       c.loop-entry.invariant.0 c.in-Some.ensures.items c.in-Finished.is c.in_ok-push-in-Finished.ensures.items c.saturating_add-turns.ensures,
@@ -60,8 +60,8 @@ mark-requires c =
     mark_there c.args.statements.now _ _ c.loop-entry.marks _ _ c.index-then-not-is_marked.result _ c.in_ok-statement-in-Trace.statement.now c.loop-entry.invariant.0
     c.in_ok-statement-in-Trace.ensures.there (c.index-then-not-is_marked.ensures ∙ c.position-id.ensures)
 
-pub loop-entry-smaller-in-Continue-branch-6 : goal.loop-entry-smaller-in-Continue-branch-6
-loop-entry-smaller-in-Continue-branch-6 c =
+pub loop-entry-smaller-in-Continue-branch-8 : goal.loop-entry-smaller-in-Continue-branch-8
+loop-entry-smaller-in-Continue-branch-8 c =
     entered_smaller c.args.statements.now (take (c.loop-k.k + 1) c.args.walks.now.targets.items) c.loop-entry.stack.items c.pop.new.self.items
     c.push-then-not-is_marked.new.self.items c.push_uses.new.stack.items c.loop-entry.marks c.mark.new.self c.loop-entry.ids.items c.loop-entry.turns
     c.position-id.result c.index.result c.in-Some.entry c.in-Trace.target c.in_ok-statement-in-Trace.statement.now c.is_marked.result
@@ -69,8 +69,8 @@ loop-entry-smaller-in-Continue-branch-6 c =
     c.position-id.ensures (c.index.ensures ∙ c.position-id.ensures) c.is_marked.ensures c.if-not-is_marked.true
     (c.mark.ensures ∙ ap (λ z. set c.loop-entry.marks z true) c.index-then-not-is_marked.ensures) c.in_ok-push-in-Trace.ensures.items c.in_ok-push_uses-in-Trace.ensures.ok
 
-pub loop-entry-preserved-in-Continue-branch-6 : goal.loop-entry-preserved-in-Continue-branch-6
-loop-entry-preserved-in-Continue-branch-6 c = (
+pub loop-entry-preserved-in-Continue-branch-8 : goal.loop-entry-preserved-in-Continue-branch-8
+loop-entry-preserved-in-Continue-branch-8 c = (
   entered_next c.args.statements.now (take (c.loop-k.k + 1) c.args.walks.now.targets.items) c.loop-entry.stack.items c.pop.new.self.items
       c.push-then-not-is_marked.new.self.items c.push_uses.new.stack.items c.loop-entry.marks c.mark.new.self c.loop-entry.ids.items c.loop-entry.turns c.saturating_add-turns.result
       c.position-id.result c.index.result c.in-Some.entry c.in-Trace.target c.in_ok-statement-in-Trace.statement.now c.is_marked.result

@@ -1,12 +1,13 @@
 use Rattle.std.proofs.Common.{◌≡◌, [], ◌∷◌, ◌++◌, false, true}
 use Rattle.std.proofs.lemmas.Result.{err_from_is_err_and}
 use Rattle.souper_ir.proofs.ItemLists.{runs_on, item_shorter, all_taken, look_refused, item_refused, nothing_taken, nothing_seen, still_sound, read_behind, read_well, takes_one, pushed_some}
+use Rattle.souper_ir.specs.Errors.{error_of}
 use Rattle.souper_ir.proofs.parse.item.items.Goals as goal
 
 pub returns-in_err-token_comes-clause-err : goal.returns-in_err-token_comes-clause-err
 returns-in_err-token_comes-clause-err g c =
     let p = err_from_is_err_and c.from_residual.result c.from_residual.ensures.1 in
-    rw (p.1, p.2) (look_refused g.T.WholeItem.item_type _ c.in_err-token_comes.field-0.0 c.args.parser.now c.loop-parser.parser c.token_comes.new.parser c.loop-parser.invariant.1 c.in_err-token_comes.ensures.next)
+    rw (p.1, p.2) (look_refused g.T.WholeItem.item_type _ (error_of c.in_err-token_comes.field-0.0) c.args.parser.now c.loop-parser.parser c.token_comes.new.parser c.loop-parser.invariant.1 c.in_err-token_comes.ensures.next)
 
 pub returns-in_err-token_comes-clause-ended : goal.returns-in_err-token_comes-clause-ended
 returns-in_err-token_comes-clause-ended g c = λ e f l.

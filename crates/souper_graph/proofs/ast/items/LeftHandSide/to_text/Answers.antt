@@ -1,13 +1,9 @@
 use Rattle.souper_graph.specs.View.{view_left_hand_side}
 use Rattle.std.specs.String.{string_bytes}
 use Rattle.souper_graph.specs.Syntax.Spelling.{left_hand_side}
-use Rattle.souper_graph.proofs.RoundTrip.ReadBack.{order-reads-back}
-use Rattle.souper_graph.proofs.Naming.{IsFaultOf-answered}
+use Rattle.souper_graph.proofs.RoundTrip.ReadBack.{canonical-reads-back}
 use Rattle.souper_graph.proofs.ast.items.LeftHandSide.to_text.Goals as goal
-
-pub returns-clause-refused : goal.returns-clause-refused
-returns-clause-refused c = IsFaultOf-answered (view_left_hand_side c.args.self.now) c.in_ok-order.order.ids.items c.text_by.result c.in_ok-order.ensures.exact c.text_by.ensures.refused
 
 pub returns-clause-reads_back : goal.returns-clause-reads_back
 returns-clause-reads_back c =
-    order-reads-back left_hand_side (view_left_hand_side c.args.self.now) string_bytes c.text_by.result c.in_ok-order.order.ids.items c.in_ok-order.order.lead tt c.text_by.ensures.ok c.in_ok-order.ensures.printed c.in_ok-order.ensures.lead
+    canonical-reads-back left_hand_side (view_left_hand_side c.args.self.now) (string_bytes c.new-text.result) (string_bytes c.append_text.new.out) tt c.new-text.ensures.bytes c.in_ok-append_text.ensures.canonical

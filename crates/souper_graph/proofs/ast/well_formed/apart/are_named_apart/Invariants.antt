@@ -3,7 +3,7 @@ use Rattle.souper_graph.specs.View.{view_statement}
 use Rattle.souper_graph.proofs.Apart.{NamesAre, Apart}
 use Rattle.souper_graph.proofs.ast.well_formed.apart.are_named_apart.Given as goal
 
--- the set has the names so far, and no two of them are one
+-- the set has the names so far, and they are distinct
 abbrev pub invariant-loop-id : goal.invariant-loop-id
 invariant-loop-id l = record {
   tie : NamesAre l.names (map view_statement l.statements) (take l.id-index l.ids);

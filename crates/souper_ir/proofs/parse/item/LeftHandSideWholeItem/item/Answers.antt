@@ -4,19 +4,20 @@ use Rattle.souper_graph.specs.declared.ast.items.LeftHandSide.{LeftHandSide}
 use Rattle.souper_graph.specs.View.{view_infer, view_left_hand_side}
 use Rattle.souper_graph.specs.Syntax.Spelling.{left_hand_side}
 use Rattle.souper_ir.proofs.ItemSteps.{item_taken, statements_refused, tail_refused, infer_tail, infer_tail_refused}
+use Rattle.souper_ir.specs.Errors.{error_of}
 use Rattle.souper_ir.proofs.parse.item.LeftHandSideWholeItem.item.Goals as goal
 
 pub returns-in_err-statements-clause-err : goal.returns-in_err-statements-clause-err
 returns-in_err-statements-clause-err c =
     let p = err_from_is_err_and c.from_residual.result c.from_residual.ensures.1 in
-    rw (p.1, p.2) (statements_refused left_hand_side c.in_err-statements.field-0.0 c.args.parser.now c.statements.new.parser c.in_err-statements.ensures.err)
+    rw (p.1, p.2) (statements_refused left_hand_side (error_of c.in_err-statements.field-0.0) c.args.parser.now c.statements.new.parser c.in_err-statements.ensures.err)
 
 pub returns-in_err-infer-clause-err : goal.returns-in_err-infer-clause-err
 returns-in_err-infer-clause-err c =
     let p = err_from_is_err_and c.from_residual-in_err-infer.result c.from_residual-in_err-infer.ensures.1 in
     rw (p.1, p.2)
-    (tail_refused left_hand_side c.in_ok-statements.ensures.ok.0 c.in_err-infer.field-0.0 c.args.parser.now c.statements.new.parser c.infer.new.parser c.in_ok-statements.ensures.ok.1
-    (infer_tail_refused c.in_err-infer.field-0.0 c.statements.new.parser c.infer.new.parser c.in_err-infer.ensures.err))
+    (tail_refused left_hand_side c.in_ok-statements.ensures.ok.0 (error_of c.in_err-infer.field-0.0) c.args.parser.now c.statements.new.parser c.infer.new.parser c.in_ok-statements.ensures.ok.1
+    (infer_tail_refused (error_of c.in_err-infer.field-0.0) c.statements.new.parser c.infer.new.parser c.in_err-infer.ensures.err))
 
 pub returns-clause-ok : goal.returns-clause-ok
 returns-clause-ok c =

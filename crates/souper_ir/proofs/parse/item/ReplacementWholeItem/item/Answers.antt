@@ -8,50 +8,51 @@ use Rattle.souper_ir.specs.NodeReadings.{result_at}
 use Rattle.souper_ir.specs.StatementLaws.{result_sound, result_complete}
 use Rattle.souper_ir.specs.Readings.{is_taken, is_refused}
 use Rattle.souper_ir.proofs.ItemSteps.{item_taken, statements_refused, tail_refused, look_refused, cand_tail, cand_tail_refused, root_refused, root_behind, middle_refused, last_refused, replaced_tail}
+use Rattle.souper_ir.specs.Errors.{error_of}
 use Rattle.souper_ir.proofs.parse.item.ReplacementWholeItem.item.Goals as goal
 
 pub returns-in_err-statements-clause-err : goal.returns-in_err-statements-clause-err
 returns-in_err-statements-clause-err c =
     let p = err_from_is_err_and c.from_residual.result c.from_residual.ensures.1 in
-    rw (p.1, p.2) (statements_refused replacement c.in_err-statements.field-0.0 c.args.parser.now c.statements.new.parser c.in_err-statements.ensures.err)
+    rw (p.1, p.2) (statements_refused replacement (error_of c.in_err-statements.field-0.0) c.args.parser.now c.statements.new.parser c.in_err-statements.ensures.err)
 
 pub returns-in_err-word_comes-clause-err : goal.returns-in_err-word_comes-clause-err
 returns-in_err-word_comes-clause-err c =
     let p = err_from_is_err_and c.from_residual-in_err-word_comes.result c.from_residual-in_err-word_comes.ensures.1 in
     rw (p.1, p.2)
-    (tail_refused replacement c.in_ok-statements.ensures.ok.0 c.in_err-word_comes.field-0.0 c.args.parser.now c.statements.new.parser c.word_comes.new.parser c.in_ok-statements.ensures.ok.1
-    (look_refused c.in_err-word_comes.field-0.0 c.statements.new.parser c.word_comes.new.parser c.in_err-word_comes.ensures))
+    (tail_refused replacement c.in_ok-statements.ensures.ok.0 (error_of c.in_err-word_comes.field-0.0) c.args.parser.now c.statements.new.parser c.word_comes.new.parser c.in_ok-statements.ensures.ok.1
+    (look_refused (error_of c.in_err-word_comes.field-0.0) c.statements.new.parser c.word_comes.new.parser c.in_err-word_comes.ensures))
 
 pub returns-in_err-lhs-clause-err : goal.returns-in_err-lhs-clause-err
 returns-in_err-lhs-clause-err c =
     let p = err_from_is_err_and c.from_residual-in_err-lhs.result c.from_residual-in_err-lhs.ensures.1 in
     rw (p.1, p.2)
-    (tail_refused replacement c.in_ok-statements.ensures.ok.0 c.in_err-lhs.field-0.0 c.args.parser.now c.statements.new.parser c.infer.new.parser c.in_ok-statements.ensures.ok.1
-    (root_refused c.in_err-lhs.field-0.0 c.statements.new.parser c.word_comes.new.parser c.infer.new.parser (rw c.if-branch.true at c.in_ok-word_comes.ensures) c.in_err-lhs.ensures.err))
+    (tail_refused replacement c.in_ok-statements.ensures.ok.0 (error_of c.in_err-lhs.field-0.0) c.args.parser.now c.statements.new.parser c.infer.new.parser c.in_ok-statements.ensures.ok.1
+    (root_refused (error_of c.in_err-lhs.field-0.0) c.statements.new.parser c.word_comes.new.parser c.infer.new.parser (rw c.if-branch.true at c.in_ok-word_comes.ensures) c.in_err-lhs.ensures.err))
 
 pub returns-in_err-statements-2-clause-err : goal.returns-in_err-statements-2-clause-err
 returns-in_err-statements-2-clause-err c =
     let p = err_from_is_err_and c.from_residual-in_err-statements-2.result c.from_residual-in_err-statements-2.ensures.1 in
     let root = root_behind (view_infer c.in_ok-lhs.lhs) c.statements.new.parser c.word_comes.new.parser c.infer.new.parser (rw c.if-branch.true at c.in_ok-word_comes.ensures) c.in_ok-lhs.ensures.ok in
     rw (p.1, p.2)
-    (tail_refused replacement c.in_ok-statements.ensures.ok.0 c.in_err-statements-2.field-0.0 c.args.parser.now c.statements.new.parser c.statements-then-branch.new.parser c.in_ok-statements.ensures.ok.1
-    (middle_refused (view_infer c.in_ok-lhs.lhs) c.in_err-statements-2.field-0.0 c.statements.new.parser c.infer.new.parser c.statements-then-branch.new.parser root c.in_err-statements-2.ensures.err))
+    (tail_refused replacement c.in_ok-statements.ensures.ok.0 (error_of c.in_err-statements-2.field-0.0) c.args.parser.now c.statements.new.parser c.statements-then-branch.new.parser c.in_ok-statements.ensures.ok.1
+    (middle_refused (view_infer c.in_ok-lhs.lhs) (error_of c.in_err-statements-2.field-0.0) c.statements.new.parser c.infer.new.parser c.statements-then-branch.new.parser root c.in_err-statements-2.ensures.err))
 
 pub returns-in_err-rhs-clause-err : goal.returns-in_err-rhs-clause-err
 returns-in_err-rhs-clause-err c =
     let p = err_from_is_err_and c.from_residual-in_err-rhs.result c.from_residual-in_err-rhs.ensures.1 in
     let root = root_behind (view_infer c.in_ok-lhs.lhs) c.statements.new.parser c.word_comes.new.parser c.infer.new.parser (rw c.if-branch.true at c.in_ok-word_comes.ensures) c.in_ok-lhs.ensures.ok in
-    let bad = is_refused result_spells result_continues result_at result_complete c.in_err-rhs.field-0.0 c.statements-then-branch.new.parser c.result.new.parser c.in_err-rhs.ensures in
+    let bad = is_refused result_spells result_continues result_at result_complete (error_of c.in_err-rhs.field-0.0) c.statements-then-branch.new.parser c.result.new.parser c.in_err-rhs.ensures in
     rw (p.1, p.2)
-    (tail_refused replacement c.in_ok-statements.ensures.ok.0 c.in_err-rhs.field-0.0 c.args.parser.now c.statements.new.parser c.result.new.parser c.in_ok-statements.ensures.ok.1
-    (last_refused (view_infer c.in_ok-lhs.lhs) c.in_ok-statements-2.ensures.ok.0 c.in_err-rhs.field-0.0 c.statements.new.parser c.infer.new.parser c.statements-then-branch.new.parser c.result.new.parser root c.in_ok-statements-2.ensures.ok.1 bad))
+    (tail_refused replacement c.in_ok-statements.ensures.ok.0 (error_of c.in_err-rhs.field-0.0) c.args.parser.now c.statements.new.parser c.result.new.parser c.in_ok-statements.ensures.ok.1
+    (last_refused (view_infer c.in_ok-lhs.lhs) c.in_ok-statements-2.ensures.ok.0 (error_of c.in_err-rhs.field-0.0) c.statements.new.parser c.infer.new.parser c.statements-then-branch.new.parser c.result.new.parser root c.in_ok-statements-2.ensures.ok.1 bad))
 
 pub returns-in_err-cand-clause-err : goal.returns-in_err-cand-clause-err
 returns-in_err-cand-clause-err c =
     let p = err_from_is_err_and c.from_residual-in_err-cand.result c.from_residual-in_err-cand.ensures.1 in
     rw (p.1, p.2)
-    (tail_refused replacement c.in_ok-statements.ensures.ok.0 c.in_err-cand.field-0.0 c.args.parser.now c.statements.new.parser c.cand.new.parser c.in_ok-statements.ensures.ok.1
-    (cand_tail_refused c.in_err-cand.field-0.0 c.statements.new.parser c.word_comes.new.parser c.cand.new.parser (rw c.if-branch.false at c.in_ok-word_comes.ensures) c.in_err-cand.ensures.err))
+    (tail_refused replacement c.in_ok-statements.ensures.ok.0 (error_of c.in_err-cand.field-0.0) c.args.parser.now c.statements.new.parser c.cand.new.parser c.in_ok-statements.ensures.ok.1
+    (cand_tail_refused (error_of c.in_err-cand.field-0.0) c.statements.new.parser c.word_comes.new.parser c.cand.new.parser (rw c.if-branch.false at c.in_ok-word_comes.ensures) c.in_err-cand.ensures.err))
 
 pub returns-in_ok-rhs-clause-ok : goal.returns-in_ok-rhs-clause-ok
 returns-in_ok-rhs-clause-ok c =

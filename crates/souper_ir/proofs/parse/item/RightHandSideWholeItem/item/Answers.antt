@@ -8,19 +8,20 @@ use Rattle.souper_ir.specs.NodeReadings.{result_at}
 use Rattle.souper_ir.specs.StatementLaws.{result_sound, result_complete}
 use Rattle.souper_ir.specs.Readings.{is_taken, is_refused}
 use Rattle.souper_ir.proofs.ItemSteps.{item_taken, statements_refused, tail_refused, result_tail, result_tail_refused}
+use Rattle.souper_ir.specs.Errors.{error_of}
 use Rattle.souper_ir.proofs.parse.item.RightHandSideWholeItem.item.Goals as goal
 
 pub returns-in_err-statements-clause-err : goal.returns-in_err-statements-clause-err
 returns-in_err-statements-clause-err c =
     let p = err_from_is_err_and c.from_residual.result c.from_residual.ensures.1 in
-    rw (p.1, p.2) (statements_refused right_hand_side c.in_err-statements.field-0.0 c.args.parser.now c.statements.new.parser c.in_err-statements.ensures.err)
+    rw (p.1, p.2) (statements_refused right_hand_side (error_of c.in_err-statements.field-0.0) c.args.parser.now c.statements.new.parser c.in_err-statements.ensures.err)
 
 pub returns-in_err-result-clause-err : goal.returns-in_err-result-clause-err
 returns-in_err-result-clause-err c =
     let p = err_from_is_err_and c.from_residual-in_err-result.result c.from_residual-in_err-result.ensures.1 in
     rw (p.1, p.2)
-    (tail_refused right_hand_side c.in_ok-statements.ensures.ok.0 c.in_err-result.field-0.0 c.args.parser.now c.statements.new.parser c.result.new.parser c.in_ok-statements.ensures.ok.1
-    (result_tail_refused c.in_err-result.field-0.0 c.statements.new.parser c.result.new.parser (is_refused result_spells result_continues result_at result_complete c.in_err-result.field-0.0 c.statements.new.parser c.result.new.parser c.in_err-result.ensures)))
+    (tail_refused right_hand_side c.in_ok-statements.ensures.ok.0 (error_of c.in_err-result.field-0.0) c.args.parser.now c.statements.new.parser c.result.new.parser c.in_ok-statements.ensures.ok.1
+    (result_tail_refused (error_of c.in_err-result.field-0.0) c.statements.new.parser c.result.new.parser (is_refused result_spells result_continues result_at result_complete (error_of c.in_err-result.field-0.0) c.statements.new.parser c.result.new.parser c.in_err-result.ensures)))
 
 pub returns-clause-ok : goal.returns-clause-ok
 returns-clause-ok c =

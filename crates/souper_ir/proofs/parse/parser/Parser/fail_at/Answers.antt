@@ -1,8 +1,9 @@
 use Rattle.std.proofs.Common.{refl, ap}
 use Rattle.souper_ir.specs.Parsing.{Parsing}
 use Rattle.souper_ir.proofs.Failing.{refused_fails}
+use Rattle.souper_ir.specs.Errors.{error_of}
 use Rattle.souper_ir.proofs.parse.parser.Parser.fail_at.Goals as goal
 
 pub returns-in-Ok : goal.returns-in-Ok
-returns-in-Ok c = refused_fails c.in-Ok.error c.args.self.now _ c.args.offset c.in-Ok.ensures.0 c.in-Ok.ensures.1 c.requires.within c.requires.again
+returns-in-Ok c = refused_fails (error_of c.in-Ok.error) c.args.self.now _ c.args.offset c.in-Ok.ensures.0 c.in-Ok.ensures.1 c.requires.within c.requires.again
     refl (ap (λ (p : Parsing). p.len) c.self.view_is)

@@ -1,5 +1,4 @@
-use Rattle.std.proofs.Common.{rules, ◌≡◌, Some, None, sym, subst, ap, ◌∙◌, refl, map}
-use Rattle.souper_graph.specs.View.{view_statement}
+use Rattle.std.proofs.Common.{◌≡◌, Some, None, sym, subst, ap, ◌∙◌}
 use Rattle.souper_graph.specs.Syntax.Spelling.{entry_of}
 use Rattle.souper_ir.specs.Parsing.{Parsing}
 use Rattle.std.specs.Prelude.{option_copied}

@@ -2,6 +2,7 @@ use Rattle.std.proofs.lemmas.Result.{err_from_is_err_and}
 use Rattle.std.proofs.Common.{map}
 use Rattle.souper_ir.proofs.Lists.{peek_refused, member_refused, one_more, behind_peek, shorter, ends, memory_ends}
 use Rattle.souper_ir.specs.Readings.{of_memory}
+use Rattle.souper_ir.specs.Errors.{error_of}
 use Rattle.souper_ir.proofs.parse.traits.VecParse.parse.Goals as goal
 
 pub returns-in_err-peek-clause-err : goal.returns-in_err-peek-clause-err
@@ -38,10 +39,10 @@ pub returns-in-Err-clause-err : goal.returns-in-Err-clause-err
 returns-in-Err-clause-err g c =
     let took = behind_peek g.P.Parse.spells g.P.Parse.continues g.P.Peek.starts g.met.P.Parse.alone g.met.P.Peek.first g.P.Parse.leaves (g.P.Parse.view c.in_ok-value.value) _ c.loop-values.parser c.peek.new.parser c.parse.new.parser c.in_ok-peek.ensures.0 c.in_ok-value.ensures.ok in
     let so = one_more g.P.Parse.spells g.P.Parse.continues g.P.Peek.starts g.met.P.Parse.alone g.met.P.Peek.first g.P.Parse.view g.P.Parse.leaves c.loop-values.values.items c.in_ok-value.value c.args.parser.now c.loop-values.parser c.parse.new.parser g.met.P.Peek.stays c.loop-values.invariant took in
-    (memory_ends g.P.Parse.spells g.P.Parse.continues g.P.Peek.starts g.met.P.Parse.alone g.met.P.Peek.first _ c.want_memory.result c.args.parser.now c.parse.new.parser c.want_memory.new.self so c.want_memory.ensures).0
+    rw c.into.ensures (memory_ends g.P.Parse.spells g.P.Parse.continues g.P.Peek.starts g.met.P.Parse.alone g.met.P.Peek.first _ (error_of c.want_memory.result) c.args.parser.now c.parse.new.parser c.want_memory.new.self so c.want_memory.ensures).0
 
 pub returns-in-Err-clause-stuck : goal.returns-in-Err-clause-stuck
-returns-in-Err-clause-stuck g c = of_memory _ c.want_memory.result c.want_memory.ensures.0
+returns-in-Err-clause-stuck g c = rw c.into.ensures (of_memory _ (error_of c.want_memory.result) c.want_memory.ensures.0)
 
 pub returns-clause-ok : goal.returns-clause-ok
 returns-clause-ok g c =

@@ -96,7 +96,7 @@ fn first(alloc: Global, source: &str) -> Result<LeftHandSide, Fail> {
     Ok(items.first().ok_or("no item")?.clone()?)
 }
 
-// The place of the condition on a way.
+// The place of the condition on a predecessor.
 fn condition(statements: &Arena<Statement>) -> Option<Id<Statement>> {
     for (id, statement) in statements.iter() {
         if let Statement::BlockPc(_) = statement {
@@ -106,7 +106,7 @@ fn condition(statements: &Arena<Statement>) -> Option<Id<Statement>> {
     None
 }
 
-// The item of this text, with its condition set on the third way into the block.
+// The item of this text, with its condition set on the third predecessor of the block.
 fn on_third_way(alloc: Global, source: &str) -> Result<LeftHandSide, Fail> {
     let mut item = first(alloc, source)?;
     let id = condition(&item.statements).ok_or("no condition")?;

@@ -1,23 +1,21 @@
 //! Comparisons of two files over writers that fail.
-use crate::streams::FaultyWriter;
+use crate::files::write_files;
+use program_vectors::streams::FaultyWriter;
 use souper_format::command::Kind;
 use souper_format::same_run::same_run;
 use souper_format::watched::Watched;
+use std::io::Write;
 use std::rt::Files;
 use std::test::Fail;
-use std::{fs, io};
 
-// Writes the files that are compared.
-fn write_files<R: Files + AllocGlobal>(rt: &R) -> io::Result<()> {
-    for (path, text) in [
-        ("first", "%b = var\n%a = var\n%c = add %a, %b\ninfer %c"),
-        ("second", "%a = var\n%b = var\n%c = add %a, %b\ninfer %c"),
-        ("third", "%a = var\n%b = var\n%c = add %b, %a\ninfer %c"),
-        ("refused", "infer %x"),
-    ] {
-        fs::write(rt, path, text)?;
-    }
-    fs::write(rt, "no_text", b"\xff".as_slice())
+// The status of a comparison of two files of left-hand sides.
+fn compare<R: Files + AllocGlobal, W: Write, E: Write>(
+    rt: &R,
+    (first, second): (&str, &str),
+    out: &mut Watched<W>,
+    err: &mut Watched<E>,
+) -> u8 {
+    same_run(rt, rt.alloc(), Kind::Lhs, first, second, out, err)
 }
 
 // `same` and a newline go in three writes, `different` and a newline in five; a further call flushes.
@@ -29,15 +27,7 @@ fn failed_write_is_a_fault(rt: HostRuntime) -> Result<(), Fail> {
             let mut told = Vec::new(rt.alloc());
             let mut out = Watched::new(FaultyWriter::new(2, after));
             let mut err = Watched::new(&mut told);
-            let status = same_run(
-                &rt,
-                rt.alloc(),
-                Kind::Lhs,
-                "first",
-                path,
-                &mut out,
-                &mut err,
-            );
+            let status = compare(&rt, ("first", path), &mut out, &mut err);
             let works = after == calls;
             assert_eq!(rt; status, if works { 0 } else { 3 }, "{path} after {after}");
             assert_eq!(rt; out.failed(), !works, "{path} after {after}");
@@ -65,15 +55,7 @@ fn failed_err_keeps_the_status(rt: HostRuntime) -> Result<(), Fail> {
             let mut written = Vec::new(rt.alloc());
             let mut out = Watched::new(&mut written);
             let mut err = Watched::new(FaultyWriter::new(1, after));
-            let status = same_run(
-                &rt,
-                rt.alloc(),
-                Kind::Lhs,
-                first,
-                second,
-                &mut out,
-                &mut err,
-            );
+            let status = compare(&rt, (first, second), &mut out, &mut err);
             assert_eq!(rt; status, want, "{first} {second} after {after}");
             assert!(rt;
                 err.failed() && !out.failed(),
@@ -92,15 +74,7 @@ fn failed_write_is_a_fault_though_err_fails(rt: HostRuntime) -> Result<(), Fail>
         for bytes in 0..10 {
             let mut out = Watched::new(FaultyWriter::new(2, after));
             let mut err = Watched::new(FaultyWriter::new(1, bytes));
-            let status = same_run(
-                &rt,
-                rt.alloc(),
-                Kind::Lhs,
-                "first",
-                "second",
-                &mut out,
-                &mut err,
-            );
+            let status = compare(&rt, ("first", "second"), &mut out, &mut err);
             assert_eq!(rt; status, 3, "after {after} and {bytes}");
             assert!(rt; out.failed() && err.failed(), "after {after} and {bytes}");
         }
@@ -115,15 +89,7 @@ fn comparison_needs_no_err(rt: HostRuntime) -> Result<(), Fail> {
         let mut written = Vec::new(rt.alloc());
         let mut out = Watched::new(&mut written);
         let mut err = Watched::new(FaultyWriter::new(1, 0));
-        let status = same_run(
-            &rt,
-            rt.alloc(),
-            Kind::Lhs,
-            "first",
-            path,
-            &mut out,
-            &mut err,
-        );
+        let status = compare(&rt, ("first", path), &mut out, &mut err);
         assert_eq!(rt; status, 0, "for {path}");
         assert!(rt; !err.failed(), "for {path}");
         assert_eq!(rt; written.as_slice(), want.as_bytes(), "for {path}");

@@ -10,7 +10,7 @@ const SOURCE: &[u8] = b"%a = var\n%b = var\ninfer %b";
 
 const FORMATTED: &[u8] = b"%b = var\ninfer %b\n\n";
 
-// Bytes that are given at once end in this status, with these bytes on `out` and `err`.
+// Bytes that are read in one call end in this status, with these bytes on `out` and `err`.
 fn runs(rt: &impl Abort, alloc: Global, source: &[u8], status: u8, output: &[u8], line: &[u8]) {
     let mut written = Vec::new(alloc);
     let mut told = Vec::new(alloc);
@@ -86,7 +86,7 @@ fn single_bytes_are_gathered(rt: HostRuntime) {
     assert!(rt; told.is_empty());
 }
 
-// The 26 bytes come in three reads, and a fourth finds the end.
+// The 26 bytes come in three reads, and a fourth reaches the end.
 #[test]
 fn failed_read_is_a_fault(rt: HostRuntime) {
     for after in 0..5 {

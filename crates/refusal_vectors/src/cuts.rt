@@ -1,15 +1,12 @@
 //! Texts that are cut off, and a long one.
-use crate::grammar::{ones, words};
-use crate::orders::chain;
-use crate::sources::{
-    ATTRIBUTES, BLOCKS, DEFINITIONS, FAULTY_ATTRIBUTES, FAULTY_REPLACEMENTS,
-    FAULTY_RIGHT_HAND_SIDES, GAPS, NAMES, PAIRS, PRINTED_PAIRS, RESULTS, RIGHT_HAND_SIDES, VALUES,
-    WAYS,
-};
-use crate::texts::thousand;
 use souper_format::command::Kind;
 use souper_format::items::read_items;
 use souper_ir::parse::{ParseErrorKind, parse_left_hand_sides_str};
+use souper_vectors::sources::{
+    ATTRIBUTES, BLOCKS, DEFINITIONS, FAULTY_ATTRIBUTES, FAULTY_REPLACEMENTS,
+    FAULTY_RIGHT_HAND_SIDES, GAPS, NAMES, PAIRS, PRINTED_PAIRS, RESULTS, RIGHT_HAND_SIDES, VALUES,
+    WAYS, chain, ones, thousand, words,
+};
 use std::alloc::{AllocError, Global};
 use std::process::Abort;
 use std::test::Fail;
@@ -77,7 +74,7 @@ fn empty_front_and_whole_text_are_read(rt: HostRuntime) -> Result<(), Fail> {
     Ok(())
 }
 
-// Each front of each text is read, or refused within it.
+// Each prefix of each text is read, or refused within it.
 fn cuts(rt: &impl Abort, alloc: Global, kind: Kind, texts: &[&str]) -> Result<(), Fail> {
     for source in texts {
         for len in 0..=source.len() {
@@ -156,7 +153,7 @@ fn blanks(alloc: Global, count: u32) -> Result<String, AllocError> {
     Ok(text)
 }
 
-// A word far to the right is refused, and the marker stands below it.
+// A word far to the right is refused, and the caret is below it.
 fn refuses_far(rt: &impl Abort, alloc: Global, kind: Kind, wanted: &str) -> Result<(), Fail> {
     let mut source = blanks(alloc, 70_000)?;
     source.push('x')?;

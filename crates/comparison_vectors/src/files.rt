@@ -3,13 +3,31 @@ use souper_format::command::Kind;
 use souper_format::same_run::same_run;
 use souper_format::watched::Watched;
 use souper_ir::parse::{
-    ParseErrorKind, parse_left_hand_sides_file, parse_replacements_file,
+    ParseError, ParseErrorKind, parse_left_hand_sides_file, parse_replacements_file,
     parse_right_hand_sides_file,
 };
-use std::fs;
+use std::alloc::Global;
+use std::process::Abort;
+use std::rt::Files;
 use std::test::Fail;
+use std::{fs, io};
 
 const REFUSAL: &str = ":1:6: no value named '%x' in scope\n     |\n   1 | infer %x\n     |      ^";
+
+/// Writes the files that are compared.
+pub fn write_files<R: Files + AllocGlobal>(rt: &R) -> io::Result<()> {
+    for (path, text) in [
+        ("first", "%b = var\n%a = var\n%c = add %a, %b\ninfer %c"),
+        ("second", "%a = var\n%b = var\n%c = add %a, %b\ninfer %c"),
+        ("third", "%a = var\n%b = var\n%c = add %b, %a\ninfer %c"),
+        ("variable", "%a = var\ninfer %a"),
+        ("renamed", "%b = var\ninfer %b"),
+        ("refused", "infer %x"),
+    ] {
+        fs::write(rt, path, text)?;
+    }
+    fs::write(rt, "no_text", b"\xff".as_slice())
+}
 
 #[test]
 fn items_of_files_are_read(rt: HostRuntime) -> Result<(), Fail> {
@@ -53,6 +71,15 @@ fn refusal_shows_the_path(rt: HostRuntime) -> Result<(), Fail> {
     Ok(())
 }
 
+// The error tells of a read that failed.
+fn is_fault(rt: &impl Abort, alloc: Global, error: &ParseError, path: &str) -> Result<(), Fail> {
+    assert_eq!(rt; error.kind(), ParseErrorKind::Io, "for {path}");
+    assert_eq!(rt; error.offset(), None, "for {path}");
+    let shown = error.to_string(alloc)?;
+    assert!(rt; shown.as_str().starts_with("IO error: "), "for {path}");
+    Ok(())
+}
+
 #[test]
 fn failed_read_is_told(rt: HostRuntime) -> Result<(), Fail> {
     fs::write(&rt, "no_text", b"\xff".as_slice())?;
@@ -60,82 +87,59 @@ fn failed_read_is_told(rt: HostRuntime) -> Result<(), Fail> {
         let error = parse_left_hand_sides_file(&rt, rt.alloc(), path)
             .err()
             .ok_or("no error")?;
-        assert_eq!(rt; error.kind(), ParseErrorKind::Io, "for {path}");
-        assert_eq!(rt; error.offset(), None, "for {path}");
-        let shown = error.to_string(rt.alloc())?;
-        assert!(rt; shown.as_str().starts_with("IO error: "), "for {path}");
+        is_fault(&rt, rt.alloc(), &error, path)?;
         let error = parse_replacements_file(&rt, rt.alloc(), path)
             .err()
             .ok_or("no error")?;
-        assert_eq!(rt; error.kind(), ParseErrorKind::Io, "for {path}");
+        is_fault(&rt, rt.alloc(), &error, path)?;
         let error = parse_right_hand_sides_file(&rt, rt.alloc(), path)
             .err()
             .ok_or("no error")?;
-        assert_eq!(rt; error.kind(), ParseErrorKind::Io, "for {path}");
+        is_fault(&rt, rt.alloc(), &error, path)?;
     }
     Ok(())
 }
 
+// Compares the files, which ends in this status. What `out` and `err` were given.
+fn compares<R: Files + AllocGlobal + Abort>(
+    rt: &R,
+    (first, second): (&str, &str),
+    want: u8,
+) -> (Vec<u8>, Vec<u8>) {
+    let mut written = Vec::new(rt.alloc());
+    let mut told = Vec::new(rt.alloc());
+    let mut out = Watched::new(&mut written);
+    let mut err = Watched::new(&mut told);
+    let status = same_run(rt, rt.alloc(), Kind::Lhs, first, second, &mut out, &mut err);
+    assert_eq!(rt; status, want, "for {first} {second}");
+    (written, told)
+}
+
 #[test]
 fn files_are_compared(rt: HostRuntime) -> Result<(), Fail> {
-    fs::write(
-        &rt,
-        "first",
-        "%b = var\n%a = var\n%c = add %a, %b\ninfer %c",
-    )?;
-    fs::write(
-        &rt,
-        "second",
-        "%a = var\n%b = var\n%c = add %a, %b\ninfer %c",
-    )?;
-    fs::write(
-        &rt,
-        "third",
-        "%a = var\n%b = var\n%c = add %b, %a\ninfer %c",
-    )?;
-    fs::write(&rt, "variable", "%a = var\ninfer %a")?;
-    fs::write(&rt, "renamed", "%b = var\ninfer %b")?;
-    for (first, path, want) in [
+    write_files(&rt)?;
+    for (first, second, want) in [
         ("first", "first", "same\n"),
         ("first", "second", "same\n"),
         ("first", "third", "different\n"),
         ("variable", "renamed", "different\n"),
     ] {
-        let mut written = Vec::new(rt.alloc());
-        let mut told = Vec::new(rt.alloc());
-        let mut out = Watched::new(&mut written);
-        let mut err = Watched::new(&mut told);
-        let status = same_run(&rt, rt.alloc(), Kind::Lhs, first, path, &mut out, &mut err);
-        assert_eq!(rt; status, 0, "for {path}");
-        assert_eq!(rt; written.as_slice(), want.as_bytes(), "for {path}");
-        assert!(rt; told.is_empty(), "for {path}");
+        let (written, told) = compares(&rt, (first, second), 0);
+        assert_eq!(rt; written.as_slice(), want.as_bytes(), "for {first} {second}");
+        assert!(rt; told.is_empty(), "for {first} {second}");
     }
     Ok(())
 }
 
 #[test]
 fn refusal_of_a_compared_file_is_told(rt: HostRuntime) -> Result<(), Fail> {
-    fs::write(&rt, "refused", "infer %x")?;
-    fs::write(&rt, "read", "%x = var\ninfer %x")?;
+    write_files(&rt)?;
     for (first, second) in [
         ("refused", "absent"),
         ("refused", "refused"),
-        ("read", "refused"),
+        ("variable", "refused"),
     ] {
-        let mut written = Vec::new(rt.alloc());
-        let mut told = Vec::new(rt.alloc());
-        let mut out = Watched::new(&mut written);
-        let mut err = Watched::new(&mut told);
-        let status = same_run(
-            &rt,
-            rt.alloc(),
-            Kind::Lhs,
-            first,
-            second,
-            &mut out,
-            &mut err,
-        );
-        assert_eq!(rt; status, 1, "for {first} {second}");
+        let (written, told) = compares(&rt, (first, second), 1);
         assert!(rt; written.is_empty(), "for {first} {second}");
         let want = format!(in rt.alloc(); "refused{REFUSAL}\n")?;
         assert_eq!(rt; told.as_slice(), want.as_bytes(), "for {first} {second}");
@@ -145,22 +149,13 @@ fn refusal_of_a_compared_file_is_told(rt: HostRuntime) -> Result<(), Fail> {
 
 #[test]
 fn failed_read_of_a_compared_file_is_told(rt: HostRuntime) -> Result<(), Fail> {
-    fs::write(&rt, "read", "%x = var\ninfer %x")?;
-    for (first, second) in [("absent", "read"), ("read", "absent"), ("read", ".")] {
-        let mut written = Vec::new(rt.alloc());
-        let mut told = Vec::new(rt.alloc());
-        let mut out = Watched::new(&mut written);
-        let mut err = Watched::new(&mut told);
-        let status = same_run(
-            &rt,
-            rt.alloc(),
-            Kind::Lhs,
-            first,
-            second,
-            &mut out,
-            &mut err,
-        );
-        assert_eq!(rt; status, 3, "for {first} {second}");
+    write_files(&rt)?;
+    for (first, second) in [
+        ("absent", "variable"),
+        ("variable", "absent"),
+        ("variable", "."),
+    ] {
+        let (written, told) = compares(&rt, (first, second), 3);
         assert!(rt; written.is_empty(), "for {first} {second}");
         assert!(rt;
             told.as_slice().starts_with(b"IO error: "),

@@ -1,4 +1,4 @@
-//! What the program is asked, and its lines that tell of no text.
+//! The commands of the program, and its lines that report no text.
 use souper_format::command::{Command, Kind, read_command};
 use souper_format::run::{report, usage};
 use souper_format::watched::Watched;

@@ -1,4 +1,4 @@
-//! Runs of the program by its words, over files, readers and writers in memory.
+//! Runs of the program by its arguments, over files, readers and writers in memory.
 use crate::streams::FaultyWriter;
 use souper_format::dispatch::run_command;
 use souper_format::files::TextFiles;
@@ -42,7 +42,7 @@ fn words(alloc: Global, words: &[&str]) -> Result<Vec<String>, AllocError> {
     Ok(args)
 }
 
-// What the words do over that input: whether it was read, the status, and what `out` and `err` were given.
+// What the arguments do over that input: whether it was read, the status, and what was written to `out` and `err`.
 fn runs(
     rt: &impl Abort,
     alloc: Global,

@@ -1,4 +1,4 @@
-//! What a watched stream tells of its calls.
+//! What a watched stream records of its calls.
 use crate::streams::{FaultyReader, FaultyWriter};
 use souper_format::watched::Watched;
 use std::io::{Read, Write};

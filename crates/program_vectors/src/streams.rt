@@ -2,7 +2,7 @@
 use std::io;
 use std::io::{ErrorKind, Read, Write};
 
-// A call that fails once, after so many that work.
+// A call that fails once, after a number of calls that succeed.
 #[derive(Clone, Copy)]
 struct Fault {
     after: usize,
@@ -19,7 +19,7 @@ impl Fault {
     }
 }
 
-/// Gives at most so many bytes a read. One read fails, and those after it go on.
+/// Reads at most a number of bytes per call. One read fails, and those after it go on.
 #[derive(Drop)]
 pub struct FaultyReader<'a> {
     rest: &'a [u8],
@@ -28,8 +28,8 @@ pub struct FaultyReader<'a> {
 }
 
 impl<'a> FaultyReader<'a> {
-    /// A reader that fails after so many reads.
-    pub(crate) fn new(rest: &'a [u8], most: usize, after: usize) -> FaultyReader<'a> {
+    /// A reader that fails after this number of reads.
+    pub fn new(rest: &'a [u8], most: usize, after: usize) -> FaultyReader<'a> {
         let fault = Fault { after };
         FaultyReader { rest, most, fault }
     }
@@ -43,7 +43,7 @@ impl Read for FaultyReader<'_> {
     }
 }
 
-/// Takes at most so many bytes a write. One call fails, and those after it go on.
+/// Takes at most a number of bytes per write. One call fails, and those after it go on.
 #[derive(Drop)]
 pub struct FaultyWriter {
     most: usize,
@@ -51,8 +51,8 @@ pub struct FaultyWriter {
 }
 
 impl FaultyWriter {
-    /// A writer that fails after so many calls.
-    pub(crate) fn new(most: usize, after: usize) -> FaultyWriter {
+    /// A writer that fails after this number of calls.
+    pub fn new(most: usize, after: usize) -> FaultyWriter {
         let fault = Fault { after };
         FaultyWriter { most, fault }
     }

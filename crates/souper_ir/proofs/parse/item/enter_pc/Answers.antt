@@ -1,0 +1,19 @@
+use Rattle.std.proofs.lemmas.Result.{err_from_is_err_and, on_ok_weaker}
+use Rattle.souper_graph.specs.Values.{condition}
+use Rattle.souper_ir.specs.Errors.{error_of}
+use Rattle.souper_ir.proofs.Statements.{pc_taken, pc_refused}
+use Rattle.souper_ir.proofs.NextStatements.{pc_seen}
+use Rattle.souper_ir.proofs.ItemSteps.{entered}
+use Rattle.souper_ir.proofs.parse.item.enter_pc.Goals as goal
+
+pub returns-in_err-condition-clause-err : goal.returns-in_err-condition-clause-err
+returns-in_err-condition-clause-err c =
+    let p = err_from_is_err_and c.from_residual.result c.from_residual.ensures.1 in
+    rw (p.1, p.2) (pc_refused (error_of c.in_err-condition.field-0.0) c.args.parser.now c.args.parser.now c.pc.new.parser (pc_seen c.args.parser.now c.args.parser.now c.requires) c.in_err-condition.ensures)
+
+pub returns-clause-ok : goal.returns-clause-ok
+returns-clause-ok c =
+    on_ok_weaker c.add.result
+    (entered (condition c.in_ok-condition.condition) c.args.parser.now c.pc.new.parser c.add.new.self
+    (pc_taken c.in_ok-condition.condition c.args.parser.now c.args.parser.now c.pc.new.parser (pc_seen c.args.parser.now c.args.parser.now c.requires) c.in_ok-condition.ensures))
+    (rw c.into.ensures at c.add.ensures.ok)
