@@ -1,22 +1,24 @@
 -- Statements, by their first token.
-use Rattle.std.proofs.Common.{◌≡◌, ℕ, Bool, true, false, List, [], None, sym, ◌∙◌, subst}
+use Rattle.std.proofs.Common.{◌≡◌, ℕ, Bool, true, false, List, [], Option, Some, None, refl, sym, ◌∙◌, subst}
 use Rattle.std.specs.Prelude.{codes}
 use Rattle.std.proofs.lemmas.List.{append-nil}
+use Rattle.souper_graph.specs.declared.ast.operands.«Type».{«Type» as Ty}
 use Rattle.souper_graph.specs.declared.ast.statements.Pc.{Pc}
 use Rattle.souper_graph.specs.declared.ast.statements.BlockPc.{BlockPc}
-use Rattle.souper_graph.specs.Values.{PlainAssignment, PlainStatement, assigned, condition, block_condition}
+use Rattle.souper_graph.specs.Values.{PlainAttribute, PlainAssignment, PlainStatement, assigned, condition, block_condition}
 use Rattle.souper_ir.specs.declared.parse.error.ParseError.{ParseError}
 use Rattle.souper_ir.specs.Parsing.{Parsing}
 use Rattle.souper_graph.specs.Syntax.Tokens.{Lexeme}
-use Rattle.souper_graph.specs.Syntax.Spelling.{kinds, assignment_spells, pc_spells, block_pc_spells, statement_spells}
+use Rattle.souper_graph.specs.Syntax.Spelling.{kinds, attribute_spells, assignment_spells, pc_spells, block_pc_spells, statement_spells}
 use Rattle.souper_ir.specs.Continuation.{assignment_continues, pc_continues, block_pc_continues, statement_continues}
-use Rattle.souper_ir.specs.Reading.{cause_of, IfRefused, if_refused, Fails, IsRead}
+use Rattle.souper_ir.specs.Reading.{cause_of, IfRefused, if_refused, Fails, fails_later, IsRead}
 use Rattle.souper_ir.specs.Grammar.{Stops, Starts, Took, NoFront, Refusal, peek_at}
 use Rattle.souper_ir.specs.Unique.{clash_at}
 use Rattle.souper_ir.specs.Peeks.{peeked, peeked_yes, peeked_no, none_if_unread}
-use Rattle.souper_ir.specs.NodeReadings.{is_name, is_word, pc_at, block_pc_at}
+use Rattle.souper_ir.specs.NodeReadings.{is_name, is_word, rhs_at, Definition, heading_at, definition_at, pc_at, block_pc_at}
 use Rattle.souper_ir.specs.Readings.{is_taken, is_refused}
-use Rattle.souper_ir.specs.StatementLaws.{assignment_first, pc_sound, pc_complete, pc_first, block_pc_sound, block_pc_complete, block_pc_first, name_no_word, pc_no_block_pc, two_starts}
+use Rattle.souper_ir.specs.Attributed.{Row, OneMore}
+use Rattle.souper_ir.specs.StatementLaws.{definition_spells, definition_continues, definition_sound, definition_complete, assignment_laws, assignment_first, pc_sound, pc_complete, pc_first, block_pc_sound, block_pc_complete, block_pc_first, name_no_word, pc_no_block_pc, two_starts}
 
 abbrev pub Refuses : ParseError → Parsing → Parsing → Type 0
 Refuses e p q = Refusal statement_spells statement_continues e p q
@@ -69,6 +71,43 @@ block_pc_refused e p q r h k =
     let seen = peeked (is_word (codes "blockpc")) p q true h.0 in
     let f = is_refused block_pc_spells block_pc_continues block_pc_at block_pc_complete e p r (subst (λ (x : Parsing). IfRefused (cause_of e) (block_pc_at x ≡ None) × Fails e x r) seen.0 k) in
     record { failed = f.failed; nothing = if_refused (cause_of e) (λ none live. block_pc_none p (peeked_yes (is_word (codes "blockpc")) p.faulty p.tokens seen.2) (none live)) f.nothing }
+
+-- ---- an assignment from its parts
+
+abbrev Attributes : List PlainAttribute → Parsing → Parsing → Type 0
+Attributes xs q r = Took (Row attribute_spells) OneMore (λ s. s) xs q r
+
+definition_read : (p k q : Parsing) (d : Definition) → IsRead (heading_at p) (d.name, d.ty) p k → IsRead (rhs_at k) d.value k q → IsRead (definition_at p) d p q
+unfolding definition_at
+definition_read p k q d h v = (rw (h.0, v.0) refl, h.1, v.2, v.3 ∙ h.3)
+
+unread_heading : (p : Parsing) → heading_at p ≡ None → definition_at p ≡ None
+unfolding definition_at
+unread_heading p e = rw e refl
+
+unread_value : (p k : Parsing) (h : List ℕ × Option Ty) → heading_at p ≡ Some (h, k) → rhs_at k ≡ None → definition_at p ≡ None
+unfolding definition_at
+unread_value p k h e f = rw (e, f) refl
+
+pub parts_taken : (a : PlainAssignment) (p k q r : Parsing) → IsRead (heading_at p) (a.name, a.ty) p k → IsRead (rhs_at k) a.value k q → Attributes a.attributes q r
+    → Took assignment_spells assignment_continues (λ s. s) a p r
+parts_taken a p k q r h v xs =
+    let d : Definition = record { name = a.name; ty = a.ty; value = a.value } in
+    assignment_laws.taken a p q r (is_taken definition_spells definition_continues definition_at (λ (x : Definition). x) definition_sound d p q (definition_read p k q d h v)) xs
+
+refused_definition : (e : ParseError) (p q : Parsing) → IfRefused (cause_of e) (definition_at p ≡ None) → Fails e p q → Refusal assignment_spells assignment_continues e p q
+refused_definition e p q h f = assignment_laws.refused_before e p q (is_refused definition_spells definition_continues definition_at definition_complete e p q (h, f))
+
+pub heading_refused : (e : ParseError) (p q : Parsing) → IfRefused (cause_of e) (heading_at p ≡ None) × Fails e p q → Refusal assignment_spells assignment_continues e p q
+heading_refused e p q h = refused_definition e p q (if_refused (cause_of e) (unread_heading p) h.0) h.1
+
+pub value_refused : (e : ParseError) (x : List ℕ × Option Ty) (p k q : Parsing) → IsRead (heading_at p) x p k → IfRefused (cause_of e) (rhs_at k ≡ None) × Fails e k q → Refusal assignment_spells assignment_continues e p q
+value_refused e x p k q h f = refused_definition e p q (if_refused (cause_of e) (unread_value p k x h.0) f.0) (fails_later e p k q (h.2 ∙ sym h.1) h.3 f.1)
+
+pub attributes_refused : (e : ParseError) (d : Definition) (p k q r : Parsing) → IsRead (heading_at p) (d.name, d.ty) p k → IsRead (rhs_at k) d.value k q → Refusal (Row attribute_spells) OneMore e q r
+    → Refusal assignment_spells assignment_continues e p r
+attributes_refused e d p k q r h v f =
+    assignment_laws.refused_behind d e p q r (is_taken definition_spells definition_continues definition_at (λ (x : Definition). x) definition_sound d p q (definition_read p k q d h v)) f
 
 -- ---- neither word comes
 

@@ -306,14 +306,20 @@ pub record Definition : Type 0 where
 abbrev pub fresh : Option ℕ → Option (Unit {0})
 fresh o = if is_some o then None else Some tt
 
-unfoldable pub definition_at : Parsing → Option (Definition × Parsing)
-definition_at p = do
+-- a name that is not in scope, a type, and the equals sign
+unfoldable pub heading_at : Parsing → Option ((List ℕ × Option Ty) × Parsing)
+heading_at p = do
   n ← accept name_of p
   f ← fresh (position_of n.1.scope n.0)
   t ← optional_type_at n.1
   e ← accept (mark_of equals) t.1
-  r ← rhs_at e.1
-  Some (record { name = n.0; ty = t.0; value = r.0 }, r.1)
+  Some ((n.0, t.0), e.1)
+
+unfoldable pub definition_at : Parsing → Option (Definition × Parsing)
+definition_at p = do
+  h ← heading_at p
+  r ← rhs_at h.1
+  Some (record { name = h.0.0; ty = h.0.1; value = r.0 }, r.1)
 
 -- a name, or the word of a path condition
 abbrev pub starts_statement : Lexeme → Bool

@@ -17,7 +17,7 @@ use Rattle.souper_ir.specs.Continuation.{optional_type_continues, operand_contin
 use Rattle.souper_ir.specs.Parsing.{Parsing}
 use Rattle.souper_graph.specs.Syntax.Optional.{◌>>=◌}
 use Rattle.souper_ir.specs.Grammar.{Free, Stops, Starts, peek_at}
-use Rattle.souper_ir.specs.NodeReadings.{accept, name_of, is_name, mark_of, is_mark, is_word, word_of, int_by, optional_type_at, operand_at, block_name_at, rhs_at, attribute_at, root_attribute_at, Definition, fresh, definition_at, starts_statement, pc_at, way_of, block_pc_at, root_at, comma_by, optional_comma_at, pair_at, result_at}
+use Rattle.souper_ir.specs.NodeReadings.{accept, name_of, is_name, mark_of, is_mark, is_word, word_of, int_by, optional_type_at, operand_at, block_name_at, rhs_at, attribute_at, root_attribute_at, Definition, fresh, heading_at, definition_at, starts_statement, pc_at, way_of, block_pc_at, root_at, comma_by, optional_comma_at, pair_at, result_at}
 use Rattle.souper_ir.specs.Peeks.{some_is, peeked}
 use Rattle.souper_ir.specs.Steps.{Takes, Takes-then, Takes-none, At, bind_some, accepted, accepts, peeks}
 use Rattle.souper_ir.specs.Readings.{Sound, Complete, one_alone}
@@ -53,32 +53,51 @@ definition_tokens t u n ty rhs d e = rw (d, e) refl
 abbrev defined : List ℕ → Option Ty → PlainRhs × Parsing → Option (Definition × Parsing)
 defined n t r = Some (record { name = n; ty = t; value = r.0 }, r.1)
 
+-- the steps of a heading that was read
+heading_steps : (p q : Parsing) (h : List ℕ × Option Ty) → heading_at p ≡ Some (h, q)
+    → (n : Parsing) × (t : Parsing) × (accept name_of p ≡ Some (h.0, n)) × (position_of n.scope h.0 ≡ None) × (optional_type_at n ≡ Some (h.1, t)) × (accept (mark_of equals) t ≡ Some (tt, q))
+unfolding heading_at
+heading_steps p q h e =
+    let n = bind_some (accept name_of p) (λ n. fresh (position_of n.1.scope n.0) >>= λ f. (optional_type_at n.1 >>= λ t. (accept (mark_of equals) t.1 >>= λ k. Some ((n.0, t.0), k.1)))) (h, q) e in
+    let f = bind_some (fresh (position_of n.0.1.scope n.0.0)) (λ f. optional_type_at n.0.1 >>= λ t. (accept (mark_of equals) t.1 >>= λ k. Some ((n.0.0, t.0), k.1))) (h, q) n.2 in
+    let t = bind_some (optional_type_at n.0.1) (λ t. accept (mark_of equals) t.1 >>= λ k. Some ((n.0.0, t.0), k.1)) (h, q) f.2 in
+    let k = bind_some (accept (mark_of equals) t.0.1) (λ k. Some ((n.0.0, t.0.0), k.1)) (h, q) t.2 in
+    let same : ◌≡◌ {A = (List ℕ × Option Ty) × Parsing} ((n.0.0, t.0.0), k.0.1) (h, q) = some_is k.2 in (
+      n.0.1,
+      t.0.1,
+      subst (λ (z : (List ℕ × Option Ty) × Parsing). accept name_of p ≡ Some (z.0.0, n.0.1)) same n.1,
+      subst (λ (z : (List ℕ × Option Ty) × Parsing). position_of n.0.1.scope z.0.0 ≡ None) same (fresh_means (position_of n.0.1.scope n.0.0) f.0 f.1),
+      subst (λ (z : (List ℕ × Option Ty) × Parsing). optional_type_at n.0.1 ≡ Some (z.0.1, t.0.1)) same t.1,
+      subst (λ (z : (List ℕ × Option Ty) × Parsing). accept (mark_of equals) t.0.1 ≡ Some (tt, z.1)) same k.1,
+    )
+
 pub definition_sound : Sound definition_spells definition_continues definition_at
 unfolding definition_at
 definition_sound p q d e =
-    let n = bind_some (accept name_of p) (λ n. fresh (position_of n.1.scope n.0) >>= λ f. (optional_type_at n.1 >>= λ t. (accept (mark_of equals) t.1 >>= λ k. (rhs_at k.1 >>= λ r. defined n.0 t.0 r)))) (d, q) e in
-    let f = bind_some (fresh (position_of n.0.1.scope n.0.0)) (λ f. optional_type_at n.0.1 >>= λ t. (accept (mark_of equals) t.1 >>= λ k. (rhs_at k.1 >>= λ r. defined n.0.0 t.0 r))) (d, q) n.2 in
-    let t = bind_some (optional_type_at n.0.1) (λ t. accept (mark_of equals) t.1 >>= λ k. (rhs_at k.1 >>= λ r. defined n.0.0 t.0 r)) (d, q) f.2 in
-    let k = bind_some (accept (mark_of equals) t.0.1) (λ k. rhs_at k.1 >>= λ r. defined n.0.0 t.0.0 r) (d, q) t.2 in
-    let r = bind_some (rhs_at k.0.1) (λ r. defined n.0.0 t.0.0 r) (d, q) k.2 in
-    let n2 = accepted name_of p n.0.1 n.0.0 n.1 in
-    let t2 = optional_type_sound n.0.1 t.0.1 t.0.0 t.1 in
-    let k2 = accepted (mark_of equals) t.0.1 k.0.1 k.0.0 k.1 in
-    let r2 = rhs_sound k.0.1 r.0.1 r.0.0 r.1 in
-    let tail : Takes t.0.1 r.0.1 (k2.0 ∷ r2.0) = Takes-then t.0.1 k.0.1 r.0.1 (k2.0 ∷ []) r2.0 k2.1 r2.1 in
-    let body : Takes n.0.1 r.0.1 (t2.0 ++ k2.0 ∷ r2.0) = Takes-then n.0.1 t.0.1 r.0.1 t2.0 (k2.0 ∷ r2.0) t2.1 tail in
-    let whole : Takes p r.0.1 (n2.0 ∷ (t2.0 ++ k2.0 ∷ r2.0)) = Takes-then p n.0.1 r.0.1 (n2.0 ∷ []) (t2.0 ++ k2.0 ∷ r2.0) n2.1 body in
-    let first : n.0.1.scope ≡ p.scope = scope_is p n.0.1 (n2.0 ∷ []) n2.1 in
-    let same : k.0.1.scope ≡ p.scope = scope_is t.0.1 k.0.1 (k2.0 ∷ []) k2.1 ∙ scope_is n.0.1 t.0.1 t2.0 t2.1 ∙ first in
-    let free_name : position_of p.scope n.0.0 ≡ None = subst (λ (z : Scope). position_of z n.0.0 ≡ None) first (fresh_means (position_of n.0.1.scope n.0.0) f.0 f.1) in
+    let h = bind_some (heading_at p) (λ h. rhs_at h.1 >>= λ r. defined h.0.0 h.0.1 r) (d, q) e in
+    let r = bind_some (rhs_at h.0.1) (λ r. defined h.0.0.0 h.0.0.1 r) (d, q) h.2 in
+    let k = h.0.1 in
+    let s = heading_steps p k h.0.0 h.1 in
+    let n = s.0 in
+    let t = s.1 in
+    let n2 = accepted name_of p n h.0.0.0 s.2 in
+    let t2 = optional_type_sound n t h.0.0.1 s.4 in
+    let k2 = accepted (mark_of equals) t k tt s.5 in
+    let r2 = rhs_sound k r.0.1 r.0.0 r.1 in
+    let tail : Takes t r.0.1 (k2.0 ∷ r2.0) = Takes-then t k r.0.1 (k2.0 ∷ []) r2.0 k2.1 r2.1 in
+    let body : Takes n r.0.1 (t2.0 ++ k2.0 ∷ r2.0) = Takes-then n t r.0.1 t2.0 (k2.0 ∷ r2.0) t2.1 tail in
+    let whole : Takes p r.0.1 (n2.0 ∷ (t2.0 ++ k2.0 ∷ r2.0)) = Takes-then p n r.0.1 (n2.0 ∷ []) (t2.0 ++ k2.0 ∷ r2.0) n2.1 body in
+    let first : n.scope ≡ p.scope = scope_is p n (n2.0 ∷ []) n2.1 in
+    let same : k.scope ≡ p.scope = scope_is t k (k2.0 ∷ []) k2.1 ∙ scope_is n t t2.0 t2.1 ∙ first in
+    let free_name : position_of p.scope h.0.0.0 ≡ None = subst (λ (z : Scope). position_of z h.0.0.0 ≡ None) first s.3 in
     let value : rhs_spells p.scope r.0.0 r2.0 = subst (λ (z : Scope). rhs_spells z r.0.0 r2.0) same r2.2 in
-    moved (WasRead definition_spells definition_continues p) (record { name = n.0.0; ty = t.0.0; value = r.0.0 }, r.0.1) (d, q) r.2 (
+    moved (WasRead definition_spells definition_continues p) (record { name = h.0.0.0; ty = h.0.0.1; value = r.0.0 }, r.0.1) (d, q) r.2 (
       n2.0 ∷ (t2.0 ++ k2.0 ∷ r2.0),
       whole,
       record {
         ty = t2.0;
         rhs = r2.0;
-        whole = definition_tokens n2.0 k2.0 n.0.0 t2.0 r2.0 (name_means n2.0 n.0.0 n2.2) (mark_means equals k2.0 k2.2);
+        whole = definition_tokens n2.0 k2.0 h.0.0.0 t2.0 r2.0 (name_means n2.0 h.0.0.0 n2.2) (mark_means equals k2.0 k2.2);
         name_is_new = free_name;
         ty_spelled = t2.2;
         rhs_spelled = value;
@@ -86,10 +105,14 @@ definition_sound p q d e =
       r2.3,
     )
 
-definition_is : (p n t k q : Parsing) (d : Definition) → accept name_of p ≡ Some (d.name, n) → fresh (position_of n.scope d.name) ≡ Some tt → optional_type_at n ≡ Some (d.ty, t) → accept (mark_of equals) t ≡ Some (tt, k) → rhs_at k ≡ Some (d.value, q)
-    → definition_at p ≡ Some (d, q)
+heading_is : (p n t k : Parsing) (h : List ℕ × Option Ty) → accept name_of p ≡ Some (h.0, n) → fresh (position_of n.scope h.0) ≡ Some tt → optional_type_at n ≡ Some (h.1, t) → accept (mark_of equals) t ≡ Some (tt, k)
+    → heading_at p ≡ Some (h, k)
+unfolding heading_at
+heading_is p n t k h a b c e = rw (a, b, c, e) refl
+
+definition_is : (p k q : Parsing) (d : Definition) → heading_at p ≡ Some ((d.name, d.ty), k) → rhs_at k ≡ Some (d.value, q) → definition_at p ≡ Some (d, q)
 unfolding definition_at
-definition_is p n t k q d a b c e f = rw (a, b, c, e, f) refl
+definition_is p k q d a b = rw (a, b) refl
 
 pub definition_complete : Complete definition_spells definition_continues definition_at
 definition_complete p d front rest at s st =
@@ -103,7 +126,7 @@ definition_complete p d front rest at s st =
     let value : rhs_spells k.0.scope d.value s.rhs = subst (λ (z : Scope). rhs_spells z d.value s.rhs) (sym (same_scope p k.0 before)) s.rhs_spelled in
     let last : Stops (rhs_continues d.value) k.0.faulty rest = subst (λ (z : Bool). Stops (rhs_continues d.value) z rest) (sym (same_fault p k.0 before)) st in
     let r = rhs_complete k.0 d.value s.rhs rest k.2 value last in
-    (r.0, definition_is p n.0 t.0 k.0 r.0 d n.1 (fresh_is (position_of n.0.scope d.name) unknown) t.1 k.1 r.1, r.2, state_then p k.0 r.0 before r.3)
+    (r.0, definition_is p k.0 r.0 d (heading_is p n.0 t.0 k.0 (d.name, d.ty) n.1 (fresh_is (position_of n.0.scope d.name) unknown) t.1 k.1) r.1, r.2, state_then p k.0 r.0 before r.3)
 
 pub definition_alone : (s : Scope) (v w : Definition) (a b c d : List Lexeme) → a ++ c ≡ b ++ d → definition_spells s v a → definition_spells s w b → Free (definition_continues v) c → Free (definition_continues w) d → (a ≡ b) × (v ≡ w)
 definition_alone = one_alone definition_spells definition_continues definition_at definition_complete

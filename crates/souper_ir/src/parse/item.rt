@@ -20,13 +20,15 @@ ghost use Rattle.souper_ir.specs.Answers.{IsStrError};
 ghost use Rattle.souper_ir.specs.Sinks.{TakesOver, TakesText};
 
 use crate::lexer::Token;
+use crate::parse::error::narrow;
 use crate::parse::last_lines::{cand, infer, result};
 use crate::parse::parser::{Parser, Read, Result};
+use crate::parse::rhs::rhs;
 use crate::parse::sink::Sink;
-use crate::parse::statements::{assignment, block_pc, pc};
+use crate::parse::statements::{block_pc, heading, pc};
 use crate::parse::tokens::{token_comes, word_comes};
 use crate::parse::traits::Parse;
-use souper_graph::ast::{LeftHandSide, Replacement, RightHandSide};
+use souper_graph::ast::{Assignment, Attribute, LeftHandSide, Replacement, RightHandSide};
 use std::alloc::Global;
 
 // What the next token begins.
@@ -79,8 +81,21 @@ fn enter_assignment(parser: &mut Parser<'_>) -> Read<()>
     ensures ok { OnOk result (Enters parser.old parser.new) }
     ensures err { IfErr result (λ e. Refusal statement_spells statement_continues (error_of e) parser.old parser.new) }
 {
-    let (name, assignment) = assignment(parser)?;
-    parser.define(name, assignment)
+    let (name, ty) = heading(parser)?;
+    let value = rhs(parser)?;
+    let attributes = narrow(Vec::<Attribute>::parse(parser))?;
+    match String::from_str(parser.alloc(), name) {
+        Ok(text) => {
+            let assignment = Assignment {
+                name: text,
+                ty,
+                value,
+                attributes,
+            };
+            parser.define(name, assignment)
+        }
+        Err(_) => Err(parser.want_memory()),
+    }
 }
 
 // The next statements, which are entered into the scope.

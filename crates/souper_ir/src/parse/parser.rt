@@ -1,5 +1,5 @@
 //! A parser with one token of lookahead.
-ghost use Rattle.std.specs.Prelude.{◌≡◌, ◌≤◌, ◌++◌, ◌∷◌, [], length, map, ℕ, List, true, false, Some, None, IfOk, IfSome, OnOk, OnErr, IfErr, IsOk, IsSomeAnd, option_map, is_some, ◌≢◌};
+ghost use Rattle.std.specs.Prelude.{◌≡◌, ◌≤◌, ◌++◌, ◌∷◌, [], length, map, ℕ, List, true, false, Some, None, IfOk, IfSome, OnOk, OnErr, IfErr, OnErr, IsOk, IsSomeAnd, option_map, is_some, ◌≢◌};
 ghost use Rattle.std.specs.String.{string_bytes};
 ghost use Rattle.souper_graph.specs.View.{view_rhs, view_statement, view_assignment};
 ghost use Rattle.souper_graph.specs.Values.{assigned};
@@ -226,6 +226,25 @@ impl<'a> Parser<'a> {
     }
 }
 
+// The statements that there is room for after the first: most items have no more.
+const ROOM: usize = 16;
+
+// Appends a statement.
+#[inline(always)]
+fn push(
+    statements: &mut Arena<Statement>,
+    statement: Statement,
+) -> std::result::Result<Id<Statement>, AllocError>
+    ensures position { IfOk result (λ id. id ≡ length statements.old) }
+    ensures grows { IfOk result (λ _. statements.new ≡ statements.old ++ statement ∷ []) }
+    ensures err { OnErr result (statements.new ≡ statements.old) }
+{
+    if statements.len() == 0 {
+        statements.reserve(ROOM)?;
+    }
+    statements.alloc(statement)
+}
+
 // A block's number of predecessors; `None` for any other right side.
 fn ways(rhs: &AssignmentRhs) -> Option<u32>
     ensures { result ≡ ways_of (view_rhs rhs.now) }
@@ -297,7 +316,7 @@ impl<'a> Parser<'a> {
         ensures err { IfErr result (λ error. FailsForMemory (error_of error) self.old self.new) }
     {
         let ways = ways(&assignment.value);
-        let id = match self.statements.alloc(assignment.into()) {
+        let id = match push(&mut self.statements, assignment.into()) {
             Ok(id) => id,
             Err(_) => {
                 self.failed = Some(Failure::Memory);
@@ -322,7 +341,7 @@ impl<'a> Parser<'a> {
         ensures ok { OnOk result (self.new ≡ record self.old { scope = self.old.scope ++ view_statement condition ∷ [] }) }
         ensures err { IfErr result (λ error. FailsForMemory (error_of error) self.old self.new) }
     {
-        match self.statements.alloc(condition) {
+        match push(&mut self.statements, condition) {
             Ok(_) => Ok(()),
             Err(_) => {
                 self.failed = Some(Failure::Memory);

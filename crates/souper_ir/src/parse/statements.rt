@@ -11,7 +11,7 @@ ghost use Rattle.souper_ir.specs.Errors.{error_of, widened};
 ghost use Rattle.souper_ir.specs.Continuation.{assignment_continues, pc_continues, block_pc_continues, statement_continues};
 ghost use Rattle.souper_ir.specs.Reading.{Gives};
 ghost use Rattle.souper_ir.specs.Grammar.{Took, Refusal, peek_at};
-ghost use Rattle.souper_ir.specs.NodeReadings.{is_name, is_word, definition_at, pc_at, block_pc_at, starts_statement};
+ghost use Rattle.souper_ir.specs.NodeReadings.{is_name, is_word, heading_at, pc_at, block_pc_at, starts_statement};
 ghost use Rattle.souper_ir.specs.StatementLaws.{assignment_alone, assignment_first, pc_alone, pc_first, block_pc_alone, block_pc_first, statement_alone, statement_first};
 
 use crate::lexer::Token;
@@ -26,10 +26,10 @@ use crate::parse::tokens::{
 use crate::parse::traits::{Parse, Peek};
 use souper_graph::ast::{Assignment, AssignmentRhs, Attribute, BlockPc, Pc, Statement, Type};
 
-// An assignment up to its attributes: its name, type and right side.
-#[tactic(auto, unfolding(crate::specs::NodeReadings::definition_at))]
-fn definition<'a>(parser: &mut Parser<'a>) -> Read<(&'a str, Option<Type>, AssignmentRhs)>
-    ensures { Gives (λ r. record { name = r.0.now; ty = r.1; value = view_rhs r.2 }) (widened result) (definition_at parser.old) parser.old parser.new }
+/// The name of an assignment, which is new, and its type, up to the equals sign.
+#[tactic(auto, unfolding(crate::specs::NodeReadings::heading_at))]
+pub(crate) fn heading<'a>(parser: &mut Parser<'a>) -> Read<(&'a str, Option<Type>)>
+    ensures { Gives (λ r. (r.0.now, r.1)) (widened result) (heading_at parser.old) parser.old parser.new }
 {
     let name = value_name(parser)?;
     if parser.value_named(name).is_some() {
@@ -37,28 +37,24 @@ fn definition<'a>(parser: &mut Parser<'a>) -> Read<(&'a str, Option<Type>, Assig
     }
     let ty = optional_type(parser)?;
     punctuation(parser, Mark::Equals)?;
-    let value = rhs(parser)?;
-    Ok((name, ty, value))
+    Ok((name, ty))
 }
 
-/// An assignment, and its name as a slice of the text. It is not entered into the scope.
-pub(crate) fn assignment<'a>(parser: &mut Parser<'a>) -> Read<(&'a str, Assignment)>
-    ensures ok { IfOk result (λ r. Took assignment_spells assignment_continues (λ s. s) (view_assignment r.1) parser.old parser.new) }
-    ensures name { IfOk result (λ r. string_bytes r.1.name ≡ r.0.now) }
+/// An assignment, which is not entered into the scope.
+fn assignment(parser: &mut Parser<'_>) -> Read<Assignment>
+    ensures ok { IfOk result (λ a. Took assignment_spells assignment_continues (λ s. s) (view_assignment a) parser.old parser.new) }
     ensures err { IfErr result (λ e. Refusal assignment_spells assignment_continues (error_of e) parser.old parser.new) }
 {
-    let (name, ty, value) = definition(parser)?;
+    let (name, ty) = heading(parser)?;
+    let value = rhs(parser)?;
     let attributes = narrow(Vec::<Attribute>::parse(parser))?;
     match String::from_str(parser.alloc(), name) {
-        Ok(text) => {
-            let assignment = Assignment {
-                name: text,
-                ty,
-                value,
-                attributes,
-            };
-            Ok((name, assignment))
-        }
+        Ok(name) => Ok(Assignment {
+            name,
+            ty,
+            value,
+            attributes,
+        }),
         Err(_) => Err(parser.want_memory()),
     }
 }
@@ -106,8 +102,7 @@ impl Parse for Assignment {
     ghost alone = { assignment_alone };
 
     fn parse<'a>(parser: &mut Parser<'a>) -> Result<Self> {
-        let (_, assignment) = assignment(parser)?;
-        Ok(assignment)
+        widen(assignment(parser))
     }
 }
 
@@ -200,8 +195,7 @@ impl Parse for Statement {
         } else if word_comes(parser, "blockpc")? {
             Ok(block_pc(parser)?.into())
         } else {
-            let (_, assignment) = assignment(parser)?;
-            Ok(assignment.into())
+            Ok(assignment(parser)?.into())
         }
     }
 }

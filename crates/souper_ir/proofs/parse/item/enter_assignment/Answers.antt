@@ -1,8 +1,15 @@
+use Rattle.std.proofs.Common.{None, ◌≡◌, sym, subst}
 use Rattle.std.proofs.lemmas.Result.{err_from_is_err_and, on_ok_weaker}
-use Rattle.souper_graph.specs.Values.{assigned}
-use Rattle.souper_graph.specs.View.{view_assignment}
+use Rattle.std.specs.Prelude.{map}
+use Rattle.souper_graph.specs.Syntax.Spelling.{position_of, assignment_spells}
+use Rattle.souper_graph.specs.Values.{PlainAssignment, assigned}
+use Rattle.souper_graph.specs.View.{view_rhs, view_attribute, view_assignment}
+use Rattle.souper_ir.specs.Continuation.{assignment_continues}
 use Rattle.souper_ir.specs.Errors.{error_of}
-use Rattle.souper_ir.proofs.Statements.{assignment_taken, assignment_refused}
+use Rattle.souper_ir.specs.Grammar.{Took}
+use Rattle.souper_ir.specs.Parsing.{Parsing}
+use Rattle.souper_ir.proofs.Failing.{not_io}
+use Rattle.souper_ir.proofs.Statements.{heading_refused, value_refused, attributes_refused, parts_taken, assignment_taken, assignment_refused}
 use Rattle.souper_ir.proofs.NextStatements.{no_pc_seen, no_block_pc_seen}
 use Rattle.souper_ir.proofs.ItemSteps.{entered}
 use Rattle.souper_ir.proofs.parse.item.enter_assignment.Goals as goal
@@ -11,12 +18,42 @@ pub returns-in_err-name-clause-err : goal.returns-in_err-name-clause-err
 returns-in_err-name-clause-err c =
     let p = err_from_is_err_and c.from_residual.result c.from_residual.ensures.1 in
     let here = c.args.parser.now in
-    rw (p.1, p.2) (assignment_refused (error_of c.in_err-name.field-0.0) here here here c.assignment.new.parser (no_pc_seen here here c.requires) (no_block_pc_seen here here c.requires) c.in_err-name.ensures.err)
+    let e = error_of c.in_err-name.field-0.0 in
+    rw (p.1, p.2) (assignment_refused e here here here c.heading.new.parser (no_pc_seen here here c.requires) (no_block_pc_seen here here c.requires)
+    (heading_refused e here c.heading.new.parser c.in_err-name.ensures))
 
-pub returns-clause-ok : goal.returns-clause-ok
-returns-clause-ok c =
+pub returns-in_err-value-clause-err : goal.returns-in_err-value-clause-err
+returns-in_err-value-clause-err c =
+    let p = err_from_is_err_and c.from_residual-in_err-value.result c.from_residual-in_err-value.ensures.1 in
     let here = c.args.parser.now in
+    let e = error_of c.in_err-value.field-0.0 in
+    rw (p.1, p.2) (assignment_refused e here here here c.rhs.new.parser (no_pc_seen here here c.requires) (no_block_pc_seen here here c.requires)
+    (value_refused e (c.in_ok-name.name.now, c.in_ok-name.ty) here c.heading.new.parser c.rhs.new.parser c.in_ok-name.ensures c.in_err-value.ensures))
+
+pub returns-in_err-attributes-clause-err : goal.returns-in_err-attributes-clause-err
+returns-in_err-attributes-clause-err c =
+    let p = err_from_is_err_and c.from_residual-in_err-attributes.result c.from_residual-in_err-attributes.ensures.1 in
+    let here = c.args.parser.now in
+    let e = error_of c.in_err-attributes.field-0.0 in
+    rw (p.1, p.2) (assignment_refused e here here here c.parse.new.parser (no_pc_seen here here c.requires) (no_block_pc_seen here here c.requires)
+    (attributes_refused e (record { name = c.in_ok-name.name.now; ty = c.in_ok-name.ty; value = view_rhs c.in_ok-value.value }) here c.heading.new.parser c.rhs.new.parser c.parse.new.parser
+    c.in_ok-name.ensures c.in_ok-value.ensures (rw (sym c.in_err-attributes.ensures) at c.parse.ensures.err)))
+
+pub narrow-requires : goal.narrow-requires
+narrow-requires c = not_io _ _ c.parse.result c.rhs.new.parser c.parse.new.parser c.parse.ensures.err
+
+pub define-requires-clause-fresh : goal.define-requires-clause-fresh
+define-requires-clause-fresh c =
+    let a : PlainAssignment = record { name = c.in_ok-name.name.now; ty = c.in_ok-name.ty; value = view_rhs c.in_ok-value.value; attributes = map view_attribute c.in_ok-attributes.attributes.items } in
+    let t = parts_taken a c.args.parser.now c.heading.new.parser c.rhs.new.parser c.parse.new.parser c.in_ok-name.ensures c.in_ok-value.ensures (rw (sym c.in_ok-attributes.ensures) at c.parse.ensures.ok) in
+    subst (λ (p : Parsing). position_of p.scope c.in_ok-name.name.now ≡ None) (sym t.state) t.spelled.name_is_new
+
+pub returns-in-Ok-clause-ok : goal.returns-in-Ok-clause-ok
+returns-in-Ok-clause-ok c =
+    let here = c.args.parser.now in
+    let a : PlainAssignment = record { name = c.in_ok-name.name.now; ty = c.in_ok-name.ty; value = view_rhs c.in_ok-value.value; attributes = map view_attribute c.in_ok-attributes.attributes.items } in
+    let t = parts_taken a here c.heading.new.parser c.rhs.new.parser c.parse.new.parser c.in_ok-name.ensures c.in_ok-value.ensures (rw (sym c.in_ok-attributes.ensures) at c.parse.ensures.ok) in
     on_ok_weaker c.define.result
-    (entered (assigned (view_assignment c.in_ok-name.assignment)) here c.assignment.new.parser c.define.new.self
-    (assignment_taken (view_assignment c.in_ok-name.assignment) here here here c.assignment.new.parser (no_pc_seen here here c.requires) (no_block_pc_seen here here c.requires) c.in_ok-name.ensures.ok))
-    c.define.ensures.ok
+    (entered (assigned a) here c.parse.new.parser c.define.new.self
+    (assignment_taken a here here here c.parse.new.parser (no_pc_seen here here c.requires) (no_block_pc_seen here here c.requires) t))
+    (rw c.in-Ok.ensures.ok at c.define.ensures.ok)

@@ -48,5 +48,5 @@ returns-in_ok-block_pc-clause-ok c =
 
 pub returns-in_ok-assignment-clause-ok : goal.returns-in_ok-assignment-clause-ok
 returns-in_ok-assignment-clause-ok c =
-    rw c.into-else-branch-2.ensures (assignment_taken (view_assignment c.in_ok-assignment.assignment) c.args.parser.now c.word_comes.new.parser c.word_comes-else-branch.new.parser c.assignment.new.parser
+    rw c.into-else-branch-2.ensures (assignment_taken (view_assignment c.in_ok-assignment.field-0) c.args.parser.now c.word_comes.new.parser c.word_comes-else-branch.new.parser c.assignment.new.parser
     (rw c.if-branch.false at c.in_ok-word_comes.ensures) (rw c.if-branch-2.false at c.in_ok-word_comes-2.ensures) c.in_ok-assignment.ensures.ok)
