@@ -19,7 +19,6 @@ ghost use Rattle.souper_ir.specs.ItemRuns.{SpellsAll, ListRefusal};
 ghost use Rattle.souper_ir.specs.Answers.{IsStrError};
 ghost use Rattle.souper_ir.specs.Sinks.{TakesOver, TakesText};
 
-use crate::lexer::Token;
 use crate::parse::last_lines::{cand, infer, result};
 use crate::parse::parser::{Parser, Read, Result};
 use crate::parse::sink::Sink;
@@ -27,6 +26,7 @@ use crate::parse::statements::{assignment, block_pc, pc};
 use crate::parse::tokens::{token_comes, word_comes};
 use crate::parse::traits::Parse;
 use souper_graph::ast::{LeftHandSide, Replacement, RightHandSide};
+use souper_lexer::Token;
 use std::alloc::Global;
 
 // What the next token begins.
