@@ -21,9 +21,6 @@ use crate::parse::traits::{Parse, Peek};
 use souper_graph::ast::{Attribute, RootAttribute};
 use souper_lexer::Token;
 
-#[cfg(test)]
-mod tests;
-
 // What an attribute begins with.
 #[derive(Clone, Copy)]
 enum Kind<'a> {

@@ -1,14 +1,18 @@
-use super::*;
+//! Lists of attributes, from parsers that are used directly.
+use crate::parsers::tells;
+use souper_ir::ast::{Attribute, RootAttribute};
+use souper_ir::parse::{Parse, Parser, Peek};
 use std::alloc::Global;
 use std::process::Abort;
-use std::test::*;
+use std::test::Fail;
 
+// The source begins with the attributes that are shown so.
 fn read<P: Peek + Drop + std::fmt::Debug>(
     rt: &impl Abort,
     alloc: Global,
     source: &str,
     want: &str,
-) -> std::result::Result<(), Fail> {
+) -> Result<(), Fail> {
     let mut parser = Parser::new(alloc, source);
     let attributes = Vec::<P>::parse(&mut parser)?;
     let shown = format!(in alloc; "{attributes:?}")?;
@@ -16,27 +20,8 @@ fn read<P: Peek + Drop + std::fmt::Debug>(
     Ok(())
 }
 
-fn refused<P: Parse + Drop>(
-    rt: &impl Abort,
-    alloc: Global,
-    source: &str,
-    offset: usize,
-    message: &str,
-) -> std::result::Result<(), Fail> {
-    let mut parser = Parser::new(alloc, source);
-    let error = P::parse(&mut parser).err().ok_or("it was read")?;
-    assert_eq!(rt; error.offset(), Some(offset), "of {source:?}");
-    let shown = format!(in alloc; "{error}")?;
-    let want = format!(in alloc;
-        "unknown:1:1: {message}\n     |\n   1 | byte offset {offset}\n     | ^"
-    )?;
-    assert_eq!(rt; shown.as_str(), want.as_str());
-    Ok(())
-}
-
 #[test]
-fn attributes(rt: HostRuntime) -> std::result::Result<(), Fail> {
-    let alloc = rt.alloc();
+fn attributes(rt: HostRuntime) -> Result<(), Fail> {
     for (source, want) in [
         ("", "[]"),
         ("(powerOfTwo) (negative)", "[PowerOfTwo, Negative]"),
@@ -51,21 +36,20 @@ fn attributes(rt: HostRuntime) -> std::result::Result<(), Fail> {
         ("( signBits = 007 )", "[SignBits(7)]"),
         ("(range=[-5,300)) x", "[Range(-5, 300)]"),
     ] {
-        read::<Attribute>(&rt, alloc, source, want)?;
+        read::<Attribute>(&rt, rt.alloc(), source, want)?;
     }
     Ok(())
 }
 
 #[test]
-fn root_attributes(rt: HostRuntime) -> std::result::Result<(), Fail> {
+fn root_attributes(rt: HostRuntime) -> Result<(), Fail> {
     let source = "(demandedBits=0110) (harvestedFromUse)";
     let want = "[DemandedBits([false, true, true, false]), HarvestedFromUse]";
     read::<RootAttribute>(&rt, rt.alloc(), source, want)
 }
 
 #[test]
-fn refused_attributes(rt: HostRuntime) -> std::result::Result<(), Fail> {
-    let alloc = rt.alloc();
+fn refused_attributes(rt: HostRuntime) -> Result<(), Fail> {
     for (source, offset, message) in [
         ("negative", 0, "expected '('"),
         ("(odd)", 1, "unknown attribute 'odd'"),
@@ -85,14 +69,14 @@ fn refused_attributes(rt: HostRuntime) -> std::result::Result<(), Fail> {
         ),
         ("(range=(0,1))", 7, "expected '['"),
     ] {
-        refused::<Attribute>(&rt, alloc, source, offset, message)?;
+        let error = Attribute::parse(&mut Parser::new(rt.alloc(), source)).err();
+        tells(&rt, rt.alloc(), error, offset, message)?;
     }
     Ok(())
 }
 
 #[test]
-fn refused_root_attributes(rt: HostRuntime) -> std::result::Result<(), Fail> {
-    let alloc = rt.alloc();
+fn refused_root_attributes(rt: HostRuntime) -> Result<(), Fail> {
     for (source, offset, message) in [
         (
             "(negative)",
@@ -102,7 +86,8 @@ fn refused_root_attributes(rt: HostRuntime) -> std::result::Result<(), Fail> {
         ("(demandedBits=012)", 14, "expected [0|1]+ bit pattern"),
         ("(demandedBits=x)", 14, "expected [0|1]+ bit pattern"),
     ] {
-        refused::<RootAttribute>(&rt, alloc, source, offset, message)?;
+        let error = RootAttribute::parse(&mut Parser::new(rt.alloc(), source)).err();
+        tells(&rt, rt.alloc(), error, offset, message)?;
     }
     Ok(())
 }
