@@ -3,6 +3,8 @@
 //! The values of the tests were worked out by hand from the rules of the language.
 #![tactic(auto)]
 
+#[cfg(test)]
+mod attributes;
 pub mod pairs;
 #[cfg(test)]
 mod parsers;

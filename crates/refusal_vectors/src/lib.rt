@@ -10,4 +10,6 @@ mod cuts;
 #[cfg(test)]
 mod errors;
 #[cfg(test)]
+mod places;
+#[cfg(test)]
 mod refusals;

@@ -20,7 +20,7 @@ use Rattle.souper_ir.specs.StatementLaws.{begins_line, starts_begins, infer_ends
 use Rattle.souper_ir.specs.ItemLaws.{joined_last, joined_longer, starts_ahead, item_alone}
 use Rattle.souper_ir.specs.ItemRuns.{ItemsTaken, SpellsAll, ListRefusal}
 use Rattle.souper_ir.specs.Sinks.{TakesOver}
-use Rattle.souper_ir.proofs.TokenLaws.{one_reading}
+use Rattle.souper_lexer.proofs.TokenLaws.{one_reading}
 use Rattle.souper_ir.proofs.WellFormedItems.{taken_well}
 
 -- what begins a line continues no item

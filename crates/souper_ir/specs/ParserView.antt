@@ -6,12 +6,12 @@ use Rattle.std.specs.Cmp.Lexicographic.{slice_cmp}
 use Rattle.std.specs.Ordering.{nat_cmp}
 use Rattle.souper_graph.specs.Values.{PlainAssignment, assigned}
 use Rattle.souper_graph.specs.View.{view_statement}
-use Rattle.souper_ir.specs.declared.lexer.Token.{Token}
+use Rattle.souper_lexer.specs.declared.Token.{Token}
 use Rattle.souper_ir.specs.declared.parse.parser.Failure.{Failure}
 use Rattle.souper_ir.specs.declared.parse.parser.Failure.TheVariants.{Refused, Memory}
 use Rattle.souper_ir.specs.declared.parse.parser.Parser.TheInside.{Inside}
 use Rattle.souper_graph.specs.Syntax.Tokens.{Lexeme}
-use Rattle.souper_ir.specs.TokenView.{lexeme_of}
+use Rattle.souper_lexer.specs.TokenView.{lexeme_of}
 use Rattle.souper_graph.specs.Syntax.Spelling.{Scope, entry_of, position_of}
 use Rattle.souper_ir.specs.Parsing.{Parsing}
 use Rattle.souper_ir.specs.FailureView.{cause_of_failure}

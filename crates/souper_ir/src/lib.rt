@@ -4,5 +4,4 @@
 pub use souper_graph::{ast, stringify};
 
 pub mod laws;
-mod lexer;
 pub mod parse;

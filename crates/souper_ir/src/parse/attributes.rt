@@ -12,7 +12,6 @@ ghost use Rattle.souper_ir.specs.AttributeView.{view_kind, has_bits};
 ghost use Rattle.souper_ir.specs.Readings.{one_alone};
 ghost use Rattle.souper_ir.specs.AttributeLaws.{attribute_complete, attribute_first, root_attribute_complete, root_attribute_first};
 
-use crate::lexer::Token;
 use crate::parse::error::widen;
 use crate::parse::message::Message;
 use crate::parse::numbers::{bits, known_bits};
@@ -20,9 +19,7 @@ use crate::parse::parser::{Parser, Read, Result};
 use crate::parse::tokens::{Mark, bit_count, integer, mark_comes, punctuation};
 use crate::parse::traits::{Parse, Peek};
 use souper_graph::ast::{Attribute, RootAttribute};
-
-#[cfg(test)]
-mod tests;
+use souper_lexer::Token;
 
 // What an attribute begins with.
 #[derive(Clone, Copy)]

@@ -12,9 +12,6 @@ use std::error::Error;
 use std::fmt::Write;
 use std::{fmt, io};
 
-#[cfg(test)]
-mod tests;
-
 /// Why a parse failed.
 #[derive(Clone, Copy, Debug, PartialEq, Eq)]
 pub enum ParseErrorKind {

@@ -19,7 +19,6 @@ ghost use Rattle.souper_ir.specs.ItemRuns.{SpellsAll, ListRefusal};
 ghost use Rattle.souper_ir.specs.Answers.{IsStrError};
 ghost use Rattle.souper_ir.specs.Sinks.{TakesOver, TakesText};
 
-use crate::lexer::Token;
 use crate::parse::error::narrow;
 use crate::parse::last_lines::{cand, infer, result};
 use crate::parse::parser::{Parser, Read, Result};
@@ -29,6 +28,7 @@ use crate::parse::statements::{block_pc, heading, pc};
 use crate::parse::tokens::{token_comes, word_comes};
 use crate::parse::traits::Parse;
 use souper_graph::ast::{Assignment, Attribute, LeftHandSide, Replacement, RightHandSide};
+use souper_lexer::Token;
 use std::alloc::Global;
 
 // What the next token begins.

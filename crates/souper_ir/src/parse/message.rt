@@ -1,6 +1,6 @@
 //! What a refusal says.
-use crate::lexer::FaultKind;
 use crate::parse::tokens::Mark;
+use souper_lexer::FaultKind;
 use std::fmt;
 use std::num::IntErrorKind;
 

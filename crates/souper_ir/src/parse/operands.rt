@@ -9,7 +9,6 @@ ghost use Rattle.souper_ir.specs.NodeReadings.{is_int, type_at, optional_type_at
 ghost use Rattle.souper_ir.specs.Readings.{one_alone};
 ghost use Rattle.souper_ir.specs.OperandLaws.{type_complete, constant_complete, constant_first, operand_complete};
 
-use crate::lexer::Token;
 use crate::parse::error::widen;
 use crate::parse::message::Message;
 use crate::parse::numbers::width;
@@ -19,6 +18,7 @@ use crate::parse::tokens::{
 };
 use crate::parse::traits::{Parse, Peek};
 use souper_graph::ast::{Constant, Operand, Type};
+use souper_lexer::Token;
 
 #[tactic(auto, unfolding(crate::specs::NodeReadings::accept))]
 pub(crate) fn type_alone(parser: &mut Parser<'_>) -> Read<Type>

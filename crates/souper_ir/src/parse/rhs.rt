@@ -13,7 +13,6 @@ ghost use Rattle.souper_ir.specs.Words.{opcode_of};
 ghost use Rattle.souper_ir.specs.Readings.{one_alone};
 ghost use Rattle.souper_ir.specs.RhsLaws.{block_complete, block_first, phi_complete, phi_first, instruction_complete, instruction_first, rhs_complete};
 
-use crate::lexer::Token;
 use crate::parse::error::widen;
 use crate::parse::message::Message;
 use crate::parse::operands::{further, next_operand, operand};
@@ -22,6 +21,7 @@ use crate::parse::tokens::{keyword, value_name, way_count, word_comes};
 use crate::parse::traits::{Parse, Peek};
 use crate::parse::words::{Opcode, opcode_named};
 use souper_graph::ast::{AssignmentRhs, Block, BlockId, Instruction, Phi};
+use souper_lexer::Token;
 
 #[tactic(auto, unfolding(crate::specs::NodeReadings::block_at))]
 pub(crate) fn block(parser: &mut Parser<'_>) -> Read<Block>

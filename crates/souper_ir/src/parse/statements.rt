@@ -14,7 +14,6 @@ ghost use Rattle.souper_ir.specs.Grammar.{Took, Refusal, peek_at};
 ghost use Rattle.souper_ir.specs.NodeReadings.{is_name, is_word, heading_at, pc_at, block_pc_at, starts_statement};
 ghost use Rattle.souper_ir.specs.StatementLaws.{assignment_alone, assignment_first, pc_alone, pc_first, block_pc_alone, block_pc_first, statement_alone, statement_first};
 
-use crate::lexer::Token;
 use crate::parse::error::{narrow, widen};
 use crate::parse::message::Message;
 use crate::parse::operands::{operand, optional_type};
@@ -25,6 +24,7 @@ use crate::parse::tokens::{
 };
 use crate::parse::traits::{Parse, Peek};
 use souper_graph::ast::{Assignment, AssignmentRhs, Attribute, BlockPc, Pc, Statement, Type};
+use souper_lexer::Token;
 
 /// The name of an assignment, which is new, and its type, up to the equals sign.
 #[tactic(auto, unfolding(crate::specs::NodeReadings::heading_at))]

@@ -5,14 +5,14 @@ ghost use Rattle.souper_ir.specs.Errors.{widened};
 ghost use Rattle.souper_ir.specs.Reading.{Gives};
 ghost use Rattle.souper_ir.specs.Grammar.{peek_at};
 ghost use Rattle.souper_graph.specs.Syntax.Numbers.{number_of, count_of};
-ghost use Rattle.souper_ir.specs.TokenView.{lexeme_of};
+ghost use Rattle.souper_lexer.specs.TokenView.{lexeme_of};
 ghost use Rattle.souper_ir.specs.MarkView.{lexeme_of_mark};
 ghost use Rattle.souper_ir.specs.NodeReadings.{accept, name_of, is_name, is_any, mark_of, is_mark, is_word, word_of, is_int, int_by};
 
-use crate::lexer::Token;
 use crate::parse::message::Message;
 use crate::parse::numbers::{count, number, small_count};
 use crate::parse::parser::{Parser, Read};
+use souper_lexer::Token;
 use std::fmt;
 
 /// A punctuation mark, a token of its own.

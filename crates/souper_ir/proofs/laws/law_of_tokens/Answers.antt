@@ -1,6 +1,6 @@
-use Rattle.souper_ir.proofs.TokenLaws.{one_reading, begins_append, in_text}
+use Rattle.souper_lexer.proofs.TokenLaws.{one_reading, begins_append, in_text}
 use Rattle.souper_graph.proofs.RoundTrip.Gaps.{gap_stops_token}
-use Rattle.souper_ir.proofs.WhiteSpace.{white_listed, listed_white}
+use Rattle.souper_lexer.proofs.WhiteSpace.{white_listed, listed_white}
 use Rattle.souper_ir.proofs.laws.law_of_tokens.Goals as goal
 
 pub returns-clause-one_reading : goal.returns-clause-one_reading

@@ -1,9 +1,9 @@
 use Rattle.std.proofs.Common.{◌≡◌, ◌∙◌, sym, ap, false, Some}
 use Rattle.std.specs.Prelude.{is_some, option_map}
 use Rattle.std.proofs.lemmas.Result.{err_from_is_err_and}
-use Rattle.souper_ir.specs.declared.lexer.Token.{Token}
+use Rattle.souper_lexer.specs.declared.Token.{Token}
 use Rattle.souper_graph.specs.Syntax.Tokens.{ident}
-use Rattle.souper_ir.specs.TokenView.{lexeme_of}
+use Rattle.souper_lexer.specs.TokenView.{lexeme_of}
 use Rattle.souper_ir.specs.Words.{opcode_of}
 use Rattle.souper_ir.specs.Reading.{cause_of, fails_later}
 use Rattle.souper_ir.proofs.RightSides.{token_refused, operation_read, operation_refused, no_right_side, refused_so}

@@ -1,0 +1,2 @@
+pub mod TokenReading
+pub mod TokenView
