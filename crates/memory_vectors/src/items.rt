@@ -52,6 +52,40 @@ fn writing_texts(rt: HostRuntime) -> Result<(), Fail> {
     Ok(())
 }
 
+// Appends the text of an item to another text.
+fn appended(rt: &impl Abort, alloc: Global) -> Result<Met, Fail> {
+    let Ok(items) = parse_replacements_str(alloc, TWO_ITEMS, None) else {
+        return Ok(Met::Unreached);
+    };
+    let Ok(mut out) = String::from_str(alloc, "before\n") else {
+        return Ok(Met::Unreached);
+    };
+    let item = items.first().ok_or("no item")?;
+    match item.append_text(&mut out) {
+        Ok(()) => {
+            let text = out.as_str().strip_prefix("before\n");
+            assert!(rt; text == Some(TWO_TEXTS[0]));
+        }
+        Err(error) => {
+            assert!(rt; error == TextError::OutOfMemory);
+            assert_eq!(rt; out.as_str(), "before\n");
+            return Ok(Met::Refused);
+        }
+    }
+    Ok(answered(alloc))
+}
+
+#[test]
+fn appending_a_text_answers(rt: HostRuntime) -> Result<(), Fail> {
+    strictly(appended(&rt, rt.alloc())?)
+}
+
+#[test]
+fn appending_a_text(rt: HostRuntime) -> Result<(), Fail> {
+    appended(&rt, rt.alloc())?;
+    Ok(())
+}
+
 // Orders the statements of the items.
 fn orders(rt: &impl Abort, alloc: Global) -> Result<Met, Fail> {
     let Ok(items) = parse_replacements_str(alloc, TWO_ITEMS, None) else {
