@@ -4,6 +4,7 @@
 ghost use Rattle.std.specs.Prelude.{◌≡◌, ℕ, ◌+◌, ◌<◌, ◌≤◌, ◌^◌, List, ◌∷◌, length, drop, IsCharBoundary, IfErr, slice_index, option_map, false};
 ghost use Rattle.std.specs.List.{prefix_len};
 ghost use Rattle.std.specs.Char.{is_ascii_alphabetic};
+ghost use Rattle.souper_graph.specs.Names.{is_name_char};
 ghost use Rattle.souper_graph.specs.Syntax.Tokens.{Lexeme, int, begins_int, IsTextOf, AreTokensOf};
 ghost use Rattle.souper_lexer.specs.TokenReading.{inside, remark, space_len, after_from, after_gap, run_of, after_run, found, lexed_of, Lexed, bits_at, word_at, name_at, mark_of, longer_at, front_of};
 ghost use Rattle.souper_lexer.specs.TokenView.{lexeme_of, is_in, Reads, Yields};
@@ -100,11 +101,28 @@ enum Class {
     Bit,
 }
 
+// Each name character is at its own index, and a comma at every other.
+static NAME_CHARACTERS: [u8; 256] = *b"\
+    ,,,,,,,,,,,,,,,,,,,,,,,,,,,,,,,,\
+    ,,,,,,,,,,,,,,.,0123456789,,,,,,\
+    ,ABCDEFGHIJKLMNOPQRSTUVWXYZ,,,,_\
+    ,abcdefghijklmnopqrstuvwxyz,,,,,\
+    ,,,,,,,,,,,,,,,,,,,,,,,,,,,,,,,,\
+    ,,,,,,,,,,,,,,,,,,,,,,,,,,,,,,,,\
+    ,,,,,,,,,,,,,,,,,,,,,,,,,,,,,,,,\
+    ,,,,,,,,,,,,,,,,,,,,,,,,,,,,,,,,";
+
+fn is_name_char(b: u8) -> bool
+    ensures { result ≡ is_name_char b }
+{
+    NAME_CHARACTERS[b as usize] != b','
+}
+
 fn is_in(class: Class, b: u8) -> bool
     ensures { result ≡ is_in class b }
 {
     match class {
-        Class::Name => b.is_ascii_alphanumeric() || b == b'_' || b == b'.',
+        Class::Name => is_name_char(b),
         Class::Digit => b.is_ascii_digit(),
         Class::Bit => b == b'0' || b == b'1' || b == b'x',
     }
