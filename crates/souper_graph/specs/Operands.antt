@@ -1,4 +1,4 @@
--- Definitions. The operands of an instruction where they stand in it.
+-- Definitions. The operands of an instruction, by reference.
 use Rattle.std.specs.Prelude.{List, [], ◌∷◌}
 use Rattle.souper_graph.specs.declared.ast.operands.Operand.{Operand}
 use Rattle.souper_graph.specs.declared.ast.instructions.Operands.{Operands}

@@ -189,7 +189,7 @@ pub enum Instruction {
     Freeze { a: Operand },
 }
 
-// The operands of an instruction, where they stand in it.
+// The operands of an instruction, by reference.
 #[derive(Clone, Copy)]
 pub(crate) enum Operands<'a> {
     Zero,
@@ -222,7 +222,7 @@ impl Instruction {
         operands
     }
 
-    // The operands where they stand, from left to right.
+    // The operands by reference, from left to right.
     #[inline(always)]
     pub(crate) fn operands_in_place(&self) -> Operands<'_>
         ensures { operands_seen result ≡ operands_of self.now }
