@@ -62,10 +62,10 @@ class Disguise:
         self.shown.append(show)
         return f"%zz.{len(self.shown) - 1}"
 
-    def condition(self, way, block, rest):
+    def condition(self, predecessor, block, rest):
         (x, y), _ = operands(rest)
-        word, front = ("blockpc", f"{block} {way} ") if block else ("pc", "")
-        name = self.keep(f"{word} {front}{x} {y}")
+        word, prefix = ("blockpc", f"{block} {predecessor} ") if block else ("pc", "")
+        name = self.keep(f"{word} {prefix}{x} {y}")
         self.lines.append(f"{name} = " + (f"select {block}, {x}, {y}" if block else f"eq {x}, {y}"))
         self.values.append(name)
 

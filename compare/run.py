@@ -89,19 +89,19 @@ def wide_column(case, programs):
     return place(programs.crate(case.kind, shorter)) == (found[0], found[1] - fewer, found[2])
 
 
-def ways(source):
+def predecessors(source):
     """The number of predecessors of each block, by its name, at the end of a source, one item or a prefix of one."""
     return dict(re.findall(r"(%[0-9A-Za-z_.]+) (?:: i[0-9]+ )?= block (-?[0-9]+)", " ".join(words(source))))
 
 
-def bad_way(case, programs):
+def bad_predecessor(case, programs):
     """The crate takes any number of a predecessor; one that the block does not have is refused here."""
     found = place(case.ours)
     said = found and re.fullmatch(r"predecessor ([0-9]+) out of range for block '(%.*)'", found[2])
     if not said or place(case.crate) and place(case.crate)[:2] <= found[:2]:
         return False
-    front = case.text.encode()[:offset(case.text, *found[:2])].decode()
-    return words(front)[-2:] == ["blockpc", said[2]] and int(said[1]) >= int(ways(front)[said[2]])
+    prefix = case.text.encode()[:offset(case.text, *found[:2])].decode()
+    return words(prefix)[-2:] == ["blockpc", said[2]] and int(said[1]) >= int(predecessors(prefix)[said[2]])
 
 
 def number_fault(case, programs):
@@ -112,7 +112,7 @@ def number_fault(case, programs):
             and ours[2] in ("number too small to fit in target type", "number too large to fit in target type"))
 
 
-CLASSES = (path_conditions, wide_column, bad_way, number_fault)
+CLASSES = (path_conditions, wide_column, bad_predecessor, number_fault)
 
 
 def without_comma(case):
@@ -122,16 +122,16 @@ def without_comma(case):
     if found is None or found[2] != "expected an integer literal" or case.kind != "rep":
         return None
     source, at = case.text.encode(), offset(case.text, *found[:2])
-    front = source[:at].decode()
-    last = words(front)
+    prefix = source[:at].decode()
+    last = words(prefix)
     is_cand = last[-2:-1] == ["cand"] or last[-4:-3] == ["cand"] and last[-2:-1] == [":"]
     if source[at:at + 1] != b"," or not is_cand:
         return None
-    behind = texts.tokens(source[at + 1:].decode())
-    first = next((i for i, token in enumerate(behind) if not texts.is_gap(token)), None)
-    if first is not None and behind[first] == ":":
-        behind[first] = "="
-    return front + " " + "".join(behind)
+    after = texts.tokens(source[at + 1:].decode())
+    first = next((i for i, token in enumerate(after) if not texts.is_gap(token)), None)
+    if first is not None and after[first] == ":":
+        after[first] = "="
+    return prefix + " " + "".join(after)
 
 
 def classify(case, programs):
@@ -140,10 +140,10 @@ def classify(case, programs):
         return "same error"
     if case.crate == case.ours and case.crate.status == ACCEPTED and not conditions.has_conditions(case.text):
         return "same text"
-    blanked = without_comma(case)
-    if blanked is not None:
-        crate = first_line_alone(programs.crate(case.kind, blanked))
-        inner = classify(case._replace(text=blanked, crate=crate, ours=first_line_alone(case.ours)), programs)
+    spaced = without_comma(case)
+    if spaced is not None:
+        crate = first_line_alone(programs.crate(case.kind, spaced))
+        inner = classify(case._replace(text=spaced, crate=crate, ours=first_line_alone(case.ours)), programs)
         return inner and ("comma in cand" if inner.startswith(("same", "comma")) else f"comma in cand, {inner}")
     for belongs in CLASSES:
         if belongs(case, programs):

@@ -22,7 +22,7 @@ LONGEST = 400
 Record = collections.namedtuple("Record", "kind status reason text answer")
 
 # The classes of texts whose results are in a sample, with their names in it.
-REASONS = {"same text": "same", "same error": "same", "comma in cand": "comma", "bad way": "way", "number fault": "number"}
+REASONS = {"same text": "same", "same error": "same", "comma in cand": "comma", "bad predecessor": "predecessor", "number fault": "number"}
 
 
 def pack(record):

@@ -159,9 +159,9 @@ class Maker:
         return out
 
     def condition(self):
-        ways = [(block, count) for block, count in self.blocks if count]
-        if ways and self.chance(0.5):
-            block, count = self.r.choice(ways)
+        blocks = [(block, count) for block, count in self.blocks if count]
+        if blocks and self.chance(0.5):
+            block, count = self.r.choice(blocks)
             return ["blockpc", block, str(self.r.randrange(count))] + self.operand() + self.operand()
         return ["pc"] + self.operand() + self.operand()
 
@@ -245,14 +245,14 @@ def damage_token(r, text):
     if not places:
         return text + r.choice(WORDS)
     i, j = r.choice(places), r.choice(places)
-    way = r.randrange(5)
-    if way == 0:
+    damage = r.randrange(5)
+    if damage == 0:
         parts[i] = ""
-    elif way == 1:
+    elif damage == 1:
         parts[i] += " " + parts[i]
-    elif way == 2:
+    elif damage == 2:
         parts[i] = parts[j]
-    elif way == 3:
+    elif damage == 3:
         parts[i], parts[j] = parts[j], parts[i]
     else:
         parts[i] = r.choice(WORDS + PUNCTUATION + NAMES + ["var", "block", "phi", "pc", "blockpc", "infer", "cand",
@@ -298,10 +298,10 @@ def damage_line(r, text):
     lines = text.split("\n")
     i, j = r.randrange(len(lines)), r.randrange(len(lines))
     line = lines.pop(i)
-    way = r.randrange(3)
-    if way > 0:
-        lines.insert(min(i if way == 1 else j, len(lines)), line)
-    if way == 1:
+    damage = r.randrange(3)
+    if damage > 0:
+        lines.insert(min(i if damage == 1 else j, len(lines)), line)
+    if damage == 1:
         lines.insert(min(j, len(lines)), line)
     return "\n".join(lines)
 
@@ -318,15 +318,15 @@ def cut(r, text):
     return text[:end] if r.random() < 0.8 else text[end:]
 
 
-def damage_way(r, text):
+def damage_predecessor(r, text):
     """A `blockpc` whose number may be none of its block's predecessors, put after some line."""
     blocks = re.findall(r"(%[0-9A-Za-z_.]+) *= *block ([0-9]+)", text)
     if not blocks:
         return None
     name, count = r.choice(blocks)
-    way = r.choice((int(count), int(count) - 1, int(count) + 1, 0, 4294967295, 4294967296, -1))
+    predecessor = r.choice((int(count), int(count) - 1, int(count) + 1, 0, 4294967295, 4294967296, -1))
     lines = text.split("\n")
-    lines.insert(r.randrange(1, len(lines) + 1), f"blockpc {name} {way} 0 1")
+    lines.insert(r.randrange(1, len(lines) + 1), f"blockpc {name} {predecessor} 0 1")
     return "\n".join(lines)
 
 
@@ -344,7 +344,7 @@ def soup(r):
 DAMAGES = {
     "character": (damage_character, 6), "swap": (swap_characters, 1), "token": (damage_token, 6), "cut": (cut, 3),
     "number": (damage_number, 3), "type": (damage_type, 2), "name": (damage_name, 3), "line": (damage_line, 2),
-    "attribute": (damage_attribute, 2), "unicode": (put_unicode, 2), "way": (damage_way, 6),
+    "attribute": (damage_attribute, 2), "unicode": (put_unicode, 2), "predecessor": (damage_predecessor, 6),
 }
 
 
@@ -384,10 +384,10 @@ def bodies():
         yield f"%r:{spelling} = var"
         yield f"%r = freeze 1:{spelling}"
         yield f"%r : {spelling}=freeze 1 : {spelling}"
-    for ways in range(4):
+    for predecessors in range(4):
         for values in range(4):
-            yield f"%b = block {ways}\n%r = phi %b" + "".join(f", {i}" for i in range(values))
-            yield f"%b = block {ways}\nblockpc %b {values} %b 1\n%r = var"
+            yield f"%b = block {predecessors}\n%r = phi %b" + "".join(f", {i}" for i in range(values))
+            yield f"%b = block {predecessors}\nblockpc %b {values} %b 1\n%r = var"
     for name in NAMES + ["%", "%é", "x", "1", "%%", "%-1", "% x"]:
         yield f"{name} = var\n%r = freeze {name}"
         yield f"{name} = block 1\n%r = phi {name}, 1"
@@ -459,9 +459,9 @@ def long_forms(kind):
             yield "%r = var ;" + "x" * shift + "é日😀" * 15000 + f"\n{end}"
             yield "%r = var " + "x" * shift + "\u3000\u0085" * 25000 + f"\n{end}"
             yield "%r = var " + "\u3000\u0085" * 20 * shift + f"\n{end} é" + "日" * 30000
-        for blanks in (65520, 65525, 65526, 65527, 65528, 65529, 65535, 65536, 70000):
-            yield f"%r = var{' ' * blanks}]\n{end}"
-            yield f"%r = var{' ' * blanks}\n]\n{end}"
+        for spaces in (65520, 65525, 65526, 65527, 65528, 65529, 65535, 65536, 70000):
+            yield f"%r = var{' ' * spaces}]\n{end}"
+            yield f"%r = var{' ' * spaces}\n]\n{end}"
 
 
 def damaged(r, maker, kind):

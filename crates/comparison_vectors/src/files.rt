@@ -71,7 +71,7 @@ fn refusal_shows_the_path(rt: HostRuntime) -> Result<(), Fail> {
     Ok(())
 }
 
-// The error tells of a read that failed.
+// The error is that of a read that failed.
 fn is_fault(rt: &impl Abort, alloc: Global, error: &ParseError, path: &str) -> Result<(), Fail> {
     assert_eq!(rt; error.kind(), ParseErrorKind::Io, "for {path}");
     assert_eq!(rt; error.offset(), None, "for {path}");
@@ -81,7 +81,7 @@ fn is_fault(rt: &impl Abort, alloc: Global, error: &ParseError, path: &str) -> R
 }
 
 #[test]
-fn failed_read_is_told(rt: HostRuntime) -> Result<(), Fail> {
+fn failed_read_is_reported(rt: HostRuntime) -> Result<(), Fail> {
     fs::write(&rt, "no_text", b"\xff".as_slice())?;
     for path in ["absent", "no_text", "."] {
         let error = parse_left_hand_sides_file(&rt, rt.alloc(), path)
@@ -107,12 +107,12 @@ fn compares<R: Files + AllocGlobal + Abort>(
     want: u8,
 ) -> (Vec<u8>, Vec<u8>) {
     let mut written = Vec::new(rt.alloc());
-    let mut told = Vec::new(rt.alloc());
+    let mut reported = Vec::new(rt.alloc());
     let mut out = Watched::new(&mut written);
-    let mut err = Watched::new(&mut told);
+    let mut err = Watched::new(&mut reported);
     let status = same_run(rt, rt.alloc(), Kind::Lhs, first, second, &mut out, &mut err);
     assert_eq!(rt; status, want, "for {first} {second}");
-    (written, told)
+    (written, reported)
 }
 
 #[test]
@@ -124,44 +124,51 @@ fn files_are_compared(rt: HostRuntime) -> Result<(), Fail> {
         ("first", "third", "different\n"),
         ("variable", "renamed", "different\n"),
     ] {
-        let (written, told) = compares(&rt, (first, second), 0);
+        let (written, reported) = compares(&rt, (first, second), 0);
         assert_eq!(rt; written.as_slice(), want.as_bytes(), "for {first} {second}");
-        assert!(rt; told.is_empty(), "for {first} {second}");
+        assert!(rt; reported.is_empty(), "for {first} {second}");
     }
     Ok(())
 }
 
 #[test]
-fn refusal_of_a_compared_file_is_told(rt: HostRuntime) -> Result<(), Fail> {
+fn refusal_of_a_compared_file_is_reported(rt: HostRuntime) -> Result<(), Fail> {
     write_files(&rt)?;
     for (first, second) in [
         ("refused", "absent"),
         ("refused", "refused"),
         ("variable", "refused"),
     ] {
-        let (written, told) = compares(&rt, (first, second), 1);
+        let (written, reported) = compares(&rt, (first, second), 1);
         assert!(rt; written.is_empty(), "for {first} {second}");
         let want = format!(in rt.alloc(); "refused{REFUSAL}\n")?;
-        assert_eq!(rt; told.as_slice(), want.as_bytes(), "for {first} {second}");
+        assert_eq!(rt;
+            reported.as_slice(),
+            want.as_bytes(),
+            "for {first} {second}"
+        );
     }
     Ok(())
 }
 
 #[test]
-fn failed_read_of_a_compared_file_is_told(rt: HostRuntime) -> Result<(), Fail> {
+fn failed_read_of_a_compared_file_is_reported(rt: HostRuntime) -> Result<(), Fail> {
     write_files(&rt)?;
     for (first, second) in [
         ("absent", "variable"),
         ("variable", "absent"),
         ("variable", "."),
     ] {
-        let (written, told) = compares(&rt, (first, second), 3);
+        let (written, reported) = compares(&rt, (first, second), 3);
         assert!(rt; written.is_empty(), "for {first} {second}");
         assert!(rt;
-            told.as_slice().starts_with(b"IO error: "),
+            reported.as_slice().starts_with(b"IO error: "),
             "for {first} {second}"
         );
-        assert!(rt; told.as_slice().ends_with(b"\n"), "for {first} {second}");
+        assert!(rt;
+            reported.as_slice().ends_with(b"\n"),
+            "for {first} {second}"
+        );
     }
     Ok(())
 }

@@ -112,9 +112,9 @@ fn attributes_and_types_matter(rt: HostRuntime) -> Result<(), Fail> {
 fn empty_lists_are_same_within_a_kind(rt: HostRuntime) -> Result<(), Fail> {
     let lhs = read_items(rt.alloc(), Kind::Lhs, "", None)?;
     let rhs = read_items(rt.alloc(), Kind::Rhs, "", None)?;
-    let blank = read_items(rt.alloc(), Kind::Rhs, " \n", None)?;
+    let space = read_items(rt.alloc(), Kind::Rhs, " \n", None)?;
     assert!(rt; are_same(rt.alloc(), Kind::Rhs, "", "")?);
-    assert!(rt; same(rt.alloc(), &rhs, &blank)?);
+    assert!(rt; same(rt.alloc(), &rhs, &space)?);
     assert!(rt; !same(rt.alloc(), &lhs, &rhs)?);
     assert!(rt; !same(rt.alloc(), &rhs, &lhs)?);
     Ok(())

@@ -24,16 +24,16 @@ fn failed_write_is_a_fault(rt: HostRuntime) -> Result<(), Fail> {
     write_files(&rt)?;
     for (path, calls) in [("second", 4), ("third", 6)] {
         for after in 0..=calls {
-            let mut told = Vec::new(rt.alloc());
+            let mut reported = Vec::new(rt.alloc());
             let mut out = Watched::new(FaultyWriter::new(2, after));
-            let mut err = Watched::new(&mut told);
+            let mut err = Watched::new(&mut reported);
             let status = compare(&rt, ("first", path), &mut out, &mut err);
             let works = after == calls;
             assert_eq!(rt; status, if works { 0 } else { 3 }, "{path} after {after}");
             assert_eq!(rt; out.failed(), !works, "{path} after {after}");
-            assert_eq!(rt; told.is_empty(), works, "{path} after {after}");
-            let is_fault = told.as_slice().starts_with(b"IO error: ")
-                && told.as_slice().ends_with(b"\n");
+            assert_eq!(rt; reported.is_empty(), works, "{path} after {after}");
+            let is_fault = reported.as_slice().starts_with(b"IO error: ")
+                && reported.as_slice().ends_with(b"\n");
             assert_eq!(rt; is_fault, !works, "{path} after {after}");
         }
     }

@@ -176,7 +176,7 @@ fn conditioned_replacement(alloc: Global) -> Result<Replacement, Fail> {
 }
 
 #[test]
-fn conditions_on_ways_are_put(rt: HostRuntime) -> Result<(), Fail> {
+fn conditions_on_predecessors_are_appended(rt: HostRuntime) -> Result<(), Fail> {
     let text = conditioned(rt.alloc())?.to_text()?;
     assert_eq!(rt; text.as_str(), "%b = block 2\nblockpc %b 1 0 1\ninfer %b\n");
     let text = conditioned_replacement(rt.alloc())?.to_text()?;

@@ -129,7 +129,7 @@ fn phis_choose_among_their_block(rt: HostRuntime) -> Result<(), Fail> {
 }
 
 #[test]
-fn conditions_stand_before_the_infer_line(rt: HostRuntime) -> Result<(), Fail> {
+fn conditions_come_before_the_infer_line(rt: HostRuntime) -> Result<(), Fail> {
     let mut graph = Graph::new(rt.alloc());
     let x = graph.var("%x")?;
     let y = graph.var("%y")?;
@@ -142,7 +142,7 @@ fn conditions_stand_before_the_infer_line(rt: HostRuntime) -> Result<(), Fail> {
 }
 
 #[test]
-fn results_stand_behind_the_infer_line(rt: HostRuntime) -> Result<(), Fail> {
+fn results_come_after_the_infer_line(rt: HostRuntime) -> Result<(), Fail> {
     let mut graph = Graph::new(rt.alloc());
     let a = graph.var("%a")?;
     let b = graph.var("%b")?;
@@ -213,7 +213,10 @@ fn turned_conditions_stay_turned(rt: HostRuntime) -> Result<(), Fail> {
 }
 
 // A condition on a predecessor of a block with `predecessors` predecessors.
-fn on_a_way(alloc: Global, predecessors: u32) -> Result<(LeftHandSide, Id<Statement>), AllocError> {
+fn on_a_predecessor(
+    alloc: Global,
+    predecessors: u32,
+) -> Result<(LeftHandSide, Id<Statement>), AllocError> {
     let mut graph = Graph::new(alloc);
     let block = graph.block("%bb", predecessors)?;
     let x = graph.typed_var("%x", 8)?;
@@ -223,9 +226,9 @@ fn on_a_way(alloc: Global, predecessors: u32) -> Result<(LeftHandSide, Id<Statem
 }
 
 #[test]
-fn ways_into_a_block_are_counted(rt: HostRuntime) -> Result<(), Fail> {
+fn predecessors_of_a_block_are_counted(rt: HostRuntime) -> Result<(), Fail> {
     for (predecessors, well_formed) in [(2, false), (3, true)] {
-        let (mut item, condition) = on_a_way(rt.alloc(), predecessors)?;
+        let (mut item, condition) = on_a_predecessor(rt.alloc(), predecessors)?;
         assert!(rt; item.is_well_formed()?);
         assert_eq!(rt; counts(&item.print_order()?), (3, 3, 7));
         match item.statements.get_mut(condition) {
@@ -241,7 +244,7 @@ fn ways_into_a_block_are_counted(rt: HostRuntime) -> Result<(), Fail> {
 }
 
 #[test]
-fn blank_stands_before_each_operand_of_a_condition(rt: HostRuntime) -> Result<(), Fail> {
+fn space_comes_before_each_operand_of_a_condition(rt: HostRuntime) -> Result<(), Fail> {
     let mut graph = Graph::new(rt.alloc());
     let block = graph.block("%bb", 2)?;
     let x = graph.typed_var("%x", 8)?;
@@ -336,7 +339,7 @@ fn refused(
 }
 
 #[test]
-fn root_out_of_range_is_told(rt: HostRuntime) -> Result<(), Fail> {
+fn root_out_of_range_is_reported(rt: HostRuntime) -> Result<(), Fail> {
     let root = foreign_id(rt.alloc(), 2)?;
     let mut graph = Graph::new(rt.alloc());
     graph.var("%0")?;
@@ -345,7 +348,7 @@ fn root_out_of_range_is_told(rt: HostRuntime) -> Result<(), Fail> {
 }
 
 #[test]
-fn root_that_is_a_condition_is_told(rt: HostRuntime) -> Result<(), Fail> {
+fn root_that_is_a_condition_is_reported(rt: HostRuntime) -> Result<(), Fail> {
     let root = foreign_id(rt.alloc(), 1)?;
     let mut graph = Graph::new(rt.alloc());
     let x = graph.var("%0")?;
@@ -360,7 +363,7 @@ fn root_that_is_a_condition_is_told(rt: HostRuntime) -> Result<(), Fail> {
 }
 
 #[test]
-fn phi_over_no_block_is_told(rt: HostRuntime) -> Result<(), Fail> {
+fn phi_over_no_block_is_reported(rt: HostRuntime) -> Result<(), Fail> {
     let first = foreign_id(rt.alloc(), 0)?;
     let mut graph = Graph::new(rt.alloc());
     graph.var("%0")?;
@@ -370,7 +373,7 @@ fn phi_over_no_block_is_told(rt: HostRuntime) -> Result<(), Fail> {
 }
 
 #[test]
-fn condition_over_a_bad_id_is_told(rt: HostRuntime) -> Result<(), Fail> {
+fn condition_over_a_bad_id_is_reported(rt: HostRuntime) -> Result<(), Fail> {
     let foreign = foreign_id(rt.alloc(), 9)?;
     let mut graph = Graph::new(rt.alloc());
     let x = graph.var("%0")?;
@@ -385,7 +388,7 @@ fn condition_over_a_bad_id_is_told(rt: HostRuntime) -> Result<(), Fail> {
 }
 
 #[test]
-fn one_of_two_bad_ids_is_told(rt: HostRuntime) -> Result<(), Fail> {
+fn one_of_two_bad_ids_is_reported(rt: HostRuntime) -> Result<(), Fail> {
     let foreign = foreign_id(rt.alloc(), 9)?;
     let root = foreign_id(rt.alloc(), 1)?;
     let mut graph = Graph::new(rt.alloc());

@@ -1,9 +1,9 @@
 //! Files that are read, and files that are compared. The writers are arrays, which do not allocate.
-use crate::met::{Met, answered, strictly};
+use crate::met::{Met, completed, strictly};
 use crate::runs::holds;
 use crate::texts::{
-    ATTRIBUTES, TWO_ITEMS, are_attributes, are_two_items, is_refusal, right_hand_side_text, shown,
-    wants_memory,
+    ATTRIBUTES, TWO_ITEMS, are_attributes, are_two_items, is_out_of_memory, is_refusal,
+    right_hand_side_text, shown,
 };
 use souper_format::command::Kind;
 use souper_format::same_run::same_run;
@@ -21,7 +21,7 @@ use std::test::Fail;
 // The error is out of memory, or that of a read that failed.
 fn is_for_memory(rt: &impl Abort, alloc: Global, error: &ParseError) -> Result<Met, Fail> {
     if error.kind() != ParseErrorKind::Io {
-        return wants_memory(rt, alloc, error);
+        return is_out_of_memory(rt, alloc, error);
     }
     assert!(rt; error.offset().is_none());
     let text = shown(alloc, error)?;
@@ -41,7 +41,7 @@ fn attributes<R: Files + AllocGlobal + Abort>(rt: &R, alloc: Global) -> Result<M
 }
 
 #[test]
-fn reading_left_hand_sides_answers(rt: HostRuntime) -> Result<(), Fail> {
+fn reading_left_hand_sides_completes(rt: HostRuntime) -> Result<(), Fail> {
     strictly(attributes(&rt, rt.alloc())?)
 }
 
@@ -58,7 +58,7 @@ fn results<R: Files + AllocGlobal + Abort>(rt: &R, alloc: Global) -> Result<Met,
     };
     match parse_right_hand_sides_file(rt, alloc, "results") {
         Ok(items) => {
-            let met = answered(alloc);
+            let met = completed(alloc);
             assert_eq!(rt; items.len(), 2);
             for (item, want) in items.iter().zip(&["result 1", "result 2"]) {
                 let text = right_hand_side_text(item)?;
@@ -71,7 +71,7 @@ fn results<R: Files + AllocGlobal + Abort>(rt: &R, alloc: Global) -> Result<Met,
 }
 
 #[test]
-fn reading_right_hand_sides_answers(rt: HostRuntime) -> Result<(), Fail> {
+fn reading_right_hand_sides_completes(rt: HostRuntime) -> Result<(), Fail> {
     strictly(results(&rt, rt.alloc())?)
 }
 
@@ -93,7 +93,7 @@ fn two_items<R: Files + AllocGlobal + Abort>(rt: &R, alloc: Global) -> Result<Me
 }
 
 #[test]
-fn reading_replacements_answers(rt: HostRuntime) -> Result<(), Fail> {
+fn reading_replacements_completes(rt: HostRuntime) -> Result<(), Fail> {
     strictly(two_items(&rt, rt.alloc())?)
 }
 
@@ -124,7 +124,7 @@ fn refusal<R: Files + AllocGlobal + Abort>(rt: &R, alloc: Global) -> Result<Met,
 }
 
 #[test]
-fn refusing_a_file_answers(rt: HostRuntime) -> Result<(), Fail> {
+fn refusing_a_file_completes(rt: HostRuntime) -> Result<(), Fail> {
     strictly(refusal(&rt, rt.alloc())?)
 }
 
@@ -148,22 +148,24 @@ fn compare<R: Files + AllocGlobal + Abort>(
     line: &[u8],
 ) -> Result<Met, Fail> {
     let mut written = [0u8; 100];
-    let mut told = [0u8; 100];
+    let mut reported = [0u8; 100];
     let mut out = Watched::new(written.as_mut_slice());
-    let mut err = Watched::new(told.as_mut_slice());
+    let mut err = Watched::new(reported.as_mut_slice());
     let status = same_run(rt, alloc, Kind::Lhs, first, second, &mut out, &mut err);
     let met = if status == want {
-        answered(alloc)
+        completed(alloc)
     } else {
         Met::Refused
     };
     assert!(rt; !out.failed() && !err.failed());
     if status == want {
-        assert!(rt; holds(&written, output) && holds(&told, line));
+        assert!(rt; holds(&written, output) && holds(&reported, line));
     } else {
         assert_eq!(rt; status, 3);
         assert!(rt; holds(&written, b""));
-        assert!(rt; holds(&told, b"out of memory\n") || told.as_slice().starts_with(b"IO error: "));
+        assert!(rt;
+            holds(&reported, b"out of memory\n") || reported.as_slice().starts_with(b"IO error: ")
+        );
     }
     Ok(met)
 }
@@ -180,7 +182,7 @@ fn comparison<R: Files + AllocGlobal + Abort>(rt: &R, alloc: Global) -> Result<M
 }
 
 #[test]
-fn comparing_files_answers(rt: HostRuntime) -> Result<(), Fail> {
+fn comparing_files_completes(rt: HostRuntime) -> Result<(), Fail> {
     strictly(comparison(&rt, rt.alloc())?)
 }
 
@@ -202,12 +204,12 @@ fn refused_comparison<R: Files + AllocGlobal + Abort>(rt: &R, alloc: Global) -> 
 }
 
 #[test]
-fn telling_a_refused_file_answers(rt: HostRuntime) -> Result<(), Fail> {
+fn reporting_a_refused_file_completes(rt: HostRuntime) -> Result<(), Fail> {
     strictly(refused_comparison(&rt, rt.alloc())?)
 }
 
 #[test]
-fn telling_a_refused_file(rt: HostRuntime) -> Result<(), Fail> {
+fn reporting_a_refused_file(rt: HostRuntime) -> Result<(), Fail> {
     refused_comparison(&rt, rt.alloc())?;
     Ok(())
 }

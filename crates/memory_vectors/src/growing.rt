@@ -2,7 +2,7 @@
 ghost use Rattle.std.specs.Prelude.{IfOk};
 ghost use Rattle.souper_graph.specs.Building.{BeginsWithPercent};
 
-use crate::met::{Met, answered, strictly};
+use crate::met::{Met, completed, strictly};
 use souper_ir::ast::{Arena, Constant, Operand, Pc, Statement};
 use souper_ir::stringify::{DisplayWithContext, TextError};
 use std::alloc::{AllocError, Global};
@@ -27,7 +27,7 @@ pub fn name(alloc: Global, text: &str) -> Result<Option<String>, AllocError>
 /// What became of a call that grew the list, or did not.
 pub fn met(alloc: Global, has_grown: bool) -> Met {
     if has_grown {
-        answered(alloc)
+        completed(alloc)
     } else {
         Met::Refused
     }
@@ -75,7 +75,7 @@ fn arena(rt: &impl Abort, alloc: Global) -> Result<Met, Fail> {
 }
 
 #[test]
-fn growing_an_arena_answers(rt: HostRuntime) -> Result<(), Fail> {
+fn growing_an_arena_completes(rt: HostRuntime) -> Result<(), Fail> {
     strictly(arena(&rt, rt.alloc())?)
 }
 

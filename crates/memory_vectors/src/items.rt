@@ -1,5 +1,5 @@
 //! Items that were read: their texts, orders and copies, and whether they are the same.
-use crate::met::{Met, answered, strictly};
+use crate::met::{Met, completed, strictly};
 use crate::texts::{
     ATTRIBUTES, ATTRIBUTES_TEXT, TWO_ITEMS, TWO_TEXTS, left_hand_side_text, replacement_text,
 };
@@ -38,11 +38,11 @@ fn texts(rt: &impl Abort, alloc: Global) -> Result<Met, Fail> {
             }
         }
     }
-    Ok(answered(alloc))
+    Ok(completed(alloc))
 }
 
 #[test]
-fn writing_texts_answers(rt: HostRuntime) -> Result<(), Fail> {
+fn writing_texts_completes(rt: HostRuntime) -> Result<(), Fail> {
     strictly(texts(&rt, rt.alloc())?)
 }
 
@@ -72,11 +72,11 @@ fn appended(rt: &impl Abort, alloc: Global) -> Result<Met, Fail> {
             return Ok(Met::Refused);
         }
     }
-    Ok(answered(alloc))
+    Ok(completed(alloc))
 }
 
 #[test]
-fn appending_a_text_answers(rt: HostRuntime) -> Result<(), Fail> {
+fn appending_a_text_completes(rt: HostRuntime) -> Result<(), Fail> {
     strictly(appended(&rt, rt.alloc())?)
 }
 
@@ -107,11 +107,11 @@ fn orders(rt: &impl Abort, alloc: Global) -> Result<Met, Fail> {
             }
         }
     }
-    Ok(answered(alloc))
+    Ok(completed(alloc))
 }
 
 #[test]
-fn ordering_answers(rt: HostRuntime) -> Result<(), Fail> {
+fn ordering_completes(rt: HostRuntime) -> Result<(), Fail> {
     strictly(orders(&rt, rt.alloc())?)
 }
 
@@ -133,11 +133,11 @@ fn judgements(rt: &impl Abort, alloc: Global) -> Result<Met, Fail> {
             Err(_) => return Ok(Met::Refused),
         }
     }
-    Ok(answered(alloc))
+    Ok(completed(alloc))
 }
 
 #[test]
-fn judging_answers(rt: HostRuntime) -> Result<(), Fail> {
+fn judging_completes(rt: HostRuntime) -> Result<(), Fail> {
     strictly(judgements(&rt, rt.alloc())?)
 }
 
@@ -158,7 +158,7 @@ fn copies(rt: &impl Abort, alloc: Global) -> Result<Met, Fail> {
     let (Ok(first), Ok(second)) = (first.clone(), second.clone()) else {
         return Ok(Met::Refused);
     };
-    let met = answered(alloc);
+    let met = completed(alloc);
     for (item, want) in [first, second].iter().zip(&TWO_TEXTS) {
         let text = replacement_text(item)?;
         assert_eq!(rt; text.as_str(), *want);
@@ -167,7 +167,7 @@ fn copies(rt: &impl Abort, alloc: Global) -> Result<Met, Fail> {
 }
 
 #[test]
-fn copying_answers(rt: HostRuntime) -> Result<(), Fail> {
+fn copying_completes(rt: HostRuntime) -> Result<(), Fail> {
     strictly(copies(&rt, rt.alloc())?)
 }
 
@@ -185,7 +185,7 @@ fn attributes_text(rt: &impl Abort, alloc: Global) -> Result<Met, Fail> {
     match items.first().ok_or("no item")?.to_text() {
         Ok(text) => {
             assert_eq!(rt; text.as_str(), ATTRIBUTES_TEXT);
-            Ok(answered(alloc))
+            Ok(completed(alloc))
         }
         Err(error) => {
             assert!(rt; error == TextError::OutOfMemory);
@@ -195,7 +195,7 @@ fn attributes_text(rt: &impl Abort, alloc: Global) -> Result<Met, Fail> {
 }
 
 #[test]
-fn writing_attributes_answers(rt: HostRuntime) -> Result<(), Fail> {
+fn writing_attributes_completes(rt: HostRuntime) -> Result<(), Fail> {
     strictly(attributes_text(&rt, rt.alloc())?)
 }
 
@@ -213,14 +213,14 @@ fn attributes_copy(rt: &impl Abort, alloc: Global) -> Result<Met, Fail> {
     let Ok(copy) = items.first().ok_or("no item")?.clone() else {
         return Ok(Met::Refused);
     };
-    let met = answered(alloc);
+    let met = completed(alloc);
     let text = left_hand_side_text(&copy)?;
     assert_eq!(rt; text.as_str(), ATTRIBUTES_TEXT);
     Ok(met)
 }
 
 #[test]
-fn copying_attributes_answers(rt: HostRuntime) -> Result<(), Fail> {
+fn copying_attributes_completes(rt: HostRuntime) -> Result<(), Fail> {
     strictly(attributes_copy(&rt, rt.alloc())?)
 }
 
@@ -250,7 +250,7 @@ fn lines(rt: &impl Abort, alloc: Global, index: usize, wants: &[&str; 4]) -> Res
             }
         }
     }
-    Ok(answered(alloc))
+    Ok(completed(alloc))
 }
 
 // The first item, which has a type, an instruction and a condition.
@@ -265,7 +265,7 @@ fn first_lines(rt: &impl Abort, alloc: Global) -> Result<Met, Fail> {
 }
 
 #[test]
-fn writing_lines_answers(rt: HostRuntime) -> Result<(), Fail> {
+fn writing_lines_completes(rt: HostRuntime) -> Result<(), Fail> {
     strictly(first_lines(&rt, rt.alloc())?)
 }
 
@@ -287,7 +287,7 @@ fn second_lines(rt: &impl Abort, alloc: Global) -> Result<Met, Fail> {
 }
 
 #[test]
-fn writing_lines_of_phis_answers(rt: HostRuntime) -> Result<(), Fail> {
+fn writing_lines_of_phis_completes(rt: HostRuntime) -> Result<(), Fail> {
     strictly(second_lines(&rt, rt.alloc())?)
 }
 
@@ -310,14 +310,14 @@ fn comparison(rt: &impl Abort, alloc: Global) -> Result<Met, Fail> {
     match same(alloc, &a, &b) {
         Ok(answer) => {
             assert!(rt; answer);
-            Ok(answered(alloc))
+            Ok(completed(alloc))
         }
         Err(_) => Ok(Met::Refused),
     }
 }
 
 #[test]
-fn comparing_answers(rt: HostRuntime) -> Result<(), Fail> {
+fn comparing_completes(rt: HostRuntime) -> Result<(), Fail> {
     strictly(comparison(&rt, rt.alloc())?)
 }
 

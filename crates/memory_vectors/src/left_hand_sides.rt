@@ -14,7 +14,7 @@ use std::test::Fail;
 // A builder of a block with two predecessors and three conditions.
 fn filled(alloc: Global) -> Result<(LeftHandSideBuilder, BlockId), AllocError>
     ensures block { IfOk result (λ filled. IsBlock (slice_get (map view_statement filled.0) filled.1)) }
-    ensures ways { IfOk result (λ filled. 1 < predecessors_at (map view_statement filled.0) filled.1) }
+    ensures predecessors { IfOk result (λ filled. 1 < predecessors_at (map view_statement filled.0) filled.1) }
 {
     let mut builder = LeftHandSideBuilder::new(alloc);
     let block = builder.block(None, 2)?;
@@ -57,7 +57,7 @@ fn named_assignment(rt: &impl Abort, alloc: Global) -> Result<Met, Fail> {
 }
 
 #[test]
-fn putting_a_named_assignment_answers(rt: HostRuntime) -> Result<(), Fail> {
+fn putting_a_named_assignment_completes(rt: HostRuntime) -> Result<(), Fail> {
     strictly(named_assignment(&rt, rt.alloc())?)
 }
 
@@ -84,7 +84,7 @@ fn unnamed_assignment(rt: &impl Abort, alloc: Global) -> Result<Met, Fail> {
 }
 
 #[test]
-fn putting_an_unnamed_assignment_answers(rt: HostRuntime) -> Result<(), Fail> {
+fn putting_an_unnamed_assignment_completes(rt: HostRuntime) -> Result<(), Fail> {
     strictly(unnamed_assignment(&rt, rt.alloc())?)
 }
 
@@ -109,7 +109,7 @@ fn named_block(rt: &impl Abort, alloc: Global) -> Result<Met, Fail> {
 }
 
 #[test]
-fn putting_a_named_block_answers(rt: HostRuntime) -> Result<(), Fail> {
+fn putting_a_named_block_completes(rt: HostRuntime) -> Result<(), Fail> {
     strictly(named_block(&rt, rt.alloc())?)
 }
 
@@ -131,7 +131,7 @@ fn unnamed_block(rt: &impl Abort, alloc: Global) -> Result<Met, Fail> {
 }
 
 #[test]
-fn putting_an_unnamed_block_answers(rt: HostRuntime) -> Result<(), Fail> {
+fn putting_an_unnamed_block_completes(rt: HostRuntime) -> Result<(), Fail> {
     strictly(unnamed_block(&rt, rt.alloc())?)
 }
 
@@ -153,7 +153,7 @@ fn condition(rt: &impl Abort, alloc: Global) -> Result<Met, Fail> {
 }
 
 #[test]
-fn putting_a_condition_answers(rt: HostRuntime) -> Result<(), Fail> {
+fn putting_a_condition_completes(rt: HostRuntime) -> Result<(), Fail> {
     strictly(condition(&rt, rt.alloc())?)
 }
 
@@ -164,7 +164,7 @@ fn putting_a_condition(rt: HostRuntime) -> Result<(), Fail> {
 }
 
 // Appends a condition on a predecessor.
-fn condition_on_a_way(rt: &impl Abort, alloc: Global) -> Result<Met, Fail> {
+fn condition_on_a_predecessor(rt: &impl Abort, alloc: Global) -> Result<Met, Fail> {
     let Ok((mut builder, block)) = filled(alloc) else {
         return Ok(Met::Unreached);
     };
@@ -178,12 +178,12 @@ fn condition_on_a_way(rt: &impl Abort, alloc: Global) -> Result<Met, Fail> {
 }
 
 #[test]
-fn putting_a_condition_on_a_way_answers(rt: HostRuntime) -> Result<(), Fail> {
-    strictly(condition_on_a_way(&rt, rt.alloc())?)
+fn putting_a_condition_on_a_predecessor_completes(rt: HostRuntime) -> Result<(), Fail> {
+    strictly(condition_on_a_predecessor(&rt, rt.alloc())?)
 }
 
 #[test]
-fn putting_a_condition_on_a_way(rt: HostRuntime) -> Result<(), Fail> {
-    condition_on_a_way(&rt, rt.alloc())?;
+fn putting_a_condition_on_a_predecessor(rt: HostRuntime) -> Result<(), Fail> {
+    condition_on_a_predecessor(&rt, rt.alloc())?;
     Ok(())
 }

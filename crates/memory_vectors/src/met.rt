@@ -10,15 +10,15 @@ pub enum Met {
     /// The call returned out of memory.
     Refused,
     /// The call returned its result with ample memory.
-    Answered,
+    Completed,
     /// The same, and the allocation that fails is the next one after the call's.
     NoneRefused,
 }
 
 /// The call just returned its result with ample memory.
-pub fn answered(alloc: Global) -> Met {
+pub fn completed(alloc: Global) -> Met {
     match Vec::from_slice(alloc, b"next") {
-        Ok(_) => Met::Answered,
+        Ok(_) => Met::Completed,
         Err(_) => Met::NoneRefused,
     }
 }
@@ -26,7 +26,7 @@ pub fn answered(alloc: Global) -> Met {
 /// Passes only for the result with ample memory, and reports to the script why not.
 pub fn strictly(met: Met) -> Result<(), Fail> {
     match met {
-        Met::Answered => Ok(()),
+        Met::Completed => Ok(()),
         Met::Unreached => Err(Fail::new("call not reached")),
         Met::Refused => Err(Fail::new("call refused memory")),
         Met::NoneRefused => Err(Fail::new("call refused nothing")),

@@ -1,8 +1,8 @@
 //! Parsers that are used directly.
-use crate::met::{Met, answered, strictly};
+use crate::met::{Met, completed, strictly};
 use crate::texts::{
-    ATTRIBUTES, ATTRIBUTES_TEXT, TWO_ITEMS, TWO_TEXTS, left_hand_side_text, replacement_text,
-    shown, wants_memory,
+    ATTRIBUTES, ATTRIBUTES_TEXT, TWO_ITEMS, TWO_TEXTS, is_out_of_memory, left_hand_side_text,
+    replacement_text, shown,
 };
 use souper_ir::ast::{Assignment, LeftHandSide, Replacement, Statement};
 use souper_ir::parse::{Parse, ParseError, ParseErrorKind, Parser, Peek};
@@ -13,13 +13,13 @@ use std::test::Fail;
 // The parser returns out of memory from every call.
 fn stays_failed(rt: &impl Abort, alloc: Global, parser: &mut Parser<'_>) -> Result<(), Fail> {
     let error = LeftHandSide::parse(parser).err().ok_or("an item")?;
-    wants_memory(rt, alloc, &error)?;
+    is_out_of_memory(rt, alloc, &error)?;
     let error = Statement::peek(parser).err().ok_or("a peek")?;
-    wants_memory(rt, alloc, &error)?;
+    is_out_of_memory(rt, alloc, &error)?;
     let error = <Vec<Assignment>>::parse(parser).err().ok_or("a list")?;
-    wants_memory(rt, alloc, &error)?;
+    is_out_of_memory(rt, alloc, &error)?;
     let error = Replacement::parse(parser).err().ok_or("an item")?;
-    wants_memory(rt, alloc, &error)?;
+    is_out_of_memory(rt, alloc, &error)?;
     Ok(())
 }
 
@@ -29,14 +29,14 @@ fn two_items(rt: &impl Abort, alloc: Global) -> Result<Met, Fail> {
     let first = Replacement::parse(&mut parser);
     let second = Replacement::parse(&mut parser);
     let met = match (&first, &second) {
-        (Ok(_), Ok(_)) => answered(alloc),
+        (Ok(_), Ok(_)) => completed(alloc),
         _ => Met::Refused,
     };
     if let Err(error) = &first {
-        wants_memory(rt, alloc, error)?;
+        is_out_of_memory(rt, alloc, error)?;
     }
     if let Err(error) = &second {
-        wants_memory(rt, alloc, error)?;
+        is_out_of_memory(rt, alloc, error)?;
         stays_failed(rt, alloc, &mut parser)?;
     }
     assert!(rt; first.is_ok() || second.is_err());
@@ -50,7 +50,7 @@ fn two_items(rt: &impl Abort, alloc: Global) -> Result<Met, Fail> {
 }
 
 #[test]
-fn taking_two_items_answers(rt: HostRuntime) -> Result<(), Fail> {
+fn taking_two_items_completes(rt: HostRuntime) -> Result<(), Fail> {
     strictly(two_items(&rt, rt.alloc())?)
 }
 
@@ -65,13 +65,13 @@ fn attributes(rt: &impl Abort, alloc: Global) -> Result<Met, Fail> {
     let mut parser = Parser::new(alloc, ATTRIBUTES);
     match LeftHandSide::parse(&mut parser) {
         Ok(item) => {
-            let met = answered(alloc);
+            let met = completed(alloc);
             let text = left_hand_side_text(&item)?;
             assert_eq!(rt; text.as_str(), ATTRIBUTES_TEXT);
             Ok(met)
         }
         Err(error) => {
-            wants_memory(rt, alloc, &error)?;
+            is_out_of_memory(rt, alloc, &error)?;
             stays_failed(rt, alloc, &mut parser)?;
             Ok(Met::Refused)
         }
@@ -79,7 +79,7 @@ fn attributes(rt: &impl Abort, alloc: Global) -> Result<Met, Fail> {
 }
 
 #[test]
-fn taking_attributes_answers(rt: HostRuntime) -> Result<(), Fail> {
+fn taking_attributes_completes(rt: HostRuntime) -> Result<(), Fail> {
     strictly(attributes(&rt, rt.alloc())?)
 }
 
@@ -92,7 +92,7 @@ fn taking_attributes(rt: HostRuntime) -> Result<(), Fail> {
 // The error is a refusal at offset 6 with the message, or out of memory. Whether it is the refusal.
 fn refuses(rt: &impl Abort, alloc: Global, error: &ParseError, want: &str) -> Result<bool, Fail> {
     if error.kind() != ParseErrorKind::Parse {
-        wants_memory(rt, alloc, error)?;
+        is_out_of_memory(rt, alloc, error)?;
         return Ok(false);
     }
     assert!(rt; error.offset() == Some(6));
@@ -107,7 +107,7 @@ fn unknown_name(rt: &impl Abort, alloc: Global) -> Result<Met, Fail> {
     let first = LeftHandSide::parse(&mut parser).err().ok_or("an item")?;
     let again = LeftHandSide::parse(&mut parser).err().ok_or("an item")?;
     let met = match (first.kind(), again.kind()) {
-        (ParseErrorKind::Parse, ParseErrorKind::Parse) => answered(alloc),
+        (ParseErrorKind::Parse, ParseErrorKind::Parse) => completed(alloc),
         _ => Met::Refused,
     };
     let want = "unknown:1:1: no value named '%x' in scope\n     |\n   1 | byte offset 6\n     | ^";
@@ -122,7 +122,7 @@ fn unknown_name(rt: &impl Abort, alloc: Global) -> Result<Met, Fail> {
 }
 
 #[test]
-fn refusing_an_unknown_name_answers(rt: HostRuntime) -> Result<(), Fail> {
+fn refusing_an_unknown_name_completes(rt: HostRuntime) -> Result<(), Fail> {
     strictly(unknown_name(&rt, rt.alloc())?)
 }
 

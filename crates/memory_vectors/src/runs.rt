@@ -1,5 +1,5 @@
 //! Runs of the formatter. The writers are arrays, which do not allocate.
-use crate::met::{Met, answered, strictly};
+use crate::met::{Met, completed, strictly};
 use souper_format::command::Kind;
 use souper_format::run::format_run;
 use souper_format::watched::Watched;
@@ -25,22 +25,22 @@ fn run(
     line: &[u8],
 ) -> Result<Met, Fail> {
     let mut written = [0u8; 100];
-    let mut told = [0u8; 100];
+    let mut reported = [0u8; 100];
     let mut input = Watched::new(source);
     let mut out = Watched::new(written.as_mut_slice());
-    let mut err = Watched::new(told.as_mut_slice());
+    let mut err = Watched::new(reported.as_mut_slice());
     let status = format_run(alloc, Kind::Lhs, &mut input, &mut out, &mut err);
     let met = if status == want {
-        answered(alloc)
+        completed(alloc)
     } else {
         Met::Refused
     };
     assert!(rt; !input.failed() && !out.failed() && !err.failed());
     if status == want {
-        assert!(rt; holds(&written, output) && holds(&told, line));
+        assert!(rt; holds(&written, output) && holds(&reported, line));
     } else {
         assert_eq!(rt; status, 3);
-        assert!(rt; holds(&written, b"") && holds(&told, b"out of memory\n"));
+        assert!(rt; holds(&written, b"") && holds(&reported, b"out of memory\n"));
     }
     Ok(met)
 }
@@ -52,7 +52,7 @@ fn item(rt: &impl Abort, alloc: Global) -> Result<Met, Fail> {
 }
 
 #[test]
-fn formatting_answers(rt: HostRuntime) -> Result<(), Fail> {
+fn formatting_completes(rt: HostRuntime) -> Result<(), Fail> {
     strictly(item(&rt, rt.alloc())?)
 }
 
@@ -70,12 +70,12 @@ fn refusal(rt: &impl Abort, alloc: Global) -> Result<Met, Fail> {
 }
 
 #[test]
-fn telling_a_refusal_answers(rt: HostRuntime) -> Result<(), Fail> {
+fn reporting_a_refusal_completes(rt: HostRuntime) -> Result<(), Fail> {
     strictly(refusal(&rt, rt.alloc())?)
 }
 
 #[test]
-fn telling_a_refusal(rt: HostRuntime) -> Result<(), Fail> {
+fn reporting_a_refusal(rt: HostRuntime) -> Result<(), Fail> {
     refusal(&rt, rt.alloc())?;
     Ok(())
 }

@@ -1,5 +1,5 @@
 //! Texts that are read.
-use crate::met::{Met, answered, strictly};
+use crate::met::{Met, completed, strictly};
 use souper_ir::ast::{LeftHandSide, Replacement, RightHandSide};
 use souper_ir::parse::{
     ParseError, ParseErrorKind, parse_left_hand_sides_str, parse_replacements_str,
@@ -35,7 +35,7 @@ pub fn replacement_text(item: &Replacement) -> Result<String, TextError> {
     }
 }
 
-/// The left-hand side's text, in the same way.
+/// The left-hand side's text, likewise.
 pub fn left_hand_side_text(item: &LeftHandSide) -> Result<String, TextError> {
     match item.to_text() {
         Err(TextError::OutOfMemory) => item.to_text(),
@@ -43,7 +43,7 @@ pub fn left_hand_side_text(item: &LeftHandSide) -> Result<String, TextError> {
     }
 }
 
-/// The right-hand side's text, in the same way.
+/// The right-hand side's text, likewise.
 pub fn right_hand_side_text(item: &RightHandSide) -> Result<String, TextError> {
     match item.to_text() {
         Err(TextError::OutOfMemory) => item.to_text(),
@@ -51,7 +51,7 @@ pub fn right_hand_side_text(item: &RightHandSide) -> Result<String, TextError> {
     }
 }
 
-/// The text that the error shows, in the same way.
+/// The text that the error shows, likewise.
 pub fn shown(alloc: Global, error: &ParseError) -> Result<String, Fail> {
     match error.to_string(alloc) {
         Ok(text) => Ok(text),
@@ -60,7 +60,7 @@ pub fn shown(alloc: Global, error: &ParseError) -> Result<String, Fail> {
 }
 
 /// The error is out of memory.
-pub fn wants_memory(rt: &impl Abort, alloc: Global, error: &ParseError) -> Result<Met, Fail> {
+pub fn is_out_of_memory(rt: &impl Abort, alloc: Global, error: &ParseError) -> Result<Met, Fail> {
     assert!(rt; error.kind() == ParseErrorKind::Memory);
     assert!(rt; error.offset().is_none());
     let text = shown(alloc, error)?;
@@ -70,7 +70,7 @@ pub fn wants_memory(rt: &impl Abort, alloc: Global, error: &ParseError) -> Resul
 
 /// A call just returned the two items.
 pub fn are_two_items(rt: &impl Abort, alloc: Global, items: &[Replacement]) -> Result<Met, Fail> {
-    let met = answered(alloc);
+    let met = completed(alloc);
     assert_eq!(rt; items.len(), 2);
     for (item, want) in items.iter().zip(&TWO_TEXTS) {
         let text = replacement_text(item)?;
@@ -81,7 +81,7 @@ pub fn are_two_items(rt: &impl Abort, alloc: Global, items: &[Replacement]) -> R
 
 /// A call just returned the item with attributes.
 pub fn are_attributes(rt: &impl Abort, alloc: Global, items: &[LeftHandSide]) -> Result<Met, Fail> {
-    let met = answered(alloc);
+    let met = completed(alloc);
     assert_eq!(rt; items.len(), 1);
     for item in items.iter() {
         let text = left_hand_side_text(item)?;
@@ -98,7 +98,7 @@ pub fn is_refusal(
     offset: usize,
     want: &str,
 ) -> Result<Met, Fail> {
-    let met = answered(alloc);
+    let met = completed(alloc);
     assert!(rt; error.offset() == Some(offset));
     let text = shown(alloc, error)?;
     assert_eq!(rt; text.as_str(), want);
@@ -109,12 +109,12 @@ pub fn is_refusal(
 fn two_items(rt: &impl Abort, alloc: Global) -> Result<Met, Fail> {
     match parse_replacements_str(alloc, TWO_ITEMS, None) {
         Ok(items) => are_two_items(rt, alloc, items.as_slice()),
-        Err(error) => wants_memory(rt, alloc, &error),
+        Err(error) => is_out_of_memory(rt, alloc, &error),
     }
 }
 
 #[test]
-fn reading_two_items_answers(rt: HostRuntime) -> Result<(), Fail> {
+fn reading_two_items_completes(rt: HostRuntime) -> Result<(), Fail> {
     strictly(two_items(&rt, rt.alloc())?)
 }
 
@@ -128,12 +128,12 @@ fn reading_two_items(rt: HostRuntime) -> Result<(), Fail> {
 fn attributes(rt: &impl Abort, alloc: Global) -> Result<Met, Fail> {
     match parse_left_hand_sides_str(alloc, ATTRIBUTES, None) {
         Ok(items) => are_attributes(rt, alloc, items.as_slice()),
-        Err(error) => wants_memory(rt, alloc, &error),
+        Err(error) => is_out_of_memory(rt, alloc, &error),
     }
 }
 
 #[test]
-fn reading_attributes_answers(rt: HostRuntime) -> Result<(), Fail> {
+fn reading_attributes_completes(rt: HostRuntime) -> Result<(), Fail> {
     strictly(attributes(&rt, rt.alloc())?)
 }
 
@@ -150,14 +150,14 @@ fn name_twice(rt: &impl Abort, alloc: Global) -> Result<Met, Fail> {
         return Err(Fail::new("a name is defined twice"));
     };
     if error.kind() != ParseErrorKind::Parse {
-        return wants_memory(rt, alloc, &error);
+        return is_out_of_memory(rt, alloc, &error);
     }
     let want = "unknown:1:9: cannot redefine '%x'\n     |\n   1 | %x = var\n     |         ^";
     is_refusal(rt, alloc, &error, 9, want)
 }
 
 #[test]
-fn refusing_a_name_twice_answers(rt: HostRuntime) -> Result<(), Fail> {
+fn refusing_a_name_twice_completes(rt: HostRuntime) -> Result<(), Fail> {
     strictly(name_twice(&rt, rt.alloc())?)
 }
 

@@ -34,9 +34,9 @@ pair_alone s v w a b c d e m n f g =
     let h = both_alone (λ s. constant_spells) constant_continues (λ s. constant_spells) constant_continues pair_continues (λ (p : Pair). p.first) (λ (p : Pair). p.second) (λ p t h. h) over constant_alone constant_alone s v w a b c d e m n f g in
     (h.0, same_pair v w h.1 h.2)
 
-front_starts : (starts : Lexeme → Bool) (a b ts : List Lexeme) → ts ≡ a ++ b → Starts starts a → Starts starts ts
-front_starts starts [] b ts e h = absurd h
-front_starts starts (t ∷ a) b ts e h = subst (λ (x : List Lexeme). Starts starts x) (sym e) h
+prefix_starts : (starts : Lexeme → Bool) (a b ts : List Lexeme) → ts ≡ a ++ b → Starts starts a → Starts starts ts
+prefix_starts starts [] b ts e h = absurd h
+prefix_starts starts (t ∷ a) b ts e h = subst (λ (x : List Lexeme). Starts starts x) (sym e) h
 
 pub pair_first : (s : Scope) (p : Pair) (ts : List Lexeme) → pair_spells s p ts → Starts is_int ts
-pair_first s p ts h = front_starts is_int h.prefix h.suffix ts h.whole (constant_first s p.first h.prefix h.first)
+pair_first s p ts h = prefix_starts is_int h.prefix h.suffix ts h.whole (constant_first s p.first h.prefix h.first)

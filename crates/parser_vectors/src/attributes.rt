@@ -1,5 +1,5 @@
 //! Lists of attributes, from parsers that are used directly.
-use crate::parsers::tells;
+use crate::parsers::reports;
 use souper_ir::ast::{Attribute, RootAttribute};
 use souper_ir::parse::{Parse, Parser, Peek};
 use std::alloc::Global;
@@ -70,7 +70,7 @@ fn refused_attributes(rt: HostRuntime) -> Result<(), Fail> {
         ("(range=(0,1))", 7, "expected '['"),
     ] {
         let error = Attribute::parse(&mut Parser::new(rt.alloc(), source)).err();
-        tells(&rt, rt.alloc(), error, offset, message)?;
+        reports(&rt, rt.alloc(), error, offset, message)?;
     }
     Ok(())
 }
@@ -87,7 +87,7 @@ fn refused_root_attributes(rt: HostRuntime) -> Result<(), Fail> {
         ("(demandedBits=x)", 14, "expected [0|1]+ bit pattern"),
     ] {
         let error = RootAttribute::parse(&mut Parser::new(rt.alloc(), source)).err();
-        tells(&rt, rt.alloc(), error, offset, message)?;
+        reports(&rt, rt.alloc(), error, offset, message)?;
     }
     Ok(())
 }

@@ -47,7 +47,7 @@ impl Peek for Pair {
 #[cfg(test)]
 mod tests {
     use super::*;
-    use crate::parsers::tells;
+    use crate::parsers::reports;
     use souper_ir::ast::Type;
     use std::test::Fail;
 
@@ -83,8 +83,8 @@ mod tests {
     fn half_a_pair_is_refused(rt: HostRuntime) -> std::result::Result<(), Fail> {
         let mut parser = Parser::new(rt.alloc(), "1 2 3");
         let error = <Vec<Pair>>::parse(&mut parser).err();
-        tells(&rt, rt.alloc(), error, 4, "unexpected EOF")?;
+        reports(&rt, rt.alloc(), error, 4, "unexpected EOF")?;
         let error = Pair::peek(&mut parser).err();
-        tells(&rt, rt.alloc(), error, 4, "the parser has already failed")
+        reports(&rt, rt.alloc(), error, 4, "the parser has already failed")
     }
 }

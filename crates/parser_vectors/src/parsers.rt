@@ -10,7 +10,7 @@ use std::process::Abort;
 use std::test::Fail;
 
 // The error is a refusal at the offset, with the message and without a place.
-pub fn tells(
+pub fn reports(
     rt: &impl Abort,
     alloc: Global,
     error: Option<ParseError>,
@@ -50,14 +50,14 @@ fn refused_parser_stays_failed(rt: HostRuntime) -> Result<(), Fail> {
     let mut parser = Parser::new(rt.alloc(), "infer %x");
     let error = LeftHandSide::parse(&mut parser).err();
     let unnamed = "no value named '%x' in scope";
-    tells(&rt, rt.alloc(), error, 6, unnamed)?;
+    reports(&rt, rt.alloc(), error, 6, unnamed)?;
     let failed = "the parser has already failed";
     let error = LeftHandSide::parse(&mut parser).err();
-    tells(&rt, rt.alloc(), error, 6, failed)?;
+    reports(&rt, rt.alloc(), error, 6, failed)?;
     let error = Statement::peek(&mut parser).err();
-    tells(&rt, rt.alloc(), error, 6, failed)?;
+    reports(&rt, rt.alloc(), error, 6, failed)?;
     let error = <Vec<Assignment>>::parse(&mut parser).err();
-    tells(&rt, rt.alloc(), error, 6, failed)
+    reports(&rt, rt.alloc(), error, 6, failed)
 }
 
 #[test]
@@ -70,7 +70,7 @@ fn items_follow_one_another(rt: HostRuntime) -> Result<(), Fail> {
     }
     assert!(rt; !Statement::peek(&mut parser)?);
     let error = LeftHandSide::parse(&mut parser).err();
-    tells(&rt, rt.alloc(), error, 34, "unexpected EOF")
+    reports(&rt, rt.alloc(), error, 34, "unexpected EOF")
 }
 
 // The name that a statement defines.
@@ -91,7 +91,7 @@ fn parts_alone_add_no_name(rt: HostRuntime) -> Result<(), Fail> {
     assert!(rt; Infer::peek(&mut parser)?);
     let error = Infer::parse(&mut parser).err();
     let unnamed = "no value named '%x' in scope";
-    tells(&rt, rt.alloc(), error, 24, unnamed)
+    reports(&rt, rt.alloc(), error, 24, unnamed)
 }
 
 #[test]
@@ -162,7 +162,7 @@ fn single_attributes_are_parsed(rt: HostRuntime) -> Result<(), Fail> {
 }
 
 #[test]
-fn attributes_stand_before_a_right_side(rt: HostRuntime) -> Result<(), Fail> {
+fn attributes_come_before_a_right_side(rt: HostRuntime) -> Result<(), Fail> {
     let mut parser = Parser::new(rt.alloc(), "(negative)(nonZero) var");
     let attributes = <Vec<Attribute>>::parse(&mut parser)?;
     let [Attribute::Negative, Attribute::NonZero] = attributes.as_slice() else {
@@ -180,9 +180,9 @@ fn option_takes_nothing_of_another_kind(rt: HostRuntime) -> Result<(), Fail> {
     let mut parser = Parser::new(rt.alloc(), "%x");
     assert!(rt; <Option<Constant>>::parse(&mut parser)?.is_none());
     let error = Operand::parse(&mut parser).err();
-    tells(&rt, rt.alloc(), error, 0, "unknown value '%x'")?;
+    reports(&rt, rt.alloc(), error, 0, "unknown value '%x'")?;
     let error = Constant::peek(&mut parser).err();
-    tells(&rt, rt.alloc(), error, 0, "the parser has already failed")
+    reports(&rt, rt.alloc(), error, 0, "the parser has already failed")
 }
 
 #[test]
@@ -259,15 +259,15 @@ fn peek_takes_no_token(rt: HostRuntime) -> Result<(), Fail> {
 fn lexical_fault_is_refused_by_peek(rt: HostRuntime) -> Result<(), Fail> {
     let mut parser = Parser::new(rt.alloc(), "%");
     let error = Infer::peek(&mut parser).err();
-    tells(&rt, rt.alloc(), error, 0, "expected value name")?;
+    reports(&rt, rt.alloc(), error, 0, "expected value name")?;
     let failed = "the parser has already failed";
     let error = <Vec<Infer>>::parse(&mut parser).err();
-    tells(&rt, rt.alloc(), error, 0, failed)?;
+    reports(&rt, rt.alloc(), error, 0, failed)?;
     let mut parser = Parser::new(rt.alloc(), "%");
     let error = Pc::peek(&mut parser).err();
-    tells(&rt, rt.alloc(), error, 0, "expected value name")?;
+    reports(&rt, rt.alloc(), error, 0, "expected value name")?;
     let error = <Vec<Pc>>::parse(&mut parser).err();
-    tells(&rt, rt.alloc(), error, 0, failed)
+    reports(&rt, rt.alloc(), error, 0, failed)
 }
 
 // The source begins with a value, as `peek` returns; an equals sign does not.
@@ -297,36 +297,36 @@ fn each_type_is_seen_to_come(rt: HostRuntime) -> Result<(), Fail> {
 fn names_out_of_scope_are_refused(rt: HostRuntime) -> Result<(), Fail> {
     let alloc = rt.alloc();
     let error = parsed::<BlockPc>(alloc, "blockpc %b 0 1 2").err();
-    tells(&rt, alloc, error, 8, "unknown block '%b'")?;
+    reports(&rt, alloc, error, 8, "unknown block '%b'")?;
     let error = parsed::<Phi>(alloc, "phi %b, 1").err();
-    tells(&rt, alloc, error, 4, "unknown block '%b'")?;
+    reports(&rt, alloc, error, 4, "unknown block '%b'")?;
     let error = parsed::<Pc>(alloc, "pc %x 1").err();
-    tells(&rt, alloc, error, 3, "unknown value '%x'")?;
+    reports(&rt, alloc, error, 3, "unknown value '%x'")?;
     let error = parsed::<Cand>(alloc, "cand 1 %x").err();
-    tells(&rt, alloc, error, 7, "unknown value '%x'")?;
+    reports(&rt, alloc, error, 7, "unknown value '%x'")?;
     let error = parsed::<Infer>(alloc, "infer %x").err();
-    tells(&rt, alloc, error, 6, "no value named '%x' in scope")
+    reports(&rt, alloc, error, 6, "no value named '%x' in scope")
 }
 
 #[test]
 fn parts_refuse_other_tokens(rt: HostRuntime) -> Result<(), Fail> {
     let alloc = rt.alloc();
     let name = "expected a value name";
-    tells(
+    reports(
         &rt,
         alloc,
         parsed::<Assignment>(alloc, "infer").err(),
         0,
         name,
     )?;
-    tells(
+    reports(
         &rt,
         alloc,
         parsed::<Statement>(alloc, " infer").err(),
         1,
         name,
     )?;
-    tells(
+    reports(
         &rt,
         alloc,
         parsed::<Infer>(alloc, "%x").err(),
@@ -334,21 +334,21 @@ fn parts_refuse_other_tokens(rt: HostRuntime) -> Result<(), Fail> {
         "expected 'infer'",
     )?;
     let right_side = "expected a constant, var, block, phi, or instruction";
-    tells(
+    reports(
         &rt,
         alloc,
         parsed::<AssignmentRhs>(alloc, "%x").err(),
         0,
         right_side,
     )?;
-    tells(
+    reports(
         &rt,
         alloc,
         parsed::<AssignmentRhs>(alloc, "").err(),
         0,
         right_side,
     )?;
-    tells(
+    reports(
         &rt,
         alloc,
         parsed::<Infer>(alloc, "").err(),
@@ -356,15 +356,15 @@ fn parts_refuse_other_tokens(rt: HostRuntime) -> Result<(), Fail> {
         "unexpected EOF",
     )?;
     let instruction = parsed::<Instruction>(alloc, "foo").err();
-    tells(&rt, alloc, instruction, 0, "expected instruction")?;
+    reports(&rt, alloc, instruction, 0, "expected instruction")?;
     let attribute = parsed::<Attribute>(alloc, "x").err();
-    tells(&rt, alloc, attribute, 0, "expected '('")?;
+    reports(&rt, alloc, attribute, 0, "expected '('")?;
     let assignments = parsed::<Vec<Assignment>>(alloc, "%x = var %y").err();
-    tells(&rt, alloc, assignments, 10, "unexpected EOF")
+    reports(&rt, alloc, assignments, 10, "unexpected EOF")
 }
 
 #[test]
-fn other_faults_are_told_by_their_kind(rt: HostRuntime) -> Result<(), Fail> {
+fn other_faults_are_reported_by_their_kind(rt: HostRuntime) -> Result<(), Fail> {
     for error in [
         ParseError::from(AllocError),
         ParseError::from(AllocFailed { value: 1u8 }),

@@ -59,22 +59,22 @@ fn other_words_are_no_command(rt: HostRuntime) -> Result<(), Fail> {
 }
 
 #[test]
-fn usage_is_told(rt: HostRuntime) {
-    let mut told = Vec::new(rt.alloc());
-    let mut err = Watched::new(&mut told);
+fn usage_is_reported(rt: HostRuntime) {
+    let mut reported = Vec::new(rt.alloc());
+    let mut err = Watched::new(&mut reported);
     assert_eq!(rt; usage(&mut err), 2);
     assert!(rt; !err.failed());
     let want = "usage: souper_fmt lhs|rhs|rep\n       souper_fmt same lhs|rhs|rep PATH PATH\n";
-    assert_eq!(rt; told.as_slice(), want.as_bytes());
+    assert_eq!(rt; reported.as_slice(), want.as_bytes());
 }
 
 #[test]
 fn fault_is_reported(rt: HostRuntime) {
-    let mut told = Vec::new(rt.alloc());
-    let mut err = Watched::new(&mut told);
+    let mut reported = Vec::new(rt.alloc());
+    let mut err = Watched::new(&mut reported);
     let fault = io::Error::from(ErrorKind::NotFound);
     assert_eq!(rt; report(rt.alloc(), &fault, &mut err), 3);
     assert!(rt; !err.failed());
-    assert!(rt; told.as_slice().starts_with(b"IO error: "));
-    assert!(rt; told.as_slice().ends_with(b"\n"));
+    assert!(rt; reported.as_slice().starts_with(b"IO error: "));
+    assert!(rt; reported.as_slice().ends_with(b"\n"));
 }

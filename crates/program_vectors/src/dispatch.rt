@@ -51,10 +51,10 @@ fn runs(
     want: (bool, u8, &str, &str),
 ) -> Result<(), Fail> {
     let mut written = Vec::new(alloc);
-    let mut told = Vec::new(alloc);
+    let mut reported = Vec::new(alloc);
     let mut input = Watched::new(source.as_bytes());
     let mut out = Watched::new(&mut written);
-    let mut err = Watched::new(&mut told);
+    let mut err = Watched::new(&mut reported);
     let files = TextsInMemory { alloc };
     let args = words(alloc, args)?;
     let status = run_command(&files, alloc, args, &mut input, &mut out, &mut err);
@@ -62,7 +62,7 @@ fn runs(
     assert!(rt; !input.failed() && !out.failed() && !err.failed());
     assert_eq!(rt; (ended, status), (want.0, want.1));
     assert_eq!(rt; written.as_slice(), want.2.as_bytes());
-    assert_eq!(rt; told.as_slice(), want.3.as_bytes());
+    assert_eq!(rt; reported.as_slice(), want.3.as_bytes());
     Ok(())
 }
 

@@ -13,16 +13,16 @@ const FORMATTED: &[u8] = b"%b = var\ninfer %b\n\n";
 // Bytes that are read in one call end in this status, with these bytes on `out` and `err`.
 fn runs(rt: &impl Abort, alloc: Global, source: &[u8], status: u8, output: &[u8], line: &[u8]) {
     let mut written = Vec::new(alloc);
-    let mut told = Vec::new(alloc);
+    let mut reported = Vec::new(alloc);
     let mut input = Watched::new(source);
     let mut out = Watched::new(&mut written);
-    let mut err = Watched::new(&mut told);
+    let mut err = Watched::new(&mut reported);
     let answer = format_run(alloc, Kind::Lhs, &mut input, &mut out, &mut err);
     assert_eq!(rt; answer, status);
     assert!(rt; input.ended());
     assert!(rt; !input.failed() && !out.failed() && !err.failed());
     assert_eq!(rt; written.as_slice(), output);
-    assert_eq!(rt; told.as_slice(), line);
+    assert_eq!(rt; reported.as_slice(), line);
 }
 
 #[test]
@@ -41,7 +41,7 @@ fn items_are_formatted(rt: HostRuntime) {
 }
 
 #[test]
-fn refusal_is_told(rt: HostRuntime) {
+fn refusal_is_reported(rt: HostRuntime) {
     let line =
         "unknown:1:6: no value named '%x' in scope\n     |\n   1 | infer %x\n     |      ^\n";
     runs(&rt, rt.alloc(), b"infer %x", 1, b"", line.as_bytes());
@@ -59,31 +59,31 @@ fn bytes_that_are_no_text_are_a_fault(rt: HostRuntime) {
     let rows: [&[u8]; 3] = [b"\xff", b"%x = var\ninfer %x\n;\xc3", b"infer %x\xff"];
     for source in rows {
         let mut written = Vec::new(rt.alloc());
-        let mut told = Vec::new(rt.alloc());
+        let mut reported = Vec::new(rt.alloc());
         let mut input = Watched::new(source);
         let mut out = Watched::new(&mut written);
-        let mut err = Watched::new(&mut told);
+        let mut err = Watched::new(&mut reported);
         let status = format_run(rt.alloc(), Kind::Lhs, &mut input, &mut out, &mut err);
         assert_eq!(rt; status, 3);
         assert!(rt; !input.failed() && !out.failed() && !err.failed());
         assert!(rt; written.is_empty());
-        assert!(rt; told.as_slice().starts_with(b"IO error: "));
-        assert!(rt; told.as_slice().ends_with(b"\n"));
+        assert!(rt; reported.as_slice().starts_with(b"IO error: "));
+        assert!(rt; reported.as_slice().ends_with(b"\n"));
     }
 }
 
 #[test]
 fn single_bytes_are_gathered(rt: HostRuntime) {
     let mut written = Vec::new(rt.alloc());
-    let mut told = Vec::new(rt.alloc());
+    let mut reported = Vec::new(rt.alloc());
     let mut input = Watched::new(FaultyReader::new(SOURCE, 1, 27));
     let mut out = Watched::new(&mut written);
-    let mut err = Watched::new(&mut told);
+    let mut err = Watched::new(&mut reported);
     let status = format_run(rt.alloc(), Kind::Lhs, &mut input, &mut out, &mut err);
     assert_eq!(rt; status, 0);
     assert!(rt; input.ended() && !input.failed());
     assert_eq!(rt; written.as_slice(), FORMATTED);
-    assert!(rt; told.is_empty());
+    assert!(rt; reported.is_empty());
 }
 
 // The 26 bytes come in three reads, and a fourth reaches the end.
@@ -91,10 +91,10 @@ fn single_bytes_are_gathered(rt: HostRuntime) {
 fn failed_read_is_a_fault(rt: HostRuntime) {
     for after in 0..5 {
         let mut written = Vec::new(rt.alloc());
-        let mut told = Vec::new(rt.alloc());
+        let mut reported = Vec::new(rt.alloc());
         let mut input = Watched::new(FaultyReader::new(SOURCE, 10, after));
         let mut out = Watched::new(&mut written);
-        let mut err = Watched::new(&mut told);
+        let mut err = Watched::new(&mut reported);
         let status = format_run(rt.alloc(), Kind::Lhs, &mut input, &mut out, &mut err);
         let works = after == 4;
         assert_eq!(rt; status, if works { 0 } else { 3 }, "after {after}");
@@ -102,11 +102,11 @@ fn failed_read_is_a_fault(rt: HostRuntime) {
         assert_eq!(rt; input.ended(), works, "after {after}");
         assert_eq!(rt; written.is_empty(), !works, "after {after}");
         assert_eq!(rt;
-            told.as_slice().starts_with(b"IO error: "),
+            reported.as_slice().starts_with(b"IO error: "),
             !works,
             "after {after}"
         );
-        assert_eq!(rt; told.is_empty(), works, "after {after}");
+        assert_eq!(rt; reported.is_empty(), works, "after {after}");
     }
 }
 
@@ -114,34 +114,34 @@ fn failed_read_is_a_fault(rt: HostRuntime) {
 #[test]
 fn failed_write_is_a_fault(rt: HostRuntime) {
     for after in 0..6 {
-        let mut told = Vec::new(rt.alloc());
+        let mut reported = Vec::new(rt.alloc());
         let mut input = Watched::new(SOURCE);
         let mut out = Watched::new(FaultyWriter::new(5, after));
-        let mut err = Watched::new(&mut told);
+        let mut err = Watched::new(&mut reported);
         let status = format_run(rt.alloc(), Kind::Lhs, &mut input, &mut out, &mut err);
         let works = after == 5;
         assert_eq!(rt; status, if works { 0 } else { 3 }, "after {after}");
         assert_eq!(rt; out.failed(), !works, "after {after}");
         assert_eq!(rt;
-            told.as_slice().starts_with(b"IO error: "),
+            reported.as_slice().starts_with(b"IO error: "),
             !works,
             "after {after}"
         );
-        assert_eq!(rt; told.is_empty(), works, "after {after}");
+        assert_eq!(rt; reported.is_empty(), works, "after {after}");
     }
 }
 
 #[test]
 fn write_that_takes_nothing_is_a_fault(rt: HostRuntime) {
     let mut none = [0u8; 0];
-    let mut told = Vec::new(rt.alloc());
+    let mut reported = Vec::new(rt.alloc());
     let mut input = Watched::new(SOURCE);
     let mut out = Watched::new(none.as_mut_slice());
-    let mut err = Watched::new(&mut told);
+    let mut err = Watched::new(&mut reported);
     let status = format_run(rt.alloc(), Kind::Lhs, &mut input, &mut out, &mut err);
     assert_eq!(rt; status, 3);
     assert!(rt; out.failed());
-    assert!(rt; told.as_slice().starts_with(b"IO error: "));
+    assert!(rt; reported.as_slice().starts_with(b"IO error: "));
 }
 
 #[test]

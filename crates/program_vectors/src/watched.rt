@@ -5,7 +5,7 @@ use std::io::{Read, Write};
 use std::test::Fail;
 
 #[test]
-fn end_of_a_reader_is_told(rt: HostRuntime) -> Result<(), Fail> {
+fn end_of_a_reader_is_reported(rt: HostRuntime) -> Result<(), Fail> {
     let mut input = Watched::new(b"abc".as_slice());
     assert!(rt; !input.ended() && !input.failed());
     assert_eq!(rt; input.read(&mut [])?, 0);
@@ -21,7 +21,7 @@ fn end_of_a_reader_is_told(rt: HostRuntime) -> Result<(), Fail> {
 }
 
 #[test]
-fn failed_read_is_told(rt: HostRuntime) -> Result<(), Fail> {
+fn failed_read_is_reported(rt: HostRuntime) -> Result<(), Fail> {
     let mut input = Watched::new(FaultyReader::new(b"a", 1, 1));
     let mut buffer = [0u8; 2];
     assert_eq!(rt; input.read(&mut buffer)?, 1);
@@ -34,7 +34,7 @@ fn failed_read_is_told(rt: HostRuntime) -> Result<(), Fail> {
 }
 
 #[test]
-fn failed_write_is_told(rt: HostRuntime) -> Result<(), Fail> {
+fn failed_write_is_reported(rt: HostRuntime) -> Result<(), Fail> {
     let mut out = Watched::new(FaultyWriter::new(1, 2));
     assert!(rt; !out.ended() && !out.failed());
     assert_eq!(rt; out.write(b"ab")?, 1);
@@ -48,7 +48,7 @@ fn failed_write_is_told(rt: HostRuntime) -> Result<(), Fail> {
 }
 
 #[test]
-fn write_that_takes_nothing_is_told(rt: HostRuntime) -> Result<(), Fail> {
+fn write_that_takes_nothing_is_reported(rt: HostRuntime) -> Result<(), Fail> {
     let mut out = Watched::new(FaultyWriter::new(0, 9));
     assert_eq!(rt; out.write(b"")?, 0);
     assert!(rt; !out.failed());

@@ -2,7 +2,7 @@
 ghost use Rattle.std.specs.Prelude.{IfOk};
 ghost use Rattle.souper_graph.specs.Building.{BeginsWithPercent};
 
-use crate::errors::tells;
+use crate::errors::reports;
 use souper_ir::ast::{
     Arena, AssignmentRhs, Attribute, Constant, Id, Instruction, LeftHandSide, LeftHandSideBuilder,
     Statement,
@@ -49,7 +49,7 @@ fn is_refused(
     let error = parse_left_hand_sides_str(alloc, text, None)
         .err()
         .ok_or("no refusal")?;
-    tells(rt, alloc, &error, offset, want)
+    reports(rt, alloc, &error, offset, want)
 }
 
 #[test]
@@ -107,7 +107,7 @@ fn condition(statements: &Arena<Statement>) -> Option<Id<Statement>> {
 }
 
 // The item of this text, with its condition set on the third predecessor of the block.
-fn on_third_way(alloc: Global, source: &str) -> Result<LeftHandSide, Fail> {
+fn on_third_predecessor(alloc: Global, source: &str) -> Result<LeftHandSide, Fail> {
     let mut item = first(alloc, source)?;
     let id = condition(&item.statements).ok_or("no condition")?;
     match item.statements.get_mut(id) {
@@ -118,10 +118,10 @@ fn on_third_way(alloc: Global, source: &str) -> Result<LeftHandSide, Fail> {
 }
 
 #[test]
-fn text_with_a_way_that_is_not_there_is_refused(rt: HostRuntime) -> Result<(), Fail> {
+fn text_with_a_predecessor_out_of_range_is_refused(rt: HostRuntime) -> Result<(), Fail> {
     let alloc = rt.alloc();
     let source = "%bb = block 2\n%x:i8 = var\nblockpc %bb 0 %x 1\ninfer %x";
-    let item = on_third_way(alloc, source)?;
+    let item = on_third_predecessor(alloc, source)?;
     let text = "%x:i8 = var\n%bb = block 2\nblockpc %bb 2 %x 1\ninfer %x\n";
     is(&rt, alloc, &item, text, false)?;
     let want =
@@ -130,10 +130,10 @@ fn text_with_a_way_that_is_not_there_is_refused(rt: HostRuntime) -> Result<(), F
 }
 
 #[test]
-fn text_with_a_way_that_is_there_is_read_back(rt: HostRuntime) -> Result<(), Fail> {
+fn text_with_a_predecessor_in_range_is_read_back(rt: HostRuntime) -> Result<(), Fail> {
     let alloc = rt.alloc();
     let source = "%bb = block 3\n%x:i8 = var\nblockpc %bb 0 %x 1\ninfer %x";
-    let item = on_third_way(alloc, source)?;
+    let item = on_third_predecessor(alloc, source)?;
     let text = "%x:i8 = var\n%bb = block 3\nblockpc %bb 2 %x 1\ninfer %x\n";
     is(&rt, alloc, &item, text, true)?;
     is(&rt, alloc, &first(alloc, text)?, text, true)

@@ -4,8 +4,8 @@ use souper_format::items::read_items;
 use souper_ir::parse::{ParseErrorKind, parse_left_hand_sides_str};
 use souper_vectors::sources::{
     ATTRIBUTES, BLOCKS, DEFINITIONS, FAULTY_ATTRIBUTES, FAULTY_REPLACEMENTS,
-    FAULTY_RIGHT_HAND_SIDES, GAPS, NAMES, PAIRS, PRINTED_PAIRS, RESULTS, RIGHT_HAND_SIDES, VALUES,
-    WAYS, chain, ones, thousand, words,
+    FAULTY_RIGHT_HAND_SIDES, GAPS, NAMES, PAIRS, PREDECESSORS, PRINTED_PAIRS, RESULTS,
+    RIGHT_HAND_SIDES, VALUES, chain, ones, thousand, words,
 };
 use std::alloc::{AllocError, Global};
 use std::process::Abort;
@@ -22,7 +22,7 @@ const RIGHT_SIDE: &str = "expected a constant, var, block, phi, or instruction";
 const INFER: &str = "expected 'infer'";
 
 #[test]
-fn each_front_of_a_text_is_refused(rt: HostRuntime) -> Result<(), Fail> {
+fn each_prefix_of_a_text_is_refused(rt: HostRuntime) -> Result<(), Fail> {
     for (len, message, offset) in [
         (1, NAME, 0),
         (2, END, 1),
@@ -50,22 +50,22 @@ fn each_front_of_a_text_is_refused(rt: HostRuntime) -> Result<(), Fail> {
         (24, END, 23),
         (25, NAME, 24),
     ] {
-        let front = SOURCE.get(..len).ok_or("no such front")?;
-        let error = parse_left_hand_sides_str(rt.alloc(), front, None)
+        let prefix = SOURCE.get(..len).ok_or("no such prefix")?;
+        let error = parse_left_hand_sides_str(rt.alloc(), prefix, None)
             .err()
             .ok_or("no refusal")?;
         assert_eq!(rt; error.kind(), ParseErrorKind::Parse, "at {len}");
         assert_eq!(rt; error.offset(), Some(offset), "at {len}");
         let shown = error.to_string(rt.alloc())?;
         let first = shown.lines().next().ok_or("no line")?;
-        let (_, told) = first.split_once(": ").ok_or("no message")?;
-        assert_eq!(rt; told, message, "at {len}");
+        let (_, found) = first.split_once(": ").ok_or("no message")?;
+        assert_eq!(rt; found, message, "at {len}");
     }
     Ok(())
 }
 
 #[test]
-fn empty_front_and_whole_text_are_read(rt: HostRuntime) -> Result<(), Fail> {
+fn empty_prefix_and_whole_text_are_read(rt: HostRuntime) -> Result<(), Fail> {
     let none = parse_left_hand_sides_str(rt.alloc(), "", None)?;
     assert!(rt; none.is_empty());
     assert_eq!(rt; SOURCE.len(), 26);
@@ -78,10 +78,10 @@ fn empty_front_and_whole_text_are_read(rt: HostRuntime) -> Result<(), Fail> {
 fn cuts(rt: &impl Abort, alloc: Global, kind: Kind, texts: &[&str]) -> Result<(), Fail> {
     for source in texts {
         for len in 0..=source.len() {
-            let Some(front) = source.get(..len) else {
+            let Some(prefix) = source.get(..len) else {
                 continue;
             };
-            if let Err(error) = read_items(alloc, kind, front, None) {
+            if let Err(error) = read_items(alloc, kind, prefix, None) {
                 assert_eq!(rt;
                     error.kind(),
                     ParseErrorKind::Parse,
@@ -96,16 +96,16 @@ fn cuts(rt: &impl Abort, alloc: Global, kind: Kind, texts: &[&str]) -> Result<()
 }
 
 #[test]
-fn fronts_of_left_hand_sides_are_read_or_refused(rt: HostRuntime) -> Result<(), Fail> {
+fn prefixes_of_left_hand_sides_are_read_or_refused(rt: HostRuntime) -> Result<(), Fail> {
     cuts(&rt, rt.alloc(), Kind::Lhs, &VALUES)?;
     cuts(&rt, rt.alloc(), Kind::Lhs, &BLOCKS)?;
     cuts(&rt, rt.alloc(), Kind::Lhs, &ATTRIBUTES)
 }
 
 #[test]
-fn fronts_of_refused_texts_are_read_or_refused(rt: HostRuntime) -> Result<(), Fail> {
+fn prefixes_of_refused_texts_are_read_or_refused(rt: HostRuntime) -> Result<(), Fail> {
     cuts(&rt, rt.alloc(), Kind::Lhs, &NAMES)?;
-    cuts(&rt, rt.alloc(), Kind::Lhs, &WAYS)?;
+    cuts(&rt, rt.alloc(), Kind::Lhs, &PREDECESSORS)?;
     cuts(&rt, rt.alloc(), Kind::Lhs, &DEFINITIONS)?;
     cuts(&rt, rt.alloc(), Kind::Lhs, &FAULTY_ATTRIBUTES)?;
     cuts(&rt, rt.alloc(), Kind::Rhs, &FAULTY_RIGHT_HAND_SIDES)?;
@@ -113,7 +113,7 @@ fn fronts_of_refused_texts_are_read_or_refused(rt: HostRuntime) -> Result<(), Fa
 }
 
 #[test]
-fn fronts_of_other_items_are_read_or_refused(rt: HostRuntime) -> Result<(), Fail> {
+fn prefixes_of_other_items_are_read_or_refused(rt: HostRuntime) -> Result<(), Fail> {
     cuts(&rt, rt.alloc(), Kind::Rhs, &RIGHT_HAND_SIDES)?;
     cuts(&rt, rt.alloc(), Kind::Rep, &RESULTS)?;
     cuts(&rt, rt.alloc(), Kind::Rep, &PAIRS)?;
@@ -122,7 +122,7 @@ fn fronts_of_other_items_are_read_or_refused(rt: HostRuntime) -> Result<(), Fail
 }
 
 #[test]
-fn fronts_of_instructions_are_read_or_refused(rt: HostRuntime) -> Result<(), Fail> {
+fn prefixes_of_instructions_are_read_or_refused(rt: HostRuntime) -> Result<(), Fail> {
     let alloc = rt.alloc();
     for (word, count) in words() {
         let operands = ones(alloc, count)?;
@@ -133,7 +133,7 @@ fn fronts_of_instructions_are_read_or_refused(rt: HostRuntime) -> Result<(), Fai
 }
 
 #[test]
-fn fronts_of_long_texts_are_read_or_refused(rt: HostRuntime) -> Result<(), Fail> {
+fn prefixes_of_long_texts_are_read_or_refused(rt: HostRuntime) -> Result<(), Fail> {
     let alloc = rt.alloc();
     let doublings = chain(alloc, 199)?;
     let definitions = thousand(alloc)?;
@@ -145,7 +145,7 @@ fn fronts_of_long_texts_are_read_or_refused(rt: HostRuntime) -> Result<(), Fail>
     )
 }
 
-fn blanks(alloc: Global, count: u32) -> Result<String, AllocError> {
+fn spaces(alloc: Global, count: u32) -> Result<String, AllocError> {
     let mut text = String::new(alloc);
     for _ in 0..count {
         text.push(' ')?;
@@ -155,7 +155,7 @@ fn blanks(alloc: Global, count: u32) -> Result<String, AllocError> {
 
 // A word far to the right is refused, and the caret is below it.
 fn refuses_far(rt: &impl Abort, alloc: Global, kind: Kind, wanted: &str) -> Result<(), Fail> {
-    let mut source = blanks(alloc, 70_000)?;
+    let mut source = spaces(alloc, 70_000)?;
     source.push('x')?;
     let error = read_items(alloc, kind, source.as_str(), None)
         .err()
@@ -163,7 +163,7 @@ fn refuses_far(rt: &impl Abort, alloc: Global, kind: Kind, wanted: &str) -> Resu
     assert_eq!(rt; error.kind(), ParseErrorKind::Parse);
     assert_eq!(rt; error.offset(), Some(70_000));
     let shown = error.to_string(alloc)?;
-    let margin = blanks(alloc, 69_999)?;
+    let margin = spaces(alloc, 69_999)?;
     let want = format!(in alloc;
         "unknown:1:70000: expected '{wanted}'\n     |\n   1 | {source}\n     | {margin}^"
     )?;
@@ -172,7 +172,7 @@ fn refuses_far(rt: &impl Abort, alloc: Global, kind: Kind, wanted: &str) -> Resu
 }
 
 #[test]
-fn marker_stands_far_to_the_right(rt: HostRuntime) -> Result<(), Fail> {
+fn marker_is_far_to_the_right(rt: HostRuntime) -> Result<(), Fail> {
     refuses_far(&rt, rt.alloc(), Kind::Rhs, "result")?;
     refuses_far(&rt, rt.alloc(), Kind::Lhs, "infer")
 }

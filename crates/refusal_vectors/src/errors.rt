@@ -7,7 +7,7 @@ use std::process::Abort;
 use std::test::Fail;
 
 /// The error is a refusal at the offset, and shows the text.
-pub fn tells(
+pub fn reports(
     rt: &impl Abort,
     alloc: Global,
     error: &ParseError,
@@ -32,11 +32,11 @@ fn refuses(
     let error = parse_left_hand_sides_str(alloc, source, None)
         .err()
         .ok_or("no refusal")?;
-    tells(rt, alloc, &error, offset, want)?;
+    reports(rt, alloc, &error, offset, want)?;
     let error = format_text(alloc, Kind::Lhs, source, None)
         .err()
         .ok_or("no refusal")?;
-    tells(rt, alloc, &error, offset, want)
+    reports(rt, alloc, &error, offset, want)
 }
 
 #[test]
@@ -245,15 +245,15 @@ fn file_name_is_shown(rt: HostRuntime) -> Result<(), Fail> {
         let error = parse_left_hand_sides_str(rt.alloc(), source, Some(file))
             .err()
             .ok_or("no refusal")?;
-        tells(&rt, rt.alloc(), &error, 6, want)?;
+        reports(&rt, rt.alloc(), &error, 6, want)?;
         let error = read_items(rt.alloc(), Kind::Lhs, source, Some(file))
             .err()
             .ok_or("no refusal")?;
-        tells(&rt, rt.alloc(), &error, 6, want)?;
+        reports(&rt, rt.alloc(), &error, 6, want)?;
         let error = format_text(rt.alloc(), Kind::Lhs, source, Some(file))
             .err()
             .ok_or("no refusal")?;
-        tells(&rt, rt.alloc(), &error, 6, want)?;
+        reports(&rt, rt.alloc(), &error, 6, want)?;
     }
     Ok(())
 }

@@ -1,5 +1,5 @@
 //! The places of refusals, and what each error shows.
-use crate::errors::tells;
+use crate::errors::reports;
 use souper_ir::ast::Infer;
 use souper_ir::parse::{Parse, ParseError, ParseErrorKind, Parser, parse_left_hand_sides_str};
 use std::alloc::{AllocError, Global};
@@ -41,7 +41,7 @@ fn places(
     want: &str,
 ) -> Result<(), Fail> {
     let error = error.ok_or("no refusal")?;
-    tells(rt, alloc, &error, offset, want)?;
+    reports(rt, alloc, &error, offset, want)?;
     shows_whatever_the_options(rt, alloc, &error, want)
 }
 
@@ -172,15 +172,15 @@ fn far_places(rt: HostRuntime) -> Result<(), Fail> {
     for _ in 0..12345 {
         source.push('\n')?;
     }
-    let mut blanks = String::new(rt.alloc());
+    let mut spaces = String::new(rt.alloc());
     for _ in 0..70000 {
-        blanks.push(' ')?;
+        spaces.push(' ')?;
     }
-    source.push_str(blanks.as_str())?;
+    source.push_str(spaces.as_str())?;
     source.push_str(" x")?;
     let error = parse_left_hand_sides_str(rt.alloc(), source.as_str(), Some("f")).err();
     let want = format!(in rt.alloc();
-        "f:12346:70001: expected 'infer'\n     |\n12346 | {blanks} x\n     | {blanks}^"
+        "f:12346:70001: expected 'infer'\n     |\n12346 | {spaces} x\n     | {spaces}^"
     )?;
     places(&rt, rt.alloc(), error, 82346, want.as_str())
 }
@@ -220,7 +220,7 @@ fn errors_of_no_text(rt: HostRuntime) -> Result<(), Fail> {
     assert!(&rt;
         error
             .io_error()
-            .is_some_and(|told| told.kind() == fault.kind())
+            .is_some_and(|found| found.kind() == fault.kind())
     );
     let want = format!(in rt.alloc(); "IO error: {fault}")?;
     shows(&rt, rt.alloc(), &error, want.as_str())

@@ -1,5 +1,5 @@
 //! Refusals of texts of each kind, with the whole text that is shown.
-use crate::errors::tells;
+use crate::errors::reports;
 use souper_format::command::Kind;
 use souper_format::items::{format_text, read_items};
 use souper_ir::parse::ParseErrorKind;
@@ -17,11 +17,11 @@ fn refuses(
     let error = read_items(alloc, kind, source, None)
         .err()
         .ok_or("no refusal")?;
-    tells(rt, alloc, &error, offset, want)?;
+    reports(rt, alloc, &error, offset, want)?;
     let error = format_text(alloc, kind, source, None)
         .err()
         .ok_or("no refusal")?;
-    tells(rt, alloc, &error, offset, want)
+    reports(rt, alloc, &error, offset, want)
 }
 
 #[test]
@@ -59,7 +59,7 @@ fn names_are_refused(rt: HostRuntime) -> Result<(), Fail> {
 }
 
 #[test]
-fn ways_into_blocks_are_judged(rt: HostRuntime) -> Result<(), Fail> {
+fn predecessors_of_blocks_are_checked(rt: HostRuntime) -> Result<(), Fail> {
     for row in [
         (
             "%bb = block 2\n%p = phi %bb, 1\ninfer %p",
@@ -352,7 +352,7 @@ fn refuses_number(
 
 #[test]
 fn numbers_out_of_range_are_refused(rt: HostRuntime) -> Result<(), Fail> {
-    for (row, told) in [
+    for (row, shown) in [
         (
             (
                 Kind::Rhs,
@@ -401,7 +401,7 @@ fn numbers_out_of_range_are_refused(rt: HostRuntime) -> Result<(), Fail> {
             ),
         ),
     ] {
-        refuses_number(&rt, rt.alloc(), row, told)?;
+        refuses_number(&rt, rt.alloc(), row, shown)?;
     }
     Ok(())
 }

@@ -11,44 +11,44 @@ use Rattle.souper_ir.specs.declared.parse.ParseErrorKind.{ParseErrorKind}
 use Rattle.souper_ir.specs.declared.parse.ParseErrorKind.TheVariants.{Io, Parse, Memory}
 use Rattle.souper_format.specs.Streams.{Stream, IsGiven, IsGivenNothing}
 use Rattle.souper_format.specs.Reading.{ReadAll}
-use Rattle.souper_format.specs.Telling.{ToldLine, ToldFault, StoppedByMemory, ErrorTold}
-use Rattle.souper_format.specs.Runs.{Formats, ToldRefusal, IsRun, IsKnownRun}
+use Rattle.souper_format.specs.Reporting.{ReportedLine, ReportedFault, StoppedByMemory, ErrorReported}
+use Rattle.souper_format.specs.Runs.{Formats, ReportedRefusal, IsRun, IsKnownRun}
 
 -- a refusal at an offset of the source, as the parser returns it
 abbrev pub IsRefusal : ItemType → Option (List ℕ) → List ℕ → ParseError → Type 0
 IsRefusal k file source e = (offset : ℕ) × (offset_of e ≡ Some offset) × (offset ≤ length source) × SpellsNone k source
     × ((shown : List ℕ) × (shown_error e ≡ Some shown) × IsRefusalText file source offset shown)
 
-pub told_refusal : (k : ItemType) (file : Option (List ℕ)) (source : List ℕ) (err : Stream) (e : ParseError)
-    → IsRefusal k file source e → ToldLine err e → ToldRefusal file source err
-told_refusal k file source err e (offset, at, within, none, (shown, is_shown, is_text)) told works =
-    let (line, (bytes, are_shown, is_line), given) = told works in
+pub reported_refusal : (k : ItemType) (file : Option (List ℕ)) (source : List ℕ) (err : Stream) (e : ParseError)
+    → IsRefusal k file source e → ReportedLine err e → ReportedRefusal file source err
+reported_refusal k file source err e (offset, at, within, none, (shown, is_shown, is_text)) reported works =
+    let (line, (bytes, are_shown, is_line), given) = reported works in
     let same = subst (λ o. IfSome o (λ s. bytes ≡ s)) is_shown are_shown in
     (offset, shown, within, is_text, subst (IsGiven err) (is_line ∙ ap (λ (s : List ℕ). s ++ 10 ∷ []) same) given)
 
 stopped : (k : ItemType) (input out err : Stream) (status : ℕ)
     → IsGivenNothing out → StoppedByMemory err status → IsRun k input out err status
-stopped k input out err status nothing told =
-    subst (IsRun k input out err) (sym told.0) (inr told.1, λ works. nothing)
+stopped k input out err status nothing reported =
+    subst (IsRun k input out err) (sym reported.0) (inr reported.1, λ works. nothing)
 
 status_of_kind : (k : ItemType) (input out err : Stream) (source : List ℕ) (e : ParseError) (status : ℕ) (kind : ParseErrorKind)
     → ReadAll input source → IsUtf8 source → IsGivenNothing out
     → OnKind kind ⊥ (IsRefusal k None source e) (Unit {0})
-    → OnKind kind ((status ≡ 3) × ToldFault err) (((status ≡ 1) × ToldLine err e) ⊎ StoppedByMemory err status) (StoppedByMemory err status)
+    → OnKind kind ((status ≡ 3) × ReportedFault err) (((status ≡ 1) × ReportedLine err e) ⊎ StoppedByMemory err status) (StoppedByMemory err status)
     → IsRun k input out err status
-status_of_kind k input out err source e status Io read text nothing fault told = absurd fault
-status_of_kind k input out err source e status Parse read text nothing refusal (inl told) =
-    subst (IsRun k input out err) (sym told.0)
-    ((source, read, text, refusal.3, told_refusal k None source err e refusal told.1), nothing)
-status_of_kind k input out err source e status Parse read text nothing refusal (inr told) = stopped k input out err status nothing told
-status_of_kind k input out err source e status Memory read text nothing fault told = stopped k input out err status nothing told
+status_of_kind k input out err source e status Io read text nothing fault reported = absurd fault
+status_of_kind k input out err source e status Parse read text nothing refusal (inl reported) =
+    subst (IsRun k input out err) (sym reported.0)
+    ((source, read, text, refusal.3, reported_refusal k None source err e refusal reported.1), nothing)
+status_of_kind k input out err source e status Parse read text nothing refusal (inr reported) = stopped k input out err status nothing reported
+status_of_kind k input out err source e status Memory read text nothing fault reported = stopped k input out err status nothing reported
 
 -- an error that is reported gives one of the statuses
 pub status_of_error : (k : ItemType) (input out err : Stream) (source : List ℕ) (e : ParseError) (status : ℕ)
-    → ReadAll input source → IsUtf8 source → IsGivenNothing out → IsStrError k None source e → ErrorTold err status e
+    → ReadAll input source → IsUtf8 source → IsGivenNothing out → IsStrError k None source e → ErrorReported err status e
     → IsRun k input out err status
-status_of_error k input out err source e status read text nothing fault told =
-    status_of_kind k input out err source e status (kind_of e) read text nothing fault told
+status_of_error k input out err source e status read text nothing fault reported =
+    status_of_kind k input out err source e status (kind_of e) read text nothing fault reported
 
 -- if the reader's bytes are known, what holds of all that was read holds of them
 of_known : (P : List ℕ → Type 0) (before after : Option (List ℕ)) (source : List ℕ)
@@ -68,7 +68,7 @@ known_of_run k input out err zero run =
     let (source, read, written) = run.0 in
     of_known (λ source. Formats k source out) input.before input.after source read.2 read.3 written
 known_of_run k input out err (suc zero) run =
-    let (source, read, text, none, told) = run.0 in
+    let (source, read, text, none, reported) = run.0 in
     of_known (λ source. IsUtf8 source × SpellsNone k source) input.before input.after source read.2 read.3 (text, none)
 known_of_run k input out err (suc (suc zero)) run = absurd run
 known_of_run k input out err (suc (suc (suc zero))) run = of_any input.before

@@ -17,43 +17,43 @@ use Rattle.souper_ir.specs.declared.parse.ParseErrorKind.TheVariants.{Io, Parse,
 use Rattle.souper_format.specs.declared.items.Items.{Items}
 use Rattle.souper_format.specs.Kinds.{kind_of_items, view_items}
 use Rattle.souper_format.specs.Streams.{Stream, IsGivenNothing}
-use Rattle.souper_format.specs.Telling.{ToldLine, ToldMemory, ToldFault, StoppedByMemory, ErrorTold}
+use Rattle.souper_format.specs.Reporting.{ReportedLine, ReportedMemory, ReportedFault, StoppedByMemory, ErrorReported}
 use Rattle.souper_format.specs.Runs.{OnStatus}
 use Rattle.souper_format.specs.Same.{SameItems}
 use Rattle.souper_format.specs.SameRuns.{FileRead, ReadSpells, ReadError, ReadRefused, ReadFailed, Says, IsSameRun, StoppedAtFirst, IsFilesRun, IsComparison}
-use Rattle.souper_format.proofs.RunLemmas.{IsRefusal, told_refusal}
+use Rattle.souper_format.proofs.RunLemmas.{IsRefusal, reported_refusal}
 
 -- what the status of an error says of the read
 abbrev Outcome : ItemType → List ℕ → FileRead → Stream → ℕ → Type 0
-Outcome k path read err status = OnStatus status ⊥ (ReadRefused k path read err) (ReadFailed read err ⊎ ToldMemory err)
+Outcome k path read err status = OnStatus status ⊥ (ReadRefused k path read err) (ReadFailed read err ⊎ ReportedMemory err)
 
 by_memory : (k : ItemType) (path : List ℕ) (read : FileRead) (err : Stream) (status : ℕ)
     → StoppedByMemory err status → Outcome k path read err status
-by_memory k path read err status told = subst (Outcome k path read err) (sym told.0) (inr told.1)
+by_memory k path read err status reported = subst (Outcome k path read err) (sym reported.0) (inr reported.1)
 
 of_text : (k : ItemType) (path : List ℕ) (source : String Global) (err : Stream) (e : ParseError) (status : ℕ) (kind : ParseErrorKind)
     → OnKind kind ⊥ (IsRefusal k (Some path) (string_bytes source) e) (Unit {0})
-    → OnKind kind ((status ≡ 3) × ToldFault err) (((status ≡ 1) × ToldLine err e) ⊎ StoppedByMemory err status) (StoppedByMemory err status)
+    → OnKind kind ((status ≡ 3) × ReportedFault err) (((status ≡ 1) × ReportedLine err e) ⊎ StoppedByMemory err status) (StoppedByMemory err status)
     → Outcome k path (Ok source) err status
-of_text k path source err e status Io fault told = absurd fault
-of_text k path source err e status Parse refusal (inl told) =
-    subst (Outcome k path (Ok source) err) (sym told.0)
-    (refusal.3, told_refusal k (Some path) (string_bytes source) err e refusal told.1)
-of_text k path source err e status Parse refusal (inr told) = by_memory k path (Ok source) err status told
-of_text k path source err e status Memory fault told = by_memory k path (Ok source) err status told
+of_text k path source err e status Io fault reported = absurd fault
+of_text k path source err e status Parse refusal (inl reported) =
+    subst (Outcome k path (Ok source) err) (sym reported.0)
+    (refusal.3, reported_refusal k (Some path) (string_bytes source) err e refusal reported.1)
+of_text k path source err e status Parse refusal (inr reported) = by_memory k path (Ok source) err status reported
+of_text k path source err e status Memory fault reported = by_memory k path (Ok source) err status reported
 
 of_fault : (k : ItemType) (path : List ℕ) (fault : Error) (err : Stream) (e : ParseError) (status : ℕ) (kind : ParseErrorKind)
     → OnKind kind (fault_of e ≡ Some fault) ⊥ (error_kind fault ≡ OutOfMemory)
-    → OnKind kind ((status ≡ 3) × ToldFault err) (((status ≡ 1) × ToldLine err e) ⊎ StoppedByMemory err status) (StoppedByMemory err status)
+    → OnKind kind ((status ≡ 3) × ReportedFault err) (((status ≡ 1) × ReportedLine err e) ⊎ StoppedByMemory err status) (StoppedByMemory err status)
     → Outcome k path (Err fault) err status
-of_fault k path fault err e status Io is told = subst (Outcome k path (Err fault) err) (sym told.0) (inl told.1)
-of_fault k path fault err e status Parse is told = absurd is
-of_fault k path fault err e status Memory is told = by_memory k path (Err fault) err status told
+of_fault k path fault err e status Io is reported = subst (Outcome k path (Err fault) err) (sym reported.0) (inl reported.1)
+of_fault k path fault err e status Parse is reported = absurd is
+of_fault k path fault err e status Memory is reported = by_memory k path (Err fault) err status reported
 
 outcome : (k : ItemType) (path : List ℕ) (read : FileRead) (err : Stream) (e : ParseError) (status : ℕ)
-    → ReadError k path read e → ErrorTold err status e → Outcome k path read err status
-outcome k path (Ok source) err e status is told = of_text k path source err e status (kind_of e) is told
-outcome k path (Err fault) err e status is told = of_fault k path fault err e status (kind_of e) is told
+    → ReadError k path read e → ErrorReported err status e → Outcome k path read err status
+outcome k path (Ok source) err e status is reported = of_text k path source err e status (kind_of e) is reported
+outcome k path (Err fault) err e status is reported = of_fault k path fault err e status (kind_of e) is reported
 
 stopped_by : (k : ItemType) (a : List ℕ) (first : FileRead) (out err : Stream) (status : ℕ)
     → IsGivenNothing out → Outcome k a first err status → StoppedAtFirst k a first out err status
@@ -65,9 +65,9 @@ stopped_by k a first out err (suc (suc (suc (suc n)))) nothing is = absurd is
 
 -- the first file's error is reported, and the second is not read
 pub first_refused : (k : ItemType) (a : List ℕ) (first : FileRead) (out err : Stream) (e : ParseError) (status : ℕ)
-    → IsGivenNothing out → ReadError k a first e → ErrorTold err status e → StoppedAtFirst k a first out err status
-first_refused k a first out err e status nothing is told =
-    stopped_by k a first out err status nothing (outcome k a first err e status is told)
+    → IsGivenNothing out → ReadError k a first e → ErrorReported err status e → StoppedAtFirst k a first out err status
+first_refused k a first out err e status nothing is reported =
+    stopped_by k a first out err status nothing (outcome k a first err e status is reported)
 
 of_second : (k : ItemType) (a b : List ℕ) (first second : FileRead) (xs : List Item) (out err : Stream) (status : ℕ)
     → IsGivenNothing out → ReadSpells k first xs → Outcome k b second err status → IsSameRun k a b first second out err status
@@ -75,15 +75,15 @@ of_second k a b first second xs out err zero nothing spells is = absurd is
 of_second k a b first second xs out err (suc zero) nothing spells is = (inr ((xs, spells), is), nothing)
 of_second k a b first second xs out err (suc (suc zero)) nothing spells is = absurd is
 of_second k a b first second xs out err (suc (suc (suc zero))) nothing spells (inl failed) = (inr (inl ((xs, spells), failed)), λ works. nothing)
-of_second k a b first second xs out err (suc (suc (suc zero))) nothing spells (inr told) = (inr (inr (inr told)), λ works. nothing)
+of_second k a b first second xs out err (suc (suc (suc zero))) nothing spells (inr reported) = (inr (inr (inr reported)), λ works. nothing)
 of_second k a b first second xs out err (suc (suc (suc (suc n)))) nothing spells is = absurd is
 
 -- the second file's error is reported
 pub second_refused : (k : ItemType) (a b : List ℕ) (first second : FileRead) (xs : List Item) (out err : Stream) (e : ParseError) (status : ℕ)
-    → IsGivenNothing out → ReadSpells k first xs → ReadError k b second e → ErrorTold err status e
+    → IsGivenNothing out → ReadSpells k first xs → ReadError k b second e → ErrorReported err status e
     → IsSameRun k a b first second out err status
-second_refused k a b first second xs out err e status nothing spells is told =
-    of_second k a b first second xs out err status nothing spells (outcome k b second err e status is told)
+second_refused k a b first second xs out err e status nothing spells is reported =
+    of_second k a b first second xs out err status nothing spells (outcome k b second err e status is reported)
 
 of_says : (x y : Items) (out : Stream) → kind_of_items x ≡ kind_of_items y → Says (SameItems x y) out
     → Says (AllZip SameGraph (view_items x) (view_items y)) out
@@ -107,7 +107,7 @@ of_stopped k a b first out err zero is = absurd is
 of_stopped k a b first out err (suc zero) is = (inl is.0, is.1)
 of_stopped k a b first out err (suc (suc zero)) is = absurd is
 of_stopped k a b first out err (suc (suc (suc zero))) (inl failed, nothing) = (inl failed, λ works. nothing)
-of_stopped k a b first out err (suc (suc (suc zero))) (inr told, nothing) = (inr (inr (inr told)), λ works. nothing)
+of_stopped k a b first out err (suc (suc (suc zero))) (inr reported, nothing) = (inr (inr (inr reported)), λ works. nothing)
 of_stopped k a b first out err (suc (suc (suc (suc n)))) is = absurd is
 
 -- a run over files is one over some reads: if the second file was not read, the first read is taken in its place

@@ -13,8 +13,8 @@ usage_text =
     codes "usage: souper_fmt lhs|rhs|rep" ++ 10 ∷ [] ++ codes "       souper_fmt same lhs|rhs|rep PATH PATH" ++ 10 ∷ []
 
 -- unless the writer has failed, the usage text was written to it
-abbrev pub ToldUsage : Stream → Type 0
-ToldUsage err = err.failed ≡ false → IsGiven err usage_text
+abbrev pub ReportedUsage : Stream → Type 0
+ReportedUsage err = err.failed ≡ false → IsGiven err usage_text
 
 -- nothing was read of the reader
 abbrev pub IsUnread : Stream → Type 0
@@ -23,7 +23,7 @@ IsUnread input = input.after ≡ input.before
 -- No command: the usage text, and status 2. A kind: a run of the formatter over the reader. `same`, a kind and two
 -- paths: a run over the two files, where gives says what the read of a path may return.
 abbrev pub IsCommandRun : (List ℕ → FileRead → Type 0) → Option Command → Stream → Stream → Stream → ℕ → Type 0
-IsCommandRun gives None input out err status = (status ≡ 2) × ToldUsage err × (IsGivenNothing out × IsUnread input)
+IsCommandRun gives None input out err status = (status ≡ 2) × ReportedUsage err × (IsGivenNothing out × IsUnread input)
 IsCommandRun gives (Some (Format kind)) input out err status = IsRun (item_type_of kind) input out err status
 IsCommandRun gives (Some (Same kind a b)) input out err status =
     IsFilesRun (item_type_of kind) gives (string_bytes a) (string_bytes b) out err status × IsUnread input

@@ -6,7 +6,7 @@ use Rattle.souper_ir.specs.Places.{IsRefusalText}
 use Rattle.souper_format.specs.Formatted.{IsFormatted}
 use Rattle.souper_format.specs.Streams.{Stream, IsGiven, IsGivenNothing}
 use Rattle.souper_format.specs.Reading.{ReadAll, ReadNoText}
-use Rattle.souper_format.specs.Telling.{ToldMemory, ToldFault}
+use Rattle.souper_format.specs.Reporting.{ReportedMemory, ReportedFault}
 
 -- the formatted source was written to `out`, and nothing else
 abbrev pub Formats : ItemType → List ℕ → Stream → Type 0
@@ -18,21 +18,21 @@ Done k input out err = ((source : List ℕ) × ReadAll input source × Formats k
 
 -- unless the writer has failed, the line of a refusal at an offset of the source, which has that file name, was written
 -- to it
-abbrev pub ToldRefusal : Option (List ℕ) → List ℕ → Stream → Type 0
-ToldRefusal file source err = err.failed ≡ false → (offset : ℕ) × (shown : List ℕ)
+abbrev pub ReportedRefusal : Option (List ℕ) → List ℕ → Stream → Type 0
+ReportedRefusal file source err = err.failed ≡ false → (offset : ℕ) × (shown : List ℕ)
     × (offset ≤ length source) × IsRefusalText file source offset shown × IsGiven err (shown ++ 10 ∷ [])
 
 -- all that was read is a text that spells no items, nothing was written, and the refusal was reported
 abbrev pub Refused : ItemType → Stream → Stream → Stream → Type 0
 Refused k input out err =
-    ((source : List ℕ) × ReadAll input source × IsUtf8 source × SpellsNone k source × ToldRefusal None source err)
+    ((source : List ℕ) × ReadAll input source × IsUtf8 source × SpellsNone k source × ReportedRefusal None source err)
     × IsGivenNothing out
 
 -- the reader or `out` has failed, or what was read is no text, or memory ran out, and that was reported; nothing was
 -- written, unless `out` has failed
 abbrev pub Stopped : Stream → Stream → Stream → Type 0
 Stopped input out err =
-    ((((input.failed ≡ true) ⊎ (out.failed ≡ true) ⊎ ReadNoText input) × ToldFault err) ⊎ ToldMemory err)
+    ((((input.failed ≡ true) ⊎ (out.failed ≡ true) ⊎ ReadNoText input) × ReportedFault err) ⊎ ReportedMemory err)
     × (out.failed ≡ false → IsGivenNothing out)
 
 -- a fact for each status, of which there are three

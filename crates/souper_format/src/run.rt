@@ -4,13 +4,13 @@ ghost use Rattle.souper_format.specs.Kinds.{item_type_of};
 ghost use Rattle.souper_format.specs.Watching.{watched_inner, has_failed, has_ended};
 ghost use Rattle.souper_format.specs.Streams.{stream, IsGiven};
 ghost use Rattle.souper_format.specs.Reading.{ReadAll, FaultMeans};
-ghost use Rattle.souper_format.specs.Telling.{ToldFault};
+ghost use Rattle.souper_format.specs.Reporting.{ReportedFault};
 ghost use Rattle.souper_format.specs.Runs.{IsRun, IsKnownRun};
-ghost use Rattle.souper_format.specs.Dispatch.{ToldUsage};
+ghost use Rattle.souper_format.specs.Dispatch.{ReportedUsage};
 
 use crate::command::Kind;
 use crate::items::format_text;
-use crate::tell::{tell_error, tell_fault, tell_memory};
+use crate::report::{report_error, report_fault, report_memory};
 use crate::watched::Watched;
 use std::alloc::Global;
 use std::io;
@@ -110,15 +110,15 @@ fn run_to_status<R: Read, W: Write, E: Write>(
     let source = match read_text(alloc, input) {
         Ok(source) => source,
         Err(ReadFault::Failed(fault)) => {
-            tell_fault(alloc, &fault, err);
+            report_fault(alloc, &fault, err);
             return 3;
         }
         Err(ReadFault::NotText) => {
-            tell_fault(alloc, &io::Error::from(ErrorKind::InvalidData), err);
+            report_fault(alloc, &io::Error::from(ErrorKind::InvalidData), err);
             return 3;
         }
         Err(ReadFault::OutOfMemory) => {
-            tell_memory(err);
+            report_memory(err);
             return 3;
         }
     };
@@ -126,27 +126,27 @@ fn run_to_status<R: Read, W: Write, E: Write>(
         Ok(text) => match deliver(text.as_str(), out) {
             Ok(()) => 0,
             Err(fault) => {
-                tell_fault(alloc, &fault, err);
+                report_fault(alloc, &fault, err);
                 3
             }
         },
-        Err(error) => tell_error(alloc, &error, err),
+        Err(error) => report_error(alloc, &error, err),
     }
 }
 
 /// Writes to `err` the fault that kept the program from its command, and returns the status of the program, which is 3.
 pub fn report<E: Write>(alloc: Global, fault: &io::Error, err: &mut Watched<E>) -> u8
     ensures status { result ≡ 3 }
-    ensures told { ToldFault (stream E.contents err.old err.new) }
+    ensures reported { ReportedFault (stream E.contents err.old err.new) }
 {
-    tell_fault(alloc, fault, err);
+    report_fault(alloc, fault, err);
     3
 }
 
 /// Writes to `err` how the program is used, and returns the status of the program, which is 2.
 pub fn usage<E: Write>(err: &mut Watched<E>) -> u8
     ensures status { result ≡ 2 }
-    ensures told { ToldUsage (stream E.contents err.old err.new) }
+    ensures reported { ReportedUsage (stream E.contents err.old err.new) }
 {
     let _ = err.write_all(
         b"usage: souper_fmt lhs|rhs|rep\n       souper_fmt same lhs|rhs|rep PATH PATH\n",

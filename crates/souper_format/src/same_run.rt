@@ -10,9 +10,9 @@ ghost use Rattle.souper_format.specs.SameRuns.{FileRead, ReadSpells, ReadError, 
 use crate::command::Kind;
 use crate::files::TextFiles;
 use crate::items::{Items, read_items};
+use crate::report::{report_error, report_fault, report_memory};
 use crate::run::deliver;
 use crate::same::same;
-use crate::tell::{tell_error, tell_fault, tell_memory};
 use crate::watched::Watched;
 use souper_ir::parse::ParseError;
 use std::alloc::{AllocError, Global};
@@ -60,14 +60,14 @@ fn compare<W: Write, E: Write>(
         Ok(true) => "same\n",
         Ok(false) => "different\n",
         Err(_) => {
-            tell_memory(err);
+            report_memory(err);
             return 3;
         }
     };
     match deliver(line, out) {
         Ok(()) => 0,
         Err(fault) => {
-            tell_fault(alloc, &fault, err);
+            report_fault(alloc, &fault, err);
             3
         }
     }
@@ -97,11 +97,11 @@ pub fn compare_files<F: TextFiles, W: Write, E: Write>(
 {
     let first = match items_of_read(alloc, kind, files.read_text(a), a) {
         Ok(items) => items,
-        Err(error) => return tell_error(alloc, &error, err),
+        Err(error) => return report_error(alloc, &error, err),
     };
     let second = match items_of_read(alloc, kind, files.read_text(b), b) {
         Ok(items) => items,
-        Err(error) => return tell_error(alloc, &error, err),
+        Err(error) => return report_error(alloc, &error, err),
     };
     compare(alloc, &first, &second, out, err)
 }

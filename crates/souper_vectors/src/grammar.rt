@@ -257,7 +257,7 @@ fn attributes_are_read(rt: HostRuntime) -> Result<(), Fail> {
 }
 
 #[test]
-fn comma_may_stand_in_cand(rt: HostRuntime) -> Result<(), Fail> {
+fn comma_may_come_in_cand(rt: HostRuntime) -> Result<(), Fail> {
     let alloc = rt.alloc();
     let first = "%0 = var\n%1 = add %0, %0\n%2 = mul %0, 2\ncand %1 %2\n";
     let second = "%0 = var\n%1 = and %0, %0\ncand %1 %0\n";

@@ -76,7 +76,7 @@ pub const NAMES: [&str; 14] = [
 ];
 
 /// Refused for the predecessors of a block, or for their number.
-pub const WAYS: [&str; 8] = [
+pub const PREDECESSORS: [&str; 8] = [
     "%bb = block 2\n%p = phi %bb, 1\ninfer %p",
     "%b = block 2\n%p = phi %b\ninfer %p\n",
     "%b = block 4294967295\n%p = phi %b, 1\ninfer %p",

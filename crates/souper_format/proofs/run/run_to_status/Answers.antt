@@ -10,7 +10,7 @@ pub returns : goal.returns
 returns g c =
     let input = stream g.R.Read.remaining c.args.input.now c.read_text.new.input in
     let out = stream g.W.Write.contents c.args.out.now c.args.out.now in
-    let err = stream g.E.Write.contents c.args.err.now c.tell_error.new.err in
+    let err = stream g.E.Write.contents c.args.err.now c.report_error.new.err in
     let read = subst (ReadAll input) (sym c.as_str.ensures.value) c.in-Ok.ensures.text in
-    status_of_error (item_type_of c.args.kind) input out err c.as_str.result.now c.in-Err.error c.tell_error.result
-    read c.as_str.utf8 (Keeps-refl _) c.in-Err.ensures.refused c.tell_error.ensures
+    status_of_error (item_type_of c.args.kind) input out err c.as_str.result.now c.in-Err.error c.report_error.result
+    read c.as_str.utf8 (Keeps-refl _) c.in-Err.ensures.refused c.report_error.ensures

@@ -8,17 +8,17 @@ use Rattle.souper_format.proofs.same_run.compare_files.Goals as goal
 pub returns-in-Err : goal.returns-in-Err
 returns-in-Err g c =
     let out = stream g.W.Write.contents c.args.out.now c.args.out.now in
-    let err = stream g.E.Write.contents c.args.err.now c.tell_error.new.err in (
+    let err = stream g.E.Write.contents c.args.err.now c.report_error.new.err in (
       c.read_text.result,
       c.read_text.ensures,
-      inl (first_refused (item_type_of c.args.kind) c.args.a.now c.read_text.result out err c.in-Err.error c.tell_error.result
-          (Keeps-refl _) c.in-Err.ensures.refused c.tell_error.ensures),
+      inl (first_refused (item_type_of c.args.kind) c.args.a.now c.read_text.result out err c.in-Err.error c.report_error.result
+          (Keeps-refl _) c.in-Err.ensures.refused c.report_error.ensures),
     )
 
 pub returns-in-Err-items_of_read : goal.returns-in-Err-items_of_read
 returns-in-Err-items_of_read g c =
     let out = stream g.W.Write.contents c.args.out.now c.args.out.now in
-    let err = stream g.E.Write.contents c.args.err.now c.tell_error-in-Err-items_of_read.new.err in (
+    let err = stream g.E.Write.contents c.args.err.now c.report_error-in-Err-items_of_read.new.err in (
       c.read_text.result,
       c.read_text.ensures,
       inr (
@@ -27,9 +27,9 @@ returns-in-Err-items_of_read g c =
           c.read_text-2.result,
           c.read_text-2.ensures,
           second_refused (item_type_of c.args.kind) c.args.a.now c.args.b.now c.read_text.result c.read_text-2.result
-              (view_items c.in-Ok.items) out err c.in-Err-items_of_read.error c.tell_error-in-Err-items_of_read.result
+              (view_items c.in-Ok.items) out err c.in-Err-items_of_read.error c.report_error-in-Err-items_of_read.result
               (Keeps-refl _) c.in-Ok.ensures.spelled c.in-Err-items_of_read.ensures.refused
-              c.tell_error-in-Err-items_of_read.ensures,
+              c.report_error-in-Err-items_of_read.ensures,
         ),
       ),
     )

@@ -9,16 +9,16 @@ abbrev pub memory_line : List ℕ
 memory_line = codes "out of memory" ++ 10 ∷ []
 
 -- unless the writer has failed, the line for out of memory was written to it
-abbrev pub ToldMemory : Stream → Type 0
-ToldMemory err = err.failed ≡ false → IsGiven err memory_line
+abbrev pub ReportedMemory : Stream → Type 0
+ReportedMemory err = err.failed ≡ false → IsGiven err memory_line
 
 -- the line of an I/O error
 abbrev pub fault_line : List ℕ → List ℕ
 fault_line shown = codes "IO error: " ++ shown ++ 10 ∷ []
 
 -- unless the writer has failed, the line of an I/O error, or of out of memory, was written to it
-abbrev pub ToldFault : Stream → Type 0
-ToldFault err = err.failed ≡ false → ((shown : List ℕ) × IsGiven err (fault_line shown)) ⊎ IsGiven err memory_line
+abbrev pub ReportedFault : Stream → Type 0
+ReportedFault err = err.failed ≡ false → ((shown : List ℕ) × IsGiven err (fault_line shown)) ⊎ IsGiven err memory_line
 
 -- the bytes are what is shown of the error, if that is known
 abbrev pub IsShown : ParseError → List ℕ → Type 0
@@ -29,16 +29,16 @@ abbrev pub IsErrorLine : ParseError → List ℕ → Type 0
 IsErrorLine e line = (shown : List ℕ) × IsShown e shown × (line ≡ shown ++ 10 ∷ [])
 
 -- unless the writer has failed, the line of the error was written to it
-abbrev pub ToldLine : Stream → ParseError → Type 0
-ToldLine err e = err.failed ≡ false → (line : List ℕ) × IsErrorLine e line × IsGiven err line
+abbrev pub ReportedLine : Stream → ParseError → Type 0
+ReportedLine err e = err.failed ≡ false → (line : List ℕ) × IsErrorLine e line × IsGiven err line
 
 -- the status is 3, and out of memory was reported
 abbrev pub StoppedByMemory : Stream → ℕ → Type 0
-StoppedByMemory err status = (status ≡ 3) × ToldMemory err
+StoppedByMemory err status = (status ≡ 3) × ReportedMemory err
 
 -- the status of an error and what was reported of it: memory may run out for its line
-abbrev pub ErrorTold : Stream → ℕ → ParseError → Type 0
-ErrorTold err status e = OnKind (kind_of e)
-    ((status ≡ 3) × ToldFault err)
-    (((status ≡ 1) × ToldLine err e) ⊎ StoppedByMemory err status)
+abbrev pub ErrorReported : Stream → ℕ → ParseError → Type 0
+ErrorReported err status e = OnKind (kind_of e)
+    ((status ≡ 3) × ReportedFault err)
+    (((status ≡ 1) × ReportedLine err e) ⊎ StoppedByMemory err status)
     (StoppedByMemory err status)

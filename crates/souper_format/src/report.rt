@@ -1,7 +1,7 @@
 //! The lines that report an error, each to a stream that may fail.
 ghost use Rattle.std.specs.Prelude.{◌≡◌, string_bytes, IfOk, ℕ, List};
 ghost use Rattle.souper_format.specs.Streams.{stream};
-ghost use Rattle.souper_format.specs.Telling.{fault_line, IsErrorLine, ToldMemory, ToldFault, ErrorTold};
+ghost use Rattle.souper_format.specs.Reporting.{fault_line, IsErrorLine, ReportedMemory, ReportedFault, ErrorReported};
 
 use crate::watched::Watched;
 use souper_ir::parse::{ParseError, ParseErrorKind};
@@ -10,8 +10,8 @@ use std::io;
 use std::io::Write;
 
 /// Reports out of memory, without allocating.
-pub(crate) fn tell_memory<E: Write>(err: &mut Watched<E>)
-    ensures { ToldMemory (stream E.contents err.old err.new) }
+pub(crate) fn report_memory<E: Write>(err: &mut Watched<E>)
+    ensures { ReportedMemory (stream E.contents err.old err.new) }
 {
     let _ = err.write_all(b"out of memory\n");
 }
@@ -28,14 +28,14 @@ fn line_of_fault(alloc: Global, fault: &io::Error) -> Result<String, AllocError>
 }
 
 /// Reports a fault of a stream.
-pub(crate) fn tell_fault<E: Write>(alloc: Global, fault: &io::Error, err: &mut Watched<E>)
-    ensures { ToldFault (stream E.contents err.old err.new) }
+pub(crate) fn report_fault<E: Write>(alloc: Global, fault: &io::Error, err: &mut Watched<E>)
+    ensures { ReportedFault (stream E.contents err.old err.new) }
 {
     match line_of_fault(alloc, fault) {
         Ok(line) => {
             let _ = err.write_all(line.as_bytes());
         }
-        Err(_) => tell_memory(err),
+        Err(_) => report_memory(err),
     }
 }
 
@@ -48,11 +48,11 @@ fn line_of_error(alloc: Global, error: &ParseError) -> Result<String, AllocError
 }
 
 /// Reports an error of a parser, and returns the status of the program: 1 if it refused a text, else 3.
-pub(crate) fn tell_error<E: Write>(alloc: Global, error: &ParseError, err: &mut Watched<E>) -> u8
-    ensures { ErrorTold (stream E.contents err.old err.new) result error.now }
+pub(crate) fn report_error<E: Write>(alloc: Global, error: &ParseError, err: &mut Watched<E>) -> u8
+    ensures { ErrorReported (stream E.contents err.old err.new) result error.now }
 {
     if let Some(fault) = error.io_error() {
-        tell_fault(alloc, fault, err);
+        report_fault(alloc, fault, err);
         return 3;
     }
     if error.kind() == ParseErrorKind::Parse
@@ -61,6 +61,6 @@ pub(crate) fn tell_error<E: Write>(alloc: Global, error: &ParseError, err: &mut 
         let _ = err.write_all(line.as_bytes());
         return 1;
     }
-    tell_memory(err);
+    report_memory(err);
     3
 }
