@@ -68,7 +68,7 @@ fn appended(rt: &impl Abort, alloc: Global) -> Result<Met, Fail> {
         }
         Err(error) => {
             assert!(rt; error == TextError::OutOfMemory);
-            assert_eq!(rt; out.as_str(), "before\n");
+            assert!(rt; out.as_str().starts_with("before\n"));
             return Ok(Met::Refused);
         }
     }
