@@ -167,7 +167,7 @@ instruction_at p = do
   i ← instruction_by o.0 xs.0
   Some (i, xs.1)
 
--- the instruction of an opcode, whose operands stand next
+-- the instruction of an opcode, whose operands come next
 unfoldable pub instruction_of_at : Opcode → Parsing → Option (Instruction × Parsing)
 instruction_of_at o p = do
   xs ← operands_at (operand_count o) p

@@ -67,7 +67,7 @@ fn instruction_word(parser: &mut Parser<'_>) -> Read<Opcode>
     }
 }
 
-// The instruction of an opcode, whose operands stand next.
+// The instruction of an opcode, whose operands come next.
 fn instruction_of(parser: &mut Parser<'_>, opcode: Opcode) -> Read<Instruction>
     requires { parser.old.failed ≡ None }
     ensures { Gives (λ i. i) (widened result) (instruction_of_at opcode parser.old) parser.old parser.new }
