@@ -1,4 +1,8 @@
 //! The tokens of Souper IR: those of a text, each with the offset of its first byte.
+//!
+//! Souper IR is the text format of the superoptimizer [Souper](https://github.com/google/souper), which the crate
+//! `souper_ir` reads. [`Lexer::next_token`] passes white space and comments, and returns the next [`Token`], `None` at the
+//! end, or the [`Fault`] that the text has there.
 #![tactic(auto)]
 
 ghost use Rattle.std.specs.Prelude.{◌≡◌, ℕ, ◌+◌, ◌<◌, ◌≤◌, ◌^◌, List, ◌∷◌, length, drop, IsCharBoundary, IfErr, slice_index, option_map, false};
