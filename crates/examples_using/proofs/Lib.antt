@@ -1,2 +1,6 @@
 mod Conditions
+mod Doubling
+mod NameLists
+mod Reports
 pub mod RoundTrips
+mod Terms

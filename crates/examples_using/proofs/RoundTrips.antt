@@ -1,5 +1,5 @@
 -- What reads back, and is read, is the one renumbered item.
-use Rattle.std.proofs.Common.{◌≡◌, ℕ, List, [], ◌∷◌, ◌++◌, map, subst}
+use Rattle.std.proofs.Common.{◌≡◌, ℕ, List, [], ◌∷◌, ◌++◌, subst}
 use Rattle.std.specs.Prelude.{Result, Ok, Err, IfOk}
 use Rattle.souper_graph.specs.Values.{Item}
 use Rattle.souper_graph.specs.Sameness.{renumbered}

@@ -1,16 +1,24 @@
 //! Building an item.
+ghost use Rattle.std.specs.Prelude.{◌≡◌, IfOk};
+ghost use Rattle.souper_graph.specs.View.{view_replacement};
+ghost use Rattle.examples_using.specs.Doubling.{untyped, doubling};
+
 use souper_ir::ast::{
     AssignmentRhs, Constant, Instruction, Operand, Replacement, ReplacementBuilder, Type,
 };
 use std::alloc::{AllocError, Global};
 
 // A number without a type.
-fn number(value: i128) -> Operand {
+fn number(value: i128) -> Operand
+    ensures { result ≡ untyped value }
+{
     Constant { value, ty: None }.into()
 }
 
 /// The replacement of twice a value by a shift of it.
-pub fn doubled(alloc: Global) -> Result<Replacement, AllocError> {
+pub fn doubled(alloc: Global) -> Result<Replacement, AllocError>
+    ensures { IfOk result (λ item. view_replacement item ≡ doubling) }
+{
     let mut builder = ReplacementBuilder::new(alloc);
     let name = String::from_str(alloc, "%x")?;
     let ty = Some(Type { width: 32 });

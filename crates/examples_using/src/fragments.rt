@@ -1,4 +1,7 @@
 //! Parsing parts of a text.
+ghost use Rattle.std.specs.Prelude.{IfOk};
+ghost use Rattle.examples_using.specs.Terms.{BeginsWith};
+
 use souper_ir::ast::{Constant, Instruction};
 use souper_ir::parse::{Parse, Parser, Peek, Result};
 use std::alloc::Global;
@@ -11,7 +14,9 @@ pub enum Term {
 }
 
 /// The term that the text begins with, and the numbers that follow it.
-pub fn read_term(alloc: Global, source: &str) -> Result<(Term, Vec<Constant>)> {
+pub fn read_term(alloc: Global, source: &str) -> Result<(Term, Vec<Constant>)>
+    ensures { IfOk result (λ read. BeginsWith source.now read.0 read.1.items) }
+{
     let mut parser = Parser::new(alloc, source);
     let term = if Instruction::peek(&mut parser)? {
         Term::Operation(Instruction::parse(&mut parser)?)

@@ -1,20 +1,25 @@
 //! Reading a text, and what to say if it is refused.
-ghost use Rattle.std.specs.Prelude.{◌∷◌, [], IfOk, IfSome};
+ghost use Rattle.std.specs.Prelude.{◌∷◌, [], IfOk, IfSome, string_bytes};
 ghost use Rattle.souper_graph.specs.View.{view_left_hand_side};
 ghost use Rattle.souper_graph.specs.Syntax.Spelling.{TextSpells, left_hand_side};
+ghost use Rattle.examples_using.specs.Reports.{IsReport};
 
 use souper_ir::ast::LeftHandSide;
-use souper_ir::parse::{ParseError, parse_left_hand_sides_str};
+use souper_ir::parse::{ParseError, ParseErrorKind, parse_left_hand_sides_str};
 use std::alloc::{AllocError, Global};
 
 /// The number of left-hand sides in the text, or where and why it is refused.
-pub fn report(alloc: Global, source: &str) -> Result<String, AllocError> {
+pub fn report(alloc: Global, source: &str) -> Result<String, AllocError>
+    ensures { IfOk result (λ text. IsReport source.now (string_bytes text)) }
+{
     match parse_left_hand_sides_str(alloc, source, Some("input.souper")) {
         Ok(items) => format!(in alloc; "left-hand sides: {}", items.len()),
-        Err(error) => match error.offset() {
-            Some(offset) => format!(in alloc; "refused at byte {offset}\n{error}"),
+        Err(error) => match (error.kind(), error.offset()) {
+            (ParseErrorKind::Parse, Some(offset)) => {
+                format!(in alloc; "refused at byte {offset}\n{error}")
+            }
             // For a text, the only other kind is `ParseErrorKind::Memory`.
-            None => Err(AllocError),
+            _ => Err(AllocError),
         },
     }
 }

@@ -1,14 +1,18 @@
 //! Walking the statements of an item.
-ghost use Rattle.std.specs.Prelude.{◌≡◌, IfOk};
-ghost use Rattle.souper_graph.specs.Uses.{conditions};
+ghost use Rattle.std.specs.Prelude.{◌≡◌, IfOk, map, option_copied};
+ghost use Rattle.souper_graph.specs.Order.{printed_order};
+ghost use Rattle.souper_graph.specs.Uses.{conditions, UsesBelow};
 ghost use Rattle.souper_graph.specs.View.{view_left_hand_side};
+ghost use Rattle.examples_using.specs.Names.{name_at, names_at};
 
 use souper_ir::ast::{Arena, AssignmentRhs, Id, LeftHandSide, Operand, Statement, ValueId};
 use souper_ir::stringify::TextError;
 use std::alloc::{AllocError, Global};
 
 /// The name of a value.
-pub fn name_of(statements: &Arena<Statement>, value: ValueId) -> Option<&str> {
+pub fn name_of(statements: &Arena<Statement>, value: ValueId) -> Option<&str>
+    ensures { option_copied result ≡ name_at statements.now value }
+{
     match statements.get(value.into()) {
         Some(Statement::Assignment(assignment)) => Some(assignment.name.as_str()),
         _ => None,
@@ -16,6 +20,7 @@ pub fn name_of(statements: &Arena<Statement>, value: ValueId) -> Option<&str> {
 }
 
 /// A line for each instruction: the position of its statement, its word, and what its operands refer to.
+/// That the lines are these is only tested.
 pub fn instructions(alloc: Global, item: &LeftHandSide) -> Result<String, AllocError> {
     let mut lines = String::new(alloc);
     for (id, statement) in item.statements.iter() {
@@ -58,7 +63,9 @@ pub fn path_conditions(alloc: Global, item: &LeftHandSide) -> Result<Vec<Id<Stat
 }
 
 /// The names of the values that are needed, in the order in which they are printed.
-pub fn needed_names<'a>(alloc: Global, item: &'a LeftHandSide) -> Result<Vec<&'a str>, TextError> {
+pub fn needed_names<'a>(alloc: Global, item: &'a LeftHandSide) -> Result<Vec<&'a str>, TextError>
+    ensures { UsesBelow (view_left_hand_side item.now) → IfOk result (λ names. map (λ name. name.now) names.items ≡ names_at item.now.statements (printed_order (view_left_hand_side item.now))) }
+{
     let order = item.print_order()?;
     let mut names = Vec::new(alloc);
     for id in &order.ids {

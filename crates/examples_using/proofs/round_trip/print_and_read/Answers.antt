@@ -1,4 +1,4 @@
-use Rattle.std.proofs.Common.{rules, ◌≡◌, ℕ, List, [], ◌∷◌, ◌++◌, map}
+use Rattle.std.proofs.Common.{rules, ◌≡◌, [], ◌∷◌, ◌++◌, map}
 use Rattle.std.specs.String.{string_bytes}
 use Rattle.souper_graph.specs.View.{view_left_hand_side}
 use Rattle.souper_graph.specs.Syntax.Spelling.{left_hand_side}
