@@ -1,5 +1,5 @@
 //! A parser with one token of lookahead.
-ghost use Rattle.std.specs.Prelude.{◌≡◌, ◌≤◌, ◌++◌, ◌∷◌, [], length, map, ℕ, List, true, false, Some, None, IfOk, IfSome, OnOk, OnErr, IfErr, OnErr, IsOk, IsSomeAnd, option_map, is_some, ◌≢◌};
+ghost use Rattle.std.specs.Prelude.{◌≡◌, ◌≤◌, ◌++◌, ◌∷◌, [], length, map, ℕ, List, true, false, Some, None, IfOk, IfSome, OnOk, OnErr, IfErr, OnErr, IsOk, IsSomeAnd, option_map, is_some, is_none, ◌≢◌};
 ghost use Rattle.std.specs.String.{string_bytes};
 ghost use Rattle.souper_graph.specs.View.{view_rhs, view_statement, view_assignment};
 ghost use Rattle.souper_graph.specs.Values.{assigned};
@@ -16,11 +16,11 @@ ghost use Rattle.souper_ir.specs.Reading.{Fails, FailsForMemory, Gives, cause_of
 
 use crate::parse::error::{ParseError, ReadError};
 use crate::parse::message::Message;
+use crate::parse::names::Names;
 use crate::parse::recent::Recent;
 use souper_graph::ast::{Arena, Assignment, AssignmentRhs, BlockId, Id, Statement, ValueId};
 use souper_lexer::{Fault, Lexer, Token};
 use std::alloc::{AllocError, Global};
-use std::collections::BTreeMap;
 use std::marker::Model;
 use std::mem;
 
@@ -50,8 +50,8 @@ pub struct Parser<'a> {
     offset: usize,
     // The statements of the item so far.
     statements: Arena<Statement>,
-    // The names that they define, each with its value and, for a block, its number of predecessors.
-    names: BTreeMap<&'a str, (ValueId, Option<u32>)>,
+    // The names that they define.
+    names: Names<'a>,
     // Is looked up before the map: most uses are of a value that was defined last.
     recent: Recent,
     failed: Option<Failure>,
@@ -84,7 +84,7 @@ impl<'a> Parser<'a> {
             ahead: None,
             offset: 0,
             statements: Arena::new(alloc),
-            names: BTreeMap::new(alloc),
+            names: Names::new(alloc),
             recent: Recent::new(),
             failed: None,
         }
@@ -282,7 +282,7 @@ impl<'a> Parser<'a> {
     {
         match self.recent_entry(name) {
             Some(entry) => Some(entry),
-            None => self.names.get(name).copied(),
+            None => self.names.get(name, self.statements.len()),
         }
     }
 
@@ -307,6 +307,22 @@ impl<'a> Parser<'a> {
         Some((Id::from(value).into(), ways))
     }
 
+    /// Whether a name is new. If so, its definition is to come next: it then needs no look into the map of names.
+    pub(crate) fn announce(&mut self, name: &'a str) -> Read<bool>
+        requires live { self.old.failed ≡ None }
+        ensures ok { OnOk result (self.new ≡ self.old) }
+        ensures new { IfOk result (λ new. new ≡ is_none (position_of self.old.scope name.now)) }
+        ensures err { IfErr result (λ error. FailsForMemory (error_of error) self.old self.new) }
+    {
+        match self.names.announce(name, self.statements.next_id().into()) {
+            Ok(new) => Ok(new),
+            Err(_) => {
+                self.failed = Some(Failure::Memory);
+                Err(ReadError::Memory)
+            }
+        }
+    }
+
     /// Adds the definition of a name to the statements.
     pub(crate) fn define(&mut self, name: &'a str, assignment: Assignment) -> Read<()>
         requires live { self.old.failed ≡ None }
@@ -325,8 +341,8 @@ impl<'a> Parser<'a> {
         };
         let value: ValueId = id.into();
         self.recent.put(name, value);
-        match self.names.insert(name, (value, ways)) {
-            Ok(_) => Ok(()),
+        match self.names.define(name, value, ways) {
+            Ok(()) => Ok(()),
             Err(_) => {
                 self.failed = Some(Failure::Memory);
                 Err(ReadError::Memory)
@@ -341,6 +357,7 @@ impl<'a> Parser<'a> {
         ensures ok { OnOk result (self.new ≡ record self.old { scope = self.old.scope ++ view_statement condition ∷ [] }) }
         ensures err { IfErr result (λ error. FailsForMemory (error_of error) self.old self.new) }
     {
+        self.names.withdraw();
         match push(&mut self.statements, condition) {
             Ok(_) => Ok(()),
             Err(_) => {
