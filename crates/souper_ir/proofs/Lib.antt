@@ -11,6 +11,7 @@ pub mod RightSides
 pub mod Limits
 pub mod Scopes
 pub mod Announced
+pub mod Taken
 pub mod WellFormedItems
 pub mod Statements
 pub mod NextStatements

@@ -1,5 +1,5 @@
 //! A parser with one token of lookahead.
-ghost use Rattle.std.specs.Prelude.{◌≡◌, ◌≤◌, ◌++◌, ◌∷◌, [], length, map, ℕ, List, true, false, Some, None, IfOk, IfSome, OnOk, OnErr, IfErr, OnErr, IsOk, IsSomeAnd, option_map, is_some, is_none, ◌≢◌};
+ghost use Rattle.std.specs.Prelude.{◌≡◌, ◌≤◌, ◌++◌, ◌∷◌, [], length, map, ℕ, List, true, false, Some, None, IfOk, IfSome, IfNone, OnOk, OnErr, IfErr, OnErr, IsOk, IsSomeAnd, option_map, is_some, is_none, ◌≢◌};
 ghost use Rattle.std.specs.String.{string_bytes};
 ghost use Rattle.souper_graph.specs.View.{view_rhs, view_statement, view_assignment};
 ghost use Rattle.souper_graph.specs.Values.{assigned};
@@ -7,17 +7,20 @@ ghost use Rattle.souper_graph.specs.Syntax.Tokens.{Lexeme, AreTokensOf, IsTextOf
 ghost use Rattle.souper_lexer.specs.TokenView.{lexeme_of, Lexes};
 ghost use Rattle.souper_graph.specs.Uses.{is_condition};
 ghost use Rattle.souper_graph.specs.Syntax.Spelling.{ways_of, entry_of, position_of};
-ghost use Rattle.souper_ir.specs.NodeReadings.{block_entry};
+ghost use Rattle.souper_ir.specs.NodeReadings.{accept, block_entry, is_mark, is_name, mark_of, name_of};
+ghost use Rattle.souper_ir.specs.Grammar.{peek_at};
+ghost use Rattle.souper_ir.specs.MarkView.{lexeme_of_mark};
 ghost use Rattle.souper_ir.specs.Parsing.{Cause, refused, no_memory};
 ghost use Rattle.souper_ir.specs.FailureView.{cause_of_failure};
 ghost use Rattle.souper_ir.specs.Errors.{error_of, widened, shown_error};
 ghost use Rattle.souper_ir.specs.Places.{IsDirectRefusalText};
-ghost use Rattle.souper_ir.specs.Reading.{Fails, FailsForMemory, Gives, cause_of, look_at, take_at};
+ghost use Rattle.souper_ir.specs.Reading.{Fails, FailsForMemory, Gives, IsRead, cause_of, look_at, take_at};
 
 use crate::parse::error::{ParseError, ReadError};
 use crate::parse::message::Message;
 use crate::parse::names::Names;
 use crate::parse::recent::Recent;
+use crate::parse::tokens::{Mark, byte_of};
 use souper_graph::ast::{Arena, Assignment, AssignmentRhs, BlockId, Id, Statement, ValueId};
 use souper_lexer::{Fault, Lexer, Token};
 use std::alloc::{AllocError, Global};
@@ -223,6 +226,38 @@ impl<'a> Parser<'a> {
                 Err(self.fail_at(last, Message::UnexpectedEnd))
             }
         }
+    }
+}
+
+impl<'a> Parser<'a> {
+    /// Takes the next token, if it is this mark and follows what was taken last with one space between them at most. It
+    /// may be this mark even if it is not taken.
+    #[inline(always)]
+    pub(crate) fn take_mark(&mut self, mark: Mark) -> bool
+        ensures taken { result ≡ true → IsRead (accept (mark_of (lexeme_of_mark mark)) self.old) tt self.old self.new }
+        ensures seen { result ≡ true → IsRead (peek_at (is_mark (lexeme_of_mark mark)) self.old) true self.old self.old }
+        ensures kept { result ≡ false → self.new ≡ self.old }
+    {
+        if self.failed.is_some() || self.ahead.is_some() {
+            return false;
+        }
+        self.lexer.take_mark(byte_of(mark))
+    }
+
+    /// Takes the next token, if it is a value name and follows what was taken last with one space between them at most. It
+    /// may be a name even if it is not taken.
+    #[inline(always)]
+    pub(crate) fn take_name(&mut self) -> Option<&'a str>
+        ensures taken { IfSome result (λ name. IsRead (accept name_of self.old) name.now self.old self.new) }
+        ensures seen { IfSome result (λ name. IsRead (peek_at is_name self.old) true self.old self.old) }
+        ensures kept { IfNone result (self.new ≡ self.old) }
+    {
+        if self.failed.is_some() || self.ahead.is_some() {
+            return None;
+        }
+        let (offset, name) = self.lexer.take_name()?;
+        self.offset = offset;
+        Some(name)
     }
 }
 
