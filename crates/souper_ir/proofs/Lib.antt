@@ -10,6 +10,8 @@ pub mod BitLists
 pub mod RightSides
 pub mod Limits
 pub mod Scopes
+pub mod Announced
+pub mod Taken
 pub mod WellFormedItems
 pub mod Statements
 pub mod NextStatements

@@ -122,7 +122,7 @@ named_pass ss s named c p v e = by_place (get_push ss s (assigned v) p e)
 
 -- ---- what is there
 
-get_in : (s : Scope) (i : ℕ) (x : PlainStatement) → slice_get s i ≡ Some x → i < length s
+pub get_in : (s : Scope) (i : ℕ) (x : PlainStatement) → slice_get s i ≡ Some x → i < length s
 get_in [] i x e = absurd cc
 get_in (y ∷ s) zero x e = omega arith
 get_in (y ∷ s) (suc i) x e = let more = get_in s i x e in omega arith

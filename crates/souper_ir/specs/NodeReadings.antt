@@ -98,6 +98,12 @@ constant_at p = do
   t ← optional_type_at n.1
   Some (record { value = n.0; ty = t.0 }, t.1)
 
+-- the operand of a name
+unfoldable pub named_operand_at : List ℕ → Parsing → Option (Operand × Parsing)
+named_operand_at n p = do
+  i ← position_of p.scope n
+  Some (Value i, p)
+
 abbrev pub operand_by : Bool → Parsing → Option (Operand × Parsing)
 operand_by true p = do
   n ← accept name_of p

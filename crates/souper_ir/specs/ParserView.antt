@@ -1,9 +1,5 @@
 -- Definitions. What a parser is seen as.
 use Rattle.std.specs.Prelude.{◌≡◌, ℕ, ◌≤◌, List, ◌∷◌, map, Option, Some, None, option_map, slice_get}
-use Rattle.std.specs.Borrow.{Bor}
-use Rattle.std.specs.BTreeMap.{BTreeMap, get_by}
-use Rattle.std.specs.Cmp.Lexicographic.{slice_cmp}
-use Rattle.std.specs.Ordering.{nat_cmp}
 use Rattle.souper_graph.specs.Values.{PlainAssignment, assigned}
 use Rattle.souper_graph.specs.View.{view_statement}
 use Rattle.souper_lexer.specs.declared.Token.{Token}
@@ -12,7 +8,8 @@ use Rattle.souper_ir.specs.declared.parse.parser.Failure.TheVariants.{Refused, M
 use Rattle.souper_ir.specs.declared.parse.parser.Parser.TheInside.{Inside}
 use Rattle.souper_graph.specs.Syntax.Tokens.{Lexeme}
 use Rattle.souper_lexer.specs.TokenView.{lexeme_of}
-use Rattle.souper_graph.specs.Syntax.Spelling.{Scope, entry_of, position_of}
+use Rattle.souper_graph.specs.Syntax.Spelling.{Scope, position_of}
+use Rattle.souper_ir.specs.NamesView.{AreNames}
 use Rattle.souper_ir.specs.Parsing.{Parsing}
 use Rattle.souper_ir.specs.FailureView.{cause_of_failure}
 
@@ -33,10 +30,6 @@ parsing_of p = record {
   failed = option_map cause_of_failure p.failed;
 }
 
--- the map has each name of the scope with its position and its block's number of predecessors, and no other
-abbrev pub NamesAre : BTreeMap (Bor (List ℕ)) (ℕ × Option ℕ) → Scope → Type 0
-NamesAre names s = (n : List ℕ) → get_by (λ (k : Bor (List ℕ)). slice_cmp nat_cmp n k.now) names ≡ entry_of s n
-
 -- each name resolves to the position of its assignment
 abbrev pub Named : Scope → Type 0
 Named s = (p : ℕ) (a : PlainAssignment) → slice_get s p ≡ Some (assigned a) → position_of s a.name ≡ Some p
@@ -51,5 +44,5 @@ FailedWithin len (Some Memory) = Unit {0}
 pub record IsParser (p : Inside) : Type 0 where
   pub offset : p.offset ≤ p.lexer.len
   pub failed : FailedWithin p.lexer.len p.failed
-  pub names : p.failed ≡ None → NamesAre p.names (map view_statement p.statements)
+  pub names : p.failed ≡ None → AreNames p.names (map view_statement p.statements)
   pub distinct : p.failed ≡ None → Named (map view_statement p.statements)

@@ -6,6 +6,7 @@ mod files;
 mod item;
 mod last_lines;
 mod message;
+mod names;
 mod numbers;
 mod operands;
 mod parser;

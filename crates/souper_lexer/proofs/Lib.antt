@@ -2,6 +2,7 @@ pub mod TokenText
 pub mod TokenGap
 pub mod TokenFront
 pub mod TokenSteps
+pub mod TokenTakes
 pub mod TokenComplete
 pub mod TokenSound
 pub mod TokenLaws

@@ -34,9 +34,13 @@ abbrev pub Reads : Result (Token × Bor (List ℕ)) Fault → Front → Type 0
 Reads (Ok x) front = front ≡ found (lexeme_of x.0) x.1.now
 Reads (Err f) front = front ≡ faulty
 
+-- the token at this offset was taken
+abbrev pub Takes : Lexed → ℕ → Lexeme → Lexed → Type 0
+Takes old o t new = (old.tokens ≡ (o, t) ∷ new.tokens) × (old.fault ≡ new.fault) × (old.len ≡ new.len) × (o < old.len)
+
 -- what a call of `next_token` on old returns: its first token, or that there is none, or that there is a fault
 abbrev pub Yields : Lexed → Result (Option (ℕ × Token)) Fault → Lexed → Type 0
-Yields old (Ok (Some x)) new = (old.tokens ≡ (x.0, lexeme_of x.1) ∷ new.tokens) × (old.fault ≡ new.fault) × (old.len ≡ new.len) × (x.0 < old.len)
+Yields old (Ok (Some x)) new = Takes old x.0 (lexeme_of x.1) new
 Yields old (Ok None) new = (old.tokens ≡ []) × (old.fault ≡ false) × (new ≡ old)
 Yields old (Err f) new = (old.tokens ≡ []) × (old.fault ≡ true) × (new ≡ old)
 

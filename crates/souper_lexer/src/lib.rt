@@ -5,13 +5,13 @@
 //! end, or the [`Fault`] that the text has there.
 #![tactic(auto)]
 
-ghost use Rattle.std.specs.Prelude.{◌≡◌, ℕ, ◌+◌, ◌<◌, ◌≤◌, ◌^◌, List, ◌∷◌, length, drop, IsCharBoundary, IfErr, slice_index, option_map, false};
+ghost use Rattle.std.specs.Prelude.{◌≡◌, ℕ, ◌+◌, ◌<◌, ◌≤◌, ◌^◌, List, ◌∷◌, length, drop, IsCharBoundary, IfErr, IfSome, IfNone, Some, slice_index, option_map, is_some, true, false};
 ghost use Rattle.std.specs.List.{prefix_len};
 ghost use Rattle.std.specs.Char.{is_ascii_alphabetic};
 ghost use Rattle.souper_graph.specs.Names.{is_name_char};
-ghost use Rattle.souper_graph.specs.Syntax.Tokens.{Lexeme, int, begins_int, IsTextOf, AreTokensOf};
+ghost use Rattle.souper_graph.specs.Syntax.Tokens.{Lexeme, int, val_name, begins_int, IsTextOf, AreTokensOf};
 ghost use Rattle.souper_lexer.specs.TokenReading.{inside, remark, space_len, after_from, after_gap, run_of, after_run, found, lexed_of, Lexed, bits_at, word_at, name_at, mark_of, longer_at, front_of};
-ghost use Rattle.souper_lexer.specs.TokenView.{lexeme_of, is_in, Reads, Yields};
+ghost use Rattle.souper_lexer.specs.TokenView.{lexeme_of, is_in, Reads, Takes, Yields};
 
 #[cfg(test)]
 mod tests;
@@ -204,6 +204,19 @@ fn after_first(text: &str) -> &str
     &text[1..]
 }
 
+// What is left after one space, if the text begins with one.
+#[inline(always)]
+#[tactic(auto, using(crate::proofs::TokenGap::gap_past_blank))]
+fn after_space(text: &str) -> &str
+    ensures rest { after_gap result.now ≡ after_gap text.now }
+    ensures len { length result.now ≤ length text.now }
+{
+    match text.as_bytes() {
+        [b' ', ..] => after_first(text),
+        _ => text,
+    }
+}
+
 fn first_char(text: &str) -> char
     requires { 0 < length text.now }
 {
@@ -380,6 +393,47 @@ impl<'a> Lexer<'a> {
         self.offset = offset + (text.len() - rest.len());
         self.rest = rest;
         Ok(Some((offset, token)))
+    }
+
+    /// Takes the next token, if it is this mark, with one space before it at most. Else nothing is taken.
+    #[inline(always)]
+    pub fn take_mark(&mut self, mark: u8) -> bool
+        requires { is_some (mark_of mark) ≡ true }
+        ensures taken { result ≡ true → (t : Lexeme) → mark_of mark ≡ Some t → (o : ℕ) × Takes self.old o t self.new }
+        ensures kept { result ≡ false → self.new ≡ self.old }
+    {
+        let text = after_space(self.rest);
+        match text.as_bytes() {
+            [b, ..] if *b == mark => {}
+            _ => return false,
+        }
+        let offset = self.offset + (self.rest.len() - text.len());
+        let rest = after_first(text);
+        self.offset = offset + (text.len() - rest.len());
+        self.rest = rest;
+        true
+    }
+
+    /// Takes the next token, if it is a value name, with one space before it at most: the name, and the offset of its
+    /// first byte. Else nothing is taken.
+    #[inline(always)]
+    pub fn take_name(&mut self) -> Option<(usize, &'a str)>
+        ensures taken { IfSome result (λ name. Takes self.old name.0 (val_name name.1.now) self.new) }
+        ensures kept { IfNone result (self.new ≡ self.old) }
+    {
+        let text = after_space(self.rest);
+        match text.as_bytes() {
+            [b'%', ..] => {}
+            _ => return None,
+        }
+        let offset = self.offset + (self.rest.len() - text.len());
+        let (name, rest) = split_run(text, Class::Name);
+        if name.len() == 1 {
+            return None;
+        }
+        self.offset = offset + (text.len() - rest.len());
+        self.rest = rest;
+        Some((offset, name))
     }
 
     /// The length of the whole text, in bytes.

@@ -48,6 +48,13 @@ impl<T: Drop> Arena<T> {
         Ok(Id::at(index))
     }
 
+    /// The position that the next item gets.
+    pub fn next_id(&self) -> Id<T>
+        ensures { result ≡ length self.now }
+    {
+        Id::at(self.items.len())
+    }
+
     /// The item at the position, or `None` at or past the end.
     pub fn get(&self, id: Id<T>) -> Option<&T>
         ensures { option_copied result ≡ slice_get self.now id }

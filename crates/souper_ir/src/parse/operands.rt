@@ -5,7 +5,7 @@ ghost use Rattle.souper_ir.specs.Errors.{widened};
 ghost use Rattle.souper_ir.specs.Reading.{Gives};
 ghost use Rattle.souper_graph.specs.Syntax.Spelling.{type_spells, constant_spells, operand_spells};
 ghost use Rattle.souper_ir.specs.Continuation.{constant_continues, operand_continues};
-ghost use Rattle.souper_ir.specs.NodeReadings.{is_int, type_at, optional_type_at, constant_at, operand_at, next_operand_at, further_at};
+ghost use Rattle.souper_ir.specs.NodeReadings.{is_int, type_at, optional_type_at, constant_at, named_operand_at, operand_at, next_operand_at, further_at};
 ghost use Rattle.souper_ir.specs.Readings.{one_alone};
 ghost use Rattle.souper_ir.specs.OperandLaws.{type_complete, constant_complete, constant_first, operand_complete};
 
@@ -38,6 +38,9 @@ pub(crate) fn type_alone(parser: &mut Parser<'_>) -> Read<Type>
 pub(crate) fn optional_type(parser: &mut Parser<'_>) -> Read<Option<Type>>
     ensures { Gives (λ t. t) (widened result) (optional_type_at parser.old) parser.old parser.new }
 {
+    if parser.take_mark(Mark::Colon) {
+        return Ok(Some(type_alone(parser)?));
+    }
     if mark_comes(parser, Mark::Colon)? {
         punctuation(parser, Mark::Colon)?;
         Ok(Some(type_alone(parser)?))
@@ -55,16 +58,29 @@ pub(crate) fn constant(parser: &mut Parser<'_>) -> Read<Constant>
     Ok(Constant { value, ty })
 }
 
-#[tactic(auto, unfolding(crate::specs::NodeReadings::operand_at))]
+// The operand of a name that has been taken.
+#[inline(always)]
+#[tactic(auto, unfolding(crate::specs::NodeReadings::named_operand_at))]
+fn named_operand<'a>(parser: &mut Parser<'a>, name: &'a str) -> Read<Operand>
+    requires { parser.old.failed ≡ None }
+    ensures { Gives (λ x. x) (widened result) (named_operand_at name.now parser.old) parser.old parser.new }
+{
+    match parser.value_named(name) {
+        Some(value) => Ok(Operand::Value(value)),
+        None => Err(parser.refuse(Message::UnknownValue(name))),
+    }
+}
+
+#[tactic(auto, unfolding(crate::specs::NodeReadings::operand_at, crate::specs::NodeReadings::named_operand_at))]
 pub(crate) fn operand(parser: &mut Parser<'_>) -> Read<Operand>
     ensures { Gives (λ x. x) (widened result) (operand_at parser.old) parser.old parser.new }
 {
+    if let Some(name) = parser.take_name() {
+        return named_operand(parser, name);
+    }
     if value_name_comes(parser)? {
         let name = value_name(parser)?;
-        match parser.value_named(name) {
-            Some(value) => Ok(Operand::Value(value)),
-            None => Err(parser.refuse(Message::UnknownValue(name))),
-        }
+        named_operand(parser, name)
     } else {
         Ok(Operand::Constant(constant(parser)?))
     }

@@ -1,5 +1,5 @@
 //! A parser with one token of lookahead.
-ghost use Rattle.std.specs.Prelude.{◌≡◌, ◌≤◌, ◌++◌, ◌∷◌, [], length, map, ℕ, List, true, false, Some, None, IfOk, IfSome, OnOk, OnErr, IfErr, OnErr, IsOk, IsSomeAnd, option_map, is_some, ◌≢◌};
+ghost use Rattle.std.specs.Prelude.{◌≡◌, ◌≤◌, ◌++◌, ◌∷◌, [], length, map, ℕ, List, true, false, Some, None, IfOk, IfSome, IfNone, OnOk, OnErr, IfErr, OnErr, IsOk, IsSomeAnd, option_map, is_some, is_none, ◌≢◌};
 ghost use Rattle.std.specs.String.{string_bytes};
 ghost use Rattle.souper_graph.specs.View.{view_rhs, view_statement, view_assignment};
 ghost use Rattle.souper_graph.specs.Values.{assigned};
@@ -7,20 +7,23 @@ ghost use Rattle.souper_graph.specs.Syntax.Tokens.{Lexeme, AreTokensOf, IsTextOf
 ghost use Rattle.souper_lexer.specs.TokenView.{lexeme_of, Lexes};
 ghost use Rattle.souper_graph.specs.Uses.{is_condition};
 ghost use Rattle.souper_graph.specs.Syntax.Spelling.{ways_of, entry_of, position_of};
-ghost use Rattle.souper_ir.specs.NodeReadings.{block_entry};
+ghost use Rattle.souper_ir.specs.NodeReadings.{accept, block_entry, is_mark, is_name, mark_of, name_of};
+ghost use Rattle.souper_ir.specs.Grammar.{peek_at};
+ghost use Rattle.souper_ir.specs.MarkView.{lexeme_of_mark};
 ghost use Rattle.souper_ir.specs.Parsing.{Cause, refused, no_memory};
 ghost use Rattle.souper_ir.specs.FailureView.{cause_of_failure};
 ghost use Rattle.souper_ir.specs.Errors.{error_of, widened, shown_error};
 ghost use Rattle.souper_ir.specs.Places.{IsDirectRefusalText};
-ghost use Rattle.souper_ir.specs.Reading.{Fails, FailsForMemory, Gives, cause_of, look_at, take_at};
+ghost use Rattle.souper_ir.specs.Reading.{Fails, FailsForMemory, Gives, IsRead, cause_of, look_at, take_at};
 
 use crate::parse::error::{ParseError, ReadError};
 use crate::parse::message::Message;
+use crate::parse::names::Names;
 use crate::parse::recent::Recent;
+use crate::parse::tokens::{Mark, byte_of};
 use souper_graph::ast::{Arena, Assignment, AssignmentRhs, BlockId, Id, Statement, ValueId};
 use souper_lexer::{Fault, Lexer, Token};
 use std::alloc::{AllocError, Global};
-use std::collections::BTreeMap;
 use std::marker::Model;
 use std::mem;
 
@@ -50,8 +53,8 @@ pub struct Parser<'a> {
     offset: usize,
     // The statements of the item so far.
     statements: Arena<Statement>,
-    // The names that they define, each with its value and, for a block, its number of predecessors.
-    names: BTreeMap<&'a str, (ValueId, Option<u32>)>,
+    // The names that they define.
+    names: Names<'a>,
     // Is looked up before the map: most uses are of a value that was defined last.
     recent: Recent,
     failed: Option<Failure>,
@@ -84,7 +87,7 @@ impl<'a> Parser<'a> {
             ahead: None,
             offset: 0,
             statements: Arena::new(alloc),
-            names: BTreeMap::new(alloc),
+            names: Names::new(alloc),
             recent: Recent::new(),
             failed: None,
         }
@@ -226,6 +229,38 @@ impl<'a> Parser<'a> {
     }
 }
 
+impl<'a> Parser<'a> {
+    /// Takes the next token, if it is this mark and follows what was taken last with one space between them at most. It
+    /// may be this mark even if it is not taken.
+    #[inline(always)]
+    pub(crate) fn take_mark(&mut self, mark: Mark) -> bool
+        ensures taken { result ≡ true → IsRead (accept (mark_of (lexeme_of_mark mark)) self.old) tt self.old self.new }
+        ensures seen { result ≡ true → IsRead (peek_at (is_mark (lexeme_of_mark mark)) self.old) true self.old self.old }
+        ensures kept { result ≡ false → self.new ≡ self.old }
+    {
+        if self.failed.is_some() || self.ahead.is_some() {
+            return false;
+        }
+        self.lexer.take_mark(byte_of(mark))
+    }
+
+    /// Takes the next token, if it is a value name and follows what was taken last with one space between them at most. It
+    /// may be a name even if it is not taken.
+    #[inline(always)]
+    pub(crate) fn take_name(&mut self) -> Option<&'a str>
+        ensures taken { IfSome result (λ name. IsRead (accept name_of self.old) name.now self.old self.new) }
+        ensures seen { IfSome result (λ name. IsRead (peek_at is_name self.old) true self.old self.old) }
+        ensures kept { IfNone result (self.new ≡ self.old) }
+    {
+        if self.failed.is_some() || self.ahead.is_some() {
+            return None;
+        }
+        let (offset, name) = self.lexer.take_name()?;
+        self.offset = offset;
+        Some(name)
+    }
+}
+
 // The statements that there is room for after the first: most items have no more.
 const ROOM: usize = 16;
 
@@ -282,7 +317,7 @@ impl<'a> Parser<'a> {
     {
         match self.recent_entry(name) {
             Some(entry) => Some(entry),
-            None => self.names.get(name).copied(),
+            None => self.names.get(name, self.statements.len()),
         }
     }
 
@@ -307,6 +342,22 @@ impl<'a> Parser<'a> {
         Some((Id::from(value).into(), ways))
     }
 
+    /// Whether a name is new. If so, its definition is to come next: it then needs no look into the map of names.
+    pub(crate) fn announce(&mut self, name: &'a str) -> Read<bool>
+        requires live { self.old.failed ≡ None }
+        ensures ok { OnOk result (self.new ≡ self.old) }
+        ensures new { IfOk result (λ new. new ≡ is_none (position_of self.old.scope name.now)) }
+        ensures err { IfErr result (λ error. FailsForMemory (error_of error) self.old self.new) }
+    {
+        match self.names.announce(name, self.statements.next_id().into()) {
+            Ok(new) => Ok(new),
+            Err(_) => {
+                self.failed = Some(Failure::Memory);
+                Err(ReadError::Memory)
+            }
+        }
+    }
+
     /// Adds the definition of a name to the statements.
     pub(crate) fn define(&mut self, name: &'a str, assignment: Assignment) -> Read<()>
         requires live { self.old.failed ≡ None }
@@ -325,8 +376,8 @@ impl<'a> Parser<'a> {
         };
         let value: ValueId = id.into();
         self.recent.put(name, value);
-        match self.names.insert(name, (value, ways)) {
-            Ok(_) => Ok(()),
+        match self.names.define(name, value, ways) {
+            Ok(()) => Ok(()),
             Err(_) => {
                 self.failed = Some(Failure::Memory);
                 Err(ReadError::Memory)
@@ -341,6 +392,7 @@ impl<'a> Parser<'a> {
         ensures ok { OnOk result (self.new ≡ record self.old { scope = self.old.scope ++ view_statement condition ∷ [] }) }
         ensures err { IfErr result (λ error. FailsForMemory (error_of error) self.old self.new) }
     {
+        self.names.withdraw();
         match push(&mut self.statements, condition) {
             Ok(_) => Ok(()),
             Err(_) => {

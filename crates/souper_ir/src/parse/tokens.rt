@@ -1,10 +1,11 @@
 //! Single tokens that a parser takes or looks at.
 
-ghost use Rattle.std.specs.Prelude.{◌≡◌, ◌^◌, [], false, None, IsOk};
+ghost use Rattle.std.specs.Prelude.{◌≡◌, ◌^◌, [], false, None, Some, IsOk};
 ghost use Rattle.souper_ir.specs.Errors.{widened};
 ghost use Rattle.souper_ir.specs.Reading.{Gives};
 ghost use Rattle.souper_ir.specs.Grammar.{peek_at};
 ghost use Rattle.souper_graph.specs.Syntax.Numbers.{number_of, count_of};
+ghost use Rattle.souper_lexer.specs.TokenReading.{mark_of as mark_of_byte};
 ghost use Rattle.souper_lexer.specs.TokenView.{lexeme_of};
 ghost use Rattle.souper_ir.specs.MarkView.{lexeme_of_mark};
 ghost use Rattle.souper_ir.specs.NodeReadings.{accept, name_of, is_name, is_any, mark_of, is_mark, is_word, word_of, is_int, int_by};
@@ -39,6 +40,21 @@ impl fmt::Display for Mark {
     }
 }
 
+/// The byte that the mark is.
+#[inline(always)]
+pub(crate) fn byte_of(mark: Mark) -> u8
+    ensures { mark_of_byte result ≡ Some (lexeme_of_mark mark) }
+{
+    match mark {
+        Mark::Comma => b',',
+        Mark::Colon => b':',
+        Mark::Equals => b'=',
+        Mark::OpenParen => b'(',
+        Mark::CloseParen => b')',
+        Mark::OpenBracket => b'[',
+    }
+}
+
 fn is_token(mark: Mark, token: Token<'_>) -> bool
     ensures { result ≡ is_mark (lexeme_of_mark mark) (lexeme_of token.entry) }
 {
@@ -57,6 +73,9 @@ fn is_token(mark: Mark, token: Token<'_>) -> bool
 pub(crate) fn punctuation(parser: &mut Parser<'_>, mark: Mark) -> Read<()>
     ensures { Gives (λ u. u) (widened result) (accept (mark_of (lexeme_of_mark mark)) parser.old) parser.old parser.new }
 {
+    if parser.take_mark(mark) {
+        return Ok(());
+    }
     let token = parser.token()?;
     if is_token(mark, token) {
         Ok(())

@@ -3,17 +3,17 @@ use Rattle.std.proofs.lemmas.List.{map-append, length-map}
 use Rattle.souper_graph.specs.View.{view_statement, view_assignment}
 use Rattle.souper_graph.specs.Syntax.Spelling.{position_of}
 use Rattle.souper_ir.specs.Parsing.{Parsing}
-use Rattle.souper_ir.proofs.Names.{names_push}
 use Rattle.souper_ir.proofs.Scopes.{named_push}
 use Rattle.souper_ir.proofs.parse.parser.Parser.define.Goals as goal
 
-pub invariant_of-self-in-Ok-insert : goal.invariant_of-self-in-Ok-insert
-invariant_of-self-in-Ok-insert c = record {
+pub invariant_of-self-in-Ok-define : goal.invariant_of-self-in-Ok-define
+invariant_of-self-in-Ok-define c = record {
   offset = c.self.invariant.offset;
   failed = c.self.invariant.failed;
-  names = λ live. rw (c.in-Ok.ensures.grows, c.into.ensures, map-append) (names_push c.self.inside.names c.insert.new.self (map view_statement c.self.inside.statements) c.args.name (view_assignment c.args.assignment) c.into-value.result c.ways-ways.result
-      (c.self.invariant.names live) c.in-Ok-insert.ensures.updates c.requires.named
+  names = λ live. rw (c.in-Ok.ensures.grows, c.into.ensures, map-append) (c.in-Ok-define.ensures (map view_statement c.self.inside.statements) (view_assignment c.args.assignment)
+      (c.self.invariant.names live)
       (subst (λ (p : Parsing). position_of p.scope c.args.name.now ≡ None) (sym c.self.view_is) c.requires.fresh)
+      c.requires.named
       (c.into-value.ensures ∙ c.in-Ok.ensures.position ∙ sym (length-map c.self.inside.statements view_statement))
       c.ways-ways.ensures);
   distinct = λ live. rw (c.in-Ok.ensures.grows, c.into.ensures, map-append) (named_push (map view_statement c.self.inside.statements) (view_assignment c.args.assignment) (c.self.invariant.distinct live)

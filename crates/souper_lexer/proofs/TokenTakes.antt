@@ -1,0 +1,55 @@
+-- Taking a token that is known by its first byte.
+use Rattle.std.proofs.Common.{◌≡◌, ◌≢◌, ℕ, ◌+◌, ◌-◌, ◌<◌, Bool, true, false, eqb, List, ◌∷◌, length, drop, get_or, Option, Some, None, refl, sym, ◌∙◌, ap, subst, arith}
+use Rattle.std.proofs.lemmas.Bool.Decides.{nat_tests}
+use Rattle.souper_graph.specs.Names.{is_name_char}
+use Rattle.souper_graph.specs.Syntax.Tokens.{Lexeme, val_name}
+use Rattle.souper_lexer.specs.TokenReading.{Lexed, found, faulty, after_gap, run_of, after_run, mark_of, name_at, longer_at, front_of, lexed_of}
+use Rattle.souper_lexer.specs.TokenView.{Takes}
+use Rattle.souper_lexer.proofs.TokenGap.{gap_stops_above}
+use Rattle.souper_lexer.proofs.TokenSteps.{yields_token}
+
+-- the byte of a mark is neither of a gap nor of a wider character
+pub mark_above : (c : ℕ) (t : Lexeme) → mark_of c ≡ Some t → 13 < c
+mark_above c t h = grind (arith, nat_tests)
+
+pub mark_ascii : (c : ℕ) (t : Lexeme) → mark_of c ≡ Some t → c < 128
+mark_ascii c t h = grind (arith, nat_tests)
+
+mark_not_space : (c : ℕ) (t : Lexeme) → mark_of c ≡ Some t → c ≢ 32
+mark_not_space c t h e = grind (arith, nat_tests)
+
+mark_not_semicolon : (c : ℕ) (t : Lexeme) → mark_of c ≡ Some t → c ≢ 59
+mark_not_semicolon c t h e = grind (arith, nat_tests)
+
+mark_front : (c : ℕ) (bs : List ℕ) (t : Lexeme) → mark_of c ≡ Some t → front_of c bs ≡ found t bs
+unfolding front_of
+mark_front c bs t h = rw (h, front_of) refl
+
+name_front : (bs : List ℕ) → length (run_of is_name_char 37 bs) ≢ 1 → front_of 37 bs ≡ found (val_name (run_of is_name_char 37 bs)) (after_run is_name_char bs)
+unfolding front_of longer_at name_at
+name_front bs h =
+    let more : eqb (length (run_of is_name_char 37 bs)) 1 ≡ false = grind (arith, nat_tests) in
+    rw more refl
+
+-- after a gap that ends before this text
+module _ (n : ℕ) (bs text : List ℕ) (v : Lexed) (is : lexed_of n bs ≡ v) (same : after_gap text ≡ after_gap bs) (some : 0 < length text) where
+  abbrev at : ℕ
+  at = n + (length bs - length text)
+
+  pub takes_mark : (c : ℕ) → get_or text 0 0 ≡ c → (t : Lexeme) → mark_of c ≡ Some t → (rest : List ℕ) → rest ≡ drop 1 text
+      → (o : ℕ) × Takes v o t (lexed_of (at + (length text - length rest)) rest)
+  takes_mark c first t h rest is_rest =
+      let is_mark : mark_of (get_or text 0 0) ≡ Some t = ap mark_of first ∙ h in
+      let stops = gap_stops_above text some (mark_above _ t is_mark) (mark_ascii _ t is_mark) (mark_not_space _ t is_mark) (mark_not_semicolon _ t is_mark) in
+      let is_front : front_of (get_or text 0 0) (drop 1 text) ≡ found t rest = mark_front (get_or text 0 0) (drop 1 text) t is_mark ∙ ap (λ (x : List ℕ). found t x) (sym is_rest) in
+      (at, yields_token n bs text v is (stops ∙ same) t rest at _ some is_front refl refl)
+
+  pub takes_name : (name rest : List ℕ) → get_or text 0 0 ≡ 37 → name ≡ run_of is_name_char (get_or text 0 0) (drop 1 text) → rest ≡ after_run is_name_char (drop 1 text) → length name ≢ 1
+      → Takes v at (val_name name) (lexed_of (at + (length text - length rest)) rest)
+  takes_name name rest first is_run is_rest more =
+      let stops = gap_stops_above text some (omega (arith, first)) (omega (arith, first)) (λ e. absurd (omega (arith, first, e))) (λ e. absurd (omega (arith, first, e))) in
+      let run : name ≡ run_of is_name_char 37 (drop 1 text) = is_run ∙ ap (λ (c : ℕ). run_of is_name_char c (drop 1 text)) first in
+      let longer : length (run_of is_name_char 37 (drop 1 text)) ≢ 1 = subst (λ (x : List ℕ). length x ≢ 1) run more in
+      let is_front : front_of (get_or text 0 0) (drop 1 text) ≡ found (val_name name) rest =
+      ap (λ (c : ℕ). front_of c (drop 1 text)) first ∙ name_front (drop 1 text) longer ∙ (λ i. found (val_name (sym run i)) (sym is_rest i)) in
+      yields_token n bs text v is (stops ∙ same) (val_name name) rest at _ some is_front refl refl
