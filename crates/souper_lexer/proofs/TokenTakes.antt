@@ -37,12 +37,12 @@ module _ (n : ℕ) (bs text : List ℕ) (v : Lexed) (is : lexed_of n bs ≡ v) (
   at = n + (length bs - length text)
 
   pub takes_mark : (c : ℕ) → get_or text 0 0 ≡ c → (t : Lexeme) → mark_of c ≡ Some t → (rest : List ℕ) → rest ≡ drop 1 text
-      → (o : ℕ) × Takes v o t (lexed_of (at + (length text - length rest)) rest)
+      → Takes v at t (lexed_of (at + (length text - length rest)) rest)
   takes_mark c first t h rest is_rest =
       let is_mark : mark_of (get_or text 0 0) ≡ Some t = ap mark_of first ∙ h in
       let stops = gap_stops_above text some (mark_above _ t is_mark) (mark_ascii _ t is_mark) (mark_not_space _ t is_mark) (mark_not_semicolon _ t is_mark) in
       let is_front : front_of (get_or text 0 0) (drop 1 text) ≡ found t rest = mark_front (get_or text 0 0) (drop 1 text) t is_mark ∙ ap (λ (x : List ℕ). found t x) (sym is_rest) in
-      (at, yields_token n bs text v is (stops ∙ same) t rest at _ some is_front refl refl)
+      yields_token n bs text v is (stops ∙ same) t rest at _ some is_front refl refl
 
   pub takes_name : (name rest : List ℕ) → get_or text 0 0 ≡ 37 → name ≡ run_of is_name_char (get_or text 0 0) (drop 1 text) → rest ≡ after_run is_name_char (drop 1 text) → length name ≢ 1
       → Takes v at (val_name name) (lexed_of (at + (length text - length rest)) rest)

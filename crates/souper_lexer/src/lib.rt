@@ -395,23 +395,24 @@ impl<'a> Lexer<'a> {
         Ok(Some((offset, token)))
     }
 
-    /// Takes the next token, if it is this mark, with one space before it at most. Else nothing is taken.
+    /// Takes the next token, if it is this mark, with one space before it at most: the offset of the mark. Else nothing is
+    /// taken.
     #[inline(always)]
-    pub fn take_mark(&mut self, mark: u8) -> bool
+    pub fn take_mark(&mut self, mark: u8) -> Option<usize>
         requires { is_some (mark_of mark) ≡ true }
-        ensures taken { result ≡ true → (t : Lexeme) → mark_of mark ≡ Some t → (o : ℕ) × Takes self.old o t self.new }
-        ensures kept { result ≡ false → self.new ≡ self.old }
+        ensures taken { IfSome result (λ offset. (t : Lexeme) → mark_of mark ≡ Some t → Takes self.old offset t self.new) }
+        ensures kept { IfNone result (self.new ≡ self.old) }
     {
         let text = after_space(self.rest);
         match text.as_bytes() {
             [b, ..] if *b == mark => {}
-            _ => return false,
+            _ => return None,
         }
         let offset = self.offset + (self.rest.len() - text.len());
         let rest = after_first(text);
         self.offset = offset + (text.len() - rest.len());
         self.rest = rest;
-        true
+        Some(offset)
     }
 
     /// Takes the next token, if it is a value name, with one space before it at most: the name, and the offset of its

@@ -241,7 +241,13 @@ impl<'a> Parser<'a> {
         if self.failed.is_some() || self.ahead.is_some() {
             return false;
         }
-        self.lexer.take_mark(byte_of(mark))
+        match self.lexer.take_mark(byte_of(mark)) {
+            Some(offset) => {
+                self.offset = offset;
+                true
+            }
+            None => false,
+        }
     }
 
     /// Takes the next token, if it is a value name and follows what was taken last with one space between them at most. It
