@@ -95,10 +95,10 @@ module _ (names : Names) (ss : Scope) (are : AreNames names ss) where
     pub are_defined : (new : Entries) (a : PlainAssignment) (next : ℕ) (ways : Option ℕ) → Changes names.entries new key (Some (next, ways)) → a.name ≡ key.now → position_of ss key.now ≡ None → next ≡ length ss → ways ≡ ways_of a.value
         → AreNames (record { entries = new; announced = names.announced }) (ss ++ assigned a ∷ [])
     are_defined new a next ways up named fresh last same = subst (λ (o : Option (Bor (List ℕ))). AreNames (record { entries = new; announced = o }) (ss ++ assigned a ∷ [])) (sym none)
-      (record {
-        entries = names_push names.entries new ss key a next ways (tie_to None none) up named fresh last same;
-        new = tt;
-      })
+        (record {
+          entries = names_push names.entries new ss key a next ways (tie_to None none) up named fresh last same;
+          new = tt;
+        })
 
   pub are_passed : (s : PlainStatement) → names.announced ≡ None → is_condition s ≡ true → AreNames names (ss ++ s ∷ [])
   are_passed s none h = record {

@@ -50,13 +50,13 @@ module _ (p q : Inside) (o : ℕ) (t : Lexeme) (v : Parsing) (is : parsing_of p 
     (takes : Takes p.lexer o t q.lexer) (same : (q.ahead ≡ p.ahead) × (q.failed ≡ p.failed) × (q.statements ≡ p.statements)) where
   is_before : before o t q.lexer.tokens q.lexer.fault q.lexer.len (map view_statement p.statements) ≡ v
   is_before = sym (
-    (λ i. record {
-      tokens = with_ahead (none_is p.ahead none i) (takes.0 i);
-      faulty = takes.1 i;
-      len = takes.2 i;
-      scope = map view_statement p.statements;
-      failed = option_map cause_of_failure (none_is p.failed live i);
-    })) ∙ is
+      (λ i. record {
+        tokens = with_ahead (none_is p.ahead none i) (takes.0 i);
+        faulty = takes.1 i;
+        len = takes.2 i;
+        scope = map view_statement p.statements;
+        failed = option_map cause_of_failure (none_is p.failed live i);
+      })) ∙ is
 
   is_after : after o t q.lexer.tokens q.lexer.fault q.lexer.len (map view_statement p.statements) ≡ parsing_of q
   is_after = sym (λ i. record {
@@ -71,7 +71,7 @@ module _ (p q : Inside) (o : ℕ) (t : Lexeme) (v : Parsing) (is : parsing_of p 
   taken meaning a means =
       subst (λ (x : Parsing). IsRead (accept meaning x) a x (parsing_of q)) is_before
       (subst (λ (y : Parsing). IsRead (accept meaning (before o t q.lexer.tokens q.lexer.fault q.lexer.len (map view_statement p.statements))) a (before o t q.lexer.tokens q.lexer.fault q.lexer.len (map view_statement p.statements)) y) is_after
-        (token_accepted o t q.lexer.tokens q.lexer.fault q.lexer.len (map view_statement p.statements) meaning a means))
+      (token_accepted o t q.lexer.tokens q.lexer.fault q.lexer.len (map view_statement p.statements) meaning a means))
 
   pub seen : (starts : Lexeme → Bool) (b : Bool) → starts t ≡ b → IsRead (peek_at starts v) b v v
   seen starts b e = subst (λ (x : Parsing). IsRead (peek_at starts x) b x x) is_before
