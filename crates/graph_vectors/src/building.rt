@@ -14,6 +14,7 @@ pub struct Graph {
 }
 
 impl Graph {
+    // An arena without statements.
     pub fn new(alloc: Global) -> Self {
         Graph {
             statements: Arena::new(alloc),
@@ -21,7 +22,7 @@ impl Graph {
         }
     }
 
-    // The assignment of any right side.
+    // Appends an assignment of any right side, and returns its id. The other calls that return an id append one of these too.
     pub fn assign(
         &mut self,
         name: &str,
@@ -40,25 +41,30 @@ impl Graph {
         Ok(id.into())
     }
 
+    // An assignment without a type and without attributes.
     pub fn rhs(&mut self, name: &str, value: AssignmentRhs) -> Result<ValueId, AllocError> {
         let attributes = Vec::new(self.alloc);
         self.assign(name, None, value, attributes)
     }
 
+    // A variable without a type.
     pub fn var(&mut self, name: &str) -> Result<ValueId, AllocError> {
         self.rhs(name, AssignmentRhs::Var)
     }
 
+    // A variable of a width in bits.
     pub fn typed_var(&mut self, name: &str, width: u16) -> Result<ValueId, AllocError> {
         let attributes = Vec::new(self.alloc);
         self.assign(name, Some(Type { width }), AssignmentRhs::Var, attributes)
     }
 
+    // A block with this number of predecessors.
     pub fn block(&mut self, name: &str, predecessors: u32) -> Result<BlockId, AllocError> {
         let id = self.rhs(name, Block { predecessors }.into())?;
         Ok(Id::from(id).into())
     }
 
+    // A phi over the block, with these values in order.
     pub fn phi(
         &mut self,
         name: &str,
@@ -69,10 +75,12 @@ impl Graph {
         self.rhs(name, Phi { block, values }.into())
     }
 
+    // The sum of the operands.
     pub fn add(&mut self, name: &str, a: Operand, b: Operand) -> Result<ValueId, AllocError> {
         self.rhs(name, Instruction::Add { a, b }.into())
     }
 
+    // An instruction without a type.
     pub fn instruction(
         &mut self,
         name: &str,
@@ -81,11 +89,13 @@ impl Graph {
         self.rhs(name, instruction.into())
     }
 
+    // Appends a path condition.
     pub fn pc(&mut self, x: Operand, y: Operand) -> Result<(), AllocError> {
         self.statements.alloc(Pc { x, y }.into())?;
         Ok(())
     }
 
+    // Appends a path condition on a predecessor of the block, counted from 0.
     pub fn block_pc(
         &mut self,
         block: BlockId,
@@ -103,6 +113,7 @@ impl Graph {
         Ok(())
     }
 
+    // The left-hand side of the statements, with this root.
     pub fn infer(self, value: ValueId) -> LeftHandSide {
         let attributes = Vec::new(self.alloc);
         LeftHandSide {
@@ -111,6 +122,7 @@ impl Graph {
         }
     }
 
+    // The right-hand side of the statements, with this root.
     pub fn result(self, root: Operand) -> RightHandSide {
         RightHandSide {
             statements: self.statements,
@@ -118,6 +130,7 @@ impl Graph {
         }
     }
 
+    // The replacement of the value by the operand, with an infer line and a result line.
     pub fn replaced(self, value: ValueId, rhs: Operand) -> Replacement {
         let attributes = Vec::new(self.alloc);
         Replacement::LhsRhs {
@@ -127,6 +140,7 @@ impl Graph {
         }
     }
 
+    // The replacement of the first operand by the second, with a cand line.
     pub fn cand(self, lhs: Operand, rhs: Operand) -> Replacement {
         let attributes = Vec::new(self.alloc);
         Replacement::Cand {
@@ -151,7 +165,7 @@ pub fn typed(value: i128, width: u16) -> Operand {
     Constant { value, ty }.into()
 }
 
-// The id of the position, for an arena that is not at hand.
+// The id of the position, from an arena that is dropped.
 pub fn foreign_id(alloc: Global, index: usize) -> Result<ValueId, AllocError> {
     let mut other = Graph::new(alloc);
     let mut id = other.var("%0")?;

@@ -116,6 +116,11 @@ fn end_of_text_is_refused(rt: HostRuntime) -> Result<(), Fail> {
             "unknown:1:3: expected a constant, var, block, phi, or instruction\n     |\n   1 | %x =\n     |   ^",
         ),
         (
+            "%x:i8 =",
+            6,
+            "unknown:1:6: expected a constant, var, block, phi, or instruction\n     |\n   1 | %x:i8 =\n     |      ^",
+        ),
+        (
             "%x",
             1,
             "unknown:1:1: unexpected EOF\n     |\n   1 | %x\n     | ^",

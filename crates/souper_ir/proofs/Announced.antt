@@ -2,7 +2,7 @@
 use Rattle.std.proofs.Common.{◌≡◌, ℕ, ◌<◌, Bool, true, false, List, length, Option, Some, None, refl, sym, ◌∙◌, ap, subst, arith}
 use Rattle.std.specs.Prelude.{◌++◌, ◌∷◌, [], bytes_eq, if◌then◌else◌, is_none, option_map}
 use Rattle.std.specs.Borrow.{Bor}
-use Rattle.std.specs.Option.{option_eq, is_some}
+use Rattle.std.specs.Option.{option_eq}
 use Rattle.std.proofs.lemmas.Slice.Eq.{bytes_eq-Decides}
 use Rattle.souper_graph.specs.Values.{PlainAssignment, PlainStatement, assigned}
 use Rattle.souper_graph.specs.Uses.{is_condition}

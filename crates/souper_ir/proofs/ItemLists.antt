@@ -1,5 +1,5 @@
 -- Items in sequence: at most one list of them is spelled, and none if the parser refuses.
-use Rattle.std.proofs.Common.{◌≡◌, ℕ, ◌<◌, Bool, true, false, List, [], ◌∷◌, ◌++◌, length, map, None, refl, sym, ◌∙◌, ap, subst, append_assoc, arith}
+use Rattle.std.proofs.Common.{◌≡◌, ℕ, ◌<◌, Bool, true, false, List, [], ◌∷◌, ◌++◌, length, None, refl, sym, ◌∙◌, ap, subst, append_assoc, arith}
 use Rattle.std.proofs.lemmas.List.{append-nil, append_cancel_left, length-append}
 use Rattle.std.specs.List.{AllByRecursion}
 use Rattle.souper_graph.specs.WellFormed.{WellFormed}
@@ -9,12 +9,11 @@ use Rattle.souper_graph.specs.Syntax.Tokens.{Lexeme, IsLexeme}
 use Rattle.souper_graph.specs.Syntax.Spelling.{kinds, Scope, infer_spells, Statements, ItemType, left_hand_side, right_hand_side, replacement, Tail, tail_spells, item_spells, item_spells_after, list_spells, TextSpells}
 use Rattle.souper_ir.specs.Continuation.{ending_continues, item_continues}
 use Rattle.souper_ir.specs.Parsing.{Parsing}
-use Rattle.souper_ir.specs.Reading.{cause_of, IfRefused, if_refused, IsRead, Fails, FailsForMemory, fails_later}
+use Rattle.souper_ir.specs.Reading.{cause_of, IfRefused, if_refused, IsRead, Fails, fails_later}
 use Rattle.souper_ir.specs.Grammar.{Free, Stops, Starts, Took, NoFrontOf, LastGoesOn, Refusal, peek_at}
 use Rattle.souper_ir.specs.Unique.{Free-weaker}
 use Rattle.souper_ir.specs.Peeks.{peeked, peeked_yes, peeked_no, unread}
 use Rattle.souper_ir.specs.Steps.{kinds-append}
-use Rattle.souper_ir.specs.Readings.{of_memory}
 use Rattle.souper_ir.specs.NodeReadings.{starts_statement, is_any}
 use Rattle.souper_ir.specs.StatementLaws.{begins_line, starts_begins, infer_ends, operand_ends, cand_ends, statement_first}
 use Rattle.souper_ir.specs.ItemLaws.{joined_last, joined_longer, starts_ahead, item_alone}

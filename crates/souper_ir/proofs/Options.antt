@@ -1,5 +1,6 @@
 -- A value or none, by what a peek returns.
 use Rattle.std.proofs.Common.{◌≡◌, Bool, true, false, List, [], ◌++◌, Option, Some, None, refl, sym, ◌∙◌, ap, subst}
+use Rattle.std.specs.Option.{is_some}
 use Rattle.souper_ir.specs.declared.parse.error.ParseError.{ParseError}
 use Rattle.souper_ir.specs.Parsing.{Cause, Parsing}
 use Rattle.souper_graph.specs.Syntax.Tokens.{Lexeme}
@@ -9,6 +10,11 @@ use Rattle.souper_ir.specs.Grammar.{Starts, Took, NoFront, Refusal, peek_at, Opt
 use Rattle.souper_ir.specs.Unique.{clash_at, Free-from_Stops}
 use Rattle.std.proofs.lemmas.List.{append-nil}
 use Rattle.souper_ir.specs.Peeks.{peeked, peeked_yes, peeked_no, none_if_unread}
+
+-- nothing, by the test for a value
+pub none_is : {A : Type 0} (o : Option A) → is_some o ≡ false → o ≡ None
+none_is None e = refl
+none_is (Some a) e = absurd cc
 
 module _ {V : Type 0} (spells : Scope → V → List Lexeme → Type 0) (continues : V → Lexeme → Type 0) (starts : Lexeme → Bool) where
   abbrev some_spells : Scope → Option V → List Lexeme → Type 0

@@ -1,9 +1,8 @@
--- Tokens that were taken where they come next.
+-- A token that the lexer took: what the readings say of the parser before and after it.
 use Rattle.std.proofs.Common.{◌≡◌, ℕ, Bool, false, List, ◌∷◌, map, Option, Some, None, refl, sym, ◌∙◌, ap, subst}
 use Rattle.std.specs.Prelude.{is_some, option_map}
 use Rattle.souper_graph.specs.Syntax.Spelling.{Scope}
 use Rattle.souper_graph.specs.View.{view_statement}
-use Rattle.souper_lexer.specs.TokenReading.{Lexed}
 use Rattle.souper_lexer.specs.TokenView.{Takes}
 use Rattle.souper_ir.specs.declared.parse.parser.Parser.TheInside.{Inside}
 use Rattle.souper_ir.specs.FailureView.{cause_of_failure}
@@ -12,11 +11,12 @@ use Rattle.souper_graph.specs.Syntax.Tokens.{Lexeme}
 use Rattle.souper_ir.specs.declared.parse.tokens.Mark.{Mark}
 use Rattle.souper_ir.specs.declared.parse.tokens.Mark.TheVariants.{Comma, Colon, Equals, OpenParen, CloseParen, OpenBracket}
 use Rattle.souper_graph.specs.Syntax.Optional.{◌>>=◌}
-use Rattle.souper_ir.specs.Parsing.{Cause, Parsing}
+use Rattle.souper_ir.specs.Parsing.{Parsing}
 use Rattle.souper_ir.specs.Reading.{IsRead, look_at, take_at}
 use Rattle.souper_ir.specs.Grammar.{peek_at}
 use Rattle.souper_ir.specs.MarkView.{lexeme_of_mark}
 use Rattle.souper_ir.specs.NodeReadings.{accept, mark_of}
+use Rattle.souper_ir.proofs.Options.{none_is}
 
 pub mark_itself : (m : Mark) → mark_of (lexeme_of_mark m) (lexeme_of_mark m) ≡ Some tt
 mark_itself Comma = refl
@@ -41,30 +41,26 @@ module _ (o : ℕ) (t : Lexeme) (rest : List (ℕ × Lexeme)) (faulty : Bool) (l
   unfolding peek_at look_at
   token_seen starts b is = (ap (λ (x : Bool). Some (x, before)) is, refl, refl, refl)
 
-none_is : {A : Type 0} (o : Option A) → false ≡ is_some o → o ≡ None
-none_is None e = refl
-none_is (Some a) e = absurd cc
-
 -- a parser that has not failed, and has looked at no token, after its lexer took a token
 module _ (p q : Inside) (o : ℕ) (t : Lexeme) (v : Parsing) (is : parsing_of p ≡ v) (live : false ≡ is_some p.failed) (none : false ≡ is_some p.ahead)
     (takes : Takes p.lexer o t q.lexer) (same : (q.ahead ≡ p.ahead) × (q.failed ≡ p.failed) × (q.statements ≡ p.statements)) where
   is_before : before o t q.lexer.tokens q.lexer.fault q.lexer.len (map view_statement p.statements) ≡ v
   is_before = sym (
       (λ i. record {
-        tokens = with_ahead (none_is p.ahead none i) (takes.0 i);
+        tokens = with_ahead (none_is p.ahead (sym none) i) (takes.0 i);
         faulty = takes.1 i;
         len = takes.2 i;
         scope = map view_statement p.statements;
-        failed = option_map cause_of_failure (none_is p.failed live i);
+        failed = option_map cause_of_failure (none_is p.failed (sym live) i);
       })) ∙ is
 
   is_after : after o t q.lexer.tokens q.lexer.fault q.lexer.len (map view_statement p.statements) ≡ parsing_of q
   is_after = sym (λ i. record {
-    tokens = with_ahead ((same.0 ∙ none_is p.ahead none) i) q.lexer.tokens;
+    tokens = with_ahead ((same.0 ∙ none_is p.ahead (sym none)) i) q.lexer.tokens;
     faulty = q.lexer.fault;
     len = q.lexer.len;
     scope = map view_statement (same.2 i);
-    failed = option_map cause_of_failure ((same.1 ∙ none_is p.failed live) i);
+    failed = option_map cause_of_failure ((same.1 ∙ none_is p.failed (sym live)) i);
   })
 
   pub taken : {A : Type 0} (meaning : Lexeme → Option A) (a : A) → meaning t ≡ Some a → IsRead (accept meaning v) a v (parsing_of q)

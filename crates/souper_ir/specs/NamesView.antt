@@ -12,6 +12,7 @@ abbrev pub announced_or : Option (Bor (List ℕ)) → Scope → List ℕ → Opt
 announced_or None s n = entry_of s n
 announced_or (Some a) s n = if bytes_eq a.now n then Some (length s, None) else entry_of s n
 
+-- an announced name is not in the scope
 abbrev pub IsNew : Option (Bor (List ℕ)) → Scope → Type 0
 IsNew None s = Unit {0}
 IsNew (Some a) s = position_of s a.now ≡ None

@@ -1,9 +1,9 @@
 -- Taking a token that is known by its first byte.
-use Rattle.std.proofs.Common.{◌≡◌, ◌≢◌, ℕ, ◌+◌, ◌-◌, ◌<◌, Bool, true, false, eqb, List, ◌∷◌, length, drop, get_or, Option, Some, None, refl, sym, ◌∙◌, ap, subst, arith}
+use Rattle.std.proofs.Common.{◌≡◌, ◌≢◌, ℕ, ◌+◌, ◌-◌, ◌<◌, false, eqb, List, length, drop, get_or, Some, refl, sym, ◌∙◌, ap, subst, arith}
 use Rattle.std.proofs.lemmas.Bool.Decides.{nat_tests}
 use Rattle.souper_graph.specs.Names.{is_name_char}
 use Rattle.souper_graph.specs.Syntax.Tokens.{Lexeme, val_name}
-use Rattle.souper_lexer.specs.TokenReading.{Lexed, found, faulty, after_gap, run_of, after_run, mark_of, name_at, longer_at, front_of, lexed_of}
+use Rattle.souper_lexer.specs.TokenReading.{Lexed, found, after_gap, run_of, after_run, mark_of, name_at, longer_at, front_of, lexed_of}
 use Rattle.souper_lexer.specs.TokenView.{Takes}
 use Rattle.souper_lexer.proofs.TokenGap.{gap_stops_above}
 use Rattle.souper_lexer.proofs.TokenSteps.{yields_token}

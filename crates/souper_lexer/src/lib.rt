@@ -395,8 +395,8 @@ impl<'a> Lexer<'a> {
         Ok(Some((offset, token)))
     }
 
-    /// Takes the next token, if it is this mark, with one space before it at most: the offset of the mark. Else nothing is
-    /// taken.
+    /// Takes the next token, if it is this mark and one space at most comes before it, and returns its offset. It is a short
+    /// cut of [`Lexer::next_token`]: `None` leaves the lexer as it was, and says nothing of what comes next.
     #[inline(always)]
     pub fn take_mark(&mut self, mark: u8) -> Option<usize>
         requires { is_some (mark_of mark) ≡ true }
@@ -415,8 +415,9 @@ impl<'a> Lexer<'a> {
         Some(offset)
     }
 
-    /// Takes the next token, if it is a value name, with one space before it at most: the name, and the offset of its
-    /// first byte. Else nothing is taken.
+    /// Takes the next token, if it is a value name and one space at most comes before it, and returns the offset of its first
+    /// byte, and the name. It is a short cut of [`Lexer::next_token`]: `None` leaves the lexer as it was, and says nothing of
+    /// what comes next.
     #[inline(always)]
     pub fn take_name(&mut self) -> Option<(usize, &'a str)>
         ensures taken { IfSome result (λ name. Takes self.old name.0 (val_name name.1.now) self.new) }

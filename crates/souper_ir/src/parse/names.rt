@@ -31,9 +31,9 @@ impl<'a> Names<'a> {
     pub(crate) fn get(&self, name: &str, defined: usize) -> Option<(ValueId, Option<u32>)>
         ensures { (s : Scope) → AreNames self.now s → defined ≡ length s → result ≡ entry_of s name.now }
     {
-        let (value, ways) = self.entries.get(name).copied()?;
+        let (value, predecessors) = self.entries.get(name).copied()?;
         if Id::from(value).index() < defined {
-            Some((value, ways))
+            Some((value, predecessors))
         } else {
             None
         }
@@ -75,16 +75,16 @@ impl<'a> Names<'a> {
         &mut self,
         name: &'a str,
         next: ValueId,
-        ways: Option<u32>,
+        predecessors: Option<u32>,
     ) -> Result<(), AllocError>
-        ensures { OnOk result ((s : Scope) (a : PlainAssignment) → AreNames self.old s → position_of s name.now ≡ None → a.name ≡ name.now → next ≡ length s → ways ≡ ways_of a.value → AreNames self.new (s ++ assigned a ∷ [])) }
+        ensures { OnOk result ((s : Scope) (a : PlainAssignment) → AreNames self.old s → position_of s name.now ≡ None → a.name ≡ name.now → next ≡ length s → predecessors ≡ ways_of a.value → AreNames self.new (s ++ assigned a ∷ [])) }
     {
-        if ways.is_none() && self.announced == Some(name) {
+        if predecessors.is_none() && self.announced == Some(name) {
             self.announced = None;
             return Ok(());
         }
         self.withdraw();
-        match self.entries.insert(name, (next, ways)) {
+        match self.entries.insert(name, (next, predecessors)) {
             Ok(_) => Ok(()),
             Err(_) => Err(AllocError),
         }

@@ -1,4 +1,4 @@
-use Rattle.std.proofs.Common.{arith, rules}
+use Rattle.std.proofs.Common.{rules}
 use Rattle.souper_lexer.proofs.TokenTakes.{takes_mark}
 use Rattle.souper_lexer.proofs.Lexer.take_mark.Goals as goal
 

@@ -1,4 +1,4 @@
-use Rattle.std.proofs.Common.{arith, rules}
+use Rattle.std.proofs.Common.{rules}
 use Rattle.souper_lexer.proofs.TokenTakes.{takes_name}
 use Rattle.souper_lexer.proofs.Lexer.take_name.Goals as goal
 

@@ -1,6 +1,5 @@
 use Rattle.std.proofs.Common.{List, ℕ, ◌++◌, refl}
 use Rattle.std.specs.Prelude.{Some, codes}
-use Rattle.std.specs.Result.{IsOk}
 use Rattle.std.specs.Fmt.{WritesStyledOnOk}
 use Rattle.souper_graph.proofs.Styled.{styled_two}
 use Rattle.souper_ir.proofs.Unstyled.{plainly}

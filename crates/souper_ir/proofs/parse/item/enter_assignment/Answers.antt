@@ -1,12 +1,10 @@
 use Rattle.std.proofs.Common.{None, ◌≡◌, sym, subst}
 use Rattle.std.proofs.lemmas.Result.{err_from_is_err_and, on_ok_weaker}
 use Rattle.std.specs.Prelude.{map}
-use Rattle.souper_graph.specs.Syntax.Spelling.{position_of, assignment_spells}
+use Rattle.souper_graph.specs.Syntax.Spelling.{position_of}
 use Rattle.souper_graph.specs.Values.{PlainAssignment, assigned}
-use Rattle.souper_graph.specs.View.{view_rhs, view_attribute, view_assignment}
-use Rattle.souper_ir.specs.Continuation.{assignment_continues}
+use Rattle.souper_graph.specs.View.{view_rhs, view_attribute}
 use Rattle.souper_ir.specs.Errors.{error_of}
-use Rattle.souper_ir.specs.Grammar.{Took}
 use Rattle.souper_ir.specs.Parsing.{Parsing}
 use Rattle.souper_ir.proofs.Failing.{not_io}
 use Rattle.souper_ir.proofs.Statements.{heading_refused, value_refused, attributes_refused, parts_taken, assignment_taken, assignment_refused}

@@ -1,4 +1,4 @@
-use Rattle.std.proofs.Common.{◌≡◌, None, Some, sym, ◌∙◌, ap}
+use Rattle.std.proofs.Common.{None, Some, sym, ◌∙◌}
 use Rattle.souper_ir.proofs.Announced.{is_new, are_announced, are_restored}
 use Rattle.souper_ir.proofs.parse.names.Names.announce.Goals as goal
 
