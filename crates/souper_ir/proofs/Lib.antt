@@ -10,7 +10,6 @@ pub mod BitLists
 pub mod RightSides
 pub mod Limits
 pub mod Scopes
-pub mod Announced
 pub mod Taken
 pub mod WellFormedItems
 pub mod Statements

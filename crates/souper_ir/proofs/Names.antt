@@ -1,8 +1,9 @@
--- The map of names, as a scope grows.
-use Rattle.std.proofs.Common.{◌≡◌, ℕ, suc, ◌+◌, Bool, true, false, List, [], ◌∷◌, ◌++◌, length, Option, Some, None, refl, sym, ◌∙◌, ap, subst, arith}
-use Rattle.std.specs.Prelude.{bytes_eq, option_map, if◌then◌else◌}
+-- The names of a scope, as it grows.
+use Rattle.std.proofs.Common.{◌≡◌, ◌⊎◌, ℕ, zero, suc, ◌+◌, ◌<◌, Bool, true, false, not, List, [], ◌∷◌, ◌++◌, length, set, Option, Some, None, refl, sym, ◌∙◌, ap, subst, inl, inr, arith}
+use Rattle.std.proofs.lemmas.Bool.Decides.{nat_tests}
+use Rattle.std.specs.Prelude.{◌==◌, bytes_eq, option_map, slice_get, if◌then◌else◌}
 use Rattle.std.specs.Borrow.{Bor}
-use Rattle.std.specs.BTreeMap.{BTreeMap, UpdatesBy, get_by}
+use Rattle.std.specs.BTreeMap.{BTreeMap, UpdatesBy}
 use Rattle.std.specs.Cmp.Lexicographic.{slice_cmp}
 use Rattle.std.specs.Ordering.{nat_cmp}
 use Rattle.std.proofs.lemmas.Slice.Eq.{bytes_eq-Decides}
@@ -10,7 +11,7 @@ use Rattle.std.proofs.lemmas.Map.Text.{btree_map_updates_str}
 use Rattle.souper_graph.specs.Values.{PlainAssignment, PlainStatement, assigned, condition, block_condition}
 use Rattle.souper_graph.specs.Uses.{is_condition}
 use Rattle.souper_graph.specs.Syntax.Spelling.{Scope, ways_of, entry_from, entry_of, position_of}
-use Rattle.souper_ir.specs.NamesView.{announced_or, IsNew}
+use Rattle.souper_ir.specs.NamesView.{last_number, Slot, is_free, Holds, Keeps, IsPut, held, slot_or, found}
 
 -- a position, and the number of predecessors of the block there
 abbrev pub Entry : Type 0
@@ -48,6 +49,9 @@ entry_pass k (assigned b ∷ ss) s n h = ap (λ (o : Option Entry). if bytes_eq 
 entry_pass k (condition p ∷ ss) s n h = entry_pass (suc k) ss s n h
 entry_pass k (block_condition p ∷ ss) s n h = entry_pass (suc k) ss s n h
 
+pub position_pass : (s : Scope) (x : PlainStatement) (n : List ℕ) → is_condition x ≡ true → position_of s n ≡ position_of (s ++ x ∷ []) n
+position_pass s x n h = ap (λ (o : Option Entry). option_map (λ (e : Entry). e.0) o) (entry_pass 0 s x n h)
+
 only_if : (b : Bool) (o : Option Entry) (v : Entry) → (b ≡ true → o ≡ None) → (if b then Some v else o) ≡ or_else o (if b then Some v else None)
 only_if true o v h = rw (h refl) refl
 only_if false None v h = refl
@@ -65,60 +69,125 @@ entry_added ss a n new =
     ∙ ap (λ (i : ℕ). or_else (entry_of ss n) (if bytes_eq a.name n then Some (i, ways_of a.value) else None)) (let e : length ss ≡ 0 + length ss = omega arith in e)
     ∙ entry_push 0 ss a n
 
+-- the position of a name, after one more assignment, of a new name
+position_added : (s : Scope) (a : PlainAssignment) (n : List ℕ) → position_of s a.name ≡ None → (if bytes_eq a.name n then Some (length s) else position_of s n) ≡ position_of (s ++ assigned a ∷ []) n
+position_added s a n new = by_name (bytes_eq a.name n) ∙ ap (λ (o : Option Entry). option_map (λ (e : Entry). e.0) o) (entry_added s a n new)
+  where
+    by_name : (b : Bool) → (if b then Some (length s) else position_of s n) ≡ option_map (λ (e : Entry). e.0) (if b then Some (length s, ways_of a.value) else entry_of s n)
+    by_name true = refl
+    by_name false = refl
+
+-- ---- a name that is put at its number
+
+pub kept : (xs : List Slot) (n : List ℕ) (v j : ℕ) → Keeps xs xs n v j
+kept xs n v j = inl refl
+
+pushed : (xs : List Slot) (x : Slot) (j : ℕ) → Keeps xs (xs ++ x ∷ []) x.0.now x.1 j
+pushed [] x zero = inr (refl, (refl, refl))
+pushed [] x (suc j) = inl refl
+pushed (y ∷ xs) x zero = inl refl
+pushed (y ∷ xs) x (suc j) = pushed xs x j
+
+-- one after the other
+keeps_more : (old between new : List Slot) (n : List ℕ) (v j : ℕ) → Keeps old between n v j → Keeps between new n v j → Keeps old new n v j
+keeps_more old between new n v j (inl e) (inl f) = inl (f ∙ e)
+keeps_more old between new n v j (inl e) (inr f) = inr (sym e ∙ f.0, f.1)
+keeps_more old between new n v j (inr e) (inl f) = inr (e.0, subst (λ (o : Option Slot). Holds o n v) (sym f) e.1)
+keeps_more old between new n v j (inr e) (inr f) = absurd (subst (λ (o : Option Slot). Holds o n v) f.0 e.1)
+
+pub keeps_push : (old between new : List Slot) (x : Slot) → ((j : ℕ) → Keeps old between x.0.now x.1 j) → new ≡ between ++ x ∷ [] → (j : ℕ) → Keeps old new x.0.now x.1 j
+keeps_push old between new x h e j = rw e (keeps_more old between (between ++ x ∷ []) x.0.now x.1 j (h j) (pushed between x j))
+
+set_here : (xs : List Slot) (k : ℕ) (x : Slot) → k < length xs → Holds (slice_get (set xs k x) k) x.0.now x.1
+set_here [] k x h = absurd (omega arith)
+set_here (y ∷ xs) zero x h = (refl, refl)
+set_here (y ∷ xs) (suc k) x h = set_here xs k x (omega arith)
+
+set_elsewhere : (xs : List Slot) (k j : ℕ) (x : Slot) → (j ≡ k → ⊥) → slice_get (set xs k x) j ≡ slice_get xs j
+set_elsewhere [] k j x h = refl
+set_elsewhere (y ∷ xs) zero zero x h = absurd (h refl)
+set_elsewhere (y ∷ xs) zero (suc j) x h = refl
+set_elsewhere (y ∷ xs) (suc k) zero x h = refl
+set_elsewhere (y ∷ xs) (suc k) (suc j) x h = set_elsewhere xs k j x (λ e. h (ap suc e))
+
+pub is_put : (old between : List Slot) (x : Slot) (k : ℕ) → ((j : ℕ) → Keeps old between x.0.now x.1 j) → k < length between → IsPut old (set between k x) x.0.now x.1 k
+is_put old between x k h within = record {
+  here = set_here between k x within;
+  elsewhere = λ j apart. keeps_more old between (set between k x) x.0.now x.1 j (h j) (inl (set_elsewhere between k j x apart));
+}
+
+-- ---- one more name
+
+-- the name is found with this position now, and the others as before
+abbrev Adds : (List ℕ → Option ℕ) → (List ℕ → Option ℕ) → List ℕ → ℕ → Type 0
+Adds old new key v = (n : List ℕ) → new n ≡ (if bytes_eq key n then Some v else old n)
+
+defined : (old new : List ℕ → Option ℕ) (s : Scope) (a : PlainAssignment) (v : ℕ) → Adds old new a.name v → ((n : List ℕ) → old n ≡ position_of s n) → position_of s a.name ≡ None → v ≡ length s
+    → (n : List ℕ) → new n ≡ position_of (s ++ assigned a ∷ []) n
+defined old new s a v adds are fresh last n = adds n ∙ rw (are n, last) (position_added s a n fresh)
+
+not_true : (b : Bool) → (b ≡ true → ⊥) → b ≡ false
+not_true true h = absurd (h refl)
+not_true false h = refl
+
+slot_held : (x : Option Slot) (o : Option ℕ) (m n : List ℕ) (v : ℕ) → Holds x m v → slot_or x o n ≡ (if bytes_eq m n then Some v else o)
+slot_held None o m n v h = absurd h
+slot_held (Some x) o m n v h = rw (h.0, h.1) refl
+
+-- what is at a free number is no entry of a name that ends in it
+free_slot : (x : Option Slot) (o : Option ℕ) (n : List ℕ) → is_free x (last_number n) ≡ true → slot_or x o n ≡ o
+free_slot None o n e = refl
+free_slot (Some x) o n e = rw (not_true (bytes_eq x.0.now n) (λ same. clash x.0.now ((bytes_eq-Decides x.0.now n).0 same) e)) refl
+  where
+    itself : (k : ℕ) → not (k == k) ≡ true → ⊥
+    itself k e = grind (arith, nat_tests)
+
+    clash : (m : List ℕ) → m ≡ n → not (last_number m == last_number n) ≡ true → ⊥
+    clash m same e = itself (last_number n) (subst (λ (y : List ℕ). not (last_number y == last_number n) ≡ true) same e)
+
+put_adds : (old new : List Slot) (others : BTreeMap (Bor (List ℕ)) ℕ) (key : List ℕ) (v : ℕ) → is_free (slice_get old (last_number key)) (last_number key) ≡ true → IsPut old new key v (last_number key)
+    → Adds (found old others) (found new others) key v
+put_adds old new others key v free put n = by_number (last_number n == last_number key) refl
+  where
+    kept_slot : (x y : Option Slot) (o : Option ℕ) → (bytes_eq key n ≡ false) → (y ≡ x) ⊎ ((x ≡ None) × Holds y key v) → slot_or y o n ≡ (if bytes_eq key n then Some v else slot_or x o n)
+    kept_slot x y o other (inl e) = rw (other, e) refl
+    kept_slot x y o other (inr e) = slot_held y o key n v e.1 ∙ rw (e.0) refl
+
+    by_number : (b : Bool) → (last_number n == last_number key) ≡ b → found new others n ≡ (if bytes_eq key n then Some v else found old others n)
+    by_number true e =
+        let same : last_number n ≡ last_number key = grind (arith, nat_tests) in
+        let free_here : is_free (slice_get old (last_number n)) (last_number n) ≡ true = subst (λ (k : ℕ). is_free (slice_get old k) k ≡ true) (sym same) free in
+        let here : Holds (slice_get new (last_number n)) key v = subst (λ (k : ℕ). Holds (slice_get new k) key v) (sym same) put.here in
+        slot_held (slice_get new (last_number n)) (held others n) key n v here ∙ rw (free_slot (slice_get old (last_number n)) (held others n) n free_here) refl
+    by_number false e =
+        let apart : last_number n ≡ last_number key → ⊥ = λ same. grind (arith, nat_tests) in
+        let other : bytes_eq key n ≡ false = not_true (bytes_eq key n) (λ same. apart (ap last_number (sym ((bytes_eq-Decides key n).0 same)))) in
+        kept_slot (slice_get old (last_number n)) (slice_get new (last_number n)) (held others n) other (put.elsewhere (last_number n) apart)
+
+pub put_defined : (old new : List Slot) (others : BTreeMap (Bor (List ℕ)) ℕ) (s : Scope) (a : PlainAssignment) (key : List ℕ) (v : ℕ) → is_free (slice_get old (last_number key)) (last_number key) ≡ true → IsPut old new key v (last_number key)
+    → ((n : List ℕ) → found old others n ≡ position_of s n) → position_of s key ≡ None → a.name ≡ key → v ≡ length s → (n : List ℕ) → found new others n ≡ position_of (s ++ assigned a ∷ []) n
+put_defined old new others s a key v free put are fresh named last =
+    defined (found old others) (found new others) s a v (subst (λ (k : List ℕ). Adds (found old others) (found new others) k v) (sym named) (put_adds old new others key v free put)) are (rw named fresh) last
+
 -- ---- the map
 
-abbrev pub Entries : Type 0
-Entries = BTreeMap (Bor (List ℕ)) Entry
-
--- the map's entry of a name
-abbrev pub held : Entries → List ℕ → Option Entry
-held names n = get_by (λ (k : Bor (List ℕ)). slice_cmp nat_cmp n k.now) names
-
--- the map has the entries of a scope and of an announced name
-abbrev pub NamesAre : Entries → Option (Bor (List ℕ)) → Scope → Type 0
-NamesAre names announced s = (n : List ℕ) → held names n ≡ announced_or announced s n
-
--- the map has this entry for the name now, and those of before for the others
-abbrev pub Changes : Entries → Entries → Bor (List ℕ) → Option Entry → Type 0
+-- the map has this position for the name now, and those of before for the others
+abbrev Changes : BTreeMap (Bor (List ℕ)) ℕ → BTreeMap (Bor (List ℕ)) ℕ → Bor (List ℕ) → Option ℕ → Type 0
 Changes old new key w = UpdatesBy (λ (x y : Bor (List ℕ)). slice_cmp nat_cmp x.now y.now) (λ (k : Bor (List ℕ)). slice_cmp nat_cmp key.now k.now) old new w
 
-changed : (old new : Entries) (key : Bor (List ℕ)) (w : Option Entry) (n : List ℕ) → Changes old new key w → held new n ≡ (if bytes_eq key.now n then w else held old n)
-changed old new key w n up = btree_map_updates_str key.now old new w up n
-
--- one more definition, of a new name
-pub names_push : (old new : Entries) (ss : Scope) (key : Bor (List ℕ)) (a : PlainAssignment) (v : ℕ) (ways : Option ℕ)
-    → NamesAre old None ss → Changes old new key (Some (v, ways)) → a.name ≡ key.now → position_of ss key.now ≡ None → v ≡ length ss → ways ≡ ways_of a.value
-    → NamesAre new None (ss ++ assigned a ∷ [])
-names_push old new ss key a v ways tie up named fresh last same n =
-    changed old new key (Some (v, ways)) n up
-    ∙ rw (tie n, last, same, sym named) (entry_added ss a n (rw named fresh))
-
--- one more path condition
-pub names_pass : (names : Entries) (ss : Scope) (s : PlainStatement) → NamesAre names None ss → is_condition s ≡ true → NamesAre names None (ss ++ s ∷ [])
-names_pass names ss s tie h n = tie n ∙ entry_pass 0 ss s n h
-
--- ---- an announced name
-
-pub names_announce : (old new : Entries) (ss : Scope) (key : Bor (List ℕ)) (v : ℕ) → NamesAre old None ss → Changes old new key (Some (v, None)) → v ≡ length ss → NamesAre new (Some key) ss
-names_announce old new ss key v tie up last n = changed old new key (Some (v, None)) n up ∙ rw (tie n, last) refl
-
--- its definition, which is of no block
-pub names_define : (names : Entries) (ss : Scope) (key : Bor (List ℕ)) (a : PlainAssignment) → NamesAre names (Some key) ss → a.name ≡ key.now → position_of ss key.now ≡ None → None ≡ ways_of a.value
-    → NamesAre names None (ss ++ assigned a ∷ [])
-names_define names ss key a tie named fresh same n = tie n ∙ rw (same, sym named) (entry_added ss a n (rw named fresh))
-
-pub names_withdraw : (old new : Entries) (ss : Scope) (key : Bor (List ℕ)) → NamesAre old (Some key) ss → IsNew (Some key) ss → Changes old new key None → NamesAre new None ss
-names_withdraw old new ss key tie fresh up n = changed old new key None n up ∙ by_name (bytes_eq key.now n) refl
+inserted : (x : Option Slot) (o p : Option ℕ) (v : ℕ) (n : List ℕ) (here : Bool) → p ≡ (if here then Some v else o) → (here ≡ true → slot_or x o n ≡ None) → slot_or x p n ≡ (if here then Some v else slot_or x o n)
+inserted x o p v n false e fresh = ap (λ (q : Option ℕ). slot_or x q n) e
+inserted None o p v n true e fresh = e
+inserted (Some x) o p v n true e fresh = unmet (bytes_eq x.0.now n) (fresh refl)
   where
-    by_name : (b : Bool) → bytes_eq key.now n ≡ b → (if b then None else held old n) ≡ entry_of ss n
-    by_name true e = sym (subst (λ (x : List ℕ). entry_of ss x ≡ None) ((bytes_eq-Decides key.now n).0 e) (no_entry (entry_of ss key.now) fresh))
-    by_name false e = tie n ∙ rw e refl
+    unmet : (b : Bool) → (if b then Some x.1 else o) ≡ None → (if b then Some x.1 else p) ≡ Some v
+    unmet true h = absurd cc
+    unmet false h = e
 
--- an entry that was written over and put back
-pub names_restore : (old between new : Entries) (ss : Scope) (key : Bor (List ℕ)) (w : Option Entry) (e : Entry) → NamesAre old None ss → Changes old between key w → Changes between new key (Some e) → Some e ≡ held old key.now
-    → NamesAre new None ss
-names_restore old between new ss key w e tie up back was n = changed between new key (Some e) n back ∙ by_name (bytes_eq key.now n) refl
-  where
-    by_name : (b : Bool) → bytes_eq key.now n ≡ b → (if b then Some e else held between n) ≡ entry_of ss n
-    by_name true same = was ∙ ap (λ (x : List ℕ). held old x) ((bytes_eq-Decides key.now n).0 same) ∙ tie n
-    by_name false same = changed old between key w n up ∙ rw same (tie n)
+pub insert_defined : (numbered : List Slot) (old new : BTreeMap (Bor (List ℕ)) ℕ) (s : Scope) (a : PlainAssignment) (key : Bor (List ℕ)) (v : ℕ) → Changes old new key (Some v)
+    → ((n : List ℕ) → found numbered old n ≡ position_of s n) → position_of s key.now ≡ None → a.name ≡ key.now → v ≡ length s → (n : List ℕ) → found numbered new n ≡ position_of (s ++ assigned a ∷ []) n
+insert_defined numbered old new s a key v up are fresh named last =
+    let adds : Adds (found numbered old) (found numbered new) key.now v =
+    λ n. inserted (slice_get numbered (last_number n)) (held old n) (held new n) v n (bytes_eq key.now n) (btree_map_updates_str key.now old new (Some v) up n)
+    (λ same. subst (λ (x : List ℕ). found numbered old x ≡ None) ((bytes_eq-Decides key.now n).0 same) (are key.now ∙ fresh)) in
+    defined (found numbered old) (found numbered new) s a v (subst (λ (k : List ℕ). Adds (found numbered old) (found numbered new) k v) (sym named) adds) are (rw named fresh) last

@@ -15,8 +15,9 @@ use Rattle.souper_ir.specs.declared.parse.parser.Failure.{Failure}
 use Rattle.souper_ir.specs.FailureView.{cause_of_failure}
 use Rattle.std.specs.Prelude.{map, string_bytes}
 use Rattle.std.proofs.lemmas.Option.{slice_get-map}
+use Rattle.souper_graph.specs.Syntax.Optional.{◌>>=◌}
+use Rattle.souper_ir.specs.NodeReadings.{ways_at, block_entry}
 use Rattle.souper_ir.specs.Peeks.{some_is}
-pub use Rattle.souper_ir.specs.ParserView.{Named}
 use Rattle.souper_ir.proofs.Names.{Entry, or_else, entry_push, entry_pass, no_entry}
 
 -- ---- names
@@ -61,28 +62,12 @@ position_stands s n i h =
     let e = entry_at (entry_of s n) i h in
     (e.0, entry_stands s n i e.0 e.1)
 
+-- each name resolves to the position of its assignment
+abbrev pub Named : Scope → Type 0
+Named s = (p : ℕ) (a : PlainAssignment) → slice_get s p ≡ Some (assigned a) → position_of s a.name ≡ Some p
+
 pub nothing_named : Named []
 nothing_named p v e = absurd cc
-
--- the entry of the name of the assignment at a position
-pub entry_named : (ss : Scope) (p : ℕ) (a : PlainAssignment) → Named ss → slice_get ss p ≡ Some (assigned a) → entry_of ss a.name ≡ Some (p, ways_of a.value)
-entry_named ss p a named e =
-    let found = entry_at (entry_of ss a.name) p (named p a e) in
-    let stands = entry_stands ss a.name p found.0 found.1 in
-    let same : ◌≡◌ {A = PlainStatement} (assigned stands.0) (assigned a) = some_is (sym stands.1 ∙ e) in
-    let is : stands.0 ≡ a = cc in
-    found.1 ∙ ap (λ (w : Option ℕ). Some (p, w)) (sym stands.2 ∙ ap (λ (x : PlainAssignment). ways_of x.value) is)
-
--- the same over the statements of the code
-pub entry_seen : (statements : List Statement) (p : ℕ) (a : Assignment) (n : List ℕ) → Named (map view_statement statements) → slice_get statements p ≡ Some (AssignmentStatement a) → string_bytes a.name ≡ n
-    → entry_of (map view_statement statements) n ≡ Some (p, ways_of (view_rhs a.value))
-entry_seen statements p a n named e same =
-    subst (λ (x : List ℕ). entry_of (map view_statement statements) x ≡ Some (p, ways_of (view_rhs a.value))) same
-    (entry_named (map view_statement statements) p (view_assignment a) named (slice_get-map view_statement statements p ∙ ap (option_map view_statement) e))
-
-pub live_inside : (o : Option Failure) → option_map cause_of_failure o ≡ None → o ≡ None
-live_inside None h = refl
-live_inside (Some f) h = absurd cc
 
 pub get_push : (ss : Scope) (s t : PlainStatement) (p : ℕ) → slice_get (ss ++ s ∷ []) p ≡ Some t → (slice_get ss p ≡ Some t) ⊎ ((p ≡ length ss) × (s ≡ t))
 get_push [] s t zero e = inr (refl, cc)
@@ -165,6 +150,29 @@ block_reaches s n i ways e =
     let r = entry_stands s n i (Some ways) e in
     let k = ways_are r.0.value ways r.2 in
     ((get_in s i (assigned r.0) r.1, subst IsBlock (sym r.1) k.0), k.1 ∙ ap predecessors_of (sym r.1))
+
+-- the block at a position, with its number of predecessors
+abbrev pub block_at : List Statement → Option ℕ → Option (ℕ × ℕ)
+block_at statements None = None
+block_at statements (Some i) = option_map view_statement (slice_get statements i) >>= λ x. (ways_at x >>= λ ways. Some (i, ways))
+
+pub block_found : (statements : List Statement) (n : List ℕ) → block_at statements (position_of (map view_statement statements) n) ≡ block_entry (entry_of (map view_statement statements) n)
+block_found statements n = by_entry (entry_of (map view_statement statements) n) refl
+  where
+    by_entry : (e : Option (ℕ × Option ℕ)) → entry_of (map view_statement statements) n ≡ e → block_at statements (option_map (λ (x : ℕ × Option ℕ). x.0) e) ≡ block_entry e
+    by_entry None is = refl
+    by_entry (Some e) is =
+        let there = entry_stands (map view_statement statements) n e.0 e.1 is in
+        rw (sym (slice_get-map view_statement statements e.0), there.1, there.2) refl
+
+pub block_named : (statements : List Statement) (scope : Scope) (n : List ℕ) (v : Option ℕ) → map view_statement statements ≡ scope → v ≡ position_of scope n → block_at statements v ≡ block_entry (entry_of scope n)
+block_named statements scope n v is e = rw e (subst (λ (s : Scope). block_at statements (position_of s n) ≡ block_entry (entry_of s n)) is (block_found statements n))
+
+pub no_block : (statements : List Statement) (i : ℕ) → slice_get statements i ≡ None → block_at statements (Some i) ≡ None
+no_block statements i e = rw e refl
+
+pub block_is : (statements : List Statement) (i : ℕ) (x : Statement) (ways : Option ℕ) → slice_get statements i ≡ Some x → ways ≡ ways_at (view_statement x) → block_at statements (Some i) ≡ (ways >>= λ w. Some (i, w))
+block_is statements i x ways e f = rw (e, f) refl
 
 -- ---- as the scope grows
 

@@ -1,24 +1,60 @@
 -- Definitions. The names of a scope, as a parser keeps them.
-use Rattle.std.specs.Prelude.{◌≡◌, ℕ, List, length, Option, Some, None, bytes_eq, if◌then◌else◌}
+use Rattle.std.specs.Prelude.{◌≡◌, ◌⊎◌, ℕ, ◌+◌, ◌-◌, ◌*◌, ◌^◌, ◌%◌, Bool, true, List, [], ◌∷◌, Option, Some, None, not, ◌==◌, bytes_eq, if◌then◌else◌}
 use Rattle.std.specs.Borrow.{Bor}
-use Rattle.std.specs.BTreeMap.{get_by}
+use Rattle.std.specs.BTreeMap.{BTreeMap, get_by}
+use Rattle.std.specs.Char.{is_ascii_digit}
 use Rattle.std.specs.Cmp.Lexicographic.{slice_cmp}
+use Rattle.std.specs.List.{slice_get}
 use Rattle.std.specs.Ordering.{nat_cmp}
-use Rattle.souper_graph.specs.Syntax.Spelling.{Scope, entry_of, position_of}
+use Rattle.souper_graph.specs.Syntax.Spelling.{Scope, position_of}
 use Rattle.souper_ir.specs.declared.parse.names.Names.{Names}
 
--- the entry of a name: that of an announced name is the next position, and of no block
-abbrev pub announced_or : Option (Bor (List ℕ)) → Scope → List ℕ → Option (ℕ × Option ℕ)
-announced_or None s n = entry_of s n
-announced_or (Some a) s n = if bytes_eq a.now n then Some (length s, None) else entry_of s n
+-- with one more byte, modulo 2^32: 48 is `0`
+abbrev pub with_digit : ℕ → ℕ → ℕ
+with_digit n b = if is_ascii_digit b then (n * 10 % 2 ^ 32 + (b - 48)) % 2 ^ 32 else 0
 
--- an announced name is not in the scope
-abbrev pub IsNew : Option (Bor (List ℕ)) → Scope → Type 0
-IsNew None s = Unit {0}
-IsNew (Some a) s = position_of s a.now ≡ None
+abbrev pub number_from : ℕ → List ℕ → ℕ
+number_from n [] = n
+number_from n (b ∷ bs) = number_from (with_digit n b) bs
 
--- the map has each name of the scope with its position and its block's number of predecessors, a name that is announced
--- and not in the scope, and no other
-pub record AreNames (names : Names) (s : Scope) : Type 0 where
-  pub entries : (n : List ℕ) → get_by (λ (k : Bor (List ℕ)). slice_cmp nat_cmp n k.now) names.entries ≡ announced_or names.announced s n
-  pub new : IsNew names.announced s
+-- the number that a name ends in
+abbrev pub last_number : List ℕ → ℕ
+last_number name = number_from 0 name
+
+-- a name at a number, with its position
+abbrev pub Slot : Type 0
+Slot = Bor (List ℕ) × ℕ
+
+-- no name is at the number, or one that fills a gap
+abbrev pub is_free : Option Slot → ℕ → Bool
+is_free None k = true
+is_free (Some x) k = not (last_number x.0.now == k)
+
+abbrev pub Holds : Option Slot → List ℕ → ℕ → Type 0
+Holds None n v = ⊥
+Holds (Some x) n v = (x.0.now ≡ n) × (x.1 ≡ v)
+
+-- at a number is what was there, or the name if nothing was
+abbrev pub Keeps : List Slot → List Slot → List ℕ → ℕ → ℕ → Type 0
+Keeps old new n v j = (slice_get new j ≡ slice_get old j) ⊎ ((slice_get old j ≡ None) × Holds (slice_get new j) n v)
+
+-- the name is put at the number, and perhaps where nothing was
+pub record IsPut (old new : List Slot) (n : List ℕ) (v k : ℕ) : Type 0 where
+  pub here : Holds (slice_get new k) n v
+  pub elsewhere : (j : ℕ) → (j ≡ k → ⊥) → Keeps old new n v j
+
+-- what the map has for a name
+abbrev pub held : BTreeMap (Bor (List ℕ)) ℕ → List ℕ → Option ℕ
+held others n = get_by (λ (k : Bor (List ℕ)). slice_cmp nat_cmp n k.now) others
+
+-- the position of the name at the number, if it is this one, or else what the map has
+abbrev pub slot_or : Option Slot → Option ℕ → List ℕ → Option ℕ
+slot_or None o n = o
+slot_or (Some x) o n = if bytes_eq x.0.now n then Some x.1 else o
+
+abbrev pub found : List Slot → BTreeMap (Bor (List ℕ)) ℕ → List ℕ → Option ℕ
+found numbered others n = slot_or (slice_get numbered (last_number n)) (held others n) n
+
+-- each name of the scope is found with its position, and no other
+abbrev pub AreNames : Names → Scope → Type 0
+AreNames names s = (n : List ℕ) → found names.numbered.items names.others n ≡ position_of s n

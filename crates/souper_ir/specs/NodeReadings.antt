@@ -8,12 +8,12 @@ use Rattle.souper_graph.specs.declared.ast.instructions.Instruction.{Instruction
 use Rattle.souper_graph.specs.declared.ast.statements.Block.{Block}
 use Rattle.souper_graph.specs.declared.ast.statements.Pc.{Pc}
 use Rattle.souper_graph.specs.declared.ast.statements.BlockPc.{BlockPc}
-use Rattle.souper_graph.specs.Values.{PlainAttribute, known_bits as known_bits_attribute, power_of_two, negative, non_negative, non_zero, has_external_uses, sign_bits, range, PlainRootAttribute, demanded_bits, harvested_from_use, PlainPhi, PlainRhs, var, block, phi, reserved_inst, reserved_const, instruction}
+use Rattle.souper_graph.specs.Values.{PlainAttribute, known_bits as known_bits_attribute, power_of_two, negative, non_negative, non_zero, has_external_uses, sign_bits, range, PlainRootAttribute, demanded_bits, harvested_from_use, PlainPhi, PlainRhs, var, block, phi, reserved_inst, reserved_const, instruction, PlainStatement, assigned, condition, block_condition}
 use Rattle.souper_graph.specs.Syntax.Tokens.{Lexeme, ident, val_name, known_bits, int, comma, colon, equals, open_paren, close_paren, open_bracket}
 use Rattle.souper_graph.specs.Syntax.Numbers.{number_of, count_of, width_of, bits_of, known_bits_of}
 use Rattle.souper_ir.specs.declared.parse.words.Opcode.{Opcode}
 use Rattle.souper_ir.specs.Words.{opcode_of, operand_count, instruction_by}
-use Rattle.souper_graph.specs.Syntax.Spelling.{entry_of, position_of}
+use Rattle.souper_graph.specs.Syntax.Spelling.{ways_of, entry_of, position_of}
 use Rattle.souper_ir.specs.Parsing.{Parsing}
 use Rattle.souper_graph.specs.Syntax.Optional.{◌>>=◌}
 use Rattle.souper_ir.specs.Reading.{take_at, look_at}
@@ -148,6 +148,12 @@ block_at p = do
   k ← accept (word_of (codes "block")) p
   n ← accept (int_by (count_of (2 ^ 32))) k.1
   Some (record { predecessors = n.0 }, n.1)
+
+-- the number of predecessors of a block
+abbrev pub ways_at : PlainStatement → Option ℕ
+ways_at (assigned a) = ways_of a.value
+ways_at (condition p) = None
+ways_at (block_condition p) = None
 
 -- the block of a name, with its number of predecessors
 abbrev pub block_entry : Option (ℕ × Option ℕ) → Option (ℕ × ℕ)

@@ -30,18 +30,13 @@ parsing_of p = record {
   failed = option_map cause_of_failure p.failed;
 }
 
--- each name resolves to the position of its assignment
-abbrev pub Named : Scope → Type 0
-Named s = (p : ℕ) (a : PlainAssignment) → slice_get s p ≡ Some (assigned a) → position_of s a.name ≡ Some p
-
 abbrev pub FailedWithin : ℕ → Option Failure → Type 0
 FailedWithin len None = Unit {0}
 FailedWithin len (Some (Refused o)) = o ≤ len
 FailedWithin len (Some Memory) = Unit {0}
 
--- offsets are within the text, and until the parser fails the names are those of the statements so far, and distinct
+-- offsets are within the text, and until the parser fails the names are those of the statements so far
 pub record IsParser (p : Inside) : Type 0 where
   pub offset : p.offset ≤ p.lexer.len
   pub failed : FailedWithin p.lexer.len p.failed
   pub names : p.failed ≡ None → AreNames p.names (map view_statement p.statements)
-  pub distinct : p.failed ≡ None → Named (map view_statement p.statements)

@@ -11,7 +11,6 @@ mod numbers;
 mod operands;
 mod parser;
 mod place;
-mod recent;
 mod rhs;
 mod sink;
 mod statements;

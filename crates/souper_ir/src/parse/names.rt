@@ -1,19 +1,43 @@
 //! The names in scope.
-ghost use Rattle.std.specs.Prelude.{◌≡◌, ◌++◌, ◌∷◌, [], length, None, is_none, IfOk, OnOk};
+ghost use Rattle.std.specs.Prelude.{◌≡◌, ◌<◌, ◌^◌, ◌++◌, ◌∷◌, [], length, None, OnOk};
+ghost use Rattle.std.specs.List.{slice_get};
 ghost use Rattle.souper_graph.specs.Values.{PlainAssignment, assigned};
-ghost use Rattle.souper_graph.specs.Syntax.Spelling.{Scope, ways_of, entry_of, position_of};
+ghost use Rattle.souper_graph.specs.Syntax.Spelling.{Scope, position_of};
+ghost use Rattle.souper_ir.specs.NamesView.{last_number, is_free, IsPut};
 
 use souper_graph::ast::{Id, ValueId};
 use std::alloc::{AllocError, Global};
 use std::collections::BTreeMap;
 
-/// Each name in scope with its value and, for a block, its number of predecessors.
+/// Each name in scope with its value.
+///
+/// Souper numbers its values, so a name is looked up by the number that it ends in, and in a map if another name is there.
 #[derive(Debug, Drop)]
 pub(crate) struct Names<'a> {
-    entries: BTreeMap<&'a str, (ValueId, Option<u32>)>,
-    // A name that is entered ahead of its definition, as the value that is defined next.
-    announced: Option<&'a str>,
+    // At each number at most one name that ends in it. A name that does not end in its number fills a gap.
+    numbered: Vec<(&'a str, ValueId)>,
+    // Each other name.
+    others: BTreeMap<&'a str, ValueId>,
 }
+
+// The number that a name ends in, modulo 2^32, or 0 if its last character is no digit.
+fn last_number(name: &str) -> usize
+    ensures number { result ≡ last_number name.now }
+    ensures below { result < 2 ^ 32 }
+{
+    let mut number: u32 = 0;
+    for byte in name.as_bytes() {
+        number = if byte.is_ascii_digit() {
+            number.wrapping_mul(10).wrapping_add(u32::from(*byte - b'0'))
+        } else {
+            0
+        };
+    }
+    number as usize
+}
+
+// How far the number of a name may be beyond the number of statements so far.
+const REACH: usize = 16;
 
 impl<'a> Names<'a> {
     ghost use Rattle.souper_ir.specs.NamesView.{AreNames};
@@ -22,69 +46,58 @@ impl<'a> Names<'a> {
         ensures { AreNames result [] }
     {
         Names {
-            entries: BTreeMap::new(alloc),
-            announced: None,
+            numbered: Vec::new(alloc),
+            others: BTreeMap::new(alloc),
         }
     }
 
-    /// The entry of a name. `defined` is the number of statements so far.
-    pub(crate) fn get(&self, name: &str, defined: usize) -> Option<(ValueId, Option<u32>)>
-        ensures { (s : Scope) → AreNames self.now s → defined ≡ length s → result ≡ entry_of s name.now }
+    /// The value of a name.
+    #[inline(always)]
+    pub(crate) fn get(&self, name: &str) -> Option<ValueId>
+        ensures { (s : Scope) → AreNames self.now s → result ≡ position_of s name.now }
     {
-        let (value, predecessors) = self.entries.get(name).copied()?;
-        if Id::from(value).index() < defined {
-            Some((value, predecessors))
-        } else {
-            None
-        }
-    }
-
-    /// Whether a name is new. If so, it is announced as that of the value that is defined next: its definition then needs
-    /// no look into the map.
-    pub(crate) fn announce(&mut self, name: &'a str, next: ValueId) -> Result<bool, AllocError>
-        ensures names { OnOk result ((s : Scope) → AreNames self.old s → next ≡ length s → AreNames self.new s) }
-        ensures new { IfOk result (λ new. (s : Scope) → AreNames self.old s → new ≡ is_none (position_of s name.now)) }
-    {
-        self.withdraw();
-        match self.entries.insert(name, (next, None)) {
-            Ok(None) => {
-                self.announced = Some(name);
-                Ok(true)
+        if let Some((other, value)) = self.numbered.get(last_number(name)) {
+            if *other == name {
+                return Some(*value);
             }
-            Ok(Some(entry)) => match self.entries.insert(name, entry) {
-                Ok(_) => Ok(false),
-                Err(_) => Err(AllocError),
-            },
-            Err(_) => Err(AllocError),
+        }
+        self.others.get(name).copied()
+    }
+
+    fn is_free(&self, number: usize) -> bool
+        ensures { result ≡ is_free (slice_get self.now.numbered.items number) number }
+    {
+        match self.numbered.get(number) {
+            Some((other, _)) => last_number(other) != number,
+            None => true,
         }
     }
 
-    /// Takes an announced name out.
-    pub(crate) fn withdraw(&mut self)
-        ensures none { self.new.announced ≡ None }
-        ensures names { (s : Scope) → AreNames self.old s → AreNames self.new s }
+    // Puts a name at its number. It fills the gap before it, too.
+    fn put(&mut self, name: &'a str, value: ValueId, number: usize) -> Result<(), AllocError>
+        ensures others { self.new.others ≡ self.old.others }
+        ensures put { OnOk result (IsPut self.old.numbered.items self.new.numbered.items name.now value number) }
     {
-        if let Some(name) = self.announced {
-            self.entries.remove(name);
-            self.announced = None;
+        while self.numbered.len() <= number {
+            match self.numbered.push((name, value)) {
+                Ok(()) => {}
+                Err(_) => return Err(AllocError),
+            }
         }
+        self.numbered[number] = (name, value);
+        Ok(())
     }
 
     /// Enters a new name, whose value is defined next.
-    pub(crate) fn define(
-        &mut self,
-        name: &'a str,
-        next: ValueId,
-        predecessors: Option<u32>,
-    ) -> Result<(), AllocError>
-        ensures { OnOk result ((s : Scope) (a : PlainAssignment) → AreNames self.old s → position_of s name.now ≡ None → a.name ≡ name.now → next ≡ length s → predecessors ≡ ways_of a.value → AreNames self.new (s ++ assigned a ∷ [])) }
+    pub(crate) fn define(&mut self, name: &'a str, value: ValueId) -> Result<(), AllocError>
+        ensures { OnOk result ((s : Scope) (a : PlainAssignment) → AreNames self.old s → position_of s name.now ≡ None → a.name ≡ name.now → value ≡ length s → AreNames self.new (s ++ assigned a ∷ [])) }
     {
-        if predecessors.is_none() && self.announced == Some(name) {
-            self.announced = None;
-            return Ok(());
+        let number = last_number(name);
+        let in_reach = number.saturating_sub(REACH) <= Id::from(value).index();
+        if in_reach && self.is_free(number) {
+            return self.put(name, value, number);
         }
-        self.withdraw();
-        match self.entries.insert(name, (next, predecessors)) {
+        match self.others.insert(name, value) {
             Ok(_) => Ok(()),
             Err(_) => Err(AllocError),
         }
@@ -94,7 +107,7 @@ impl<'a> Names<'a> {
     pub(crate) fn clear(&mut self)
         ensures { AreNames self.new [] }
     {
-        self.entries.clear();
-        self.announced = None;
+        self.numbered.clear();
+        self.others.clear();
     }
 }

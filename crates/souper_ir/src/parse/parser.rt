@@ -7,7 +7,7 @@ ghost use Rattle.souper_graph.specs.Syntax.Tokens.{Lexeme, AreTokensOf, IsTextOf
 ghost use Rattle.souper_lexer.specs.TokenView.{lexeme_of, Lexes};
 ghost use Rattle.souper_graph.specs.Uses.{is_condition};
 ghost use Rattle.souper_graph.specs.Syntax.Spelling.{ways_of, entry_of, position_of};
-ghost use Rattle.souper_ir.specs.NodeReadings.{accept, block_entry, is_mark, is_name, mark_of, name_of};
+ghost use Rattle.souper_ir.specs.NodeReadings.{accept, block_entry, ways_at, is_mark, is_name, mark_of, name_of};
 ghost use Rattle.souper_ir.specs.Grammar.{peek_at};
 ghost use Rattle.souper_ir.specs.MarkView.{lexeme_of_mark};
 ghost use Rattle.souper_ir.specs.Parsing.{Cause, refused, no_memory};
@@ -19,7 +19,6 @@ ghost use Rattle.souper_ir.specs.Reading.{Fails, FailsForMemory, Gives, IsRead, 
 use crate::parse::error::{ParseError, ReadError};
 use crate::parse::message::Message;
 use crate::parse::names::Names;
-use crate::parse::recent::Recent;
 use crate::parse::tokens::{Mark, byte_of};
 use souper_graph::ast::{Arena, Assignment, AssignmentRhs, BlockId, Id, Statement, ValueId};
 use souper_lexer::{Fault, Lexer, Token};
@@ -55,8 +54,6 @@ pub struct Parser<'a> {
     statements: Arena<Statement>,
     // The names that they define.
     names: Names<'a>,
-    // Is looked up before the map: most uses are of a value that was defined last.
-    recent: Recent,
     failed: Option<Failure>,
 }
 
@@ -88,7 +85,6 @@ impl<'a> Parser<'a> {
             offset: 0,
             statements: Arena::new(alloc),
             names: Names::new(alloc),
-            recent: Recent::new(),
             failed: None,
         }
     }
@@ -286,56 +282,27 @@ fn push(
     statements.alloc(statement)
 }
 
-// A block's number of predecessors; `None` for any other right side.
-fn ways(rhs: &AssignmentRhs) -> Option<u32>
-    ensures { result ≡ ways_of (view_rhs rhs.now) }
+// A block's number of predecessors; `None` for any other statement.
+fn predecessors(statement: &Statement) -> Option<u32>
+    ensures { result ≡ ways_at (view_statement statement.now) }
 {
-    match rhs {
-        AssignmentRhs::Block(block) => Some(block.predecessors),
+    match statement {
+        Statement::Assignment(assignment) => match &assignment.value {
+            AssignmentRhs::Block(block) => Some(block.predecessors),
+            _ => None,
+        },
         _ => None,
     }
 }
 
 impl<'a> Parser<'a> {
-    // The entry of a name, if the value in its slot has that name.
-    #[inline(always)]
-    fn recent_entry(&self, name: &str) -> Option<(ValueId, Option<u32>)>
-        requires { self.now.failed ≡ None }
-        ensures { IfSome result (λ e. entry_of self.now.scope name.now ≡ Some e) }
-    {
-        let value = self.recent.get(name)?;
-        match self.statements.get(value.into()) {
-            Some(Statement::Assignment(assignment)) => {
-                if assignment.name.as_str() == name {
-                    Some((value, ways(&assignment.value)))
-                } else {
-                    None
-                }
-            }
-            _ => None,
-        }
-    }
-
-    /// The value of a name, and the number of predecessors if it is a block.
-    pub(crate) fn entry(&self, name: &str) -> Option<(ValueId, Option<u32>)>
-        requires { self.now.failed ≡ None }
-        ensures { result ≡ entry_of self.now.scope name.now }
-    {
-        match self.recent_entry(name) {
-            Some(entry) => Some(entry),
-            None => self.names.get(name, self.statements.len()),
-        }
-    }
-
     /// The value of a name.
+    #[inline(always)]
     pub(crate) fn value_named(&self, name: &str) -> Option<ValueId>
         requires { self.now.failed ≡ None }
         ensures { result ≡ position_of self.now.scope name.now }
     {
-        match self.entry(name) {
-            Some((value, _)) => Some(value),
-            None => None,
-        }
+        self.names.get(name)
     }
 
     /// The block of a name, and its number of predecessors.
@@ -343,25 +310,9 @@ impl<'a> Parser<'a> {
         requires { self.now.failed ≡ None }
         ensures { result ≡ block_entry (entry_of self.now.scope name.now) }
     {
-        let (value, ways) = self.entry(name)?;
-        let ways = ways?;
-        Some((Id::from(value).into(), ways))
-    }
-
-    /// Whether a name is new. If so, its definition is to come next: it then needs no look into the map of names.
-    pub(crate) fn announce(&mut self, name: &'a str) -> Read<bool>
-        requires live { self.old.failed ≡ None }
-        ensures ok { OnOk result (self.new ≡ self.old) }
-        ensures new { IfOk result (λ new. new ≡ is_none (position_of self.old.scope name.now)) }
-        ensures err { IfErr result (λ error. FailsForMemory (error_of error) self.old self.new) }
-    {
-        match self.names.announce(name, self.statements.next_id().into()) {
-            Ok(new) => Ok(new),
-            Err(_) => {
-                self.failed = Some(Failure::Memory);
-                Err(ReadError::Memory)
-            }
-        }
+        let value = self.value_named(name)?;
+        let predecessors = predecessors(self.statements.get(value.into())?)?;
+        Some((Id::from(value).into(), predecessors))
     }
 
     /// Adds the definition of a name to the statements.
@@ -372,7 +323,6 @@ impl<'a> Parser<'a> {
         ensures ok { OnOk result (self.new ≡ record self.old { scope = self.old.scope ++ assigned (view_assignment assignment) ∷ [] }) }
         ensures err { IfErr result (λ error. FailsForMemory (error_of error) self.old self.new) }
     {
-        let ways = ways(&assignment.value);
         let id = match push(&mut self.statements, assignment.into()) {
             Ok(id) => id,
             Err(_) => {
@@ -380,9 +330,7 @@ impl<'a> Parser<'a> {
                 return Err(ReadError::Memory);
             }
         };
-        let value: ValueId = id.into();
-        self.recent.put(name, value);
-        match self.names.define(name, value, ways) {
+        match self.names.define(name, id.into()) {
             Ok(()) => Ok(()),
             Err(_) => {
                 self.failed = Some(Failure::Memory);
@@ -398,7 +346,6 @@ impl<'a> Parser<'a> {
         ensures ok { OnOk result (self.new ≡ record self.old { scope = self.old.scope ++ view_statement condition ∷ [] }) }
         ensures err { IfErr result (λ error. FailsForMemory (error_of error) self.old self.new) }
     {
-        self.names.withdraw();
         match push(&mut self.statements, condition) {
             Ok(_) => Ok(()),
             Err(_) => {

@@ -32,7 +32,7 @@ pub(crate) fn heading<'a>(parser: &mut Parser<'a>) -> Read<(&'a str, Option<Type
     ensures { Gives (λ r. (r.0.now, r.1)) (widened result) (heading_at parser.old) parser.old parser.new }
 {
     let name = value_name(parser)?;
-    if !parser.announce(name)? {
+    if parser.value_named(name).is_some() {
         return Err(parser.refuse(Message::CannotRedefine(name)));
     }
     let ty = optional_type(parser)?;

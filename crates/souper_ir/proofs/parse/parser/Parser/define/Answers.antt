@@ -3,7 +3,6 @@ use Rattle.std.proofs.lemmas.List.{map-append, length-map}
 use Rattle.souper_graph.specs.View.{view_statement, view_assignment}
 use Rattle.souper_graph.specs.Syntax.Spelling.{position_of}
 use Rattle.souper_ir.specs.Parsing.{Parsing}
-use Rattle.souper_ir.proofs.Scopes.{named_push}
 use Rattle.souper_ir.proofs.parse.parser.Parser.define.Goals as goal
 
 pub invariant_of-self-in-Ok-define : goal.invariant_of-self-in-Ok-define
@@ -14,8 +13,5 @@ invariant_of-self-in-Ok-define c = record {
       (c.self.invariant.names live)
       (subst (λ (p : Parsing). position_of p.scope c.args.name.now ≡ None) (sym c.self.view_is) c.requires.fresh)
       c.requires.named
-      (c.into-value.ensures ∙ c.in-Ok.ensures.position ∙ sym (length-map c.self.inside.statements view_statement))
-      c.ways-ways.ensures);
-  distinct = λ live. rw (c.in-Ok.ensures.grows, c.into.ensures, map-append) (named_push (map view_statement c.self.inside.statements) (view_assignment c.args.assignment) (c.self.invariant.distinct live)
-      (rw c.requires.named (subst (λ (p : Parsing). position_of p.scope c.args.name.now ≡ None) (sym c.self.view_is) c.requires.fresh)));
+      (c.into-2.ensures ∙ c.in-Ok.ensures.position ∙ sym (length-map c.self.inside.statements view_statement)));
 }
