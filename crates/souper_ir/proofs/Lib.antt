@@ -7,7 +7,6 @@ pub mod Failing
 pub mod Operands
 pub mod Numerals
 pub mod BitLists
-pub mod RightSides
 pub mod Limits
 pub mod Scopes
 pub mod Taken

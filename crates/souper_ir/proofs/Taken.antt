@@ -37,6 +37,10 @@ module _ (o : ℕ) (t : Lexeme) (rest : List (ℕ × Lexeme)) (faulty : Bool) (l
   unfolding accept take_at
   token_accepted {A} meaning a is = (ap (λ (x : Option A). x >>= (λ y. Some (y, after))) is, refl, refl, refl)
 
+  pub token_taken : IsRead (take_at before) t before after
+  unfolding take_at
+  token_taken = (refl, refl, refl, refl)
+
   pub token_seen : (starts : Lexeme → Bool) (b : Bool) → starts t ≡ b → IsRead (peek_at starts before) b before before
   unfolding peek_at look_at
   token_seen starts b is = (ap (λ (x : Bool). Some (x, before)) is, refl, refl, refl)
@@ -44,7 +48,13 @@ module _ (o : ℕ) (t : Lexeme) (rest : List (ℕ × Lexeme)) (faulty : Bool) (l
 -- a parser that has not failed, and has looked at no token, after its lexer took a token
 module _ (p q : Inside) (o : ℕ) (t : Lexeme) (v : Parsing) (is : parsing_of p ≡ v) (live : false ≡ is_some p.failed) (none : false ≡ is_some p.ahead)
     (takes : Takes p.lexer o t q.lexer) (same : (q.ahead ≡ p.ahead) × (q.failed ≡ p.failed) × (q.statements ≡ p.statements)) where
-  is_before : before o t q.lexer.tokens q.lexer.fault q.lexer.len (map view_statement p.statements) ≡ v
+  abbrev start : Parsing
+  start = before o t q.lexer.tokens q.lexer.fault q.lexer.len (map view_statement p.statements)
+
+  abbrev end : Parsing
+  end = after o t q.lexer.tokens q.lexer.fault q.lexer.len (map view_statement p.statements)
+
+  is_before : start ≡ v
   is_before = sym (
       (λ i. record {
         tokens = with_ahead (none_is p.ahead (sym none) i) (takes.0 i);
@@ -54,7 +64,7 @@ module _ (p q : Inside) (o : ℕ) (t : Lexeme) (v : Parsing) (is : parsing_of p 
         failed = option_map cause_of_failure (none_is p.failed (sym live) i);
       })) ∙ is
 
-  is_after : after o t q.lexer.tokens q.lexer.fault q.lexer.len (map view_statement p.statements) ≡ parsing_of q
+  is_after : end ≡ parsing_of q
   is_after = sym (λ i. record {
     tokens = with_ahead ((same.0 ∙ none_is p.ahead (sym none)) i) q.lexer.tokens;
     faulty = q.lexer.fault;
@@ -63,11 +73,17 @@ module _ (p q : Inside) (o : ℕ) (t : Lexeme) (v : Parsing) (is : parsing_of p 
     failed = option_map cause_of_failure ((same.1 ∙ none_is p.failed (sym live)) i);
   })
 
+  -- what is read from the one to the other
+  between : {Y : Type 0} (read : Parsing → Option (Y × Parsing)) (y : Y) → IsRead (read start) y start end → IsRead (read v) y v (parsing_of q)
+  between {Y} read y h =
+      subst (λ (x : Parsing). IsRead (read x) y x (parsing_of q)) is_before
+      (subst (λ (z : Parsing). IsRead (read start) y start z) is_after h)
+
   pub taken : {A : Type 0} (meaning : Lexeme → Option A) (a : A) → meaning t ≡ Some a → IsRead (accept meaning v) a v (parsing_of q)
-  taken meaning a means =
-      subst (λ (x : Parsing). IsRead (accept meaning x) a x (parsing_of q)) is_before
-      (subst (λ (y : Parsing). IsRead (accept meaning (before o t q.lexer.tokens q.lexer.fault q.lexer.len (map view_statement p.statements))) a (before o t q.lexer.tokens q.lexer.fault q.lexer.len (map view_statement p.statements)) y) is_after
-      (token_accepted o t q.lexer.tokens q.lexer.fault q.lexer.len (map view_statement p.statements) meaning a means))
+  taken meaning a means = between (accept meaning) a (token_accepted o t q.lexer.tokens q.lexer.fault q.lexer.len (map view_statement p.statements) meaning a means)
+
+  pub taken_itself : IsRead (take_at v) t v (parsing_of q)
+  taken_itself = between take_at t (token_taken o t q.lexer.tokens q.lexer.fault q.lexer.len (map view_statement p.statements))
 
   pub seen : (starts : Lexeme → Bool) (b : Bool) → starts t ≡ b → IsRead (peek_at starts v) b v v
   seen starts b e = subst (λ (x : Parsing). IsRead (peek_at starts x) b x x) is_before

@@ -12,11 +12,13 @@ use Rattle.souper_graph.specs.Values.{PlainAttribute, known_bits as known_bits_a
 use Rattle.souper_graph.specs.Syntax.Tokens.{Lexeme, ident, val_name, known_bits, int, comma, colon, equals, open_paren, close_paren, open_bracket}
 use Rattle.souper_graph.specs.Syntax.Numbers.{number_of, count_of, width_of, bits_of, known_bits_of}
 use Rattle.souper_ir.specs.declared.parse.words.Opcode.{Opcode}
-use Rattle.souper_ir.specs.Words.{opcode_of, operand_count, instruction_by}
+use Rattle.souper_ir.specs.declared.parse.words.RhsWord.{RhsWord}
+use Rattle.souper_ir.specs.declared.parse.words.RhsWord.TheVariants.{Var as begins_var, Block as begins_block, Phi as begins_phi, ReservedInst as begins_reserved_inst, ReservedConst as begins_reserved_const, Instruction as begins_instruction}
+use Rattle.souper_ir.specs.Words.{opcode_of, rhs_word_of, operand_count, instruction_by}
 use Rattle.souper_graph.specs.Syntax.Spelling.{ways_of, entry_of, position_of}
 use Rattle.souper_ir.specs.Parsing.{Parsing}
 use Rattle.souper_graph.specs.Syntax.Optional.{◌>>=◌}
-use Rattle.souper_ir.specs.Reading.{take_at, look_at}
+use Rattle.souper_ir.specs.Reading.{take_at}
 use Rattle.souper_ir.specs.Grammar.{peek_at}
 
 -- a token that means something
@@ -79,6 +81,12 @@ type_of_word w = width_of w >>= λ n. Some (record { width = n })
 
 abbrev pub type_at : Parsing → Option (Ty × Parsing)
 type_at p = accept (ident_by type_of_word) p
+
+-- the type of a word
+unfoldable pub type_named_at : List ℕ → Parsing → Option (Ty × Parsing)
+type_named_at w p = do
+  t ← type_of_word w
+  Some (t, p)
 
 abbrev pub optional_type_by : Bool → Parsing → Option (Option Ty × Parsing)
 optional_type_by false p = Some (None, p)
@@ -143,11 +151,16 @@ operands_at (suc k) p = do
 
 -- ---- right sides
 
+-- what follows the word of a block
+unfoldable pub block_after_word_at : Parsing → Option (Block × Parsing)
+block_after_word_at p = do
+  n ← accept (int_by (count_of (2 ^ 32))) p
+  Some (record { predecessors = n.0 }, n.1)
+
 unfoldable pub block_at : Parsing → Option (Block × Parsing)
 block_at p = do
   k ← accept (word_of (codes "block")) p
-  n ← accept (int_by (count_of (2 ^ 32))) k.1
-  Some (record { predecessors = n.0 }, n.1)
+  block_after_word_at k.1
 
 -- the number of predecessors of a block
 abbrev pub ways_at : PlainStatement → Option ℕ
@@ -165,19 +178,17 @@ block_name_at p = do
   b ← block_entry (entry_of n.1.scope n.0)
   Some (b, n.1)
 
-unfoldable pub phi_at : Parsing → Option (PlainPhi × Parsing)
-phi_at p = do
-  k ← accept (word_of (codes "phi")) p
-  b ← block_name_at k.1
+-- what follows the word of a phi
+unfoldable pub phi_after_word_at : Parsing → Option (PlainPhi × Parsing)
+phi_after_word_at p = do
+  b ← block_name_at p
   xs ← further_at b.0.1 b.1
   Some (record { block = b.0.0; values = xs.0 }, xs.1)
 
-unfoldable pub instruction_at : Parsing → Option (Instruction × Parsing)
-instruction_at p = do
-  o ← accept (ident_by opcode_of) p
-  xs ← operands_at (operand_count o.0) o.1
-  i ← instruction_by o.0 xs.0
-  Some (i, xs.1)
+unfoldable pub phi_at : Parsing → Option (PlainPhi × Parsing)
+phi_at p = do
+  k ← accept (word_of (codes "phi")) p
+  phi_after_word_at k.1
 
 -- the instruction of an opcode, whose operands come next
 unfoldable pub instruction_of_at : Opcode → Parsing → Option (Instruction × Parsing)
@@ -186,56 +197,48 @@ instruction_of_at o p = do
   i ← instruction_by o xs.0
   Some (i, xs.1)
 
+unfoldable pub instruction_at : Parsing → Option (Instruction × Parsing)
+instruction_at p = do
+  o ← accept (ident_by opcode_of) p
+  instruction_of_at o.0 o.1
+
 abbrev pub starts_instruction : Lexeme → Bool
 starts_instruction t = is_some (ident_by opcode_of t)
 
--- what a right side begins with
-pub data RhsKind : Type 0 where
-  is_var : RhsKind
-  is_block : RhsKind
-  is_phi : RhsKind
-  is_reserved_inst : RhsKind
-  is_reserved_const : RhsKind
-  is_instruction : RhsKind
+-- what a right side begins with, by its word
+unfoldable pub rhs_named_at : List ℕ → Parsing → Option (RhsWord × Parsing)
+rhs_named_at w p = do
+  k ← rhs_word_of w
+  Some (k, p)
 
-abbrev pub rhs_kind_of_word : List ℕ → Option RhsKind
-rhs_kind_of_word w =
-    if bytes_eq w (codes "var") then Some is_var else (
-    if bytes_eq w (codes "block") then Some is_block else (
-    if bytes_eq w (codes "phi") then Some is_phi else (
-    if bytes_eq w (codes "reservedinst") then Some is_reserved_inst else (
-    if bytes_eq w (codes "reservedconst") then Some is_reserved_const else (
-    if is_some (opcode_of w) then Some is_instruction else None)))))
+abbrev pub rhs_word_by : Bool → Parsing → Option (RhsWord × Parsing)
+rhs_word_by false p = None
+rhs_word_by true p = accept (ident_by rhs_word_of) p
 
-abbrev pub rhs_kind_of : Option Lexeme → Option RhsKind
-rhs_kind_of None = None
-rhs_kind_of (Some t) = ident_by rhs_kind_of_word t
+unfoldable pub rhs_word_at : Parsing → Option (RhsWord × Parsing)
+rhs_word_at p = do
+  b ← peek_at is_any p
+  rhs_word_by b.0 b.1
 
-abbrev pub rhs_by : RhsKind → Parsing → Option (PlainRhs × Parsing)
-rhs_by is_var p = do
-  k ← accept (word_of (codes "var")) p
-  Some (var, k.1)
-rhs_by is_block p = do
-  b ← block_at p
+-- the right side whose word was taken
+abbrev pub rhs_by : RhsWord → Parsing → Option (PlainRhs × Parsing)
+rhs_by begins_var p = Some (var, p)
+rhs_by begins_block p = do
+  b ← block_after_word_at p
   Some (block b.0, b.1)
-rhs_by is_phi p = do
-  f ← phi_at p
+rhs_by begins_phi p = do
+  f ← phi_after_word_at p
   Some (phi f.0, f.1)
-rhs_by is_reserved_inst p = do
-  k ← accept (word_of (codes "reservedinst")) p
-  Some (reserved_inst, k.1)
-rhs_by is_reserved_const p = do
-  k ← accept (word_of (codes "reservedconst")) p
-  Some (reserved_const, k.1)
-rhs_by is_instruction p = do
-  i ← instruction_at p
+rhs_by begins_reserved_inst p = Some (reserved_inst, p)
+rhs_by begins_reserved_const p = Some (reserved_const, p)
+rhs_by (begins_instruction o) p = do
+  i ← instruction_of_at o p
   Some (instruction i.0, i.1)
 
 unfoldable pub rhs_at : Parsing → Option (PlainRhs × Parsing)
 rhs_at p = do
-  t ← look_at p
-  k ← rhs_kind_of t.0
-  rhs_by k t.1
+  w ← rhs_word_at p
+  rhs_by w.0 w.1
 
 -- ---- attributes
 

@@ -9,7 +9,6 @@ use Rattle.souper_graph.specs.Instructions.{word_of, operands_of}
 use Rattle.souper_ir.specs.declared.parse.words.Opcode.{Opcode}
 use Rattle.souper_ir.specs.declared.parse.words.Opcode.TheVariants.{Add as do_add, AddNsw as do_add_nsw, AddNuw as do_add_nuw, AddNw as do_add_nw, Sub as do_sub, SubNsw as do_sub_nsw, SubNuw as do_sub_nuw, SubNw as do_sub_nw, Mul as do_mul, MulNsw as do_mul_nsw, MulNuw as do_mul_nuw, MulNw as do_mul_nw, Udiv as do_udiv, Sdiv as do_sdiv, UdivExact as do_udiv_exact, SdivExact as do_sdiv_exact, Urem as do_urem, Srem as do_srem, And as do_and, Or as do_or, Xor as do_xor, Shl as do_shl, ShlNsw as do_shl_nsw, ShlNuw as do_shl_nuw, ShlNw as do_shl_nw, Lshr as do_lshr, LshrExact as do_lshr_exact, Ashr as do_ashr, AshrExact as do_ashr_exact, Eq as do_eq, Ne as do_ne, Ult as do_ult, Slt as do_slt, Ule as do_ule, Sle as do_sle, SaddWithOverflow as do_sadd_with_overflow, UaddWithOverflow as do_uadd_with_overflow, SsubWithOverflow as do_ssub_with_overflow, UsubWithOverflow as do_usub_with_overflow, SmulWithOverflow as do_smul_with_overflow, UmulWithOverflow as do_umul_with_overflow, SaddSat as do_sadd_sat, UaddSat as do_uadd_sat, SsubSat as do_ssub_sat, UsubSat as do_usub_sat, ExtractValue as do_extract_value, Zext as do_zext, Sext as do_sext, Trunc as do_trunc, Ctpop as do_ctpop, Bswap as do_bswap, BitReverse as do_bit_reverse, Cttz as do_cttz, Ctlz as do_ctlz, Freeze as do_freeze, Select as do_select, Fshl as do_fshl, Fshr as do_fshr, Hole as do_hole}
 use Rattle.souper_ir.specs.Words.{two_letters_of, three_letters_of, four_letters_of, five_letters_of, six_letters_of, longer_of, opcode_of_length, opcode_of, Shape, no_operand, one_operand, two_operands, three_operands, shape_of, operand_count, instruction_of_shape, instruction_by}
-use Rattle.souper_ir.specs.NodeReadings.{is_instruction, rhs_kind_of_word}
 use Rattle.souper_ir.specs.Peeks.{some_is}
 
 -- ---- the opcode of an instruction
@@ -78,68 +77,6 @@ opcode_is (Select a b c) = (do_select, (refl, refl, refl))
 opcode_is (Fshl a b c) = (do_fshl, (refl, refl, refl))
 opcode_is (Fshr a b c) = (do_fshr, (refl, refl, refl))
 opcode_is Hole = (do_hole, (refl, refl, refl))
-
--- the word of an instruction begins a right side that is one
-pub kind_is : (i : Instruction) → rhs_kind_of_word (word_of i) ≡ Some is_instruction
-kind_is (Add a b) = refl
-kind_is (AddNsw a b) = refl
-kind_is (AddNuw a b) = refl
-kind_is (AddNw a b) = refl
-kind_is (Sub a b) = refl
-kind_is (SubNsw a b) = refl
-kind_is (SubNuw a b) = refl
-kind_is (SubNw a b) = refl
-kind_is (Mul a b) = refl
-kind_is (MulNsw a b) = refl
-kind_is (MulNuw a b) = refl
-kind_is (MulNw a b) = refl
-kind_is (Udiv a b) = refl
-kind_is (Sdiv a b) = refl
-kind_is (UdivExact a b) = refl
-kind_is (SdivExact a b) = refl
-kind_is (Urem a b) = refl
-kind_is (Srem a b) = refl
-kind_is (And a b) = refl
-kind_is (Or a b) = refl
-kind_is (Xor a b) = refl
-kind_is (Shl a b) = refl
-kind_is (ShlNsw a b) = refl
-kind_is (ShlNuw a b) = refl
-kind_is (ShlNw a b) = refl
-kind_is (Lshr a b) = refl
-kind_is (LshrExact a b) = refl
-kind_is (Ashr a b) = refl
-kind_is (AshrExact a b) = refl
-kind_is (Eq a b) = refl
-kind_is (Ne a b) = refl
-kind_is (Ult a b) = refl
-kind_is (Slt a b) = refl
-kind_is (Ule a b) = refl
-kind_is (Sle a b) = refl
-kind_is (SaddWithOverflow a b) = refl
-kind_is (UaddWithOverflow a b) = refl
-kind_is (SsubWithOverflow a b) = refl
-kind_is (UsubWithOverflow a b) = refl
-kind_is (SmulWithOverflow a b) = refl
-kind_is (UmulWithOverflow a b) = refl
-kind_is (SaddSat a b) = refl
-kind_is (UaddSat a b) = refl
-kind_is (SsubSat a b) = refl
-kind_is (UsubSat a b) = refl
-kind_is (ExtractValue a b) = refl
-kind_is (Zext a) = refl
-kind_is (Sext a) = refl
-kind_is (Trunc a) = refl
-kind_is (Ctpop a) = refl
-kind_is (Bswap a) = refl
-kind_is (BitReverse a) = refl
-kind_is (Cttz a) = refl
-kind_is (Ctlz a) = refl
-kind_is (Freeze a) = refl
-kind_is (Select a b c) = refl
-kind_is (Fshl a b c) = refl
-kind_is (Fshr a b c) = refl
-kind_is Hole = refl
 
 -- ---- the instruction of an opcode
 

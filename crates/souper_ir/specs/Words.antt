@@ -5,6 +5,8 @@ use Rattle.souper_graph.specs.declared.ast.instructions.Instruction.{Instruction
 use Rattle.souper_graph.specs.declared.ast.instructions.Instruction.TheVariants.{Add, AddNsw, AddNuw, AddNw, Sub, SubNsw, SubNuw, SubNw, Mul, MulNsw, MulNuw, MulNw, Udiv, Sdiv, UdivExact, SdivExact, Urem, Srem, And, Or, Xor, Shl, ShlNsw, ShlNuw, ShlNw, Lshr, LshrExact, Ashr, AshrExact, Eq, Ne, Ult, Slt, Ule, Sle, SaddWithOverflow, UaddWithOverflow, SsubWithOverflow, UsubWithOverflow, SmulWithOverflow, UmulWithOverflow, SaddSat, UaddSat, SsubSat, UsubSat, ExtractValue, Zext, Sext, Trunc, Ctpop, Bswap, BitReverse, Cttz, Ctlz, Freeze, Select, Fshl, Fshr, Hole}
 use Rattle.souper_ir.specs.declared.parse.words.Opcode.{Opcode}
 use Rattle.souper_ir.specs.declared.parse.words.Opcode.TheVariants.{Add as do_add, AddNsw as do_add_nsw, AddNuw as do_add_nuw, AddNw as do_add_nw, Sub as do_sub, SubNsw as do_sub_nsw, SubNuw as do_sub_nuw, SubNw as do_sub_nw, Mul as do_mul, MulNsw as do_mul_nsw, MulNuw as do_mul_nuw, MulNw as do_mul_nw, Udiv as do_udiv, Sdiv as do_sdiv, UdivExact as do_udiv_exact, SdivExact as do_sdiv_exact, Urem as do_urem, Srem as do_srem, And as do_and, Or as do_or, Xor as do_xor, Shl as do_shl, ShlNsw as do_shl_nsw, ShlNuw as do_shl_nuw, ShlNw as do_shl_nw, Lshr as do_lshr, LshrExact as do_lshr_exact, Ashr as do_ashr, AshrExact as do_ashr_exact, Eq as do_eq, Ne as do_ne, Ult as do_ult, Slt as do_slt, Ule as do_ule, Sle as do_sle, SaddWithOverflow as do_sadd_with_overflow, UaddWithOverflow as do_uadd_with_overflow, SsubWithOverflow as do_ssub_with_overflow, UsubWithOverflow as do_usub_with_overflow, SmulWithOverflow as do_smul_with_overflow, UmulWithOverflow as do_umul_with_overflow, SaddSat as do_sadd_sat, UaddSat as do_uadd_sat, SsubSat as do_ssub_sat, UsubSat as do_usub_sat, ExtractValue as do_extract_value, Zext as do_zext, Sext as do_sext, Trunc as do_trunc, Ctpop as do_ctpop, Bswap as do_bswap, BitReverse as do_bit_reverse, Cttz as do_cttz, Ctlz as do_ctlz, Freeze as do_freeze, Select as do_select, Fshl as do_fshl, Fshr as do_fshr, Hole as do_hole}
+use Rattle.souper_ir.specs.declared.parse.words.RhsWord.{RhsWord}
+use Rattle.souper_ir.specs.declared.parse.words.RhsWord.TheVariants.{Var as begins_var, Block as begins_block, Phi as begins_phi, ReservedInst as begins_reserved_inst, ReservedConst as begins_reserved_const, Instruction as begins_instruction}
 
 abbrev pub two_letters_of : List ℕ → Option Opcode
 two_letters_of w =
@@ -95,6 +97,23 @@ opcode_of_length n w =
 -- the opcode that a word names
 abbrev pub opcode_of : List ℕ → Option Opcode
 opcode_of w = opcode_of_length (length w) w
+
+-- the right side that is no instruction
+abbrev pub other_word_of : List ℕ → Option RhsWord
+other_word_of w =
+    if bytes_eq w (codes "var") then Some begins_var else (
+    if bytes_eq w (codes "block") then Some begins_block else (
+    if bytes_eq w (codes "phi") then Some begins_phi else (
+    if bytes_eq w (codes "reservedinst") then Some begins_reserved_inst else (
+    if bytes_eq w (codes "reservedconst") then Some begins_reserved_const else None))))
+
+abbrev pub instruction_or : Option Opcode → Option RhsWord → Option RhsWord
+instruction_or (Some o) other = Some (begins_instruction o)
+instruction_or None other = other
+
+-- the right side that a word begins
+abbrev pub rhs_word_of : List ℕ → Option RhsWord
+rhs_word_of w = instruction_or (opcode_of w) (other_word_of w)
 
 -- an instruction by its operands, if they are as many as it takes
 pub data Shape : Type 0 where

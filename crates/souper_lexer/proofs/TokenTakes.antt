@@ -1,9 +1,11 @@
 -- Taking a token that is known by its first byte.
-use Rattle.std.proofs.Common.{◌≡◌, ◌≢◌, ℕ, ◌+◌, ◌-◌, ◌<◌, false, eqb, List, length, drop, get_or, Some, refl, sym, ◌∙◌, ap, subst, arith}
+use Rattle.std.proofs.Common.{◌≡◌, ◌≢◌, ℕ, ◌+◌, ◌-◌, ◌<◌, true, false, eqb, List, length, drop, get_or, Some, None, refl, sym, ◌∙◌, ap, subst, arith}
+use Rattle.std.specs.Prelude.{bytes_eq}
+use Rattle.std.specs.Char.{is_ascii_alphabetic}
 use Rattle.std.proofs.lemmas.Bool.Decides.{nat_tests}
 use Rattle.souper_graph.specs.Names.{is_name_char}
-use Rattle.souper_graph.specs.Syntax.Tokens.{Lexeme, val_name}
-use Rattle.souper_lexer.specs.TokenReading.{Lexed, found, after_gap, run_of, after_run, mark_of, name_at, longer_at, front_of, lexed_of}
+use Rattle.souper_graph.specs.Syntax.Tokens.{Lexeme, ident, val_name, known_bits_word}
+use Rattle.souper_lexer.specs.TokenReading.{Lexed, found, after_gap, run_of, after_run, mark_of, word_at, name_at, longer_at, front_of, lexed_of}
 use Rattle.souper_lexer.specs.TokenView.{Takes}
 use Rattle.souper_lexer.proofs.TokenGap.{gap_stops_above}
 use Rattle.souper_lexer.proofs.TokenSteps.{yields_token}
@@ -31,6 +33,23 @@ name_front bs h =
     let more : eqb (length (run_of is_name_char 37 bs)) 1 ≡ false = grind (arith, nat_tests) in
     rw more refl
 
+-- the first byte of a word is a letter
+letter_above : (c : ℕ) → is_ascii_alphabetic c ≡ true → 64 < c
+letter_above c h = grind (arith, nat_tests)
+
+letter_ascii : (c : ℕ) → is_ascii_alphabetic c ≡ true → c < 128
+letter_ascii c h = grind (arith, nat_tests)
+
+letter_no_mark : (c : ℕ) → is_ascii_alphabetic c ≡ true → mark_of c ≡ None
+letter_no_mark c h = grind (arith, nat_tests)
+
+is_no_name : (c : ℕ) → is_ascii_alphabetic c ≡ true → eqb c 37 ≡ false
+is_no_name c h = grind (arith, nat_tests)
+
+word_found : (c : ℕ) (bs : List ℕ) → is_ascii_alphabetic c ≡ true → bytes_eq (run_of is_name_char c bs) known_bits_word ≡ false → front_of c bs ≡ found (ident (run_of is_name_char c bs)) (after_run is_name_char bs)
+unfolding front_of longer_at word_at
+word_found c bs h other = rw (letter_no_mark c h, front_of) (rw (is_no_name c h, h, other) refl)
+
 -- after a gap that ends before this text
 module _ (n : ℕ) (bs text : List ℕ) (v : Lexed) (is : lexed_of n bs ≡ v) (same : after_gap text ≡ after_gap bs) (some : 0 < length text) where
   abbrev at : ℕ
@@ -53,3 +72,13 @@ module _ (n : ℕ) (bs text : List ℕ) (v : Lexed) (is : lexed_of n bs ≡ v) (
       let is_front : front_of (get_or text 0 0) (drop 1 text) ≡ found (val_name name) rest =
       ap (λ (c : ℕ). front_of c (drop 1 text)) first ∙ name_front (drop 1 text) longer ∙ (λ i. found (val_name (sym run i)) (sym is_rest i)) in
       yields_token n bs text v is (stops ∙ same) (val_name name) rest at _ some is_front refl refl
+
+  pub takes_word : (word rest : List ℕ) → is_ascii_alphabetic (get_or text 0 0) ≡ true → word ≡ run_of is_name_char (get_or text 0 0) (drop 1 text) → rest ≡ after_run is_name_char (drop 1 text) → bytes_eq word known_bits_word ≡ false
+      → Takes v at (ident word) (lexed_of (at + (length text - length rest)) rest)
+  takes_word word rest letter is_run is_rest other =
+      let above = letter_above (get_or text 0 0) letter in
+      let stops = gap_stops_above text some (omega arith) (letter_ascii (get_or text 0 0) letter) (λ e. absurd (omega (arith, e))) (λ e. absurd (omega (arith, e))) in
+      let is_other : bytes_eq (run_of is_name_char (get_or text 0 0) (drop 1 text)) known_bits_word ≡ false = subst (λ (x : List ℕ). bytes_eq x known_bits_word ≡ false) is_run other in
+      let is_found : front_of (get_or text 0 0) (drop 1 text) ≡ found (ident word) rest =
+      word_found (get_or text 0 0) (drop 1 text) letter is_other ∙ (λ i. found (ident (sym is_run i)) (sym is_rest i)) in
+      yields_token n bs text v is (stops ∙ same) (ident word) rest at _ some is_found refl refl

@@ -9,7 +9,7 @@ ghost use Rattle.std.specs.Prelude.{◌≡◌, ℕ, ◌+◌, ◌<◌, ◌≤◌,
 ghost use Rattle.std.specs.List.{prefix_len};
 ghost use Rattle.std.specs.Char.{is_ascii_alphabetic};
 ghost use Rattle.souper_graph.specs.Names.{is_name_char};
-ghost use Rattle.souper_graph.specs.Syntax.Tokens.{Lexeme, int, val_name, begins_int, IsTextOf, AreTokensOf};
+ghost use Rattle.souper_graph.specs.Syntax.Tokens.{Lexeme, ident, int, val_name, begins_int, IsTextOf, AreTokensOf};
 ghost use Rattle.souper_lexer.specs.TokenReading.{inside, remark, space_len, after_from, after_gap, run_of, after_run, found, lexed_of, Lexed, bits_at, word_at, name_at, mark_of, longer_at, front_of};
 ghost use Rattle.souper_lexer.specs.TokenView.{lexeme_of, is_in, Reads, Takes, Yields};
 
@@ -436,6 +436,29 @@ impl<'a> Lexer<'a> {
         self.offset = offset + (text.len() - rest.len());
         self.rest = rest;
         Some((offset, name))
+    }
+
+    /// Takes the next token, if it is an identifier and one space at most comes before it, and returns the offset of its first
+    /// byte, and the word. It is a short cut of [`Lexer::next_token`]: `None` leaves the lexer as it was, and says nothing of
+    /// what comes next.
+    #[inline(always)]
+    pub fn take_word(&mut self) -> Option<(usize, &'a str)>
+        ensures taken { IfSome result (λ word. Takes self.old word.0 (ident word.1.now) self.new) }
+        ensures kept { IfNone result (self.new ≡ self.old) }
+    {
+        let text = after_space(self.rest);
+        match text.as_bytes() {
+            [b, ..] if b.is_ascii_alphabetic() => {}
+            _ => return None,
+        }
+        let offset = self.offset + (self.rest.len() - text.len());
+        let (word, rest) = split_run(text, Class::Name);
+        if word == "knownBits" {
+            return None;
+        }
+        self.offset = offset + (text.len() - rest.len());
+        self.rest = rest;
+        Some((offset, word))
     }
 
     /// The length of the whole text, in bytes.

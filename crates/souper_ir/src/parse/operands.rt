@@ -5,7 +5,7 @@ ghost use Rattle.souper_ir.specs.Errors.{widened};
 ghost use Rattle.souper_ir.specs.Reading.{Gives};
 ghost use Rattle.souper_graph.specs.Syntax.Spelling.{type_spells, constant_spells, operand_spells};
 ghost use Rattle.souper_ir.specs.Continuation.{constant_continues, operand_continues};
-ghost use Rattle.souper_ir.specs.NodeReadings.{is_int, type_at, optional_type_at, constant_at, named_operand_at, operand_at, next_operand_at, further_at};
+ghost use Rattle.souper_ir.specs.NodeReadings.{is_int, type_named_at, type_at, optional_type_at, constant_at, named_operand_at, operand_at, next_operand_at, further_at};
 ghost use Rattle.souper_ir.specs.Readings.{one_alone};
 ghost use Rattle.souper_ir.specs.OperandLaws.{type_complete, constant_complete, constant_first, operand_complete};
 
@@ -20,15 +20,27 @@ use crate::parse::traits::{Parse, Peek};
 use souper_graph::ast::{Constant, Operand, Type};
 use souper_lexer::Token;
 
-#[tactic(auto, unfolding(crate::specs::NodeReadings::accept))]
+// The type of a word that has been taken.
+#[tactic(auto, unfolding(crate::specs::NodeReadings::type_named_at))]
+fn type_named(parser: &mut Parser<'_>, word: &str) -> Read<Type>
+    requires { parser.old.failed ≡ None }
+    ensures { Gives (λ t. t) (widened result) (type_named_at word.now parser.old) parser.old parser.new }
+{
+    match width(word) {
+        Some(width) => Ok(Type { width }),
+        None => Err(parser.refuse(Message::ExpectedType)),
+    }
+}
+
+#[tactic(auto, unfolding(crate::specs::NodeReadings::accept, crate::specs::NodeReadings::type_named_at))]
 pub(crate) fn type_alone(parser: &mut Parser<'_>) -> Read<Type>
     ensures { Gives (λ t. t) (widened result) (type_at parser.old) parser.old parser.new }
 {
+    if let Some(word) = parser.take_word() {
+        return type_named(parser, word);
+    }
     match parser.token()? {
-        Token::Ident(word) => match width(word) {
-            Some(width) => Ok(Type { width }),
-            None => Err(parser.refuse(Message::ExpectedType)),
-        },
+        Token::Ident(word) => type_named(parser, word),
         _ => Err(parser.refuse(Message::ExpectedType)),
     }
 }

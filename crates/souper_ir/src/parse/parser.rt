@@ -1,13 +1,13 @@
 //! A parser with one token of lookahead.
-ghost use Rattle.std.specs.Prelude.{◌≡◌, ◌≤◌, ◌++◌, ◌∷◌, [], length, map, ℕ, List, true, false, Some, None, IfOk, IfSome, IfNone, OnOk, OnErr, IfErr, OnErr, IsOk, IsSomeAnd, option_map, is_some, is_none, ◌≢◌};
+ghost use Rattle.std.specs.Prelude.{◌≡◌, ◌≤◌, ◌++◌, ◌∷◌, [], length, map, ℕ, List, true, false, Some, None, IfOk, IfSome, IfNone, OnOk, OnErr, IfErr, OnErr, IsOk, IsSomeAnd, option_map, is_some, ◌≢◌};
 ghost use Rattle.std.specs.String.{string_bytes};
-ghost use Rattle.souper_graph.specs.View.{view_rhs, view_statement, view_assignment};
+ghost use Rattle.souper_graph.specs.View.{view_statement, view_assignment};
 ghost use Rattle.souper_graph.specs.Values.{assigned};
-ghost use Rattle.souper_graph.specs.Syntax.Tokens.{Lexeme, AreTokensOf, IsTextOf};
+ghost use Rattle.souper_graph.specs.Syntax.Tokens.{Lexeme, ident, AreTokensOf, IsTextOf};
 ghost use Rattle.souper_lexer.specs.TokenView.{lexeme_of, Lexes};
 ghost use Rattle.souper_graph.specs.Uses.{is_condition};
-ghost use Rattle.souper_graph.specs.Syntax.Spelling.{ways_of, entry_of, position_of};
-ghost use Rattle.souper_ir.specs.NodeReadings.{accept, block_entry, ways_at, is_mark, is_name, mark_of, name_of};
+ghost use Rattle.souper_graph.specs.Syntax.Spelling.{entry_of, position_of};
+ghost use Rattle.souper_ir.specs.NodeReadings.{accept, block_entry, ways_at, is_any, is_mark, is_name, mark_of, name_of};
 ghost use Rattle.souper_ir.specs.Grammar.{peek_at};
 ghost use Rattle.souper_ir.specs.MarkView.{lexeme_of_mark};
 ghost use Rattle.souper_ir.specs.Parsing.{Cause, refused, no_memory};
@@ -260,6 +260,22 @@ impl<'a> Parser<'a> {
         let (offset, name) = self.lexer.take_name()?;
         self.offset = offset;
         Some(name)
+    }
+
+    /// Takes the next token, if it is a word and follows what was taken last with one space between them at most. It may
+    /// be a word even if it is not taken.
+    #[inline(always)]
+    pub(crate) fn take_word(&mut self) -> Option<&'a str>
+        ensures taken { IfSome result (λ word. IsRead (take_at self.old) (ident word.now) self.old self.new) }
+        ensures seen { IfSome result (λ word. IsRead (peek_at is_any self.old) true self.old self.old) }
+        ensures kept { IfNone result (self.new ≡ self.old) }
+    {
+        if self.failed.is_some() || self.ahead.is_some() {
+            return None;
+        }
+        let (offset, word) = self.lexer.take_word()?;
+        self.offset = offset;
+        Some(word)
     }
 }
 

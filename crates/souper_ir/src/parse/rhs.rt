@@ -8,7 +8,7 @@ ghost use Rattle.souper_ir.specs.Reading.{Gives};
 ghost use Rattle.souper_ir.specs.Grammar.{peek_at};
 ghost use Rattle.souper_graph.specs.Syntax.Spelling.{block_spells, phi_spells, instruction_spells, rhs_spells};
 ghost use Rattle.souper_ir.specs.Continuation.{phi_continues, instruction_continues, rhs_continues};
-ghost use Rattle.souper_ir.specs.NodeReadings.{accept, ident_by, is_word, starts_instruction, block_at, block_name_at, phi_at, instruction_at, instruction_of_at, rhs_at};
+ghost use Rattle.souper_ir.specs.NodeReadings.{accept, ident_by, is_word, starts_instruction, block_after_word_at, block_at, block_name_at, phi_after_word_at, phi_at, instruction_at, instruction_of_at, rhs_named_at, rhs_word_at, rhs_at};
 ghost use Rattle.souper_ir.specs.Words.{opcode_of};
 ghost use Rattle.souper_ir.specs.Readings.{one_alone};
 ghost use Rattle.souper_ir.specs.RhsLaws.{block_complete, block_first, phi_complete, phi_first, instruction_complete, instruction_first, rhs_complete};
@@ -17,19 +17,27 @@ use crate::parse::error::widen;
 use crate::parse::message::Message;
 use crate::parse::operands::{further, next_operand, operand};
 use crate::parse::parser::{Parser, Read, Result};
-use crate::parse::tokens::{keyword, value_name, way_count, word_comes};
+use crate::parse::tokens::{keyword, token_comes, value_name, way_count, word_comes};
 use crate::parse::traits::{Parse, Peek};
-use crate::parse::words::{Opcode, opcode_named};
+use crate::parse::words::{Opcode, RhsWord, opcode_named, rhs_word_named};
 use souper_graph::ast::{AssignmentRhs, Block, BlockId, Instruction, Phi};
 use souper_lexer::Token;
+
+// What follows the word of a block.
+#[tactic(auto, unfolding(crate::specs::NodeReadings::block_after_word_at))]
+fn block_after_word(parser: &mut Parser<'_>) -> Read<Block>
+    ensures { Gives (λ b. b) (widened result) (block_after_word_at parser.old) parser.old parser.new }
+{
+    let predecessors = way_count(parser)?;
+    Ok(Block { predecessors })
+}
 
 #[tactic(auto, unfolding(crate::specs::NodeReadings::block_at))]
 pub(crate) fn block(parser: &mut Parser<'_>) -> Read<Block>
     ensures { Gives (λ b. b) (widened result) (block_at parser.old) parser.old parser.new }
 {
     keyword(parser, "block")?;
-    let predecessors = way_count(parser)?;
-    Ok(Block { predecessors })
+    block_after_word(parser)
 }
 
 /// The block of a name: its id, its number of predecessors, and the name.
@@ -44,14 +52,22 @@ pub(crate) fn block_name<'a>(parser: &mut Parser<'a>) -> Read<(BlockId, u32, &'a
     }
 }
 
+// What follows the word of a phi.
+#[tactic(auto, unfolding(crate::specs::NodeReadings::phi_after_word_at))]
+fn phi_after_word(parser: &mut Parser<'_>) -> Read<Phi>
+    ensures { Gives view_phi (widened result) (phi_after_word_at parser.old) parser.old parser.new }
+{
+    let (block, ways, _) = block_name(parser)?;
+    let values = further(parser, ways)?;
+    Ok(Phi { block, values })
+}
+
 #[tactic(auto, unfolding(crate::specs::NodeReadings::phi_at))]
 pub(crate) fn phi(parser: &mut Parser<'_>) -> Read<Phi>
     ensures { Gives view_phi (widened result) (phi_at parser.old) parser.old parser.new }
 {
     keyword(parser, "phi")?;
-    let (block, ways, _) = block_name(parser)?;
-    let values = further(parser, ways)?;
-    Ok(Phi { block, values })
+    phi_after_word(parser)
 }
 
 #[tactic(auto, unfolding(crate::specs::NodeReadings::accept))]
@@ -88,7 +104,7 @@ fn instruction_of(parser: &mut Parser<'_>, opcode: Opcode) -> Read<Instruction>
     Ok(opcode.ternary(a, b, c))
 }
 
-#[tactic(auto, unfolding(crate::specs::NodeReadings::instruction_at, crate::specs::NodeReadings::instruction_of_at))]
+#[tactic(auto, unfolding(crate::specs::NodeReadings::instruction_at))]
 pub(crate) fn instruction(parser: &mut Parser<'_>) -> Read<Instruction>
     ensures { Gives (λ i. i) (widened result) (instruction_at parser.old) parser.old parser.new }
 {
@@ -96,36 +112,48 @@ pub(crate) fn instruction(parser: &mut Parser<'_>) -> Read<Instruction>
     instruction_of(parser, opcode)
 }
 
+// The right side that a word begins, which has been taken.
+#[tactic(auto, unfolding(crate::specs::NodeReadings::rhs_named_at))]
+fn rhs_named(parser: &mut Parser<'_>, word: &str) -> Read<RhsWord>
+    requires { parser.old.failed ≡ None }
+    ensures { Gives (λ w. w) (widened result) (rhs_named_at word.now parser.old) parser.old parser.new }
+{
+    match rhs_word_named(word) {
+        Some(kind) => Ok(kind),
+        None => Err(parser.refuse(Message::ExpectedRhs)),
+    }
+}
+
+// The word of a right side. The end of the text is refused where the last token begins.
+#[tactic(auto, unfolding(crate::specs::NodeReadings::rhs_word_at, crate::specs::NodeReadings::rhs_named_at, crate::specs::NodeReadings::accept))]
+fn rhs_word(parser: &mut Parser<'_>) -> Read<RhsWord>
+    ensures { Gives (λ w. w) (widened result) (rhs_word_at parser.old) parser.old parser.new }
+{
+    if let Some(word) = parser.take_word() {
+        return rhs_named(parser, word);
+    }
+    if !token_comes(parser)? {
+        return Err(parser.refuse(Message::ExpectedRhs));
+    }
+    match parser.token()? {
+        Token::Ident(word) => rhs_named(parser, word),
+        _ => Err(parser.refuse(Message::ExpectedRhs)),
+    }
+}
+
 #[tactic(auto, unfolding(crate::specs::NodeReadings::rhs_at))]
 pub(crate) fn rhs(parser: &mut Parser<'_>) -> Read<AssignmentRhs>
     ensures { Gives view_rhs (widened result) (rhs_at parser.old) parser.old parser.new }
 {
-    let word = match parser.lookahead()? {
-        Some(Token::Ident(word)) => word,
-        _ => return Err(parser.refuse(Message::ExpectedRhs)),
-    };
-    match word {
-        "var" => {
-            keyword(parser, "var")?;
-            Ok(AssignmentRhs::Var)
+    match rhs_word(parser)? {
+        RhsWord::Var => Ok(AssignmentRhs::Var),
+        RhsWord::Block => Ok(AssignmentRhs::Block(block_after_word(parser)?)),
+        RhsWord::Phi => Ok(AssignmentRhs::Phi(phi_after_word(parser)?)),
+        RhsWord::ReservedInst => Ok(AssignmentRhs::ReservedInst),
+        RhsWord::ReservedConst => Ok(AssignmentRhs::ReservedConst),
+        RhsWord::Instruction(opcode) => {
+            Ok(AssignmentRhs::Instruction(instruction_of(parser, opcode)?))
         }
-        "block" => Ok(AssignmentRhs::Block(block(parser)?)),
-        "phi" => Ok(AssignmentRhs::Phi(phi(parser)?)),
-        "reservedinst" => {
-            keyword(parser, "reservedinst")?;
-            Ok(AssignmentRhs::ReservedInst)
-        }
-        "reservedconst" => {
-            keyword(parser, "reservedconst")?;
-            Ok(AssignmentRhs::ReservedConst)
-        }
-        _ => match opcode_named(word) {
-            Some(opcode) => {
-                parser.token()?;
-                Ok(AssignmentRhs::Instruction(instruction_of(parser, opcode)?))
-            }
-            None => Err(parser.refuse(Message::ExpectedRhs)),
-        },
     }
 }
 

@@ -1,7 +1,7 @@
 //! The instruction that a word and operands make.
 
 ghost use Rattle.std.specs.Prelude.{◌≡◌, ◌∷◌, [], Some};
-ghost use Rattle.souper_ir.specs.Words.{opcode_of, two_letters_of, three_letters_of, four_letters_of, five_letters_of, six_letters_of, longer_of, operand_count, instruction_by};
+ghost use Rattle.souper_ir.specs.Words.{opcode_of, two_letters_of, three_letters_of, four_letters_of, five_letters_of, six_letters_of, longer_of, other_word_of, rhs_word_of, operand_count, instruction_by};
 
 use souper_graph::ast::{Instruction, Operand};
 
@@ -188,6 +188,40 @@ pub(crate) fn opcode_named(word: &str) -> Option<Opcode>
         5 => five_letters(word),
         6 => six_letters(word),
         _ => longer(word),
+    }
+}
+
+/// What a right side begins with.
+#[derive(Clone, Copy, Debug, PartialEq, Eq)]
+pub(crate) enum RhsWord {
+    Var,
+    Block,
+    Phi,
+    ReservedInst,
+    ReservedConst,
+    Instruction(Opcode),
+}
+
+fn other_word(word: &str) -> Option<RhsWord>
+    ensures { result ≡ other_word_of word.now }
+{
+    match word {
+        "var" => Some(RhsWord::Var),
+        "block" => Some(RhsWord::Block),
+        "phi" => Some(RhsWord::Phi),
+        "reservedinst" => Some(RhsWord::ReservedInst),
+        "reservedconst" => Some(RhsWord::ReservedConst),
+        _ => None,
+    }
+}
+
+/// The right side that a word begins.
+pub(crate) fn rhs_word_named(word: &str) -> Option<RhsWord>
+    ensures { result ≡ rhs_word_of word.now }
+{
+    match opcode_named(word) {
+        Some(opcode) => Some(RhsWord::Instruction(opcode)),
+        None => other_word(word),
     }
 }
 
