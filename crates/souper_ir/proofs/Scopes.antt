@@ -8,12 +8,8 @@ use Rattle.souper_graph.specs.Faults.{IsAssigned, IsBlockRhs, IsBlock, IsMet, Ar
 use Rattle.souper_graph.specs.WellFormed.{predecessors_of_rhs, predecessors_of, AgreesRhs, AgreesWithBlock, Closed}
 use Rattle.souper_graph.specs.Syntax.Spelling.{Scope, ways_of, entry_from, entry_of, position_of}
 use Rattle.souper_graph.specs.declared.ast.statements.Statement.{Statement}
-use Rattle.souper_graph.specs.declared.ast.statements.Statement.TheVariants.{Assignment as AssignmentStatement}
-use Rattle.souper_graph.specs.declared.ast.statements.Assignment.{Assignment}
-use Rattle.souper_graph.specs.View.{view_statement, view_assignment, view_rhs}
-use Rattle.souper_ir.specs.declared.parse.parser.Failure.{Failure}
-use Rattle.souper_ir.specs.FailureView.{cause_of_failure}
-use Rattle.std.specs.Prelude.{map, string_bytes}
+use Rattle.souper_graph.specs.View.{view_statement}
+use Rattle.std.specs.Prelude.{map}
 use Rattle.std.proofs.lemmas.Option.{slice_get-map}
 use Rattle.souper_graph.specs.Syntax.Optional.{◌>>=◌}
 use Rattle.souper_ir.specs.NodeReadings.{ways_at, block_entry}

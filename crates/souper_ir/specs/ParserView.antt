@@ -1,6 +1,5 @@
 -- Definitions. What a parser is seen as.
-use Rattle.std.specs.Prelude.{◌≡◌, ℕ, ◌≤◌, List, ◌∷◌, map, Option, Some, None, option_map, slice_get}
-use Rattle.souper_graph.specs.Values.{PlainAssignment, assigned}
+use Rattle.std.specs.Prelude.{◌≡◌, ℕ, ◌≤◌, List, ◌∷◌, map, Option, Some, None, option_map}
 use Rattle.souper_graph.specs.View.{view_statement}
 use Rattle.souper_lexer.specs.declared.Token.{Token}
 use Rattle.souper_ir.specs.declared.parse.parser.Failure.{Failure}
@@ -8,7 +7,6 @@ use Rattle.souper_ir.specs.declared.parse.parser.Failure.TheVariants.{Refused, M
 use Rattle.souper_ir.specs.declared.parse.parser.Parser.TheInside.{Inside}
 use Rattle.souper_graph.specs.Syntax.Tokens.{Lexeme}
 use Rattle.souper_lexer.specs.TokenView.{lexeme_of}
-use Rattle.souper_graph.specs.Syntax.Spelling.{Scope, position_of}
 use Rattle.souper_ir.specs.NamesView.{AreNames}
 use Rattle.souper_ir.specs.Parsing.{Parsing}
 use Rattle.souper_ir.specs.FailureView.{cause_of_failure}

@@ -28,7 +28,9 @@ fn last_number(name: &str) -> usize
     let mut number: u32 = 0;
     for byte in name.as_bytes() {
         number = if byte.is_ascii_digit() {
-            number.wrapping_mul(10).wrapping_add(u32::from(*byte - b'0'))
+            number
+                .wrapping_mul(10)
+                .wrapping_add(u32::from(*byte - b'0'))
         } else {
             0
         };

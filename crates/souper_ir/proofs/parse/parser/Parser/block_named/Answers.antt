@@ -1,7 +1,7 @@
 use Rattle.std.proofs.Common.{ℕ, sym, ◌∙◌, ap}
 use Rattle.std.specs.Prelude.{option_copied, slice_get, Some}
 use Rattle.souper_ir.specs.Parsing.{Parsing}
-use Rattle.souper_ir.proofs.Scopes.{block_at, block_named, no_block, block_is}
+use Rattle.souper_ir.proofs.Scopes.{block_named, no_block, block_is}
 use Rattle.souper_ir.proofs.parse.parser.Parser.block_named.Goals as goal
 
 pub returns-in_err-get : goal.returns-in_err-get
