@@ -94,6 +94,19 @@ fn names_are_longest(rt: HostRuntime) -> Result<(), Fail> {
 }
 
 #[test]
+fn names_that_end_in_one_number_are_told_apart(rt: HostRuntime) -> Result<(), Fail> {
+    for text in [
+        "%a1 = var\n%b1 = block 2\n%1 = phi %b1, %a1, 7\n%01 = add %a1, %1\ninfer %01\n",
+        "%9 = var\n%3 = var\n%4294967305 = add %9, %3\n%4 = sub %4294967305, %9\ninfer %4\n",
+        "%0 = var\n%x = add %0, 1\n%y. = add %x, %0\n%17 = sub %y., %x\n%99 = add %17, %y.\ninfer %99\n",
+    ] {
+        let source = format!(in rt.alloc(); "{text}{text}")?;
+        reads(&rt, rt.alloc(), source.as_str(), &[text, text])?;
+    }
+    Ok(())
+}
+
+#[test]
 fn thousand_statements_are_read(rt: HostRuntime) -> Result<(), Fail> {
     let mut source = thousand(rt.alloc())?;
     source.push_str("infer %999")?;
