@@ -145,16 +145,15 @@ fn rhs_word(parser: &mut Parser<'_>) -> Read<RhsWord>
 pub(crate) fn rhs(parser: &mut Parser<'_>) -> Read<AssignmentRhs>
     ensures { Gives view_rhs (widened result) (rhs_at parser.old) parser.old parser.new }
 {
-    match rhs_word(parser)? {
-        RhsWord::Var => Ok(AssignmentRhs::Var),
-        RhsWord::Block => Ok(AssignmentRhs::Block(block_after_word(parser)?)),
-        RhsWord::Phi => Ok(AssignmentRhs::Phi(phi_after_word(parser)?)),
-        RhsWord::ReservedInst => Ok(AssignmentRhs::ReservedInst),
-        RhsWord::ReservedConst => Ok(AssignmentRhs::ReservedConst),
-        RhsWord::Instruction(opcode) => {
-            Ok(AssignmentRhs::Instruction(instruction_of(parser, opcode)?))
-        }
-    }
+    let value = match rhs_word(parser)? {
+        RhsWord::Var => AssignmentRhs::Var,
+        RhsWord::Block => AssignmentRhs::Block(block_after_word(parser)?),
+        RhsWord::Phi => AssignmentRhs::Phi(phi_after_word(parser)?),
+        RhsWord::ReservedInst => AssignmentRhs::ReservedInst,
+        RhsWord::ReservedConst => AssignmentRhs::ReservedConst,
+        RhsWord::Instruction(opcode) => AssignmentRhs::Instruction(instruction_of(parser, opcode)?),
+    };
+    Ok(value)
 }
 
 impl Parse for Block {
