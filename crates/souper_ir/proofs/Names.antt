@@ -1,6 +1,7 @@
 -- The names of a scope, as it grows.
-use Rattle.std.proofs.Common.{◌≡◌, ◌⊎◌, ℕ, zero, suc, ◌+◌, ◌<◌, Bool, true, false, not, List, [], ◌∷◌, ◌++◌, length, set, Option, Some, None, refl, sym, ◌∙◌, ap, subst, inl, inr, arith}
+use Rattle.std.proofs.Common.{◌≡◌, ◌⊎◌, ℕ, zero, suc, ◌+◌, ◌<◌, ◌≤◌, Bool, true, false, List, [], ◌∷◌, ◌++◌, length, Option, Some, None, refl, sym, ◌∙◌, ap, subst, inl, inr, arith}
 use Rattle.std.proofs.lemmas.Bool.Decides.{nat_tests}
+use Rattle.std.proofs.lemmas.Option.{slice_get_past}
 use Rattle.std.specs.Prelude.{◌==◌, bytes_eq, option_map, slice_get, if◌then◌else◌}
 use Rattle.std.specs.Borrow.{Bor}
 use Rattle.std.specs.BTreeMap.{BTreeMap, UpdatesBy}
@@ -11,7 +12,7 @@ use Rattle.std.proofs.lemmas.Map.Text.{btree_map_updates_str}
 use Rattle.souper_graph.specs.Values.{PlainAssignment, PlainStatement, assigned, condition, block_condition}
 use Rattle.souper_graph.specs.Uses.{is_condition}
 use Rattle.souper_graph.specs.Syntax.Spelling.{Scope, ways_of, entry_from, entry_of, position_of}
-use Rattle.souper_ir.specs.NamesView.{last_number, Slot, is_free, Holds, Keeps, IsPut, held, slot_or, found}
+use Rattle.souper_ir.specs.NamesView.{last_number, Slot, Holds, Keeps, held, slot_or, found}
 
 -- a position, and the number of predecessors of the block there
 abbrev pub Entry : Type 0
@@ -77,7 +78,7 @@ position_added s a n new = by_name (bytes_eq a.name n) ∙ ap (λ (o : Option En
     by_name true = refl
     by_name false = refl
 
--- ---- a name that is put at its number
+-- ---- a name that is appended
 
 pub kept : (xs : List Slot) (n : List ℕ) (v j : ℕ) → Keeps xs xs n v j
 kept xs n v j = inl refl
@@ -88,7 +89,7 @@ pushed [] x (suc j) = inl refl
 pushed (y ∷ xs) x zero = inl refl
 pushed (y ∷ xs) x (suc j) = pushed xs x j
 
--- one after the other
+-- two steps in sequence
 keeps_more : (old between new : List Slot) (n : List ℕ) (v j : ℕ) → Keeps old between n v j → Keeps between new n v j → Keeps old new n v j
 keeps_more old between new n v j (inl e) (inl f) = inl (f ∙ e)
 keeps_more old between new n v j (inl e) (inr f) = inr (sym e ∙ f.0, f.1)
@@ -97,24 +98,6 @@ keeps_more old between new n v j (inr e) (inr f) = absurd (subst (λ (o : Option
 
 pub keeps_push : (old between new : List Slot) (x : Slot) → ((j : ℕ) → Keeps old between x.0.now x.1 j) → new ≡ between ++ x ∷ [] → (j : ℕ) → Keeps old new x.0.now x.1 j
 keeps_push old between new x h e j = rw e (keeps_more old between (between ++ x ∷ []) x.0.now x.1 j (h j) (pushed between x j))
-
-set_here : (xs : List Slot) (k : ℕ) (x : Slot) → k < length xs → Holds (slice_get (set xs k x) k) x.0.now x.1
-set_here [] k x h = absurd (omega arith)
-set_here (y ∷ xs) zero x h = (refl, refl)
-set_here (y ∷ xs) (suc k) x h = set_here xs k x (omega arith)
-
-set_elsewhere : (xs : List Slot) (k j : ℕ) (x : Slot) → (j ≡ k → ⊥) → slice_get (set xs k x) j ≡ slice_get xs j
-set_elsewhere [] k j x h = refl
-set_elsewhere (y ∷ xs) zero zero x h = absurd (h refl)
-set_elsewhere (y ∷ xs) zero (suc j) x h = refl
-set_elsewhere (y ∷ xs) (suc k) zero x h = refl
-set_elsewhere (y ∷ xs) (suc k) (suc j) x h = set_elsewhere xs k j x (λ e. h (ap suc e))
-
-pub is_put : (old between : List Slot) (x : Slot) (k : ℕ) → ((j : ℕ) → Keeps old between x.0.now x.1 j) → k < length between → IsPut old (set between k x) x.0.now x.1 k
-is_put old between x k h within = record {
-  here = set_here between k x within;
-  elsewhere = λ j apart. keeps_more old between (set between k x) x.0.now x.1 j (h j) (inl (set_elsewhere between k j x apart));
-}
 
 -- ---- one more name
 
@@ -134,20 +117,19 @@ slot_held : (x : Option Slot) (o : Option ℕ) (m n : List ℕ) (v : ℕ) → Ho
 slot_held None o m n v h = absurd h
 slot_held (Some x) o m n v h = rw (h.0, h.1) refl
 
--- what is at a free number is no entry of a name that ends in it
-free_slot : (x : Option Slot) (o : Option ℕ) (n : List ℕ) → is_free x (last_number n) ≡ true → slot_or x o n ≡ o
-free_slot None o n e = refl
-free_slot (Some x) o n e = rw (not_true (bytes_eq x.0.now n) (λ same. clash x.0.now ((bytes_eq-Decides x.0.now n).0 same) e)) refl
-  where
-    itself : (k : ℕ) → not (k == k) ≡ true → ⊥
-    itself k e = grind (arith, nat_tests)
+not_missing : (xs : List Slot) (k : ℕ) → k < length xs → slice_get xs k ≡ None → ⊥
+not_missing [] k h e = omega arith
+not_missing (x ∷ xs) zero h e = cc
+not_missing (x ∷ xs) (suc k) h e = not_missing xs k (omega arith) e
 
-    clash : (m : List ℕ) → m ≡ n → not (last_number m == last_number n) ≡ true → ⊥
-    clash m same e = itself (last_number n) (subst (λ (y : List ℕ). not (last_number y == last_number n) ≡ true) same e)
+-- the element at a number that the vector reaches now
+appended : (old new : List Slot) (n : List ℕ) (v k : ℕ) → slice_get old k ≡ None → k < length new → Keeps old new n v k → Holds (slice_get new k) n v
+appended old new n v k missing within (inl e) = absurd (not_missing new k within (e ∙ missing))
+appended old new n v k missing within (inr e) = e.1
 
-put_adds : (old new : List Slot) (others : BTreeMap (Bor (List ℕ)) ℕ) (key : List ℕ) (v : ℕ) → is_free (slice_get old (last_number key)) (last_number key) ≡ true → IsPut old new key v (last_number key)
+append_adds : (old new : List Slot) (others : BTreeMap (Bor (List ℕ)) ℕ) (key : List ℕ) (v : ℕ) → length old ≤ last_number key → last_number key < length new → ((j : ℕ) → Keeps old new key v j)
     → Adds (found old others) (found new others) key v
-put_adds old new others key v free put n = by_number (last_number n == last_number key) refl
+append_adds old new others key v past within keeps n = by_number (last_number n == last_number key) refl
   where
     kept_slot : (x y : Option Slot) (o : Option ℕ) → (bytes_eq key n ≡ false) → (y ≡ x) ⊎ ((x ≡ None) × Holds y key v) → slot_or y o n ≡ (if bytes_eq key n then Some v else slot_or x o n)
     kept_slot x y o other (inl e) = rw (other, e) refl
@@ -156,18 +138,18 @@ put_adds old new others key v free put n = by_number (last_number n == last_numb
     by_number : (b : Bool) → (last_number n == last_number key) ≡ b → found new others n ≡ (if bytes_eq key n then Some v else found old others n)
     by_number true e =
         let same : last_number n ≡ last_number key = grind (arith, nat_tests) in
-        let free_here : is_free (slice_get old (last_number n)) (last_number n) ≡ true = subst (λ (k : ℕ). is_free (slice_get old k) k ≡ true) (sym same) free in
-        let here : Holds (slice_get new (last_number n)) key v = subst (λ (k : ℕ). Holds (slice_get new k) key v) (sym same) put.here in
-        slot_held (slice_get new (last_number n)) (held others n) key n v here ∙ rw (free_slot (slice_get old (last_number n)) (held others n) n free_here) refl
+        let missing : slice_get old (last_number n) ≡ None = slice_get_past old (last_number n) (rw same past) in
+        let here : Holds (slice_get new (last_number n)) key v = appended old new key v (last_number n) missing (rw same within) (keeps (last_number n)) in
+        slot_held (slice_get new (last_number n)) (held others n) key n v here ∙ rw missing refl
     by_number false e =
         let apart : last_number n ≡ last_number key → ⊥ = λ same. grind (arith, nat_tests) in
         let other : bytes_eq key n ≡ false = not_true (bytes_eq key n) (λ same. apart (ap last_number (sym ((bytes_eq-Decides key n).0 same)))) in
-        kept_slot (slice_get old (last_number n)) (slice_get new (last_number n)) (held others n) other (put.elsewhere (last_number n) apart)
+        kept_slot (slice_get old (last_number n)) (slice_get new (last_number n)) (held others n) other (keeps (last_number n))
 
-pub put_defined : (old new : List Slot) (others : BTreeMap (Bor (List ℕ)) ℕ) (s : Scope) (a : PlainAssignment) (key : List ℕ) (v : ℕ) → is_free (slice_get old (last_number key)) (last_number key) ≡ true → IsPut old new key v (last_number key)
+pub append_defined : (old new : List Slot) (others : BTreeMap (Bor (List ℕ)) ℕ) (s : Scope) (a : PlainAssignment) (key : List ℕ) (v : ℕ) → length old ≤ last_number key → last_number key < length new → ((j : ℕ) → Keeps old new key v j)
     → ((n : List ℕ) → found old others n ≡ position_of s n) → position_of s key ≡ None → a.name ≡ key → v ≡ length s → (n : List ℕ) → found new others n ≡ position_of (s ++ assigned a ∷ []) n
-put_defined old new others s a key v free put are fresh named last =
-    defined (found old others) (found new others) s a v (subst (λ (k : List ℕ). Adds (found old others) (found new others) k v) (sym named) (put_adds old new others key v free put)) are (rw named fresh) last
+append_defined old new others s a key v past within keeps are fresh named last =
+    defined (found old others) (found new others) s a v (subst (λ (k : List ℕ). Adds (found old others) (found new others) k v) (sym named) (append_adds old new others key v past within keeps)) are (rw named fresh) last
 
 -- ---- the map
 

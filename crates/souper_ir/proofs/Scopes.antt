@@ -12,7 +12,7 @@ use Rattle.souper_graph.specs.View.{view_statement}
 use Rattle.std.specs.Prelude.{map}
 use Rattle.std.proofs.lemmas.Option.{slice_get-map}
 use Rattle.souper_graph.specs.Syntax.Optional.{◌>>=◌}
-use Rattle.souper_ir.specs.NodeReadings.{ways_at, block_entry}
+use Rattle.souper_ir.specs.NodeReadings.{predecessors_at, block_entry}
 use Rattle.souper_ir.specs.Peeks.{some_is}
 use Rattle.souper_ir.proofs.Names.{Entry, or_else, entry_push, entry_pass, no_entry}
 
@@ -150,7 +150,7 @@ block_reaches s n i ways e =
 -- the block at a position, with its number of predecessors
 abbrev pub block_at : List Statement → Option ℕ → Option (ℕ × ℕ)
 block_at statements None = None
-block_at statements (Some i) = option_map view_statement (slice_get statements i) >>= λ x. (ways_at x >>= λ ways. Some (i, ways))
+block_at statements (Some i) = option_map view_statement (slice_get statements i) >>= λ x. (predecessors_at x >>= λ ways. Some (i, ways))
 
 pub block_found : (statements : List Statement) (n : List ℕ) → block_at statements (position_of (map view_statement statements) n) ≡ block_entry (entry_of (map view_statement statements) n)
 block_found statements n = by_entry (entry_of (map view_statement statements) n) refl
@@ -167,7 +167,7 @@ block_named statements scope n v is e = rw e (subst (λ (s : Scope). block_at st
 pub no_block : (statements : List Statement) (i : ℕ) → slice_get statements i ≡ None → block_at statements (Some i) ≡ None
 no_block statements i e = rw e refl
 
-pub block_is : (statements : List Statement) (i : ℕ) (x : Statement) (ways : Option ℕ) → slice_get statements i ≡ Some x → ways ≡ ways_at (view_statement x) → block_at statements (Some i) ≡ (ways >>= λ w. Some (i, w))
+pub block_is : (statements : List Statement) (i : ℕ) (x : Statement) (ways : Option ℕ) → slice_get statements i ≡ Some x → ways ≡ predecessors_at (view_statement x) → block_at statements (Some i) ≡ (ways >>= λ w. Some (i, w))
 block_is statements i x ways e f = rw (e, f) refl
 
 -- ---- as the scope grows

@@ -1,5 +1,5 @@
 -- Definitions. The names of a scope, as a parser keeps them.
-use Rattle.std.specs.Prelude.{◌≡◌, ◌⊎◌, ℕ, ◌+◌, ◌-◌, ◌*◌, ◌^◌, ◌%◌, Bool, true, List, [], ◌∷◌, Option, Some, None, not, ◌==◌, bytes_eq, if◌then◌else◌}
+use Rattle.std.specs.Prelude.{◌≡◌, ◌⊎◌, ℕ, ◌+◌, ◌-◌, ◌*◌, ◌^◌, ◌%◌, List, [], ◌∷◌, Option, Some, None, bytes_eq, if◌then◌else◌}
 use Rattle.std.specs.Borrow.{Bor}
 use Rattle.std.specs.BTreeMap.{BTreeMap, get_by}
 use Rattle.std.specs.Char.{is_ascii_digit}
@@ -13,6 +13,7 @@ use Rattle.souper_ir.specs.declared.parse.names.Names.{Names}
 abbrev pub with_digit : ℕ → ℕ → ℕ
 with_digit n b = if is_ascii_digit b then (n * 10 % 2 ^ 32 + (b - 48)) % 2 ^ 32 else 0
 
+-- from this number on
 abbrev pub number_from : ℕ → List ℕ → ℕ
 number_from n [] = n
 number_from n (b ∷ bs) = number_from (with_digit n b) bs
@@ -25,23 +26,14 @@ last_number name = number_from 0 name
 abbrev pub Slot : Type 0
 Slot = Bor (List ℕ) × ℕ
 
--- no name is at the number, or one that fills a gap
-abbrev pub is_free : Option Slot → ℕ → Bool
-is_free None k = true
-is_free (Some x) k = not (last_number x.0.now == k)
-
+-- the element has this name and this position
 abbrev pub Holds : Option Slot → List ℕ → ℕ → Type 0
 Holds None n v = ⊥
 Holds (Some x) n v = (x.0.now ≡ n) × (x.1 ≡ v)
 
--- at a number is what was there, or the name if nothing was
+-- the element at the number is unchanged, or was missing and has the name now
 abbrev pub Keeps : List Slot → List Slot → List ℕ → ℕ → ℕ → Type 0
 Keeps old new n v j = (slice_get new j ≡ slice_get old j) ⊎ ((slice_get old j ≡ None) × Holds (slice_get new j) n v)
-
--- the name is put at the number, and perhaps where nothing was
-pub record IsPut (old new : List Slot) (n : List ℕ) (v k : ℕ) : Type 0 where
-  pub here : Holds (slice_get new k) n v
-  pub elsewhere : (j : ℕ) → (j ≡ k → ⊥) → Keeps old new n v j
 
 -- what the map has for a name
 abbrev pub held : BTreeMap (Bor (List ℕ)) ℕ → List ℕ → Option ℕ
@@ -52,6 +44,7 @@ abbrev pub slot_or : Option Slot → Option ℕ → List ℕ → Option ℕ
 slot_or None o n = o
 slot_or (Some x) o n = if bytes_eq x.0.now n then Some x.1 else o
 
+-- what the vector and the map have for a name
 abbrev pub found : List Slot → BTreeMap (Bor (List ℕ)) ℕ → List ℕ → Option ℕ
 found numbered others n = slot_or (slice_get numbered (last_number n)) (held others n) n
 

@@ -163,10 +163,10 @@ block_at p = do
   block_after_word_at k.1
 
 -- the number of predecessors of a block
-abbrev pub ways_at : PlainStatement → Option ℕ
-ways_at (assigned a) = ways_of a.value
-ways_at (condition p) = None
-ways_at (block_condition p) = None
+abbrev pub predecessors_at : PlainStatement → Option ℕ
+predecessors_at (assigned a) = ways_of a.value
+predecessors_at (condition p) = None
+predecessors_at (block_condition p) = None
 
 -- the block of a name, with its number of predecessors
 abbrev pub block_entry : Option (ℕ × Option ℕ) → Option (ℕ × ℕ)

@@ -395,8 +395,8 @@ impl<'a> Lexer<'a> {
         Ok(Some((offset, token)))
     }
 
-    /// Takes the next token, if it is this mark and one space at most comes before it, and returns its offset. It is a short
-    /// cut of [`Lexer::next_token`]: `None` leaves the lexer as it was, and says nothing of what comes next.
+    /// Takes the next token, if it is this mark and one space at most comes before it, and returns its offset. A shortcut
+    /// of [`Lexer::next_token`]: `None` leaves the lexer as it was, and says nothing of what comes next.
     #[inline(always)]
     pub fn take_mark(&mut self, mark: u8) -> Option<usize>
         requires { is_some (mark_of mark) ≡ true }
@@ -416,7 +416,7 @@ impl<'a> Lexer<'a> {
     }
 
     /// Takes the next token, if it is a value name and one space at most comes before it, and returns the offset of its first
-    /// byte, and the name. It is a short cut of [`Lexer::next_token`]: `None` leaves the lexer as it was, and says nothing of
+    /// byte, and the name. A shortcut of [`Lexer::next_token`]: `None` leaves the lexer as it was, and says nothing of
     /// what comes next.
     #[inline(always)]
     pub fn take_name(&mut self) -> Option<(usize, &'a str)>
@@ -439,7 +439,7 @@ impl<'a> Lexer<'a> {
     }
 
     /// Takes the next token, if it is an identifier and one space at most comes before it, and returns the offset of its first
-    /// byte, and the word. It is a short cut of [`Lexer::next_token`]: `None` leaves the lexer as it was, and says nothing of
+    /// byte, and the word. A shortcut of [`Lexer::next_token`]: `None` leaves the lexer as it was, and says nothing of
     /// what comes next.
     #[inline(always)]
     pub fn take_word(&mut self) -> Option<(usize, &'a str)>

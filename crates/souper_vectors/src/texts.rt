@@ -94,7 +94,7 @@ fn names_are_longest(rt: HostRuntime) -> Result<(), Fail> {
 }
 
 #[test]
-fn names_that_end_in_one_number_are_told_apart(rt: HostRuntime) -> Result<(), Fail> {
+fn names_that_end_in_one_number_are_distinct(rt: HostRuntime) -> Result<(), Fail> {
     for text in [
         "%a1 = var\n%b1 = block 2\n%1 = phi %b1, %a1, 7\n%01 = add %a1, %1\ninfer %01\n",
         "%9 = var\n%3 = var\n%4294967305 = add %9, %3\n%4 = sub %4294967305, %9\ninfer %4\n",

@@ -1,9 +1,8 @@
 //! The names in scope.
-ghost use Rattle.std.specs.Prelude.{◌≡◌, ◌<◌, ◌^◌, ◌++◌, ◌∷◌, [], length, None, OnOk};
-ghost use Rattle.std.specs.List.{slice_get};
+ghost use Rattle.std.specs.Prelude.{◌≡◌, ◌<◌, ◌^◌, ◌++◌, ◌∷◌, [], length, ℕ, None, OnOk};
 ghost use Rattle.souper_graph.specs.Values.{PlainAssignment, assigned};
 ghost use Rattle.souper_graph.specs.Syntax.Spelling.{Scope, position_of};
-ghost use Rattle.souper_ir.specs.NamesView.{last_number, is_free, IsPut};
+ghost use Rattle.souper_ir.specs.NamesView.{last_number, Keeps};
 
 use souper_graph::ast::{Id, ValueId};
 use std::alloc::{AllocError, Global};
@@ -11,10 +10,10 @@ use std::collections::BTreeMap;
 
 /// Each name in scope with its value.
 ///
-/// Souper numbers its values, so a name is looked up by the number that it ends in, and in a map if another name is there.
+/// Souper numbers its values, so a name is looked up by the number that it ends in, and in a map if it is not there.
 #[derive(Debug, Drop)]
 pub(crate) struct Names<'a> {
-    // At each number at most one name that ends in it. A name that does not end in its number fills a gap.
+    // At each number a name that ends in it, or one that ends in a higher number if this one was skipped.
     numbered: Vec<(&'a str, ValueId)>,
     // Each other name.
     others: BTreeMap<&'a str, ValueId>,
@@ -38,7 +37,8 @@ fn last_number(name: &str) -> usize
     number as usize
 }
 
-// How far the number of a name may be beyond the number of statements so far.
+// How far the number of a name in the vector may be beyond that of the statements before it. So the vector is hardly longer
+// than the statements.
 const REACH: usize = 16;
 
 impl<'a> Names<'a> {
@@ -66,19 +66,11 @@ impl<'a> Names<'a> {
         self.others.get(name).copied()
     }
 
-    fn is_free(&self, number: usize) -> bool
-        ensures { result ≡ is_free (slice_get self.now.numbered.items number) number }
-    {
-        match self.numbered.get(number) {
-            Some((other, _)) => last_number(other) != number,
-            None => true,
-        }
-    }
-
-    // Puts a name at its number. It fills the gap before it, too.
-    fn put(&mut self, name: &'a str, value: ValueId, number: usize) -> Result<(), AllocError>
+    // Appends a name up to its number: skipped numbers get it, too.
+    fn append(&mut self, name: &'a str, value: ValueId, number: usize) -> Result<(), AllocError>
         ensures others { self.new.others ≡ self.old.others }
-        ensures put { OnOk result (IsPut self.old.numbered.items self.new.numbered.items name.now value number) }
+        ensures keeps { (j : ℕ) → Keeps self.old.numbered.items self.new.numbered.items name.now value j }
+        ensures reaches { OnOk result (number < length self.new.numbered.items) }
     {
         while self.numbered.len() <= number {
             match self.numbered.push((name, value)) {
@@ -86,18 +78,17 @@ impl<'a> Names<'a> {
                 Err(_) => return Err(AllocError),
             }
         }
-        self.numbered[number] = (name, value);
         Ok(())
     }
 
-    /// Enters a new name, whose value is defined next.
+    /// Enters a new name with its value.
     pub(crate) fn define(&mut self, name: &'a str, value: ValueId) -> Result<(), AllocError>
         ensures { OnOk result ((s : Scope) (a : PlainAssignment) → AreNames self.old s → position_of s name.now ≡ None → a.name ≡ name.now → value ≡ length s → AreNames self.new (s ++ assigned a ∷ [])) }
     {
         let number = last_number(name);
         let in_reach = number.saturating_sub(REACH) <= Id::from(value).index();
-        if in_reach && self.is_free(number) {
-            return self.put(name, value, number);
+        if in_reach && self.numbered.len() <= number {
+            return self.append(name, value, number);
         }
         match self.others.insert(name, value) {
             Ok(_) => Ok(()),

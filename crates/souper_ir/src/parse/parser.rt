@@ -7,7 +7,7 @@ ghost use Rattle.souper_graph.specs.Syntax.Tokens.{Lexeme, ident, AreTokensOf, I
 ghost use Rattle.souper_lexer.specs.TokenView.{lexeme_of, Lexes};
 ghost use Rattle.souper_graph.specs.Uses.{is_condition};
 ghost use Rattle.souper_graph.specs.Syntax.Spelling.{entry_of, position_of};
-ghost use Rattle.souper_ir.specs.NodeReadings.{accept, block_entry, ways_at, is_any, is_mark, is_name, mark_of, name_of};
+ghost use Rattle.souper_ir.specs.NodeReadings.{accept, block_entry, predecessors_at, is_any, is_mark, is_name, mark_of, name_of};
 ghost use Rattle.souper_ir.specs.Grammar.{peek_at};
 ghost use Rattle.souper_ir.specs.MarkView.{lexeme_of_mark};
 ghost use Rattle.souper_ir.specs.Parsing.{Cause, refused, no_memory};
@@ -300,7 +300,7 @@ fn push(
 
 // A block's number of predecessors; `None` for any other statement.
 fn predecessors(statement: &Statement) -> Option<u32>
-    ensures { result ≡ ways_at (view_statement statement.now) }
+    ensures { result ≡ predecessors_at (view_statement statement.now) }
 {
     match statement {
         Statement::Assignment(assignment) => match &assignment.value {

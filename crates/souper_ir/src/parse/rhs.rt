@@ -112,14 +112,14 @@ pub(crate) fn instruction(parser: &mut Parser<'_>) -> Read<Instruction>
     instruction_of(parser, opcode)
 }
 
-// The right side that a word begins, which has been taken.
+// What a right side begins with, by its word, which has been taken.
 #[tactic(auto, unfolding(crate::specs::NodeReadings::rhs_named_at))]
 fn rhs_named(parser: &mut Parser<'_>, word: &str) -> Read<RhsWord>
     requires { parser.old.failed ≡ None }
     ensures { Gives (λ w. w) (widened result) (rhs_named_at word.now parser.old) parser.old parser.new }
 {
     match rhs_word_named(word) {
-        Some(kind) => Ok(kind),
+        Some(begun) => Ok(begun),
         None => Err(parser.refuse(Message::ExpectedRhs)),
     }
 }

@@ -1,4 +1,4 @@
-//! The instruction that a word and operands make.
+//! What words mean: opcodes, and what right sides begin with.
 
 ghost use Rattle.std.specs.Prelude.{◌≡◌, ◌∷◌, [], Some};
 ghost use Rattle.souper_ir.specs.Words.{opcode_of, two_letters_of, three_letters_of, four_letters_of, five_letters_of, six_letters_of, longer_of, other_word_of, rhs_word_of, operand_count, instruction_by};
@@ -202,6 +202,7 @@ pub(crate) enum RhsWord {
     Instruction(Opcode),
 }
 
+// The right side that a word begins, if it is no instruction.
 fn other_word(word: &str) -> Option<RhsWord>
     ensures { result ≡ other_word_of word.now }
 {

@@ -1,12 +1,15 @@
-use Rattle.std.proofs.Common.{sym, ◌∙◌}
+use Rattle.std.proofs.Common.{arith}
 use Rattle.std.proofs.lemmas.Result.{on_ok_weaker}
-use Rattle.souper_ir.proofs.Names.{put_defined, insert_defined}
+use Rattle.souper_ir.proofs.Names.{append_defined, insert_defined}
 use Rattle.souper_ir.proofs.parse.names.Names.define.Goals as goal
 
-pub returns-then-is_free : goal.returns-then-is_free
-returns-then-is_free c = on_ok_weaker c.put.result (λ put s a are fresh named last n.
-    rw (c.put.ensures.others) (put_defined c.args.self.now.numbered.items c.put.new.self.numbered.items c.args.self.now.others s a c.args.name.now c.args.value
-    (rw (sym c.last_number-number.ensures.number) (sym c.is_free.ensures ∙ c.if-is_free.true)) (rw (sym c.last_number-number.ensures.number) put) are fresh named last n)) c.put.ensures.put
+pub returns-then-len-number : goal.returns-then-len-number
+returns-then-len-number c = on_ok_weaker c.append.result (λ reaches s a are fresh named last n.
+    let number = c.last_number-number.ensures.number in
+    let len = c.len.ensures in
+    let beyond = c.if-len-number.true in
+    rw (c.append.ensures.others) (append_defined c.args.self.now.numbered.items c.append.new.self.numbered.items c.args.self.now.others s a c.args.name.now c.args.value
+    (omega arith) (omega arith) c.append.ensures.keeps are fresh named last n)) c.append.ensures.reaches
 
 pub returns-in-Ok : goal.returns-in-Ok
 returns-in-Ok c s a are fresh named last =
