@@ -30,7 +30,7 @@ IsRefused source e = (offset : ℕ) × (offset_of e ≡ Some offset) × (offset 
     × ((shown : List ℕ) × (shown_error e ≡ Some shown) × IsRefusalText (Some (codes "input.souper")) source offset shown)
 
 -- the bytes that are written for an offset and an error
-abbrev pub refusal_line : ℕ → Option (List ℕ) → Option (List ℕ)
+abbrev refusal_line : ℕ → Option (List ℕ) → Option (List ℕ)
 refusal_line offset shown = Some (codes "refused at byte ") ++? (Some (decimal offset) ++? (Some (10 ∷ []) ++? shown))
 
 of_refused : {E : Type 0} (source : List ℕ) (e : ParseError) (offset : ℕ) (r : Result (String Global) E)

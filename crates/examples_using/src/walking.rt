@@ -13,10 +13,7 @@ use std::alloc::{AllocError, Global};
 pub fn name_of(statements: &Arena<Statement>, value: ValueId) -> Option<&str>
     ensures { option_copied result ≡ name_at statements.now value }
 {
-    match statements.get(value.into()) {
-        Some(Statement::Assignment(assignment)) => Some(assignment.name.as_str()),
-        _ => None,
-    }
+    Some(statements.assignment(value)?.name.as_str())
 }
 
 /// A line for each instruction: the position of its statement, its word, and what its operands refer to.

@@ -1,4 +1,5 @@
 //! Arenas, ids and the errors of a text, by calls.
+use crate::building::{Graph, number};
 use souper_graph::ast::{
     Arena, Assignment, AssignmentRhs, BlockId, Id, Infer, LeftHandSide, Statement, ValueId,
 };
@@ -188,5 +189,30 @@ fn ids_are_hashed_by_position(rt: HostRuntime) -> Result<(), Fail> {
     let (block, other) = (BlockId::from(first), BlockId::from(second));
     assert_eq!(rt; hash_of(&block), hash_of(&BlockId::from(again)));
     assert_ne!(rt; hash_of(&block), hash_of(&other));
+    Ok(())
+}
+
+#[test]
+fn ids_look_up_what_they_name(rt: HostRuntime) -> Result<(), Fail> {
+    let mut graph = Graph::new(rt.alloc());
+    let value = graph.var("%x")?;
+    let block = graph.block("%bb", 3)?;
+    graph.pc(value.into(), number(1))?;
+    let statements = graph.statements;
+    let found = statements.assignment(value).ok_or("no assignment")?;
+    assert_eq!(rt; found.name.as_str(), "%x");
+    let found = statements.block(block).ok_or("no block")?;
+    assert_eq!(rt; found.predecessors, 3);
+    // A block is the value of an assignment, but a variable is no block.
+    let (first, second) = (id_at(rt.alloc(), 0)?, id_at(rt.alloc(), 1)?);
+    assert!(rt; statements.assignment(second.into()).is_some());
+    assert!(rt; statements.block(first.into()).is_none());
+    // A path condition, and a position past the end.
+    let third = id_at(rt.alloc(), 2)?;
+    let empty: Arena<Statement> = Arena::new(rt.alloc());
+    for arena in [&statements, &empty] {
+        assert!(rt; arena.assignment(third.into()).is_none());
+        assert!(rt; arena.block(third.into()).is_none());
+    }
     Ok(())
 }

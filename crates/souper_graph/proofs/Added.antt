@@ -93,7 +93,7 @@ filter-every : (xs : List ℕ) → filter (λ y. true) xs ≡ xs
 filter-every [] = refl
 filter-every (x ∷ xs) = ap (λ z. x ∷ z) (filter-every xs)
 
-pub firsts-is : (xs : List ℕ) → firsts xs ≡ with_new [] xs
+firsts-is : (xs : List ℕ) → firsts xs ≡ with_new [] xs
 unfolding has
 firsts-is xs = sym (with-firsts [] xs ∙ filter-every (firsts xs))
 

@@ -8,10 +8,10 @@ use Rattle.std.proofs.lemmas.Bool.{cases_eq}
 use Rattle.std.specs.Int.{bit_at}
 use Rattle.souper_graph.specs.Marks.{mark_at, marks_of}
 
-pub length-marks : (ws : List ℕ) (n : ℕ) → length (marks_of ws n) ≡ n
+length-marks : (ws : List ℕ) (n : ℕ) → length (marks_of ws n) ≡ n
 length-marks ws n = length-map-range_with_len (mark_at ws) 0 n
 
-pub at-marks : (ws : List ℕ) (n i : ℕ) → i < n → get_or (marks_of ws n) i false ≡ mark_at ws i
+at-marks : (ws : List ℕ) (n i : ℕ) → i < n → get_or (marks_of ws n) i false ≡ mark_at ws i
 at-marks ws n i h = get_or-map-range_with_len (mark_at ws) 0 n i i false h (omega arith)
 
 -- the word of a mark is there

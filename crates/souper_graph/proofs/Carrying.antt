@@ -25,7 +25,7 @@ pub map-map : {A B C : Type 0} (f : A → B) (h : B → C) (xs : List A) → map
 map-map f h [] = refl
 map-map f h (x ∷ xs) = ap (λ y. h (f x) ∷ y) (map-map f h xs)
 
-pub map-itself : {A : Type 0} (f : A → A) (xs : List A) → ((x : A) → Has xs x → f x ≡ x) → map f xs ≡ xs
+map-itself : {A : Type 0} (f : A → A) (xs : List A) → ((x : A) → Has xs x → f x ≡ x) → map f xs ≡ xs
 map-itself f [] e = refl
 map-itself f (x ∷ xs) e = ap (λ y. y ∷ map f xs) (e x (Has-here x xs)) ∙ ap (λ y. x ∷ y) (map-itself f xs (λ i a. e i (Has-later x i xs a)))
 
@@ -35,7 +35,7 @@ abbrev pub carried_use : (ℕ → ℕ) → Use → Use
 carried_use f (value_use i) = value_use (f i)
 carried_use f (block_use i) = block_use (f i)
 
-pub position-carried : (f : ℕ → ℕ) (u : Use) → position_of (carried_use f u) ≡ f (position_of u)
+position-carried : (f : ℕ → ℕ) (u : Use) → position_of (carried_use f u) ≡ f (position_of u)
 position-carried f (value_use i) = refl
 position-carried f (block_use i) = refl
 

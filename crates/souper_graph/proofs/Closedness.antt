@@ -17,7 +17,7 @@ abbrev pub statement_at : List PlainStatement → ℕ → PlainStatement
 statement_at ss i = stood (slice_get ss i)
 
 -- what a list has at an index, or nothing
-pub slice_get_tells : {A : Type 0} (xs : List A) (i : ℕ) → ((x : A) × (slice_get xs i ≡ Some x)) ⊎ (slice_get xs i ≡ None)
+slice_get_tells : {A : Type 0} (xs : List A) (i : ℕ) → ((x : A) × (slice_get xs i ≡ Some x)) ⊎ (slice_get xs i ≡ None)
 slice_get_tells {A = A} xs i = under (slice_get xs i) refl
   where
     under : (o : Option A) → slice_get xs i ≡ o → ((x : A) × (slice_get xs i ≡ Some x)) ⊎ (slice_get xs i ≡ None)
@@ -60,7 +60,7 @@ met-stands ss (block_use i) h = some-block (slice_get ss i) h
 pub met-inside : (ss : List PlainStatement) (u : Use) → IsMet ss u → position_of u < length ss
 met-inside ss u h = let r = met-stands ss u h in slice_get_within ss (position_of u) r.0 r.1
 
-pub met-plain : (ss : List PlainStatement) (u : Use) → IsMet ss u → is_condition (statement_at ss (position_of u)) ≡ false
+met-plain : (ss : List PlainStatement) (u : Use) → IsMet ss u → is_condition (statement_at ss (position_of u)) ≡ false
 met-plain ss u h = let r = met-stands ss u h in ap (λ o. is_condition (stood o)) r.1 ∙ r.2
 
 -- the walks of an item
@@ -77,7 +77,7 @@ in-first a i h = Has-left (first_walks a) (last_of a) i (Has-left (first_of a) (
 pub in-conditions : (a : Item) (i : ℕ) → Has (conditions a) i → Has (walks_of a) i
 in-conditions a i h = Has-left (first_walks a) (last_of a) i (Has-right (first_of a) (conditions a) i h)
 
-pub in-last : (a : Item) (i : ℕ) → Has (last_of a) i → Has (walks_of a) i
+in-last : (a : Item) (i : ℕ) → Has (last_of a) i → Has (walks_of a) i
 in-last a i h = Has-right (first_walks a) (last_of a) i h
 
 pub root-walked : (a : Item) (u : Use) → Has (roots_of a.ending) u → NeededIn a (position_of u)
@@ -99,7 +99,7 @@ from-inside k (s ∷ ss) j h = under (is_condition s) (λ a. from-inside (suc k)
     under false f h = let q = f h in omega arith
 
 -- what a needed statement uses resolves
-pub uses-met : (a : Item) → WellFormed a → (p : ℕ) (u : Use) → NeededIn a p → Has (uses_at a.statements p) u → (position_of u < p) × IsMet a.statements u
+uses-met : (a : Item) → WellFormed a → (p : ℕ) (u : Use) → NeededIn a p → Has (uses_at a.statements p) u → (position_of u < p) × IsMet a.statements u
 uses-met a wf p u d h = under (slice_get a.statements p) refl h
   where
     under : (o : Option PlainStatement) → slice_get a.statements p ≡ o → Has (uses_of_optional o) u → (position_of u < p) × IsMet a.statements u

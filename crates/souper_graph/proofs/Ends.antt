@@ -18,7 +18,8 @@ use Rattle.souper_graph.specs.View.{view_statement}
 use Rattle.souper_graph.specs.Uses.{Has, Use, value_use, block_use, position_of, uses_of, uses_of_optional, uses_at, used_at, Needed, walked, used, conditions, first_roots, last_roots, roots_of, first_walks, walks_of, NeededIn}
 use Rattle.souper_graph.specs.Order.{Distinct, EachAfterItsUses, cost, order_of_walks}
 use Rattle.souper_graph.specs.Faults.{IsMet, NamedIn, HasBadId, IsFaultOf}
-use Rattle.souper_graph.specs.Walks.{position_of_target, target_of, IsMetTarget, IsFaultAt, first_targets, targets_of, IsWalkedBy, IsOrderOf}
+use Rattle.souper_graph.specs.Walks.{position_of_target, target_of, IsMetTarget, IsFaultAt, first_targets, targets_of, IsWalkedBy}
+use Rattle.souper_graph.specs.PrintOrder.{IsPrintOrder}
 use Rattle.souper_graph.proofs.Lists.{Has-left, Has-right, Has-cases, Has-none, Has-here, Has-map, Has-mapped}
 use Rattle.souper_graph.proofs.Conditions.{conditions-inside}
 use Rattle.souper_graph.proofs.Run.{Below, work, work-set}
@@ -357,7 +358,7 @@ no_bad a roots uses bad =
 -- a finished run
 pub ordered_item : (a : Item) (g : List PlainStatement) (walks : List Target) (before k : ℕ) (s : List Entry) (m : List Bool) (ids : List ℕ) (turns lead : ℕ) →
     IsWalkedBy a g walks before → Running g (take k walks) (reverse s) m ids turns → s ≡ [] → length walks ≤ k → lead ≤ length ids → Leads g walks k before lead →
-    (length walks ≤ before → lead ≡ length ids) → LeadNeeds g walks k before lead ids → IsOrderOf a ids lead turns
+    (length walks ≤ before → lead ≡ length ids) → LeadNeeds g walks k before lead ids → IsPrintOrder a ids lead turns
 ordered_item a g walks before k s m ids turns lead w r e h l f whole needs =
     let R : List Target → Type 0 = λ z. Running g z [] m ids turns in
     let all = subst R (take_all k walks h) (running_over g (take k walks) s m ids turns r e) in
@@ -381,7 +382,7 @@ ordered_item a g walks before k s m ids turns lead w r e h l f whole needs =
       lead_within = l;
       lead_exact = subst (λ (z : List PlainStatement). (i : ℕ) → Has (take lead ids) i ↔ Needed z (first_walks a) i) same
           (subst (λ (z : List ℕ). (i : ℕ) → Has (take lead ids) i ↔ Needed g z i) first (lead_needs_end g walks k before lead ids h needs));
-      lead_whole = λ none. (let same_length = all_first a none in
+      lead_is_all = λ none. (let same_length = all_first a none in
           let total = ap length w.same_walks in
           let count = w.same_before in
           whole (omega arith));

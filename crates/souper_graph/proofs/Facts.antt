@@ -113,7 +113,7 @@ use-place g w i u ub n h =
 
 -- the conditions of a list of statements
 
-pub from-lower : (k : ℕ) (g : List PlainStatement) (j : ℕ) → Has (conditions_from k g) j → k ≤ j
+from-lower : (k : ℕ) (g : List PlainStatement) (j : ℕ) → Has (conditions_from k g) j → k ≤ j
 from-lower k [] j h = absurd (Has-none j h)
 from-lower k (n ∷ g) j h = under (is_condition n) (λ a. from-lower (suc k) g j a) h
   where

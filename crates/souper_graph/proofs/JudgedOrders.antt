@@ -7,23 +7,23 @@ use Rattle.souper_graph.specs.declared.stringify.errors.TextError.{TextError}
 use Rattle.souper_graph.specs.declared.stringify.errors.TextError.TheVariants.{OutOfMemory}
 use Rattle.souper_graph.specs.declared.stringify.order.Order.{Order}
 use Rattle.souper_graph.specs.Values.{Item}
-use Rattle.souper_graph.specs.Uses.{Has, NeededIn}
 use Rattle.souper_graph.specs.Faults.{IsFaultOf}
+use Rattle.souper_graph.specs.PrintOrder.{IsPrintOrder}
 use Rattle.souper_graph.specs.WellFormed.{WellFormed}
 use Rattle.souper_graph.specs.Judging.{StandsEnding, AllStand}
 use Rattle.souper_graph.proofs.Judged.{well_formed_of_stand, stand_of_well_formed, fault_of_well_formed}
 
 -- from what the checks return for an order
 pub judged : (a : Item) (order : Result Order TextError) (r : Result Bool AllocError)
-    → IfErr order (λ e. IsFaultOf a e) → IfOk order (λ o. (i : ℕ) → Has o.ids.items i ↔ NeededIn a i) → StandsEnding a.statements a.ending
+    → IfErr order (λ e. IsFaultOf a e) → IfOk order (λ o. IsPrintOrder a o.ids.items o.lead o.turns) → StandsEnding a.statements a.ending
     → IfOk r (λ answer. MatchResult order (λ o. IsTrue answer ↔ AllStand a.statements o.ids.items) (λ e. (¬ (e ≡ OutOfMemory)) × (answer ≡ false)))
     → IfOk r (λ answer. IsTrue answer ↔ WellFormed a)
-judged a order (Err e) fault exact ending told = tt
-judged a (Ok o) (Ok answer) fault exact ending told = (
-  (λ t. well_formed_of_stand a o.ids.items exact ending (told.0 t)),
-  (λ w. told.1 (stand_of_well_formed a o.ids.items exact w)),
+judged a order (Err e) fault ordered ending told = tt
+judged a (Ok o) (Ok answer) fault ordered ending told = (
+  (λ t. well_formed_of_stand a o.ids.items ordered.exact ending (told.0 t)),
+  (λ w. told.1 (stand_of_well_formed a o.ids.items ordered.exact w)),
 )
-judged a (Err e) (Ok answer) fault exact ending told = (
+judged a (Err e) (Ok answer) fault ordered ending told = (
   (λ t. absurd (false≢true (sym told.1 ∙ t))),
   (λ w. absurd (told.0 (fault_of_well_formed a e w fault))),
 )

@@ -15,9 +15,9 @@ pub mod Sameness
 pub mod Conditions
 pub mod Stack
 pub mod Ends
-pub mod Answered
 pub mod Bits
 pub mod Naming
 pub mod Lower
 pub mod RoundTrip
 pub mod Styled
+pub mod Lookups

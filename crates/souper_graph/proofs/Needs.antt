@@ -20,7 +20,7 @@ waiting [] = []
 waiting (trace i ∷ s) = waiting s
 waiting (finish i ∷ s) = i ∷ waiting s
 
-pub traces-uses : (us : List ℕ) (s : List Step) → traces (map (λ u. trace u) us ++ s) ≡ us ++ traces s
+traces-uses : (us : List ℕ) (s : List Step) → traces (map (λ u. trace u) us ++ s) ≡ us ++ traces s
 unfolding traces
 traces-uses [] s = refl
 traces-uses (u ∷ us) s = ap (λ x. u ∷ x) (traces-uses us s)

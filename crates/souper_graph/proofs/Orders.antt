@@ -62,21 +62,21 @@ flat-from f (x ∷ us) j h = elim (Has-cases (f x) (flat_map f us) j h) [
   | inr b ↦ (let r = flat-from f us j b in (r.0, Has-later x r.0 us r.1, r.2))
 ]
 
-pub flat-same : (f h : ℕ → List ℕ) (us : List ℕ) → ((u : ℕ) → Has us u → f u ≡ h u) → flat_map f us ≡ flat_map h us
+flat-same : (f h : ℕ → List ℕ) (us : List ℕ) → ((u : ℕ) → Has us u → f u ≡ h u) → flat_map f us ≡ flat_map h us
 flat-same f h [] e = refl
 flat-same f h (x ∷ us) e =
     ap (λ y. y ++ flat_map f us) (e x (Has-here x us)) ∙ ap (λ y. h x ++ y) (flat-same f h us (λ u k. e u (Has-later x u us k)))
 
 -- the depth of an unfolding
 
-pub unfold-enough : (g : List PlainStatement) (n m p : ℕ) → p < n → p < m → unfold_to g n p ≡ unfold_to g m p
+unfold-enough : (g : List PlainStatement) (n m p : ℕ) → p < n → p < m → unfold_to g n p ≡ unfold_to g m p
 unfold-enough g zero m p a b = absurd (omega arith)
 unfold-enough g (suc n) zero p a b = absurd (omega arith)
 unfold-enough g (suc n) (suc m) p a b =
     ap (λ x. x ++ p ∷ []) (flat-same (unfold_to g n) (unfold_to g m) (lower g p) (λ u h.
     let l = below-from p (used_at g p) u h in unfold-enough g n m u (omega arith) (omega arith)))
 
-pub unfold-is : (g : List PlainStatement) (p : ℕ) → ((u : ℕ) → Has (used_at g p) u → u < p) →
+unfold-is : (g : List PlainStatement) (p : ℕ) → ((u : ℕ) → Has (used_at g p) u → u < p) →
     unfolding_of g p ≡ flat_map (unfolding_of g) (used_at g p) ++ p ∷ []
 unfold-is g p h =
     ap (λ x. x ++ p ∷ []) (ap (λ x. flat_map (unfold_to g p) x) (below-all p (used_at g p) h)
@@ -87,7 +87,7 @@ unfold-self g zero p h = absurd (omega arith)
 unfold-self g (suc n) p h = Has-right (flat_map (unfold_to g n) (lower g p)) (p ∷ []) p (Has-here p [])
 
 -- a list that has the lower uses of what it has has unfoldings whole
-pub unfold-inside : (g : List PlainStatement) (ids : List ℕ) → ((i u : ℕ) → Has ids i → Has (lower g i) u → Has ids u) →
+unfold-inside : (g : List PlainStatement) (ids : List ℕ) → ((i u : ℕ) → Has ids i → Has (lower g i) u → Has ids u) →
     (n p : ℕ) → Has ids p → (j : ℕ) → Has (unfold_to g n p) j → Has ids j
 unfold-inside g ids c zero p h j k = absurd (Has-none j k)
 unfold-inside g ids c (suc n) p h j k = elim (Has-cases (flat_map (unfold_to g n) (lower g p)) (p ∷ []) j k) [
@@ -230,7 +230,7 @@ pub record Sorted (g : List PlainStatement) (w : List ℕ) (s : List Step) (ids 
   pub steady : Steady g ids (yields g s)
   pub before : Steady g [] ids
 
-pub sorted : {g : List PlainStatement} {w : List ℕ} {s : List Step} {m : List Bool} {ids : List ℕ} {t : ℕ} →
+sorted : {g : List PlainStatement} {w : List ℕ} {s : List Step} {m : List Bool} {ids : List ℕ} {t : ℕ} →
     Below g w → Reached g w s m ids t → Sorted g w s ids
 unfolding Ordered yields Steady traces waiting with_new
 sorted {g = g} ub start = record { ordered = tt; yielded = refl; steady = tt; before = tt }

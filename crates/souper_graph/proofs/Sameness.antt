@@ -18,7 +18,7 @@ use Rattle.souper_graph.proofs.Facts.{printed-needed, needed-printed, printed-on
 
 -- what a map of the same graph says of the statements at two positions
 
-pub contents-at : (a b : Item) → WellFormed a → (s : SameGraph a b) → (i : ℕ) → NeededIn a i →
+contents-at : (a b : Item) → WellFormed a → (s : SameGraph a b) → (i : ℕ) → NeededIn a i →
     statement_at b.statements (s.to i) ≡ carried s.to (statement_at a.statements i)
 contents-at a b wa s i d = ap stood (s.contents i (statement_at a.statements i) d (well_formed_stands a wa i d))
 
@@ -102,7 +102,7 @@ conditions-carried a b wa s =
     ∙ condition-holds a r.0 r.1 in
     is-condition b j e)
 
-pub walks-map : (f : ℕ → ℕ) (x y z x' y' z' : List ℕ) → x' ≡ map f x → y' ≡ map f y → z' ≡ map f z → (x' ++ y') ++ z' ≡ map f ((x ++ y) ++ z)
+walks-map : (f : ℕ → ℕ) (x y z x' y' z' : List ℕ) → x' ≡ map f x → y' ≡ map f y → z' ≡ map f z → (x' ++ y') ++ z' ≡ map f ((x ++ y) ++ z)
 walks-map f x y z x' y' z' a b c =
     ap (λ q. (q ++ y') ++ z') a ∙ ap (λ q. (map f x ++ q) ++ z') b ∙ ap (λ q. (map f x ++ map f y) ++ q) c
     ∙ ap (λ q. q ++ map f z) (sym (map-append f x y)) ∙ sym (map-append f (x ++ y) z)
@@ -116,7 +116,7 @@ walks-carried a b f e c =
     (ap (λ (d : Ending). map position_of (last_roots d)) e ∙ ap (λ (z : List Use). map position_of z) (last-carried f a.ending)
     ∙ positions-carried f (last_roots a.ending))
 
-pub order-carried : (a b : Item) → WellFormed a → WellFormed b → (s : SameGraph a b) → printed_order b ≡ map s.to (printed_order a)
+order-carried : (a b : Item) → WellFormed a → WellFormed b → (s : SameGraph a b) → printed_order b ≡ map s.to (printed_order a)
 order-carried a b wa wb s =
     let w : walks_of b ≡ map s.to (walks_of a) = walks-carried a b s.to s.ending (conditions-carried a b wa s) in
     let inner : flat_map (unfolding_of b.statements) (map s.to (walks_of a)) ≡ map s.to (flat_map (unfolding_of a.statements) (walks_of a)) =
@@ -142,7 +142,7 @@ needs a i h = printed-needed a.statements (walks_of a) i h
 abbrev pub numbered : Item → ℕ → PlainStatement
 numbered a i = carried (place (printed_order a)) (statement_at a.statements i)
 
-pub item_of : List PlainStatement → Ending → Item
+item_of : List PlainStatement → Ending → Item
 item_of ss e = record { statements = ss; ending = e }
 
 abbrev pub numbered_item : Item → Item
@@ -336,7 +336,7 @@ used-back a wa i v j d e h =
     ap (λ z. used_at (numbered_item a).statements z) (sym e) ∙ numbered-used a wa i d in
     Has-mapped (place (printed_order a)) (used_at a.statements i) j (subst (λ (z : List ℕ). Has z j) at h)
 
-pub numbered-onto : (a : Item) → WellFormed a → {j : ℕ} → NeededIn (numbered_item a) j → (i : ℕ) × NeededIn a i × (place (printed_order a) i ≡ j)
+numbered-onto : (a : Item) → WellFormed a → {j : ℕ} → NeededIn (numbered_item a) j → (i : ℕ) × NeededIn a i × (place (printed_order a) i ≡ j)
 numbered-onto a wa {j = j} (walked h) =
     let r = Has-mapped (place (printed_order a)) (walks_of a) j (subst (λ (z : List ℕ). Has z j) (numbered-walks a wa) h) in (r.0, walked r.1, r.2)
 numbered-onto a wa {j = j} (used {i = v} n h) =
@@ -386,8 +386,8 @@ met-carried a b s (block_use i) d h =
     subst (λ (o : Option PlainStatement). IsBlock o) (sym (s.contents i r.0 d r.1))
     (is_block-carried s.to r.0 (subst (λ (o : Option PlainStatement). IsBlock o) r.1 h))
 
-ways-carried : (a b : Item) → WellFormed a → (s : SameGraph a b) (i : ℕ) → NeededIn a i → predecessors_at b.statements (s.to i) ≡ predecessors_at a.statements i
-ways-carried a b wa s i d =
+needed-predecessors-carried : (a b : Item) → WellFormed a → (s : SameGraph a b) (i : ℕ) → NeededIn a i → predecessors_at b.statements (s.to i) ≡ predecessors_at a.statements i
+needed-predecessors-carried a b wa s i d =
     let t = statement_at a.statements i in
     let e : slice_get a.statements i ≡ Some t = well_formed_stands a wa i d in
     ap predecessors_of (s.contents i t d e) ∙ predecessors-carried s.to t ∙ sym (ap predecessors_of e)
@@ -404,10 +404,10 @@ closed-carried a b wa s below i p d db e =
       met = λ u h.
           let r = Has-mapped (carried_use s.to) (uses_of t) u (subst (λ (z : List Use). Has z u) (uses-carried s.to t) h) in
           subst (λ (z : Use). IsMet b.statements z) r.2 (met-carried a b s r.0 (stood-needed a i d r.0 r.1) (c.met r.0 r.1));
-      agrees = agrees-carried s.to a.statements b.statements t (λ u h. ways-carried a b wa s (position_of u) (stood-needed a i d u h)) c.agrees;
+      agrees = agrees-carried s.to a.statements b.statements t (λ u h. needed-predecessors-carried a b wa s (position_of u) (stood-needed a i d u h)) c.agrees;
     }
 
-pub graph-well : (a b : Item) → WellFormed a → SameGraph a b → UsesBelow b → WellFormed b
+graph-well : (a b : Item) → WellFormed a → SameGraph a b → UsesBelow b → WellFormed b
 graph-well a b wa s below =
     let at : (i p : ℕ) → NeededIn a i → s.to i ≡ p → slice_get b.statements p ≡ Some (carried s.to (statement_at a.statements i)) =
     λ i p d e. ap (λ (z : ℕ). slice_get b.statements z) (sym e) ∙ s.contents i (statement_at a.statements i) d (well_formed_stands a wa i d) in
@@ -449,7 +449,7 @@ unneeded-walks a b s =
 unneeded-used : (a b : Item) → SameNeeded a b → (i : ℕ) → NeededIn a i → used_at b.statements i ≡ used_at a.statements i
 unneeded-used a b s i d = ap (λ (o : Option PlainStatement). map position_of (uses_of_optional o)) (s.same_statements i d)
 
-pub unneeded-to : (a b : Item) → SameNeeded a b → {i : ℕ} → NeededIn a i → NeededIn b i
+unneeded-to : (a b : Item) → SameNeeded a b → {i : ℕ} → NeededIn a i → NeededIn b i
 unneeded-to a b s {i = i} (walked h) = walked (subst (λ (z : List ℕ). Has z i) (sym (unneeded-walks a b s)) h)
 unneeded-to a b s {i = i} (used {i = v} n h) = used (unneeded-to a b s n) (subst (λ (z : List ℕ). Has z i) (sym (unneeded-used a b s v n)) h)
 

@@ -13,7 +13,7 @@ use Rattle.souper_graph.proofs.Lists.{Has-left, Has-right, Has-cases, Has-none, 
 use Rattle.souper_graph.proofs.Run.{Step, trace, finish, Reached, start, walk, dropped, entered, finished, work}
 
 -- an entry, and a list of targets, as positions
-abbrev pub step_of : Entry → Step
+abbrev step_of : Entry → Step
 step_of (Trace t) = trace (position_of_target t)
 step_of (Finished i) = finish i
 

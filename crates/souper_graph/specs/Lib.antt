@@ -5,7 +5,9 @@ pub mod Values
 pub mod Names
 pub mod View
 pub mod Uses
+pub mod Lookup
 pub mod Order
+pub mod PrintOrder
 pub mod Leaves
 pub mod Text
 pub mod Shown

@@ -1,13 +1,12 @@
 -- Definitions. What the walks over a graph visit: its roots, its path conditions, and what is reachable from these.
-use Rattle.std.specs.Prelude.{◌≡◌, ℕ, ◌<◌, ◌≤◌, ◌++◌, ◌↔◌, length, List, [], map, slice_get, take}
+use Rattle.std.specs.Prelude.{◌≡◌, ℕ, ◌<◌, ◌≤◌, ◌++◌, length, List, map, slice_get}
 use Rattle.souper_graph.specs.declared.stringify.errors.TextError.{TextError}
 use Rattle.souper_graph.specs.declared.stringify.errors.TextError.TheVariants.{OutOfRange, NotAnAssignment, NotABlock, OutOfMemory}
 use Rattle.souper_graph.specs.declared.stringify.order.Target.{Target}
 use Rattle.souper_graph.specs.declared.stringify.order.Target.TheVariants.{Value, Block, Condition}
 use Rattle.souper_graph.specs.Values.{PlainStatement, Item}
-use Rattle.souper_graph.specs.Uses.{Has, Use, value_use, block_use, conditions, first_roots, last_roots, first_walks, Needed, NeededIn, UsesBelow}
-use Rattle.souper_graph.specs.Order.{printed_order, lead_of, Distinct, EachAfterItsUses, turns_of}
-use Rattle.souper_graph.specs.Faults.{IsAssigned, IsBlock, HasBadId}
+use Rattle.souper_graph.specs.Uses.{Use, value_use, block_use, conditions, first_roots, last_roots}
+use Rattle.souper_graph.specs.Faults.{IsAssigned, IsBlock}
 
 abbrev pub position_of_target : Target → ℕ
 position_of_target (Value i) = i
@@ -44,17 +43,3 @@ pub record IsWalkedBy (a : Item) (ss : List PlainStatement) (walks : List Target
   pub same_statements : a.statements ≡ ss
   pub same_walks : walks ≡ targets_of a
   pub same_before : before ≡ length (first_targets a)
-
--- what a returned order of the item is
-pub record IsOrderOf (a : Item) (ids : List ℕ) (lead turns : ℕ) : Type 0 where
-  pub no_bad_id : ¬ HasBadId a
-  pub inside : (i : ℕ) → Has ids i → i < length a.statements
-  pub exact : (i : ℕ) → Has ids i ↔ NeededIn a i
-  pub once : Distinct ids
-  pub lead_within : lead ≤ length ids
-  pub lead_exact : (i : ℕ) → Has (take lead ids) i ↔ Needed a.statements (first_walks a) i
-  pub lead_whole : last_roots a.ending ≡ [] → lead ≡ length ids
-  pub turned : turns ≡ turns_of a ids
-  pub printed : UsesBelow a → ids ≡ printed_order a
-  pub led : UsesBelow a → lead ≡ lead_of a
-  pub after : UsesBelow a → EachAfterItsUses a.statements ids

@@ -7,6 +7,7 @@ mod clones;
 mod ids;
 mod instructions;
 mod items;
+mod lookup;
 mod operands;
 mod statements;
 mod well_formed;

@@ -89,10 +89,6 @@ last_of_push [] v t h = h
 last_of_push (w ∷ []) v t h = h
 last_of_push (w ∷ (x ∷ xs)) v t h = last_of_push (x ∷ xs) v t h
 
-none_last : (ts : List Lexeme) → Free (λ t. LastGoesOn item_continues [] t) ts
-none_last [] = tt
-none_last (t ∷ ts) = λ h. h
-
 no_start : (a more : List Lexeme) → Starts begins_line a → a ++ more ≡ [] → ⊥
 no_start [] more st e = st
 no_start (t ∷ a) more st e = absurd cc

@@ -11,8 +11,8 @@ use Rattle.std.proofs.lemmas.Slice.Eq.{bytes_eq-Decides}
 use Rattle.std.proofs.lemmas.Map.Text.{btree_map_updates_str}
 use Rattle.souper_graph.specs.Values.{PlainAssignment, PlainStatement, assigned, condition, block_condition}
 use Rattle.souper_graph.specs.Uses.{is_condition}
-use Rattle.souper_graph.specs.Syntax.Spelling.{Scope, ways_of, entry_from, entry_of, position_of}
-use Rattle.souper_ir.specs.NamesView.{last_number, Slot, Holds, Keeps, held, slot_or, found}
+use Rattle.souper_graph.specs.Syntax.Spelling.{Scope, predecessors_if_block, entry_from, entry_of, position_of}
+use Rattle.souper_ir.specs.NamesView.{trailing_number, Slot, Holds, Keeps, held, slot_or, found}
 
 -- a position, and the number of predecessors of the block there
 abbrev pub Entry : Type 0
@@ -31,22 +31,22 @@ past : (k n : ℕ) → suc k + n ≡ k + suc n
 past k n = omega arith
 
 -- the entry of a name, after one more assignment
-pub entry_push : (k : ℕ) (ss : Scope) (a : PlainAssignment) (n : List ℕ) → or_else (entry_from k ss n) (if bytes_eq a.name n then Some (k + length ss, ways_of a.value) else None) ≡ entry_from k (ss ++ assigned a ∷ []) n
-entry_push k [] a n = ap (λ (i : ℕ). if bytes_eq a.name n then Some (i, ways_of a.value) else None) (let e : k + 0 ≡ k = omega arith in e)
+pub entry_push : (k : ℕ) (ss : Scope) (a : PlainAssignment) (n : List ℕ) → or_else (entry_from k ss n) (if bytes_eq a.name n then Some (k + length ss, predecessors_if_block a.value) else None) ≡ entry_from k (ss ++ assigned a ∷ []) n
+entry_push k [] a n = ap (λ (i : ℕ). if bytes_eq a.name n then Some (i, predecessors_if_block a.value) else None) (let e : k + 0 ≡ k = omega arith in e)
 entry_push k (assigned b ∷ ss) a n =
-    found_or (bytes_eq b.name n) (k, ways_of b.value) (entry_from (suc k) ss n) (if bytes_eq a.name n then Some (k + suc (length ss), ways_of a.value) else None) (entry_from (suc k) (ss ++ assigned a ∷ []) n)
-    (subst (λ (i : ℕ). or_else (entry_from (suc k) ss n) (if bytes_eq a.name n then Some (i, ways_of a.value) else None) ≡ entry_from (suc k) (ss ++ assigned a ∷ []) n) (past k (length ss)) (entry_push (suc k) ss a n))
+    found_or (bytes_eq b.name n) (k, predecessors_if_block b.value) (entry_from (suc k) ss n) (if bytes_eq a.name n then Some (k + suc (length ss), predecessors_if_block a.value) else None) (entry_from (suc k) (ss ++ assigned a ∷ []) n)
+    (subst (λ (i : ℕ). or_else (entry_from (suc k) ss n) (if bytes_eq a.name n then Some (i, predecessors_if_block a.value) else None) ≡ entry_from (suc k) (ss ++ assigned a ∷ []) n) (past k (length ss)) (entry_push (suc k) ss a n))
 entry_push k (condition p ∷ ss) a n =
-    subst (λ (i : ℕ). or_else (entry_from (suc k) ss n) (if bytes_eq a.name n then Some (i, ways_of a.value) else None) ≡ entry_from (suc k) (ss ++ assigned a ∷ []) n) (past k (length ss)) (entry_push (suc k) ss a n)
+    subst (λ (i : ℕ). or_else (entry_from (suc k) ss n) (if bytes_eq a.name n then Some (i, predecessors_if_block a.value) else None) ≡ entry_from (suc k) (ss ++ assigned a ∷ []) n) (past k (length ss)) (entry_push (suc k) ss a n)
 entry_push k (block_condition p ∷ ss) a n =
-    subst (λ (i : ℕ). or_else (entry_from (suc k) ss n) (if bytes_eq a.name n then Some (i, ways_of a.value) else None) ≡ entry_from (suc k) (ss ++ assigned a ∷ []) n) (past k (length ss)) (entry_push (suc k) ss a n)
+    subst (λ (i : ℕ). or_else (entry_from (suc k) ss n) (if bytes_eq a.name n then Some (i, predecessors_if_block a.value) else None) ≡ entry_from (suc k) (ss ++ assigned a ∷ []) n) (past k (length ss)) (entry_push (suc k) ss a n)
 
 -- a path condition has no name
 pub entry_pass : (k : ℕ) (ss : Scope) (s : PlainStatement) (n : List ℕ) → is_condition s ≡ true → entry_from k ss n ≡ entry_from k (ss ++ s ∷ []) n
 entry_pass k [] (assigned a) n h = absurd cc
 entry_pass k [] (condition p) n h = refl
 entry_pass k [] (block_condition p) n h = refl
-entry_pass k (assigned b ∷ ss) s n h = ap (λ (o : Option Entry). if bytes_eq b.name n then Some (k, ways_of b.value) else o) (entry_pass (suc k) ss s n h)
+entry_pass k (assigned b ∷ ss) s n h = ap (λ (o : Option Entry). if bytes_eq b.name n then Some (k, predecessors_if_block b.value) else o) (entry_pass (suc k) ss s n h)
 entry_pass k (condition p ∷ ss) s n h = entry_pass (suc k) ss s n h
 entry_pass k (block_condition p ∷ ss) s n h = entry_pass (suc k) ss s n h
 
@@ -63,18 +63,18 @@ no_entry None h = refl
 no_entry (Some e) h = absurd cc
 
 -- the entry of a name, after one more assignment, of a new name
-entry_added : (ss : Scope) (a : PlainAssignment) (n : List ℕ) → position_of ss a.name ≡ None → (if bytes_eq a.name n then Some (length ss, ways_of a.value) else entry_of ss n) ≡ entry_of (ss ++ assigned a ∷ []) n
+entry_added : (ss : Scope) (a : PlainAssignment) (n : List ℕ) → position_of ss a.name ≡ None → (if bytes_eq a.name n then Some (length ss, predecessors_if_block a.value) else entry_of ss n) ≡ entry_of (ss ++ assigned a ∷ []) n
 entry_added ss a n new =
     let free : bytes_eq a.name n ≡ true → entry_of ss n ≡ None = λ e. subst (λ (x : List ℕ). entry_of ss x ≡ None) ((bytes_eq-Decides a.name n).0 e) (no_entry (entry_of ss a.name) new) in
-    only_if (bytes_eq a.name n) (entry_of ss n) (length ss, ways_of a.value) free
-    ∙ ap (λ (i : ℕ). or_else (entry_of ss n) (if bytes_eq a.name n then Some (i, ways_of a.value) else None)) (let e : length ss ≡ 0 + length ss = omega arith in e)
+    only_if (bytes_eq a.name n) (entry_of ss n) (length ss, predecessors_if_block a.value) free
+    ∙ ap (λ (i : ℕ). or_else (entry_of ss n) (if bytes_eq a.name n then Some (i, predecessors_if_block a.value) else None)) (let e : length ss ≡ 0 + length ss = omega arith in e)
     ∙ entry_push 0 ss a n
 
 -- the position of a name, after one more assignment, of a new name
 position_added : (s : Scope) (a : PlainAssignment) (n : List ℕ) → position_of s a.name ≡ None → (if bytes_eq a.name n then Some (length s) else position_of s n) ≡ position_of (s ++ assigned a ∷ []) n
 position_added s a n new = by_name (bytes_eq a.name n) ∙ ap (λ (o : Option Entry). option_map (λ (e : Entry). e.0) o) (entry_added s a n new)
   where
-    by_name : (b : Bool) → (if b then Some (length s) else position_of s n) ≡ option_map (λ (e : Entry). e.0) (if b then Some (length s, ways_of a.value) else entry_of s n)
+    by_name : (b : Bool) → (if b then Some (length s) else position_of s n) ≡ option_map (λ (e : Entry). e.0) (if b then Some (length s, predecessors_if_block a.value) else entry_of s n)
     by_name true = refl
     by_name false = refl
 
@@ -127,26 +127,26 @@ appended : (old new : List Slot) (n : List ℕ) (v k : ℕ) → slice_get old k 
 appended old new n v k missing within (inl e) = absurd (not_missing new k within (e ∙ missing))
 appended old new n v k missing within (inr e) = e.1
 
-append_adds : (old new : List Slot) (others : BTreeMap (Bor (List ℕ)) ℕ) (key : List ℕ) (v : ℕ) → length old ≤ last_number key → last_number key < length new → ((j : ℕ) → Keeps old new key v j)
+append_adds : (old new : List Slot) (others : BTreeMap (Bor (List ℕ)) ℕ) (key : List ℕ) (v : ℕ) → length old ≤ trailing_number key → trailing_number key < length new → ((j : ℕ) → Keeps old new key v j)
     → Adds (found old others) (found new others) key v
-append_adds old new others key v past within keeps n = by_number (last_number n == last_number key) refl
+append_adds old new others key v past within keeps n = by_number (trailing_number n == trailing_number key) refl
   where
     kept_slot : (x y : Option Slot) (o : Option ℕ) → (bytes_eq key n ≡ false) → (y ≡ x) ⊎ ((x ≡ None) × Holds y key v) → slot_or y o n ≡ (if bytes_eq key n then Some v else slot_or x o n)
     kept_slot x y o other (inl e) = rw (other, e) refl
     kept_slot x y o other (inr e) = slot_held y o key n v e.1 ∙ rw (e.0) refl
 
-    by_number : (b : Bool) → (last_number n == last_number key) ≡ b → found new others n ≡ (if bytes_eq key n then Some v else found old others n)
+    by_number : (b : Bool) → (trailing_number n == trailing_number key) ≡ b → found new others n ≡ (if bytes_eq key n then Some v else found old others n)
     by_number true e =
-        let same : last_number n ≡ last_number key = grind (arith, nat_tests) in
-        let missing : slice_get old (last_number n) ≡ None = slice_get_past old (last_number n) (rw same past) in
-        let here : Holds (slice_get new (last_number n)) key v = appended old new key v (last_number n) missing (rw same within) (keeps (last_number n)) in
-        slot_held (slice_get new (last_number n)) (held others n) key n v here ∙ rw missing refl
+        let same : trailing_number n ≡ trailing_number key = grind (arith, nat_tests) in
+        let missing : slice_get old (trailing_number n) ≡ None = slice_get_past old (trailing_number n) (rw same past) in
+        let here : Holds (slice_get new (trailing_number n)) key v = appended old new key v (trailing_number n) missing (rw same within) (keeps (trailing_number n)) in
+        slot_held (slice_get new (trailing_number n)) (held others n) key n v here ∙ rw missing refl
     by_number false e =
-        let apart : last_number n ≡ last_number key → ⊥ = λ same. grind (arith, nat_tests) in
-        let other : bytes_eq key n ≡ false = not_true (bytes_eq key n) (λ same. apart (ap last_number (sym ((bytes_eq-Decides key n).0 same)))) in
-        kept_slot (slice_get old (last_number n)) (slice_get new (last_number n)) (held others n) other (keeps (last_number n))
+        let apart : trailing_number n ≡ trailing_number key → ⊥ = λ same. grind (arith, nat_tests) in
+        let other : bytes_eq key n ≡ false = not_true (bytes_eq key n) (λ same. apart (ap trailing_number (sym ((bytes_eq-Decides key n).0 same)))) in
+        kept_slot (slice_get old (trailing_number n)) (slice_get new (trailing_number n)) (held others n) other (keeps (trailing_number n))
 
-pub append_defined : (old new : List Slot) (others : BTreeMap (Bor (List ℕ)) ℕ) (s : Scope) (a : PlainAssignment) (key : List ℕ) (v : ℕ) → length old ≤ last_number key → last_number key < length new → ((j : ℕ) → Keeps old new key v j)
+pub append_defined : (old new : List Slot) (others : BTreeMap (Bor (List ℕ)) ℕ) (s : Scope) (a : PlainAssignment) (key : List ℕ) (v : ℕ) → length old ≤ trailing_number key → trailing_number key < length new → ((j : ℕ) → Keeps old new key v j)
     → ((n : List ℕ) → found old others n ≡ position_of s n) → position_of s key ≡ None → a.name ≡ key → v ≡ length s → (n : List ℕ) → found new others n ≡ position_of (s ++ assigned a ∷ []) n
 append_defined old new others s a key v past within keeps are fresh named last =
     defined (found old others) (found new others) s a v (subst (λ (k : List ℕ). Adds (found old others) (found new others) k v) (sym named) (append_adds old new others key v past within keeps)) are (rw named fresh) last
@@ -170,6 +170,6 @@ pub insert_defined : (numbered : List Slot) (old new : BTreeMap (Bor (List ℕ))
     → ((n : List ℕ) → found numbered old n ≡ position_of s n) → position_of s key.now ≡ None → a.name ≡ key.now → v ≡ length s → (n : List ℕ) → found numbered new n ≡ position_of (s ++ assigned a ∷ []) n
 insert_defined numbered old new s a key v up are fresh named last =
     let adds : Adds (found numbered old) (found numbered new) key.now v =
-    λ n. inserted (slice_get numbered (last_number n)) (held old n) (held new n) v n (bytes_eq key.now n) (btree_map_updates_str key.now old new (Some v) up n)
+    λ n. inserted (slice_get numbered (trailing_number n)) (held old n) (held new n) v n (bytes_eq key.now n) (btree_map_updates_str key.now old new (Some v) up n)
     (λ same. subst (λ (x : List ℕ). found numbered old x ≡ None) ((bytes_eq-Decides key.now n).0 same) (are key.now ∙ fresh)) in
     defined (found numbered old) (found numbered new) s a v (subst (λ (k : List ℕ). Adds (found numbered old) (found numbered new) k v) (sym named) adds) are (rw named fresh) last

@@ -38,7 +38,7 @@ digits_model = numerals_by_value (λ ds. are_digits ds ≡ true) tells_are_digit
 are_digits_decides : (ds : List ℕ) → Decides (are_digits ds) (AllDigits 10 ds)
 are_digits_decides ds = (digits_model.to ds, digits_model.from ds)
 
-pub is_numeral_decides : (ds : List ℕ) → Decides (is_numeral ds) (IsNumeral 10 ds)
+is_numeral_decides : (ds : List ℕ) → Decides (is_numeral ds) (IsNumeral 10 ds)
 is_numeral_decides ds = Decides-and (nat_lt 0 (length ds)) (are_digits ds) (Decides-ltb 0 (length ds)) (are_digits_decides ds)
 
 pub is_within_decides : (z : ℤ) → Decides (is_within z) (FitsSigned w128 z)
@@ -79,7 +79,7 @@ is_width ds = is_numeral ds && (nat_lt 0 (digits_value 10 ds) && nat_lt (digits_
 abbrev width_in : List ℕ → Option ℕ
 width_in ds = if is_width ds then Some (digits_value 10 ds) else None
 
-pub no_width : (w : List ℕ) → ((rest : List ℕ) → w ≢ 105 ∷ rest) → None ≡ width_of w
+no_width : (w : List ℕ) → ((rest : List ℕ) → w ≢ 105 ∷ rest) → None ≡ width_of w
 no_width [] h = refl
 no_width (c ∷ ds) h = sym (none_if (((c == 105) && is_numeral ds) && (nat_lt 0 (digits_value 10 ds) && nat_lt (digits_value 10 ds) (2 ^ 16))) (digits_value 10 ds)
     (λ e. h ds (ap (λ (x : ℕ). x ∷ ds) (eqb-true c 105 (both (c == 105) (is_numeral ds) (both ((c == 105) && is_numeral ds) (nat_lt 0 (digits_value 10 ds) && nat_lt (digits_value 10 ds) (2 ^ 16)) e).0).0))))

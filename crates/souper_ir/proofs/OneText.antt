@@ -53,7 +53,7 @@ heads : {A : Type 0} (x y : A) → x ∷ [] ≡ y ∷ [] → x ≡ y
 heads x y e = cc
 
 -- equal texts are texts of the same graph
-pub same_text_graph : (k : ItemType) (a b : Item) → IsWellFormedOf k a → IsWellFormedOf k b → text_of a ≡ text_of b → SameGraph a b
+same_text_graph : (k : ItemType) (a b : Item) → IsWellFormedOf k a → IsWellFormedOf k b → text_of a ≡ text_of b → SameGraph a b
 same_text_graph k a b wa wb e =
     let texts : texts_of (b ∷ []) ≡ texts_of (a ∷ []) = ap (λ (t : List ℕ). (t ++ 10 ∷ []) ++ []) (sym e) in
     let read : TextSpells k (texts_of (a ∷ [])) (renumbered b ∷ []) = subst (λ (t : List ℕ). TextSpells k t (renumbered b ∷ [])) texts (texts-read-back k (b ∷ []) (wb, tt)) in

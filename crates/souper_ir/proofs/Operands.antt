@@ -51,7 +51,7 @@ further_more_suc (suc k) p q r xs x d e =
 pub further_more : (n : ℕ) (p q r : Parsing) (xs : List Operand) (x : Operand) → further_at n p ≡ Some (xs, q) → next_operand_at q ≡ Some (x, r) → further_at (n + 1) p ≡ Some (xs ++ x ∷ [], r)
 further_more n p q r xs x d e = rw add-one (further_more_suc n p q r xs x d e)
 
-pub further_stuck : (n k : ℕ) (p q : Parsing) (xs : List Operand) → n < k → further_at n p ≡ Some (xs, q) → next_operand_at q ≡ None → further_at k p ≡ None
+further_stuck : (n k : ℕ) (p q : Parsing) (xs : List Operand) → n < k → further_at n p ≡ Some (xs, q) → next_operand_at q ≡ None → further_at k p ≡ None
 further_stuck n zero p q xs l d e = absurd (omega arith)
 further_stuck zero (suc k) p q xs l d e =
     moved (λ (y : List Operand × Parsing). next_operand_at y.1 ≡ None → further_at (suc k) p ≡ None) ([], p) (xs, q) d (λ e. further_next k p ∙ rw e refl) e
@@ -66,7 +66,7 @@ further_stuck (suc n) (suc k) p q xs l d e =
 pub operands_one : (p q : Parsing) (x : Operand) → operand_at p ≡ Some (x, q) → operands_at 1 p ≡ Some (x ∷ [], q)
 operands_one p q x e = rw e refl
 
-pub operands_none : (k : ℕ) (p : Parsing) → 0 < k → operand_at p ≡ None → operands_at k p ≡ None
+operands_none : (k : ℕ) (p : Parsing) → 0 < k → operand_at p ≡ None → operands_at k p ≡ None
 operands_none zero p l e = absurd (omega arith)
 operands_none (suc k) p l e = rw e refl
 
@@ -81,7 +81,7 @@ operands_more_suc (suc k) p q r xs x l d e =
 pub operands_more : (n : ℕ) (p q r : Parsing) (xs : List Operand) (x : Operand) → 0 < n → operands_at n p ≡ Some (xs, q) → next_operand_at q ≡ Some (x, r) → operands_at (n + 1) p ≡ Some (xs ++ x ∷ [], r)
 operands_more n p q r xs x l d e = rw add-one (operands_more_suc n p q r xs x l d e)
 
-pub operands_stuck : (n k : ℕ) (p q : Parsing) (xs : List Operand) → 0 < n → n < k → operands_at n p ≡ Some (xs, q) → next_operand_at q ≡ None → operands_at k p ≡ None
+operands_stuck : (n k : ℕ) (p q : Parsing) (xs : List Operand) → 0 < n → n < k → operands_at n p ≡ Some (xs, q) → next_operand_at q ≡ None → operands_at k p ≡ None
 operands_stuck zero k p q xs l m d e = absurd (omega arith)
 operands_stuck (suc n) zero p q xs l m d e = absurd (omega arith)
 operands_stuck (suc n) (suc k) p q xs l m d e =

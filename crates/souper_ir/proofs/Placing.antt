@@ -122,7 +122,7 @@ padded_right numeral =
     rw (whole, none, blanks padding) (simp append-nil)
 
 -- the line and the column of a refusal that has no place
-pub decimal_one : decimal 1 ≡ 49 ∷ []
+decimal_one : decimal 1 ≡ 49 ∷ []
 unfolding digits
 decimal_one = refl
 

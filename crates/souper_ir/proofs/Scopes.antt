@@ -6,9 +6,14 @@ use Rattle.souper_graph.specs.Values.{PlainRhs, var, block, phi, reserved_inst, 
 use Rattle.souper_graph.specs.Uses.{Has, Use, value_use, block_use, position_of as position_used, is_condition, uses_of_rhs, uses_of}
 use Rattle.souper_graph.specs.Faults.{IsAssigned, IsBlockRhs, IsBlock, IsMet, AreMet}
 use Rattle.souper_graph.specs.WellFormed.{predecessors_of_rhs, predecessors_of, AgreesRhs, AgreesWithBlock, Closed}
-use Rattle.souper_graph.specs.Syntax.Spelling.{Scope, ways_of, entry_from, entry_of, position_of}
+use Rattle.souper_graph.specs.Syntax.Spelling.{Scope, predecessors_if_block, entry_from, entry_of, position_of}
 use Rattle.souper_graph.specs.declared.ast.statements.Statement.{Statement}
-use Rattle.souper_graph.specs.View.{view_statement}
+use Rattle.souper_graph.specs.declared.ast.statements.Statement.TheVariants.{Assignment as assignment_variant, Pc as pc_variant, BlockPc as block_pc_variant}
+use Rattle.souper_graph.specs.declared.ast.statements.AssignmentRhs.{AssignmentRhs}
+use Rattle.souper_graph.specs.declared.ast.statements.AssignmentRhs.TheVariants.{Var, Block as block_variant, Phi, ReservedInst, ReservedConst, Instruction}
+use Rattle.souper_graph.specs.declared.ast.statements.Block.{Block}
+use Rattle.souper_graph.specs.Lookup.{block_of_rhs, block_of, block_at as block_in}
+use Rattle.souper_graph.specs.View.{view_rhs, view_statement}
 use Rattle.std.specs.Prelude.{map}
 use Rattle.std.proofs.lemmas.Option.{slice_get-map}
 use Rattle.souper_graph.specs.Syntax.Optional.{◌>>=◌}
@@ -20,7 +25,7 @@ use Rattle.souper_ir.proofs.Names.{Entry, or_else, entry_push, entry_pass, no_en
 
 -- the assignment at a position is of a block with this number of predecessors, or of no block
 abbrev pub StandsWith : Scope → ℕ → Option ℕ → Type 0
-StandsWith s i ways = (a : PlainAssignment) × (slice_get s i ≡ Some (assigned a)) × (ways_of a.value ≡ ways)
+StandsWith s i predecessors = (a : PlainAssignment) × (slice_get s i ≡ Some (assigned a)) × (predecessors_if_block a.value ≡ predecessors)
 
 abbrev FoundFrom : ℕ → Scope → ℕ × Option ℕ → Type 0
 FoundFrom k s e = (j : ℕ) × (e.0 ≡ k + j) × StandsWith s j e.1
@@ -29,9 +34,9 @@ later : (k : ℕ) (x : PlainStatement) (s : Scope) (e : ℕ × Option ℕ) → F
 later k x s e r = (suc r.0, (let l = r.1 in omega arith), r.2)
 
 found_if : (b : Bool) (k : ℕ) (a : PlainAssignment) (s : Scope) (more : Option (ℕ × Option ℕ)) (e : ℕ × Option ℕ) → (more ≡ Some e → FoundFrom (suc k) s e)
-    → (if b then Some (k, ways_of a.value) else more) ≡ Some e → FoundFrom k (assigned a ∷ s) e
+    → (if b then Some (k, predecessors_if_block a.value) else more) ≡ Some e → FoundFrom k (assigned a ∷ s) e
 found_if true k a s more e behind h =
-    let same : ◌≡◌ {A = ℕ × Option ℕ} (k, ways_of a.value) e = some_is h in
+    let same : ◌≡◌ {A = ℕ × Option ℕ} (k, predecessors_if_block a.value) e = some_is h in
     let place : k ≡ e.0 = ap (λ (x : ℕ × Option ℕ). x.0) same in
     (0, (omega arith), (a, refl, ap (λ (x : ℕ × Option ℕ). x.1) same))
 found_if false k a s more e behind h = later k (assigned a) s e (behind h)
@@ -43,17 +48,17 @@ found_from k (condition p ∷ s) n e h = later k (condition p) s e (found_from (
 found_from k (block_condition p ∷ s) n e h = later k (block_condition p) s e (found_from (suc k) s n e h)
 
 -- what is at the entry of a name
-pub entry_stands : (s : Scope) (n : List ℕ) (i : ℕ) (ways : Option ℕ) → entry_of s n ≡ Some (i, ways) → StandsWith s i ways
-entry_stands s n i ways h =
-    let r = found_from 0 s n (i, ways) h in
+entry_stands : (s : Scope) (n : List ℕ) (i : ℕ) (predecessors : Option ℕ) → entry_of s n ≡ Some (i, predecessors) → StandsWith s i predecessors
+entry_stands s n i predecessors h =
+    let r = found_from 0 s n (i, predecessors) h in
     let same : r.0 ≡ i = (let l = r.1 in omega arith) in
-    subst (λ (x : ℕ). StandsWith s x ways) same r.2
+    subst (λ (x : ℕ). StandsWith s x predecessors) same r.2
 
-entry_at : (o : Option (ℕ × Option ℕ)) (i : ℕ) → option_map (λ (e : ℕ × Option ℕ). e.0) o ≡ Some i → (ways : Option ℕ) × (o ≡ Some (i, ways))
+entry_at : (o : Option (ℕ × Option ℕ)) (i : ℕ) → option_map (λ (e : ℕ × Option ℕ). e.0) o ≡ Some i → (predecessors : Option ℕ) × (o ≡ Some (i, predecessors))
 entry_at None i h = absurd cc
 entry_at (Some e) i h = (e.1, ap (λ (x : ℕ). Some (x, e.1)) (let same : e.0 ≡ i = some_is h in same))
 
-pub position_stands : (s : Scope) (n : List ℕ) (i : ℕ) → position_of s n ≡ Some i → (ways : Option ℕ) × StandsWith s i ways
+position_stands : (s : Scope) (n : List ℕ) (i : ℕ) → position_of s n ≡ Some i → (predecessors : Option ℕ) × StandsWith s i predecessors
 position_stands s n i h =
     let e = entry_at (entry_of s n) i h in
     (e.0, entry_stands s n i e.0 e.1)
@@ -84,12 +89,12 @@ named_push ss a named fresh p v e = by_place (get_push ss (assigned a) (assigned
     by_place : (slice_get ss p ≡ Some (assigned v)) ⊎ ((p ≡ length ss) × (assigned a ≡ assigned v)) → position_of (ss ++ assigned a ∷ []) v.name ≡ Some p
     by_place (inl h) =
         let found = entry_at (entry_of ss v.name) p (named p v h) in
-        let still : entry_of (ss ++ assigned a ∷ []) v.name ≡ Some (p, found.0) = sym (entry_push 0 ss a v.name) ∙ or_some (entry_of ss v.name) (p, found.0) (if bytes_eq a.name v.name then Some (0 + length ss, ways_of a.value) else None) found.1 in
+        let still : entry_of (ss ++ assigned a ∷ []) v.name ≡ Some (p, found.0) = sym (entry_push 0 ss a v.name) ∙ or_some (entry_of ss v.name) (p, found.0) (if bytes_eq a.name v.name then Some (0 + length ss, predecessors_if_block a.value) else None) found.1 in
         ap (λ (o : Option (ℕ × Option ℕ)). option_map (λ (e : ℕ × Option ℕ). e.0) o) still
     by_place (inr h) =
         let same : a.name ≡ v.name = (let e2 : a ≡ v = cc in ap (λ (x : PlainAssignment). x.name) e2) in
         let place : 0 + length ss ≡ p = (let l = h.0 in omega arith) in
-        let now : entry_of (ss ++ assigned a ∷ []) a.name ≡ Some (0 + length ss, ways_of a.value) =
+        let now : entry_of (ss ++ assigned a ∷ []) a.name ≡ Some (0 + length ss, predecessors_if_block a.value) =
         sym (entry_push 0 ss a a.name) ∙ rw (no_entry (entry_of ss a.name) fresh, (bytes_eq-Decides a.name a.name).1 refl) refl in
         subst (λ (x : List ℕ). position_of (ss ++ assigned a ∷ []) x ≡ Some p) same
         (ap (λ (o : Option (ℕ × Option ℕ)). option_map (λ (e : ℕ × Option ℕ). e.0) o) now ∙ ap Some place)
@@ -103,7 +108,7 @@ named_pass ss s named c p v e = by_place (get_push ss s (assigned v) p e)
 
 -- ---- what is there
 
-pub get_in : (s : Scope) (i : ℕ) (x : PlainStatement) → slice_get s i ≡ Some x → i < length s
+get_in : (s : Scope) (i : ℕ) (x : PlainStatement) → slice_get s i ≡ Some x → i < length s
 get_in [] i x e = absurd cc
 get_in (y ∷ s) zero x e = omega arith
 get_in (y ∷ s) (suc i) x e = let more = get_in s i x e in omega arith
@@ -132,27 +137,27 @@ value_reaches s n i e =
     let r = position_stands s n i e in
     (get_in s i (assigned r.1.0) r.1.1, subst IsAssigned (sym r.1.1) tt)
 
-ways_are : (v : PlainRhs) (n : ℕ) → ways_of v ≡ Some n → IsBlockRhs v × (n ≡ predecessors_of_rhs v)
-ways_are var n e = absurd cc
-ways_are (block b) n e = (tt, cc)
-ways_are (phi p) n e = absurd cc
-ways_are reserved_inst n e = absurd cc
-ways_are reserved_const n e = absurd cc
-ways_are (instruction i) n e = absurd cc
+predecessors_are : (v : PlainRhs) (n : ℕ) → predecessors_if_block v ≡ Some n → IsBlockRhs v × (n ≡ predecessors_of_rhs v)
+predecessors_are var n e = absurd cc
+predecessors_are (block b) n e = (tt, cc)
+predecessors_are (phi p) n e = absurd cc
+predecessors_are reserved_inst n e = absurd cc
+predecessors_are reserved_const n e = absurd cc
+predecessors_are (instruction i) n e = absurd cc
 
 -- the block of a name, and its number of predecessors
-pub block_reaches : (s : Scope) (n : List ℕ) (i ways : ℕ) → entry_of s n ≡ Some (i, Some ways) → Reaches s (block_use i) × (ways ≡ predecessors_of (slice_get s i))
-block_reaches s n i ways e =
-    let r = entry_stands s n i (Some ways) e in
-    let k = ways_are r.0.value ways r.2 in
+pub block_reaches : (s : Scope) (n : List ℕ) (i predecessors : ℕ) → entry_of s n ≡ Some (i, Some predecessors) → Reaches s (block_use i) × (predecessors ≡ predecessors_of (slice_get s i))
+block_reaches s n i predecessors e =
+    let r = entry_stands s n i (Some predecessors) e in
+    let k = predecessors_are r.0.value predecessors r.2 in
     ((get_in s i (assigned r.0) r.1, subst IsBlock (sym r.1) k.0), k.1 ∙ ap predecessors_of (sym r.1))
 
 -- the block at a position, with its number of predecessors
 abbrev pub block_at : List Statement → Option ℕ → Option (ℕ × ℕ)
 block_at statements None = None
-block_at statements (Some i) = option_map view_statement (slice_get statements i) >>= λ x. (predecessors_at x >>= λ ways. Some (i, ways))
+block_at statements (Some i) = option_map view_statement (slice_get statements i) >>= λ x. (predecessors_at x >>= λ predecessors. Some (i, predecessors))
 
-pub block_found : (statements : List Statement) (n : List ℕ) → block_at statements (position_of (map view_statement statements) n) ≡ block_entry (entry_of (map view_statement statements) n)
+block_found : (statements : List Statement) (n : List ℕ) → block_at statements (position_of (map view_statement statements) n) ≡ block_entry (entry_of (map view_statement statements) n)
 block_found statements n = by_entry (entry_of (map view_statement statements) n) refl
   where
     by_entry : (e : Option (ℕ × Option ℕ)) → entry_of (map view_statement statements) n ≡ e → block_at statements (option_map (λ (x : ℕ × Option ℕ). x.0) e) ≡ block_entry e
@@ -164,11 +169,26 @@ block_found statements n = by_entry (entry_of (map view_statement statements) n)
 pub block_named : (statements : List Statement) (scope : Scope) (n : List ℕ) (v : Option ℕ) → map view_statement statements ≡ scope → v ≡ position_of scope n → block_at statements v ≡ block_entry (entry_of scope n)
 block_named statements scope n v is e = rw e (subst (λ (s : Scope). block_at statements (position_of s n) ≡ block_entry (entry_of s n)) is (block_found statements n))
 
-pub no_block : (statements : List Statement) (i : ℕ) → slice_get statements i ≡ None → block_at statements (Some i) ≡ None
-no_block statements i e = rw e refl
+abbrev pub counted : ℕ → Option Block → Option (ℕ × ℕ)
+counted i None = None
+counted i (Some b) = Some (i, b.predecessors)
 
-pub block_is : (statements : List Statement) (i : ℕ) (x : Statement) (ways : Option ℕ) → slice_get statements i ≡ Some x → ways ≡ predecessors_at (view_statement x) → block_at statements (Some i) ≡ (ways >>= λ w. Some (i, w))
-block_is statements i x ways e f = rw (e, f) refl
+in_rhs : (i : ℕ) (r : AssignmentRhs) → (predecessors_if_block (view_rhs r) >>= λ n. counted i (Some (record { predecessors = n }))) ≡ counted i (block_of_rhs r)
+in_rhs i Var = refl
+in_rhs i (block_variant b) = refl
+in_rhs i (Phi p) = refl
+in_rhs i ReservedInst = refl
+in_rhs i ReservedConst = refl
+in_rhs i (Instruction x) = refl
+
+in_statement : (ss : List Statement) (i : ℕ) (o : Option Statement) → slice_get ss i ≡ o → block_at ss (Some i) ≡ counted i (o >>= block_of)
+in_statement ss i None e = rw e refl
+in_statement ss i (Some (assignment_variant a)) e = rw e (in_rhs i a.value)
+in_statement ss i (Some (pc_variant p)) e = rw e refl
+in_statement ss i (Some (block_pc_variant p)) e = rw e refl
+
+pub block_is : (statements : List Statement) (i : ℕ) (b : Option Block) → b ≡ block_in statements i → block_at statements (Some i) ≡ counted i b
+block_is statements i b e = rw e (in_statement statements i (slice_get statements i) refl)
 
 -- ---- as the scope grows
 

@@ -34,12 +34,8 @@ offset_kind (ParseCause r) o e = refl
 offset_kind (IoCause f) o e = absurd cc
 offset_kind MemoryCause o e = absurd cc
 
-pub offset_cause : (e : ParseError) (o : ℕ) → offset_of e ≡ Some o → cause_of e ≡ Some (refused o)
+offset_cause : (e : ParseError) (o : ℕ) → offset_of e ≡ Some o → cause_of e ≡ Some (refused o)
 offset_cause e o at = rw (offset_kind e.cause o at, at) refl
-
-some_bound : (e : ParseError) (p q : Parsing) (n : ℕ) → Fails e p q → p.len ≡ n → (o : Option ℕ) → offset_of e ≡ o → IfSome o (λ offset. offset ≤ n)
-some_bound e p q n f l None at = tt
-some_bound e p q n f l (Some o) at = let bound = f.within o (offset_cause e o at) in omega (arith, bound, f.len, l)
 
 some_and : (o : Option (List ℕ)) (P : List ℕ → Type 0) → IsSomeAnd o P → (x : List ℕ) × (o ≡ Some x) × P x
 some_and None P h = absurd h

@@ -19,8 +19,8 @@ number_from n [] = n
 number_from n (b ∷ bs) = number_from (with_digit n b) bs
 
 -- the number that a name ends in
-abbrev pub last_number : List ℕ → ℕ
-last_number name = number_from 0 name
+abbrev pub trailing_number : List ℕ → ℕ
+trailing_number name = number_from 0 name
 
 -- a name at a number, with its position
 abbrev pub Slot : Type 0
@@ -46,7 +46,7 @@ slot_or (Some x) o n = if bytes_eq x.0.now n then Some x.1 else o
 
 -- what the vector and the map have for a name
 abbrev pub found : List Slot → BTreeMap (Bor (List ℕ)) ℕ → List ℕ → Option ℕ
-found numbered others n = slot_or (slice_get numbered (last_number n)) (held others n) n
+found numbered others n = slot_or (slice_get numbered (trailing_number n)) (held others n) n
 
 -- each name of the scope is found with its position, and no other
 abbrev pub AreNames : Names → Scope → Type 0

@@ -15,7 +15,7 @@ use Rattle.souper_ir.specs.declared.parse.words.Opcode.{Opcode}
 use Rattle.souper_ir.specs.declared.parse.words.RhsWord.{RhsWord}
 use Rattle.souper_ir.specs.declared.parse.words.RhsWord.TheVariants.{Var as begins_var, Block as begins_block, Phi as begins_phi, ReservedInst as begins_reserved_inst, ReservedConst as begins_reserved_const, Instruction as begins_instruction}
 use Rattle.souper_ir.specs.Words.{opcode_of, rhs_word_of, operand_count, instruction_by}
-use Rattle.souper_graph.specs.Syntax.Spelling.{ways_of, entry_of, position_of}
+use Rattle.souper_graph.specs.Syntax.Spelling.{predecessors_if_block, entry_of, position_of}
 use Rattle.souper_ir.specs.Parsing.{Parsing}
 use Rattle.souper_graph.specs.Syntax.Optional.{◌>>=◌}
 use Rattle.souper_ir.specs.Reading.{take_at}
@@ -81,12 +81,6 @@ type_of_word w = width_of w >>= λ n. Some (record { width = n })
 
 abbrev pub type_at : Parsing → Option (Ty × Parsing)
 type_at p = accept (ident_by type_of_word) p
-
--- the type of a word
-unfoldable pub type_named_at : List ℕ → Parsing → Option (Ty × Parsing)
-type_named_at w p = do
-  t ← type_of_word w
-  Some (t, p)
 
 abbrev pub optional_type_by : Bool → Parsing → Option (Option Ty × Parsing)
 optional_type_by false p = Some (None, p)
@@ -164,13 +158,13 @@ block_at p = do
 
 -- the number of predecessors of a block
 abbrev pub predecessors_at : PlainStatement → Option ℕ
-predecessors_at (assigned a) = ways_of a.value
+predecessors_at (assigned a) = predecessors_if_block a.value
 predecessors_at (condition p) = None
 predecessors_at (block_condition p) = None
 
 -- the block of a name, with its number of predecessors
 abbrev pub block_entry : Option (ℕ × Option ℕ) → Option (ℕ × ℕ)
-block_entry e = e >>= λ x. (x.1 >>= λ ways. Some (x.0, ways))
+block_entry e = e >>= λ x. (x.1 >>= λ n. Some (x.0, n))
 
 unfoldable pub block_name_at : Parsing → Option ((ℕ × ℕ) × Parsing)
 block_name_at p = do
@@ -204,12 +198,6 @@ instruction_at p = do
 
 abbrev pub starts_instruction : Lexeme → Bool
 starts_instruction t = is_some (ident_by opcode_of t)
-
--- what a right side begins with, by its word
-unfoldable pub rhs_named_at : List ℕ → Parsing → Option (RhsWord × Parsing)
-rhs_named_at w p = do
-  k ← rhs_word_of w
-  Some (k, p)
 
 abbrev pub rhs_word_by : Bool → Parsing → Option (RhsWord × Parsing)
 rhs_word_by false p = None
@@ -350,15 +338,15 @@ pc_at p = do
   Some (record { x = x.0; y = y.0 }, y.1)
 
 -- the number, if it is that of a predecessor of the block
-abbrev pub way_of : ℕ → ℕ → Option ℕ
-way_of ways n = if nat_lt n ways then Some n else None
+abbrev pub predecessor_below : ℕ → ℕ → Option ℕ
+predecessor_below count n = if nat_lt n count then Some n else None
 
 unfoldable pub block_pc_at : Parsing → Option (BlockPc × Parsing)
 block_pc_at p = do
   k ← accept (word_of (codes "blockpc")) p
   b ← block_name_at k.1
   n ← accept (int_by (count_of (2 ^ 32))) b.1
-  w ← way_of b.0.1 n.0
+  w ← predecessor_below b.0.1 n.0
   x ← operand_at n.1
   y ← operand_at x.1
   Some (record { block = b.0.0; predecessor = w; x = x.0; y = y.0 }, y.1)

@@ -12,7 +12,7 @@ use Rattle.souper_graph.specs.Syntax.Numbers.{count_of}
 use Rattle.souper_ir.specs.declared.parse.words.Opcode.{Opcode}
 use Rattle.souper_ir.specs.declared.parse.words.RhsWord.{RhsWord}
 use Rattle.souper_ir.specs.declared.parse.words.RhsWord.TheVariants.{Var as begins_var, Block as begins_block, Phi as begins_phi, ReservedInst as begins_reserved_inst, ReservedConst as begins_reserved_const, Instruction as begins_instruction}
-use Rattle.souper_ir.specs.Words.{opcode_of, operand_count, instruction_by, other_word_of, instruction_or, rhs_word_of}
+use Rattle.souper_ir.specs.Words.{opcode_of, operand_count, instruction_by, rhs_keyword_of, instruction_or, rhs_word_of}
 use Rattle.souper_ir.specs.WordLaws.{opcode_is, opcode_makes}
 use Rattle.souper_graph.specs.Syntax.Spelling.{kinds, Scope, entry_of, further_spells, operands_spells, block_spells, phi_spells, instruction_spells, rhs_spells}
 use Rattle.souper_ir.specs.Continuation.{operands_continue, phi_continues, instruction_continues, rhs_continues}
@@ -56,13 +56,13 @@ block_first s b ts h = subst (λ (x : List Lexeme). Starts (is_word (codes "bloc
 
 -- ---- names of blocks
 
-ways_mean : (i : ℕ) (o : Option ℕ) (b : ℕ × ℕ) → (o >>= λ ways. Some (i, ways)) ≡ Some b → ◌≡◌ {A = ℕ × Option ℕ} (i, o) (b.0, Some b.1)
-ways_mean i None b e = absurd cc
-ways_mean i (Some n) b e = let same : ◌≡◌ {A = ℕ × ℕ} (i, n) b = some_is e in ap (λ (x : ℕ × ℕ). (x.0, Some x.1)) same
+predecessors_mean : (i : ℕ) (o : Option ℕ) (b : ℕ × ℕ) → (o >>= λ n. Some (i, n)) ≡ Some b → ◌≡◌ {A = ℕ × Option ℕ} (i, o) (b.0, Some b.1)
+predecessors_mean i None b e = absurd cc
+predecessors_mean i (Some n) b e = let same : ◌≡◌ {A = ℕ × ℕ} (i, n) b = some_is e in ap (λ (x : ℕ × ℕ). (x.0, Some x.1)) same
 
 entry_means : (o : Option (ℕ × Option ℕ)) (b : ℕ × ℕ) → block_entry o ≡ Some b → o ≡ Some (b.0, Some b.1)
 entry_means None b e = absurd cc
-entry_means (Some x) b e = ap Some (ways_mean x.0 x.1 b e)
+entry_means (Some x) b e = ap Some (predecessors_mean x.0 x.1 b e)
 
 entry_is : (o : Option (ℕ × Option ℕ)) (b : ℕ × ℕ) → o ≡ Some (b.0, Some b.1) → block_entry o ≡ Some b
 entry_is o b e = rw e refl
@@ -184,7 +184,7 @@ begins_if false w x k rest e here there = there e
 one_word : (w c : List ℕ) (x k : RhsWord) (rest : Option RhsWord) → (if bytes_eq w c then Some x else rest) ≡ Some k → (w ≡ c → Begins w x) → (rest ≡ Some k → Begins w k) → Begins w k
 one_word w c x k rest e h there = begins_if (bytes_eq w c) w x k rest e (λ q. h ((bytes_eq-Decides w c).0 q)) there
 
-other_begins : (w : List ℕ) (k : RhsWord) → other_word_of w ≡ Some k → Begins w k
+other_begins : (w : List ℕ) (k : RhsWord) → rhs_keyword_of w ≡ Some k → Begins w k
 other_begins w k e =
     one_word w (codes "var") begins_var k _ e (λ q. q) (λ e.
     one_word w (codes "block") begins_block k _ e (λ q. q) (λ e.
@@ -192,7 +192,7 @@ other_begins w k e =
     one_word w (codes "reservedinst") begins_reserved_inst k _ e (λ q. q) (λ e.
     one_word w (codes "reservedconst") begins_reserved_const k _ e (λ q. q) (λ e. absurd cc)))))
 
-begins_either : (o : Option Opcode) (w : List ℕ) (k : RhsWord) → opcode_of w ≡ o → instruction_or o (other_word_of w) ≡ Some k → Begins w k
+begins_either : (o : Option Opcode) (w : List ℕ) (k : RhsWord) → opcode_of w ≡ o → instruction_or o (rhs_keyword_of w) ≡ Some k → Begins w k
 begins_either (Some o) w k is e = subst (Begins w) (some_is e) is
 begins_either None w k is e = other_begins w k e
 
@@ -228,7 +228,7 @@ opcode_was o p q e = accepted_as (ident_by rhs_word_of) (ident_by opcode_of) (be
 opcode_begins : (o : Opcode) (p q : Parsing) → accept (ident_by opcode_of) p ≡ Some (o, q) → accept (ident_by rhs_word_of) p ≡ Some (begins_instruction o, q)
 opcode_begins o p q e = accepted_as (ident_by opcode_of) (ident_by rhs_word_of) o (begins_instruction o) p q (λ (t : Lexeme) (m : ident_by opcode_of t ≡ Some o).
     let w = ident_means opcode_of t o m in
-    subst (λ (x : Lexeme). ident_by rhs_word_of x ≡ Some (begins_instruction o)) (sym w.1) (ap (λ (x : Option Opcode). instruction_or x (other_word_of w.0)) w.2)) e
+    subst (λ (x : Lexeme). ident_by rhs_word_of x ≡ Some (begins_instruction o)) (sym w.1) (ap (λ (x : Option Opcode). instruction_or x (rhs_keyword_of w.0)) w.2)) e
 
 -- ---- right sides
 

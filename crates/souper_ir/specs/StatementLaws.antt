@@ -17,7 +17,7 @@ use Rattle.souper_ir.specs.Continuation.{optional_type_continues, operand_contin
 use Rattle.souper_ir.specs.Parsing.{Parsing}
 use Rattle.souper_graph.specs.Syntax.Optional.{◌>>=◌}
 use Rattle.souper_ir.specs.Grammar.{Free, Stops, Starts, peek_at}
-use Rattle.souper_ir.specs.NodeReadings.{accept, name_of, is_name, mark_of, is_mark, is_word, word_of, int_by, optional_type_at, operand_at, block_name_at, rhs_at, attribute_at, root_attribute_at, Definition, fresh, heading_at, definition_at, starts_statement, pc_at, way_of, block_pc_at, root_at, comma_by, optional_comma_at, pair_at, result_at}
+use Rattle.souper_ir.specs.NodeReadings.{accept, name_of, is_name, mark_of, is_mark, is_word, word_of, int_by, optional_type_at, operand_at, block_name_at, rhs_at, attribute_at, root_attribute_at, Definition, fresh, heading_at, definition_at, starts_statement, pc_at, predecessor_below, block_pc_at, root_at, comma_by, optional_comma_at, pair_at, result_at}
 use Rattle.souper_ir.specs.Peeks.{some_is, peeked}
 use Rattle.souper_ir.specs.Steps.{Takes, Takes-then, Takes-none, At, bind_some, accepted, accepts, peeks}
 use Rattle.souper_ir.specs.Readings.{Sound, Complete, one_alone}
@@ -164,17 +164,17 @@ pc_alone = one_alone pc_spells pc_continues pc_at pc_complete
 pub pc_first : (s : Scope) (v : Pc) (ts : List Lexeme) → pc_spells s v ts → Starts (is_word (codes "pc")) ts
 pc_first s v ts h = subst (λ (x : List Lexeme). Starts (is_word (codes "pc")) x) (sym h.1) (word_is (codes "pc"))
 
-way_if : (b : Bool) (n m : ℕ) → ◌≡◌ {A = Option ℕ} (if b then Some n else None) (Some m) → (b ≡ true) × (n ≡ m)
-way_if true n m e = (refl, some_is e)
-way_if false n m e = absurd cc
+below_if : (b : Bool) (n m : ℕ) → ◌≡◌ {A = Option ℕ} (if b then Some n else None) (Some m) → (b ≡ true) × (n ≡ m)
+below_if true n m e = (refl, some_is e)
+below_if false n m e = absurd cc
 
-way_means : (ways n m : ℕ) → way_of ways n ≡ Some m → (n < ways) × (n ≡ m)
-way_means ways n m e =
-    let k = way_if (nat_lt n ways) n m e in
-    ((Decides-ltb n ways).0 k.0, k.1)
+below_means : (count n m : ℕ) → predecessor_below count n ≡ Some m → (n < count) × (n ≡ m)
+below_means count n m e =
+    let k = below_if (nat_lt n count) n m e in
+    ((Decides-ltb n count).0 k.0, k.1)
 
-way_is : (ways n : ℕ) → n < ways → way_of ways n ≡ Some n
-way_is ways n h = rw ((Decides-ltb n ways).1 h) refl
+below_is : (count n : ℕ) → n < count → predecessor_below count n ≡ Some n
+below_is count n h = rw ((Decides-ltb n count).1 h) refl
 
 block_pc_tokens : (t u : Lexeme) (n w : List ℕ) (rest : List Lexeme) → t ≡ ident (codes "blockpc") → u ≡ int w → t ∷ val_name n ∷ u ∷ rest ≡ ident (codes "blockpc") ∷ val_name n ∷ int w ∷ rest
 block_pc_tokens t u n w rest d e = rw (d, e) refl
@@ -185,25 +185,25 @@ conditioned b w x y = Some (record { block = b; predecessor = w; x = x; y = y.0 
 pub block_pc_sound : Sound block_pc_spells block_pc_continues block_pc_at
 unfolding block_pc_at
 block_pc_sound p q v e =
-    let k = bind_some (accept (word_of (codes "blockpc")) p) (λ k. block_name_at k.1 >>= λ b. (accept (int_by (count_of (2 ^ 32))) b.1 >>= λ n. (way_of b.0.1 n.0 >>= λ w. (operand_at n.1 >>= λ x. (operand_at x.1 >>= λ y. conditioned b.0.0 w x.0 y))))) (v, q) e in
-    let b = bind_some (block_name_at k.0.1) (λ b. accept (int_by (count_of (2 ^ 32))) b.1 >>= λ n. (way_of b.0.1 n.0 >>= λ w. (operand_at n.1 >>= λ x. (operand_at x.1 >>= λ y. conditioned b.0.0 w x.0 y)))) (v, q) k.2 in
-    let n = bind_some (accept (int_by (count_of (2 ^ 32))) b.0.1) (λ n. way_of b.0.0.1 n.0 >>= λ w. (operand_at n.1 >>= λ x. (operand_at x.1 >>= λ y. conditioned b.0.0.0 w x.0 y))) (v, q) b.2 in
-    let w = bind_some (way_of b.0.0.1 n.0.0) (λ w. operand_at n.0.1 >>= λ x. (operand_at x.1 >>= λ y. conditioned b.0.0.0 w x.0 y)) (v, q) n.2 in
+    let k = bind_some (accept (word_of (codes "blockpc")) p) (λ k. block_name_at k.1 >>= λ b. (accept (int_by (count_of (2 ^ 32))) b.1 >>= λ n. (predecessor_below b.0.1 n.0 >>= λ w. (operand_at n.1 >>= λ x. (operand_at x.1 >>= λ y. conditioned b.0.0 w x.0 y))))) (v, q) e in
+    let b = bind_some (block_name_at k.0.1) (λ b. accept (int_by (count_of (2 ^ 32))) b.1 >>= λ n. (predecessor_below b.0.1 n.0 >>= λ w. (operand_at n.1 >>= λ x. (operand_at x.1 >>= λ y. conditioned b.0.0 w x.0 y)))) (v, q) k.2 in
+    let n = bind_some (accept (int_by (count_of (2 ^ 32))) b.0.1) (λ n. predecessor_below b.0.0.1 n.0 >>= λ w. (operand_at n.1 >>= λ x. (operand_at x.1 >>= λ y. conditioned b.0.0.0 w x.0 y))) (v, q) b.2 in
+    let w = bind_some (predecessor_below b.0.0.1 n.0.0) (λ w. operand_at n.0.1 >>= λ x. (operand_at x.1 >>= λ y. conditioned b.0.0.0 w x.0 y)) (v, q) n.2 in
     let x = bind_some (operand_at n.0.1) (λ x. operand_at x.1 >>= λ y. conditioned b.0.0.0 w.0 x.0 y) (v, q) w.2 in
     let y = bind_some (operand_at x.0.1) (λ y. conditioned b.0.0.0 w.0 x.0.0 y) (v, q) x.2 in
     let k2 = accepted (word_of (codes "blockpc")) p k.0.1 k.0.0 k.1 in
     let b2 = block_name_sound k.0.1 b.0.1 b.0.0 b.1 in
     let n2 = accepted (int_by (count_of (2 ^ 32))) b.0.1 n.0.1 n.0.0 n.1 in
     let m = int_means (count_of (2 ^ 32)) n2.0 n.0.0 n2.2 in
-    let way = way_means b.0.0.1 n.0.0 w.0 w.1 in
+    let below = below_means b.0.0.1 n.0.0 w.0 w.1 in
     let j = pair_sound n.0.1 x.0.1 y.0.1 x.0.0 y.0.0 x.1 y.1 in
     let head : Takes p b.0.1 (k2.0 ∷ val_name b2.0 ∷ []) = Takes-then p k.0.1 b.0.1 (k2.0 ∷ []) (val_name b2.0 ∷ []) k2.1 b2.1 in
     let front : Takes p n.0.1 (k2.0 ∷ val_name b2.0 ∷ n2.0 ∷ []) = Takes-then p b.0.1 n.0.1 (k2.0 ∷ val_name b2.0 ∷ []) (n2.0 ∷ []) head n2.1 in
     let whole : Takes p y.0.1 (k2.0 ∷ val_name b2.0 ∷ n2.0 ∷ j.0) = Takes-then p n.0.1 y.0.1 (k2.0 ∷ val_name b2.0 ∷ n2.0 ∷ []) j.0 front j.1 in
     let found : entry_of p.scope b2.0 ≡ Some (b.0.0.0, Some b.0.0.1) = subst (λ (z : Scope). entry_of z b2.0 ≡ Some (b.0.0.0, Some b.0.0.1)) (scope_is p k.0.1 (k2.0 ∷ []) k2.1) b2.2 in
     let pair : pair_spells p.scope x.0.0 y.0.0 j.0 = subst (λ (z : Scope). pair_spells z x.0.0 y.0.0 j.0) (scope_is p n.0.1 (k2.0 ∷ val_name b2.0 ∷ n2.0 ∷ []) front) j.2 in
-    let number : count_of (2 ^ 32) m.0 ≡ Some w.0 = subst (λ (z : ℕ). count_of (2 ^ 32) m.0 ≡ Some z) way.1 m.2 in
-    let within : w.0 < b.0.0.1 = subst (λ (z : ℕ). z < b.0.0.1) way.1 way.0 in
+    let number : count_of (2 ^ 32) m.0 ≡ Some w.0 = subst (λ (z : ℕ). count_of (2 ^ 32) m.0 ≡ Some z) below.1 m.2 in
+    let within : w.0 < b.0.0.1 = subst (λ (z : ℕ). z < b.0.0.1) below.1 below.0 in
     moved (WasRead block_pc_spells block_pc_continues p) (record { block = b.0.0.0; predecessor = w.0; x = x.0.0; y = y.0.0 }, y.0.1) (v, q) y.2 (
       k2.0 ∷ val_name b2.0 ∷ n2.0 ∷ j.0,
       whole,
@@ -221,10 +221,10 @@ block_pc_sound p q v e =
       j.3,
     )
 
-block_pc_is : (p k b n x q : Parsing) (ways : ℕ) (v : BlockPc) → accept (word_of (codes "blockpc")) p ≡ Some (tt, k) → block_name_at k ≡ Some ((v.block, ways), b) → accept (int_by (count_of (2 ^ 32))) b ≡ Some (v.predecessor, n) → way_of ways v.predecessor ≡ Some v.predecessor
+block_pc_is : (p k b n x q : Parsing) (count : ℕ) (v : BlockPc) → accept (word_of (codes "blockpc")) p ≡ Some (tt, k) → block_name_at k ≡ Some ((v.block, count), b) → accept (int_by (count_of (2 ^ 32))) b ≡ Some (v.predecessor, n) → predecessor_below count v.predecessor ≡ Some v.predecessor
     → operand_at n ≡ Some (v.x, x) → operand_at x ≡ Some (v.y, q) → block_pc_at p ≡ Some (v, q)
 unfolding block_pc_at
-block_pc_is p k b n x q ways v d e f g h i = rw (d, e, f, g, h, i) refl
+block_pc_is p k b n x q count v d e f g h i = rw (d, e, f, g, h, i) refl
 
 pub block_pc_complete : Complete block_pc_spells block_pc_continues block_pc_at
 block_pc_complete p v front rest at s st =
@@ -237,7 +237,7 @@ block_pc_complete p v front rest at s st =
     let pair : pair_spells n.0.scope v.x v.y s.rest = subst (λ (z : Scope). pair_spells z v.x v.y s.rest) (sym (same_scope p n.0 before)) s.operands_spelled in
     let last : Stops (operand_continues v.y) n.0.faulty rest = subst (λ (z : Bool). Stops (operand_continues v.y) z rest) (sym (same_fault p n.0 before)) st in
     let j = pair_complete n.0 v.x v.y s.rest rest n.2 pair last in
-    (j.1, block_pc_is p k.0 b.0 n.0 j.0 j.1 s.predecessors v k.1 b.1 n.1 (way_is s.predecessors v.predecessor s.within) j.2 j.3, j.4, state_then p n.0 j.1 before j.5)
+    (j.1, block_pc_is p k.0 b.0 n.0 j.0 j.1 s.predecessors v k.1 b.1 n.1 (below_is s.predecessors v.predecessor s.within) j.2 j.3, j.4, state_then p n.0 j.1 before j.5)
 
 pub block_pc_alone : (s : Scope) (v w : BlockPc) (a b c d : List Lexeme) → a ++ c ≡ b ++ d → block_pc_spells s v a → block_pc_spells s w b → Free (block_pc_continues v) c → Free (block_pc_continues w) d → (a ≡ b) × (v ≡ w)
 block_pc_alone = one_alone block_pc_spells block_pc_continues block_pc_at block_pc_complete

@@ -99,8 +99,8 @@ abbrev pub opcode_of : List ℕ → Option Opcode
 opcode_of w = opcode_of_length (length w) w
 
 -- the right side that is no instruction
-abbrev pub other_word_of : List ℕ → Option RhsWord
-other_word_of w =
+abbrev pub rhs_keyword_of : List ℕ → Option RhsWord
+rhs_keyword_of w =
     if bytes_eq w (codes "var") then Some begins_var else (
     if bytes_eq w (codes "block") then Some begins_block else (
     if bytes_eq w (codes "phi") then Some begins_phi else (
@@ -113,7 +113,7 @@ instruction_or None other = other
 
 -- the right side that a word begins
 abbrev pub rhs_word_of : List ℕ → Option RhsWord
-rhs_word_of w = instruction_or (opcode_of w) (other_word_of w)
+rhs_word_of w = instruction_or (opcode_of w) (rhs_keyword_of w)
 
 -- an instruction by its operands, if they are as many as it takes
 pub data Shape : Type 0 where

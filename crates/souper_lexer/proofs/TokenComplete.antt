@@ -140,7 +140,7 @@ solid open_bracket rest is = solid_from 91 rest (omega arith) (omega arith) (ome
 white_small : (c : ℕ) → is_whitespace c ≡ true → c < 55296
 white_small c h = grind (arith, nat_tests)
 
-pub chars_first : (c : ℕ) (rest : List ℕ) → IsScalar c → chars (encode_utf8 c ++ rest) ≡ c ∷ chars rest
+chars_first : (c : ℕ) (rest : List ℕ) → IsScalar c → chars (encode_utf8 c ++ rest) ≡ c ∷ chars rest
 chars_first c rest is =
     chars-append (encode_utf8 c) rest (IsUtf8-encode c is)
     ∙ ap (λ l. l ++ chars rest) (ap chars (sym (append-nil (encode_utf8 c))) ∙ chars-encodes (c ∷ []) (ap (λ b. b && true) is))
@@ -155,7 +155,7 @@ past_white c rest white =
     sym (gap_past_space (encode_utf8 c ++ rest) (len_utf8 c) (sym n) (omega (arith, (len_utf8_bounds c).0)))
     ∙ ap after_gap (drop_at (encode_utf8 c) rest (len_utf8 c) (length-encode c))
 
-pub past_remark : (s rest : List ℕ) → IsOneLine s → after_from remark (s ++ 10 ∷ rest) ≡ after_gap rest
+past_remark : (s rest : List ℕ) → IsOneLine s → after_from remark (s ++ 10 ∷ rest) ≡ after_gap rest
 past_remark [] rest one = remark_newline rest
 past_remark (c ∷ s) rest one = remark_cons c (s ++ 10 ∷ rest) one.0 ∙ past_remark s rest one.1
 
@@ -171,7 +171,7 @@ past_pieces (comment s ∷ ps) body all =
     ∙ past_remark s (flat_map piece_text ps ++ body) all.0
     ∙ past_pieces ps body all.1
 
-pub past_gap : (gap body : List ℕ) → IsGap gap → after_gap (gap ++ body) ≡ after_gap body
+past_gap : (gap body : List ℕ) → IsGap gap → after_gap (gap ++ body) ≡ after_gap body
 past_gap gap body is = ap (λ l. after_gap (l ++ body)) is.2 ∙ past_pieces is.0 body is.1
 
 remark_to_end : (s : List ℕ) → IsOneLine s → after_from remark s ≡ []
@@ -185,7 +185,7 @@ last_comment_ends [] is = refl
 last_comment_ends (c ∷ s) is = sym (gap_past_remark (c ∷ s) (omega arith) is.0) ∙ remark_to_end s is.1
 
 -- what is there is what is read
-pub next_complete : (gap : List ℕ) (t : Lexeme) (rest bs : List ℕ) → Stands gap t rest bs → after_gap bs ≡ spelling t ++ rest
+next_complete : (gap : List ℕ) (t : Lexeme) (rest bs : List ℕ) → Stands gap t rest bs → after_gap bs ≡ spelling t ++ rest
 next_complete gap t rest bs h = ap after_gap h.text ∙ past_gap gap (spelling t ++ rest) h.is_gap ∙ solid t rest h.is_token
 
 pub next_found : (gap : List ℕ) (t : Lexeme) (rest bs : List ℕ) → Stands gap t rest bs → next_of bs ≡ found t rest

@@ -34,7 +34,7 @@ all_front_cons : (p : ℕ → Bool) (x : ℕ) (xs : List ℕ) (b : Bool) → p x
 all_front_cons p x xs true h all = let e : 1 + prefix_len p xs ≡ suc (prefix_len p xs) = omega arith in subst (λ n. AllAre p (take n (x ∷ xs))) (sym e) (h, all)
 all_front_cons p x xs false h all = tt
 
-pub all_front : (p : ℕ → Bool) (bs : List ℕ) → AllAre p (take (prefix_len p bs) bs)
+all_front : (p : ℕ → Bool) (bs : List ℕ) → AllAre p (take (prefix_len p bs) bs)
 all_front p [] = tt
 all_front p (x ∷ xs) = all_front_cons p x xs (p x) refl (all_front p xs)
 
@@ -42,7 +42,7 @@ stops_front_cons : (p : ℕ → Bool) (x : ℕ) (xs : List ℕ) (b : Bool) → p
 stops_front_cons p x xs true h over = let e : 1 + prefix_len p xs ≡ suc (prefix_len p xs) = omega arith in subst (λ n. Stops p (drop n (x ∷ xs))) (sym e) over
 stops_front_cons p x xs false h over = h
 
-pub stops_front : (p : ℕ → Bool) (bs : List ℕ) → Stops p (drop (prefix_len p bs) bs)
+stops_front : (p : ℕ → Bool) (bs : List ℕ) → Stops p (drop (prefix_len p bs) bs)
 stops_front p [] = tt
 stops_front p (x ∷ xs) = stops_front_cons p x xs (p x) refl (stops_front p xs)
 

@@ -15,7 +15,7 @@ chars_ascii b bs small =
     let ascii = IsAscii-cons b [] small IsAscii-nil in
     chars-append (b ∷ []) bs (IsUtf8-from_ascii (b ∷ []) ascii) ∙ ap (λ l. l ++ chars bs) (chars-IsAscii (b ∷ []) ascii)
 
-pub space_len_ascii : (b : ℕ) (bs : List ℕ) → b < 128 → space_len (b ∷ bs) ≡ (if is_whitespace b then 1 else 0)
+space_len_ascii : (b : ℕ) (bs : List ℕ) → b < 128 → space_len (b ∷ bs) ≡ (if is_whitespace b then 1 else 0)
 unfolding space_len
 space_len_ascii b bs small = ap first_space (chars_ascii b bs small) ∙ grind (arith, nat_tests)
 
@@ -36,7 +36,7 @@ pub gap_other : (b : ℕ) (bs : List ℕ) → space_len (b ∷ bs) ≡ 0 → aft
 unfolding after_from
 gap_other b bs e = rw (e, after_from) refl
 
-pub gap_white : (b : ℕ) (bs : List ℕ) → b < 128 → is_whitespace b ≡ true → after_gap (b ∷ bs) ≡ after_gap bs
+gap_white : (b : ℕ) (bs : List ℕ) → b < 128 → is_whitespace b ≡ true → after_gap (b ∷ bs) ≡ after_gap bs
 gap_white b bs small white = gap_by b bs 0 (space_len_ascii b bs small ∙ ap (λ t. cond t 1 0) white)
 
 pub remark_newline : (bs : List ℕ) → after_from remark (10 ∷ bs) ≡ after_gap bs

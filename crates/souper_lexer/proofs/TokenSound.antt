@@ -146,7 +146,7 @@ parted k [] l utf8 = parted_none [] (after_gap []) (gap_nil [] refl) utf8
 parted zero (c ∷ bs) l utf8 = absurd (omega arith)
 parted (suc k) (c ∷ bs) l utf8 = parted_by c bs (space_len (c ∷ bs)) refl utf8 (λ rest h u. parted k rest (omega arith) u)
 
-pub gap_parted : (bs : List ℕ) → IsUtf8 bs → Parted bs (after_gap bs)
+gap_parted : (bs : List ℕ) → IsUtf8 bs → Parted bs (after_gap bs)
 gap_parted bs utf8 = parted (length bs) bs (omega arith) utf8
 
 -- the bytes of a token are ASCII, so text follows it

@@ -18,11 +18,11 @@ after_from-le (inside zero) (b ∷ bs) = le_step b (space_len (b ∷ bs)) bs (λ
 after_from-le (inside (suc k)) (b ∷ bs) = let h = after_from-le (inside k) bs in omega arith
 after_from-le remark (b ∷ bs) = let h = after_from-le (inside 0) bs in let r = after_from-le remark bs in if_both (λ (l : List ℕ). length l ≤ suc (length bs)) (b == 10) _ _ (λ _. omega arith) (λ _. omega arith)
 
-pub gap_le : (bs : List ℕ) → length (after_gap bs) ≤ length bs
+gap_le : (bs : List ℕ) → length (after_gap bs) ≤ length bs
 gap_le bs = after_from-le (inside 0) bs
 
 -- a found token takes at least a byte
-pub found_length : (bs : List ℕ) (t : Lexeme) (rest : List ℕ) → next_of bs ≡ found t rest → length (spelling t) + length rest ≡ length (after_gap bs)
+found_length : (bs : List ℕ) (t : Lexeme) (rest : List ℕ) → next_of bs ≡ found t rest → length (spelling t) + length rest ≡ length (after_gap bs)
 found_length bs t rest e = let h = token_sound (after_gap bs) t rest e in sym (ap length h.text ∙ length-append (spelling t) rest)
 
 pub found_shorter : (bs : List ℕ) (t : Lexeme) (rest : List ℕ) → next_of bs ≡ found t rest → length rest < length bs
@@ -63,7 +63,7 @@ pub lexed_ends : (n : ℕ) (bs : List ℕ) → next_of bs ≡ ends → lexed_of 
 unfolding lexed_of
 lexed_ends n bs e = within_ends (length bs) n bs e
 
-pub lexed_faulty : (n : ℕ) (bs : List ℕ) → next_of bs ≡ faulty → lexed_of n bs ≡ record { tokens = []; fault = true; len = n + length bs }
+lexed_faulty : (n : ℕ) (bs : List ℕ) → next_of bs ≡ faulty → lexed_of n bs ≡ record { tokens = []; fault = true; len = n + length bs }
 unfolding lexed_of
 lexed_faulty n bs e = within_faulty (length bs) n bs e
 

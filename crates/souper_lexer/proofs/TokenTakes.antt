@@ -11,10 +11,10 @@ use Rattle.souper_lexer.proofs.TokenGap.{gap_stops_above}
 use Rattle.souper_lexer.proofs.TokenSteps.{yields_token}
 
 -- the byte of a mark is neither of a gap nor of a wider character
-pub mark_above : (c : ℕ) (t : Lexeme) → mark_of c ≡ Some t → 13 < c
+mark_above : (c : ℕ) (t : Lexeme) → mark_of c ≡ Some t → 13 < c
 mark_above c t h = grind (arith, nat_tests)
 
-pub mark_ascii : (c : ℕ) (t : Lexeme) → mark_of c ≡ Some t → c < 128
+mark_ascii : (c : ℕ) (t : Lexeme) → mark_of c ≡ Some t → c < 128
 mark_ascii c t h = grind (arith, nat_tests)
 
 mark_not_space : (c : ℕ) (t : Lexeme) → mark_of c ≡ Some t → c ≢ 32

@@ -12,14 +12,14 @@ use Rattle.souper_lexer.specs.declared.Class.{Class}
 use Rattle.souper_lexer.specs.declared.Class.TheVariants as classes
 
 -- a text may be cut after its longest prefix of ASCII bytes that pass
-pub boundary_after_front : (p : ℕ → Bool) → ((b : ℕ) → p b ≡ true → b < 128) → (bs : List ℕ) → IsUtf8 bs → IsCharBoundary bs (prefix_len p bs)
+boundary_after_front : (p : ℕ → Bool) → ((b : ℕ) → p b ≡ true → b < 128) → (bs : List ℕ) → IsUtf8 bs → IsCharBoundary bs (prefix_len p bs)
 boundary_after_front p small bs utf8 = ⊎_elim
     (λ some. subst (IsCharBoundary bs) (let e : prefix_len p bs - 1 + 1 ≡ prefix_len p bs = omega arith in e)
     (IsCharBoundary-after_ascii bs (prefix_len p bs - 1) utf8 (omega (arith, prefix_len-le-length p bs)) (small _ (prefix_len_passes p bs (prefix_len p bs - 1) 0 (omega arith)))))
     (λ none. subst (IsCharBoundary bs) (let e : 0 ≡ prefix_len p bs = omega arith in e) (IsCharBoundary-start bs utf8))
     (cases_lt 0 (prefix_len p bs))
 
-pub is_in_ascii : (k : Class) (b : ℕ) → is_in k b ≡ true → b < 128
+is_in_ascii : (k : Class) (b : ℕ) → is_in k b ≡ true → b < 128
 is_in_ascii classes.Name b h = grind (arith, nat_tests)
 is_in_ascii classes.Digit b h = grind (arith, nat_tests)
 is_in_ascii classes.Bit b h = grind (arith, nat_tests)

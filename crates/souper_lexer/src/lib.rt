@@ -5,12 +5,12 @@
 //! end, or the [`Fault`] that the text has there.
 #![tactic(auto)]
 
-ghost use Rattle.std.specs.Prelude.{◌≡◌, ℕ, ◌+◌, ◌<◌, ◌≤◌, ◌^◌, List, ◌∷◌, length, drop, IsCharBoundary, IfErr, IfSome, IfNone, Some, slice_index, option_map, is_some, true, false};
+ghost use Rattle.std.specs.Prelude.{◌≡◌, ℕ, ◌+◌, ◌<◌, ◌≤◌, ◌^◌, List, length, drop, IsCharBoundary, IfErr, IfSome, IfNone, Some, slice_index, option_map, is_some, true, false};
 ghost use Rattle.std.specs.List.{prefix_len};
 ghost use Rattle.std.specs.Char.{is_ascii_alphabetic};
 ghost use Rattle.souper_graph.specs.Names.{is_name_char};
-ghost use Rattle.souper_graph.specs.Syntax.Tokens.{Lexeme, ident, int, val_name, begins_int, IsTextOf, AreTokensOf};
-ghost use Rattle.souper_lexer.specs.TokenReading.{inside, remark, space_len, after_from, after_gap, run_of, after_run, found, lexed_of, Lexed, bits_at, word_at, name_at, mark_of, longer_at, front_of};
+ghost use Rattle.souper_graph.specs.Syntax.Tokens.{Lexeme, ident, val_name, begins_int, IsTextOf, AreTokensOf};
+ghost use Rattle.souper_lexer.specs.TokenReading.{remark, space_len, after_from, after_gap, run_of, after_run, found, lexed_of, Lexed, bits_at, word_at, name_at, mark_of, longer_at, front_of};
 ghost use Rattle.souper_lexer.specs.TokenView.{lexeme_of, is_in, Reads, Takes, Yields};
 
 #[cfg(test)]

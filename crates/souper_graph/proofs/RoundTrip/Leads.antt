@@ -65,7 +65,7 @@ needed-more : (ss : List PlainStatement) (v w : List ℕ) {j : ℕ} → ((i : �
 needed-more ss v w {j = j} f (walked h) = f j h
 needed-more ss v w f (used n h) = used (needed-more ss v w f n) h
 
-pub walks-order-carried : (a b : Item) → WellFormed a → WellFormed b → (s : SameGraph a b) → (w : List ℕ) → ((i : ℕ) → Has w i → NeededIn a i) →
+walks-order-carried : (a b : Item) → WellFormed a → WellFormed b → (s : SameGraph a b) → (w : List ℕ) → ((i : ℕ) → Has w i → NeededIn a i) →
     order_of_walks b.statements (map s.to w) ≡ map s.to (order_of_walks a.statements w)
 walks-order-carried a b wa wb s w f =
     let inner : flat_map (unfolding_of b.statements) (map s.to w) ≡ map s.to (flat_map (unfolding_of a.statements) w) =

@@ -17,7 +17,7 @@ use Rattle.souper_graph.specs.Text.{name_at, text_of_statement, text_of_infer, t
 use Rattle.souper_graph.specs.Syntax.Tokens.{Lexeme, ident, val_name, known_bits, int, comma, colon, equals, open_paren, close_paren, open_bracket}
 use Rattle.souper_graph.proofs.RoundTrip.Parts.{Part, word, one_space, newline}
 
-abbrev pub parts_of_type : Ty → List Part
+abbrev parts_of_type : Ty → List Part
 parts_of_type t = word (ident (105 ∷ decimal t.width)) ∷ []
 
 abbrev pub parts_of_optional_type : Option Ty → List Part

@@ -13,7 +13,7 @@ pub data Part : Type 0 where
   one_space : Part
   newline : Part
 
-abbrev pub part_text : Part → List ℕ
+abbrev part_text : Part → List ℕ
 part_text (word t) = spelling t
 part_text one_space = 32 ∷ []
 part_text newline = 10 ∷ []
@@ -22,7 +22,7 @@ part_text newline = 10 ∷ []
 abbrev pub printed : List Part → List ℕ
 printed ps = flat_map part_text ps
 
-abbrev pub part_words : Part → List Lexeme
+abbrev part_words : Part → List Lexeme
 part_words (word t) = t ∷ []
 part_words one_space = []
 part_words newline = []

@@ -132,7 +132,7 @@ module _ (a : Item) (wa : WellFormed a) where
   unfolding canonical_parts
   parts-spell k t = item_spelled k (renumbered a) (lead_of a) renumbered-closed t renumbered-leads
 
-pub ending-kept : (k : ItemType) (f : ℕ → ℕ) (e : Ending) → IsEndingOf k e → IsEndingOf k (carried_ending f e)
+ending-kept : (k : ItemType) (f : ℕ → ℕ) (e : Ending) → IsEndingOf k e → IsEndingOf k (carried_ending f e)
 ending-kept left_hand_side f (inferred i) h = tt
 ending-kept left_hand_side f (resulting r) h = h
 ending-kept left_hand_side f (replaced i r) h = h
@@ -185,7 +185,7 @@ texts-read-back k items h =
     )
 
 -- the text of a well-formed item reads back
-pub reads-back : (k : ItemType) (a : Item) (text : List ℕ) → IsWellFormedOf k a → text ≡ text_of a → ReadsBack k a text
+reads-back : (k : ItemType) (a : Item) (text : List ℕ) → IsWellFormedOf k a → text ≡ text_of a → ReadsBack k a text
 reads-back k a text h e =
     subst (λ (bs : List ℕ). TextSpells k bs (renumbered a ∷ [])) (append-nil (text_of a ++ 10 ∷ []) ∙ ap (λ (l : List ℕ). l ++ 10 ∷ []) (sym e)) (texts-read-back k (a ∷ []) (h, tt))
 

@@ -18,7 +18,7 @@ use Rattle.souper_graph.specs.Uses.{Has, Use, value_use, block_use, position_of 
 use Rattle.souper_graph.specs.Text.{name_of, name_at}
 use Rattle.souper_graph.specs.Faults.{IsAssigned, IsBlockRhs, IsBlock, IsMet}
 use Rattle.souper_graph.specs.WellFormed.{predecessors_of_rhs, predecessors_of, predecessors_at, EachClosed}
-use Rattle.souper_graph.specs.Syntax.Spelling.{Scope, ways_of, entry_from, entry_of, position_of}
+use Rattle.souper_graph.specs.Syntax.Spelling.{Scope, predecessors_if_block, entry_from, entry_of, position_of}
 use Rattle.souper_graph.proofs.RoundTrip.Ready.{Known, IsFresh, ReadyStatement, AreReady}
 
 -- ---- look-up by name
@@ -48,12 +48,12 @@ some_entry k m w v e f = (λ i. Some (e i, f i))
 
 -- the first assignment of a name is found at its position
 entry_found : (k m : ℕ) (ss : Scope) (i : ℕ) (a : PlainAssignment) → m ≡ k + i → slice_get ss i ≡ Some (assigned a)
-    → ((j : ℕ) (b : PlainAssignment) → j < i → slice_get ss j ≡ Some (assigned b) → b.name ≡ a.name → ⊥) → entry_from k ss a.name ≡ Some (m, ways_of a.value)
+    → ((j : ℕ) (b : PlainAssignment) → j < i → slice_get ss j ≡ Some (assigned b) → b.name ≡ a.name → ⊥) → entry_from k ss a.name ≡ Some (m, predecessors_if_block a.value)
 entry_found k m [] i a e q h = absurd cc
 entry_found k m (assigned b ∷ ss) zero a e q h =
     let same : assigned b ≡ assigned a = cc in
     let one : b ≡ a = cc in
-    rw (same_name b.name a.name (ap (λ (x : PlainAssignment). x.name) one)) (some_entry k m (ways_of b.value) (ways_of a.value) (omega arith) (ap (λ (x : PlainAssignment). ways_of x.value) one))
+    rw (same_name b.name a.name (ap (λ (x : PlainAssignment). x.name) one)) (some_entry k m (predecessors_if_block b.value) (predecessors_if_block a.value) (omega arith) (ap (λ (x : PlainAssignment). predecessors_if_block x.value) one))
 entry_found k m (condition p ∷ ss) zero a e q h = absurd cc
 entry_found k m (block_condition p ∷ ss) zero a e q h = absurd cc
 entry_found k m (assigned b ∷ ss) (suc i) a e q h =
@@ -63,7 +63,7 @@ entry_found k m (block_condition p ∷ ss) (suc i) a e q h = entry_found (suc k)
 
 -- ---- lists in two parts
 
-pub get_left : {A : Type 0} (xs ys : List A) (i : ℕ) → i < length xs → slice_get (xs ++ ys) i ≡ slice_get xs i
+get_left : {A : Type 0} (xs ys : List A) (i : ℕ) → i < length xs → slice_get (xs ++ ys) i ≡ slice_get xs i
 get_left [] ys i l = absurd (omega arith)
 get_left (x ∷ xs) ys zero l = refl
 get_left (x ∷ xs) ys (suc i) l = get_left xs ys i (omega arith)
@@ -74,13 +74,13 @@ get_middle (x ∷ xs) ys y = get_middle xs ys y
 
 -- ---- what is known in a scope
 
-block_ways : (r : PlainRhs) → IsBlockRhs r → ways_of r ≡ Some (predecessors_of_rhs r)
-block_ways var h = absurd h
-block_ways (block b) h = refl
-block_ways (phi p) h = absurd h
-block_ways reserved_inst h = absurd h
-block_ways reserved_const h = absurd h
-block_ways (instruction i) h = absurd h
+block_predecessors : (r : PlainRhs) → IsBlockRhs r → predecessors_if_block r ≡ Some (predecessors_of_rhs r)
+block_predecessors var h = absurd h
+block_predecessors (block b) h = refl
+block_predecessors (phi p) h = absurd h
+block_predecessors reserved_inst h = absurd h
+block_predecessors reserved_const h = absurd h
+block_predecessors (instruction i) h = absurd h
 
 assigned_there : (o : Option PlainStatement) → IsAssigned o → (a : PlainAssignment) × (o ≡ Some (assigned a))
 assigned_there None h = absurd h
@@ -99,7 +99,7 @@ module _ (a : Item) (ec : EachClosed a) (s rest : List PlainStatement) (whole : 
   in_scope : (i : ℕ) → i < length s → slice_get a.statements i ≡ slice_get s i
   in_scope i l = ap (λ (x : List PlainStatement). slice_get x i) whole ∙ get_left s rest i l
 
-  found : (i : ℕ) (v : PlainAssignment) → i < length s → slice_get a.statements i ≡ Some (assigned v) → entry_of s v.name ≡ Some (i, ways_of v.value)
+  found : (i : ℕ) (v : PlainAssignment) → i < length s → slice_get a.statements i ≡ Some (assigned v) → entry_of s v.name ≡ Some (i, predecessors_if_block v.value)
   found i v l e =
       entry_found 0 i s i v (omega arith) (sym (in_scope i l) ∙ e) (λ j b below q same.
       let apart : j ≡ i = ec.named_apart j i b v (in_scope j (omega arith) ∙ q) e same in absurd (omega arith))
@@ -118,7 +118,7 @@ module _ (a : Item) (ec : EachClosed a) (s rest : List PlainStatement) (whole : 
       let v = block_there (slice_get a.statements i) h in
       let n = named i v.0 v.1 in
       let count : predecessors_at a.statements i ≡ predecessors_of_rhs v.0.value = ap predecessors_of v.1 in
-      (n.0, ap (entry_of s) n.1 ∙ found i v.0 l v.1 ∙ ap (λ (o : Option ℕ). Some (i, o)) (block_ways v.0.value v.2 ∙ ap (λ (k : ℕ). Some k) (sym count)))
+      (n.0, ap (entry_of s) n.1 ∙ found i v.0 l v.1 ∙ ap (λ (o : Option ℕ). Some (i, o)) (block_predecessors v.0.value v.2 ∙ ap (λ (k : ℕ). Some k) (sym count)))
 
   lacks : (p : ℕ) (b : PlainAssignment) → length s ≤ p → slice_get a.statements p ≡ Some (assigned b) → LacksName s b.name
   lacks p b l at j w q e =

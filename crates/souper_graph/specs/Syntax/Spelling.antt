@@ -23,18 +23,18 @@ abbrev pub Scope : Type 0
 Scope = List PlainStatement
 
 -- a block's number of predecessors; none for any other right side
-abbrev pub ways_of : PlainRhs → Option ℕ
-ways_of var = None
-ways_of (block b) = Some b.predecessors
-ways_of (phi p) = None
-ways_of reserved_inst = None
-ways_of reserved_const = None
-ways_of (instruction i) = None
+abbrev pub predecessors_if_block : PlainRhs → Option ℕ
+predecessors_if_block var = None
+predecessors_if_block (block b) = Some b.predecessors
+predecessors_if_block (phi p) = None
+predecessors_if_block reserved_inst = None
+predecessors_if_block reserved_const = None
+predecessors_if_block (instruction i) = None
 
 -- the position of the assignment of a name, and the number of predecessors of its block, if the first statement is at k
 abbrev pub entry_from : ℕ → Scope → List ℕ → Option (ℕ × Option ℕ)
 entry_from k [] n = None
-entry_from k (assigned a ∷ ss) n = if bytes_eq a.name n then Some (k, ways_of a.value) else entry_from (suc k) ss n
+entry_from k (assigned a ∷ ss) n = if bytes_eq a.name n then Some (k, predecessors_if_block a.value) else entry_from (suc k) ss n
 entry_from k (condition p ∷ ss) n = entry_from (suc k) ss n
 entry_from k (block_condition p ∷ ss) n = entry_from (suc k) ss n
 

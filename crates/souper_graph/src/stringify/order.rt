@@ -1,16 +1,16 @@
 //! The printed order of the statements of an item.
 
-ghost use Rattle.std.specs.Prelude.{◌≡◌, ℕ, ◌<◌, ◌≤◌, ◌++◌, ◌↔◌, length, map, reverse, slice_get, take, Some, [], IfOk, IfErr, OnOk, IsTrue};
+ghost use Rattle.std.specs.Prelude.{◌≡◌, ◌<◌, ◌++◌, ◌↔◌, map, reverse, slice_get, Some, [], IfOk, IfErr, OnOk, IsTrue};
 ghost use Rattle.souper_graph.specs.declared.stringify.errors.TextError.TheVariants.{OutOfMemory};
 ghost use Rattle.souper_graph.specs.declared.stringify.order.Entry.TheVariants.{Trace};
 ghost use Rattle.souper_graph.specs.declared.stringify.order.Target.TheVariants.{Condition};
 ghost use Rattle.souper_graph.specs.Values.{Item};
 ghost use Rattle.souper_graph.specs.View.{view_rhs, view_statement, view_left_hand_side, view_right_hand_side, view_replacement};
 ghost use Rattle.souper_graph.specs.Instructions.{operands_of};
-ghost use Rattle.souper_graph.specs.Uses.{Has, uses_of_operand, uses_of_operands, uses_of_rhs, uses_of, conditions_from, first_roots, last_roots, first_walks, Needed, NeededIn, UsesBelow};
-ghost use Rattle.souper_graph.specs.Order.{printed_order, lead_of, turns_of, Distinct, EachAfterItsUses};
-ghost use Rattle.souper_graph.specs.Faults.{IsAssigned, IsBlock, HasBadId, IsFaultOf};
-ghost use Rattle.souper_graph.specs.Walks.{position_of_target, target_of, IsMetTarget, IsFaultAt, IsWalkedBy, IsOrderOf};
+ghost use Rattle.souper_graph.specs.Uses.{uses_of_operand, uses_of_operands, uses_of_rhs, uses_of, conditions_from, first_roots, last_roots};
+ghost use Rattle.souper_graph.specs.Faults.{IsAssigned, IsBlock, IsFaultOf};
+ghost use Rattle.souper_graph.specs.Walks.{position_of_target, target_of, IsMetTarget, IsFaultAt, IsWalkedBy};
+ghost use Rattle.souper_graph.specs.PrintOrder.{IsPrintOrder};
 
 use crate::ast::{
     Arena, Assignment, AssignmentRhs, BlockId, Id, Instruction, LeftHandSide, Operand, Operands,
@@ -39,15 +39,7 @@ impl LeftHandSide {
     /// `OutOfMemory`.
     pub fn print_order(&self) -> Result<Order, TextError>
         ensures refused { IfErr result (λ error. IsFaultOf (view_left_hand_side self.now) error) }
-        ensures no_bad_id { OnOk result (¬ HasBadId (view_left_hand_side self.now)) }
-        ensures inside { IfOk result (λ order. (i : ℕ) → Has order.ids.items i → i < length (view_left_hand_side self.now).statements) }
-        ensures exact { IfOk result (λ order. (i : ℕ) → Has order.ids.items i ↔ NeededIn (view_left_hand_side self.now) i) }
-        ensures once { IfOk result (λ order. Distinct order.ids.items) }
-        ensures lead_is_all { IfOk result (λ order. order.lead ≡ length order.ids.items) }
-        ensures turns { IfOk result (λ order. order.turns ≡ turns_of (view_left_hand_side self.now) order.ids.items) }
-        ensures printed { UsesBelow (view_left_hand_side self.now) → IfOk result (λ order. order.ids.items ≡ printed_order (view_left_hand_side self.now)) }
-        ensures lead { UsesBelow (view_left_hand_side self.now) → IfOk result (λ order. order.lead ≡ lead_of (view_left_hand_side self.now)) }
-        ensures after { UsesBelow (view_left_hand_side self.now) → IfOk result (λ order. EachAfterItsUses (view_left_hand_side self.now).statements order.ids.items) }
+        ensures ordered { IfOk result (λ order. IsPrintOrder (view_left_hand_side self.now) order.ids.items order.lead order.turns) }
     {
         order_between(&self.statements, &[Operand::Value(self.infer.value)], &[])
     }
@@ -60,15 +52,7 @@ impl RightHandSide {
     /// `OutOfMemory`.
     pub fn print_order(&self) -> Result<Order, TextError>
         ensures refused { IfErr result (λ error. IsFaultOf (view_right_hand_side self.now) error) }
-        ensures no_bad_id { OnOk result (¬ HasBadId (view_right_hand_side self.now)) }
-        ensures inside { IfOk result (λ order. (i : ℕ) → Has order.ids.items i → i < length (view_right_hand_side self.now).statements) }
-        ensures exact { IfOk result (λ order. (i : ℕ) → Has order.ids.items i ↔ NeededIn (view_right_hand_side self.now) i) }
-        ensures once { IfOk result (λ order. Distinct order.ids.items) }
-        ensures lead_is_all { IfOk result (λ order. order.lead ≡ length order.ids.items) }
-        ensures turns { IfOk result (λ order. order.turns ≡ turns_of (view_right_hand_side self.now) order.ids.items) }
-        ensures printed { UsesBelow (view_right_hand_side self.now) → IfOk result (λ order. order.ids.items ≡ printed_order (view_right_hand_side self.now)) }
-        ensures lead { UsesBelow (view_right_hand_side self.now) → IfOk result (λ order. order.lead ≡ lead_of (view_right_hand_side self.now)) }
-        ensures after { UsesBelow (view_right_hand_side self.now) → IfOk result (λ order. EachAfterItsUses (view_right_hand_side self.now).statements order.ids.items) }
+        ensures ordered { IfOk result (λ order. IsPrintOrder (view_right_hand_side self.now) order.ids.items order.lead order.turns) }
     {
         order_between(&self.statements, &[self.result], &[])
     }
@@ -81,17 +65,7 @@ impl Replacement {
     /// `OutOfMemory`.
     pub fn print_order(&self) -> Result<Order, TextError>
         ensures refused { IfErr result (λ error. IsFaultOf (view_replacement self.now) error) }
-        ensures no_bad_id { OnOk result (¬ HasBadId (view_replacement self.now)) }
-        ensures inside { IfOk result (λ order. (i : ℕ) → Has order.ids.items i → i < length (view_replacement self.now).statements) }
-        ensures exact { IfOk result (λ order. (i : ℕ) → Has order.ids.items i ↔ NeededIn (view_replacement self.now) i) }
-        ensures once { IfOk result (λ order. Distinct order.ids.items) }
-        ensures lead_within { IfOk result (λ order. order.lead ≤ length order.ids.items) }
-        ensures lead_exact { IfOk result (λ order. (i : ℕ) → Has (take order.lead order.ids.items) i ↔ Needed (view_replacement self.now).statements (first_walks (view_replacement self.now)) i) }
-        ensures lead_is_all { last_roots (view_replacement self.now).ending ≡ [] → IfOk result (λ order. order.lead ≡ length order.ids.items) }
-        ensures turns { IfOk result (λ order. order.turns ≡ turns_of (view_replacement self.now) order.ids.items) }
-        ensures printed { UsesBelow (view_replacement self.now) → IfOk result (λ order. order.ids.items ≡ printed_order (view_replacement self.now)) }
-        ensures lead { UsesBelow (view_replacement self.now) → IfOk result (λ order. order.lead ≡ lead_of (view_replacement self.now)) }
-        ensures after { UsesBelow (view_replacement self.now) → IfOk result (λ order. EachAfterItsUses (view_replacement self.now).statements order.ids.items) }
+        ensures ordered { IfOk result (λ order. IsPrintOrder (view_replacement self.now) order.ids.items order.lead order.turns) }
     {
         match self {
             Replacement::LhsRhs {
@@ -149,7 +123,7 @@ fn order_between(
     last: &[Operand],
 ) -> Result<Order, TextError>
     ensures refused { (a : Item) → a.statements ≡ map view_statement statements.now → first_roots a.ending ≡ uses_of_operands first.now → last_roots a.ending ≡ uses_of_operands last.now → IfErr result (λ error. IsFaultOf a error) }
-    ensures ordered { (a : Item) → a.statements ≡ map view_statement statements.now → first_roots a.ending ≡ uses_of_operands first.now → last_roots a.ending ≡ uses_of_operands last.now → IfOk result (λ order. IsOrderOf a order.ids.items order.lead order.turns) }
+    ensures ordered { (a : Item) → a.statements ≡ map view_statement statements.now → first_roots a.ending ≡ uses_of_operands first.now → last_roots a.ending ≡ uses_of_operands last.now → IfOk result (λ order. IsPrintOrder a order.ids.items order.lead order.turns) }
 {
     let mut targets = Vec::with_capacity(statements.allocator(), 8)?;
     push_roots(&mut targets, first)?;
@@ -194,7 +168,7 @@ fn push_conditions(
 // Walks from each target in turn, and puts each statement after all that it uses, if that is possible.
 fn order_of(statements: &Arena<Statement>, walks: &Walks) -> Result<Order, TextError>
     ensures refused { (a : Item) → IsWalkedBy a (map view_statement statements.now) walks.now.targets.items walks.now.before → IfErr result (λ error. IsFaultOf a error) }
-    ensures ordered { (a : Item) → IsWalkedBy a (map view_statement statements.now) walks.now.targets.items walks.now.before → IfOk result (λ order. IsOrderOf a order.ids.items order.lead order.turns) }
+    ensures ordered { (a : Item) → IsWalkedBy a (map view_statement statements.now) walks.now.targets.items walks.now.before → IfOk result (λ order. IsPrintOrder a order.ids.items order.lead order.turns) }
 {
     let alloc = statements.allocator();
     let mut stack: Vec<Entry> = Vec::with_capacity(alloc, 16)?;

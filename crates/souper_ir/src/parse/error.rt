@@ -1,6 +1,6 @@
 //! The error of a parse.
 ghost use Rattle.std.specs.Prelude.{◌≡◌, ◌≢◌, ◌≤◌, ◌⊎◌, ◌↔◌, length, string_bytes, option_copied, IfOk, IfErr, IfSome, IsSome, Some};
-ghost use Rattle.std.specs.Fmt.{WritesOnOk, DisplaysOnOk, DisplaysStyledOnOk};
+ghost use Rattle.std.specs.Fmt.{DisplaysOnOk, DisplaysStyledOnOk};
 ghost use Rattle.souper_ir.specs.Places.{direct_text};
 ghost use Rattle.souper_ir.specs.Errors.{error_of, widened, kind_of, offset_of, fault_of, shown_error, shown_refusal_of, IsLocated, IsRefusalAt, ShowsFault};
 

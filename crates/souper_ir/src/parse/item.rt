@@ -82,7 +82,11 @@ fn enter_assignment(parser: &mut Parser<'_>) -> Read<()>
     ensures err { IfErr result (λ e. Refusal statement_spells statement_continues (error_of e) parser.old parser.new) }
 {
     let (name, ty) = heading(parser)?;
-    let value = rhs(parser)?;
+    // `?` would copy the value once more.
+    let value = match rhs(parser) {
+        Ok(value) => value,
+        Err(error) => return Err(error),
+    };
     let attributes = narrow(Vec::<Attribute>::parse(parser))?;
     match String::from_str(parser.alloc(), name) {
         Ok(text) => {

@@ -1,6 +1,6 @@
 //! The last lines of items: `infer`, `cand` and `result`.
 
-ghost use Rattle.std.specs.Prelude.{◌≡◌, codes, refl, IfOk, IfErr};
+ghost use Rattle.std.specs.Prelude.{codes, refl, IfOk, IfErr};
 ghost use Rattle.souper_graph.specs.Values.{PlainInfer, PlainCand};
 ghost use Rattle.souper_graph.specs.View.{view_infer, view_cand};
 ghost use Rattle.souper_graph.specs.Syntax.Spelling.{infer_spells, cand_spells};

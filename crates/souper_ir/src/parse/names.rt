@@ -2,7 +2,7 @@
 ghost use Rattle.std.specs.Prelude.{◌≡◌, ◌<◌, ◌^◌, ◌++◌, ◌∷◌, [], length, ℕ, None, OnOk};
 ghost use Rattle.souper_graph.specs.Values.{PlainAssignment, assigned};
 ghost use Rattle.souper_graph.specs.Syntax.Spelling.{Scope, position_of};
-ghost use Rattle.souper_ir.specs.NamesView.{last_number, Keeps};
+ghost use Rattle.souper_ir.specs.NamesView.{trailing_number, Keeps};
 
 use souper_graph::ast::{Id, ValueId};
 use std::alloc::{AllocError, Global};
@@ -20,8 +20,8 @@ pub(crate) struct Names<'a> {
 }
 
 // The number that a name ends in, modulo 2^32, or 0 if its last character is no digit.
-fn last_number(name: &str) -> usize
-    ensures number { result ≡ last_number name.now }
+fn trailing_number(name: &str) -> usize
+    ensures number { result ≡ trailing_number name.now }
     ensures below { result < 2 ^ 32 }
 {
     let mut number: u32 = 0;
@@ -58,7 +58,7 @@ impl<'a> Names<'a> {
     pub(crate) fn get(&self, name: &str) -> Option<ValueId>
         ensures { (s : Scope) → AreNames self.now s → result ≡ position_of s name.now }
     {
-        if let Some((other, value)) = self.numbered.get(last_number(name)) {
+        if let Some((other, value)) = self.numbered.get(trailing_number(name)) {
             if *other == name {
                 return Some(*value);
             }
@@ -85,7 +85,7 @@ impl<'a> Names<'a> {
     pub(crate) fn define(&mut self, name: &'a str, value: ValueId) -> Result<(), AllocError>
         ensures { OnOk result ((s : Scope) (a : PlainAssignment) → AreNames self.old s → position_of s name.now ≡ None → a.name ≡ name.now → value ≡ length s → AreNames self.new (s ++ assigned a ∷ [])) }
     {
-        let number = last_number(name);
+        let number = trailing_number(name);
         let in_reach = number.saturating_sub(REACH) <= Id::from(value).index();
         if in_reach && self.numbered.len() <= number {
             return self.append(name, value, number);

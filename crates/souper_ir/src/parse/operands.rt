@@ -5,7 +5,7 @@ ghost use Rattle.souper_ir.specs.Errors.{widened};
 ghost use Rattle.souper_ir.specs.Reading.{Gives};
 ghost use Rattle.souper_graph.specs.Syntax.Spelling.{type_spells, constant_spells, operand_spells};
 ghost use Rattle.souper_ir.specs.Continuation.{constant_continues, operand_continues};
-ghost use Rattle.souper_ir.specs.NodeReadings.{is_int, type_named_at, type_at, optional_type_at, constant_at, named_operand_at, operand_at, next_operand_at, further_at};
+ghost use Rattle.souper_ir.specs.NodeReadings.{is_int, type_at, optional_type_at, constant_at, named_operand_at, operand_at, next_operand_at, further_at};
 ghost use Rattle.souper_ir.specs.Readings.{one_alone};
 ghost use Rattle.souper_ir.specs.OperandLaws.{type_complete, constant_complete, constant_first, operand_complete};
 
@@ -20,28 +20,21 @@ use crate::parse::traits::{Parse, Peek};
 use souper_graph::ast::{Constant, Operand, Type};
 use souper_lexer::Token;
 
-// The type of a word that has been taken.
-#[tactic(auto, unfolding(crate::specs::NodeReadings::type_named_at))]
-fn type_named(parser: &mut Parser<'_>, word: &str) -> Read<Type>
-    requires { parser.old.failed ≡ None }
-    ensures { Gives (λ t. t) (widened result) (type_named_at word.now parser.old) parser.old parser.new }
-{
-    match width(word) {
-        Some(width) => Ok(Type { width }),
-        None => Err(parser.refuse(Message::ExpectedType)),
-    }
-}
-
-#[tactic(auto, unfolding(crate::specs::NodeReadings::accept, crate::specs::NodeReadings::type_named_at))]
+#[inline(always)]
+#[tactic(auto, unfolding(crate::specs::NodeReadings::accept))]
 pub(crate) fn type_alone(parser: &mut Parser<'_>) -> Read<Type>
     ensures { Gives (λ t. t) (widened result) (type_at parser.old) parser.old parser.new }
 {
-    if let Some(word) = parser.take_word() {
-        return type_named(parser, word);
-    }
-    match parser.token()? {
-        Token::Ident(word) => type_named(parser, word),
-        _ => Err(parser.refuse(Message::ExpectedType)),
+    let word = match parser.take_word() {
+        Some(word) => word,
+        None => match parser.token()? {
+            Token::Ident(word) => word,
+            _ => return Err(parser.refuse(Message::ExpectedType)),
+        },
+    };
+    match width(word) {
+        Some(width) => Ok(Type { width }),
+        None => Err(parser.refuse(Message::ExpectedType)),
     }
 }
 
@@ -50,15 +43,13 @@ pub(crate) fn type_alone(parser: &mut Parser<'_>) -> Read<Type>
 pub(crate) fn optional_type(parser: &mut Parser<'_>) -> Read<Option<Type>>
     ensures { Gives (λ t. t) (widened result) (optional_type_at parser.old) parser.old parser.new }
 {
-    if parser.take_mark(Mark::Colon) {
-        return Ok(Some(type_alone(parser)?));
-    }
-    if mark_comes(parser, Mark::Colon)? {
+    if !parser.take_mark(Mark::Colon) {
+        if !mark_comes(parser, Mark::Colon)? {
+            return Ok(None);
+        }
         punctuation(parser, Mark::Colon)?;
-        Ok(Some(type_alone(parser)?))
-    } else {
-        Ok(None)
     }
+    Ok(Some(type_alone(parser)?))
 }
 
 #[tactic(auto, unfolding(crate::specs::NodeReadings::constant_at))]

@@ -7,11 +7,10 @@ ghost use Rattle.souper_graph.specs.Syntax.Tokens.{Lexeme, ident, AreTokensOf, I
 ghost use Rattle.souper_lexer.specs.TokenView.{lexeme_of, Lexes};
 ghost use Rattle.souper_graph.specs.Uses.{is_condition};
 ghost use Rattle.souper_graph.specs.Syntax.Spelling.{entry_of, position_of};
-ghost use Rattle.souper_ir.specs.NodeReadings.{accept, block_entry, predecessors_at, is_any, is_mark, is_name, mark_of, name_of};
+ghost use Rattle.souper_ir.specs.NodeReadings.{accept, block_entry, is_any, is_mark, is_name, mark_of, name_of};
 ghost use Rattle.souper_ir.specs.Grammar.{peek_at};
 ghost use Rattle.souper_ir.specs.MarkView.{lexeme_of_mark};
-ghost use Rattle.souper_ir.specs.Parsing.{Cause, refused, no_memory};
-ghost use Rattle.souper_ir.specs.FailureView.{cause_of_failure};
+ghost use Rattle.souper_ir.specs.Parsing.{Cause, refused};
 ghost use Rattle.souper_ir.specs.Errors.{error_of, widened, shown_error};
 ghost use Rattle.souper_ir.specs.Places.{IsDirectRefusalText};
 ghost use Rattle.souper_ir.specs.Reading.{Fails, FailsForMemory, Gives, IsRead, cause_of, look_at, take_at};
@@ -20,7 +19,7 @@ use crate::parse::error::{ParseError, ReadError};
 use crate::parse::message::Message;
 use crate::parse::names::Names;
 use crate::parse::tokens::{Mark, byte_of};
-use souper_graph::ast::{Arena, Assignment, AssignmentRhs, BlockId, Id, Statement, ValueId};
+use souper_graph::ast::{Arena, Assignment, BlockId, Id, Statement, ValueId};
 use souper_lexer::{Fault, Lexer, Token};
 use std::alloc::{AllocError, Global};
 use std::marker::Model;
@@ -298,19 +297,6 @@ fn push(
     statements.alloc(statement)
 }
 
-// A block's number of predecessors; `None` for any other statement.
-fn predecessors(statement: &Statement) -> Option<u32>
-    ensures { result ≡ predecessors_at (view_statement statement.now) }
-{
-    match statement {
-        Statement::Assignment(assignment) => match &assignment.value {
-            AssignmentRhs::Block(block) => Some(block.predecessors),
-            _ => None,
-        },
-        _ => None,
-    }
-}
-
 impl<'a> Parser<'a> {
     /// The value of a name.
     #[inline(always)]
@@ -327,11 +313,13 @@ impl<'a> Parser<'a> {
         ensures { result ≡ block_entry (entry_of self.now.scope name.now) }
     {
         let value = self.value_named(name)?;
-        let predecessors = predecessors(self.statements.get(value.into())?)?;
-        Some((Id::from(value).into(), predecessors))
+        let id = Id::from(value).into();
+        let block = self.statements.block(id)?;
+        Some((id, block.predecessors))
     }
 
     /// Adds the definition of a name to the statements.
+    #[inline(always)]
     pub(crate) fn define(&mut self, name: &'a str, assignment: Assignment) -> Read<()>
         requires live { self.old.failed ≡ None }
         requires named { string_bytes assignment.name ≡ name.now }

@@ -1,5 +1,5 @@
 //! The place of a byte in a source, and the lines that show it.
-ghost use Rattle.std.specs.Prelude.{◌≡◌, ◌≤◌, length, option_copied, IfOk};
+ghost use Rattle.std.specs.Prelude.{◌≤◌, length, option_copied, IfOk};
 ghost use Rattle.std.specs.Fmt.{WritesOnOk};
 ghost use Rattle.souper_ir.specs.Places.{IsPlace};
 ghost use Rattle.souper_ir.specs.Errors.{IsPlaceIn, shown_at};

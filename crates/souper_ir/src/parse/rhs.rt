@@ -8,7 +8,7 @@ ghost use Rattle.souper_ir.specs.Reading.{Gives};
 ghost use Rattle.souper_ir.specs.Grammar.{peek_at};
 ghost use Rattle.souper_graph.specs.Syntax.Spelling.{block_spells, phi_spells, instruction_spells, rhs_spells};
 ghost use Rattle.souper_ir.specs.Continuation.{phi_continues, instruction_continues, rhs_continues};
-ghost use Rattle.souper_ir.specs.NodeReadings.{accept, ident_by, is_word, starts_instruction, block_after_word_at, block_at, block_name_at, phi_after_word_at, phi_at, instruction_at, instruction_of_at, rhs_named_at, rhs_word_at, rhs_at};
+ghost use Rattle.souper_ir.specs.NodeReadings.{accept, ident_by, is_word, starts_instruction, block_after_word_at, block_at, block_name_at, phi_after_word_at, phi_at, instruction_at, instruction_of_at, rhs_word_at, rhs_at};
 ghost use Rattle.souper_ir.specs.Words.{opcode_of};
 ghost use Rattle.souper_ir.specs.Readings.{one_alone};
 ghost use Rattle.souper_ir.specs.RhsLaws.{block_complete, block_first, phi_complete, phi_first, instruction_complete, instruction_first, rhs_complete};
@@ -17,7 +17,7 @@ use crate::parse::error::widen;
 use crate::parse::message::Message;
 use crate::parse::operands::{further, next_operand, operand};
 use crate::parse::parser::{Parser, Read, Result};
-use crate::parse::tokens::{keyword, token_comes, value_name, way_count, word_comes};
+use crate::parse::tokens::{keyword, predecessor_number, token_comes, value_name, word_comes};
 use crate::parse::traits::{Parse, Peek};
 use crate::parse::words::{Opcode, RhsWord, opcode_named, rhs_word_named};
 use souper_graph::ast::{AssignmentRhs, Block, BlockId, Instruction, Phi};
@@ -28,7 +28,7 @@ use souper_lexer::Token;
 fn block_after_word(parser: &mut Parser<'_>) -> Read<Block>
     ensures { Gives (λ b. b) (widened result) (block_after_word_at parser.old) parser.old parser.new }
 {
-    let predecessors = way_count(parser)?;
+    let predecessors = predecessor_number(parser)?;
     Ok(Block { predecessors })
 }
 
@@ -47,7 +47,7 @@ pub(crate) fn block_name<'a>(parser: &mut Parser<'a>) -> Read<(BlockId, u32, &'a
 {
     let name = value_name(parser)?;
     match parser.block_named(name) {
-        Some((block, ways)) => Ok((block, ways, name)),
+        Some((block, predecessors)) => Ok((block, predecessors, name)),
         None => Err(parser.refuse(Message::UnknownBlock(name))),
     }
 }
@@ -57,8 +57,8 @@ pub(crate) fn block_name<'a>(parser: &mut Parser<'a>) -> Read<(BlockId, u32, &'a
 fn phi_after_word(parser: &mut Parser<'_>) -> Read<Phi>
     ensures { Gives view_phi (widened result) (phi_after_word_at parser.old) parser.old parser.new }
 {
-    let (block, ways, _) = block_name(parser)?;
-    let values = further(parser, ways)?;
+    let (block, predecessors, _) = block_name(parser)?;
+    let values = further(parser, predecessors)?;
     Ok(Phi { block, values })
 }
 
@@ -112,32 +112,26 @@ pub(crate) fn instruction(parser: &mut Parser<'_>) -> Read<Instruction>
     instruction_of(parser, opcode)
 }
 
-// What a right side begins with, by its word, which has been taken.
-#[tactic(auto, unfolding(crate::specs::NodeReadings::rhs_named_at))]
-fn rhs_named(parser: &mut Parser<'_>, word: &str) -> Read<RhsWord>
-    requires { parser.old.failed ≡ None }
-    ensures { Gives (λ w. w) (widened result) (rhs_named_at word.now parser.old) parser.old parser.new }
-{
-    match rhs_word_named(word) {
-        Some(begun) => Ok(begun),
-        None => Err(parser.refuse(Message::ExpectedRhs)),
-    }
-}
-
 // The word of a right side. The end of the text is refused where the last token begins.
-#[tactic(auto, unfolding(crate::specs::NodeReadings::rhs_word_at, crate::specs::NodeReadings::rhs_named_at, crate::specs::NodeReadings::accept))]
+#[tactic(auto, unfolding(crate::specs::NodeReadings::rhs_word_at, crate::specs::NodeReadings::accept))]
 fn rhs_word(parser: &mut Parser<'_>) -> Read<RhsWord>
     ensures { Gives (λ w. w) (widened result) (rhs_word_at parser.old) parser.old parser.new }
 {
-    if let Some(word) = parser.take_word() {
-        return rhs_named(parser, word);
-    }
-    if !token_comes(parser)? {
-        return Err(parser.refuse(Message::ExpectedRhs));
-    }
-    match parser.token()? {
-        Token::Ident(word) => rhs_named(parser, word),
-        _ => Err(parser.refuse(Message::ExpectedRhs)),
+    let word = match parser.take_word() {
+        Some(word) => word,
+        None => {
+            if !token_comes(parser)? {
+                return Err(parser.refuse(Message::ExpectedRhs));
+            }
+            match parser.token()? {
+                Token::Ident(word) => word,
+                _ => return Err(parser.refuse(Message::ExpectedRhs)),
+            }
+        }
+    };
+    match rhs_word_named(word) {
+        Some(rhs_word) => Ok(rhs_word),
+        None => Err(parser.refuse(Message::ExpectedRhs)),
     }
 }
 
@@ -151,7 +145,11 @@ pub(crate) fn rhs(parser: &mut Parser<'_>) -> Read<AssignmentRhs>
         RhsWord::Phi => AssignmentRhs::Phi(phi_after_word(parser)?),
         RhsWord::ReservedInst => AssignmentRhs::ReservedInst,
         RhsWord::ReservedConst => AssignmentRhs::ReservedConst,
-        RhsWord::Instruction(opcode) => AssignmentRhs::Instruction(instruction_of(parser, opcode)?),
+        // `?` would copy the instruction once more.
+        RhsWord::Instruction(opcode) => match instruction_of(parser, opcode) {
+            Ok(instruction) => AssignmentRhs::Instruction(instruction),
+            Err(error) => return Err(error),
+        },
     };
     Ok(value)
 }

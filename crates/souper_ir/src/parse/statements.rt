@@ -1,11 +1,10 @@
 //! Statements: assignments and path conditions.
 
-ghost use Rattle.std.specs.Prelude.{◌≡◌, codes, refl, IfOk, IfErr};
-ghost use Rattle.std.specs.String.{string_bytes};
+ghost use Rattle.std.specs.Prelude.{codes, refl, IfOk, IfErr};
 ghost use Rattle.souper_graph.specs.declared.ast.statements.Pc.{Pc as pc_value};
 ghost use Rattle.souper_graph.specs.declared.ast.statements.BlockPc.{BlockPc as block_pc_value};
 ghost use Rattle.souper_graph.specs.Values.{PlainAssignment, PlainStatement};
-ghost use Rattle.souper_graph.specs.View.{view_rhs, view_assignment, view_statement};
+ghost use Rattle.souper_graph.specs.View.{view_assignment, view_statement};
 ghost use Rattle.souper_graph.specs.Syntax.Spelling.{assignment_spells, pc_spells, block_pc_spells, statement_spells};
 ghost use Rattle.souper_ir.specs.Errors.{error_of, widened};
 ghost use Rattle.souper_ir.specs.Continuation.{assignment_continues, pc_continues, block_pc_continues, statement_continues};
@@ -20,7 +19,7 @@ use crate::parse::operands::{operand, optional_type};
 use crate::parse::parser::{Parser, Read, Result};
 use crate::parse::rhs::{block_name, rhs};
 use crate::parse::tokens::{
-    Mark, keyword, punctuation, value_name, value_name_comes, way_count, word_comes,
+    Mark, keyword, predecessor_number, punctuation, value_name, value_name_comes, word_comes,
 };
 use crate::parse::traits::{Parse, Peek};
 use souper_graph::ast::{Assignment, AssignmentRhs, Attribute, BlockPc, Pc, Statement, Type};
@@ -74,9 +73,9 @@ pub(crate) fn block_pc(parser: &mut Parser<'_>) -> Read<BlockPc>
     ensures { Gives (λ p. p) (widened result) (block_pc_at parser.old) parser.old parser.new }
 {
     keyword(parser, "blockpc")?;
-    let (block, ways, name) = block_name(parser)?;
-    let predecessor = way_count(parser)?;
-    if predecessor >= ways {
+    let (block, predecessors, name) = block_name(parser)?;
+    let predecessor = predecessor_number(parser)?;
+    if predecessor >= predecessors {
         return Err(parser.refuse(Message::PredecessorOutOfRange(predecessor, name)));
     }
     let x = operand(parser)?;

@@ -69,6 +69,21 @@ fn is_token(mark: Mark, token: Token<'_>) -> bool
     }
 }
 
+// A mark, as a token of the lexer.
+#[inline(never)]
+#[tactic(auto, unfolding(crate::specs::NodeReadings::accept))]
+fn next_mark(parser: &mut Parser<'_>, mark: Mark) -> Read<()>
+    ensures { Gives (λ u. u) (widened result) (accept (mark_of (lexeme_of_mark mark)) parser.old) parser.old parser.new }
+{
+    let token = parser.token()?;
+    if is_token(mark, token) {
+        Ok(())
+    } else {
+        Err(parser.refuse(Message::ExpectedMark(mark)))
+    }
+}
+
+#[inline(always)]
 #[tactic(auto, unfolding(crate::specs::NodeReadings::accept))]
 pub(crate) fn punctuation(parser: &mut Parser<'_>, mark: Mark) -> Read<()>
     ensures { Gives (λ u. u) (widened result) (accept (mark_of (lexeme_of_mark mark)) parser.old) parser.old parser.new }
@@ -76,12 +91,7 @@ pub(crate) fn punctuation(parser: &mut Parser<'_>, mark: Mark) -> Read<()>
     if parser.take_mark(mark) {
         return Ok(());
     }
-    let token = parser.token()?;
-    if is_token(mark, token) {
-        Ok(())
-    } else {
-        Err(parser.refuse(Message::ExpectedMark(mark)))
-    }
+    next_mark(parser, mark)
 }
 
 #[tactic(auto, unfolding(crate::specs::Grammar::peek_at))]
@@ -130,7 +140,7 @@ pub(crate) fn integer(parser: &mut Parser<'_>) -> Read<i128>
 
 /// A block's number of predecessors, or the number of one of them.
 #[tactic(auto, unfolding(crate::specs::NodeReadings::accept))]
-pub(crate) fn way_count(parser: &mut Parser<'_>) -> Read<u32>
+pub(crate) fn predecessor_number(parser: &mut Parser<'_>) -> Read<u32>
     ensures { Gives (λ n. n) (widened result) (accept (int_by (count_of (2 ^ 32))) parser.old) parser.old parser.new }
 {
     match parser.token()? {

@@ -1,7 +1,7 @@
 //! What words mean: opcodes, and what right sides begin with.
 
 ghost use Rattle.std.specs.Prelude.{◌≡◌, ◌∷◌, [], Some};
-ghost use Rattle.souper_ir.specs.Words.{opcode_of, two_letters_of, three_letters_of, four_letters_of, five_letters_of, six_letters_of, longer_of, other_word_of, rhs_word_of, operand_count, instruction_by};
+ghost use Rattle.souper_ir.specs.Words.{opcode_of, two_letters_of, three_letters_of, four_letters_of, five_letters_of, six_letters_of, longer_of, rhs_keyword_of, rhs_word_of, operand_count, instruction_by};
 
 use souper_graph::ast::{Instruction, Operand};
 
@@ -203,8 +203,8 @@ pub(crate) enum RhsWord {
 }
 
 // The right side that a word begins, if it is no instruction.
-fn other_word(word: &str) -> Option<RhsWord>
-    ensures { result ≡ other_word_of word.now }
+fn rhs_keyword(word: &str) -> Option<RhsWord>
+    ensures { result ≡ rhs_keyword_of word.now }
 {
     match word {
         "var" => Some(RhsWord::Var),
@@ -222,7 +222,7 @@ pub(crate) fn rhs_word_named(word: &str) -> Option<RhsWord>
 {
     match opcode_named(word) {
         Some(opcode) => Some(RhsWord::Instruction(opcode)),
-        None => other_word(word),
+        None => rhs_keyword(word),
     }
 }
 

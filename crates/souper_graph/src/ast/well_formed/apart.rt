@@ -13,13 +13,11 @@ use crate::ast::statements::Statement;
 use std::alloc::AllocError;
 use std::collections::BTreeSet;
 
+#[tactic(auto, using(crate::proofs::Lookups::assigned_name_is))]
 fn name_at(statements: &Arena<Statement>, id: Id<Statement>) -> Option<&str>
     ensures { option_copied result ≡ assigned_name_at (map view_statement statements.now) id }
 {
-    match statements.get(id) {
-        Some(Statement::Assignment(assignment)) => Some(assignment.name.as_str()),
-        Some(Statement::Pc(_) | Statement::BlockPc(_)) | None => None,
-    }
+    Some(statements.assignment(id.into())?.name.as_str())
 }
 
 // Whether the assignments at these positions have distinct names.

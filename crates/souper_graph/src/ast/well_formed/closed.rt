@@ -16,21 +16,13 @@ use crate::ast::operands::Operand;
 use crate::ast::statements::{AssignmentRhs, Statement};
 use crate::ast::well_formed::fitting::{operand_fits, root_attributes_fit, statement_fits};
 
-fn is_assignment(statements: &Arena<Statement>, value: ValueId) -> bool
-    ensures { IsTrue result ↔ IsAssigned (slice_get (map view_statement statements.now) value) }
-{
-    match statements.get(value.into()) {
-        Some(Statement::Assignment(_)) => true,
-        Some(Statement::Pc(_) | Statement::BlockPc(_)) | None => false,
-    }
-}
-
+#[tactic(auto, using(crate::proofs::Lookups::assigned_at))]
 fn value_is_met(statements: &Arena<Statement>, value: ValueId, limit: usize) -> bool
     ensures { IsTrue result
         ↔ IsMetBelow (map view_statement statements.now) limit (value_use value) }
 {
     let id: Id<Statement> = value.into();
-    id.index() < limit && is_assignment(statements, value)
+    id.index() < limit && statements.assignment(value).is_some()
 }
 
 fn operand_is_met(statements: &Arena<Statement>, operand: Operand, limit: usize) -> bool
@@ -55,30 +47,14 @@ fn operands_are_met(statements: &Arena<Statement>, operands: &[Operand], limit: 
     true
 }
 
-// The block's number of predecessors, or `None` if no block is there.
-fn predecessors_of(statements: &Arena<Statement>, block: BlockId) -> Option<u32>
-    ensures { MatchOption result (¬ IsBlock (slice_get (map view_statement statements.now) block)) (λ count. IsBlock (slice_get (map view_statement statements.now) block) × (count ≡ predecessors_at (map view_statement statements.now) block)) }
-{
-    match statements.get(block.into()) {
-        Some(Statement::Assignment(assignment)) => match &assignment.value {
-            AssignmentRhs::Block(block) => Some(block.predecessors),
-            AssignmentRhs::Var
-            | AssignmentRhs::Phi(_)
-            | AssignmentRhs::ReservedInst
-            | AssignmentRhs::ReservedConst
-            | AssignmentRhs::Instruction(_) => None,
-        },
-        Some(Statement::Pc(_) | Statement::BlockPc(_)) | None => None,
-    }
-}
-
 // The block's number of predecessors, or `None` if the position is not below the limit or has no block.
+#[tactic(auto, using(crate::proofs::Lookups::block_there))]
 fn predecessors_below(statements: &Arena<Statement>, block: BlockId, limit: usize) -> Option<u32>
     ensures { MatchOption result (¬ IsMetBelow (map view_statement statements.now) limit (block_use block)) (λ count. IsMetBelow (map view_statement statements.now) limit (block_use block) × (count ≡ predecessors_at (map view_statement statements.now) block)) }
 {
     let id: Id<Statement> = block.into();
     if id.index() < limit {
-        predecessors_of(statements, block)
+        Some(statements.block(block)?.predecessors)
     } else {
         None
     }

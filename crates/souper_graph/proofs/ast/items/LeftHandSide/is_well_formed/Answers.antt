@@ -10,4 +10,4 @@ returns-then-not-infer_stands c = ((λ e. absurd (cc)), (λ w. c.if-not-infer_st
 pub returns : goal.returns
 returns c =
     judged (view_left_hand_side c.args.self.now) c.print_order.result c.ordered_stand.result
-    c.print_order.ensures.refused c.print_order.ensures.exact (c.if-not-infer_stands.ensures.0 refl) c.ordered_stand.ensures
+    c.print_order.ensures.refused c.print_order.ensures.ordered (c.if-not-infer_stands.ensures.0 refl) c.ordered_stand.ensures

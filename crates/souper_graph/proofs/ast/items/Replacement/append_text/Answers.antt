@@ -3,4 +3,4 @@ use Rattle.souper_graph.proofs.Naming.{IsFaultOf-answered}
 use Rattle.souper_graph.proofs.ast.items.Replacement.append_text.Goals as goal
 
 pub returns-clause-refused : goal.returns-clause-refused
-returns-clause-refused c = IsFaultOf-answered (view_replacement c.args.self.now) c.in_ok-order.order.ids.items c.append_by.result c.in_ok-order.ensures.exact c.append_by.ensures.refused
+returns-clause-refused c = IsFaultOf-answered (view_replacement c.args.self.now) c.in_ok-order.order.ids.items c.append_by.result c.in_ok-order.ensures.ordered.exact c.append_by.ensures.refused

@@ -12,7 +12,7 @@ pub returns-else-not-replaced_stands : goal.returns-else-not-replaced_stands
 returns-else-not-replaced_stands c =
     rw c.in-LhsRhs.is (
     judged (view_replacement (LhsRhs c.in-LhsRhs.statements c.in-LhsRhs.lhs c.in-LhsRhs.rhs)) c.print_order.result c.ordered_stand.result
-    (rw c.in-LhsRhs.is at c.print_order.ensures.refused) (rw c.in-LhsRhs.is at c.print_order.ensures.exact) (c.if-not-replaced_stands.ensures.0 refl) c.ordered_stand.ensures
+    (rw c.in-LhsRhs.is at c.print_order.ensures.refused) (rw c.in-LhsRhs.is at c.print_order.ensures.ordered) (c.if-not-replaced_stands.ensures.0 refl) c.ordered_stand.ensures
     )
 
 pub returns-then-not-cand_stands : goal.returns-then-not-cand_stands
@@ -22,5 +22,5 @@ pub returns-else-not-cand_stands : goal.returns-else-not-cand_stands
 returns-else-not-cand_stands c =
     rw c.in-Cand.is (
     judged (view_replacement (Cand c.in-Cand.statements c.in-Cand.cand)) c.print_order-in-Cand.result c.ordered_stand-in-Cand.result
-    (rw c.in-Cand.is at c.print_order-in-Cand.ensures.refused) (rw c.in-Cand.is at c.print_order-in-Cand.ensures.exact) (c.if-not-cand_stands.ensures.0 refl) c.ordered_stand-in-Cand.ensures
+    (rw c.in-Cand.is at c.print_order-in-Cand.ensures.refused) (rw c.in-Cand.is at c.print_order-in-Cand.ensures.ordered) (c.if-not-cand_stands.ensures.0 refl) c.ordered_stand-in-Cand.ensures
     )

@@ -2,7 +2,6 @@ use Rattle.std.proofs.Common.{◌++◌, sym, ap, ◌∙◌, append-nil}
 use Rattle.souper_graph.specs.declared.ast.items.Replacement.{Replacement}
 use Rattle.souper_graph.specs.View.{view_replacement}
 use Rattle.souper_graph.specs.Uses.{uses_of_operand, first_roots, last_roots}
-use Rattle.souper_graph.proofs.Answered.{answered_no_bad_id, answered_inside, answered_exact, answered_once, answered_lead_within, answered_lead_exact, answered_lead_is_all, answered_turns, answered_printed, answered_lead, answered_after}
 use Rattle.souper_graph.proofs.ast.items.Replacement.print_order.Goals as goal
 
 pub returns-in-LhsRhs : goal.returns-in-LhsRhs
@@ -11,20 +10,9 @@ returns-in-LhsRhs c =
     let statements = ap (λ (r : Replacement). (view_replacement r).statements) c.in-LhsRhs.is in
     let first = ap (λ (r : Replacement). first_roots (view_replacement r).ending) c.in-LhsRhs.is in
     let last = ap (λ (r : Replacement). last_roots (view_replacement r).ending) c.in-LhsRhs.is ∙ sym (append-nil (uses_of_operand c.in-LhsRhs.rhs)) in
-    let answered = c.order_between.ensures.ordered a statements first last in
     record {
       refused = c.order_between.ensures.refused a statements first last;
-      no_bad_id = answered_no_bad_id a _ answered;
-      inside = answered_inside a _ answered;
-      exact = answered_exact a _ answered;
-      once = answered_once a _ answered;
-      lead_within = answered_lead_within a _ answered;
-      lead_exact = answered_lead_exact a _ answered;
-      lead_is_all = answered_lead_is_all a _ answered;
-      turns = answered_turns a _ answered;
-      printed = answered_printed a _ answered;
-      lead = answered_lead a _ answered;
-      after = answered_after a _ answered;
+      ordered = c.order_between.ensures.ordered a statements first last;
     }
 
 pub returns-in-Cand : goal.returns-in-Cand
@@ -34,18 +22,7 @@ returns-in-Cand c =
     let first = ap (λ (r : Replacement). first_roots (view_replacement r).ending) c.in-Cand.is
     ∙ ap (λ z. uses_of_operand c.in-Cand.cand.lhs ++ z) (sym (append-nil (uses_of_operand c.in-Cand.cand.rhs))) in
     let last = ap (λ (r : Replacement). last_roots (view_replacement r).ending) c.in-Cand.is in
-    let answered = c.order_between-in-Cand.ensures.ordered a statements first last in
     record {
       refused = c.order_between-in-Cand.ensures.refused a statements first last;
-      no_bad_id = answered_no_bad_id a _ answered;
-      inside = answered_inside a _ answered;
-      exact = answered_exact a _ answered;
-      once = answered_once a _ answered;
-      lead_within = answered_lead_within a _ answered;
-      lead_exact = answered_lead_exact a _ answered;
-      lead_is_all = answered_lead_is_all a _ answered;
-      turns = answered_turns a _ answered;
-      printed = answered_printed a _ answered;
-      lead = answered_lead a _ answered;
-      after = answered_after a _ answered;
+      ordered = c.order_between-in-Cand.ensures.ordered a statements first last;
     }

@@ -10,4 +10,4 @@ returns-then-not-result_stands c = ((λ e. absurd (cc)), (λ w. c.if-not-result_
 pub returns : goal.returns
 returns c =
     judged (view_right_hand_side c.args.self.now) c.print_order.result c.ordered_stand.result
-    c.print_order.ensures.refused c.print_order.ensures.exact (c.if-not-result_stands.ensures.0 refl) c.ordered_stand.ensures
+    c.print_order.ensures.refused c.print_order.ensures.ordered (c.if-not-result_stands.ensures.0 refl) c.ordered_stand.ensures

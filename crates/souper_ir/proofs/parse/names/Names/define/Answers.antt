@@ -5,7 +5,7 @@ use Rattle.souper_ir.proofs.parse.names.Names.define.Goals as goal
 
 pub returns-then-len-number : goal.returns-then-len-number
 returns-then-len-number c = on_ok_weaker c.append.result (λ reaches s a are fresh named last n.
-    let number = c.last_number-number.ensures.number in
+    let number = c.trailing_number-number.ensures.number in
     let len = c.len.ensures in
     let beyond = c.if-len-number.true in
     rw (c.append.ensures.others) (append_defined c.args.self.now.numbered.items c.append.new.self.numbered.items c.args.self.now.others s a c.args.name.now c.args.value
