@@ -5,7 +5,7 @@ use Rattle.souper_ir.specs.Parsing.{Parsing}
 use Rattle.souper_graph.specs.Syntax.Spelling.{constant_spells}
 use Rattle.souper_ir.specs.Continuation.{constant_continues}
 use Rattle.souper_ir.specs.Grammar.{Took, Refusal}
-use Rattle.souper_ir.specs.Sequence.{refused_first, refused_second, both_taken}
+use Rattle.souper_ir.specs.Laws.Sequence.{refused_first, refused_second, both_taken}
 use Rattle.parser_vectors.specs.declared.pairs.Pair.{Pair}
 use Rattle.parser_vectors.specs.Pairs.{pair_spells, pair_continues, over, constant_alone}
 

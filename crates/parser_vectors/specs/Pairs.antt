@@ -7,9 +7,9 @@ use Rattle.souper_graph.specs.Syntax.Spelling.{Scope, constant_spells}
 use Rattle.souper_ir.specs.Continuation.{constant_continues}
 use Rattle.souper_ir.specs.Grammar.{Free, Starts}
 use Rattle.souper_ir.specs.NodeReadings.{is_int, constant_at}
-use Rattle.souper_ir.specs.OperandLaws.{constant_complete, constant_first}
-use Rattle.souper_ir.specs.Readings.{one_alone}
-use Rattle.souper_ir.specs.Sequence.{Split, both_alone}
+use Rattle.souper_ir.specs.Laws.Operands.{constant_complete, constant_first}
+use Rattle.souper_ir.specs.Laws.FromReadings.{one_alone}
+use Rattle.souper_ir.specs.Laws.Sequence.{Split, both_alone}
 use Rattle.parser_vectors.specs.declared.pairs.Pair.{Pair}
 
 -- the first constant, and then the second

@@ -10,8 +10,8 @@ use Rattle.souper_graph.specs.Sameness.{renumbered, SameGraph}
 use Rattle.souper_graph.specs.CanonicalText.{IsWellFormedOf, AreWellFormed}
 use Rattle.souper_graph.specs.Syntax.Spelling.{ItemType, TextSpells}
 use Rattle.souper_graph.proofs.RoundTrip.ReadBack.{texts-read-back, text-again}
-use Rattle.souper_ir.proofs.ItemLists.{text_alone}
-use Rattle.souper_ir.proofs.OneText.{texts_exact, texts_spell, one_text, spelled_well_formed}
+use Rattle.souper_ir.proofs.Items.Lists.{text_alone}
+use Rattle.souper_ir.proofs.Items.OneText.{texts_exact, texts_spell, one_text, spelled_well_formed}
 use Rattle.souper_format.specs.Formatted.{IsFormatted, SpellsRenumbered}
 
 pub same_lines : (k : ItemType) (a b : Item) (x y : List ℕ) → IsWellFormedOf k a → IsWellFormedOf k b → x ≡ text_with_newline a → y ≡ text_with_newline b

@@ -16,7 +16,7 @@ use Rattle.souper_graph.specs.Uses.{Has, Use, value_use, block_use, position_of,
 use Rattle.souper_graph.specs.Text.{name_at, text_of_operand, text_of_further, text_of_operands, text_of_phi, text_of_instruction, text_of_rhs, text_of_assignment, text_of_pc, text_of_block_pc, text_of_statement, text_of_infer, text_of_cand, text_of_result}
 use Rattle.souper_graph.specs.Sameness.{carried_operand, carried_rhs, carried, carried_infer, carried_cand}
 use Rattle.souper_graph.proofs.Lists.{Has-left, Has-right}
-use Rattle.souper_graph.proofs.InstructionMaps.{operands-map, word-map}
+use Rattle.souper_graph.proofs.Sameness.InstructionMaps.{operands-map, word-map}
 
 module _ (f : ℕ → ℕ) (ss ts : List PlainStatement) where
   -- each of these uses is carried to a position of the same name

@@ -15,9 +15,9 @@ use Rattle.souper_graph.specs.WellFormed.{WellFormed}
 use Rattle.souper_graph.specs.Sameness.{carried, SameGraph}
 use Rattle.souper_graph.specs.CanonicalText.{IsRearranged, IsLine, IsSublist, condition_lines, HasConditionLines}
 use Rattle.souper_graph.proofs.Lists.{Has-left, Has-right, Has-here, Has-later, Has-map, Has-mapped}
-use Rattle.souper_graph.proofs.Closedness.{stood, statement_at, stands, from-inside, well_formed_inside, well_formed_stands}
-use Rattle.souper_graph.proofs.Facts.{condition_at, condition-holds, is-condition, conditions-printed, from-increasing, same-increasing}
-use Rattle.souper_graph.proofs.Sameness.{needs, condition-at, used-carried, walks-carried, increasing-map}
+use Rattle.souper_graph.proofs.Judging.Needed.{stood, statement_at, stands, from-inside, well_formed_inside, well_formed_stands}
+use Rattle.souper_graph.proofs.Sameness.PrintedOrder.{condition_at, condition-holds, is-condition, conditions-printed, from-increasing, same-increasing}
+use Rattle.souper_graph.proofs.Sameness.Renumbered.{needs, condition-at, used-carried, walks-carried, increasing-map}
 use Rattle.souper_graph.proofs.RoundTrip.Scopes.{get_middle}
 use Rattle.souper_graph.proofs.RoundTrip.ReadBack.{same-graph-text}
 

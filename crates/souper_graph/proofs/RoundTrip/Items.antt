@@ -18,7 +18,7 @@ use Rattle.souper_graph.specs.WellFormed.{FitsInfer, FitsOperand, EachClosed}
 use Rattle.souper_graph.specs.Syntax.Tokens.{Lexeme}
 use Rattle.souper_graph.specs.Syntax.Spelling.{Scope, ItemType, left_hand_side, right_hand_side, replacement, IsEndingOf, Statements, result_spells, tail_spells, item_spells_after, item_spells}
 use Rattle.souper_graph.proofs.Lists.{Has-left, Has-right}
-use Rattle.souper_graph.proofs.Closedness.{met-inside}
+use Rattle.souper_graph.proofs.Judging.Needed.{met-inside}
 use Rattle.souper_graph.proofs.RoundTrip.Parts.{Part, newline, words_of, words_append, AreSound, sound_append}
 use Rattle.souper_graph.proofs.RoundTrip.Nodes.{parts_of_lines, parts_of_infer, parts_of_cand, parts_of_result, listed_parts}
 use Rattle.souper_graph.proofs.RoundTrip.Ready.{Known, AreKnown, ReadyOperand, AreReady, known_left, known_right, known_here, known_after, ready_first, ready_second}

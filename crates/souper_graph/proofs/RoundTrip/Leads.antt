@@ -9,13 +9,13 @@ use Rattle.souper_graph.specs.Order.{unfolding_of, order_of_walks, printed_order
 use Rattle.souper_graph.specs.WellFormed.{WellFormed}
 use Rattle.souper_graph.specs.Sameness.{SameGraph, place, carried_ending}
 use Rattle.souper_graph.proofs.Lists.{Has-left, Has-none, Has-here, Has-later, Has-head}
-use Rattle.souper_graph.proofs.Added.{has, with_new, gathered, printed-is}
-use Rattle.souper_graph.proofs.Orders.{flat-join}
-use Rattle.souper_graph.proofs.Places.{flat-map, with-map, place-here, place-later}
-use Rattle.souper_graph.proofs.Carrying.{positions-carried, first-carried}
-use Rattle.souper_graph.proofs.Closedness.{first_of}
-use Rattle.souper_graph.proofs.Facts.{printed-needed, walks-printed}
-use Rattle.souper_graph.proofs.Sameness.{unfold-carried, has-all, conditions-carried}
+use Rattle.souper_graph.proofs.Order.Firsts.{has, with_new, gathered, printed-is}
+use Rattle.souper_graph.proofs.Order.Sorted.{flat-join}
+use Rattle.souper_graph.proofs.Sameness.Indices.{flat-map, with-map, place-here, place-later}
+use Rattle.souper_graph.proofs.Sameness.Carrying.{positions-carried, first-carried}
+use Rattle.souper_graph.proofs.Judging.Needed.{first_of}
+use Rattle.souper_graph.proofs.Sameness.PrintedOrder.{printed-needed, walks-printed}
+use Rattle.souper_graph.proofs.Sameness.Renumbered.{unfold-carried, has-all, conditions-carried}
 
 -- ---- orders that are joined
 

@@ -18,10 +18,10 @@ use Rattle.souper_graph.specs.CanonicalText.{IsWellFormedOf, AreWellFormed, AllN
 use Rattle.souper_graph.specs.Syntax.Tokens.{Lexeme, IsTextOf}
 use Rattle.souper_graph.specs.Syntax.Spelling.{kinds, ItemType, left_hand_side, right_hand_side, replacement, IsEndingOf, item_spells, list_spells, TextSpells}
 use Rattle.souper_graph.proofs.Lists.{Has-left, Has-right, Has-here, Has-later, Has-map}
-use Rattle.souper_graph.proofs.Places.{Has-at, place-at}
-use Rattle.souper_graph.proofs.Closedness.{statement_at, root-walked, well_formed_stands, well_formed_below}
-use Rattle.souper_graph.proofs.Facts.{printed-once}
-use Rattle.souper_graph.proofs.Sameness.{numbered, numbered_item, renumbered-is, needs, stood-needed, numbered-at, numbered-needed, renumbered-well, renumbered-again, renumbered-same, renumbered-graph, unneeded-well, unneeded-graph}
+use Rattle.souper_graph.proofs.Sameness.Indices.{Has-at, place-at}
+use Rattle.souper_graph.proofs.Judging.Needed.{statement_at, root-walked, well_formed_stands, well_formed_below}
+use Rattle.souper_graph.proofs.Sameness.PrintedOrder.{printed-once}
+use Rattle.souper_graph.proofs.Sameness.Renumbered.{numbered, numbered_item, renumbered-is, needs, stood-needed, numbered-at, numbered-needed, renumbered-well, renumbered-again, renumbered-same, renumbered-graph, unneeded-well, unneeded-graph}
 use Rattle.souper_graph.proofs.RoundTrip.Parts.{Part, newline, printed, placed, words_of, AreSound, text_from_parts, sound_lines, printed_each, printed_append, placed_words, words_append}
 use Rattle.souper_graph.proofs.RoundTrip.Nodes.{listed_parts, text_of_lines, listed_text}
 use Rattle.souper_graph.proofs.RoundTrip.Texts.{listed_is}

@@ -9,8 +9,8 @@ ghost use Rattle.souper_ir.specs.Errors.{widened};
 ghost use Rattle.souper_ir.specs.Reading.{Gives};
 ghost use Rattle.souper_ir.specs.NodeReadings.{bits_kind, sign_bits_kind, range_kind, accept, is_mark, int_by, ident_by, attribute_kind_of_word, attribute_kind_of, attribute_by, attribute_at, root_kind_of_word, root_attribute_by, root_attribute_at};
 ghost use Rattle.souper_ir.specs.AttributeView.{view_kind, has_bits};
-ghost use Rattle.souper_ir.specs.Readings.{one_alone};
-ghost use Rattle.souper_ir.specs.AttributeLaws.{attribute_complete, attribute_first, root_attribute_complete, root_attribute_first};
+ghost use Rattle.souper_ir.specs.Laws.FromReadings.{one_alone};
+ghost use Rattle.souper_ir.specs.Laws.Attributes.{attribute_complete, attribute_first, root_attribute_complete, root_attribute_first};
 
 use crate::parse::error::widen;
 use crate::parse::message::Message;

@@ -14,7 +14,7 @@ ghost use Rattle.souper_ir.specs.declared.parse.item.Next.{Next};
 ghost use Rattle.souper_ir.specs.NextStatement.{next_at, Begins};
 ghost use Rattle.souper_ir.specs.Reading.{Gives};
 ghost use Rattle.souper_ir.specs.Items.{Enters, TakesStatements, StatedRefusal};
-ghost use Rattle.souper_ir.specs.ItemLaws.{item_alone};
+ghost use Rattle.souper_ir.specs.Laws.Items.{item_alone};
 ghost use Rattle.souper_ir.specs.ItemRuns.{SpellsAll, ListRefusal};
 ghost use Rattle.souper_ir.specs.Answers.{IsStrError};
 ghost use Rattle.souper_ir.specs.Sinks.{TakesOver, TakesText};

@@ -9,7 +9,7 @@ ghost use Rattle.souper_ir.specs.Continuation.{infer_continues, cand_continues};
 ghost use Rattle.souper_ir.specs.Reading.{Gives};
 ghost use Rattle.souper_ir.specs.Grammar.{Took, Refusal};
 ghost use Rattle.souper_ir.specs.NodeReadings.{is_word, root_at, optional_comma_at, pair_at, result_at};
-ghost use Rattle.souper_ir.specs.StatementLaws.{infer_alone, infer_first, cand_alone};
+ghost use Rattle.souper_ir.specs.Laws.Statements.{infer_alone, infer_first, cand_alone};
 
 use crate::parse::error::{narrow, widen};
 use crate::parse::message::Message;

@@ -6,8 +6,8 @@ ghost use Rattle.souper_ir.specs.Reading.{Gives};
 ghost use Rattle.souper_graph.specs.Syntax.Spelling.{type_spells, constant_spells, operand_spells};
 ghost use Rattle.souper_ir.specs.Continuation.{constant_continues, operand_continues};
 ghost use Rattle.souper_ir.specs.NodeReadings.{is_int, type_at, optional_type_at, constant_at, named_operand_at, operand_at, next_operand_at, further_at};
-ghost use Rattle.souper_ir.specs.Readings.{one_alone};
-ghost use Rattle.souper_ir.specs.OperandLaws.{type_complete, constant_complete, constant_first, operand_complete};
+ghost use Rattle.souper_ir.specs.Laws.FromReadings.{one_alone};
+ghost use Rattle.souper_ir.specs.Laws.Operands.{type_complete, constant_complete, constant_first, operand_complete};
 
 use crate::parse::error::widen;
 use crate::parse::message::Message;

@@ -10,8 +10,8 @@ ghost use Rattle.souper_graph.specs.Syntax.Spelling.{block_spells, phi_spells, i
 ghost use Rattle.souper_ir.specs.Continuation.{phi_continues, instruction_continues, rhs_continues};
 ghost use Rattle.souper_ir.specs.NodeReadings.{accept, ident_by, is_word, starts_instruction, block_after_word_at, block_at, block_name_at, phi_after_word_at, phi_at, instruction_at, instruction_of_at, rhs_word_at, rhs_at};
 ghost use Rattle.souper_ir.specs.Words.{opcode_of};
-ghost use Rattle.souper_ir.specs.Readings.{one_alone};
-ghost use Rattle.souper_ir.specs.RhsLaws.{block_complete, block_first, phi_complete, phi_first, instruction_complete, instruction_first, rhs_complete};
+ghost use Rattle.souper_ir.specs.Laws.FromReadings.{one_alone};
+ghost use Rattle.souper_ir.specs.Laws.RightSides.{block_complete, block_first, phi_complete, phi_first, instruction_complete, instruction_first, rhs_complete};
 
 use crate::parse::error::widen;
 use crate::parse::message::Message;

@@ -11,7 +11,7 @@ ghost use Rattle.souper_ir.specs.Continuation.{assignment_continues, pc_continue
 ghost use Rattle.souper_ir.specs.Reading.{Gives};
 ghost use Rattle.souper_ir.specs.Grammar.{Took, Refusal, peek_at};
 ghost use Rattle.souper_ir.specs.NodeReadings.{is_name, is_word, heading_at, pc_at, block_pc_at, starts_statement};
-ghost use Rattle.souper_ir.specs.StatementLaws.{assignment_alone, assignment_first, pc_alone, pc_first, block_pc_alone, block_pc_first, statement_alone, statement_first};
+ghost use Rattle.souper_ir.specs.Laws.Statements.{assignment_alone, assignment_first, pc_alone, pc_first, block_pc_alone, block_pc_first, statement_alone, statement_first};
 
 use crate::parse::error::{narrow, widen};
 use crate::parse::message::Message;

@@ -3,7 +3,7 @@ ghost use Rattle.std.specs.Prelude.{◌≡◌, List, map, ◌++◌, Option, opti
 ghost use Rattle.souper_graph.specs.Syntax.Tokens.{Lexeme};
 ghost use Rattle.souper_graph.specs.Syntax.Spelling.{kinds, Scope};
 ghost use Rattle.souper_ir.specs.Reading.{Gives, IfRefused, cause_of};
-ghost use Rattle.souper_ir.specs.Unique.{option_alone, list_alone};
+ghost use Rattle.souper_ir.specs.Laws.Unique.{option_alone, list_alone};
 ghost use Rattle.souper_ir.specs.Grammar.{Free, Starts, Took, Refusal, Stuck, peek_at, Members, ListGoesOn, OptionSpells, OptionGoesOn};
 
 use crate::parse::parser::{Parser, Result};

@@ -1,4 +1,4 @@
-use Rattle.souper_ir.specs.Peeks.{peeked}
+use Rattle.souper_ir.specs.Laws.Peeks.{peeked}
 use Rattle.examples_using.proofs.Terms.{of_number, of_operation}
 use Rattle.examples_using.proofs.fragments.read_term.Goals as goal
 use Rattle.examples_using.proofs.fragments.read_term.Goals.{then-branch+in_ok-parse, else-branch+in_ok-parse-2}

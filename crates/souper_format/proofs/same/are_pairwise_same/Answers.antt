@@ -3,7 +3,7 @@ use Rattle.std.proofs.lemmas.List.{length_push}
 use Rattle.std.proofs.lemmas.Slice.Zip.{zip_turn}
 use Rattle.souper_graph.specs.WellFormed.{WellFormed}
 use Rattle.souper_graph.specs.Sameness.{SameGraph}
-use Rattle.souper_graph.proofs.Judged.{All-map_at}
+use Rattle.souper_graph.proofs.Judging.Closed.{All-map_at}
 use Rattle.souper_format.proofs.Pairs.{related_at, related_more}
 use Rattle.souper_format.proofs.same.are_pairwise_same.Goals as goal
 

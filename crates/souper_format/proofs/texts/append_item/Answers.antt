@@ -1,7 +1,7 @@
 use Rattle.std.proofs.Common.{rules, ◌≡◌, ℕ, List, [], ◌∷◌, ◌++◌, ◌∙◌, ap, append_assoc}
 use Rattle.std.specs.String.{string_bytes}
 use Rattle.souper_graph.specs.Text.{text_of}
-use Rattle.souper_graph.proofs.Closedness.{well_formed_below}
+use Rattle.souper_graph.proofs.Judging.Needed.{well_formed_below}
 use Rattle.souper_format.proofs.texts.append_item.Goals as goal
 
 pub returns-in_ok-push-in-Ok : goal.returns-in_ok-push-in-Ok

@@ -1,4 +1,4 @@
-use Rattle.souper_graph.proofs.Sameness.{same-renumbered, renumbered-same, renumbered-well, renumbered-again, renumbered-graph, unneeded-well, unneeded-same, printed-exact}
+use Rattle.souper_graph.proofs.Sameness.Renumbered.{same-renumbered, renumbered-same, renumbered-well, renumbered-again, renumbered-graph, unneeded-well, unneeded-same, printed-exact}
 use Rattle.souper_graph.proofs.laws.law_of_sameness.Goals as goal
 
 pub returns-clause-same : goal.returns-clause-same

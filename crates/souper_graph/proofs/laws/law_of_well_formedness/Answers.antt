@@ -1,9 +1,9 @@
 use Rattle.std.proofs.Common.{Option, ap}
 use Rattle.souper_graph.specs.Values.{PlainStatement}
 use Rattle.souper_graph.specs.Uses.{is_condition}
-use Rattle.souper_graph.proofs.Closedness.{stood, well_formed_below, well_formed_no_bad_id}
-use Rattle.souper_graph.proofs.Facts.{condition-needed}
-use Rattle.souper_graph.proofs.Lower.{below_if_lower, lower_if_below}
+use Rattle.souper_graph.proofs.Judging.Needed.{stood, well_formed_below, well_formed_no_bad_id}
+use Rattle.souper_graph.proofs.Sameness.PrintedOrder.{condition-needed}
+use Rattle.souper_graph.proofs.Judging.Lower.{below_if_lower, lower_if_below}
 use Rattle.souper_graph.proofs.laws.law_of_well_formedness.Goals as goal
 
 pub returns-clause-no_bad_id : goal.returns-clause-no_bad_id

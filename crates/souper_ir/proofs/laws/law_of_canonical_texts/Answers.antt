@@ -1,4 +1,4 @@
-use Rattle.souper_ir.proofs.OneText.{texts_exact, texts_spell, texts_defined, one_text}
+use Rattle.souper_ir.proofs.Items.OneText.{texts_exact, texts_spell, texts_defined, one_text}
 use Rattle.souper_ir.proofs.laws.law_of_canonical_texts.Goals as goal
 
 pub returns : goal.returns

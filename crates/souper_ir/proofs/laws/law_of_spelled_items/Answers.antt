@@ -1,4 +1,4 @@
-use Rattle.souper_ir.proofs.WellFormedItems.{text_closed}
+use Rattle.souper_ir.proofs.Items.WellFormed.{text_closed}
 use Rattle.souper_ir.proofs.laws.law_of_spelled_items.Goals as goal
 
 pub returns : goal.returns

@@ -1,6 +1,6 @@
 use Rattle.std.proofs.Common.{arith, refl}
 use Rattle.std.proofs.lemmas.Grind.{common_steps}
-use Rattle.souper_graph.proofs.Styled.{styled_two}
+use Rattle.souper_graph.proofs.Texts.Styled.{styled_two}
 use Rattle.souper_graph.proofs.stringify.leaves.write_bits.Goals as goal
 
 pub loop-bit-preserved : goal.loop-bit-preserved

@@ -3,7 +3,7 @@ use Rattle.std.proofs.lemmas.Result.{err_from_is_err_and}
 use Rattle.souper_graph.specs.Values.{replaced}
 use Rattle.souper_graph.specs.View.{view_statement, view_infer}
 use Rattle.souper_graph.specs.Uses.{value_use, uses_of_operand, uses_at, roots_of}
-use Rattle.souper_graph.proofs.Naming.{AreMet-append, AreMet-parts, IsFaultAmong-first, IsFaultAmong-second}
+use Rattle.souper_graph.proofs.Texts.Naming.{AreMet-append, AreMet-parts, IsFaultAmong-first, IsFaultAmong-second}
 use Rattle.souper_graph.proofs.stringify.lines.append_lhs_rhs.Goals as goal
 
 pub returns-in_err-append_lines-clause-refused : goal.returns-in_err-append_lines-clause-refused

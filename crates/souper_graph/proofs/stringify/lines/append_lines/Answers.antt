@@ -4,7 +4,7 @@ use Rattle.std.proofs.lemmas.Result.{err_from_is_err_and}
 use Rattle.souper_graph.specs.View.{view_statement}
 use Rattle.souper_graph.specs.Uses.{uses_at}
 use Rattle.souper_graph.specs.Text.{line_at}
-use Rattle.souper_graph.proofs.Naming.{AreMet-more, IsFaultAmong-part, texts_more}
+use Rattle.souper_graph.proofs.Texts.Naming.{AreMet-more, IsFaultAmong-part, texts_more}
 use Rattle.souper_graph.proofs.stringify.lines.append_lines.Goals as goal
 
 pub loop-id-preserved : goal.loop-id-preserved

@@ -4,7 +4,7 @@ use Rattle.std.proofs.lemmas.Result.{err_from_is_err_and}
 use Rattle.souper_graph.specs.View.{view_statement}
 use Rattle.souper_graph.specs.Uses.{uses_of_operand}
 use Rattle.souper_graph.specs.Text.{text_of_operand}
-use Rattle.souper_graph.proofs.Naming.{AreMet-more, IsFaultAmong-part, texts_more}
+use Rattle.souper_graph.proofs.Texts.Naming.{AreMet-more, IsFaultAmong-part, texts_more}
 use Rattle.souper_graph.proofs.stringify.nodes.append_further.Goals as goal
 
 pub loop-operand-preserved : goal.loop-operand-preserved

@@ -1,4 +1,4 @@
-use Rattle.souper_graph.proofs.Styled.{number_writes, number_writes_styled}
+use Rattle.souper_graph.proofs.Texts.Styled.{number_writes, number_writes_styled}
 use Rattle.souper_graph.proofs.stringify.numbers.write_number.Goals as goal
 
 pub returns-clause-writes : goal.returns-clause-writes

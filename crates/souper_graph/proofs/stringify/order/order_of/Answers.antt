@@ -4,7 +4,7 @@ use Rattle.std.proofs.lemmas.Result.{err_from_is_err_and}
 use Rattle.std.proofs.lemmas.List.{length-map, length_push}
 use Rattle.souper_graph.specs.declared.stringify.order.Target.{Target}
 use Rattle.souper_graph.specs.View.{view_statement}
-use Rattle.souper_graph.proofs.Ends.{start_at, mark_there, walk_next, dropped_next, finished_next, entered_next, entered_smaller, popped_none, lead_start, lead_next, lead_needs_start, lead_needs_pushed, lead_needs_next, refused_names, ordered_item}
+use Rattle.souper_graph.proofs.Order.Loops.{start_at, mark_there, walk_next, dropped_next, finished_next, entered_next, entered_smaller, popped_none, lead_start, lead_next, lead_needs_start, lead_needs_pushed, lead_needs_next, refused_names, ordered_item}
 use Rattle.souper_graph.proofs.stringify.order.order_of.Goals as goal
 use Rattle.souper_graph.proofs.stringify.order.order_of.Goals.{then-k-walks, else-k-walks}
 

@@ -1,8 +1,8 @@
 use Rattle.std.proofs.Common.{◌≡◌, ◌+◌, ◌≤◌, length, map, reverse, take, []}
 use Rattle.souper_graph.specs.View.{view_statement}
-use Rattle.souper_graph.proofs.Run.{work}
-use Rattle.souper_graph.proofs.Stack.{Running}
-use Rattle.souper_graph.proofs.Ends.{Leads, LeadNeeds}
+use Rattle.souper_graph.proofs.Order.Runs.{work}
+use Rattle.souper_graph.proofs.Order.Stack.{Running}
+use Rattle.souper_graph.proofs.Order.Loops.{Leads, LeadNeeds}
 use Rattle.souper_graph.proofs.stringify.order.order_of.Given as goal
 
 -- the walks before k are over, and the lead counts what those of them before the infer line have appended

@@ -1,8 +1,8 @@
 use Rattle.std.proofs.Common.{List, ℕ, ◌++◌, refl}
 use Rattle.std.specs.Prelude.{Some, codes}
 use Rattle.std.specs.Fmt.{WritesStyledOnOk}
-use Rattle.souper_graph.proofs.Styled.{styled_two}
-use Rattle.souper_ir.proofs.Unstyled.{plainly}
+use Rattle.souper_graph.proofs.Texts.Styled.{styled_two}
+use Rattle.souper_ir.proofs.Shown.Unstyled.{plainly}
 use Rattle.souper_ir.proofs.parse.error.show_fault.Goals as goal
 
 -- src/parse/error.rt:161:1

@@ -6,10 +6,10 @@ use Rattle.souper_graph.specs.Values.{PlainAssignment, assigned}
 use Rattle.souper_graph.specs.View.{view_rhs, view_attribute}
 use Rattle.souper_ir.specs.Errors.{error_of}
 use Rattle.souper_ir.specs.Parsing.{Parsing}
-use Rattle.souper_ir.proofs.Failing.{not_io}
-use Rattle.souper_ir.proofs.Statements.{heading_refused, value_refused, attributes_refused, parts_taken, assignment_taken, assignment_refused}
-use Rattle.souper_ir.proofs.NextStatements.{no_pc_seen, no_block_pc_seen}
-use Rattle.souper_ir.proofs.ItemSteps.{entered}
+use Rattle.souper_ir.proofs.Nodes.Failing.{not_io}
+use Rattle.souper_ir.proofs.Nodes.Statements.{heading_refused, value_refused, attributes_refused, parts_taken, assignment_taken, assignment_refused}
+use Rattle.souper_ir.proofs.Nodes.NextStatements.{no_pc_seen, no_block_pc_seen}
+use Rattle.souper_ir.proofs.Items.Steps.{entered}
 use Rattle.souper_ir.proofs.parse.item.enter_assignment.Goals as goal
 
 pub returns-in_err-name-clause-err : goal.returns-in_err-name-clause-err

@@ -1,9 +1,9 @@
 use Rattle.std.proofs.lemmas.Result.{err_from_is_err_and, on_ok_weaker}
 use Rattle.souper_graph.specs.Values.{condition}
 use Rattle.souper_ir.specs.Errors.{error_of}
-use Rattle.souper_ir.proofs.Statements.{pc_taken, pc_refused}
-use Rattle.souper_ir.proofs.NextStatements.{pc_seen}
-use Rattle.souper_ir.proofs.ItemSteps.{entered}
+use Rattle.souper_ir.proofs.Nodes.Statements.{pc_taken, pc_refused}
+use Rattle.souper_ir.proofs.Nodes.NextStatements.{pc_seen}
+use Rattle.souper_ir.proofs.Items.Steps.{entered}
 use Rattle.souper_ir.proofs.parse.item.enter_pc.Goals as goal
 
 pub returns-in_err-condition-clause-err : goal.returns-in_err-condition-clause-err

@@ -1,6 +1,6 @@
 use Rattle.std.proofs.Common.{◌≡◌, [], ◌∷◌, ◌++◌, false, true}
 use Rattle.std.proofs.lemmas.Result.{err_from_is_err_and}
-use Rattle.souper_ir.proofs.ItemLists.{runs_on, item_shorter, all_taken, look_refused, item_refused, nothing_taken, nothing_seen, still_sound, read_behind, read_well, takes_one, pushed_some}
+use Rattle.souper_ir.proofs.Items.Lists.{runs_on, item_shorter, all_taken, look_refused, item_refused, nothing_taken, nothing_seen, still_sound, read_behind, read_well, takes_one, pushed_some}
 use Rattle.souper_ir.specs.Errors.{error_of}
 use Rattle.souper_ir.proofs.parse.item.items.Goals as goal
 

@@ -1,7 +1,7 @@
 use Rattle.std.proofs.Common.{[]}
 use Rattle.std.specs.Prelude.{option_copied}
-use Rattle.souper_ir.proofs.TextItems.{all_spelled, gap_text, located_answer}
-use Rattle.souper_ir.proofs.WellFormedItems.{text_lexemes}
+use Rattle.souper_ir.proofs.Items.Texts.{all_spelled, gap_text, located_answer}
+use Rattle.souper_ir.proofs.Items.WellFormed.{text_lexemes}
 use Rattle.souper_ir.proofs.parse.item.parse_into.Goals as goal
 
 pub items-requires-clause-lexemes : goal.items-requires-clause-lexemes

@@ -3,8 +3,8 @@ use Rattle.souper_ir.specs.declared.parse.item.Next.TheVariants.{Assignment, Pc,
 use Rattle.souper_ir.specs.Errors.{error_of}
 use Rattle.souper_ir.specs.Reading.{cause_of, if_refused}
 use Rattle.souper_ir.specs.NodeReadings.{starts_statement}
-use Rattle.souper_ir.specs.ItemLaws.{ends, goes_on_behind, entered_shorter, peek_refused, member_refused}
-use Rattle.souper_ir.proofs.NextStatements.{unseen, statement_seen, no_statement_seen, begins_here}
+use Rattle.souper_ir.specs.Laws.Items.{ends, goes_on_behind, entered_shorter, peek_refused, member_refused}
+use Rattle.souper_ir.proofs.Nodes.NextStatements.{unseen, statement_seen, no_statement_seen, begins_here}
 use Rattle.souper_ir.proofs.parse.item.statements.Goals as goal
 
 pub returns-in_err-next_kind-clause-err : goal.returns-in_err-next_kind-clause-err

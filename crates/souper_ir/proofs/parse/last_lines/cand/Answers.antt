@@ -4,10 +4,10 @@ use Rattle.std.proofs.lemmas.Result.{err_from_is_err_and}
 use Rattle.souper_graph.specs.declared.ast.operands.Operand.{Operand}
 use Rattle.souper_graph.specs.View.{view_root_attribute}
 use Rattle.souper_ir.specs.NodeReadings.{pair_at}
-use Rattle.souper_ir.specs.Readings.{is_taken, is_refused}
-use Rattle.souper_ir.specs.StatementLaws.{pair_line_spells, pair_line_continues, pair_line_sound, pair_line_complete, cand_laws}
+use Rattle.souper_ir.specs.Laws.FromReadings.{is_taken, is_refused}
+use Rattle.souper_ir.specs.Laws.Statements.{pair_line_spells, pair_line_continues, pair_line_sound, pair_line_complete, cand_laws}
 use Rattle.souper_ir.specs.Errors.{error_of}
-use Rattle.souper_ir.proofs.Failing.{not_io}
+use Rattle.souper_ir.proofs.Nodes.Failing.{not_io}
 use Rattle.souper_ir.proofs.parse.last_lines.cand.Goals as goal
 
 pub returns-in_err-lhs-clause-err : goal.returns-in_err-lhs-clause-err

@@ -3,10 +3,10 @@ use Rattle.std.specs.Prelude.{map}
 use Rattle.std.proofs.lemmas.Result.{err_from_is_err_and}
 use Rattle.souper_graph.specs.View.{view_root_attribute}
 use Rattle.souper_ir.specs.NodeReadings.{root_at}
-use Rattle.souper_ir.specs.Readings.{is_taken, is_refused}
-use Rattle.souper_ir.specs.StatementLaws.{root_spells, root_sound, root_complete, infer_laws}
+use Rattle.souper_ir.specs.Laws.FromReadings.{is_taken, is_refused}
+use Rattle.souper_ir.specs.Laws.Statements.{root_spells, root_sound, root_complete, infer_laws}
 use Rattle.souper_ir.specs.Errors.{error_of}
-use Rattle.souper_ir.proofs.Failing.{not_io}
+use Rattle.souper_ir.proofs.Nodes.Failing.{not_io}
 use Rattle.souper_ir.proofs.parse.last_lines.infer.Goals as goal
 
 pub returns-in_err-value-clause-err : goal.returns-in_err-value-clause-err

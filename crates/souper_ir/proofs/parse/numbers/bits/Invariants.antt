@@ -1,6 +1,6 @@
 use Rattle.std.proofs.Common.{◌≡◌, drop}
 use Rattle.souper_graph.specs.Syntax.Numbers.{all_of, bit_of}
-use Rattle.souper_ir.proofs.BitLists.{joined}
+use Rattle.souper_ir.proofs.Nodes.BitLists.{joined}
 use Rattle.souper_ir.proofs.parse.numbers.bits.Given as goal
 
 abbrev pub invariant-loop-byte : goal.invariant-loop-byte

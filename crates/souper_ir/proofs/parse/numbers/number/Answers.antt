@@ -1,4 +1,4 @@
-use Rattle.souper_ir.proofs.Numerals.{number_read, number_refused}
+use Rattle.souper_ir.proofs.Nodes.Numerals.{number_read, number_refused}
 use Rattle.souper_ir.proofs.parse.numbers.number.Goals as goal
 
 pub returns-in-Ok : goal.returns-in-Ok

@@ -1,5 +1,5 @@
 use Rattle.std.proofs.Common.{◌<◌, sym, ◌∙◌, arith}
-use Rattle.souper_ir.proofs.Numerals.{are_digits-is, width_of_no_prefix, digits_behind, width_read, width_refused}
+use Rattle.souper_ir.proofs.Nodes.Numerals.{are_digits-is, width_of_no_prefix, digits_behind, width_read, width_refused}
 use Rattle.souper_ir.proofs.parse.numbers.width.Goals as goal
 
 pub returns-in_err-digits : goal.returns-in_err-digits

@@ -1,9 +1,9 @@
 use Rattle.std.proofs.Common.{◌≡◌, ◌∙◌, sym, ℕ, Some, subst, arith}
 use Rattle.std.proofs.lemmas.Result.{err_from_is_err_and}
 use Rattle.souper_ir.specs.Reading.{fails_later}
-use Rattle.souper_ir.specs.Readings.{of_memory}
+use Rattle.souper_ir.specs.Laws.FromReadings.{of_memory}
 use Rattle.souper_ir.specs.NodeReadings.{further_at}
-use Rattle.souper_ir.proofs.Operands.{further_more, further_fails}
+use Rattle.souper_ir.proofs.Nodes.Operands.{further_more, further_fails}
 use Rattle.souper_ir.specs.Errors.{error_of}
 use Rattle.souper_ir.proofs.parse.operands.further.Goals as goal
 

@@ -1,7 +1,7 @@
 use Rattle.std.proofs.Common.{length}
 use denote.Text.{Utf8}
 use denote.Shadow.{shadow}
-use Rattle.souper_ir.proofs.Placing.{IsReached}
+use Rattle.souper_ir.proofs.Shown.Lines.{IsReached}
 use Rattle.souper_ir.proofs.parse.place.line_of.Given as goal
 
 abbrev pub invariant-loop-body : goal.invariant-loop-body

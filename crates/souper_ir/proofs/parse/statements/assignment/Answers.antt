@@ -7,8 +7,8 @@ use Rattle.souper_graph.specs.Syntax.Spelling.{assignment_spells}
 use Rattle.souper_ir.specs.Continuation.{assignment_continues}
 use Rattle.souper_ir.specs.Errors.{error_of}
 use Rattle.souper_ir.specs.Grammar.{Took}
-use Rattle.souper_ir.proofs.Failing.{not_io}
-use Rattle.souper_ir.proofs.Statements.{heading_refused, value_refused, attributes_refused, parts_taken}
+use Rattle.souper_ir.proofs.Nodes.Failing.{not_io}
+use Rattle.souper_ir.proofs.Nodes.Statements.{heading_refused, value_refused, attributes_refused, parts_taken}
 use Rattle.souper_ir.proofs.parse.statements.assignment.Goals as goal
 
 pub returns-in_err-name-clause-err : goal.returns-in_err-name-clause-err

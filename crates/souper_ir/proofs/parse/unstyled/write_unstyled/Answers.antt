@@ -1,5 +1,5 @@
 use Rattle.std.proofs.Common.{rules}
-use Rattle.souper_ir.proofs.Unstyled.{shows_styled, plainly}
+use Rattle.souper_ir.proofs.Shown.Unstyled.{shows_styled, plainly}
 use Rattle.souper_ir.proofs.parse.unstyled.write_unstyled.Goals as goal
 
 pub returns-clause-styled : goal.returns-clause-styled

@@ -1,5 +1,5 @@
 use Rattle.souper_graph.specs.View.{view_left_hand_side}
-use Rattle.souper_graph.proofs.Naming.{IsFaultOf-answered}
+use Rattle.souper_graph.proofs.Texts.Naming.{IsFaultOf-answered}
 use Rattle.souper_graph.proofs.ast.items.LeftHandSide.append_text.Goals as goal
 
 pub returns-clause-refused : goal.returns-clause-refused

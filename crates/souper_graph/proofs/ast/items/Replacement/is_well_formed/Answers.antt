@@ -1,8 +1,8 @@
 use Rattle.std.proofs.Common.{refl}
 use Rattle.souper_graph.specs.declared.ast.items.Replacement.TheVariants.{LhsRhs, Cand}
 use Rattle.souper_graph.specs.View.{view_replacement}
-use Rattle.souper_graph.proofs.Judged.{ending_of_well_formed}
-use Rattle.souper_graph.proofs.JudgedOrders.{judged}
+use Rattle.souper_graph.proofs.Judging.Closed.{ending_of_well_formed}
+use Rattle.souper_graph.proofs.Judging.Orders.{judged}
 use Rattle.souper_graph.proofs.ast.items.Replacement.is_well_formed.Goals as goal
 
 pub returns-then-not-replaced_stands : goal.returns-then-not-replaced_stands

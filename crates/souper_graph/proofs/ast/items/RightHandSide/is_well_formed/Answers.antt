@@ -1,7 +1,7 @@
 use Rattle.std.proofs.Common.{refl}
 use Rattle.souper_graph.specs.View.{view_right_hand_side}
-use Rattle.souper_graph.proofs.Judged.{ending_of_well_formed}
-use Rattle.souper_graph.proofs.JudgedOrders.{judged}
+use Rattle.souper_graph.proofs.Judging.Closed.{ending_of_well_formed}
+use Rattle.souper_graph.proofs.Judging.Orders.{judged}
 use Rattle.souper_graph.proofs.ast.items.RightHandSide.is_well_formed.Goals as goal
 
 pub returns-then-not-result_stands : goal.returns-then-not-result_stands

@@ -4,7 +4,7 @@ use Rattle.std.specs.BTreeSet.{BTreeSet}
 use Rattle.std.proofs.lemmas.List.{take_more, take_all}
 use Rattle.souper_graph.specs.View.{view_statement}
 use Rattle.souper_graph.specs.Judging.{assigned_name_at}
-use Rattle.souper_graph.proofs.Apart.{NamesAre, Apart, has_name, names_more, names_same, apart_more, fresh_new, fresh_none, not_apart, apart_to, apart_from, was_there, was_new}
+use Rattle.souper_graph.proofs.Judging.Names.{NamesAre, Apart, has_name, names_more, names_same, apart_more, fresh_new, fresh_none, not_apart, apart_to, apart_from, was_there, was_new}
 use Rattle.souper_graph.proofs.ast.well_formed.apart.are_named_apart.Goals as goal
 use Rattle.souper_graph.proofs.ast.well_formed.apart.are_named_apart.Goals.{in-Some+in_ok-insert+else-not-branch, in_default}
 

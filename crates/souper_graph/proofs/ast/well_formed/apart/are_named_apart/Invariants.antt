@@ -1,6 +1,6 @@
 use Rattle.std.proofs.Common.{take, map}
 use Rattle.souper_graph.specs.View.{view_statement}
-use Rattle.souper_graph.proofs.Apart.{NamesAre, Apart}
+use Rattle.souper_graph.proofs.Judging.Names.{NamesAre, Apart}
 use Rattle.souper_graph.proofs.ast.well_formed.apart.are_named_apart.Given as goal
 
 -- the set has the names so far, and they are distinct

@@ -2,7 +2,7 @@ use Rattle.std.proofs.Common.{map, refl, rules}
 use Rattle.souper_graph.specs.View.{view_statement}
 use Rattle.souper_graph.specs.Uses.{uses_of_operand}
 use Rattle.souper_graph.specs.Judging.{AreMetBelow}
-use Rattle.souper_graph.proofs.Judged.{met_of_operands, operands_of_met, All-at, All-taken}
+use Rattle.souper_graph.proofs.Judging.Closed.{met_of_operands, operands_of_met, All-at, All-taken}
 use Rattle.souper_graph.proofs.ast.well_formed.closed.operands_are_met.Goals as goal
 
 pub returns-then-not-operand_is_met : goal.returns-then-not-operand_is_met

@@ -1,7 +1,7 @@
 use Rattle.std.proofs.Common.{rules}
 use Rattle.souper_graph.specs.View.{view_attribute}
 use Rattle.souper_graph.specs.WellFormed.{FitsAttribute}
-use Rattle.souper_graph.proofs.Judged.{All-map_at}
+use Rattle.souper_graph.proofs.Judging.Closed.{All-map_at}
 use Rattle.souper_graph.proofs.ast.well_formed.fitting.attributes_fit.Goals as goal
 
 pub returns-then-not-attribute_fits : goal.returns-then-not-attribute_fits

@@ -1,5 +1,5 @@
 use Rattle.std.proofs.Common.{sym, arith}
-use Rattle.souper_graph.proofs.Bits.{word_there, mark_read}
+use Rattle.souper_graph.proofs.Order.Marks.{word_there, mark_read}
 use Rattle.souper_graph.proofs.stringify.marks.Marks.is_marked.Goals as goal
 
 pub index-requires : goal.index-requires

@@ -1,5 +1,5 @@
 use Rattle.std.proofs.Common.{sym, arith}
-use Rattle.souper_graph.proofs.Bits.{word_there, mark_set}
+use Rattle.souper_graph.proofs.Order.Marks.{word_there, mark_set}
 use Rattle.souper_graph.proofs.stringify.marks.Marks.mark.Goals as goal
 
 pub index_mut-requires : goal.index_mut-requires

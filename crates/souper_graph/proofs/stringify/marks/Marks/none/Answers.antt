@@ -1,5 +1,5 @@
 use Rattle.std.proofs.Common.{◌+◌, ◌/◌, arith}
-use Rattle.souper_graph.proofs.Bits.{marks_none}
+use Rattle.souper_graph.proofs.Order.Marks.{marks_none}
 use Rattle.souper_graph.proofs.stringify.marks.Marks.none.Goals as goal
 
 pub returns : goal.returns

@@ -4,7 +4,7 @@ use Rattle.std.specs.String.{string_bytes}
 use Rattle.std.proofs.lemmas.Result.{on_ok_weaker}
 use Rattle.souper_graph.specs.View.{view_statement}
 use Rattle.souper_graph.specs.Text.{name_at, text_of_operand}
-use Rattle.souper_graph.proofs.Naming.{eight_parts}
+use Rattle.souper_graph.proofs.Texts.Naming.{eight_parts}
 use Rattle.souper_graph.proofs.stringify.nodes.BlockPcAppend.append.Goals as goal
 
 pub returns-clause-ok : goal.returns-clause-ok

@@ -1,6 +1,6 @@
 use Rattle.std.proofs.Common.{◌∙◌}
 use Rattle.souper_graph.specs.View.{view_replacement}
-use Rattle.souper_graph.proofs.Lower.{shown, shown_styled}
+use Rattle.souper_graph.proofs.Judging.Lower.{shown, shown_styled}
 use Rattle.souper_graph.proofs.stringify.text.ReplacementDisplay.fmt.Goals as goal
 
 pub returns-in-Ok-clause-writes : goal.returns-in-Ok-clause-writes

@@ -1,8 +1,8 @@
 use Rattle.souper_graph.specs.View.{view_attribute}
 use Rattle.souper_graph.specs.Syntax.Spelling.{attribute_spells}
 use Rattle.souper_ir.specs.NodeReadings.{attribute_at}
-use Rattle.souper_ir.specs.AttributeLaws.{attribute_sound, attribute_complete}
-use Rattle.souper_ir.specs.Readings.{taken, refused}
+use Rattle.souper_ir.specs.Laws.Attributes.{attribute_sound, attribute_complete}
+use Rattle.souper_ir.specs.Laws.FromReadings.{taken, refused}
 use Rattle.souper_ir.specs.Errors.{widened}
 use Rattle.souper_ir.proofs.parse.attributes.AttributeParse.parse.Goals as goal
 

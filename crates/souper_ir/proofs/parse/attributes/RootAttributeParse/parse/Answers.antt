@@ -1,8 +1,8 @@
 use Rattle.souper_graph.specs.View.{view_root_attribute}
 use Rattle.souper_graph.specs.Syntax.Spelling.{root_attribute_spells}
 use Rattle.souper_ir.specs.NodeReadings.{root_attribute_at}
-use Rattle.souper_ir.specs.AttributeLaws.{root_attribute_sound, root_attribute_complete}
-use Rattle.souper_ir.specs.Readings.{taken, refused}
+use Rattle.souper_ir.specs.Laws.Attributes.{root_attribute_sound, root_attribute_complete}
+use Rattle.souper_ir.specs.Laws.FromReadings.{taken, refused}
 use Rattle.souper_ir.specs.Errors.{widened}
 use Rattle.souper_ir.proofs.parse.attributes.RootAttributeParse.parse.Goals as goal
 

@@ -1,4 +1,4 @@
-use Rattle.souper_ir.proofs.Placing.{direct_is}
+use Rattle.souper_ir.proofs.Shown.Lines.{direct_is}
 use Rattle.souper_ir.proofs.parse.error.RefusalDisplay.fmt.Goals as goal
 
 pub returns-in-None-clause-writes : goal.returns-in-None-clause-writes

@@ -5,9 +5,9 @@ use Rattle.souper_graph.specs.View.{view_statement, view_infer, view_cand}
 use Rattle.souper_graph.specs.Syntax.Spelling.{replacement, result_spells}
 use Rattle.souper_ir.specs.Continuation.{result_continues}
 use Rattle.souper_ir.specs.NodeReadings.{result_at}
-use Rattle.souper_ir.specs.StatementLaws.{result_sound, result_complete}
-use Rattle.souper_ir.specs.Readings.{is_taken, is_refused}
-use Rattle.souper_ir.proofs.ItemSteps.{item_taken, statements_refused, tail_refused, look_refused, cand_tail, cand_tail_refused, root_refused, root_behind, middle_refused, last_refused, replaced_tail}
+use Rattle.souper_ir.specs.Laws.Statements.{result_sound, result_complete}
+use Rattle.souper_ir.specs.Laws.FromReadings.{is_taken, is_refused}
+use Rattle.souper_ir.proofs.Items.Steps.{item_taken, statements_refused, tail_refused, look_refused, cand_tail, cand_tail_refused, root_refused, root_behind, middle_refused, last_refused, replaced_tail}
 use Rattle.souper_ir.specs.Errors.{error_of}
 use Rattle.souper_ir.proofs.parse.item.ReplacementWholeItem.item.Goals as goal
 

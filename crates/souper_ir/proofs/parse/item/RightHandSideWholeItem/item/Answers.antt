@@ -5,9 +5,9 @@ use Rattle.souper_graph.specs.View.{view_right_hand_side}
 use Rattle.souper_graph.specs.Syntax.Spelling.{right_hand_side, result_spells}
 use Rattle.souper_ir.specs.Continuation.{result_continues}
 use Rattle.souper_ir.specs.NodeReadings.{result_at}
-use Rattle.souper_ir.specs.StatementLaws.{result_sound, result_complete}
-use Rattle.souper_ir.specs.Readings.{is_taken, is_refused}
-use Rattle.souper_ir.proofs.ItemSteps.{item_taken, statements_refused, tail_refused, result_tail, result_tail_refused}
+use Rattle.souper_ir.specs.Laws.Statements.{result_sound, result_complete}
+use Rattle.souper_ir.specs.Laws.FromReadings.{is_taken, is_refused}
+use Rattle.souper_ir.proofs.Items.Steps.{item_taken, statements_refused, tail_refused, result_tail, result_tail_refused}
 use Rattle.souper_ir.specs.Errors.{error_of}
 use Rattle.souper_ir.proofs.parse.item.RightHandSideWholeItem.item.Goals as goal
 

@@ -1,7 +1,7 @@
 use Rattle.std.proofs.Common.{List, ◌∷◌, [], length, refl, ap, ◌∙◌, arith}
 use Rattle.std.proofs.lemmas.List.{length-append}
 use Rattle.souper_ir.specs.NamesView.{Slot}
-use Rattle.souper_ir.proofs.Names.{kept, keeps_push}
+use Rattle.souper_ir.proofs.Scope.Names.{kept, keeps_push}
 use Rattle.souper_ir.proofs.parse.names.Names.append.Goals as goal
 
 pub loop-value-init : goal.loop-value-init

@@ -1,6 +1,6 @@
 use Rattle.std.proofs.Common.{arith}
 use Rattle.std.proofs.lemmas.Result.{on_ok_weaker}
-use Rattle.souper_ir.proofs.Names.{append_defined, insert_defined}
+use Rattle.souper_ir.proofs.Scope.Names.{append_defined, insert_defined}
 use Rattle.souper_ir.proofs.parse.names.Names.define.Goals as goal
 
 pub returns-then-len-number : goal.returns-then-len-number

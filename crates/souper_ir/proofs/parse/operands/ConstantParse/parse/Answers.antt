@@ -1,8 +1,8 @@
 use Rattle.souper_graph.specs.Syntax.Spelling.{constant_spells}
 use Rattle.souper_ir.specs.Continuation.{constant_continues}
-use Rattle.souper_ir.specs.OperandLaws.{constant_sound, constant_complete}
+use Rattle.souper_ir.specs.Laws.Operands.{constant_sound, constant_complete}
 use Rattle.souper_ir.specs.NodeReadings.{constant_at}
-use Rattle.souper_ir.specs.Readings.{taken, refused}
+use Rattle.souper_ir.specs.Laws.FromReadings.{taken, refused}
 use Rattle.souper_ir.specs.Errors.{widened}
 use Rattle.souper_ir.proofs.parse.operands.ConstantParse.parse.Goals as goal
 

@@ -1,8 +1,8 @@
 use Rattle.souper_graph.specs.Syntax.Spelling.{operand_spells}
 use Rattle.souper_ir.specs.Continuation.{operand_continues}
-use Rattle.souper_ir.specs.OperandLaws.{operand_sound, operand_complete}
+use Rattle.souper_ir.specs.Laws.Operands.{operand_sound, operand_complete}
 use Rattle.souper_ir.specs.NodeReadings.{operand_at}
-use Rattle.souper_ir.specs.Readings.{taken, refused}
+use Rattle.souper_ir.specs.Laws.FromReadings.{taken, refused}
 use Rattle.souper_ir.specs.Errors.{widened}
 use Rattle.souper_ir.proofs.parse.operands.OperandParse.parse.Goals as goal
 

@@ -1,7 +1,7 @@
 use Rattle.souper_graph.specs.Syntax.Spelling.{type_spells}
-use Rattle.souper_ir.specs.OperandLaws.{type_sound, type_complete}
+use Rattle.souper_ir.specs.Laws.Operands.{type_sound, type_complete}
 use Rattle.souper_ir.specs.NodeReadings.{type_at}
-use Rattle.souper_ir.specs.Readings.{taken, refused}
+use Rattle.souper_ir.specs.Laws.FromReadings.{taken, refused}
 use Rattle.souper_ir.specs.Errors.{widened}
 use Rattle.souper_ir.proofs.parse.operands.TypeParse.parse.Goals as goal
 

@@ -1,7 +1,7 @@
 use Rattle.std.proofs.Common.{map, ◌∙◌}
 use Rattle.std.proofs.lemmas.List.{map-append}
 use Rattle.souper_graph.specs.View.{view_statement}
-use Rattle.souper_ir.proofs.Names.{position_pass}
+use Rattle.souper_ir.proofs.Scope.Names.{position_pass}
 use Rattle.souper_ir.proofs.parse.parser.Parser.add.Goals as goal
 
 pub invariant_of-self : goal.invariant_of-self

@@ -2,7 +2,7 @@ use Rattle.std.proofs.Common.{ℕ, sym, ◌∙◌, ap}
 use Rattle.std.specs.Prelude.{option_copied, Some}
 use Rattle.souper_graph.specs.Lookup.{block_at as block_in}
 use Rattle.souper_ir.specs.Parsing.{Parsing}
-use Rattle.souper_ir.proofs.Scopes.{block_named, block_is}
+use Rattle.souper_ir.proofs.Scope.Growing.{block_named, block_is}
 use Rattle.souper_ir.proofs.parse.parser.Parser.block_named.Goals as goal
 
 pub returns-in_err-block : goal.returns-in_err-block

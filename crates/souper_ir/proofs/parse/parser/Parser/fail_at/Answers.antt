@@ -1,6 +1,6 @@
 use Rattle.std.proofs.Common.{refl, ap}
 use Rattle.souper_ir.specs.Parsing.{Parsing}
-use Rattle.souper_ir.proofs.Failing.{refused_fails}
+use Rattle.souper_ir.proofs.Nodes.Failing.{refused_fails}
 use Rattle.souper_ir.specs.Errors.{error_of}
 use Rattle.souper_ir.proofs.parse.parser.Parser.fail_at.Goals as goal
 

@@ -2,7 +2,7 @@ use Rattle.std.proofs.Common.{refl, ap}
 use Rattle.std.specs.Prelude.{is_some}
 use Rattle.souper_ir.specs.MarkView.{lexeme_of_mark}
 use Rattle.souper_ir.specs.NodeReadings.{mark_of, is_mark}
-use Rattle.souper_ir.proofs.Taken.{mark_itself, taken, seen}
+use Rattle.souper_ir.proofs.Nodes.Taken.{mark_itself, taken, seen}
 use Rattle.souper_ir.proofs.parse.parser.Parser.take_mark.Goals as goal
 
 pub returns-in-Some-clause-taken : goal.returns-in-Some-clause-taken

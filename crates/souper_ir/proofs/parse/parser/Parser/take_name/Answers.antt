@@ -1,7 +1,7 @@
 use Rattle.std.proofs.Common.{refl}
 use Rattle.souper_graph.specs.Syntax.Tokens.{val_name}
 use Rattle.souper_ir.specs.NodeReadings.{name_of, is_name}
-use Rattle.souper_ir.proofs.Taken.{taken, seen}
+use Rattle.souper_ir.proofs.Nodes.Taken.{taken, seen}
 use Rattle.souper_ir.proofs.parse.parser.Parser.take_name.Goals as goal
 
 pub returns-clause-taken : goal.returns-clause-taken

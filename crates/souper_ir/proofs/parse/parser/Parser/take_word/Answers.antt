@@ -1,7 +1,7 @@
 use Rattle.std.proofs.Common.{refl}
 use Rattle.souper_graph.specs.Syntax.Tokens.{ident}
 use Rattle.souper_ir.specs.NodeReadings.{is_any}
-use Rattle.souper_ir.proofs.Taken.{taken_itself, seen}
+use Rattle.souper_ir.proofs.Nodes.Taken.{taken_itself, seen}
 use Rattle.souper_ir.proofs.parse.parser.Parser.take_word.Goals as goal
 
 pub returns-clause-taken : goal.returns-clause-taken

@@ -1,7 +1,7 @@
 use Rattle.std.proofs.Common.{◌≡◌, ◌∙◌, ap, decimal, refl, string_bytes, option_map, arith, rules}
 use Rattle.std.specs.Fmt.{styled_decimal}
 use Rattle.souper_ir.specs.Places.{file_or_unknown}
-use Rattle.souper_ir.proofs.Placing.{shown_by_writes, padded_right}
+use Rattle.souper_ir.proofs.Shown.Lines.{shown_by_writes, padded_right}
 use Rattle.souper_ir.proofs.parse.place.Place.show.Goals as goal
 use Rattle.souper_ir.proofs.parse.place.Place.show.Goals.{in-Some, in-None}
 

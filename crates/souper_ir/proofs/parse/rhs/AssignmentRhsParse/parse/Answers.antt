@@ -1,9 +1,9 @@
 use Rattle.souper_graph.specs.View.{view_rhs}
 use Rattle.souper_graph.specs.Syntax.Spelling.{rhs_spells}
 use Rattle.souper_ir.specs.Continuation.{rhs_continues}
-use Rattle.souper_ir.specs.RhsLaws.{rhs_sound, rhs_complete}
+use Rattle.souper_ir.specs.Laws.RightSides.{rhs_sound, rhs_complete}
 use Rattle.souper_ir.specs.NodeReadings.{rhs_at}
-use Rattle.souper_ir.specs.Readings.{taken, refused}
+use Rattle.souper_ir.specs.Laws.FromReadings.{taken, refused}
 use Rattle.souper_ir.specs.Errors.{widened}
 use Rattle.souper_ir.proofs.parse.rhs.AssignmentRhsParse.parse.Goals as goal
 

@@ -1,7 +1,7 @@
 use Rattle.souper_graph.specs.Syntax.Spelling.{block_spells}
-use Rattle.souper_ir.specs.RhsLaws.{block_sound, block_complete}
+use Rattle.souper_ir.specs.Laws.RightSides.{block_sound, block_complete}
 use Rattle.souper_ir.specs.NodeReadings.{block_at}
-use Rattle.souper_ir.specs.Readings.{taken, refused}
+use Rattle.souper_ir.specs.Laws.FromReadings.{taken, refused}
 use Rattle.souper_ir.specs.Errors.{widened}
 use Rattle.souper_ir.proofs.parse.rhs.BlockParse.parse.Goals as goal
 

@@ -1,8 +1,8 @@
 use Rattle.souper_graph.specs.Syntax.Spelling.{instruction_spells}
 use Rattle.souper_ir.specs.Continuation.{instruction_continues}
-use Rattle.souper_ir.specs.RhsLaws.{instruction_sound, instruction_complete}
+use Rattle.souper_ir.specs.Laws.RightSides.{instruction_sound, instruction_complete}
 use Rattle.souper_ir.specs.NodeReadings.{instruction_at}
-use Rattle.souper_ir.specs.Readings.{taken, refused}
+use Rattle.souper_ir.specs.Laws.FromReadings.{taken, refused}
 use Rattle.souper_ir.specs.Errors.{widened}
 use Rattle.souper_ir.proofs.parse.rhs.InstructionParse.parse.Goals as goal
 

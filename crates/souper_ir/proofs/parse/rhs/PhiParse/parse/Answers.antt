@@ -1,9 +1,9 @@
 use Rattle.souper_graph.specs.View.{view_phi}
 use Rattle.souper_graph.specs.Syntax.Spelling.{phi_spells}
 use Rattle.souper_ir.specs.Continuation.{phi_continues}
-use Rattle.souper_ir.specs.RhsLaws.{phi_sound, phi_complete}
+use Rattle.souper_ir.specs.Laws.RightSides.{phi_sound, phi_complete}
 use Rattle.souper_ir.specs.NodeReadings.{phi_at}
-use Rattle.souper_ir.specs.Readings.{taken, refused}
+use Rattle.souper_ir.specs.Laws.FromReadings.{taken, refused}
 use Rattle.souper_ir.specs.Errors.{widened}
 use Rattle.souper_ir.proofs.parse.rhs.PhiParse.parse.Goals as goal
 

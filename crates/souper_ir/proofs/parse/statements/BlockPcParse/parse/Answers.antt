@@ -1,8 +1,8 @@
 use Rattle.souper_graph.specs.Syntax.Spelling.{block_pc_spells}
 use Rattle.souper_ir.specs.Continuation.{block_pc_continues}
-use Rattle.souper_ir.specs.StatementLaws.{block_pc_sound, block_pc_complete}
+use Rattle.souper_ir.specs.Laws.Statements.{block_pc_sound, block_pc_complete}
 use Rattle.souper_ir.specs.NodeReadings.{block_pc_at}
-use Rattle.souper_ir.specs.Readings.{taken, refused}
+use Rattle.souper_ir.specs.Laws.FromReadings.{taken, refused}
 use Rattle.souper_ir.specs.Errors.{widened}
 use Rattle.souper_ir.proofs.parse.statements.BlockPcParse.parse.Goals as goal
 

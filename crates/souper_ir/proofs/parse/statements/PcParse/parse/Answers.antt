@@ -1,8 +1,8 @@
 use Rattle.souper_graph.specs.Syntax.Spelling.{pc_spells}
 use Rattle.souper_ir.specs.Continuation.{pc_continues}
-use Rattle.souper_ir.specs.StatementLaws.{pc_sound, pc_complete}
+use Rattle.souper_ir.specs.Laws.Statements.{pc_sound, pc_complete}
 use Rattle.souper_ir.specs.NodeReadings.{pc_at}
-use Rattle.souper_ir.specs.Readings.{taken, refused}
+use Rattle.souper_ir.specs.Laws.FromReadings.{taken, refused}
 use Rattle.souper_ir.specs.Errors.{widened}
 use Rattle.souper_ir.proofs.parse.statements.PcParse.parse.Goals as goal
 

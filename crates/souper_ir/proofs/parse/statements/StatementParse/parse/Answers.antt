@@ -2,7 +2,7 @@ use Rattle.std.specs.Prelude.{codes}
 use Rattle.std.proofs.lemmas.Result.{err_from_is_err_and}
 use Rattle.souper_graph.specs.View.{view_assignment}
 use Rattle.souper_ir.specs.NodeReadings.{is_word}
-use Rattle.souper_ir.proofs.Statements.{Refuses, peek_refused, pc_taken, pc_refused, passed, block_pc_taken, block_pc_refused, Takes_it, assignment_taken, assignment_refused}
+use Rattle.souper_ir.proofs.Nodes.Statements.{Refuses, peek_refused, pc_taken, pc_refused, passed, block_pc_taken, block_pc_refused, Takes_it, assignment_taken, assignment_refused}
 use Rattle.souper_graph.specs.Values.{block_condition}
 use Rattle.souper_ir.specs.Errors.{error_of}
 use Rattle.souper_ir.proofs.parse.statements.StatementParse.parse.Goals as goal

@@ -1,5 +1,5 @@
 use Rattle.std.proofs.lemmas.Result.{err_from_is_err_and}
-use Rattle.souper_ir.proofs.Options.{peek_refused, member_refused, some_taken, none_taken}
+use Rattle.souper_ir.proofs.Nodes.Options.{peek_refused, member_refused, some_taken, none_taken}
 use Rattle.souper_ir.proofs.parse.traits.OptionParse.parse.Goals as goal
 
 pub returns-in_err-peek-clause-err : goal.returns-in_err-peek-clause-err

@@ -1,5 +1,5 @@
 use Rattle.std.proofs.Common.{length, map}
-use Rattle.souper_ir.proofs.Lists.{SoFar}
+use Rattle.souper_ir.proofs.Nodes.Lists.{SoFar}
 use Rattle.souper_ir.proofs.parse.traits.VecParse.parse.Given as goal
 
 abbrev pub invariant-loop-values : goal.invariant-loop-values

@@ -1,0 +1,6 @@
+-- What the checks of well-formedness return.
+pub mod Closed
+pub mod Names
+pub mod Orders
+pub mod Needed
+pub mod Lower

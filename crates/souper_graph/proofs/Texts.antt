@@ -1,0 +1,3 @@
+-- What the functions that write texts are proved with.
+pub mod Naming
+pub mod Styled

@@ -1,0 +1,6 @@
+-- What a parser takes of items, and what a text of items spells.
+pub mod WellFormed
+pub mod Steps
+pub mod Lists
+pub mod Texts
+pub mod OneText

@@ -1,0 +1,72 @@
+-- Lemmas. A canonical text spells the renumbered items and no others, so it is one text for each graph.
+use Rattle.std.proofs.Common.{◌≡◌, ℕ, List, [], ◌∷◌, ◌++◌, map, sym, ap, subst}
+use Rattle.std.specs.List.{AllByRecursion}
+use Rattle.souper_graph.specs.Values.{PlainStatement, Ending, inferred, resulting, replaced, candidate, Item}
+use Rattle.souper_graph.specs.WellFormed.{EachClosed}
+use Rattle.souper_graph.specs.Text.{text_of, texts_of}
+use Rattle.souper_graph.specs.Sameness.{renumbered, SameGraph}
+use Rattle.souper_graph.specs.CanonicalText.{IsWellFormedOf, AreWellFormed, AllNeeded}
+use Rattle.souper_graph.specs.Syntax.Tokens.{Lexeme}
+use Rattle.souper_graph.specs.Syntax.Spelling.{kinds, Scope, ItemType, left_hand_side, right_hand_side, replacement, IsEndingOf, tail_spells, item_spells, list_spells, TextSpells}
+use Rattle.souper_graph.proofs.RoundTrip.ReadBack.{renumbered-closed, renumbered-needed, texts-read-back, same-graph-text}
+use Rattle.souper_graph.proofs.Sameness.Renumbered.{same-renumbered}
+use Rattle.souper_ir.proofs.Items.Lists.{text_alone}
+use Rattle.souper_ir.proofs.Items.WellFormed.{closed_well, text_closed}
+
+-- ---- the items of a text
+
+ending_of_type : (k : ItemType) (s : Scope) (new : List PlainStatement) (e : Ending) (ts : List Lexeme) → tail_spells k s (new, e) ts → IsEndingOf k e
+ending_of_type left_hand_side s new (inferred i) ts h = tt
+ending_of_type left_hand_side s new (resulting r) ts h = h
+ending_of_type left_hand_side s new (replaced i r) ts h = h
+ending_of_type left_hand_side s new (candidate c) ts h = h
+ending_of_type right_hand_side s new (inferred i) ts h = h
+ending_of_type right_hand_side s new (resulting r) ts h = tt
+ending_of_type right_hand_side s new (replaced i r) ts h = h
+ending_of_type right_hand_side s new (candidate c) ts h = h
+ending_of_type replacement s new (inferred i) ts h = h
+ending_of_type replacement s new (resulting r) ts h = h
+ending_of_type replacement s new (replaced i r) ts h = tt
+ending_of_type replacement s new (candidate c) ts h = tt
+
+item_of_type : (k : ItemType) (a : Item) (ts : List Lexeme) → item_spells k a ts → IsEndingOf k a.ending
+item_of_type k a ts h = ending_of_type k ([] ++ h.first) h.last a.ending h.tail h.tail_spelled
+
+well_formed_each : (k : ItemType) (items : List Item) (ts : List Lexeme) → AllByRecursion EachClosed items → list_spells k items ts → AreWellFormed k items
+well_formed_each k [] ts c h = tt
+well_formed_each k (a ∷ items) ts c h = ((closed_well a c.0, item_of_type k a h.prefix h.first), well_formed_each k items h.suffix c.1 h.second)
+
+-- the items that a text spells are well formed and of its type
+pub spelled_well_formed : (k : ItemType) (bs : List ℕ) (items : List Item) → TextSpells k bs items → AreWellFormed k items
+spelled_well_formed k bs items h = well_formed_each k items (kinds h.0) (text_closed k items bs h) h.2
+
+-- ---- canonical texts
+
+-- the canonical texts of items spell no other list
+pub texts_exact : (k : ItemType) (items others : List Item) → AreWellFormed k items → TextSpells k (texts_of items) others → others ≡ map renumbered items
+texts_exact k items others h s = text_alone k (texts_of items) others (map renumbered items) s (texts-read-back k items h)
+
+pub texts_spell : (k : ItemType) (items others : List Item) → AreWellFormed k items → others ≡ map renumbered items → TextSpells k (texts_of items) others
+texts_spell k items others h e = subst (TextSpells k (texts_of items)) (sym e) (texts-read-back k items h)
+
+heads : {A : Type 0} (x y : A) → x ∷ [] ≡ y ∷ [] → x ≡ y
+heads x y e = cc
+
+-- equal texts are texts of the same graph
+same_text_graph : (k : ItemType) (a b : Item) → IsWellFormedOf k a → IsWellFormedOf k b → text_of a ≡ text_of b → SameGraph a b
+same_text_graph k a b wa wb e =
+    let texts : texts_of (b ∷ []) ≡ texts_of (a ∷ []) = ap (λ (t : List ℕ). (t ++ 10 ∷ []) ++ []) (sym e) in
+    let read : TextSpells k (texts_of (a ∷ [])) (renumbered b ∷ []) = subst (λ (t : List ℕ). TextSpells k t (renumbered b ∷ [])) texts (texts-read-back k (b ∷ []) (wb, tt)) in
+    same-renumbered a b wa.0 wb.0 (heads (renumbered a) (renumbered b) (sym (texts_exact k (a ∷ []) (renumbered b ∷ []) (wa, tt) read)))
+
+pub one_text : (k : ItemType) (a b : Item) → IsWellFormedOf k a → IsWellFormedOf k b → (text_of a ≡ text_of b → SameGraph a b) × (SameGraph a b → text_of a ≡ text_of b)
+one_text k a b wa wb = (same_text_graph k a b wa wb, same-graph-text a b wa.0 wb.0)
+
+-- what a canonical text spells has closed and needed statements alone
+each_defined : (k : ItemType) (items : List Item) → AreWellFormed k items → AllByRecursion (λ (b : Item). EachClosed b × AllNeeded b) (map renumbered items)
+each_defined k [] h = tt
+each_defined k (a ∷ items) h = ((renumbered-closed a h.0.0, renumbered-needed a h.0.0), each_defined k items h.1)
+
+pub texts_defined : (k : ItemType) (items others : List Item) → AreWellFormed k items → TextSpells k (texts_of items) others → AllByRecursion (λ (b : Item). EachClosed b × AllNeeded b) others
+texts_defined k items others h s =
+    subst (λ (l : List Item). AllByRecursion (λ (b : Item). EachClosed b × AllNeeded b) l) (sym (texts_exact k items others h s)) (each_defined k items h)

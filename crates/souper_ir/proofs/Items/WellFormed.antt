@@ -1,0 +1,287 @@
+-- The items that a text spells are well formed.
+use Rattle.std.proofs.Common.{◌≡◌, ◌⊎◌, ℕ, Bool, ◌+◌, ◌<◌, List, [], ◌∷◌, ◌++◌, length, Option, Some, None, refl, sym, ◌∙◌, ap, subst, inl, inr, append_assoc}
+use Rattle.std.specs.Prelude.{slice_get}
+use Rattle.std.specs.List.{AllByRecursion}
+use Rattle.std.proofs.lemmas.List.{append-nil}
+use Rattle.souper_graph.specs.declared.ast.operands.«Type».{«Type» as Ty}
+use Rattle.souper_graph.specs.declared.ast.operands.Constant.{Constant}
+use Rattle.souper_graph.specs.declared.ast.operands.Operand.{Operand}
+use Rattle.souper_graph.specs.declared.ast.operands.Operand.TheVariants.{Value, Constant as constant_variant}
+use Rattle.souper_graph.specs.Values.{PlainAttribute, known_bits, power_of_two, negative, non_negative, non_zero, has_external_uses, sign_bits, range, PlainRootAttribute, demanded_bits, harvested_from_use, PlainRhs, var, block, phi, reserved_inst, reserved_const, instruction, PlainStatement, assigned, condition, block_condition, PlainInfer, PlainCand, Ending, inferred, resulting, replaced, candidate, Item}
+use Rattle.souper_graph.specs.Instructions.{operands_of}
+use Rattle.souper_graph.specs.Names.{IsName}
+use Rattle.souper_graph.specs.Uses.{Use, value_use, block_use, uses_of_operand, uses_of_operands, uses_of_rhs, uses_of, roots_of}
+use Rattle.souper_graph.specs.Faults.{AreMet}
+use Rattle.souper_graph.specs.WellFormed.{FitsOptionalType, FitsConstant, FitsOperand, FitsRhs, FitsAttribute, FitsRootAttribute, FitsAssignment, FitsStatement, AgreesRhs, AgreesWithBlock, Closed, FitsInfer, FitsEnding, WellFormed, EachClosed}
+use Rattle.souper_graph.specs.Syntax.Tokens.{Lexeme, val_name, spelling, IsLexeme, Begins, AreTokensOf}
+use Rattle.souper_graph.specs.Syntax.Spelling.{kinds, Scope, position_of, optional_type_spells, constant_spells, operand_spells, further_spells, operands_spells, pair_spells, rhs_spells, attribute_spells, root_attribute_spells, attributes_spell, root_attributes_spell, statement_spells, infer_spells, cand_spells, Statements, ItemType, left_hand_side, right_hand_side, replacement, tail_spells, item_spells, list_spells, TextSpells}
+use Rattle.souper_ir.specs.Parsing.{Parsing}
+use Rattle.souper_ir.specs.Laws.Steps.{kinds-append}
+use Rattle.souper_ir.proofs.Nodes.Limits.{number_fits, count_fits, width_fits}
+use Rattle.souper_ir.proofs.Scope.Growing.{Named, nothing_named, named_push, named_pass, get_push, AllReach, none_reach, both_reach, one_reaches, value_reaches, block_reaches, met_kept, closed_kept}
+
+abbrev AllLexemes : List Lexeme → Type 0
+AllLexemes ts = AllByRecursion IsLexeme ts
+
+all_left : (a b : List Lexeme) → AllLexemes (a ++ b) → AllLexemes a
+all_left [] b h = tt
+all_left (t ∷ a) b h = (h.0, all_left a b h.1)
+
+all_right : (a b : List Lexeme) → AllLexemes (a ++ b) → AllLexemes b
+all_right [] b h = h
+all_right (t ∷ a) b h = all_right a b h.1
+
+begun : (n : ℕ) (bs : List ℕ) (ts : List (ℕ × Lexeme)) (rest : List ℕ) → Begins n bs ts rest → AllLexemes (kinds ts)
+begun n bs [] rest h = tt
+begun n bs (t ∷ ts) rest h = (h.stands.is_token, begun (t.0 + length (spelling t.1)) h.after ts rest h.more)
+
+-- ---- operands and right sides
+
+type_fits : (o : Option Ty) (ts : List Lexeme) → optional_type_spells o ts → FitsOptionalType o
+type_fits None ts m = tt
+type_fits (Some t) ts m = width_fits m.2.0 t.width m.2.2
+
+constant_fits : (c : Constant) (ts : List Lexeme) → constant_spells c ts → FitsConstant c
+constant_fits c ts m = (number_fits m.word c.value m.value_is, type_fits c.ty m.rest m.ty_spelled)
+
+-- the uses are of statements in the scope, and the operands themselves are valid
+abbrev Sits : Scope → Operand → Type 0
+Sits s x = AllReach s (uses_of_operand x) × FitsOperand x
+
+abbrev AllSit : Scope → List Operand → Type 0
+AllSit s xs = AllReach s (uses_of_operands xs) × AllByRecursion FitsOperand xs
+
+operand_sits : (s : Scope) (x : Operand) (ts : List Lexeme) → operand_spells s x ts → Sits s x
+operand_sits s (Value i) ts m = (one_reaches s (value_use i) [] (value_reaches s m.0 i m.2) (none_reach s), tt)
+operand_sits s (constant_variant c) ts m = (none_reach s, constant_fits c ts m)
+
+one_more : (s : Scope) (x : Operand) (xs : List Operand) → Sits s x → AllSit s xs → AllSit s (x ∷ xs)
+one_more s x xs h hs = (both_reach s (uses_of_operand x) (uses_of_operands xs) h.0 hs.0, (h.1, hs.1))
+
+further_sit : (s : Scope) (xs : List Operand) (ts : List Lexeme) → further_spells s xs ts → AllSit s xs
+further_sit s [] ts m = (none_reach s, tt)
+further_sit s (x ∷ xs) ts m = one_more s x xs (operand_sits s x m.2.prefix m.2.first) (further_sit s xs m.2.suffix m.2.second)
+
+operands_sit : (s : Scope) (xs : List Operand) (ts : List Lexeme) → operands_spells s xs ts → AllSit s xs
+operands_sit s [] ts m = (none_reach s, tt)
+operands_sit s (x ∷ xs) ts m = one_more s x xs (operand_sits s x m.prefix m.first) (further_sit s xs m.suffix m.second)
+
+pair_sits : (s : Scope) (x y : Operand) (ts : List Lexeme) → pair_spells s x y ts → Sits s x × Sits s y
+pair_sits s x y ts m = (operand_sits s x m.prefix m.first, operand_sits s y m.suffix m.second)
+
+abbrev RhsSits : Scope → PlainRhs → Type 0
+RhsSits s v = AllReach s (uses_of_rhs v) × FitsRhs v × AgreesRhs s v
+
+rhs_sits : (s : Scope) (v : PlainRhs) (ts : List Lexeme) → rhs_spells s v ts → RhsSits s v
+rhs_sits s var ts m = (none_reach s, tt, tt)
+rhs_sits s (block b) ts m = (none_reach s, count_fits _ m.0 b.predecessors m.2, tt)
+rhs_sits s (phi p) ts m =
+    let entry = block_reaches s m.name p.block (length p.values) m.block_is in
+    let values = further_sit s p.values m.rest m.values_spelled in
+    (one_reaches s (block_use p.block) (uses_of_operands p.values) entry.0 values.0, values.1, entry.1)
+rhs_sits s reserved_inst ts m = (none_reach s, tt, tt)
+rhs_sits s reserved_const ts m = (none_reach s, tt, tt)
+rhs_sits s (instruction i) ts m =
+    let values = operands_sit s (operands_of i) m.0 m.2 in
+    (values.0, values.1, tt)
+
+-- ---- attributes
+
+attribute_fits : (a : PlainAttribute) (ts : List Lexeme) → attribute_spells a ts → FitsAttribute a
+attribute_fits (known_bits bits) ts m = m.1
+attribute_fits power_of_two ts m = tt
+attribute_fits negative ts m = tt
+attribute_fits non_negative ts m = tt
+attribute_fits non_zero ts m = tt
+attribute_fits has_external_uses ts m = tt
+attribute_fits (sign_bits n) ts m = count_fits _ m.0 n m.2
+attribute_fits (range low high) ts m = (number_fits m.low_word low m.low_is, number_fits m.high_word high m.high_is)
+
+attributes_fit : (xs : List PlainAttribute) (ts : List Lexeme) → attributes_spell xs ts → AllByRecursion FitsAttribute xs
+attributes_fit [] ts m = tt
+attributes_fit (x ∷ xs) ts m = (attribute_fits x m.prefix m.first, attributes_fit xs m.suffix m.second)
+
+root_attribute_fits : (a : PlainRootAttribute) (ts : List Lexeme) → root_attribute_spells a ts → FitsRootAttribute a
+root_attribute_fits (demanded_bits bits) ts m = m.1
+root_attribute_fits harvested_from_use ts m = tt
+
+root_attributes_fit : (xs : List PlainRootAttribute) (ts : List Lexeme) → root_attributes_spell xs ts → AllByRecursion FitsRootAttribute xs
+root_attributes_fit [] ts m = tt
+root_attributes_fit (x ∷ xs) ts m = (root_attribute_fits x m.prefix m.first, root_attributes_fit xs m.suffix m.second)
+
+-- ---- statements
+
+name_lexeme : (n : List ℕ) → IsLexeme (val_name n) → IsName n
+name_lexeme [] h = h
+name_lexeme (c ∷ s) h = h
+
+abbrev StatementSits : Scope → PlainStatement → Type 0
+StatementSits s v = AllReach s (uses_of v) × FitsStatement v × AgreesWithBlock s v
+
+statement_sits : (s : Scope) (v : PlainStatement) (ts : List Lexeme) → AllLexemes ts → statement_spells s v ts → StatementSits s v
+statement_sits s (assigned a) ts l m =
+    let value = rhs_sits s a.value m.rhs m.rhs_spelled in
+    let fits : FitsAssignment a = record {
+      name_fits = name_lexeme a.name (subst AllLexemes m.whole l).0;
+      type_fits = type_fits a.ty m.ty m.ty_spelled;
+      value_fits = value.1;
+      attributes_fit = attributes_fit a.attributes m.attributes m.attributes_spelled;
+    } in
+    (value.0, fits, value.2)
+statement_sits s (condition p) ts l m =
+    let k = pair_sits s p.x p.y m.0 m.2 in
+    (both_reach s (uses_of_operand p.x) (uses_of_operand p.y) k.0.0 k.1.0, (k.0.1, k.1.1), tt)
+statement_sits s (block_condition p) ts l m =
+    let entry = block_reaches s m.name p.block m.predecessors m.block_is in
+    let k = pair_sits s p.x p.y m.rest m.operands_spelled in (
+      one_reaches s (block_use p.block) (uses_of_operand p.x ++ uses_of_operand p.y) entry.0 (both_reach s (uses_of_operand p.x) (uses_of_operand p.y) k.0.0 k.1.0),
+      (count_fits _ m.number p.predecessor m.number_is, k.0.1, k.1.1),
+      subst (λ (n : ℕ). p.predecessor < n) entry.1 m.within,
+    )
+
+-- each statement is valid at its position
+abbrev AllClosed : Scope → Type 0
+AllClosed ss = (p : ℕ) (v : PlainStatement) → slice_get ss p ≡ Some v → Closed ss p v
+
+abbrev IsGood : Scope → Type 0
+IsGood ss = Named ss × AllClosed ss
+
+nothing_good : IsGood []
+nothing_good = (nothing_named, λ p v e. absurd (let no : ◌≡◌ {A = Option PlainStatement} None (Some v) = e in cc))
+
+closed_push : (ss : Scope) (s : PlainStatement) → AllClosed ss → StatementSits ss s → AllClosed (ss ++ s ∷ [])
+closed_push ss s before sits p v e = by_place (get_push ss s v p e)
+  where
+    last : Closed (ss ++ s ∷ []) (length ss) s
+    last = closed_kept ss (s ∷ []) (length ss) s (record {
+      fits = sits.1;
+      below = λ u h. (sits.0 u h).0;
+      met = λ u h. (sits.0 u h).1;
+      agrees = sits.2;
+    })
+
+    by_place : (slice_get ss p ≡ Some v) ⊎ ((p ≡ length ss) × (s ≡ v)) → Closed (ss ++ s ∷ []) p v
+    by_place (inl h) = closed_kept ss (s ∷ []) p v (before p v h)
+    by_place (inr h) = subst (λ (x : PlainStatement). Closed (ss ++ s ∷ []) p x) h.1 (subst (λ (i : ℕ). Closed (ss ++ s ∷ []) i s) (sym h.0) last)
+
+named_more : (s : Scope) (v : PlainStatement) (ts : List Lexeme) → Named s → statement_spells s v ts → Named (s ++ v ∷ [])
+named_more s (assigned a) ts named m = named_push s a named m.name_is_new
+named_more s (condition p) ts named m = named_pass s (condition p) named refl
+named_more s (block_condition p) ts named m = named_pass s (block_condition p) named refl
+
+stated_good : (s : Scope) (vs : List PlainStatement) (ts : List Lexeme) → AllLexemes ts → IsGood s → Statements s vs ts → IsGood (s ++ vs)
+stated_good s [] ts l good m = subst IsGood (sym (append-nil s)) good
+stated_good s (v ∷ vs) ts l good m =
+    let lexemes : AllLexemes (m.prefix ++ m.suffix) = subst AllLexemes m.whole l in
+    let sits = statement_sits s v m.prefix (all_left m.prefix m.suffix lexemes) m.first in
+    subst IsGood (append_assoc s (v ∷ []) vs)
+    (stated_good (s ++ v ∷ []) vs m.suffix (all_right m.prefix m.suffix lexemes) (named_more s v m.prefix good.0 m.first, closed_push s v good.1 sits) m.second)
+
+-- ---- last lines
+
+-- the last lines of an item are valid by themselves
+abbrev Ends : Scope → Ending → Type 0
+Ends ss y = AreMet ss (roots_of y) × FitsEnding y
+
+all_met : (s more : Scope) (us : List Use) → AllReach s us → AreMet (s ++ more) us
+all_met s more us h u k = met_kept s more u (h u k).1
+
+infer_reaches : (s : Scope) (i : PlainInfer) (ts : List Lexeme) → infer_spells s i ts → AllReach s (value_use i.value ∷ [])
+infer_reaches s i ts m = one_reaches s (value_use i.value) [] (value_reaches s m.name i.value m.value_is) (none_reach s)
+
+infer_fits : (s : Scope) (i : PlainInfer) (ts : List Lexeme) → infer_spells s i ts → FitsInfer i
+infer_fits s i ts m = root_attributes_fit i.attributes m.attributes m.attributes_spelled
+
+here : (s : Scope) (y : Ending) → AllReach s (roots_of y) → FitsEnding y → Ends (s ++ []) y
+here s y reach fits = (all_met s [] (roots_of y) reach, fits)
+
+replaced_ends : (s new : Scope) (i : PlainInfer) (r : Operand) → AllReach s (value_use i.value ∷ []) → Sits (s ++ new) r → AreMet (s ++ new) (roots_of (replaced i r))
+replaced_ends s new i r root result u (inl e) = met_kept s new u (root u (inl e)).1
+replaced_ends s new i r root result u (inr h) = (result.0 u h).1
+
+cand_ends : (s : Scope) (c : PlainCand) (ts : List Lexeme) → cand_spells s c ts → Ends (s ++ []) (candidate c)
+cand_ends s c ts m =
+    let lhs = operand_sits s c.lhs m.lhs m.lhs_spelled in
+    let rhs = operand_sits s c.rhs m.rhs m.rhs_spelled in
+    let roots : AllReach s (uses_of_operand c.lhs ++ uses_of_operand c.rhs) = both_reach s (uses_of_operand c.lhs) (uses_of_operand c.rhs) lhs.0 rhs.0 in
+    here s (candidate c) (both_reach s (uses_of_operand c.lhs ++ uses_of_operand c.rhs) [] roots (none_reach s)) (lhs.1, rhs.1, root_attributes_fit c.attributes m.attributes m.attributes_spelled)
+
+abbrev EndsGood : Scope → Ending → Type 0
+EndsGood ss y = IsGood ss × Ends ss y
+
+-- nothing was added
+ended : (s new : Scope) (y : Ending) → new ≡ [] → IsGood s → Ends (s ++ []) y → EndsGood (s ++ new) y
+ended s new y none good ends =
+    subst (λ (x : Scope). EndsGood (s ++ x) y) (sym none) (subst IsGood (sym (append-nil s)) good, ends)
+
+tail_good : (k : ItemType) (s new : Scope) (y : Ending) (ts : List Lexeme) → AllLexemes ts → IsGood s → tail_spells k s (new, y) ts → EndsGood (s ++ new) y
+tail_good left_hand_side s new (inferred i) ts l good m = ended s new (inferred i) m.0 good (here s (inferred i) (infer_reaches s i ts m.1) (infer_fits s i ts m.1))
+tail_good left_hand_side s new (resulting r) ts l good m = absurd m
+tail_good left_hand_side s new (replaced i r) ts l good m = absurd m
+tail_good left_hand_side s new (candidate c) ts l good m = absurd m
+tail_good right_hand_side s new (inferred i) ts l good m = absurd m
+tail_good right_hand_side s new (resulting r) ts l good m =
+    let result = operand_sits s r m.1.0 m.1.2 in
+    ended s new (resulting r) m.0 good (here s (resulting r) (both_reach s (uses_of_operand r) [] result.0 (none_reach s)) result.1)
+tail_good right_hand_side s new (replaced i r) ts l good m = absurd m
+tail_good right_hand_side s new (candidate c) ts l good m = absurd m
+tail_good replacement s new (inferred i) ts l good m = absurd m
+tail_good replacement s new (resulting r) ts l good m = absurd m
+tail_good replacement s new (replaced i r) ts l good m =
+    let lexemes : AllLexemes m.middle = all_left m.middle m.result (all_right m.infer (m.middle ++ m.result) (subst AllLexemes m.whole l)) in
+    let result = operand_sits (s ++ new) r m.result_spelled.0 m.result_spelled.2 in (
+      stated_good s new m.middle lexemes good m.middle_spelled,
+      (replaced_ends s new i r (infer_reaches s i m.infer m.infer_spelled) result, (infer_fits s i m.infer m.infer_spelled, result.1)),
+    )
+tail_good replacement s new (candidate c) ts l good m = ended s new (candidate c) m.0 good (cand_ends s c ts m.1)
+
+-- ---- items
+
+some_same : (p q : ℕ) (o : Option ℕ) → o ≡ Some p → o ≡ Some q → p ≡ q
+some_same p q o e f = let same : Some p ≡ Some q = sym e ∙ f in cc
+
+item_closed : (k : ItemType) (a : Item) (ts : List Lexeme) → AllLexemes ts → item_spells k a ts → EachClosed a
+item_closed k a ts l m =
+    let lexemes : AllLexemes (m.head ++ m.tail) = subst AllLexemes m.whole l in
+    let first : IsGood m.first = stated_good [] m.first m.head (all_left m.head m.tail lexemes) nothing_good m.head_spelled in
+    let whole : EndsGood a.statements a.ending = subst (λ (x : Scope). EndsGood x a.ending) (sym m.statements_are) (tail_good k m.first m.last a.ending m.tail (all_right m.head m.tail lexemes) first m.tail_spelled) in
+    record {
+      roots_met = whole.1.0;
+      ending_fits = whole.1.1;
+      closed = whole.0.1;
+      named_apart = λ p q v w ep eq same.
+          some_same p q (position_of a.statements v.name) (whole.0.0 p v ep) (subst (λ (x : List ℕ). position_of a.statements x ≡ Some q) (sym same) (whole.0.0 q w eq));
+    }
+
+pub closed_well : (a : Item) → EachClosed a → WellFormed a
+closed_well a h = record {
+  roots_met = h.roots_met;
+  ending_fits = h.ending_fits;
+  closed = λ p s needed e. h.closed p s e;
+  named_apart = λ p q v w np nq e f same. h.named_apart p q v w e f same;
+}
+
+all_closed : (k : ItemType) (items : List Item) (ts : List Lexeme) → AllLexemes ts → list_spells k items ts → AllByRecursion EachClosed items
+all_closed k [] ts l m = tt
+all_closed k (a ∷ items) ts l m =
+    let lexemes : AllLexemes (m.prefix ++ m.suffix) = subst AllLexemes m.whole l in
+    (item_closed k a m.prefix (all_left m.prefix m.suffix lexemes) m.first, all_closed k items m.suffix (all_right m.prefix m.suffix lexemes) m.second)
+
+-- such items are well formed
+pub all_well : (items : List Item) → AllByRecursion EachClosed items → AllByRecursion WellFormed items
+all_well [] h = tt
+all_well (a ∷ items) h = (closed_well a h.0, all_well items h.1)
+
+-- the tokens of a text are tokens
+pub text_lexemes : (bs : List ℕ) (ts : List (ℕ × Lexeme)) (faulty : Bool) → AreTokensOf bs ts faulty → AllLexemes (kinds ts)
+text_lexemes bs ts faulty h = begun 0 bs ts h.rest h.front
+
+-- an item that was taken from tokens is well formed
+pub taken_well : (k : ItemType) (a : Item) (p q r : Parsing) → AllLexemes (kinds p.tokens) → (taken : List (ℕ × Lexeme)) → p.tokens ≡ taken ++ q.tokens → (used : List (ℕ × Lexeme)) → q.tokens ≡ used ++ r.tokens → item_spells k a (kinds used) → WellFormed a
+taken_well k a p q r l taken parts used more m =
+    let behind : AllLexemes (kinds q.tokens) = all_right (kinds taken) (kinds q.tokens) (subst AllLexemes (ap kinds parts ∙ kinds-append taken q.tokens) l) in
+    closed_well a (item_closed k a (kinds used) (all_left (kinds used) (kinds r.tokens) (subst AllLexemes (ap kinds more ∙ kinds-append used r.tokens) behind)) m)
+
+-- each statement of the items of a text is valid at its position
+pub text_closed : (k : ItemType) (items : List Item) (bs : List ℕ) → TextSpells k bs items → AllByRecursion EachClosed items
+text_closed k items bs h = all_closed k items (kinds h.0) (begun 0 bs h.0 h.1.0 h.1.1) h.2

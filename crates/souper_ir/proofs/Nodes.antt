@@ -1,0 +1,11 @@
+-- What the functions that read nodes are proved with.
+pub mod Options
+pub mod Lists
+pub mod Failing
+pub mod Operands
+pub mod Numerals
+pub mod BitLists
+pub mod Limits
+pub mod Taken
+pub mod Statements
+pub mod NextStatements

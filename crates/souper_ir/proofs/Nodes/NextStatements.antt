@@ -1,0 +1,133 @@
+-- What is known of the next token, by the statement that it begins.
+use Rattle.std.proofs.Common.{◌≡◌, Bool, true, false, Option, Some, None, refl, ◌∙◌, ap, subst}
+use Rattle.std.specs.Prelude.{codes, if◌then◌else◌}
+use Rattle.souper_graph.specs.Syntax.Tokens.{Lexeme, ident, val_name, known_bits, int, comma, colon, equals, open_paren, close_paren, open_bracket}
+use Rattle.souper_graph.specs.Syntax.Optional.{◌>>=◌}
+use Rattle.souper_ir.specs.declared.parse.item.Next.{Next}
+use Rattle.souper_ir.specs.declared.parse.item.Next.TheVariants.{Assignment, Pc, BlockPc, Other}
+use Rattle.souper_ir.specs.Parsing.{Parsing}
+use Rattle.souper_ir.specs.Reading.{look_in, look_at, IsRead}
+use Rattle.souper_ir.specs.Grammar.{starts_next, peek_at}
+use Rattle.souper_ir.specs.NodeReadings.{is_name, is_word, starts_statement}
+use Rattle.souper_ir.specs.NextStatement.{chosen, begins, next_at, Begins}
+use Rattle.souper_ir.specs.Laws.Peeks.{some_is}
+use Rattle.souper_ir.specs.Laws.Steps.{bind_some}
+
+abbrev any_of : Bool → Bool → Bool → Bool
+any_of a b c = if a then true else (if b then true else c)
+
+is_pc : (a b c : Bool) → chosen a b c ≡ Pc → (a ≡ true) × (any_of a b c ≡ true)
+is_pc true b c e = (refl, refl)
+is_pc false true c e = absurd cc
+is_pc false false true e = absurd cc
+is_pc false false false e = absurd cc
+
+is_block_pc : (a b c : Bool) → chosen a b c ≡ BlockPc → (b ≡ true) × (any_of a b c ≡ true)
+is_block_pc true b c e = absurd cc
+is_block_pc false true c e = (refl, refl)
+is_block_pc false false true e = absurd cc
+is_block_pc false false false e = absurd cc
+
+is_assignment : (a b c : Bool) → chosen a b c ≡ Assignment → (a ≡ false) × (b ≡ false) × (any_of a b c ≡ true)
+is_assignment true b c e = absurd cc
+is_assignment false true c e = absurd cc
+is_assignment false false true e = (refl, refl, refl)
+is_assignment false false false e = absurd cc
+
+is_other : (a b c : Bool) → chosen a b c ≡ Other → any_of a b c ≡ false
+is_other true b c e = absurd cc
+is_other false true c e = absurd cc
+is_other false false true e = absurd cc
+is_other false false false e = refl
+
+-- a statement starts with one of the three
+one_of : Option Lexeme → Bool
+one_of t = any_of (starts_next (is_word (codes "pc")) t) (starts_next (is_word (codes "blockpc")) t) (starts_next is_name t)
+
+either : (a b : Bool) → (if a then true else b) ≡ any_of a b false
+either true b = refl
+either false true = refl
+either false false = refl
+
+starts_are : (t : Option Lexeme) → starts_next starts_statement t ≡ one_of t
+unfolding one_of
+starts_are None = refl
+starts_are (Some (ident w)) = either (is_word (codes "pc") (ident w)) (is_word (codes "blockpc") (ident w))
+starts_are (Some (val_name n)) = refl
+starts_are (Some (known_bits s)) = refl
+starts_are (Some (int w)) = refl
+starts_are (Some comma) = refl
+starts_are (Some colon) = refl
+starts_are (Some equals) = refl
+starts_are (Some open_paren) = refl
+starts_are (Some close_paren) = refl
+starts_are (Some open_bracket) = refl
+
+-- what each token that begins this is, the next one is
+seen : (starts : Lexeme → Bool) (b : Bool) (n : Next) (p q : Parsing) → ((t : Option Lexeme) → begins t ≡ n → starts_next starts t ≡ b) → IsRead (next_at p) n p q → IsRead (peek_at starts p) b p q
+unfolding next_at peek_at
+seen starts b n p q is h =
+    let s = bind_some (look_at p) (λ t. Some (begins t.0, t.1)) (n, q) h.0 in
+    let same : ◌≡◌ {A = Next × Parsing} (begins s.0.0, s.0.1) (n, q) = some_is s.2 in
+    let told : starts_next starts s.0.0 ≡ b = is s.0.0 (ap (λ (x : Next × Parsing). x.0) same) in
+    let behind : s.0.1 ≡ q = ap (λ (x : Next × Parsing). x.1) same in
+    (rw (s.1, told, behind) refl, h.1, h.2, h.3)
+
+abbrev nexts : Option (Option Lexeme × Parsing) → Option (Next × Parsing)
+nexts o = o >>= λ t. Some (begins t.0, t.1)
+
+abbrev peeks : (Lexeme → Bool) → Option (Option Lexeme × Parsing) → Option (Bool × Parsing)
+peeks starts o = o >>= λ t. Some (starts_next starts t.0, t.1)
+
+unseen_in : (starts : Lexeme → Bool) (o : Option (Option Lexeme × Parsing)) → nexts o ≡ None → peeks starts o ≡ None
+unseen_in starts None e = refl
+unseen_in starts (Some t) e = absurd cc
+
+pub unseen : (starts : Lexeme → Bool) (p : Parsing) → next_at p ≡ None → peek_at starts p ≡ None
+unfolding next_at peek_at
+unseen starts p e = unseen_in starts (look_at p) e
+
+pub pc_seen : (p q : Parsing) → IsRead (next_at p) Pc p q → IsRead (peek_at (is_word (codes "pc")) p) true p q
+pc_seen p q h = seen (is_word (codes "pc")) true Pc p q (λ t e. (is_pc _ _ _ e).0) h
+
+pub block_pc_seen : (p q : Parsing) → IsRead (next_at p) BlockPc p q → IsRead (peek_at (is_word (codes "blockpc")) p) true p q
+block_pc_seen p q h = seen (is_word (codes "blockpc")) true BlockPc p q (λ t e. (is_block_pc _ _ _ e).0) h
+
+pub no_pc_seen : (p q : Parsing) → IsRead (next_at p) Assignment p q → IsRead (peek_at (is_word (codes "pc")) p) false p q
+no_pc_seen p q h = seen (is_word (codes "pc")) false Assignment p q (λ t e. (is_assignment _ _ _ e).0) h
+
+pub no_block_pc_seen : (p q : Parsing) → IsRead (next_at p) Assignment p q → IsRead (peek_at (is_word (codes "blockpc")) p) false p q
+no_block_pc_seen p q h = seen (is_word (codes "blockpc")) false Assignment p q (λ t e. (is_assignment _ _ _ e).1) h
+
+abbrev pub IsStatement : Next → Type 0
+IsStatement Pc = Unit {0}
+IsStatement BlockPc = Unit {0}
+IsStatement Assignment = Unit {0}
+IsStatement Other = ⊥
+
+begun : (n : Next) (t : Option Lexeme) → IsStatement n → begins t ≡ n → starts_next starts_statement t ≡ true
+unfolding one_of
+begun Pc t h e = starts_are t ∙ (is_pc _ _ _ e).1
+begun BlockPc t h e = starts_are t ∙ (is_block_pc _ _ _ e).1
+begun Assignment t h e = starts_are t ∙ (is_assignment _ _ _ e).2
+begun Other t h e = absurd h
+
+pub statement_seen : (n : Next) (p q : Parsing) → IsStatement n → IsRead (next_at p) n p q → IsRead (peek_at starts_statement p) true p q
+statement_seen n p q is h = seen starts_statement true n p q (λ t e. begun n t is e) h
+
+pub no_statement_seen : (p q : Parsing) → IsRead (next_at p) Other p q → IsRead (peek_at starts_statement p) false p q
+unfolding one_of
+no_statement_seen p q h = seen starts_statement false Other p q (λ t e. starts_are t ∙ is_other _ _ _ e) h
+
+-- a look takes no token
+next_stays : (p q : Parsing) (n : Next) → next_at p ≡ Some (n, q) → p ≡ q
+unfolding next_at look_at
+next_stays p q n e =
+    let s = bind_some (look_in p.failed p.faulty p.tokens >>= λ t. Some (t, p)) (λ t. Some (begins t.0, t.1)) (n, q) e in
+    let l = bind_some (look_in p.failed p.faulty p.tokens) (λ t. Some (t, p)) s.0 s.1 in
+    let looked : ◌≡◌ {A = Option Lexeme × Parsing} (l.0, p) s.0 = some_is l.2 in
+    let same : ◌≡◌ {A = Next × Parsing} (begins s.0.0, s.0.1) (n, q) = some_is s.2 in
+    ap (λ (x : Option Lexeme × Parsing). x.1) looked ∙ ap (λ (x : Next × Parsing). x.1) same
+
+pub begins_here : (n : Next) (p q : Parsing) → IsRead (next_at p) n p q → Begins n q
+begins_here n p q h = subst (λ (x : Parsing). IsRead (next_at x) n x q) (next_stays p q n h.0) h

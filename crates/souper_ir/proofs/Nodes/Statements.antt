@@ -1,0 +1,140 @@
+-- Statements, by their first token.
+use Rattle.std.proofs.Common.{◌≡◌, ℕ, Bool, true, false, List, [], Option, Some, None, refl, sym, ◌∙◌, subst}
+use Rattle.std.specs.Prelude.{codes}
+use Rattle.std.proofs.lemmas.List.{append-nil}
+use Rattle.souper_graph.specs.declared.ast.operands.«Type».{«Type» as Ty}
+use Rattle.souper_graph.specs.declared.ast.statements.Pc.{Pc}
+use Rattle.souper_graph.specs.declared.ast.statements.BlockPc.{BlockPc}
+use Rattle.souper_graph.specs.Values.{PlainAttribute, PlainAssignment, PlainStatement, assigned, condition, block_condition}
+use Rattle.souper_ir.specs.declared.parse.error.ParseError.{ParseError}
+use Rattle.souper_ir.specs.Parsing.{Parsing}
+use Rattle.souper_graph.specs.Syntax.Tokens.{Lexeme}
+use Rattle.souper_graph.specs.Syntax.Spelling.{kinds, attribute_spells, assignment_spells, pc_spells, block_pc_spells, statement_spells}
+use Rattle.souper_ir.specs.Continuation.{assignment_continues, pc_continues, block_pc_continues, statement_continues}
+use Rattle.souper_ir.specs.Reading.{cause_of, IfRefused, if_refused, Fails, fails_later, IsRead}
+use Rattle.souper_ir.specs.Grammar.{Stops, Starts, Took, NoFront, Refusal, peek_at}
+use Rattle.souper_ir.specs.Laws.Unique.{clash_at}
+use Rattle.souper_ir.specs.Laws.Peeks.{peeked, peeked_yes, peeked_no, none_if_unread}
+use Rattle.souper_ir.specs.NodeReadings.{is_name, is_word, rhs_at, Definition, heading_at, definition_at, pc_at, block_pc_at}
+use Rattle.souper_ir.specs.Laws.FromReadings.{is_taken, is_refused}
+use Rattle.souper_ir.specs.Laws.Attributed.{Row, OneMore}
+use Rattle.souper_ir.specs.Laws.Statements.{definition_spells, definition_continues, definition_sound, definition_complete, assignment_laws, assignment_first, pc_sound, pc_complete, pc_first, block_pc_sound, block_pc_complete, block_pc_first, name_no_word, pc_no_block_pc, two_starts}
+
+abbrev pub Refuses : ParseError → Parsing → Parsing → Type 0
+Refuses e p q = Refusal statement_spells statement_continues e p q
+
+abbrev pub Takes_it : PlainStatement → Parsing → Parsing → Type 0
+Takes_it v p q = Took statement_spells statement_continues (λ s. s) v p q
+
+-- a parser at a fault, or that had failed
+pub peek_refused : (starts : Lexeme → Bool) (e : ParseError) (p q : Parsing) → IfRefused (cause_of e) (peek_at starts p ≡ None) × Fails e p q → Refuses e p q
+peek_refused starts e p q h = record { failed = h.1; nothing = none_if_unread statement_spells statement_continues starts p (cause_of e) h.0 }
+
+-- ---- the word of a path condition comes
+
+pc_none : (p : Parsing) → Starts (is_word (codes "pc")) (kinds p.tokens) → NoFront pc_spells pc_continues p → NoFront statement_spells statement_continues p
+pc_none p st none (assigned a) front rest e s stops =
+    two_starts is_name (is_word (codes "pc")) front (kinds p.tokens) rest [] (name_no_word (codes "pc")) (assignment_first p.scope a front s) st (sym e ∙ sym (append-nil (kinds p.tokens)))
+pc_none p st none (condition v) front rest e s stops = none v front rest e s stops
+pc_none p st none (block_condition v) front rest e s stops =
+    two_starts (is_word (codes "pc")) (is_word (codes "blockpc")) (kinds p.tokens) front [] rest pc_no_block_pc st (block_pc_first p.scope v front s) (append-nil (kinds p.tokens) ∙ e)
+
+pub pc_taken : (v : Pc) (p q r : Parsing) → IsRead (peek_at (is_word (codes "pc")) p) true p q → IsRead (pc_at q) v q r → Takes_it (condition v) p r
+pc_taken v p q r h k =
+    let seen = peeked (is_word (codes "pc")) p q true h.0 in
+    let t = is_taken pc_spells pc_continues pc_at (λ x. x) pc_sound v p r (subst (λ (x : Parsing). IsRead (pc_at x) v x r) seen.0 k) in
+    record { used = t.used; parts = t.parts; spelled = t.spelled; free = t.free; live = t.live; state = t.state }
+
+pub pc_refused : (e : ParseError) (p q r : Parsing) → IsRead (peek_at (is_word (codes "pc")) p) true p q → IfRefused (cause_of e) (pc_at q ≡ None) × Fails e q r → Refuses e p r
+pc_refused e p q r h k =
+    let seen = peeked (is_word (codes "pc")) p q true h.0 in
+    let f = is_refused pc_spells pc_continues pc_at pc_complete e p r (subst (λ (x : Parsing). IfRefused (cause_of e) (pc_at x ≡ None) × Fails e x r) seen.0 k) in
+    record { failed = f.failed; nothing = if_refused (cause_of e) (λ none live. pc_none p (peeked_yes (is_word (codes "pc")) p.faulty p.tokens seen.2) (none live)) f.nothing }
+
+-- ---- the word of a condition on a predecessor comes
+
+block_pc_none : (p : Parsing) → Starts (is_word (codes "blockpc")) (kinds p.tokens) → NoFront block_pc_spells block_pc_continues p → NoFront statement_spells statement_continues p
+block_pc_none p st none (assigned a) front rest e s stops =
+    two_starts is_name (is_word (codes "blockpc")) front (kinds p.tokens) rest [] (name_no_word (codes "blockpc")) (assignment_first p.scope a front s) st (sym e ∙ sym (append-nil (kinds p.tokens)))
+block_pc_none p st none (condition v) front rest e s stops =
+    two_starts (is_word (codes "pc")) (is_word (codes "blockpc")) front (kinds p.tokens) rest [] pc_no_block_pc (pc_first p.scope v front s) st (sym e ∙ sym (append-nil (kinds p.tokens)))
+block_pc_none p st none (block_condition v) front rest e s stops = none v front rest e s stops
+
+pub block_pc_taken : (v : BlockPc) (p q r : Parsing) → IsRead (peek_at (is_word (codes "blockpc")) p) true p q → IsRead (block_pc_at q) v q r → Takes_it (block_condition v) p r
+block_pc_taken v p q r h k =
+    let seen = peeked (is_word (codes "blockpc")) p q true h.0 in
+    let t = is_taken block_pc_spells block_pc_continues block_pc_at (λ x. x) block_pc_sound v p r (subst (λ (x : Parsing). IsRead (block_pc_at x) v x r) seen.0 k) in
+    record { used = t.used; parts = t.parts; spelled = t.spelled; free = t.free; live = t.live; state = t.state }
+
+pub block_pc_refused : (e : ParseError) (p q r : Parsing) → IsRead (peek_at (is_word (codes "blockpc")) p) true p q → IfRefused (cause_of e) (block_pc_at q ≡ None) × Fails e q r → Refuses e p r
+block_pc_refused e p q r h k =
+    let seen = peeked (is_word (codes "blockpc")) p q true h.0 in
+    let f = is_refused block_pc_spells block_pc_continues block_pc_at block_pc_complete e p r (subst (λ (x : Parsing). IfRefused (cause_of e) (block_pc_at x ≡ None) × Fails e x r) seen.0 k) in
+    record { failed = f.failed; nothing = if_refused (cause_of e) (λ none live. block_pc_none p (peeked_yes (is_word (codes "blockpc")) p.faulty p.tokens seen.2) (none live)) f.nothing }
+
+-- ---- an assignment from its parts
+
+abbrev Attributes : List PlainAttribute → Parsing → Parsing → Type 0
+Attributes xs q r = Took (Row attribute_spells) OneMore (λ s. s) xs q r
+
+definition_read : (p k q : Parsing) (d : Definition) → IsRead (heading_at p) (d.name, d.ty) p k → IsRead (rhs_at k) d.value k q → IsRead (definition_at p) d p q
+unfolding definition_at
+definition_read p k q d h v = (rw (h.0, v.0) refl, h.1, v.2, v.3 ∙ h.3)
+
+unread_heading : (p : Parsing) → heading_at p ≡ None → definition_at p ≡ None
+unfolding definition_at
+unread_heading p e = rw e refl
+
+unread_value : (p k : Parsing) (h : List ℕ × Option Ty) → heading_at p ≡ Some (h, k) → rhs_at k ≡ None → definition_at p ≡ None
+unfolding definition_at
+unread_value p k h e f = rw (e, f) refl
+
+pub parts_taken : (a : PlainAssignment) (p k q r : Parsing) → IsRead (heading_at p) (a.name, a.ty) p k → IsRead (rhs_at k) a.value k q → Attributes a.attributes q r
+    → Took assignment_spells assignment_continues (λ s. s) a p r
+parts_taken a p k q r h v xs =
+    let d : Definition = record { name = a.name; ty = a.ty; value = a.value } in
+    assignment_laws.taken a p q r (is_taken definition_spells definition_continues definition_at (λ (x : Definition). x) definition_sound d p q (definition_read p k q d h v)) xs
+
+refused_definition : (e : ParseError) (p q : Parsing) → IfRefused (cause_of e) (definition_at p ≡ None) → Fails e p q → Refusal assignment_spells assignment_continues e p q
+refused_definition e p q h f = assignment_laws.refused_before e p q (is_refused definition_spells definition_continues definition_at definition_complete e p q (h, f))
+
+pub heading_refused : (e : ParseError) (p q : Parsing) → IfRefused (cause_of e) (heading_at p ≡ None) × Fails e p q → Refusal assignment_spells assignment_continues e p q
+heading_refused e p q h = refused_definition e p q (if_refused (cause_of e) (unread_heading p) h.0) h.1
+
+pub value_refused : (e : ParseError) (x : List ℕ × Option Ty) (p k q : Parsing) → IsRead (heading_at p) x p k → IfRefused (cause_of e) (rhs_at k ≡ None) × Fails e k q → Refusal assignment_spells assignment_continues e p q
+value_refused e x p k q h f = refused_definition e p q (if_refused (cause_of e) (unread_value p k x h.0) f.0) (fails_later e p k q (h.2 ∙ sym h.1) h.3 f.1)
+
+pub attributes_refused : (e : ParseError) (d : Definition) (p k q r : Parsing) → IsRead (heading_at p) (d.name, d.ty) p k → IsRead (rhs_at k) d.value k q → Refusal (Row attribute_spells) OneMore e q r
+    → Refusal assignment_spells assignment_continues e p r
+attributes_refused e d p k q r h v f =
+    assignment_laws.refused_behind d e p q r (is_taken definition_spells definition_continues definition_at (λ (x : Definition). x) definition_sound d p q (definition_read p k q d h v)) f
+
+-- ---- neither word comes
+
+-- what a look leaves
+pub passed : (P : Parsing → Type 0) (k : List ℕ) (p q : Parsing) → IsRead (peek_at (is_word k) p) false p q → P q → P p
+passed P k p q h x = subst P (peeked (is_word k) p q false h.0).0 x
+
+other_none : (p : Parsing) → Stops (λ t. is_word (codes "pc") t ≡ true) p.faulty (kinds p.tokens) → Stops (λ t. is_word (codes "blockpc") t ≡ true) p.faulty (kinds p.tokens)
+    → NoFront assignment_spells assignment_continues p → NoFront statement_spells statement_continues p
+other_none p no_pc no_block_pc none (assigned a) front rest e s stops = none a front rest e s stops
+other_none p no_pc no_block_pc none (condition v) front rest e s stops = clash_at (is_word (codes "pc")) p.faulty front (kinds p.tokens) rest (pc_first p.scope v front s) e no_pc
+other_none p no_pc no_block_pc none (block_condition v) front rest e s stops = clash_at (is_word (codes "blockpc")) p.faulty front (kinds p.tokens) rest (block_pc_first p.scope v front s) e no_block_pc
+
+pub assignment_taken : (a : PlainAssignment) (p q r t : Parsing) → IsRead (peek_at (is_word (codes "pc")) p) false p q → IsRead (peek_at (is_word (codes "blockpc")) q) false q r
+    → Took assignment_spells assignment_continues (λ s. s) a r t → Takes_it (assigned a) p t
+assignment_taken a p q r t h k took =
+    passed (λ x. Takes_it (assigned a) x t) (codes "pc") p q h (passed (λ x. Takes_it (assigned a) x t) (codes "blockpc") q r k
+    (record { used = took.used; parts = took.parts; spelled = took.spelled; free = took.free; live = took.live; state = took.state }))
+
+pub assignment_refused : (e : ParseError) (p q r t : Parsing) → IsRead (peek_at (is_word (codes "pc")) p) false p q → IsRead (peek_at (is_word (codes "blockpc")) q) false q r
+    → Refusal assignment_spells assignment_continues e r t → Refuses e p t
+assignment_refused e p q r t h k f =
+    let one = peeked (is_word (codes "pc")) p q false h.0 in
+    let here : IsRead (peek_at (is_word (codes "blockpc")) p) false p r = passed (λ x. IsRead (peek_at (is_word (codes "blockpc")) x) false x r) (codes "pc") p q h k in
+    let two = peeked (is_word (codes "blockpc")) p r false here.0 in
+    let g : Refusal assignment_spells assignment_continues e p t = passed (λ x. Refusal assignment_spells assignment_continues e x t) (codes "blockpc") p r here f in
+    record {
+      failed = g.failed;
+      nothing = if_refused (cause_of e) (λ none live. other_none p (peeked_no (is_word (codes "pc")) p.faulty p.tokens one.2) (peeked_no (is_word (codes "blockpc")) p.faulty p.tokens two.2) (none live)) g.nothing;
+    }

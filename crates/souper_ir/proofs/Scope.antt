@@ -1,0 +1,3 @@
+-- The names and blocks of the statements so far.
+pub mod Names
+pub mod Growing

@@ -1,0 +1,3 @@
+-- What errors show.
+pub mod Lines
+pub mod Unstyled

@@ -1,0 +1,14 @@
+-- Lemmas. What is read is spelled so, what is spelled so is read, and at most one prefix spells a value. The law of an
+-- `impl` may cite nothing of `proofs/`, so they are here.
+pub mod Unique
+pub mod Peeks
+pub mod Steps
+pub mod FromReadings
+pub mod Operands
+pub mod Words
+pub mod RightSides
+pub mod Attributes
+pub mod Sequence
+pub mod Attributed
+pub mod Statements
+pub mod Items

@@ -1,0 +1,97 @@
+-- Lemmas. A node with attributes after it: which tokens are its two parts, and what parsing one and then the other
+-- returns.
+use Rattle.std.proofs.Common.{◌≡◌, true, List, [], ◌∷◌, ◌++◌, refl, sym, subst, ◌⊎◌, inl, inr}
+use Rattle.souper_ir.specs.declared.parse.error.ParseError.{ParseError}
+use Rattle.souper_ir.specs.Parsing.{Parsing}
+use Rattle.souper_graph.specs.Syntax.Tokens.{Lexeme, open_paren}
+use Rattle.souper_graph.specs.Syntax.Spelling.{Scope}
+use Rattle.souper_ir.specs.Continuation.{attributes_continue}
+use Rattle.souper_ir.specs.Grammar.{Free, Starts, Members, ListGoesOn, Took, Refusal}
+use Rattle.souper_ir.specs.Laws.Unique.{list_alone}
+use Rattle.souper_ir.specs.NodeReadings.{is_mark}
+use Rattle.souper_ir.specs.Laws.Attributes.{one_more, more_if_open}
+use Rattle.souper_ir.specs.Laws.Sequence.{Split, both_alone, refused_first, refused_second, both_taken, respelled_taken, respelled_refused}
+
+-- attributes in sequence, and the token that begins one more
+abbrev pub Row : {X : Type 0} → (X → List Lexeme → Type 0) → Scope → List X → List Lexeme → Type 0
+Row {X} spells s xs ts = Members spells (λ (x : X) t. ⊥) xs ts
+
+abbrev pub OneMore : {X : Type 0} → List X → Lexeme → Type 0
+OneMore {X} xs t = ListGoesOn (λ (x : X) t. ⊥) (is_mark open_paren) xs t
+
+is_open_means : (t : Lexeme) → is_mark open_paren t ≡ true → t ≡ open_paren
+is_open_means open_paren e = refl
+is_open_means _ e = absurd cc
+
+pub neither : {A B : Type 0} → ¬ A → ¬ B → A ⊎ B → ⊥
+neither f g (inl a) = f a
+neither f g (inr b) = g b
+
+attributes_open : {X : Type 0} (before : Type 0) (xs : List X) (t : Lexeme) → t ≡ open_paren → attributes_continue before xs t
+attributes_open before [] t e = inl e
+attributes_open before (x ∷ xs) t e = e
+
+module _ {X : Type 0} (spells : X → List Lexeme → Type 0) (first : (x : X) (ts : List Lexeme) → spells x ts → Starts (is_mark open_paren) ts) where
+  not_none : (x : X) (a b : List Lexeme) → spells x a → [] ≡ a ++ b → ⊥
+  not_none x [] b h e = first x [] h
+  not_none x (t ∷ a) b h e = absurd cc
+
+  open_front : (P : Lexeme → Type 0) (x : X) (a b : List Lexeme) → spells x a → ¬ P open_paren → Free P (a ++ b)
+  open_front P x [] b h n = absurd (first x [] h)
+  open_front P x (t ∷ a) b h n = λ y. n (subst P (is_open_means t (first x (t ∷ a) h)) y)
+
+  attributes_before : (before : Type 0) (xs : List X) (t : Lexeme) → Members spells (λ x t. ⊥) xs [] → before → attributes_continue before xs t
+  attributes_before before [] t m h = inr h
+  attributes_before before (x ∷ xs) t m h = absurd (not_none x m.prefix m.suffix m.first m.whole)
+
+  -- attributes do not continue what an opening parenthesis does not
+  pub attributes_over : (P : Lexeme → Type 0) (xs : List X) (ts : List Lexeme) → ¬ P open_paren → Members spells (λ x t. ⊥) xs ts → Free P ts
+  attributes_over P [] ts n m = subst (Free P) (sym m) tt
+  attributes_over P (x ∷ xs) ts n m = subst (Free P) (sym m.whole) (open_front P x m.prefix m.suffix m.first n)
+
+  attributes_only : (P : Lexeme → Type 0) (xs : List X) (y rest : List Lexeme) → Members spells (λ x t. ⊥) xs y → Free P (y ++ rest) → Free (OneMore xs) rest → Free (λ t. attributes_continue (P t) xs t) rest
+  attributes_only P xs y [] m f g = tt
+  attributes_only P [] y (t ∷ rest) m f g = neither (λ e. g (more_if_open {V = X} [] t e)) (subst (λ (z : List Lexeme). Free P (z ++ t ∷ rest)) m f)
+  attributes_only P (x ∷ xs) y (t ∷ rest) m f g = λ e. g (more_if_open (x ∷ xs) t e)
+
+-- what is known of a node C that is a node A with attributes X after it
+pub record Laws {A X C : Type 0} (spells_a : Scope → A → List Lexeme → Type 0) (goes_on_a : A → Lexeme → Type 0) (spells_x : X → List Lexeme → Type 0) (a_of : C → A) (xs_of : C → List X)
+    (spells_c : Scope → C → List Lexeme → Type 0) (goes_on_c : C → Lexeme → Type 0) : Type 0 where
+  pub alone : (s : Scope) (v w : C) (a b c d : List Lexeme) → a ++ c ≡ b ++ d → spells_c s v a → spells_c s w b → Free (goes_on_c v) c → Free (goes_on_c w) d → (a ≡ b) × (v ≡ w)
+  pub taken : (c : C) (p q r : Parsing) → Took spells_a goes_on_a (λ s. s) (a_of c) p q → Took (Row spells_x) OneMore (λ s. s) (xs_of c) q r → Took spells_c goes_on_c (λ s. s) c p r
+  pub refused_before : (e : ParseError) (p q : Parsing) → Refusal spells_a goes_on_a e p q → Refusal spells_c goes_on_c e p q
+  pub refused_behind : (a : A) (e : ParseError) (p q r : Parsing) → Took spells_a goes_on_a (λ s. s) a p q → Refusal (Row spells_x) OneMore e q r → Refusal spells_c goes_on_c e p r
+
+module _ {A X C : Type 0} (spells_a : Scope → A → List Lexeme → Type 0) (goes_on_a : A → Lexeme → Type 0) (spells_x : X → List Lexeme → Type 0) (a_of : C → A) (xs_of : C → List X)
+    (alone_a : (s : Scope) (v w : A) (a b c d : List Lexeme) → a ++ c ≡ b ++ d → spells_a s v a → spells_a s w b → Free (goes_on_a v) c → Free (goes_on_a w) d → (a ≡ b) × (v ≡ w))
+    (alone_x : (v w : X) (a b c d : List Lexeme) → a ++ c ≡ b ++ d → spells_x v a → spells_x w b → Free (λ t. ⊥) c → Free (λ t. ⊥) d → (a ≡ b) × (v ≡ w))
+    (first_x : (x : X) (ts : List Lexeme) → spells_x x ts → Starts (is_mark open_paren) ts) where
+  abbrev Continues : C → Lexeme → Type 0
+  Continues c t = attributes_continue (goes_on_a (a_of c) t) (xs_of c) t
+
+  abbrev Parts : Scope → C → List Lexeme → Type 0
+  Parts s c ts = Split spells_a goes_on_a (Row spells_x) s (a_of c) (xs_of c) ts
+
+  last : (c : C) (t : Lexeme) → OneMore (xs_of c) t → attributes_continue (goes_on_a (a_of c) t) (xs_of c) t
+  last c t h = attributes_open (goes_on_a (a_of c) t) (xs_of c) t (one_more (xs_of c) t h)
+
+  over : (s : Scope) (c : C) (t : Lexeme) → Row spells_x s (xs_of c) [] → goes_on_a (a_of c) t → attributes_continue (goes_on_a (a_of c) t) (xs_of c) t
+  over s c t m h = attributes_before spells_x first_x (goes_on_a (a_of c) t) (xs_of c) t m h
+
+  only : (s : Scope) (c : C) (y rest : List Lexeme) → Row spells_x s (xs_of c) y → Free (goes_on_a (a_of c)) (y ++ rest) → Free (OneMore (xs_of c)) rest → Free (λ t. attributes_continue (goes_on_a (a_of c) t) (xs_of c) t) rest
+  only s c y rest m f g = attributes_only spells_x first_x (goes_on_a (a_of c)) (xs_of c) y rest m f g
+
+  rows_alone : (s : Scope) (v w : List X) (a b c d : List Lexeme) → a ++ c ≡ b ++ d → Row spells_x s v a → Row spells_x s w b → Free (OneMore v) c → Free (OneMore w) d → (a ≡ b) × (v ≡ w)
+  rows_alone s v w a b c d e m n f g = list_alone spells_x (λ (x : X) t. ⊥) (is_mark open_paren) alone_x first_x v w a b c d e m n f g
+
+  pub laws : (spells_c : Scope → C → List Lexeme → Type 0) → ((s : Scope) (c : C) (ts : List Lexeme) → spells_c s c ts → Split spells_a goes_on_a (Row spells_x) s (a_of c) (xs_of c) ts)
+      → ((s : Scope) (c : C) (ts : List Lexeme) → Split spells_a goes_on_a (Row spells_x) s (a_of c) (xs_of c) ts → spells_c s c ts) → ((v w : C) → a_of v ≡ a_of w → xs_of v ≡ xs_of w → v ≡ w)
+      → Laws spells_a goes_on_a spells_x a_of xs_of spells_c (λ c t. attributes_continue (goes_on_a (a_of c) t) (xs_of c) t)
+  laws spells_c parted joined same = record {
+    alone = λ s v w a b c d e m n f g.
+        let k = both_alone spells_a goes_on_a (Row spells_x) OneMore Continues a_of xs_of last over alone_a rows_alone s v w a b c d e (parted s v a m) (parted s w b n) f g in
+        (k.0, same v w k.1 k.2);
+    taken = λ c p q r m n. respelled_taken Parts spells_c Continues (λ s. s) c p r (λ s ts. joined s c ts) (both_taken spells_a goes_on_a (Row spells_x) OneMore Continues a_of xs_of last over alone_a only c p q r m n);
+    refused_before = λ e p q h. respelled_refused Parts spells_c Continues e p q parted (refused_first spells_a goes_on_a (Row spells_x) OneMore Continues a_of xs_of last over alone_a e p q h);
+    refused_behind = λ a e p q r m h. respelled_refused Parts spells_c Continues e p r parted (refused_second spells_a goes_on_a (Row spells_x) OneMore Continues a_of xs_of last over alone_a a e p q r m h);
+  }

@@ -1,0 +1,386 @@
+-- Lemmas. Items: what the statements' loop keeps, and that nothing is spelled if it is stuck.
+use Rattle.std.proofs.Common.{◌≡◌, ℕ, ◌<◌, Bool, true, false, List, [], ◌∷◌, ◌++◌, length, None, refl, sym, ◌∙◌, ap, subst, inl, inr, append_assoc, arith}
+use Rattle.std.specs.Prelude.{codes}
+use Rattle.std.proofs.lemmas.List.{append-nil, append_cancel_left, length-append}
+use Rattle.souper_graph.specs.declared.ast.operands.Operand.{Operand}
+use Rattle.souper_graph.specs.Values.{PlainStatement, PlainInfer, PlainCand, Ending, inferred, resulting, replaced, candidate, Item}
+use Rattle.souper_ir.specs.declared.parse.error.ParseError.{ParseError}
+use Rattle.souper_graph.specs.Syntax.Tokens.{Lexeme, ident}
+use Rattle.souper_graph.specs.Syntax.Spelling.{kinds, Scope, Joined, statement_spells, infer_spells, cand_spells, result_spells, Statements, ItemType, left_hand_side, right_hand_side, replacement, Tail, tail_spells, item_spells_after}
+use Rattle.souper_ir.specs.Continuation.{statement_continues, infer_continues, result_continues, item_continues}
+use Rattle.souper_ir.specs.Parsing.{Parsing}
+use Rattle.souper_ir.specs.Reading.{cause_of, IfRefused, if_refused, IsRead, Fails, fails_later}
+use Rattle.souper_ir.specs.Grammar.{Free, Stops, Starts, NoFront, LastGoesOn, Refusal, peek_at}
+use Rattle.souper_ir.specs.Laws.Unique.{Free-weaker, Free-from_Stops}
+use Rattle.souper_ir.specs.NodeReadings.{starts_statement, is_word}
+use Rattle.souper_ir.specs.Laws.Peeks.{peeked, peeked_yes, peeked_no, unread}
+use Rattle.souper_ir.specs.Laws.Steps.{kinds-append}
+use Rattle.souper_ir.specs.Laws.Operands.{never}
+use Rattle.souper_ir.specs.Laws.Statements.{statement_first, statement_alone, statement_ends, starts_begins, infer_first, infer_alone, infer_ends, cand_alone, result_alone}
+use Rattle.souper_ir.specs.Items.{Opens, tail_continues, Entered, Stated, AllStated, NoStatement, NoMore, StuckAt, StatedRefusal}
+
+-- ---- parts in sequence
+
+-- the last part of what was nothing before
+pub joined_last : {P : List Lexeme → Type 0} (a b : List Lexeme) → a ≡ [] → P b → Joined P (λ ts. ts ≡ []) (a ++ b)
+joined_last a b none h = record { prefix = b; suffix = []; whole = ap (λ (x : List Lexeme). x ++ b) none ∙ sym (append-nil b); first = h; second = refl }
+
+-- the second part grows
+pub joined_longer : {P Q R : List Lexeme → Type 0} {a : List Lexeme} (b : List Lexeme) (h : Joined P Q a) → R (h.suffix ++ b) → Joined P R (a ++ b)
+joined_longer b h more = record { prefix = h.prefix; suffix = h.suffix ++ b; whole = ap (λ (x : List Lexeme). x ++ b) h.whole ∙ append_assoc h.prefix h.suffix b; first = h.first; second = more }
+
+-- ---- statements
+
+-- the first token of a statement continues no statement
+pub start_ends : (v : PlainStatement) (t : Lexeme) → starts_statement t ≡ true → ¬ statement_continues v t
+start_ends v t e = statement_ends v t (starts_begins t e)
+
+-- after v come further statements, and then c
+free_over : (s : Scope) (v : PlainStatement) (vs : List PlainStatement) (a c : List Lexeme) → Statements s vs a → Free (λ t. LastGoesOn statement_continues (v ∷ vs) t) c → Free (statement_continues v) (a ++ c)
+free_over s v [] a c m f = subst (λ (x : List Lexeme). Free (statement_continues v) (x ++ c)) (sym m) f
+free_over s v (w ∷ vs) a c m f =
+    let st : Starts starts_statement m.prefix = statement_first s w m.prefix m.first in
+    subst (λ (x : List Lexeme). Free (statement_continues v) (x ++ c)) (sym m.whole) (free_start v m.prefix m.suffix c st)
+  where
+    free_start : (v : PlainStatement) (a b c : List Lexeme) → Starts starts_statement a → Free (statement_continues v) ((a ++ b) ++ c)
+    free_start v [] b c st = absurd st
+    free_start v (t ∷ a) b c st = start_ends v t st
+
+-- the same at the end of the text or before an opening
+stops_over : (faulty : Bool) (s : Scope) (v : PlainStatement) (vs : List PlainStatement) (a c : List Lexeme) → Statements s vs a → Opens c → Stops (statement_continues v) faulty (a ++ c)
+stops_over faulty s v [] a c m o = subst (λ (x : List Lexeme). Stops (statement_continues v) faulty (x ++ c)) (sym m) (opened c o)
+  where
+    opened : (c : List Lexeme) → Opens c → Stops (statement_continues v) faulty c
+    opened [] o = absurd o
+    opened (t ∷ c) o = o.1 v
+stops_over faulty s v (w ∷ vs) a c m o = subst (λ (x : List Lexeme). Stops (statement_continues v) faulty (x ++ c)) (sym m.whole) (stops_start m.prefix m.suffix c (statement_first s w m.prefix m.first))
+  where
+    stops_start : (a b c : List Lexeme) → Starts starts_statement a → Stops (statement_continues v) faulty ((a ++ b) ++ c)
+    stops_start [] b c st = absurd st
+    stops_start (t ∷ a) b c st = start_ends v t st
+
+last_later : (v : PlainStatement) (vs : List PlainStatement) (t : Lexeme) → LastGoesOn statement_continues vs t → LastGoesOn statement_continues (v ∷ vs) t
+last_later v [] t h = absurd h
+last_later v (w ∷ vs) t h = h
+
+last_of_push : (vs : List PlainStatement) (v : PlainStatement) (t : Lexeme) → LastGoesOn statement_continues (vs ++ v ∷ []) t → statement_continues v t
+last_of_push [] v t h = h
+last_of_push (w ∷ []) v t h = h
+last_of_push (w ∷ (x ∷ xs)) v t h = last_of_push (x ∷ xs) v t h
+
+statements_push : (s : Scope) (vs : List PlainStatement) (v : PlainStatement) (a b : List Lexeme) → Statements s vs a → statement_spells (s ++ vs) v b → Statements s (vs ++ v ∷ []) (a ++ b)
+statements_push s [] v a b m sp = joined_last a b m (subst (λ (x : Scope). statement_spells x v b) (append-nil s) sp)
+statements_push s (w ∷ ws) v a b m sp =
+    joined_longer b m (statements_push (s ++ w ∷ []) ws v m.suffix b m.second (subst (λ (x : Scope). statement_spells x v b) (sym (append_assoc s (w ∷ []) ws)) sp))
+
+-- ---- the loop
+
+pub begins : (p : Parsing) → Stated [] p p
+begins p = record {
+  used = [];
+  parts = refl;
+  spelled = refl;
+  free = Free-weaker (λ t. ⊥) (λ t. LastGoesOn statement_continues [] t) (kinds p.tokens) (λ t h. h) (never (kinds p.tokens));
+  state = ap (λ (x : Scope). record p { scope = x }) (sym (append-nil p.scope));
+}
+
+-- one more statement, which is entered
+pub goes_on : (vs : List PlainStatement) (v : PlainStatement) (p q r : Parsing) → Stated vs p q → Entered v q r → Stated (vs ++ v ∷ []) p r
+goes_on vs v p q r so took =
+    let q_scope : q.scope ≡ p.scope ++ vs = ap (λ (x : Parsing). x.scope) so.state in
+    let here : statement_spells (p.scope ++ vs) v (kinds took.used) = subst (λ (x : Scope). statement_spells x v (kinds took.used)) q_scope took.spelled in
+    let longer : q.scope ++ v ∷ [] ≡ p.scope ++ (vs ++ v ∷ []) = ap (λ (x : Scope). x ++ v ∷ []) q_scope ∙ append_assoc p.scope vs (v ∷ []) in
+    record {
+      used = so.used ++ took.used;
+      parts = so.parts ∙ ap (λ (x : List (ℕ × Lexeme)). so.used ++ x) took.parts ∙ sym (append_assoc so.used took.used r.tokens);
+      spelled = subst (λ (x : List Lexeme). Statements p.scope (vs ++ v ∷ []) x) (sym (kinds-append so.used took.used)) (statements_push p.scope vs v (kinds so.used) (kinds took.used) so.spelled here);
+      free = Free-weaker (statement_continues v) (λ t. LastGoesOn statement_continues (vs ++ v ∷ []) t) (kinds r.tokens) (last_of_push vs v) took.free;
+      state = took.state ∙ ap (λ (x : Parsing). record x { tokens = r.tokens; scope = q.scope ++ v ∷ [] }) so.state
+          ∙ ap (λ (x : Scope). record p { tokens = r.tokens; scope = x }) longer;
+    }
+
+-- the loop looked, and saw a statement
+pub goes_on_behind : (vs : List PlainStatement) (v : PlainStatement) (p q h r : Parsing) → Stated vs p q → IsRead (peek_at starts_statement q) true q h → Entered v h r → Stated (vs ++ v ∷ []) p r
+goes_on_behind vs v p q h r so seen took = goes_on vs v p q r so (subst (λ (x : Parsing). Entered v x r) (peeked starts_statement q h true seen.0).0 took)
+
+pub failed_same : (vs : List PlainStatement) (p q : Parsing) → Stated vs p q → q.failed ≡ p.failed
+failed_same vs p q so = ap (λ (x : Parsing). x.failed) so.state
+
+pub len_same : (vs : List PlainStatement) (p q : Parsing) → Stated vs p q → q.len ≡ p.len
+len_same vs p q so = ap (λ (x : Parsing). x.len) so.state
+
+pub ends : (vs : List PlainStatement) (p q r : Parsing) → Stated vs p q → IsRead (peek_at starts_statement q) false q r → AllStated vs p r
+ends vs p q r so h =
+    let seen = peeked starts_statement q r false h.0 in
+    let here : AllStated vs p q = record { stated = so; quiet = peeked_no starts_statement q.faulty q.tokens seen.2; live = sym (failed_same vs p q so) ∙ h.1 } in
+    subst (λ (x : Parsing). AllStated vs p x) (sym seen.0) here
+
+shorter : (s : Scope) (v : PlainStatement) (used before after : List (ℕ × Lexeme)) → before ≡ used ++ after → statement_spells s v (kinds used) → length after < length before
+shorter s v [] before after e sp = absurd (statement_first s v [] sp)
+shorter s v (t ∷ used) before after e sp = omega (arith, ap length e, length-append used after)
+
+pub entered_shorter : (v : PlainStatement) (q h r : Parsing) → IsRead (peek_at starts_statement q) true q h → Entered v h r → length r.tokens < length q.tokens
+entered_shorter v q h r seen took =
+    subst (λ (x : Parsing). length r.tokens < length x.tokens) (peeked starts_statement q h true seen.0).0
+    (shorter h.scope v took.used h.tokens r.tokens took.parts took.spelled)
+
+-- ---- refusals
+
+stuck_at : (next : Scope → Bool → List Lexeme → Type 0) (vs : List PlainStatement) (p q : Parsing) → Stated vs p q → next q.scope q.faulty (kinds q.tokens) → StuckAt next p.scope p.faulty (kinds p.tokens)
+stuck_at next vs p q so k = record {
+  members = vs;
+  front = kinds so.used;
+  rest = kinds q.tokens;
+  parts = ap kinds so.parts ∙ kinds-append so.used q.tokens;
+  spelled = so.spelled;
+  free = so.free;
+  stuck = subst (λ (x : Parsing). next x.scope x.faulty (kinds q.tokens)) so.state k;
+}
+
+pub peek_refused : (vs : List PlainStatement) (e : ParseError) (p q r : Parsing) → Stated vs p q → IfRefused (cause_of e) (peek_at starts_statement q ≡ None) × Fails e q r → StatedRefusal e p r
+peek_refused vs e p q r so h = record {
+  failed = fails_later e p q r (failed_same vs p q so) (len_same vs p q so) h.1;
+  stuck = if_refused (cause_of e) (λ k live. stuck_at NoStatement vs p q so (inl (unread starts_statement q k (failed_same vs p q so ∙ live)))) h.0;
+}
+
+pub member_refused : (vs : List PlainStatement) (e : ParseError) (p q m r : Parsing) → Stated vs p q → IsRead (peek_at starts_statement q) true q m → Refusal statement_spells statement_continues e m r → StatedRefusal e p r
+member_refused vs e p q m r so h bad =
+    let seen = peeked starts_statement q m true h.0 in
+    let here : Refusal statement_spells statement_continues e q r = subst (λ (x : Parsing). Refusal statement_spells statement_continues e x r) seen.0 bad in
+    record {
+      failed = fails_later e p q r (failed_same vs p q so) (len_same vs p q so) here.failed;
+      stuck = if_refused (cause_of e) (λ k live. stuck_at NoStatement vs p q so (inr (peeked_yes starts_statement q.faulty q.tokens seen.2, k (failed_same vs p q so ∙ live)))) here.nothing;
+    }
+
+-- ---- lists of tokens
+
+-- no token list begins both as a statement does and as an opening does
+clash : (a b c d : List Lexeme) → Starts starts_statement a → Opens c → a ++ b ≡ c ++ d → ⊥
+clash [] b c d st o e = st
+clash (t ∷ a) b [] d st o e = o
+clash (t ∷ a) b (u ∷ c) d st o e =
+    let same : t ≡ u = cc in
+    let both : true ≡ false = sym st ∙ ap starts_statement same ∙ o.0 in
+    absurd cc
+
+no_tokens : (c d : List Lexeme) → Opens c → [] ≡ c ++ d → ⊥
+no_tokens [] d o e = o
+no_tokens (t ∷ c) d o e = absurd cc
+
+pub free_clash : (starts : Lexeme → Bool) (a b c : List Lexeme) → Starts starts a → Free (λ t. starts t ≡ true) c → c ≡ a ++ b → ⊥
+free_clash starts [] b c st f e = st
+free_clash starts (t ∷ a) b c st f e = (subst (λ (x : List Lexeme). Free (λ t. starts t ≡ true) x) e f) st
+
+-- the first statement, and what is after it
+pub split : (a f g c : List Lexeme) → a ≡ f ++ g → a ++ c ≡ f ++ (g ++ c)
+split a f g c e = ap (λ (x : List Lexeme). x ++ c) e ∙ append_assoc f g c
+
+opens_over : (e d : List Lexeme) → Opens e → Opens (e ++ d)
+opens_over [] d o = absurd o
+opens_over (t ∷ e) d o = o
+
+-- ---- where the statements end
+
+module _ {Y : Type 0} (tail : Scope → Y → List Lexeme → Type 0) (continues : Y → Lexeme → Type 0) (opens : (s : Scope) (y : Y) (ts : List Lexeme) → tail s y ts → Opens ts) where
+  -- no statements and their tail are spelled if the statements end stuck
+  pub no_item : (faulty : Bool) (s : Scope) (vs ws : List PlainStatement) (a c b e d : List Lexeme) (y : Y) → a ++ c ≡ b ++ (e ++ d) → Statements s vs a → Free (λ t. LastGoesOn statement_continues vs t) c
+      → NoMore tail continues (s ++ vs) faulty c → Statements s ws b → tail (s ++ ws) y e → Stops (continues y) faulty d → ⊥
+  no_item faulty s [] [] a c b e d y eq m f (inl (inl k)) n sp st =
+      no_tokens e d (opens (s ++ []) y e sp) (sym k.0 ∙ ap (λ (x : List Lexeme). x ++ c) (sym m) ∙ eq ∙ ap (λ (x : List Lexeme). x ++ (e ++ d)) n)
+  no_item faulty s [] [] a c b e d y eq m f (inl (inr k)) n sp st =
+      clash c [] e d k.0 (opens (s ++ []) y e sp) (append-nil c ∙ ap (λ (x : List Lexeme). x ++ c) (sym m) ∙ eq ∙ ap (λ (x : List Lexeme). x ++ (e ++ d)) n)
+  no_item faulty s [] [] a c b e d y eq m f (inr k) n sp st =
+      k.1 y e d (ap (λ (x : List Lexeme). x ++ c) (sym m) ∙ eq ∙ ap (λ (x : List Lexeme). x ++ (e ++ d)) n) sp st
+  no_item faulty s [] (w ∷ ws) a c b e d y eq m f k n sp st =
+      let ahead : c ≡ n.prefix ++ (n.suffix ++ (e ++ d)) = ap (λ (x : List Lexeme). x ++ c) (sym m) ∙ eq ∙ split b n.prefix n.suffix (e ++ d) n.whole in
+      no_first faulty s w ws c n.prefix n.suffix e d y ahead k n.first n.second sp
+    where
+      no_first : (faulty : Bool) (s : Scope) (w : PlainStatement) (ws : List PlainStatement) (c f g e d : List Lexeme) (y : Y) → c ≡ f ++ (g ++ (e ++ d)) → NoMore tail continues (s ++ []) faulty c
+          → statement_spells s w f → Statements (s ++ w ∷ []) ws g → tail (s ++ (w ∷ ws)) y e → ⊥
+      no_first faulty s w ws c f g e d y ahead (inl (inl k)) first more sp =
+          free_clash starts_statement f (g ++ (e ++ d)) [] (statement_first s w f first) tt (sym k.0 ∙ ahead)
+      no_first faulty s w ws c f g e d y ahead (inl (inr k)) first more sp =
+          k.1 w f (g ++ (e ++ d)) ahead (subst (λ (x : Scope). statement_spells x w f) (sym (append-nil s)) first)
+          (subst (λ (x : List Lexeme). Stops (statement_continues w) faulty x) (append_assoc g e d) (over (g ++ e) d (stops_over faulty (s ++ w ∷ []) w ws g e more (opens (s ++ (w ∷ ws)) y e sp)) (grown g e (opens (s ++ (w ∷ ws)) y e sp))))
+        where
+          grown : (g e : List Lexeme) → Opens e → g ++ e ≡ [] → ⊥
+          grown [] [] o h = o
+          grown [] (t ∷ e) o h = absurd cc
+          grown (t ∷ g) e o h = absurd cc
+
+          over : (x d : List Lexeme) → Stops (statement_continues w) faulty x → (x ≡ [] → ⊥) → Stops (statement_continues w) faulty (x ++ d)
+          over [] d h no_end = absurd (no_end refl)
+          over (t ∷ x) d h no_end = h
+      no_first faulty s w ws c f g e d y ahead (inr k) first more sp =
+          free_clash starts_statement f (g ++ (e ++ d)) c (statement_first s w f first) k.0 ahead
+  no_item faulty s (v ∷ vs) [] a c b e d y eq m f k n sp st =
+      clash m.prefix (m.suffix ++ c) e d (statement_first s v m.prefix m.first) (opens (s ++ []) y e sp) (sym (split a m.prefix m.suffix c m.whole) ∙ eq ∙ ap (λ (x : List Lexeme). x ++ (e ++ d)) n)
+  no_item faulty s (v ∷ vs) (w ∷ ws) a c b e d y eq m f k n sp st =
+      let whole : m.prefix ++ (m.suffix ++ c) ≡ n.prefix ++ (n.suffix ++ (e ++ d)) = sym (split a m.prefix m.suffix c m.whole) ∙ eq ∙ split b n.prefix n.suffix (e ++ d) n.whole in
+      let o : Opens e = opens (s ++ (w ∷ ws)) y e sp in
+      let free_w : Free (statement_continues w) (n.suffix ++ (e ++ d)) = Free-from_Stops (statement_continues w) faulty (n.suffix ++ (e ++ d)) (stops_over faulty (s ++ w ∷ []) w ws n.suffix (e ++ d) n.second (opens_over e d o)) in
+      let here = statement_alone s v w m.prefix n.prefix (m.suffix ++ c) (n.suffix ++ (e ++ d)) whole m.first n.first (free_over (s ++ v ∷ []) v vs m.suffix c m.second f) free_w in
+      let rest : m.suffix ++ c ≡ n.suffix ++ (e ++ d) = append_cancel_left n.prefix (m.suffix ++ c) (n.suffix ++ (e ++ d)) (ap (λ (x : List Lexeme). x ++ (m.suffix ++ c)) (sym here.0) ∙ whole) in
+      let more : Statements (s ++ v ∷ []) ws n.suffix = subst (λ (x : PlainStatement). Statements (s ++ x ∷ []) ws n.suffix) (sym here.1) n.second in
+      let sp2 : tail ((s ++ v ∷ []) ++ ws) y e = subst (λ (x : Scope). tail x y e) (ap (λ (x : PlainStatement). s ++ (x ∷ ws)) (sym here.1) ∙ sym (append_assoc s (v ∷ []) ws)) sp in
+      let k2 : NoMore tail continues ((s ++ v ∷ []) ++ vs) faulty c = subst (λ (x : Scope). NoMore tail continues x faulty c) (sym (append_assoc s (v ∷ []) vs)) k in
+      no_item faulty (s ++ v ∷ []) vs ws m.suffix c n.suffix e d y rest m.second
+      (Free-weaker (λ t. LastGoesOn statement_continues (v ∷ vs) t) (λ t. LastGoesOn statement_continues vs t) c (last_later v vs) f) k2 more sp2 st
+
+  -- what is stuck by statements alone
+  pub weaker : (s : Scope) (faulty : Bool) (ts : List Lexeme) → StuckAt NoStatement s faulty ts → StuckAt (NoMore tail continues) s faulty ts
+  weaker s faulty ts h = record { members = h.members; front = h.front; rest = h.rest; parts = h.parts; spelled = h.spelled; free = h.free; stuck = inl h.stuck }
+
+  -- the tail is refused after statements
+  pub stuck_tail : (new : List PlainStatement) (p q : Parsing) → AllStated new p q → NoFront tail continues q → StuckAt (NoMore tail continues) p.scope p.faulty (kinds p.tokens)
+  stuck_tail new p q so none =
+      stuck_at (NoMore tail continues) new p q so.stated (inr (Free-from_Stops (λ t. starts_statement t ≡ true) q.faulty (kinds q.tokens) so.quiet, none))
+
+-- statements before an opening are alone
+statements_alone : (s : Scope) (vs ws : List PlainStatement) (a b c d : List Lexeme) → a ++ c ≡ b ++ d → Statements s vs a → Statements s ws b → Opens c → Opens d → (a ≡ b) × (vs ≡ ws)
+statements_alone s [] [] a b c d e m n o r = (m ∙ sym n, refl)
+statements_alone s [] (w ∷ ws) a b c d e m n o r =
+    absurd (clash n.prefix (n.suffix ++ d) c [] (statement_first s w n.prefix n.first) o (sym (split b n.prefix n.suffix d n.whole) ∙ sym e ∙ ap (λ (x : List Lexeme). x ++ c) m ∙ sym (append-nil c)))
+statements_alone s (v ∷ vs) [] a b c d e m n o r =
+    absurd (clash m.prefix (m.suffix ++ c) d [] (statement_first s v m.prefix m.first) r (sym (split a m.prefix m.suffix c m.whole) ∙ e ∙ ap (λ (x : List Lexeme). x ++ d) n ∙ sym (append-nil d)))
+statements_alone s (v ∷ vs) (w ∷ ws) a b c d e m n o r =
+    let whole : m.prefix ++ (m.suffix ++ c) ≡ n.prefix ++ (n.suffix ++ d) = sym (split a m.prefix m.suffix c m.whole) ∙ e ∙ split b n.prefix n.suffix d n.whole in
+    let free_v = Free-from_Stops (statement_continues v) false (m.suffix ++ c) (stops_over false (s ++ v ∷ []) v vs m.suffix c m.second o) in
+    let free_w = Free-from_Stops (statement_continues w) false (n.suffix ++ d) (stops_over false (s ++ w ∷ []) w ws n.suffix d n.second r) in
+    let here = statement_alone s v w m.prefix n.prefix (m.suffix ++ c) (n.suffix ++ d) whole m.first n.first free_v free_w in
+    let rest : m.suffix ++ c ≡ n.suffix ++ d = append_cancel_left n.prefix (m.suffix ++ c) (n.suffix ++ d) (ap (λ (x : List Lexeme). x ++ (m.suffix ++ c)) (sym here.0) ∙ whole) in
+    let more : Statements (s ++ v ∷ []) ws n.suffix = subst (λ (x : PlainStatement). Statements (s ++ x ∷ []) ws n.suffix) (sym here.1) n.second in
+    let there = statements_alone (s ++ v ∷ []) vs ws m.suffix n.suffix c d rest m.second more o r in
+    (m.whole ∙ ap (λ (x : List Lexeme). x ++ m.suffix) here.0 ∙ ap (λ (x : List Lexeme). n.prefix ++ x) there.0 ∙ sym n.whole, ap (λ (x : PlainStatement). x ∷ vs) here.1 ∙ ap (λ (x : List PlainStatement). w ∷ x) there.1)
+
+-- ---- last lines
+
+-- the words that begin them end the statements
+infer_opens : (s : Scope) (i : PlainInfer) (ts : List Lexeme) → infer_spells s i ts → Opens ts
+infer_opens s i ts h = subst Opens (sym h.whole) (refl, λ v. statement_ends v (ident (codes "infer")) refl)
+
+pub result_opens : (s : Scope) (r : Operand) (ts : List Lexeme) → result_spells s r ts → Opens ts
+result_opens s r ts h = subst Opens (sym h.1) (refl, λ v. statement_ends v (ident (codes "result")) refl)
+
+cand_opens : (s : Scope) (c : PlainCand) (ts : List Lexeme) → cand_spells s c ts → Opens ts
+cand_opens s c ts h = subst Opens (sym h.whole) (refl, λ v. statement_ends v (ident (codes "cand")) refl)
+
+pub tail_opens : (k : ItemType) (s : Scope) (y : Tail) (ts : List Lexeme) → tail_spells k s y ts → Opens ts
+tail_opens left_hand_side s (new, inferred i) ts h = infer_opens s i ts h.1
+tail_opens left_hand_side s (new, resulting r) ts h = absurd h
+tail_opens left_hand_side s (new, replaced i r) ts h = absurd h
+tail_opens left_hand_side s (new, candidate c) ts h = absurd h
+tail_opens right_hand_side s (new, inferred i) ts h = absurd h
+tail_opens right_hand_side s (new, resulting r) ts h = result_opens s r ts h.1
+tail_opens right_hand_side s (new, replaced i r) ts h = absurd h
+tail_opens right_hand_side s (new, candidate c) ts h = absurd h
+tail_opens replacement s (new, inferred i) ts h = absurd h
+tail_opens replacement s (new, resulting r) ts h = absurd h
+tail_opens replacement s (new, replaced i r) ts h = subst Opens (sym h.whole) (opens_over h.infer (h.middle ++ h.result) (infer_opens s i h.infer h.infer_spelled))
+tail_opens replacement s (new, candidate c) ts h = cand_opens s c ts h.1
+
+-- neither a statement nor the result line continues an infer line
+pub infer_over : (faulty : Bool) (s t : Scope) (i : PlainInfer) (r : Operand) (new : List PlainStatement) (middle result d : List Lexeme) → Statements s new middle → result_spells t r result → Stops (infer_continues i) faulty ((middle ++ result) ++ d)
+infer_over faulty s t i r [] middle result d m h =
+    subst (λ (x : List Lexeme). Stops (infer_continues i) faulty ((x ++ result) ++ d)) (sym m)
+    (subst (λ (x : List Lexeme). Stops (infer_continues i) faulty (x ++ d)) (sym h.1) (infer_ends i (ident (codes "result")) refl))
+infer_over faulty s t i r (v ∷ new) middle result d m h =
+    subst (λ (x : List Lexeme). Stops (infer_continues i) faulty ((x ++ result) ++ d)) (sym m.whole) (by_start m.prefix m.suffix (statement_first s v m.prefix m.first))
+  where
+    by_start : (a b : List Lexeme) → Starts starts_statement a → Stops (infer_continues i) faulty (((a ++ b) ++ result) ++ d)
+    by_start [] b st = absurd st
+    by_start (t ∷ a) b st = infer_ends i t (starts_begins t st)
+
+-- an infer line and a cand line do not begin alike
+pub cand_is_no_infer : (s : Scope) (c : PlainCand) (a b d : List Lexeme) → cand_spells s c a → Starts (is_word (codes "infer")) b → b ≡ a ++ d → ⊥
+cand_is_no_infer s c a b d h st e =
+    let no : false ≡ true = (subst (λ (x : List Lexeme). Starts (is_word (codes "infer")) x) (e ∙ ap (λ (x : List Lexeme). x ++ d) h.whole) st) in
+    absurd cc
+
+pub starts_ahead : (starts : Lexeme → Bool) (a b : List Lexeme) → Starts starts a → Starts starts (a ++ b)
+starts_ahead starts [] b h = absurd h
+starts_ahead starts (t ∷ a) b h = h
+
+pub replaced_begins : (s : Scope) (new : List PlainStatement) (i : PlainInfer) (r : Operand) (ts : List Lexeme) → tail_spells replacement s (new, replaced i r) ts → Starts (is_word (codes "infer")) ts
+replaced_begins s new i r ts h =
+    subst (λ (x : List Lexeme). Starts (is_word (codes "infer")) x) (sym h.whole) (starts_ahead (is_word (codes "infer")) h.infer (h.middle ++ h.result) (infer_first s i h.infer h.infer_spelled))
+
+replaced_alone : (s : Scope) (new more : List PlainStatement) (i j : PlainInfer) (r q : Operand) (a b c d : List Lexeme) → a ++ c ≡ b ++ d → tail_spells replacement s (new, replaced i r) a → tail_spells replacement s (more, replaced j q) b
+    → Free (result_continues r) c → Free (result_continues q) d → (a ≡ b) × (◌≡◌ {A = Tail} (new, replaced i r) (more, replaced j q))
+replaced_alone s new more i j r q a b c d e m n f g =
+    let whole : m.infer ++ ((m.middle ++ m.result) ++ c) ≡ n.infer ++ ((n.middle ++ n.result) ++ d) = sym (split a m.infer (m.middle ++ m.result) c m.whole) ∙ e ∙ split b n.infer (n.middle ++ n.result) d n.whole in
+    let free_i = Free-from_Stops (infer_continues i) false ((m.middle ++ m.result) ++ c) (infer_over false s (s ++ new) i r new m.middle m.result c m.middle_spelled m.result_spelled) in
+    let free_j = Free-from_Stops (infer_continues j) false ((n.middle ++ n.result) ++ d) (infer_over false s (s ++ more) j q more n.middle n.result d n.middle_spelled n.result_spelled) in
+    let root = infer_alone s i j m.infer n.infer ((m.middle ++ m.result) ++ c) ((n.middle ++ n.result) ++ d) whole m.infer_spelled n.infer_spelled free_i free_j in
+    let behind : (m.middle ++ m.result) ++ c ≡ (n.middle ++ n.result) ++ d = append_cancel_left n.infer ((m.middle ++ m.result) ++ c) ((n.middle ++ n.result) ++ d) (ap (λ (x : List Lexeme). x ++ ((m.middle ++ m.result) ++ c)) (sym root.0) ∙ whole) in
+    let regrouped : m.middle ++ (m.result ++ c) ≡ n.middle ++ (n.result ++ d) = sym (append_assoc m.middle m.result c) ∙ behind ∙ append_assoc n.middle n.result d in
+    let stated = statements_alone s new more m.middle n.middle (m.result ++ c) (n.result ++ d) regrouped m.middle_spelled n.middle_spelled (opens_over m.result c (result_opens (s ++ new) r m.result m.result_spelled)) (opens_over n.result d (result_opens (s ++ more) q n.result n.result_spelled)) in
+    let last : m.result ++ c ≡ n.result ++ d = append_cancel_left n.middle (m.result ++ c) (n.result ++ d) (ap (λ (x : List Lexeme). x ++ (m.result ++ c)) (sym stated.0) ∙ regrouped) in
+    let n_result : result_spells (s ++ new) q n.result = subst (λ (x : List PlainStatement). result_spells (s ++ x) q n.result) (sym stated.1) n.result_spelled in
+    let result = result_alone (s ++ new) r q m.result n.result c d last m.result_spelled n_result f g in (
+      m.whole ∙ ap (λ (x : List Lexeme). x ++ (m.middle ++ m.result)) root.0 ∙ ap (λ (x : List Lexeme). n.infer ++ (x ++ m.result)) stated.0 ∙ ap (λ (x : List Lexeme). n.infer ++ (n.middle ++ x)) result.0 ∙ sym n.whole,
+      let first : ◌≡◌ {A = Tail} (new, replaced i r) (more, replaced i r) = ap (λ (x : List PlainStatement). (x, replaced i r)) stated.1 in
+          let second : ◌≡◌ {A = Tail} (more, replaced i r) (more, replaced j r) = ap (λ (x : PlainInfer). (more, replaced x r)) root.1 in
+          let third : ◌≡◌ {A = Tail} (more, replaced j r) (more, replaced j q) = ap (λ (x : Operand). (more, replaced j x)) result.1 in
+          first ∙ second ∙ third,
+    )
+
+-- with no further statements the last line alone counts
+same_tail : {A : Type 0} (end : A → Ending) (new more : List PlainStatement) (x y : A) → new ≡ [] → more ≡ [] → x ≡ y → ◌≡◌ {A = Tail} (new, end x) (more, end y)
+same_tail end new more x y none also same =
+    let first : ◌≡◌ {A = Tail} (new, end x) (more, end x) = ap (λ (z : List PlainStatement). (z, end x)) (none ∙ sym also) in
+    let second : ◌≡◌ {A = Tail} (more, end x) (more, end y) = ap (λ (z : _). (more, end z)) same in
+    first ∙ second
+
+pub tail_alone : (k : ItemType) (s : Scope) (y z : Tail) (a b c d : List Lexeme) → a ++ c ≡ b ++ d → tail_spells k s y a → tail_spells k s z b
+    → Free (tail_continues y) c → Free (tail_continues z) d → (a ≡ b) × (y ≡ z)
+tail_alone left_hand_side s (new, inferred i) (more, inferred j) a b c d e m n f g =
+    let same = infer_alone s i j a b c d e m.1 n.1 f g in
+    (same.0, same_tail inferred new more i j m.0 n.0 same.1)
+tail_alone left_hand_side s (new, inferred i) (more, resulting r) a b c d e m n f g = absurd n
+tail_alone left_hand_side s (new, inferred i) (more, replaced j r) a b c d e m n f g = absurd n
+tail_alone left_hand_side s (new, inferred i) (more, candidate o) a b c d e m n f g = absurd n
+tail_alone left_hand_side s (new, resulting r) z a b c d e m n f g = absurd m
+tail_alone left_hand_side s (new, replaced j r) z a b c d e m n f g = absurd m
+tail_alone left_hand_side s (new, candidate o) z a b c d e m n f g = absurd m
+tail_alone right_hand_side s (new, resulting r) (more, resulting q) a b c d e m n f g =
+    let same = result_alone s r q a b c d e m.1 n.1 f g in
+    (same.0, same_tail resulting new more r q m.0 n.0 same.1)
+tail_alone right_hand_side s (new, resulting r) (more, inferred i) a b c d e m n f g = absurd n
+tail_alone right_hand_side s (new, resulting r) (more, replaced j q) a b c d e m n f g = absurd n
+tail_alone right_hand_side s (new, resulting r) (more, candidate o) a b c d e m n f g = absurd n
+tail_alone right_hand_side s (new, inferred i) z a b c d e m n f g = absurd m
+tail_alone right_hand_side s (new, replaced j r) z a b c d e m n f g = absurd m
+tail_alone right_hand_side s (new, candidate o) z a b c d e m n f g = absurd m
+tail_alone replacement s (new, candidate o) (more, candidate p) a b c d e m n f g =
+    let same = cand_alone s o p a b c d e m.1 n.1 f g in
+    (same.0, same_tail candidate new more o p m.0 n.0 same.1)
+tail_alone replacement s (new, replaced i r) (more, replaced j q) a b c d e m n f g = replaced_alone s new more i j r q a b c d e m n f g
+tail_alone replacement s (new, replaced i r) (more, candidate o) a b c d e m n f g = absurd (cand_is_no_infer s o b (a ++ c) d n.1 (starts_ahead (is_word (codes "infer")) a c (replaced_begins s new i r a m)) e)
+tail_alone replacement s (new, candidate o) (more, replaced j q) a b c d e m n f g = absurd (cand_is_no_infer s o a (b ++ d) c m.1 (starts_ahead (is_word (codes "infer")) b d (replaced_begins s more j q b n)) (sym e))
+tail_alone replacement s (new, replaced i r) (more, inferred j) a b c d e m n f g = absurd n
+tail_alone replacement s (new, replaced i r) (more, resulting q) a b c d e m n f g = absurd n
+tail_alone replacement s (new, candidate o) (more, inferred j) a b c d e m n f g = absurd n
+tail_alone replacement s (new, candidate o) (more, resulting q) a b c d e m n f g = absurd n
+tail_alone replacement s (new, inferred i) z a b c d e m n f g = absurd m
+tail_alone replacement s (new, resulting r) z a b c d e m n f g = absurd m
+
+-- ---- items
+
+same_item : (v w : Item) → v.statements ≡ w.statements → v.ending ≡ w.ending → v ≡ w
+same_item v w e f = ap (λ (x : List PlainStatement). record { statements = x; ending = v.ending }) e ∙ ap (λ (x : Ending). record { statements = w.statements; ending = x }) f
+
+pub item_alone : (k : ItemType) (s : Scope) (v w : Item) (a b c d : List Lexeme) → a ++ c ≡ b ++ d → item_spells_after k s v a → item_spells_after k s w b
+    → Free (item_continues v) c → Free (item_continues w) d → (a ≡ b) × (v ≡ w)
+item_alone k s v w a b c d e m n f g =
+    let whole : m.head ++ (m.tail ++ c) ≡ n.head ++ (n.tail ++ d) = sym (split a m.head m.tail c m.whole) ∙ e ∙ split b n.head n.tail d n.whole in
+    let stated = statements_alone s m.first n.first m.head n.head (m.tail ++ c) (n.tail ++ d) whole m.head_spelled n.head_spelled
+    (opens_over m.tail c (tail_opens k (s ++ m.first) (m.last, v.ending) m.tail m.tail_spelled)) (opens_over n.tail d (tail_opens k (s ++ n.first) (n.last, w.ending) n.tail n.tail_spelled)) in
+    let rest : m.tail ++ c ≡ n.tail ++ d = append_cancel_left n.head (m.tail ++ c) (n.tail ++ d) (ap (λ (x : List Lexeme). x ++ (m.tail ++ c)) (sym stated.0) ∙ whole) in
+    let n_tail : tail_spells k (s ++ m.first) (n.last, w.ending) n.tail = subst (λ (x : List PlainStatement). tail_spells k (s ++ x) (n.last, w.ending) n.tail) (sym stated.1) n.tail_spelled in
+    let ended = tail_alone k (s ++ m.first) (m.last, v.ending) (n.last, w.ending) m.tail n.tail c d rest m.tail_spelled n_tail f g in
+    let last : m.last ≡ n.last = ap (λ (y : Tail). y.0) ended.1 in
+    let statements : v.statements ≡ w.statements = m.statements_are ∙ ap (λ (x : List PlainStatement). (s ++ x) ++ m.last) stated.1 ∙ ap (λ (x : List PlainStatement). (s ++ n.first) ++ x) last ∙ sym n.statements_are in (
+      m.whole ∙ ap (λ (x : List Lexeme). x ++ m.tail) stated.0 ∙ ap (λ (x : List Lexeme). n.head ++ x) ended.0 ∙ sym n.whole,
+      same_item v w statements (ap (λ (y : Tail). y.1) ended.1),
+    )
