@@ -27,7 +27,7 @@ pub enum TextError {
 }
 
 // `statement id 3` and what is wrong with it.
-#[tactic(auto, using(crate::proofs::Styled::styled_three))]
+#[tactic(auto, using(crate::proofs::Texts::Styled::styled_three))]
 fn write_fault<W: fmt::Write>(
     id: Id<Statement>,
     fault: &str,

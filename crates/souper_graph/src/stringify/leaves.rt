@@ -26,7 +26,7 @@ pub(crate) fn bit_text(set: bool) -> &'static str
     if set { "1" } else { "0" }
 }
 
-#[tactic(auto, using(crate::proofs::Styled::styled_two))]
+#[tactic(auto, using(crate::proofs::Texts::Styled::styled_two))]
 fn write_known_bits<W: fmt::Write>(bits: &[Option<bool>], f: &mut fmt::Formatter<W>) -> fmt::Result
     ensures writes { WritesOnOk W.write_str_gives f.old result (map text_of_known_bit bits.now) f.new }
     ensures styled { WritesStyledOnOk W.write_str_gives f.old result (map text_of_known_bit bits.now) f.new }
@@ -37,7 +37,7 @@ fn write_known_bits<W: fmt::Write>(bits: &[Option<bool>], f: &mut fmt::Formatter
     Ok(())
 }
 
-#[tactic(auto, using(crate::proofs::Styled::styled_two))]
+#[tactic(auto, using(crate::proofs::Texts::Styled::styled_two))]
 fn write_bits<W: fmt::Write>(bits: &[bool], f: &mut fmt::Formatter<W>) -> fmt::Result
     ensures writes { WritesOnOk W.write_str_gives f.old result (map text_of_bit bits.now) f.new }
     ensures styled { WritesStyledOnOk W.write_str_gives f.old result (map text_of_bit bits.now) f.new }
@@ -49,7 +49,7 @@ fn write_bits<W: fmt::Write>(bits: &[bool], f: &mut fmt::Formatter<W>) -> fmt::R
 }
 
 /// Writes `i` and the width, as `i32`.
-#[tactic(auto, using(crate::proofs::Styled::styled_two))]
+#[tactic(auto, using(crate::proofs::Texts::Styled::styled_two))]
 impl fmt::Display for Type {
     ghost output = { λ ty. Some (text_of_type ty) };
 
@@ -62,7 +62,7 @@ impl fmt::Display for Type {
 }
 
 /// Writes the number, and its type if it has one, as `-1:i32`.
-#[tactic(auto, using(crate::proofs::Styled::styled_three))]
+#[tactic(auto, using(crate::proofs::Texts::Styled::styled_three))]
 impl fmt::Display for Constant {
     ghost output = { λ constant. Some (text_of_constant constant) };
 
@@ -81,7 +81,7 @@ impl fmt::Display for Constant {
 }
 
 /// Writes the word and the number of predecessors, as `block 2`.
-#[tactic(auto, using(crate::proofs::Styled::styled_two))]
+#[tactic(auto, using(crate::proofs::Texts::Styled::styled_two))]
 impl fmt::Display for Block {
     ghost output = { λ block. Some (text_of_block block) };
 
@@ -94,7 +94,7 @@ impl fmt::Display for Block {
 }
 
 /// Writes the attribute in its parentheses, as `(signBits=2)`.
-#[tactic(auto, using(crate::proofs::Styled::styled_three, crate::proofs::Styled::styled_five))]
+#[tactic(auto, using(crate::proofs::Texts::Styled::styled_three, crate::proofs::Texts::Styled::styled_five))]
 impl fmt::Display for Attribute {
     ghost output = { λ attribute. Some (text_of_attribute (view_attribute attribute)) };
 
@@ -129,7 +129,7 @@ impl fmt::Display for Attribute {
 }
 
 /// Writes the attribute in its parentheses, as `(demandedBits=01)`.
-#[tactic(auto, using(crate::proofs::Styled::styled_three))]
+#[tactic(auto, using(crate::proofs::Texts::Styled::styled_three))]
 impl fmt::Display for RootAttribute {
     ghost output = { λ attribute. Some (text_of_root_attribute (view_root_attribute attribute)) };
 
