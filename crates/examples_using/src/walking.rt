@@ -1,11 +1,11 @@
 //! Walking the statements of an item.
 ghost use Rattle.std.specs.Prelude.{◌≡◌, IfOk, map, option_copied};
 ghost use Rattle.souper_graph.specs.Order.{printed_order};
-ghost use Rattle.souper_graph.specs.Uses.{conditions, UsesBelow};
-ghost use Rattle.souper_graph.specs.View.{view_left_hand_side};
+ghost use Rattle.souper_graph.specs.Uses.{conditions, conditions_from, UsesBelow};
+ghost use Rattle.souper_graph.specs.View.{view_statement, view_left_hand_side};
 ghost use Rattle.examples_using.specs.Names.{name_at, names_at};
 
-use souper_ir::ast::{Arena, AssignmentRhs, Id, LeftHandSide, Operand, Statement, ValueId};
+use souper_ir::ast::{Arena, AssignmentRhs, Id, Item, LeftHandSide, Operand, Statement, ValueId};
 use souper_ir::stringify::TextError;
 use std::alloc::{AllocError, Global};
 
@@ -43,13 +43,22 @@ pub fn instructions(alloc: Global, item: &LeftHandSide) -> Result<String, AllocE
     Ok(lines)
 }
 
-/// The path conditions, in order.
+/// The path conditions of an item of any type, in order.
+pub fn path_conditions<T: Item>(alloc: Global, item: &T) -> Result<Vec<Id<Statement>>, AllocError>
+    ensures { IfOk result (λ ids. ids.items ≡ conditions (T.view item.now)) }
+{
+    conditions_among(alloc, item.statements())
+}
+
 #[tactic(auto, using(crate::proofs::Conditions::all_conditions), unfolding(crate::proofs::Conditions::conditions_among))]
-pub fn path_conditions(alloc: Global, item: &LeftHandSide) -> Result<Vec<Id<Statement>>, AllocError>
-    ensures { IfOk result (λ ids. ids.items ≡ conditions (view_left_hand_side item.now)) }
+fn conditions_among(
+    alloc: Global,
+    statements: &Arena<Statement>,
+) -> Result<Vec<Id<Statement>>, AllocError>
+    ensures { IfOk result (λ ids. ids.items ≡ conditions_from 0 (map view_statement statements.now)) }
 {
     let mut ids = Vec::new(alloc);
-    for (id, statement) in item.statements.iter() {
+    for (id, statement) in statements.iter() {
         match statement {
             Statement::Assignment(_) => {}
             Statement::Pc(_) => ids.push(id)?,

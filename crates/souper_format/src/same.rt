@@ -8,7 +8,8 @@ ghost use Rattle.souper_format.specs.Kinds.{view_items};
 ghost use Rattle.souper_format.specs.Same.{SameItems};
 
 use crate::items::Items;
-use crate::texts::{Printed, are_same_graph};
+use crate::texts::are_same_graph;
+use souper_ir::ast::Item;
 use std::alloc::{AllocError, Global};
 
 /// Whether both lists have one kind and one length, and each item is the same graph as the one at its index in the
@@ -33,7 +34,7 @@ pub fn same(alloc: Global, a: &Items, b: &Items) -> Result<bool, AllocError>
     }
 }
 
-fn are_pairwise_same<T: Printed>(alloc: Global, a: &[T], b: &[T]) -> Result<bool, AllocError>
+fn are_pairwise_same<T: Item>(alloc: Global, a: &[T], b: &[T]) -> Result<bool, AllocError>
     requires formed { AllByRecursion WellFormed (map T.view a.now) }
     requires other_formed { AllByRecursion WellFormed (map T.view b.now) }
     ensures { IfOk result (λ answer. IsTrue answer ↔ AllZip SameGraph (map T.view a.now) (map T.view b.now)) }

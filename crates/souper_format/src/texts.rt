@@ -1,61 +1,23 @@
 //! The canonical texts of items, in sequence.
 ghost use Rattle.std.specs.Prelude.{◌≡◌, ◌↔◌, [], ◌++◌, IfOk, IfErr, IsOkAnd, OnOk, IsTrue, option_copied};
 ghost use Rattle.std.specs.String.{string_bytes};
-ghost use Rattle.souper_graph.specs.Text.{text_of, text_with_newline, texts_of};
-ghost use Rattle.souper_graph.specs.Uses.{UsesBelow};
+ghost use Rattle.souper_graph.specs.Text.{text_with_newline, texts_of};
 ghost use Rattle.souper_graph.specs.Sameness.{SameGraph};
-ghost use Rattle.souper_graph.specs.Syntax.Spelling.{IsEndingOf};
-ghost use Rattle.souper_graph.proofs.RoundTrip.ReadBack.{replacement-ending};
 ghost use Rattle.souper_graph.specs.WellFormed.{WellFormed};
 ghost use Rattle.souper_ir.specs.Answers.{IsStrError};
 ghost use Rattle.souper_graph.specs.Syntax.Tokens.{IsLastGap};
 ghost use Rattle.souper_format.specs.Formatted.{IsFormatted, SpellsRenumbered};
 
-use souper_ir::ast::{LeftHandSide, Replacement, RightHandSide};
+use souper_ir::ast::Item;
 use souper_ir::parse::{ParseError, Sink, WholeItem, parse_into};
-use souper_ir::stringify::TextError;
 use std::alloc::{AllocError, Global};
 
-/// An item with its canonical text.
-pub(crate) trait Printed: WholeItem {
-    // Puts the text at the end of `out`.
-    fn append(&self, out: &mut String) -> Result<(), TextError>
-        ensures { UsesBelow (Self.view self.now) → OnOk result (string_bytes out.new ≡ string_bytes out.old ++ text_of (Self.view self.now)) };
-
-    // The last lines are those of an item of the type.
-    ghost ends: { (item : Self) → IsEndingOf Self.item_type (Self.view item).ending };
-}
-
-impl Printed for LeftHandSide {
-    ghost ends = { λ item. tt };
-
-    fn append(&self, out: &mut String) -> Result<(), TextError> {
-        self.append_text(out)
-    }
-}
-
-impl Printed for RightHandSide {
-    ghost ends = { λ item. tt };
-
-    fn append(&self, out: &mut String) -> Result<(), TextError> {
-        self.append_text(out)
-    }
-}
-
-impl Printed for Replacement {
-    ghost ends = { replacement-ending };
-
-    fn append(&self, out: &mut String) -> Result<(), TextError> {
-        self.append_text(out)
-    }
-}
-
 // Appends the text of the item and a newline.
-fn append_item<T: Printed>(item: &T, out: &mut String) -> Result<(), AllocError>
+fn append_item<T: Item>(item: &T, out: &mut String) -> Result<(), AllocError>
     requires { WellFormed (T.view item.now) }
     ensures { OnOk result (string_bytes out.new ≡ string_bytes out.old ++ text_with_newline (T.view item.now)) }
 {
-    match item.append(out) {
+    match item.append_text(out) {
         Ok(()) => {
             out.push('\n')?;
             Ok(())
@@ -66,7 +28,7 @@ fn append_item<T: Printed>(item: &T, out: &mut String) -> Result<(), AllocError>
 }
 
 /// Whether two items are the same graph: they are if and only if their canonical texts are equal.
-pub(crate) fn are_same_graph<T: Printed>(alloc: Global, a: &T, b: &T) -> Result<bool, AllocError>
+pub(crate) fn are_same_graph<T: Item>(alloc: Global, a: &T, b: &T) -> Result<bool, AllocError>
     requires formed { WellFormed (T.view a.now) }
     requires other_formed { WellFormed (T.view b.now) }
     ensures { IfOk result (λ answer. IsTrue answer ↔ SameGraph (T.view a.now) (T.view b.now)) }
@@ -84,7 +46,7 @@ struct Texts {
     text: String,
 }
 
-impl<T: Printed + Drop> Sink<T> for Texts {
+impl<T: WholeItem + Drop> Sink<T> for Texts {
     ghost holds = { λ texts items. string_bytes texts.text ≡ texts_of items };
 
     fn take(&mut self, item: T) -> Result<(), AllocError> {
@@ -93,7 +55,7 @@ impl<T: Printed + Drop> Sink<T> for Texts {
 }
 
 /// The canonical texts of the items of a source, a newline after each.
-pub(crate) fn texts_of_source<T: Printed + Drop>(
+pub(crate) fn texts_of_source<T: WholeItem + Drop>(
     alloc: Global,
     source: &str,
     filename: Option<&str>,

@@ -16,6 +16,7 @@ pub mod WellFormed
 pub mod Sameness
 pub mod Syntax
 pub mod CanonicalText
+pub mod Endings
 pub mod Building
 pub mod Judging
 pub mod Marks

@@ -67,6 +67,13 @@ conditions_from k (s ∷ ss) = if is_condition s then k ∷ conditions_from (suc
 abbrev pub conditions : Item → List ℕ
 conditions a = conditions_from 0 a.statements
 
+-- the operands of the last lines, in the order of the text
+abbrev pub root_operands : Ending → List Operand
+root_operands (inferred i) = Value i.value ∷ []
+root_operands (resulting r) = r ∷ []
+root_operands (replaced i r) = Value i.value ∷ r ∷ []
+root_operands (candidate c) = c.lhs ∷ c.rhs ∷ []
+
 -- the roots that are walked before the path conditions
 abbrev pub first_roots : Ending → List Use
 first_roots (inferred i) = value_use i.value ∷ []

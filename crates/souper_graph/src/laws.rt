@@ -1,7 +1,7 @@
 //! Laws of the definitions that the contracts of this crate cite. No function here does anything.
 
 ghost use Rattle.std.specs.Prelude.{◌≡◌, ◌↔◌, ℕ, IsTrue, List, map, Some, slice_get};
-ghost use Rattle.souper_graph.specs.Values.{condition, block_condition, Item};
+ghost use Rattle.souper_graph.specs.Values.{condition, block_condition, Item as PlainItem};
 ghost use Rattle.souper_graph.specs.WellFormed.{WellFormed, EachClosed};
 ghost use Rattle.souper_graph.specs.Text.{text_of, texts_of};
 ghost use Rattle.souper_graph.specs.CanonicalText.{AreWellFormed, AllNeeded, IsRearranged, HasConditionLines};
@@ -12,7 +12,9 @@ ghost use Rattle.souper_graph.specs.Faults.{HasBadId};
 ghost use Rattle.souper_graph.specs.Order.{printed_order, uses_below};
 ghost use Rattle.souper_graph.specs.Sameness.{OrdersNeeded, SameGraph, SameNeeded, renumbered};
 
-use crate::ast::{BlockId, BlockPc, Id, LeftHandSide, Pc, Replacement, RightHandSide, ValueId};
+use crate::ast::{
+    BlockId, BlockPc, Id, Item, LeftHandSide, Pc, Replacement, RightHandSide, ValueId,
+};
 use std::hash::Hash;
 
 /// Two ids are equal if and only if their positions are, and equal ids hash alike.
@@ -33,11 +35,11 @@ pub fn law_of_ids<T>()
 /// Whether the latter holds of an item, well formed or not, is computed from the printed order. Every path condition of
 /// any item is needed.
 pub fn law_of_well_formedness()
-    ensures no_bad_id { (a : Item) → WellFormed a → ¬ HasBadId a }
-    ensures below { (a : Item) → WellFormed a → UsesBelow a }
-    ensures told { (a : Item) → IsTrue (uses_below a) ↔ UsesBelow a }
-    ensures conditions_needed { (a : Item) (i : ℕ) (p : Pc) → slice_get a.statements i ≡ Some (condition p) → NeededIn a i }
-    ensures block_conditions_needed { (a : Item) (i : ℕ) (p : BlockPc) → slice_get a.statements i ≡ Some (block_condition p) → NeededIn a i }
+    ensures no_bad_id { (a : PlainItem) → WellFormed a → ¬ HasBadId a }
+    ensures below { (a : PlainItem) → WellFormed a → UsesBelow a }
+    ensures told { (a : PlainItem) → IsTrue (uses_below a) ↔ UsesBelow a }
+    ensures conditions_needed { (a : PlainItem) (i : ℕ) (p : Pc) → slice_get a.statements i ≡ Some (condition p) → NeededIn a i }
+    ensures block_conditions_needed { (a : PlainItem) (i : ℕ) (p : BlockPc) → slice_get a.statements i ≡ Some (block_condition p) → NeededIn a i }
 {}
 
 /// Two well-formed items are renumbered to one value if and only if they are the same graph.
@@ -46,12 +48,19 @@ pub fn law_of_well_formedness()
 /// an item does not need do not change it. The printed order, by which it is renumbered, has the needed statements
 /// alone, each once and after all its uses, and the path conditions in the order in which the item has them.
 pub fn law_of_sameness()
-    ensures same { (a b : Item) → WellFormed a → WellFormed b → (renumbered a ≡ renumbered b) ↔ SameGraph a b }
-    ensures well_formed { (a : Item) → WellFormed a → WellFormed (renumbered a) }
-    ensures again { (a : Item) → WellFormed a → renumbered (renumbered a) ≡ renumbered a }
-    ensures graph { (a : Item) → WellFormed a → SameGraph a (renumbered a) }
-    ensures unneeded { (a b : Item) → WellFormed a → SameNeeded a b → WellFormed b × (renumbered b ≡ renumbered a) }
-    ensures exact { (a : Item) → WellFormed a → OrdersNeeded a (printed_order a) }
+    ensures same { (a b : PlainItem) → WellFormed a → WellFormed b → (renumbered a ≡ renumbered b) ↔ SameGraph a b }
+    ensures well_formed { (a : PlainItem) → WellFormed a → WellFormed (renumbered a) }
+    ensures again { (a : PlainItem) → WellFormed a → renumbered (renumbered a) ≡ renumbered a }
+    ensures graph { (a : PlainItem) → WellFormed a → SameGraph a (renumbered a) }
+    ensures unneeded { (a b : PlainItem) → WellFormed a → SameNeeded a b → WellFormed b × (renumbered b ≡ renumbered a) }
+    ensures exact { (a : PlainItem) → WellFormed a → OrdersNeeded a (printed_order a) }
+{}
+
+/// What the ghost members of [`Item`](crate::ast::Item) are: the type of the items, and an item as plain data.
+pub fn law_of_item_types()
+    ensures left_hand_side { (⟦<LeftHandSide as Item>⟧.item_type ≡ left_hand_side) × (⟦<LeftHandSide as Item>⟧.view ≡ view_left_hand_side) }
+    ensures right_hand_side { (⟦<RightHandSide as Item>⟧.item_type ≡ right_hand_side) × (⟦<RightHandSide as Item>⟧.view ≡ view_right_hand_side) }
+    ensures replacement { (⟦<Replacement as Item>⟧.item_type ≡ replacement) × (⟦<Replacement as Item>⟧.view ≡ view_replacement) }
 {}
 
 /// The canonical text of a well-formed item reads back as the item with its needed statements alone, in printed order.
@@ -67,13 +76,13 @@ pub fn law_of_sameness()
 ///   positions, `rearranged` of items that have the same statements in another order.
 /// - `types`: the last lines of each type of value are those of its type of item.
 pub fn law_of_canonical_texts()
-    ensures reads_back { (k : ItemType) (items : List Item) → AreWellFormed k items → TextSpells k (texts_of items) (map renumbered items) }
-    ensures again { (a : Item) → WellFormed a → text_of (renumbered a) ≡ text_of a }
-    ensures defined { (a : Item) → WellFormed a → EachClosed (renumbered a) × AllNeeded (renumbered a) }
-    ensures conditions { (a : Item) → WellFormed a → HasConditionLines a }
-    ensures same_graph { (a b : Item) → WellFormed a → WellFormed b → SameGraph a b → text_of a ≡ text_of b }
-    ensures unneeded { (a b : Item) → WellFormed a → SameNeeded a b → text_of b ≡ text_of a }
-    ensures rearranged { (a b : Item) → WellFormed a → WellFormed b → IsRearranged a b → text_of b ≡ text_of a }
+    ensures reads_back { (k : ItemType) (items : List PlainItem) → AreWellFormed k items → TextSpells k (texts_of items) (map renumbered items) }
+    ensures again { (a : PlainItem) → WellFormed a → text_of (renumbered a) ≡ text_of a }
+    ensures defined { (a : PlainItem) → WellFormed a → EachClosed (renumbered a) × AllNeeded (renumbered a) }
+    ensures conditions { (a : PlainItem) → WellFormed a → HasConditionLines a }
+    ensures same_graph { (a b : PlainItem) → WellFormed a → WellFormed b → SameGraph a b → text_of a ≡ text_of b }
+    ensures unneeded { (a b : PlainItem) → WellFormed a → SameNeeded a b → text_of b ≡ text_of a }
+    ensures rearranged { (a b : PlainItem) → WellFormed a → WellFormed b → IsRearranged a b → text_of b ≡ text_of a }
     ensures types { ((l : LeftHandSide) → IsEndingOf left_hand_side (view_left_hand_side l).ending)
         × ((r : RightHandSide) → IsEndingOf right_hand_side (view_right_hand_side r).ending)
         × ((r : Replacement) → IsEndingOf replacement (view_replacement r).ending) }

@@ -6,9 +6,6 @@ use Rattle.std.proofs.lemmas.List.{take-map, drop-map, take-append-drop, length-
 use Rattle.std.proofs.lemmas.Option.{slice_get_within}
 use Rattle.souper_graph.specs.Values.{PlainAssignment, PlainStatement, assigned, condition, block_condition, PlainInfer, Ending, inferred, resulting, replaced, candidate, Item}
 use Rattle.souper_graph.specs.declared.ast.operands.Operand.{Operand}
-use Rattle.souper_graph.specs.declared.ast.items.Replacement.{Replacement}
-use Rattle.souper_graph.specs.declared.ast.items.Replacement.TheVariants.{LhsRhs, Cand as cand_variant}
-use Rattle.souper_graph.specs.View.{view_replacement}
 use Rattle.souper_graph.specs.Uses.{Has, Use, value_use, position_of, uses_of_operand, uses_of, first_roots, roots_of, walks_of, NeededIn, UsesBelow}
 use Rattle.souper_graph.specs.Order.{printed_order, lead_of}
 use Rattle.souper_graph.specs.Text.{name_of, name_at, text_of_statement, text_of_infer, text_of_cand, text_of_result, line_of, line_at, lines_of, text_in_order, text_of, text_with_newline, texts_of}
@@ -192,10 +189,6 @@ reads-back k a text h e =
 -- a text with nothing before it, which is the canonical one if uses lie below their users
 pub canonical-reads-back : (k : ItemType) (a : Item) (before text : List ℕ) → IsEndingOf k a.ending → before ≡ [] → (UsesBelow a → text ≡ before ++ text_of a) → WellFormed a → ReadsBack k a text
 canonical-reads-back k a before text i e h w = reads-back k a text (w, i) (h (well_formed_below a w) ∙ ap (λ (l : List ℕ). l ++ text_of a) e)
-
-pub replacement-ending : (r : Replacement) → IsEndingOf replacement (view_replacement r).ending
-replacement-ending (LhsRhs ss l r) = tt
-replacement-ending (cand_variant ss c) = tt
 
 -- ---- the same graph has the same text
 

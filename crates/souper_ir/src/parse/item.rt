@@ -4,7 +4,7 @@ ghost use Rattle.std.specs.Prelude.{◌≡◌, List, map, false, None, IfOk, OnO
 ghost use Rattle.std.specs.List.{AllByRecursion};
 ghost use Rattle.souper_graph.specs.View.{view_left_hand_side, view_right_hand_side, view_replacement};
 ghost use Rattle.souper_graph.specs.WellFormed.{WellFormed, EachClosed};
-ghost use Rattle.souper_graph.specs.Values.{Item};
+ghost use Rattle.souper_graph.specs.Values.{Item as PlainItem};
 ghost use Rattle.souper_graph.specs.Syntax.Tokens.{IsLastGap, IsLexeme};
 ghost use Rattle.souper_graph.specs.Syntax.Spelling.{kinds, ItemType, left_hand_side, right_hand_side, replacement, statement_spells, item_spells_after, TextSpells};
 ghost use Rattle.souper_ir.specs.Errors.{error_of, widened};
@@ -27,7 +27,7 @@ use crate::parse::sink::Sink;
 use crate::parse::statements::{block_pc, heading, pc};
 use crate::parse::tokens::{token_comes, word_comes};
 use crate::parse::traits::Parse;
-use souper_graph::ast::{Assignment, Attribute, LeftHandSide, Replacement, RightHandSide};
+use souper_graph::ast::{Assignment, Attribute, Item, LeftHandSide, Replacement, RightHandSide};
 use souper_lexer::Token;
 use std::alloc::Global;
 
@@ -117,23 +117,15 @@ fn statements(parser: &mut Parser<'_>) -> Read<()>
     }
 }
 
-/// A whole item: a left-hand side, a right-hand side or a replacement.
-pub trait WholeItem: Sized {
-    ghost item_type: { ItemType };
-
-    ghost view: { Self → Item };
-
+/// An item that is read from a text: a left-hand side, a right-hand side or a replacement.
+pub trait WholeItem: Item + Sized {
     /// Takes the tokens of an item. The scope is empty after it.
     fn item(parser: &mut Parser<'_>) -> Result<Self>
-        ensures ok { IfOk result (λ v. Took (item_spells_after item_type) item_continues (λ s. []) (view v) parser.old parser.new) }
-        ensures err { IfErr result (λ e. Refusal (item_spells_after item_type) item_continues e parser.old parser.new) };
+        ensures ok { IfOk result (λ v. Took (item_spells_after Self.item_type) item_continues (λ s. []) (Self.view v) parser.old parser.new) }
+        ensures err { IfErr result (λ e. Refusal (item_spells_after Self.item_type) item_continues e parser.old parser.new) };
 }
 
 impl WholeItem for LeftHandSide {
-    ghost item_type = { left_hand_side };
-
-    ghost view = { view_left_hand_side };
-
     fn item(parser: &mut Parser<'_>) -> Result<Self> {
         statements(parser)?;
         let infer = infer(parser)?;
@@ -143,10 +135,6 @@ impl WholeItem for LeftHandSide {
 }
 
 impl WholeItem for RightHandSide {
-    ghost item_type = { right_hand_side };
-
-    ghost view = { view_right_hand_side };
-
     fn item(parser: &mut Parser<'_>) -> Result<Self> {
         statements(parser)?;
         let result = result(parser)?;
@@ -156,10 +144,6 @@ impl WholeItem for RightHandSide {
 }
 
 impl WholeItem for Replacement {
-    ghost item_type = { replacement };
-
-    ghost view = { view_replacement };
-
     fn item(parser: &mut Parser<'_>) -> Result<Self> {
         statements(parser)?;
         if word_comes(parser, "infer")? {
@@ -182,7 +166,7 @@ impl WholeItem for Replacement {
 
 /// Its statements may use the names of those before them, and of no others. The scope is empty after it.
 impl Parse for LeftHandSide {
-    ghost Plain = { Item };
+    ghost Plain = { PlainItem };
 
     ghost view = { view_left_hand_side };
 
@@ -201,7 +185,7 @@ impl Parse for LeftHandSide {
 
 /// Its statements may use the names of those before them, and of no others. The scope is empty after it.
 impl Parse for RightHandSide {
-    ghost Plain = { Item };
+    ghost Plain = { PlainItem };
 
     ghost view = { view_right_hand_side };
 
@@ -221,7 +205,7 @@ impl Parse for RightHandSide {
 /// Either an infer line and a result line, with further statements between them, or a cand line. The scope is empty
 /// after it.
 impl Parse for Replacement {
-    ghost Plain = { Item };
+    ghost Plain = { PlainItem };
 
     ghost view = { view_replacement };
 
@@ -242,7 +226,7 @@ impl Parse for Replacement {
 fn items<T: WholeItem, S: Sink<T>>(parser: &mut Parser<'_>, sink: &mut S) -> Result<()>
     requires scope { parser.old.scope ≡ [] }
     requires lexemes { AllByRecursion IsLexeme (kinds parser.old.tokens) }
-    ensures ok { OnOk result ((items : List Item) × SpellsAll T.item_type items parser.old × TakesOver S.holds items sink.old sink.new) }
+    ensures ok { OnOk result ((items : List PlainItem) × SpellsAll T.item_type items parser.old × TakesOver S.holds items sink.old sink.new) }
     ensures err { IfErr result (λ e. ListRefusal T.item_type e parser.old parser.new) }
     // The end of the text needs no memory.
     ensures ended { (parser.old.tokens ≡ []) → (parser.old.faulty ≡ false) → (parser.old.failed ≡ None) → IsOkAnd result (λ _. sink.new ≡ sink.old) }

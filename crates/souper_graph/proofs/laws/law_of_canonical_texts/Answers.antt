@@ -1,4 +1,5 @@
-use Rattle.souper_graph.proofs.RoundTrip.ReadBack.{texts-read-back, text-again, renumbered-closed, renumbered-needed, same-graph-text, unneeded-text, replacement-ending}
+use Rattle.souper_graph.proofs.RoundTrip.ReadBack.{texts-read-back, text-again, renumbered-closed, renumbered-needed, same-graph-text, unneeded-text}
+use Rattle.souper_graph.specs.Endings.{replacement_ending}
 use Rattle.souper_graph.proofs.RoundTrip.Conditions.{condition-lines, rearranged-text}
 use Rattle.souper_graph.proofs.laws.law_of_canonical_texts.Goals as goal
 
@@ -11,5 +12,5 @@ returns c = record {
   same_graph = same-graph-text;
   unneeded = unneeded-text;
   rearranged = rearranged-text;
-  types = ((λ l. tt), (λ r. tt), replacement-ending);
+  types = ((λ l. tt), (λ r. tt), replacement_ending);
 }

@@ -4,8 +4,8 @@ use Rattle.souper_ir.proofs.parse.files.answer_read.Goals as goal
 
 pub returns-in-Ok : goal.returns-in-Ok
 returns-in-Ok g c =
-    let k = g.T.WholeItem.item_type in
-    let view = g.T.WholeItem.view in
+    let k = g.T.Item.item_type in
+    let view = g.T.Item.view in
     let path = c.args.path.now in
     let answer = c.parse_str.result in
     subst (λ read. AnswersRead k view path read answer) (sym c.in-Ok.is)

@@ -6,7 +6,7 @@ use Rattle.souper_ir.proofs.parse.item.items.Given as goal
 
 abbrev pub invariant-loop-parser : goal.invariant-loop-parser
 invariant-loop-parser g l = (items : List Item)
-    × ItemsTaken g.T.WholeItem.item_type items l.fn.parser l.parser
+    × ItemsTaken g.T.Item.item_type items l.fn.parser l.parser
     × TakesOver g.S.Sink.holds items l.fn.sink l.sink
     × (items ≡ [] → l.sink ≡ l.fn.sink)
 

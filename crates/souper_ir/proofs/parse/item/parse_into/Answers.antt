@@ -10,7 +10,7 @@ items-requires-clause-lexemes g c = text_lexemes c.args.source.now c.new-parser.
 pub returns-in-Ok-clause-taken : goal.returns-in-Ok-clause-taken
 returns-in-Ok-clause-taken g c = (
   c.in-Ok.ensures.ok.0,
-  all_spelled g.T.WholeItem.item_type _ c.args.source.now c.new-parser.result c.new-parser.ensures.tokens c.in-Ok.ensures.ok.1,
+  all_spelled g.T.Item.item_type _ c.args.source.now c.new-parser.result c.new-parser.ensures.tokens c.in-Ok.ensures.ok.1,
   c.in-Ok.ensures.ok.2,
 )
 
@@ -26,5 +26,5 @@ returns-clause-gaps g c = λ h.
 
 pub returns-clause-refused : goal.returns-clause-refused
 returns-clause-refused g c =
-    located_answer g.T.WholeItem.item_type (option_copied c.args.filename) c.args.source.now c.in-Err.error c.locate.result c.new-parser.result c.items.new.parser
+    located_answer g.T.Item.item_type (option_copied c.args.filename) c.args.source.now c.in-Err.error c.locate.result c.new-parser.result c.items.new.parser
     c.new-parser.ensures.live c.new-parser.ensures.len c.new-parser.ensures.only c.in-Err.ensures.err c.locate.ensures

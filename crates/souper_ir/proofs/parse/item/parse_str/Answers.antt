@@ -7,12 +7,12 @@ use Rattle.souper_ir.proofs.parse.item.parse_str.Goals as goal
 pub returns-clause-spelled : goal.returns-clause-spelled
 returns-clause-spelled g c =
     let taken = c.in_ok-parse_into.ensures.taken in
-    let held : map g.T.WholeItem.view c.parse_into.new.sink.items ≡ taken.0 = taken.2 [] (ap (map g.T.WholeItem.view) c.new-items.ensures.items) in
-    subst (λ (x : List Item). TextSpells g.T.WholeItem.item_type c.args.source.now x) (sym held) taken.1
+    let held : map g.T.Item.view c.parse_into.new.sink.items ≡ taken.0 = taken.2 [] (ap (map g.T.Item.view) c.new-items.ensures.items) in
+    subst (λ (x : List Item). TextSpells g.T.Item.item_type c.args.source.now x) (sym held) taken.1
 
 pub returns-clause-each_closed : goal.returns-clause-each_closed
 returns-clause-each_closed g c =
-    text_closed g.T.WholeItem.item_type (map g.T.WholeItem.view c.parse_into.new.sink.items) c.args.source.now (returns-clause-spelled g c)
+    text_closed g.T.Item.item_type (map g.T.Item.view c.parse_into.new.sink.items) c.args.source.now (returns-clause-spelled g c)
 
 pub returns-clause-well_formed : goal.returns-clause-well_formed
-returns-clause-well_formed g c = all_well (map g.T.WholeItem.view c.parse_into.new.sink.items) (returns-clause-each_closed g c)
+returns-clause-well_formed g c = all_well (map g.T.Item.view c.parse_into.new.sink.items) (returns-clause-each_closed g c)

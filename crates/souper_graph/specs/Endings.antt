@@ -1,0 +1,9 @@
+-- Lemmas. The last lines of each type are those of its type of item.
+use Rattle.souper_graph.specs.declared.ast.items.Replacement.{Replacement}
+use Rattle.souper_graph.specs.declared.ast.items.Replacement.TheVariants.{LhsRhs, Cand}
+use Rattle.souper_graph.specs.View.{view_replacement}
+use Rattle.souper_graph.specs.Syntax.Spelling.{replacement, IsEndingOf}
+
+pub replacement_ending : (r : Replacement) → IsEndingOf replacement (view_replacement r).ending
+replacement_ending (LhsRhs ss l r) = tt
+replacement_ending (Cand ss c) = tt

@@ -1,0 +1,182 @@
+//! What left-hand sides, right-hand sides and replacements have in common.
+
+ghost use Rattle.std.specs.Prelude.{◌≡◌, ◌++◌, ◌↔◌, map, IfOk, IfErr, OnOk, IsTrue};
+ghost use Rattle.std.specs.String.{string_bytes};
+ghost use Rattle.souper_graph.specs.Values.{Item as PlainItem};
+ghost use Rattle.souper_graph.specs.View.{view_statement, view_left_hand_side, view_right_hand_side, view_replacement};
+ghost use Rattle.souper_graph.specs.Uses.{root_operands, UsesBelow};
+ghost use Rattle.souper_graph.specs.Faults.{HasBadId, IsFaultOf};
+ghost use Rattle.souper_graph.specs.PrintOrder.{IsPrintOrder};
+ghost use Rattle.souper_graph.specs.Text.{text_of, IsLinesOf, AppendsLinesOf};
+ghost use Rattle.souper_graph.specs.CanonicalText.{ReadsBack};
+ghost use Rattle.souper_graph.specs.WellFormed.{WellFormed};
+ghost use Rattle.souper_graph.specs.Endings.{replacement_ending};
+ghost use Rattle.souper_graph.specs.Syntax.Spelling.{ItemType, left_hand_side, right_hand_side, replacement, IsEndingOf};
+
+use crate::ast::arenas::Arena;
+use crate::ast::items::{LeftHandSide, Replacement, RightHandSide};
+use crate::ast::operands::Operand;
+use crate::ast::statements::Statement;
+use crate::stringify::{Order, TextError};
+use arrayvec::ArrayVec;
+use std::alloc::AllocError;
+
+/// A left-hand side, a right-hand side or a replacement, for functions that take any of them.
+///
+/// The calls are those that the types themselves have.
+pub trait Item {
+    ghost item_type: { ItemType };
+
+    /// The item as plain data.
+    ghost view: { Self → PlainItem };
+
+    /// The statements, at the positions that ids name.
+    fn statements(&self) -> &Arena<Statement>
+        ensures { map view_statement result.now ≡ (view self.now).statements };
+
+    /// The operands of the last lines, in the order of the text: one, or the left-hand side and then its replacement.
+    fn roots(&self) -> ArrayVec<Operand, 2>
+        ensures { result.items ≡ root_operands (view self.now).ending };
+
+    /// The statements that the text has, in its order, as [`LeftHandSide::print_order`] returns them.
+    fn print_order(&self) -> Result<Order, TextError>
+        ensures refused { IfErr result (λ error. IsFaultOf (view self.now) error) }
+        ensures ordered { IfOk result (λ order. IsPrintOrder (view self.now) order.ids.items order.lead order.turns) };
+
+    /// Appends the canonical text to `out`, as [`LeftHandSide::append_text`] does.
+    fn append_text(&self, out: &mut String) -> Result<(), TextError>
+        ensures refused { IfErr result (λ error. IsFaultOf (view self.now) error) }
+        ensures no_bad_id { OnOk result (¬ HasBadId (view self.now)) }
+        ensures canonical { UsesBelow (view self.now) → OnOk result (string_bytes out.new ≡ string_bytes out.old ++ text_of (view self.now)) }
+        ensures lines { OnOk result (AppendsLinesOf (view self.now) (string_bytes out.old) (string_bytes out.new)) }
+        ensures kept { HasBadId (view self.now) → string_bytes out.new ≡ string_bytes out.old };
+
+    /// The canonical text, as [`LeftHandSide::to_text`] returns it.
+    fn to_text(&self) -> Result<String, TextError>
+        ensures refused { IfErr result (λ error. IsFaultOf (view self.now) error) }
+        ensures no_bad_id { OnOk result (¬ HasBadId (view self.now)) }
+        ensures canonical { UsesBelow (view self.now) → IfOk result (λ text. string_bytes text ≡ text_of (view self.now)) }
+        ensures reads_back { WellFormed (view self.now) → IfOk result (λ text. ReadsBack item_type (view self.now) (string_bytes text)) }
+        ensures lines { IfOk result (λ text. IsLinesOf (view self.now) (string_bytes text)) };
+
+    /// Whether the item is well formed, by the conditions of [`Replacement::is_well_formed`].
+    fn is_well_formed(&self) -> Result<bool, AllocError>
+        ensures { IfOk result (λ answer. IsTrue answer ↔ WellFormed (view self.now)) };
+
+    /// The last lines are those of the type.
+    ghost ends: { (item : Self) → IsEndingOf item_type (view item).ending };
+}
+
+impl Item for LeftHandSide {
+    ghost item_type = { left_hand_side };
+
+    ghost view = { view_left_hand_side };
+
+    ghost ends = { λ item. tt };
+
+    fn statements(&self) -> &Arena<Statement> {
+        &self.statements
+    }
+
+    fn roots(&self) -> ArrayVec<Operand, 2> {
+        let mut roots = ArrayVec::new();
+        roots.push(Operand::Value(self.infer.value));
+        roots
+    }
+
+    fn print_order(&self) -> Result<Order, TextError> {
+        LeftHandSide::print_order(self)
+    }
+
+    fn append_text(&self, out: &mut String) -> Result<(), TextError> {
+        LeftHandSide::append_text(self, out)
+    }
+
+    fn to_text(&self) -> Result<String, TextError> {
+        LeftHandSide::to_text(self)
+    }
+
+    fn is_well_formed(&self) -> Result<bool, AllocError> {
+        LeftHandSide::is_well_formed(self)
+    }
+}
+
+impl Item for RightHandSide {
+    ghost item_type = { right_hand_side };
+
+    ghost view = { view_right_hand_side };
+
+    ghost ends = { λ item. tt };
+
+    fn statements(&self) -> &Arena<Statement> {
+        &self.statements
+    }
+
+    fn roots(&self) -> ArrayVec<Operand, 2> {
+        let mut roots = ArrayVec::new();
+        roots.push(self.result);
+        roots
+    }
+
+    fn print_order(&self) -> Result<Order, TextError> {
+        RightHandSide::print_order(self)
+    }
+
+    fn append_text(&self, out: &mut String) -> Result<(), TextError> {
+        RightHandSide::append_text(self, out)
+    }
+
+    fn to_text(&self) -> Result<String, TextError> {
+        RightHandSide::to_text(self)
+    }
+
+    fn is_well_formed(&self) -> Result<bool, AllocError> {
+        RightHandSide::is_well_formed(self)
+    }
+}
+
+impl Item for Replacement {
+    ghost item_type = { replacement };
+
+    ghost view = { view_replacement };
+
+    ghost ends = { replacement_ending };
+
+    fn statements(&self) -> &Arena<Statement> {
+        match self {
+            Replacement::LhsRhs { statements, .. } => statements,
+            Replacement::Cand { statements, .. } => statements,
+        }
+    }
+
+    fn roots(&self) -> ArrayVec<Operand, 2> {
+        let mut roots = ArrayVec::new();
+        match self {
+            Replacement::LhsRhs { lhs, rhs, .. } => {
+                roots.push(Operand::Value(lhs.value));
+                roots.push(*rhs);
+            }
+            Replacement::Cand { cand, .. } => {
+                roots.push(cand.lhs);
+                roots.push(cand.rhs);
+            }
+        }
+        roots
+    }
+
+    fn print_order(&self) -> Result<Order, TextError> {
+        Replacement::print_order(self)
+    }
+
+    fn append_text(&self, out: &mut String) -> Result<(), TextError> {
+        Replacement::append_text(self, out)
+    }
+
+    fn to_text(&self) -> Result<String, TextError> {
+        Replacement::to_text(self)
+    }
+
+    fn is_well_formed(&self) -> Result<bool, AllocError> {
+        Replacement::is_well_formed(self)
+    }
+}
