@@ -4,6 +4,7 @@ pub mod Operands
 pub mod Values
 pub mod Names
 pub mod View
+pub mod PartsView
 pub mod Uses
 pub mod Lookup
 pub mod Order
@@ -16,6 +17,7 @@ pub mod WellFormed
 pub mod Sameness
 pub mod Syntax
 pub mod CanonicalText
+pub mod ItemText
 pub mod Endings
 pub mod Building
 pub mod Judging

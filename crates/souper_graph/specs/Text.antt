@@ -113,7 +113,3 @@ pub record IsLinesOf (a : Item) (text : List ℕ) : Type 0 where
   pub once : Distinct ids
   pub lead_within : lead ≤ length ids
   pub text_is : text ≡ text_in_order a.statements a.ending ids lead
-
--- what was there, and then such lines
-abbrev pub AppendsLinesOf : Item → List ℕ → List ℕ → Type 0
-AppendsLinesOf a before after = (text : List ℕ) × (after ≡ before ++ text) × IsLinesOf a text

@@ -10,6 +10,7 @@ mod item;
 mod items;
 mod lookup;
 mod operands;
+mod parts;
 mod statements;
 mod well_formed;
 
@@ -22,4 +23,5 @@ pub(crate) use instructions::Operands;
 pub use item::Item;
 pub use items::{Cand, Infer, LeftHandSide, Replacement, RightHandSide};
 pub use operands::{Constant, Operand, Type};
+pub(crate) use parts::{Ending, Parts};
 pub use statements::{Assignment, AssignmentRhs, Block, BlockPc, Pc, Phi, Statement, Var};

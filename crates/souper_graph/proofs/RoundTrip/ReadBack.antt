@@ -182,13 +182,9 @@ texts-read-back k items h =
     )
 
 -- the text of a well-formed item reads back
-reads-back : (k : ItemType) (a : Item) (text : List ℕ) → IsWellFormedOf k a → text ≡ text_of a → ReadsBack k a text
+pub reads-back : (k : ItemType) (a : Item) (text : List ℕ) → IsWellFormedOf k a → text ≡ text_of a → ReadsBack k a text
 reads-back k a text h e =
     subst (λ (bs : List ℕ). TextSpells k bs (renumbered a ∷ [])) (append-nil (text_of a ++ 10 ∷ []) ∙ ap (λ (l : List ℕ). l ++ 10 ∷ []) (sym e)) (texts-read-back k (a ∷ []) (h, tt))
-
--- a text with nothing before it, which is the canonical one if uses lie below their users
-pub canonical-reads-back : (k : ItemType) (a : Item) (before text : List ℕ) → IsEndingOf k a.ending → before ≡ [] → (UsesBelow a → text ≡ before ++ text_of a) → WellFormed a → ReadsBack k a text
-canonical-reads-back k a before text i e h w = reads-back k a text (w, i) (h (well_formed_below a w) ∙ ap (λ (l : List ℕ). l ++ text_of a) e)
 
 -- ---- the same graph has the same text
 

@@ -1,14 +1,13 @@
 //! What left-hand sides, right-hand sides and replacements have in common.
 
-ghost use Rattle.std.specs.Prelude.{◌≡◌, ◌++◌, ◌↔◌, map, IfOk, IfErr, OnOk, IsTrue};
+ghost use Rattle.std.specs.Prelude.{◌≡◌, ◌↔◌, map, IfOk, IfErr, OnOk, IsTrue};
 ghost use Rattle.std.specs.String.{string_bytes};
 ghost use Rattle.souper_graph.specs.Values.{Item as PlainItem};
 ghost use Rattle.souper_graph.specs.View.{view_statement, view_left_hand_side, view_right_hand_side, view_replacement};
-ghost use Rattle.souper_graph.specs.Uses.{root_operands, UsesBelow};
+ghost use Rattle.souper_graph.specs.Uses.{root_operands};
 ghost use Rattle.souper_graph.specs.Faults.{HasBadId, IsFaultOf};
 ghost use Rattle.souper_graph.specs.PrintOrder.{IsPrintOrder};
-ghost use Rattle.souper_graph.specs.Text.{text_of, IsLinesOf, AppendsLinesOf};
-ghost use Rattle.souper_graph.specs.CanonicalText.{ReadsBack};
+ghost use Rattle.souper_graph.specs.ItemText.{IsItemText, AppendsItemText};
 ghost use Rattle.souper_graph.specs.WellFormed.{WellFormed};
 ghost use Rattle.souper_graph.specs.Endings.{replacement_ending};
 ghost use Rattle.souper_graph.specs.Syntax.Spelling.{ItemType, left_hand_side, right_hand_side, replacement, IsEndingOf};
@@ -46,18 +45,13 @@ pub trait Item {
     /// Appends the canonical text to `out`, as [`LeftHandSide::append_text`] does.
     fn append_text(&self, out: &mut String) -> Result<(), TextError>
         ensures refused { IfErr result (λ error. IsFaultOf (view self.now) error) }
-        ensures no_bad_id { OnOk result (¬ HasBadId (view self.now)) }
-        ensures canonical { UsesBelow (view self.now) → OnOk result (string_bytes out.new ≡ string_bytes out.old ++ text_of (view self.now)) }
-        ensures lines { OnOk result (AppendsLinesOf (view self.now) (string_bytes out.old) (string_bytes out.new)) }
+        ensures appended { OnOk result (AppendsItemText item_type (view self.now) (string_bytes out.old) (string_bytes out.new)) }
         ensures kept { HasBadId (view self.now) → string_bytes out.new ≡ string_bytes out.old };
 
     /// The canonical text, as [`LeftHandSide::to_text`] returns it.
     fn to_text(&self) -> Result<String, TextError>
         ensures refused { IfErr result (λ error. IsFaultOf (view self.now) error) }
-        ensures no_bad_id { OnOk result (¬ HasBadId (view self.now)) }
-        ensures canonical { UsesBelow (view self.now) → IfOk result (λ text. string_bytes text ≡ text_of (view self.now)) }
-        ensures reads_back { WellFormed (view self.now) → IfOk result (λ text. ReadsBack item_type (view self.now) (string_bytes text)) }
-        ensures lines { IfOk result (λ text. IsLinesOf (view self.now) (string_bytes text)) };
+        ensures printed { IfOk result (λ text. IsItemText item_type (view self.now) (string_bytes text)) };
 
     /// Whether the item is well formed, by the conditions of [`Replacement::is_well_formed`].
     fn is_well_formed(&self) -> Result<bool, AllocError>

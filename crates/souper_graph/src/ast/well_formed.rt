@@ -4,9 +4,10 @@ ghost use Rattle.std.specs.Prelude.{◌≡◌, ◌≢◌, ◌↔◌, map, false,
 ghost use Rattle.std.specs.Result.{ForOk};
 ghost use Rattle.souper_graph.specs.declared.stringify.errors.TextError.TheVariants.{OutOfMemory};
 ghost use Rattle.souper_graph.specs.View.{view_statement, view_left_hand_side, view_right_hand_side, view_replacement};
+ghost use Rattle.souper_graph.specs.PartsView.{view_parts};
 ghost use Rattle.souper_graph.specs.Order.{Distinct};
 ghost use Rattle.souper_graph.specs.WellFormed.{WellFormed};
-ghost use Rattle.souper_graph.specs.Judging.{AllStand};
+ghost use Rattle.souper_graph.specs.Judging.{StandsEnding, AllStand};
 
 mod apart;
 mod closed;
@@ -15,6 +16,7 @@ mod fitting;
 use crate::ast::arenas::Arena;
 use crate::ast::ids::Id;
 use crate::ast::items::{LeftHandSide, Replacement, RightHandSide};
+use crate::ast::parts::{Ending, Parts};
 use crate::ast::statements::Statement;
 use crate::ast::well_formed::apart::are_named_apart;
 use crate::ast::well_formed::closed::{
@@ -50,6 +52,30 @@ fn ordered_stand(
     }
 }
 
+impl Parts<'_> {
+    // Whether the last lines are valid, and each root is a constant or names an assignment.
+    fn ending_stands(&self) -> bool
+        ensures { IsTrue result ↔ StandsEnding (view_parts self.now).statements (view_parts self.now).ending }
+    {
+        let statements = self.statements;
+        match self.ending {
+            Ending::Infer(lhs) => infer_stands(statements, lhs),
+            Ending::Result(rhs) => result_stands(statements, rhs),
+            Ending::Replaced(lhs, rhs) => replaced_stands(statements, lhs, rhs),
+            Ending::Cand(cand) => cand_stands(statements, cand),
+        }
+    }
+
+    fn is_well_formed(&self) -> Result<bool, AllocError>
+        ensures { IfOk result (λ answer. IsTrue answer ↔ WellFormed (view_parts self.now)) }
+    {
+        if !self.ending_stands() {
+            return Ok(false);
+        }
+        ordered_stand(self.statements, self.print_order())
+    }
+}
+
 impl LeftHandSide {
     /// Whether the item is well formed, by the conditions of [`Replacement::is_well_formed`].
     ///
@@ -58,10 +84,7 @@ impl LeftHandSide {
         ensures { IfOk result
             (λ answer. IsTrue answer ↔ WellFormed (view_left_hand_side self.now)) }
     {
-        if !infer_stands(&self.statements, &self.infer) {
-            return Ok(false);
-        }
-        ordered_stand(&self.statements, self.print_order())
+        self.parts().is_well_formed()
     }
 }
 
@@ -73,10 +96,7 @@ impl RightHandSide {
         ensures { IfOk result
             (λ answer. IsTrue answer ↔ WellFormed (view_right_hand_side self.now)) }
     {
-        if !result_stands(&self.statements, &self.result) {
-            return Ok(false);
-        }
-        ordered_stand(&self.statements, self.print_order())
+        self.parts().is_well_formed()
     }
 }
 
@@ -97,23 +117,6 @@ impl Replacement {
         ensures { IfOk result
             (λ answer. IsTrue answer ↔ WellFormed (view_replacement self.now)) }
     {
-        match self {
-            Replacement::LhsRhs {
-                statements,
-                lhs,
-                rhs,
-            } => {
-                if !replaced_stands(statements, lhs, rhs) {
-                    return Ok(false);
-                }
-                ordered_stand(statements, self.print_order())
-            }
-            Replacement::Cand { statements, cand } => {
-                if !cand_stands(statements, cand) {
-                    return Ok(false);
-                }
-                ordered_stand(statements, self.print_order())
-            }
-        }
+        self.parts().is_well_formed()
     }
 }

@@ -2,13 +2,14 @@
 
 ghost use Rattle.std.specs.Prelude.{◌≡◌, ◌++◌, ◌≤◌, length, map, flat_map, OnOk, IfErr};
 ghost use Rattle.std.specs.String.{string_bytes};
-ghost use Rattle.souper_graph.specs.Values.{Item, replaced};
-ghost use Rattle.souper_graph.specs.View.{view_statement, view_infer, view_left_hand_side, view_right_hand_side, view_replacement};
+ghost use Rattle.souper_graph.specs.Values.{replaced};
+ghost use Rattle.souper_graph.specs.View.{view_statement, view_infer};
+ghost use Rattle.souper_graph.specs.PartsView.{view_parts};
 ghost use Rattle.souper_graph.specs.Uses.{uses_of_operand, uses_at, roots_of};
 ghost use Rattle.souper_graph.specs.Text.{text_of_result, line_at, lines_of, text_in_order};
 ghost use Rattle.souper_graph.specs.Faults.{AreMet, IsFaultAmong};
 
-use crate::ast::{Arena, Id, Infer, LeftHandSide, Operand, Replacement, RightHandSide, Statement};
+use crate::ast::{Arena, Ending, Id, Infer, Operand, Parts, Statement};
 use crate::stringify::errors::TextError;
 use crate::stringify::nodes::Append;
 
@@ -58,53 +59,6 @@ pub(crate) fn append_result(
     operand.append(statements, out)
 }
 
-// An item whose lines are appended to a text, its statements in a given order.
-pub(crate) trait AppendInOrder {
-    // The item as plain data.
-    ghost item: { Self → Item };
-
-    // The statements at these positions and the last lines; an infer line that a result follows comes after the first
-    // `lead` of the statements.
-    fn append_in_order(
-        &self,
-        ids: &[Id<Statement>],
-        lead: usize,
-        out: &mut String,
-    ) -> Result<(), TextError>
-        requires { lead ≤ length ids.now }
-        ensures ok { OnOk result (string_bytes out.new ≡ string_bytes out.old ++ text_in_order (item self.now).statements (item self.now).ending ids.now lead) }
-        ensures met { OnOk result (AreMet (item self.now).statements (roots_of (item self.now).ending ++ flat_map (uses_at (item self.now).statements) ids.now)) }
-        ensures refused { IfErr result (λ error. IsFaultAmong (item self.now).statements (roots_of (item self.now).ending ++ flat_map (uses_at (item self.now).statements) ids.now) error) };
-}
-
-impl AppendInOrder for LeftHandSide {
-    ghost item = { λ lhs. view_left_hand_side lhs };
-
-    fn append_in_order(
-        &self,
-        ids: &[Id<Statement>],
-        _lead: usize,
-        out: &mut String,
-    ) -> Result<(), TextError> {
-        append_lines(&self.statements, ids, out)?;
-        self.infer.append(&self.statements, out)
-    }
-}
-
-impl AppendInOrder for RightHandSide {
-    ghost item = { λ rhs. view_right_hand_side rhs };
-
-    fn append_in_order(
-        &self,
-        ids: &[Id<Statement>],
-        _lead: usize,
-        out: &mut String,
-    ) -> Result<(), TextError> {
-        append_lines(&self.statements, ids, out)?;
-        append_result(&self.statements, &self.result, out)
-    }
-}
-
 // A left-hand side and the result that replaces it.
 fn append_lhs_rhs(
     statements: &Arena<Statement>,
@@ -128,22 +82,32 @@ fn append_lhs_rhs(
     Ok(())
 }
 
-impl AppendInOrder for Replacement {
-    ghost item = { λ replacement. view_replacement replacement };
-
-    fn append_in_order(
+impl Parts<'_> {
+    // Appends the statements at these positions and the last lines; an infer line that a result follows comes after the
+    // first `lead` of the statements.
+    pub(crate) fn append_in_order(
         &self,
         ids: &[Id<Statement>],
         lead: usize,
         out: &mut String,
-    ) -> Result<(), TextError> {
-        match self {
-            Replacement::LhsRhs {
-                statements,
-                lhs,
-                rhs,
-            } => append_lhs_rhs(statements, lhs, rhs, ids, lead, out),
-            Replacement::Cand { statements, cand } => {
+    ) -> Result<(), TextError>
+        requires { lead ≤ length ids.now }
+        ensures ok { OnOk result (string_bytes out.new ≡ string_bytes out.old ++ text_in_order (view_parts self.now).statements (view_parts self.now).ending ids.now lead) }
+        ensures met { OnOk result (AreMet (view_parts self.now).statements (roots_of (view_parts self.now).ending ++ flat_map (uses_at (view_parts self.now).statements) ids.now)) }
+        ensures refused { IfErr result (λ error. IsFaultAmong (view_parts self.now).statements (roots_of (view_parts self.now).ending ++ flat_map (uses_at (view_parts self.now).statements) ids.now) error) }
+    {
+        let statements = self.statements;
+        match self.ending {
+            Ending::Infer(lhs) => {
+                append_lines(statements, ids, out)?;
+                lhs.append(statements, out)
+            }
+            Ending::Result(rhs) => {
+                append_lines(statements, ids, out)?;
+                append_result(statements, rhs, out)
+            }
+            Ending::Replaced(lhs, rhs) => append_lhs_rhs(statements, lhs, rhs, ids, lead, out),
+            Ending::Cand(cand) => {
                 append_lines(statements, ids, out)?;
                 cand.append(statements, out)
             }

@@ -6,6 +6,7 @@ ghost use Rattle.souper_graph.specs.declared.stringify.order.Entry.TheVariants.{
 ghost use Rattle.souper_graph.specs.declared.stringify.order.Target.TheVariants.{Condition};
 ghost use Rattle.souper_graph.specs.Values.{Item};
 ghost use Rattle.souper_graph.specs.View.{view_rhs, view_statement, view_left_hand_side, view_right_hand_side, view_replacement};
+ghost use Rattle.souper_graph.specs.PartsView.{view_parts};
 ghost use Rattle.souper_graph.specs.Instructions.{operands_of};
 ghost use Rattle.souper_graph.specs.Uses.{uses_of_operand, uses_of_operands, uses_of_rhs, uses_of, conditions_from, first_roots, last_roots};
 ghost use Rattle.souper_graph.specs.Faults.{IsAssigned, IsBlock, IsFaultOf};
@@ -13,8 +14,8 @@ ghost use Rattle.souper_graph.specs.Walks.{position_of_target, target_of, IsMetT
 ghost use Rattle.souper_graph.specs.PrintOrder.{IsPrintOrder};
 
 use crate::ast::{
-    Arena, Assignment, AssignmentRhs, BlockId, Id, Instruction, LeftHandSide, Operand, Operands,
-    Replacement, RightHandSide, Statement, ValueId,
+    Arena, Assignment, AssignmentRhs, BlockId, Ending, Id, Instruction, LeftHandSide, Operand,
+    Operands, Parts, Replacement, RightHandSide, Statement, ValueId,
 };
 use crate::stringify::errors::TextError;
 use crate::stringify::marks::Marks;
@@ -41,7 +42,7 @@ impl LeftHandSide {
         ensures refused { IfErr result (λ error. IsFaultOf (view_left_hand_side self.now) error) }
         ensures ordered { IfOk result (λ order. IsPrintOrder (view_left_hand_side self.now) order.ids.items order.lead order.turns) }
     {
-        order_between(&self.statements, &[Operand::Value(self.infer.value)], &[])
+        self.parts().print_order()
     }
 }
 
@@ -54,7 +55,7 @@ impl RightHandSide {
         ensures refused { IfErr result (λ error. IsFaultOf (view_right_hand_side self.now) error) }
         ensures ordered { IfOk result (λ order. IsPrintOrder (view_right_hand_side self.now) order.ids.items order.lead order.turns) }
     {
-        order_between(&self.statements, &[self.result], &[])
+        self.parts().print_order()
     }
 }
 
@@ -67,15 +68,24 @@ impl Replacement {
         ensures refused { IfErr result (λ error. IsFaultOf (view_replacement self.now) error) }
         ensures ordered { IfOk result (λ order. IsPrintOrder (view_replacement self.now) order.ids.items order.lead order.turns) }
     {
-        match self {
-            Replacement::LhsRhs {
-                statements,
-                lhs,
-                rhs,
-            } => order_between(statements, &[Operand::Value(lhs.value)], &[*rhs]),
-            Replacement::Cand { statements, cand } => {
-                order_between(statements, &[cand.lhs, cand.rhs], &[])
+        self.parts().print_order()
+    }
+}
+
+impl Parts<'_> {
+    // The needed statements of the item.
+    pub(crate) fn print_order(&self) -> Result<Order, TextError>
+        ensures refused { IfErr result (λ error. IsFaultOf (view_parts self.now) error) }
+        ensures ordered { IfOk result (λ order. IsPrintOrder (view_parts self.now) order.ids.items order.lead order.turns) }
+    {
+        let statements = self.statements;
+        match self.ending {
+            Ending::Infer(lhs) => order_between(statements, &[Operand::Value(lhs.value)], &[]),
+            Ending::Result(rhs) => order_between(statements, &[*rhs], &[]),
+            Ending::Replaced(lhs, rhs) => {
+                order_between(statements, &[Operand::Value(lhs.value)], &[*rhs])
             }
+            Ending::Cand(cand) => order_between(statements, &[cand.lhs, cand.rhs], &[]),
         }
     }
 }

@@ -6,30 +6,48 @@ ghost use Rattle.souper_graph.specs.Shown.{ShowsLines};
 ghost use Rattle.std.specs.String.{string_bytes};
 ghost use Rattle.souper_graph.specs.Values.{Item};
 ghost use Rattle.souper_graph.specs.View.{view_left_hand_side, view_right_hand_side, view_replacement};
-ghost use Rattle.souper_graph.specs.Uses.{Has, uses_at, roots_of, NeededIn, UsesBelow};
-ghost use Rattle.souper_graph.specs.Order.{Distinct};
-ghost use Rattle.souper_graph.specs.Text.{text_in_order, text_of, shown_text, IsLinesOf, AppendsLinesOf};
-ghost use Rattle.souper_graph.specs.WellFormed.{WellFormed};
-ghost use Rattle.souper_graph.specs.CanonicalText.{ReadsBack};
-ghost use Rattle.souper_graph.specs.Syntax.Spelling.{left_hand_side, right_hand_side, replacement};
-ghost use Rattle.souper_graph.specs.Faults.{AreMet, IsFaultAmong, HasBadId, IsFaultOf};
+ghost use Rattle.souper_graph.specs.PartsView.{view_parts};
+ghost use Rattle.souper_graph.specs.Uses.{uses_at, roots_of};
+ghost use Rattle.souper_graph.specs.Text.{text_in_order, shown_text};
+ghost use Rattle.souper_graph.specs.ItemText.{IsItemText, AppendsItemText};
+ghost use Rattle.souper_graph.specs.Syntax.Spelling.{ItemType, left_hand_side, right_hand_side, replacement, IsEndingOf};
+ghost use Rattle.souper_graph.specs.Faults.{IsFaultAmong, HasBadId, IsFaultOf};
 
-use crate::ast::{LeftHandSide, Replacement, RightHandSide};
+use crate::ast::{LeftHandSide, Parts, Replacement, RightHandSide};
 use crate::stringify::errors::TextError;
-use crate::stringify::lines::AppendInOrder;
 use crate::stringify::order::Order;
 use std::fmt;
 
-// Appends the text of the item, its statements in this order.
-fn append_by<T: AppendInOrder>(item: &T, order: &Order, out: &mut String) -> Result<(), TextError>
-    requires { order.now.lead ≤ length order.now.ids.items }
-    ensures ok { OnOk result (string_bytes out.new ≡ string_bytes out.old ++ text_in_order (T.item item.now).statements (T.item item.now).ending order.now.ids.items order.now.lead) }
-    ensures refused { IfErr result (λ error. IsFaultAmong (T.item item.now).statements (roots_of (T.item item.now).ending ++ flat_map (uses_at (T.item item.now).statements) order.now.ids.items) error) }
-{
-    // A line has about thirty bytes: 32 per line are reserved, and the text grows from there.
-    out.reserve(order.ids.len().saturating_mul(32))?;
-    item.append_in_order(&order.ids, order.lead, out)?;
-    Ok(())
+impl Parts<'_> {
+    // Appends the text of the item, its statements in this order.
+    fn append_by(&self, order: &Order, out: &mut String) -> Result<(), TextError>
+        requires { order.now.lead ≤ length order.now.ids.items }
+        ensures ok { OnOk result (string_bytes out.new ≡ string_bytes out.old ++ text_in_order (view_parts self.now).statements (view_parts self.now).ending order.now.ids.items order.now.lead) }
+        ensures refused { IfErr result (λ error. IsFaultAmong (view_parts self.now).statements (roots_of (view_parts self.now).ending ++ flat_map (uses_at (view_parts self.now).statements) order.now.ids.items) error) }
+    {
+        // A line has about thirty bytes: 32 per line are reserved, and the text grows from there.
+        out.reserve(order.ids.len().saturating_mul(32))?;
+        self.append_in_order(&order.ids, order.lead, out)?;
+        Ok(())
+    }
+
+    fn append_text(&self, out: &mut String) -> Result<(), TextError>
+        ensures refused { IfErr result (λ error. IsFaultOf (view_parts self.now) error) }
+        ensures appended { (k : ItemType) (a : Item) → view_parts self.now ≡ a → IsEndingOf k a.ending → OnOk result (AppendsItemText k a (string_bytes out.old) (string_bytes out.new)) }
+        ensures kept { HasBadId (view_parts self.now) → string_bytes out.new ≡ string_bytes out.old }
+    {
+        let order = self.print_order()?;
+        self.append_by(&order, out)
+    }
+
+    fn to_text(&self) -> Result<String, TextError>
+        ensures refused { IfErr result (λ error. IsFaultOf (view_parts self.now) error) }
+        ensures printed { (k : ItemType) (a : Item) → view_parts self.now ≡ a → IsEndingOf k a.ending → IfOk result (λ text. IsItemText k a (string_bytes text)) }
+    {
+        let mut text = String::new(self.statements.allocator());
+        self.append_text(&mut text)?;
+        Ok(text)
+    }
 }
 
 impl LeftHandSide {
@@ -39,13 +57,10 @@ impl LeftHandSide {
     /// text may be left in it.
     pub fn append_text(&self, out: &mut String) -> Result<(), TextError>
         ensures refused { IfErr result (λ error. IsFaultOf (view_left_hand_side self.now) error) }
-        ensures no_bad_id { OnOk result (¬ HasBadId (view_left_hand_side self.now)) }
-        ensures canonical { UsesBelow (view_left_hand_side self.now) → OnOk result (string_bytes out.new ≡ string_bytes out.old ++ text_of (view_left_hand_side self.now)) }
-        ensures lines { OnOk result (AppendsLinesOf (view_left_hand_side self.now) (string_bytes out.old) (string_bytes out.new)) }
+        ensures appended { OnOk result (AppendsItemText left_hand_side (view_left_hand_side self.now) (string_bytes out.old) (string_bytes out.new)) }
         ensures kept { HasBadId (view_left_hand_side self.now) → string_bytes out.new ≡ string_bytes out.old }
     {
-        let order = self.print_order()?;
-        append_by(self, &order, out)
+        self.parts().append_text(out)
     }
 
     /// The canonical text: the needed statements in printed order, a line each, and the infer line.
@@ -58,14 +73,9 @@ impl LeftHandSide {
     /// `OutOfMemory`.
     pub fn to_text(&self) -> Result<String, TextError>
         ensures refused { IfErr result (λ error. IsFaultOf (view_left_hand_side self.now) error) }
-        ensures no_bad_id { OnOk result (¬ HasBadId (view_left_hand_side self.now)) }
-        ensures canonical { UsesBelow (view_left_hand_side self.now) → IfOk result (λ text. string_bytes text ≡ text_of (view_left_hand_side self.now)) }
-        ensures reads_back { WellFormed (view_left_hand_side self.now) → IfOk result (λ text. ReadsBack left_hand_side (view_left_hand_side self.now) (string_bytes text)) }
-        ensures lines { IfOk result (λ text. IsLinesOf (view_left_hand_side self.now) (string_bytes text)) }
+        ensures printed { IfOk result (λ text. IsItemText left_hand_side (view_left_hand_side self.now) (string_bytes text)) }
     {
-        let mut text = String::new(self.statements.allocator());
-        self.append_text(&mut text)?;
-        Ok(text)
+        self.parts().to_text()
     }
 }
 
@@ -76,13 +86,10 @@ impl RightHandSide {
     /// text may be left in it.
     pub fn append_text(&self, out: &mut String) -> Result<(), TextError>
         ensures refused { IfErr result (λ error. IsFaultOf (view_right_hand_side self.now) error) }
-        ensures no_bad_id { OnOk result (¬ HasBadId (view_right_hand_side self.now)) }
-        ensures canonical { UsesBelow (view_right_hand_side self.now) → OnOk result (string_bytes out.new ≡ string_bytes out.old ++ text_of (view_right_hand_side self.now)) }
-        ensures lines { OnOk result (AppendsLinesOf (view_right_hand_side self.now) (string_bytes out.old) (string_bytes out.new)) }
+        ensures appended { OnOk result (AppendsItemText right_hand_side (view_right_hand_side self.now) (string_bytes out.old) (string_bytes out.new)) }
         ensures kept { HasBadId (view_right_hand_side self.now) → string_bytes out.new ≡ string_bytes out.old }
     {
-        let order = self.print_order()?;
-        append_by(self, &order, out)
+        self.parts().append_text(out)
     }
 
     /// The canonical text: the needed statements in printed order, a line each, and the result line without a newline.
@@ -91,14 +98,9 @@ impl RightHandSide {
     /// [`LeftHandSide::to_text`].
     pub fn to_text(&self) -> Result<String, TextError>
         ensures refused { IfErr result (λ error. IsFaultOf (view_right_hand_side self.now) error) }
-        ensures no_bad_id { OnOk result (¬ HasBadId (view_right_hand_side self.now)) }
-        ensures canonical { UsesBelow (view_right_hand_side self.now) → IfOk result (λ text. string_bytes text ≡ text_of (view_right_hand_side self.now)) }
-        ensures reads_back { WellFormed (view_right_hand_side self.now) → IfOk result (λ text. ReadsBack right_hand_side (view_right_hand_side self.now) (string_bytes text)) }
-        ensures lines { IfOk result (λ text. IsLinesOf (view_right_hand_side self.now) (string_bytes text)) }
+        ensures printed { IfOk result (λ text. IsItemText right_hand_side (view_right_hand_side self.now) (string_bytes text)) }
     {
-        let mut text = String::new(self.statements.allocator());
-        self.append_text(&mut text)?;
-        Ok(text)
+        self.parts().to_text()
     }
 }
 
@@ -109,13 +111,10 @@ impl Replacement {
     /// text may be left in it.
     pub fn append_text(&self, out: &mut String) -> Result<(), TextError>
         ensures refused { IfErr result (λ error. IsFaultOf (view_replacement self.now) error) }
-        ensures no_bad_id { OnOk result (¬ HasBadId (view_replacement self.now)) }
-        ensures canonical { UsesBelow (view_replacement self.now) → OnOk result (string_bytes out.new ≡ string_bytes out.old ++ text_of (view_replacement self.now)) }
-        ensures lines { OnOk result (AppendsLinesOf (view_replacement self.now) (string_bytes out.old) (string_bytes out.new)) }
+        ensures appended { OnOk result (AppendsItemText replacement (view_replacement self.now) (string_bytes out.old) (string_bytes out.new)) }
         ensures kept { HasBadId (view_replacement self.now) → string_bytes out.new ≡ string_bytes out.old }
     {
-        let order = self.print_order()?;
-        append_by(self, &order, out)
+        self.parts().append_text(out)
     }
 
     /// The canonical text: the needed statements in printed order, a line each, and the cand line; or the infer line
@@ -125,18 +124,9 @@ impl Replacement {
     /// those of [`LeftHandSide::to_text`].
     pub fn to_text(&self) -> Result<String, TextError>
         ensures refused { IfErr result (λ error. IsFaultOf (view_replacement self.now) error) }
-        ensures no_bad_id { OnOk result (¬ HasBadId (view_replacement self.now)) }
-        ensures canonical { UsesBelow (view_replacement self.now) → IfOk result (λ text. string_bytes text ≡ text_of (view_replacement self.now)) }
-        ensures reads_back { WellFormed (view_replacement self.now) → IfOk result (λ text. ReadsBack replacement (view_replacement self.now) (string_bytes text)) }
-        ensures lines { IfOk result (λ text. IsLinesOf (view_replacement self.now) (string_bytes text)) }
+        ensures printed { IfOk result (λ text. IsItemText replacement (view_replacement self.now) (string_bytes text)) }
     {
-        let statements = match self {
-            Replacement::LhsRhs { statements, .. } => statements,
-            Replacement::Cand { statements, .. } => statements,
-        };
-        let mut text = String::new(statements.allocator());
-        self.append_text(&mut text)?;
-        Ok(text)
+        self.parts().to_text()
     }
 }
 

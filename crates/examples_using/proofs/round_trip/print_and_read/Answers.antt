@@ -9,4 +9,4 @@ pub returns : goal.returns
 returns c =
     let source : c.deref.result.now ≡ string_bytes c.in-Ok.text ++ 10 ∷ [] = search rules in
     composed (λ items. map view_left_hand_side items.items) left_hand_side (view_left_hand_side c.args.item.now) (string_bytes c.in-Ok.text) c.deref.result.now c.parse_left_hand_sides_str.result
-    c.law_of_items.ensures source (c.in-Ok.ensures.reads_back c.requires) c.parse_left_hand_sides_str.ensures.spelled
+    c.law_of_items.ensures source (c.in-Ok.ensures.printed.reads_back c.requires) c.parse_left_hand_sides_str.ensures.spelled

@@ -1,6 +1,6 @@
 use Rattle.souper_graph.specs.View.{view_right_hand_side}
-use Rattle.souper_graph.proofs.Texts.Naming.{IsFaultOf-answered}
+use Rattle.souper_graph.specs.Syntax.Spelling.{right_hand_side}
 use Rattle.souper_graph.proofs.ast.items.RightHandSide.append_text.Goals as goal
 
-pub returns-clause-refused : goal.returns-clause-refused
-returns-clause-refused c = IsFaultOf-answered (view_right_hand_side c.args.self.now) c.in_ok-order.order.ids.items c.append_by.result c.in_ok-order.ensures.ordered.exact c.append_by.ensures.refused
+pub returns-clause-appended : goal.returns-clause-appended
+returns-clause-appended c = c.append_text.ensures.appended right_hand_side (view_right_hand_side c.args.self.now) c.parts.ensures tt

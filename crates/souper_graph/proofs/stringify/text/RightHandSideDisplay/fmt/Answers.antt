@@ -5,8 +5,8 @@ use Rattle.souper_graph.proofs.stringify.text.RightHandSideDisplay.fmt.Goals as 
 
 pub returns-in-Ok-clause-writes : goal.returns-in-Ok-clause-writes
 returns-in-Ok-clause-writes g c =
-    shown g.W.Write.write_str_gives (view_right_hand_side c.args.self.now) c.deref.result.now c.args.f.now c.write_str.new.self c.write_str.result (λ b. c.deref.ensures ∙ c.in-Ok.ensures.canonical b) c.write_str.ensures.writes
+    shown g.W.Write.write_str_gives (view_right_hand_side c.args.self.now) c.deref.result.now c.args.f.now c.write_str.new.self c.write_str.result (λ b. c.deref.ensures ∙ c.in-Ok.ensures.printed.canonical b) c.write_str.ensures.writes
 
 pub returns-in-Ok-clause-styled : goal.returns-in-Ok-clause-styled
 returns-in-Ok-clause-styled g c =
-    shown_styled g.W.Write.write_str_gives (view_right_hand_side c.args.self.now) c.deref.result.now c.args.f.now c.write_str.new.self c.write_str.result (λ b. c.deref.ensures ∙ c.in-Ok.ensures.canonical b) c.write_str.ensures.styled
+    shown_styled g.W.Write.write_str_gives (view_right_hand_side c.args.self.now) c.deref.result.now c.args.f.now c.write_str.new.self c.write_str.result (λ b. c.deref.ensures ∙ c.in-Ok.ensures.printed.canonical b) c.write_str.ensures.styled
