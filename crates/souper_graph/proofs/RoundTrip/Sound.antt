@@ -11,7 +11,6 @@ use Rattle.souper_graph.specs.declared.ast.statements.Block.{Block}
 use Rattle.souper_graph.specs.declared.ast.statements.Pc.{Pc}
 use Rattle.souper_graph.specs.declared.ast.statements.BlockPc.{BlockPc}
 use Rattle.souper_graph.specs.Values.{PlainAttribute, known_bits as known_bits_attribute, power_of_two, negative, non_negative, non_zero, has_external_uses, sign_bits, range, PlainRootAttribute, demanded_bits, harvested_from_use, PlainPhi, PlainRhs, var, block, phi, reserved_inst, reserved_const, instruction, PlainAssignment, PlainStatement, assigned, condition, block_condition, PlainInfer, PlainCand, Ending, inferred, resulting, replaced, candidate, Item}
-use Rattle.souper_graph.specs.declared.ast.instructions.Instruction.TheVariants.{Add, AddNsw, AddNuw, AddNw, Sub, SubNsw, SubNuw, SubNw, Mul, MulNsw, MulNuw, MulNw, Udiv, Sdiv, UdivExact, SdivExact, Urem, Srem, And, Or, Xor, Shl, ShlNsw, ShlNuw, ShlNw, Lshr, LshrExact, Ashr, AshrExact, Select, Zext, Sext, Trunc, Eq, Ne, Ult, Slt, Ule, Sle, Ctpop, Bswap, BitReverse, Cttz, Ctlz, Fshl, Fshr, SaddWithOverflow, UaddWithOverflow, SsubWithOverflow, UsubWithOverflow, SmulWithOverflow, UmulWithOverflow, SaddSat, UaddSat, SsubSat, UsubSat, ExtractValue, Hole, Freeze}
 use Rattle.souper_graph.specs.Instructions.{word_of, operands_of}
 use Rattle.souper_graph.specs.Uses.{value_use, block_use, uses_of_operand, uses_of_operands}
 use Rattle.souper_graph.specs.WellFormed.{FitsOptionalType, FitsConstant, FitsAttribute, FitsRootAttribute, FitsInfer}
@@ -20,6 +19,7 @@ use Rattle.souper_graph.specs.Syntax.Tokens.{ident, val_name}
 use Rattle.souper_graph.specs.Syntax.Spelling.{Scope}
 use Rattle.souper_graph.proofs.RoundTrip.Parts.{Part, word, one_space, newline, is_loose, AreSound, sound_append, sound_each, loose_each, loose_append}
 use Rattle.souper_graph.proofs.RoundTrip.Lexemes.{is_word, word_lexeme, name_lexeme, count_lexeme, number_lexeme, width_lexeme, known_bits_lexeme, bits_lexeme}
+use Rattle.souper_graph.proofs.Shapes.{Shape, no_operands, unary, binary, ternary, shape_of}
 use Rattle.souper_graph.proofs.RoundTrip.Nodes.{parts_of_optional_type, parts_of_constant, parts_of_block, word_parts, parts_of_attribute, parts_of_root_attribute, attribute_parts, parts_of_attributes, root_attribute_parts, parts_of_root_attributes, parts_of_operand, further_parts, parts_of_further, parts_of_operands, parts_of_phi, parts_of_instruction, parts_of_rhs, parts_of_assignment, parts_of_pair, parts_of_pc, parts_of_block_pc, parts_of_statement, line_parts, parts_of_lines, parts_of_infer, parts_of_cand, parts_of_result}
 use Rattle.souper_graph.proofs.RoundTrip.Ready.{ReadyOperand, ReadyRhs, ReadyStatement, AreReady, Known, AreKnown, known_here, known_after, ready_operands, ready_rhs, ready_first, ready_second}
 
@@ -70,65 +70,13 @@ root_attributes_loose xs = loose_append (parts_of_root_attributes xs) (newline �
 
 -- a word of the grammar for each instruction
 word_of_is : (i : Instruction) → is_word (word_of i) ≡ true
-word_of_is (Add a b) = refl
-word_of_is (AddNsw a b) = refl
-word_of_is (AddNuw a b) = refl
-word_of_is (AddNw a b) = refl
-word_of_is (Sub a b) = refl
-word_of_is (SubNsw a b) = refl
-word_of_is (SubNuw a b) = refl
-word_of_is (SubNw a b) = refl
-word_of_is (Mul a b) = refl
-word_of_is (MulNsw a b) = refl
-word_of_is (MulNuw a b) = refl
-word_of_is (MulNw a b) = refl
-word_of_is (Udiv a b) = refl
-word_of_is (Sdiv a b) = refl
-word_of_is (UdivExact a b) = refl
-word_of_is (SdivExact a b) = refl
-word_of_is (Urem a b) = refl
-word_of_is (Srem a b) = refl
-word_of_is (And a b) = refl
-word_of_is (Or a b) = refl
-word_of_is (Xor a b) = refl
-word_of_is (Shl a b) = refl
-word_of_is (ShlNsw a b) = refl
-word_of_is (ShlNuw a b) = refl
-word_of_is (ShlNw a b) = refl
-word_of_is (Lshr a b) = refl
-word_of_is (LshrExact a b) = refl
-word_of_is (Ashr a b) = refl
-word_of_is (AshrExact a b) = refl
-word_of_is (Select a b c) = refl
-word_of_is (Zext a) = refl
-word_of_is (Sext a) = refl
-word_of_is (Trunc a) = refl
-word_of_is (Eq a b) = refl
-word_of_is (Ne a b) = refl
-word_of_is (Ult a b) = refl
-word_of_is (Slt a b) = refl
-word_of_is (Ule a b) = refl
-word_of_is (Sle a b) = refl
-word_of_is (Ctpop a) = refl
-word_of_is (Bswap a) = refl
-word_of_is (BitReverse a) = refl
-word_of_is (Cttz a) = refl
-word_of_is (Ctlz a) = refl
-word_of_is (Fshl a b c) = refl
-word_of_is (Fshr a b c) = refl
-word_of_is (SaddWithOverflow a b) = refl
-word_of_is (UaddWithOverflow a b) = refl
-word_of_is (SsubWithOverflow a b) = refl
-word_of_is (UsubWithOverflow a b) = refl
-word_of_is (SmulWithOverflow a b) = refl
-word_of_is (UmulWithOverflow a b) = refl
-word_of_is (SaddSat a b) = refl
-word_of_is (UaddSat a b) = refl
-word_of_is (SsubSat a b) = refl
-word_of_is (UsubSat a b) = refl
-word_of_is (ExtractValue a b) = refl
-word_of_is Hole = refl
-word_of_is (Freeze a) = refl
+word_of_is i = of_shape i (shape_of i)
+  where
+    of_shape : (i : Instruction) → Shape i → is_word (word_of i) ≡ true
+    of_shape _ no_operands = refl
+    of_shape _ (unary F w a f) = rw (f.word a) f.spelled
+    of_shape _ (binary F w a b f) = rw (f.word a b) f.spelled
+    of_shape _ (ternary F w a b c f) = rw (f.word a b c) f.spelled
 
 -- a line ends in a newline, so anything may follow it
 pub line_then : (ps qs : List Part) → AreSound ps → AreSound qs → AreSound ((ps ++ newline ∷ []) ++ qs)
