@@ -1,25 +1,23 @@
 -- Lemmas. The canonical text of a well-formed item lists the statements of its renumbered item, and reads back as it.
-use Rattle.std.proofs.Common.{◌≡◌, ℕ, ◌<◌, List, [], ◌∷◌, ◌++◌, length, map, take, drop, get_or, Option, Some, None, refl, sym, ap, ◌∙◌, subst, arith, inl, inr, append-nil}
-use Rattle.std.specs.Prelude.{flat_map, codes, slice_get}
-use Rattle.std.specs.List.{AllByRecursion}
+use Rattle.std.proofs.Common.{◌≡◌, ℕ, ◌<◌, List, [], ◌∷◌, ◌++◌, length, map, take, drop, get_or, Some, refl, sym, ap, ◌∙◌, subst, inl, inr, append-nil}
+use Rattle.std.specs.Prelude.{codes, slice_get}
 use Rattle.std.proofs.lemmas.List.{take-map, drop-map, take-append-drop, length-map}
 use Rattle.std.proofs.lemmas.Option.{slice_get_within}
-use Rattle.souper_graph.specs.Values.{PlainAssignment, PlainStatement, assigned, condition, block_condition, PlainInfer, Ending, inferred, resulting, replaced, candidate, Item}
-use Rattle.souper_graph.specs.declared.ast.operands.Operand.{Operand}
-use Rattle.souper_graph.specs.Uses.{Has, Use, value_use, position_of, uses_of_operand, uses_of, first_roots, roots_of, walks_of, NeededIn, UsesBelow}
+use Rattle.souper_graph.specs.Values.{PlainStatement, assigned, condition, block_condition, Ending, inferred, resulting, replaced, candidate, Item}
+use Rattle.souper_graph.specs.Uses.{Has, value_use, position_of, uses_of_operand, first_roots, roots_of, walks_of, NeededIn}
 use Rattle.souper_graph.specs.Order.{printed_order, lead_of}
-use Rattle.souper_graph.specs.Text.{name_of, name_at, text_of_statement, text_of_infer, text_of_cand, text_of_result, line_of, line_at, lines_of, text_in_order, text_of, text_with_newline, texts_of}
-use Rattle.souper_graph.specs.WellFormed.{Closed, WellFormed, EachClosed}
+use Rattle.souper_graph.specs.Text.{name_of, name_at, text_of_statement, line_of, line_at, lines_of, text_in_order, text_of, texts_of}
+use Rattle.souper_graph.specs.WellFormed.{WellFormed, EachClosed}
 use Rattle.souper_graph.specs.Sameness.{carried, carried_ending, place, renumbered, SameGraph, SameNeeded}
 use Rattle.souper_graph.specs.CanonicalText.{IsWellFormedOf, AreWellFormed, AllNeeded, ReadsBack}
 use Rattle.souper_graph.specs.Syntax.Tokens.{Lexeme, IsTextOf}
-use Rattle.souper_graph.specs.Syntax.Spelling.{kinds, ItemType, left_hand_side, right_hand_side, replacement, IsEndingOf, item_spells, list_spells, TextSpells}
-use Rattle.souper_graph.proofs.Lists.{Has-left, Has-right, Has-here, Has-later, Has-map}
+use Rattle.souper_graph.specs.Syntax.Spelling.{ItemType, left_hand_side, right_hand_side, replacement, IsEndingOf, item_spells, list_spells, TextSpells}
+use Rattle.souper_graph.proofs.Lists.{Has-left, Has-right, Has-here, Has-later}
 use Rattle.souper_graph.proofs.Sameness.Indices.{Has-at, place-at}
-use Rattle.souper_graph.proofs.Judging.Needed.{statement_at, root-walked, well_formed_stands, well_formed_below}
+use Rattle.souper_graph.proofs.Judging.Needed.{statement_at, root-walked, well_formed_stands}
 use Rattle.souper_graph.proofs.Sameness.PrintedOrder.{printed-once}
-use Rattle.souper_graph.proofs.Sameness.Renumbered.{numbered, numbered_item, renumbered-is, needs, stood-needed, numbered-at, numbered-needed, renumbered-well, renumbered-again, renumbered-same, renumbered-graph, unneeded-well, unneeded-graph}
-use Rattle.souper_graph.proofs.RoundTrip.Parts.{Part, newline, printed, placed, words_of, AreSound, text_from_parts, sound_lines, printed_each, printed_append, placed_words, words_append}
+use Rattle.souper_graph.proofs.Sameness.Renumbered.{numbered, numbered_item, renumbered-is, needs, stood-needed, numbered-at, numbered-needed, renumbered-well, renumbered-same, renumbered-graph, unneeded-well, unneeded-graph}
+use Rattle.souper_graph.proofs.RoundTrip.Parts.{Part, newline, printed, placed, words_of, AreSound, text_from_parts, printed_append, placed_words, words_append}
 use Rattle.souper_graph.proofs.RoundTrip.Nodes.{listed_parts, text_of_lines, listed_text}
 use Rattle.souper_graph.proofs.RoundTrip.Texts.{listed_is}
 use Rattle.souper_graph.proofs.RoundTrip.Spelled.{ended}

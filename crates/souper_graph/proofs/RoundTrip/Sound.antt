@@ -1,6 +1,6 @@
 -- Lemmas. The parts of a node that can be written are tokens, none continued by the next.
-use Rattle.std.proofs.Common.{◌≡◌, ℕ, ◌<◌, ◌^◌, Bool, true, List, [], ◌∷◌, ◌++◌, take, drop, Option, Some, None, refl, sym, subst, append_assoc, arith}
-use Rattle.std.specs.Prelude.{flat_map, codes}
+use Rattle.std.proofs.Common.{◌≡◌, ℕ, ◌<◌, ◌^◌, true, List, [], ◌∷◌, ◌++◌, Option, Some, None, refl, sym, subst, append_assoc, arith}
+use Rattle.std.specs.Prelude.{codes}
 use Rattle.std.specs.List.{AllByRecursion}
 use Rattle.souper_graph.specs.declared.ast.operands.«Type».{«Type» as Ty}
 use Rattle.souper_graph.specs.declared.ast.operands.Constant.{Constant}
@@ -8,9 +8,7 @@ use Rattle.souper_graph.specs.declared.ast.operands.Operand.{Operand}
 use Rattle.souper_graph.specs.declared.ast.operands.Operand.TheVariants.{Value, Constant as constant_variant}
 use Rattle.souper_graph.specs.declared.ast.instructions.Instruction.{Instruction}
 use Rattle.souper_graph.specs.declared.ast.statements.Block.{Block}
-use Rattle.souper_graph.specs.declared.ast.statements.Pc.{Pc}
-use Rattle.souper_graph.specs.declared.ast.statements.BlockPc.{BlockPc}
-use Rattle.souper_graph.specs.Values.{PlainAttribute, known_bits as known_bits_attribute, power_of_two, negative, non_negative, non_zero, has_external_uses, sign_bits, range, PlainRootAttribute, demanded_bits, harvested_from_use, PlainPhi, PlainRhs, var, block, phi, reserved_inst, reserved_const, instruction, PlainAssignment, PlainStatement, assigned, condition, block_condition, PlainInfer, PlainCand, Ending, inferred, resulting, replaced, candidate, Item}
+use Rattle.souper_graph.specs.Values.{PlainAttribute, known_bits as known_bits_attribute, power_of_two, negative, non_negative, non_zero, has_external_uses, sign_bits, range, PlainRootAttribute, demanded_bits, harvested_from_use, PlainRhs, var, block, phi, reserved_inst, reserved_const, instruction, PlainStatement, assigned, condition, block_condition, PlainInfer, PlainCand}
 use Rattle.souper_graph.specs.Instructions.{word_of, operands_of}
 use Rattle.souper_graph.specs.Uses.{value_use, block_use, uses_of_operand, uses_of_operands}
 use Rattle.souper_graph.specs.WellFormed.{FitsOptionalType, FitsConstant, FitsAttribute, FitsRootAttribute, FitsInfer}
@@ -20,7 +18,7 @@ use Rattle.souper_graph.specs.Syntax.Spelling.{Scope}
 use Rattle.souper_graph.proofs.RoundTrip.Parts.{Part, word, one_space, newline, is_loose, AreSound, sound_append, sound_each, loose_each, loose_append}
 use Rattle.souper_graph.proofs.RoundTrip.Lexemes.{is_word, word_lexeme, name_lexeme, count_lexeme, number_lexeme, width_lexeme, known_bits_lexeme, bits_lexeme}
 use Rattle.souper_graph.proofs.Shapes.{Shape, no_operands, unary, binary, ternary, shape_of}
-use Rattle.souper_graph.proofs.RoundTrip.Nodes.{parts_of_optional_type, parts_of_constant, parts_of_block, word_parts, parts_of_attribute, parts_of_root_attribute, attribute_parts, parts_of_attributes, root_attribute_parts, parts_of_root_attributes, parts_of_operand, further_parts, parts_of_further, parts_of_operands, parts_of_phi, parts_of_instruction, parts_of_rhs, parts_of_assignment, parts_of_pair, parts_of_pc, parts_of_block_pc, parts_of_statement, line_parts, parts_of_lines, parts_of_infer, parts_of_cand, parts_of_result}
+use Rattle.souper_graph.proofs.RoundTrip.Nodes.{parts_of_optional_type, parts_of_constant, parts_of_block, word_parts, parts_of_attribute, parts_of_root_attribute, attribute_parts, parts_of_attributes, root_attribute_parts, parts_of_root_attributes, parts_of_operand, further_parts, parts_of_further, parts_of_operands, parts_of_rhs, parts_of_pair, parts_of_statement, line_parts, parts_of_lines, parts_of_infer, parts_of_cand, parts_of_result}
 use Rattle.souper_graph.proofs.RoundTrip.Ready.{ReadyOperand, ReadyRhs, ReadyStatement, AreReady, Known, AreKnown, known_here, known_after, ready_operands, ready_rhs, ready_first, ready_second}
 
 optional_type_loose : (t : Option Ty) → is_loose (parts_of_optional_type t) ≡ true

@@ -4,9 +4,7 @@ use Rattle.std.specs.List.{AllByRecursion}
 use Rattle.std.proofs.lemmas.List.{map-append, length-map}
 use Rattle.souper_graph.specs.declared.ast.operands.Operand.{Operand}
 use Rattle.souper_graph.specs.declared.ast.operands.Operand.TheVariants.{Value, Constant}
-use Rattle.souper_graph.specs.Values.{PlainRhs, var, block, phi, reserved_inst, reserved_const, instruction, PlainAssignment, PlainStatement, assigned, condition, block_condition, PlainInfer, PlainCand, Ending, inferred, resulting, replaced, candidate}
-use Rattle.souper_graph.specs.declared.ast.statements.Pc.{Pc}
-use Rattle.souper_graph.specs.declared.ast.statements.BlockPc.{BlockPc}
+use Rattle.souper_graph.specs.Values.{PlainRhs, var, block, phi, reserved_inst, reserved_const, instruction, PlainAssignment, PlainStatement, assigned, condition, block_condition, Ending, inferred, resulting, replaced, candidate}
 use Rattle.souper_graph.specs.Instructions.{operands_of}
 use Rattle.souper_graph.specs.Uses.{Has, Use, value_use, block_use, position_of, uses_of_operand, uses_of_operands, uses_of_rhs, uses_of, is_condition, first_roots, last_roots, roots_of}
 use Rattle.souper_graph.specs.Faults.{IsAssigned, IsBlock}
@@ -116,56 +114,44 @@ operands-same f h (o ∷ os) e x q = elim (Has-head o x os q) [
   | inr r ↦ operands-same f h os (agree_right f h (uses_of_operand o) (uses_of_operands os) e) x r
 ]
 
-pair-same : {T : Type 0} (F : Operand → Operand → T) (f h : ℕ → ℕ) (x y : Operand) → AgreeAt f h (uses_of_operand x ++ uses_of_operand y) →
-    F (carried_operand f x) (carried_operand f y) ≡ F (carried_operand h x) (carried_operand h y)
-pair-same F f h x y e =
-    ap (λ z. F z (carried_operand f y)) (operand-same f h x (agree_left f h (uses_of_operand x) (uses_of_operand y) e))
-    ∙ ap (λ z. F (carried_operand h x) z) (operand-same f h y (agree_right f h (uses_of_operand x) (uses_of_operand y) e))
-
-phi-is : (b b' : ℕ) (vs vs' : List Operand) → b ≡ b' → vs ≡ vs' → phi (record { block = b; values = vs }) ≡ phi (record { block = b'; values = vs' })
-phi-is b b' vs vs' p q =
-    let mk : ℕ → List Operand → PlainRhs = λ x y. phi (record { block = x; values = y }) in
-    ap (λ x. mk x vs) p ∙ ap (λ y. mk b' y) q
-
 rhs-same : (f h : ℕ → ℕ) (r : PlainRhs) → AgreeAt f h (uses_of_rhs r) → carried_rhs f r ≡ carried_rhs h r
 rhs-same f h var e = refl
 rhs-same f h (block b) e = refl
 rhs-same f h (phi p) e =
     let us = uses_of_operands p.values in
-    phi-is (f p.block) (h p.block) (map (carried_operand f) p.values) (map (carried_operand h) p.values)
-    (e (block_use p.block) (Has-here (block_use p.block) us))
-    (map-same (carried_operand f) (carried_operand h) p.values (operands-same f h p.values (λ u q. e u (Has-later (block_use p.block) u us q))))
+    rw (
+      e (block_use p.block) (Has-here (block_use p.block) us),
+      map-same (carried_operand f) (carried_operand h) p.values (operands-same f h p.values (λ u q. e u (Has-later (block_use p.block) u us q))),
+    ) refl
 rhs-same f h reserved_inst e = refl
 rhs-same f h reserved_const e = refl
 rhs-same f h (instruction i) e =
     ap (λ z. instruction z) (instruction-same (carried_operand f) (carried_operand h) i (operands-same f h (operands_of i) e))
 
-assigned_with : PlainAssignment → PlainRhs → PlainStatement
-assigned_with a r = assigned (record a { value = r })
+-- both operands of a pair
+left-same : (f h : ℕ → ℕ) (x y : Operand) → AgreeAt f h (uses_of_operand x ++ uses_of_operand y) → carried_operand f x ≡ carried_operand h x
+left-same f h x y e = operand-same f h x (agree_left f h (uses_of_operand x) (uses_of_operand y) e)
+
+right-same : (f h : ℕ → ℕ) (x y : Operand) → AgreeAt f h (uses_of_operand x ++ uses_of_operand y) → carried_operand f y ≡ carried_operand h y
+right-same f h x y e = operand-same f h y (agree_right f h (uses_of_operand x) (uses_of_operand y) e)
 
 pub carried-same : (f h : ℕ → ℕ) (s : PlainStatement) → AgreeAt f h (uses_of s) → carried f s ≡ carried h s
-unfolding assigned_with
-carried-same f h (assigned a) e = ap (assigned_with a) (rhs-same f h a.value e)
-carried-same f h (condition p) e = pair-same (λ x y. (let q : Pc = record { x = x; y = y } in condition q)) f h p.x p.y e
+carried-same f h (assigned a) e = rw (rhs-same f h a.value e) refl
+carried-same f h (condition p) e = rw (left-same f h p.x p.y e, right-same f h p.x p.y e) refl
 carried-same f h (block_condition p) e =
     let us = uses_of_operand p.x ++ uses_of_operand p.y in
-    let mk : ℕ → Operand → Operand → PlainStatement = λ b x y. (let q : BlockPc = record { block = b; predecessor = p.predecessor; x = x; y = y } in block_condition q) in
-    ap (λ b. mk b (carried_operand f p.x) (carried_operand f p.y)) (e (block_use p.block) (Has-here (block_use p.block) us))
-    ∙ pair-same (mk (h p.block)) f h p.x p.y (λ u q. e u (Has-later (block_use p.block) u us q))
+    let k : AgreeAt f h us = λ u q. e u (Has-later (block_use p.block) u us q) in
+    rw (e (block_use p.block) (Has-here (block_use p.block) us), left-same f h p.x p.y k, right-same f h p.x p.y k) refl
 
 pub ending-same : (f h : ℕ → ℕ) (d : Ending) → AgreeAt f h (roots_of d) → carried_ending f d ≡ carried_ending h d
-ending-same f h (inferred i) e =
-    let mk : ℕ → Ending = λ v. (let q : PlainInfer = record { value = v; attributes = i.attributes } in inferred q) in
-    ap mk (e (value_use i.value) (Has-here (value_use i.value) []))
-ending-same f h (resulting r) e = ap (λ z. resulting z) (operand-same f h r (agree_left f h (uses_of_operand r) [] e))
+ending-same f h (inferred i) e = rw (e (value_use i.value) (Has-here (value_use i.value) [])) refl
+ending-same f h (resulting r) e = rw (operand-same f h r (agree_left f h (uses_of_operand r) [] e)) refl
 ending-same f h (replaced i r) e =
-    let mk : ℕ → Operand → Ending = λ v o. (let q : PlainInfer = record { value = v; attributes = i.attributes } in replaced q o) in
     let us : List Use = uses_of_operand r in
-    ap (λ v. mk v (carried_operand f r)) (e (value_use i.value) (Has-here (value_use i.value) us))
-    ∙ ap (λ o. mk (h i.value) o) (operand-same f h r (λ u q. e u (Has-later (value_use i.value) u us q)))
+    rw (e (value_use i.value) (Has-here (value_use i.value) us), operand-same f h r (λ u q. e u (Has-later (value_use i.value) u us q))) refl
 ending-same f h (candidate c) e =
-    let mk : Operand → Operand → Ending = λ x y. (let q : PlainCand = record { lhs = x; rhs = y; attributes = c.attributes } in candidate q) in
-    pair-same mk f h c.lhs c.rhs (agree_left f h (uses_of_operand c.lhs ++ uses_of_operand c.rhs) [] e)
+    let k = agree_left f h (uses_of_operand c.lhs ++ uses_of_operand c.rhs) [] e in
+    rw (left-same f h c.lhs c.rhs k, right-same f h c.lhs c.rhs k) refl
 
 -- carried by one map and then by another
 
@@ -178,18 +164,10 @@ operands-twice f h os =
     map-map (carried_operand f) (carried_operand h) os
     ∙ map-same (λ o. carried_operand h (carried_operand f o)) (carried_operand (λ i. h (f i))) os (λ o q. operand-twice f h o)
 
-pair-twice : {T : Type 0} (F : Operand → Operand → T) (f h : ℕ → ℕ) (x y : Operand) →
-    F (carried_operand h (carried_operand f x)) (carried_operand h (carried_operand f y)) ≡ F (carried_operand (λ i. h (f i)) x) (carried_operand (λ i. h (f i)) y)
-pair-twice F f h x y =
-    ap (λ z. F z (carried_operand h (carried_operand f y))) (operand-twice f h x)
-    ∙ ap (λ z. F (carried_operand (λ i. h (f i)) x) z) (operand-twice f h y)
-
 rhs-twice : (f h : ℕ → ℕ) (r : PlainRhs) → carried_rhs h (carried_rhs f r) ≡ carried_rhs (λ i. h (f i)) r
 rhs-twice f h var = refl
 rhs-twice f h (block b) = refl
-rhs-twice f h (phi p) =
-    phi-is (h (f p.block)) (h (f p.block)) (map (carried_operand h) (map (carried_operand f) p.values))
-    (map (carried_operand (λ i. h (f i))) p.values) refl (operands-twice f h p.values)
+rhs-twice f h (phi p) = rw (operands-twice f h p.values) refl
 rhs-twice f h reserved_inst = refl
 rhs-twice f h reserved_const = refl
 rhs-twice f h (instruction i) =
@@ -198,20 +176,15 @@ rhs-twice f h (instruction i) =
     ∙ instruction-same (λ o. carried_operand h (carried_operand f o)) (carried_operand (λ j. h (f j))) i (λ o q. operand-twice f h o))
 
 pub carried-twice : (f h : ℕ → ℕ) (s : PlainStatement) → carried h (carried f s) ≡ carried (λ i. h (f i)) s
-unfolding assigned_with
-carried-twice f h (assigned a) = ap (assigned_with a) (rhs-twice f h a.value)
-carried-twice f h (condition p) = pair-twice (λ x y. (let q : Pc = record { x = x; y = y } in condition q)) f h p.x p.y
-carried-twice f h (block_condition p) =
-    pair-twice (λ x y. (let q : BlockPc = record { block = h (f p.block); predecessor = p.predecessor; x = x; y = y } in block_condition q)) f h p.x p.y
+carried-twice f h (assigned a) = rw (rhs-twice f h a.value) refl
+carried-twice f h (condition p) = rw (operand-twice f h p.x, operand-twice f h p.y) refl
+carried-twice f h (block_condition p) = rw (operand-twice f h p.x, operand-twice f h p.y) refl
 
 pub ending-twice : (f h : ℕ → ℕ) (d : Ending) → carried_ending h (carried_ending f d) ≡ carried_ending (λ i. h (f i)) d
 ending-twice f h (inferred i) = refl
-ending-twice f h (resulting r) = ap (λ z. resulting z) (operand-twice f h r)
-ending-twice f h (replaced i r) =
-    let q : PlainInfer = record { value = h (f i.value); attributes = i.attributes } in
-    ap (λ z. replaced q z) (operand-twice f h r)
-ending-twice f h (candidate c) =
-    pair-twice (λ x y. (let q : PlainCand = record { lhs = x; rhs = y; attributes = c.attributes } in candidate q)) f h c.lhs c.rhs
+ending-twice f h (resulting r) = rw (operand-twice f h r) refl
+ending-twice f h (replaced i r) = rw (operand-twice f h r) refl
+ending-twice f h (candidate c) = rw (operand-twice f h c.lhs, operand-twice f h c.rhs) refl
 
 -- carried by a map that moves no used position
 
@@ -222,31 +195,23 @@ operand-still (Constant c) = refl
 rhs-still : (r : PlainRhs) → carried_rhs (λ i. i) r ≡ r
 rhs-still var = refl
 rhs-still (block b) = refl
-rhs-still (phi p) =
-    phi-is p.block p.block (map (carried_operand (λ i. i)) p.values) p.values refl
-    (map-itself (carried_operand (λ i. i)) p.values (λ o q. operand-still o))
+rhs-still (phi p) = rw (map-itself (carried_operand (λ i. i)) p.values (λ o q. operand-still o)) refl
 rhs-still reserved_inst = refl
 rhs-still reserved_const = refl
 rhs-still (instruction i) =
     ap (λ z. instruction z) (
     instruction-same (carried_operand (λ j. j)) (λ o. o) i (λ o q. operand-still o) ∙ instruction-itself i)
 
-pair-still : {T : Type 0} (F : Operand → Operand → T) (x y : Operand) → F (carried_operand (λ i. i) x) (carried_operand (λ i. i) y) ≡ F x y
-pair-still F x y = ap (λ z. F z (carried_operand (λ i. i) y)) (operand-still x) ∙ ap (λ z. F x z) (operand-still y)
-
 pub carried-still : (s : PlainStatement) → carried (λ i. i) s ≡ s
-unfolding assigned_with
-carried-still (assigned a) = ap (assigned_with a) (rhs-still a.value)
-carried-still (condition p) = pair-still (λ x y. (let q : Pc = record { x = x; y = y } in condition q)) p.x p.y
-carried-still (block_condition p) =
-    pair-still (λ x y. (let q : BlockPc = record { block = p.block; predecessor = p.predecessor; x = x; y = y } in block_condition q)) p.x p.y
+carried-still (assigned a) = rw (rhs-still a.value) refl
+carried-still (condition p) = rw (operand-still p.x, operand-still p.y) refl
+carried-still (block_condition p) = rw (operand-still p.x, operand-still p.y) refl
 
 pub ending-still : (d : Ending) → carried_ending (λ i. i) d ≡ d
 ending-still (inferred i) = refl
-ending-still (resulting r) = ap (λ z. resulting z) (operand-still r)
-ending-still (replaced i r) = ap (λ z. replaced i z) (operand-still r)
-ending-still (candidate c) =
-    pair-still (λ x y. (let q : PlainCand = record { lhs = x; rhs = y; attributes = c.attributes } in candidate q)) c.lhs c.rhs
+ending-still (resulting r) = rw (operand-still r) refl
+ending-still (replaced i r) = rw (operand-still r) refl
+ending-still (candidate c) = rw (operand-still c.lhs, operand-still c.rhs) refl
 
 pub carried-itself : (f : ℕ → ℕ) (s : PlainStatement) → AgreeAt f (λ i. i) (uses_of s) → carried f s ≡ s
 carried-itself f s e = carried-same f (λ i. i) s e ∙ carried-still s

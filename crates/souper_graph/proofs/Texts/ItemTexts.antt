@@ -1,5 +1,5 @@
 -- The text of an item, from its order.
-use Rattle.std.proofs.Common.{◌≡◌, ℕ, List, ◌++◌, refl, sym, ap, ◌∙◌}
+use Rattle.std.proofs.Common.{◌≡◌, ℕ, List, refl, ap, ◌∙◌}
 use Rattle.souper_graph.specs.Values.{Item}
 use Rattle.souper_graph.specs.Uses.{UsesBelow}
 use Rattle.souper_graph.specs.PrintOrder.{IsPrintOrder}

@@ -1,5 +1,4 @@
 use Rattle.std.proofs.Common.{ℕ, List, ◌++◌, sym, ap, subst, ◌∙◌}
-use Rattle.std.specs.String.{string_bytes}
 use Rattle.souper_graph.specs.ItemText.{IsItemText}
 use Rattle.souper_graph.proofs.ast.parts.Parts.to_text.Goals as goal
 
