@@ -2,7 +2,7 @@
 ghost use Rattle.std.specs.Prelude.{IfOk};
 ghost use Rattle.souper_graph.specs.Building.{BeginsWithPercent};
 
-use crate::errors::reports;
+use crate::refusals::reports;
 use souper_ir::ast::{
     Arena, AssignmentRhs, Attribute, Constant, Id, Instruction, LeftHandSide, LeftHandSideBuilder,
     Statement,
@@ -46,10 +46,8 @@ fn is_refused(
     offset: usize,
     want: &str,
 ) -> Result<(), Fail> {
-    let error = parse_left_hand_sides_str(alloc, text, None)
-        .err()
-        .ok_or("no refusal")?;
-    reports(rt, alloc, &error, offset, want)
+    let error = parse_left_hand_sides_str(alloc, text, None).err();
+    reports(rt, alloc, error, offset, want)
 }
 
 #[test]

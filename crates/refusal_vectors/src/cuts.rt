@@ -1,4 +1,4 @@
-//! Texts that are cut off, and a long one.
+//! Texts that are cut off.
 use souper_format::command::Kind;
 use souper_format::items::read_items;
 use souper_ir::parse::{ParseErrorKind, parse_left_hand_sides_str};
@@ -7,7 +7,7 @@ use souper_vectors::sources::{
     FAULTY_RIGHT_HAND_SIDES, GAPS, NAMES, PAIRS, PREDECESSORS, PRINTED_PAIRS, RESULTS,
     RIGHT_HAND_SIDES, VALUES, chain, ones, thousand, words,
 };
-use std::alloc::{AllocError, Global};
+use std::alloc::Global;
 use std::process::Abort;
 use std::test::Fail;
 
@@ -143,36 +143,4 @@ fn prefixes_of_long_texts_are_read_or_refused(rt: HostRuntime) -> Result<(), Fai
         Kind::Lhs,
         &[doublings.as_str(), definitions.as_str()],
     )
-}
-
-fn spaces(alloc: Global, count: u32) -> Result<String, AllocError> {
-    let mut text = String::new(alloc);
-    for _ in 0..count {
-        text.push(' ')?;
-    }
-    Ok(text)
-}
-
-// A word far to the right is refused, and the caret is below it.
-fn refuses_far(rt: &impl Abort, alloc: Global, kind: Kind, wanted: &str) -> Result<(), Fail> {
-    let mut source = spaces(alloc, 70_000)?;
-    source.push('x')?;
-    let error = read_items(alloc, kind, source.as_str(), None)
-        .err()
-        .ok_or("no refusal")?;
-    assert_eq!(rt; error.kind(), ParseErrorKind::Parse);
-    assert_eq!(rt; error.offset(), Some(70_000));
-    let shown = error.to_string(alloc)?;
-    let margin = spaces(alloc, 69_999)?;
-    let want = format!(in alloc;
-        "unknown:1:70000: expected '{wanted}'\n     |\n   1 | {source}\n     | {margin}^"
-    )?;
-    assert!(rt; shown == want, "{} bytes are shown", shown.len());
-    Ok(())
-}
-
-#[test]
-fn marker_is_far_to_the_right(rt: HostRuntime) -> Result<(), Fail> {
-    refuses_far(&rt, rt.alloc(), Kind::Rhs, "result")?;
-    refuses_far(&rt, rt.alloc(), Kind::Lhs, "infer")
 }

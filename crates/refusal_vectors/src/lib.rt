@@ -8,8 +8,8 @@ mod changed;
 #[cfg(test)]
 mod cuts;
 #[cfg(test)]
-mod errors;
-#[cfg(test)]
 mod places;
 #[cfg(test)]
 mod refusals;
+#[cfg(test)]
+mod table;

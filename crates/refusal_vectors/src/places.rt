@@ -1,188 +1,106 @@
-//! The places of refusals, and what each error shows.
-use crate::errors::reports;
+//! The places of refusals: the name of the file, lines and columns far away, and errors without a place.
+use crate::refusals::{Refusal, is_refused, reports, shows};
+use souper_format::command::Kind;
 use souper_ir::ast::Infer;
-use souper_ir::parse::{Parse, ParseError, ParseErrorKind, Parser, parse_left_hand_sides_str};
+use souper_ir::parse::{Parse, ParseError, ParseErrorKind, Parser};
+use souper_vectors::sources::thousand;
 use std::alloc::{AllocError, Global};
 use std::io;
-use std::process::Abort;
 use std::test::Fail;
 
-fn shows(rt: &impl Abort, alloc: Global, error: &ParseError, want: &str) -> Result<(), Fail> {
-    let shown = format!(in alloc; "{error}")?;
-    assert_eq!(rt; shown.as_str(), want);
-    let shown = format!(in alloc; "{error:?}")?;
-    assert_eq!(rt; shown.as_str(), want);
-    shows_whatever_the_options(rt, alloc, error, want)
-}
-
-// Width, fill, precision and sign are ignored.
-fn shows_whatever_the_options(
-    rt: &impl Abort,
-    alloc: Global,
-    error: &ParseError,
-    want: &str,
-) -> Result<(), Fail> {
-    let shown = format!(in alloc; "{error:*>300}{error:*^300}{error:300}")?;
-    let thrice = format!(in alloc; "{want}{want}{want}")?;
-    assert_eq!(rt; shown.as_str(), thrice.as_str());
-    let shown = format!(in alloc; "{error:.3}{error:+}{error:+0300.0}")?;
-    assert_eq!(rt; shown.as_str(), thrice.as_str());
-    let shown = format!(in alloc; "{error:*<300?}{error:.3?}{error:+0300?}")?;
-    assert_eq!(rt; shown.as_str(), thrice.as_str());
-    Ok(())
-}
-
-// The error is a refusal at the offset, and shows the text whatever the options.
-fn places(
-    rt: &impl Abort,
-    alloc: Global,
-    error: Option<ParseError>,
-    offset: usize,
-    want: &str,
-) -> Result<(), Fail> {
-    let error = error.ok_or("no refusal")?;
-    reports(rt, alloc, &error, offset, want)?;
-    shows_whatever_the_options(rt, alloc, &error, want)
-}
-
-// The text is refused at the offset, and the error shows that text.
-fn refuses(
-    rt: &impl Abort,
-    alloc: Global,
-    (source, offset, want): (&str, usize, &str),
-) -> Result<(), Fail> {
-    let error = parse_left_hand_sides_str(alloc, source, None).err();
-    places(rt, alloc, error, offset, want)
-}
-
 #[test]
-fn place_of_a_refusal(rt: HostRuntime) -> Result<(), Fail> {
-    let source = "; hello, how are you?\n; I am good, thanks\npc 1 thats good\n";
-    let error = parse_left_hand_sides_str(rt.alloc(), source, Some("path/to/foo.txt")).err();
-    let want =
-        "path/to/foo.txt:3:5: expected an integer literal\n     |\n   3 | pc 1 thats good\n     |     ^";
-    places(&rt, rt.alloc(), error, 47, want)
-}
-
-#[test]
-fn line_ends(rt: HostRuntime) -> Result<(), Fail> {
-    for row in [
-        // The first byte of the text.
+fn file_name_is_shown(rt: HostRuntime) -> Result<(), Fail> {
+    for (file, text, offset, shown) in [
         (
-            "ab\r\ncd",
-            0,
-            "unknown:1:1: expected 'infer'\n     |\n   1 | ab\n     | ^",
+            "path/to/foo.txt",
+            "; hello, how are you?\n; I am good, thanks\npc 1 thats good\n",
+            47,
+            "path/to/foo.txt:3:5: expected an integer literal\n     |\n   3 | pc 1 thats good\n     |     ^",
         ),
         (
-            "ab\rcd",
-            0,
-            "unknown:1:1: expected 'infer'\n     |\n   1 | ab\rcd\n     | ^",
-        ),
-        // A newline, which is the last byte of its line.
-        (
-            "\nab",
-            1,
-            "unknown:1:1: expected 'infer'\n     |\n   1 | \n     | ^",
+            "a file.opt",
+            "infer %x",
+            6,
+            "a file.opt:1:6: no value named '%x' in scope\n     |\n   1 | infer %x\n     |      ^",
         ),
         (
-            "%x\r\ncd",
-            4,
-            "unknown:1:4: expected '='\n     |\n   1 | %x\n     |    ^",
-        ),
-        (
-            "%x\r\r\ncd",
-            5,
-            "unknown:1:5: expected '='\n     |\n   1 | %x\r\n     |     ^",
-        ),
-        // The `\r` before a newline.
-        (
-            "%x\r\n",
-            3,
-            "unknown:1:3: unexpected EOF\n     |\n   1 | %x\n     |   ^",
-        ),
-        (
-            "%x\r\r\n",
-            4,
-            "unknown:1:4: unexpected EOF\n     |\n   1 | %x\r\n     |    ^",
-        ),
-        // A `\r` with no newline after it.
-        (
-            "%x\r\n=d\r",
-            5,
-            "unknown:2:1: expected a constant, var, block, phi, or instruction\n     |\n   2 | =d\r\n     | ^",
-        ),
-        (
-            "%x\r=\rd",
-            5,
-            "unknown:1:5: expected a constant, var, block, phi, or instruction\n     |\n   1 | %x\r=\rd\n     |     ^",
+            "",
+            "infer %x",
+            6,
+            ":1:6: no value named '%x' in scope\n     |\n   1 | infer %x\n     |      ^",
         ),
     ] {
-        refuses(&rt, rt.alloc(), row)?;
+        let refusal = Refusal {
+            kind: Kind::Lhs,
+            text,
+            offset,
+            shown,
+        };
+        is_refused(&rt, rt.alloc(), Some(file), &refusal)?;
     }
     Ok(())
 }
 
-#[test]
-fn columns_count_bytes(rt: HostRuntime) -> Result<(), Fail> {
-    for row in [
-        (
-            ";é\n\nx\n",
-            5,
-            "unknown:2:1: expected 'infer'\n     |\n   2 | \n     | ^",
-        ),
-        (
-            "%x\u{3000}é",
-            5,
-            "unknown:1:5: unexpected 'é'\n     |\n   1 | %x\u{3000}é\n     |     ^",
-        ),
-        (
-            ";é\r\n%x\u{85}\u{2028}= é\r\n",
-            14,
-            "unknown:2:9: unexpected 'é'\n     |\n   2 | %x\u{85}\u{2028}= é\n     |         ^",
-        ),
-    ] {
-        refuses(&rt, rt.alloc(), row)?;
+// The character, `count` times.
+fn repeated(alloc: Global, character: char, count: u32) -> Result<String, AllocError> {
+    let mut text = String::new(alloc);
+    for _ in 0..count {
+        text.push(character)?;
     }
-    Ok(())
-}
-
-// Of a `knownBits=` with nothing after it the offset is the length of the text.
-#[test]
-fn end_of_the_text(rt: HostRuntime) -> Result<(), Fail> {
-    for row in [
-        (
-            "%x = var\n(knownBits=",
-            20,
-            "unknown:2:11: expected [0|1|x]+ bit pattern for knownBits\n     |\n   2 | (knownBits=\n     |           ^",
-        ),
-        (
-            "%x = var\r",
-            8,
-            "unknown:1:8: unexpected EOF\n     |\n   1 | %x = var\r\n     |        ^",
-        ),
-    ] {
-        refuses(&rt, rt.alloc(), row)?;
-    }
-    Ok(())
+    Ok(text)
 }
 
 #[test]
-fn far_places(rt: HostRuntime) -> Result<(), Fail> {
-    let mut source = String::new(rt.alloc());
-    for _ in 0..12345 {
-        source.push('\n')?;
-    }
-    let mut spaces = String::new(rt.alloc());
-    for _ in 0..70000 {
-        spaces.push(' ')?;
-    }
-    source.push_str(spaces.as_str())?;
-    source.push_str(" x")?;
-    let error = parse_left_hand_sides_str(rt.alloc(), source.as_str(), Some("f")).err();
-    let want = format!(in rt.alloc();
+fn line_is_far_down(rt: HostRuntime) -> Result<(), Fail> {
+    let alloc = rt.alloc();
+    let newlines = repeated(alloc, '\n', 12_345)?;
+    let spaces = repeated(alloc, ' ', 70_000)?;
+    let text = format!(in alloc; "{newlines}{spaces} x")?;
+    let shown = format!(in alloc;
         "f:12346:70001: expected 'infer'\n     |\n12346 | {spaces} x\n     | {spaces}^"
     )?;
-    places(&rt, rt.alloc(), error, 82346, want.as_str())
+    let refusal = Refusal {
+        kind: Kind::Lhs,
+        text: text.as_str(),
+        offset: 82_346,
+        shown: shown.as_str(),
+    };
+    is_refused(&rt, alloc, Some("f"), &refusal)
+}
+
+#[test]
+fn marker_is_far_to_the_right(rt: HostRuntime) -> Result<(), Fail> {
+    let alloc = rt.alloc();
+    let spaces = repeated(alloc, ' ', 69_999)?;
+    let text = format!(in alloc; "{spaces} x")?;
+    for (kind, wanted) in [(Kind::Rhs, "result"), (Kind::Lhs, "infer")] {
+        let shown = format!(in alloc;
+            "unknown:1:70000: expected '{wanted}'\n     |\n   1 | {text}\n     | {spaces}^"
+        )?;
+        let refusal = Refusal {
+            kind,
+            text: text.as_str(),
+            offset: 70_000,
+            shown: shown.as_str(),
+        };
+        is_refused(&rt, alloc, None, &refusal)?;
+    }
+    Ok(())
+}
+
+#[test]
+fn second_definition_among_a_thousand_is_refused(rt: HostRuntime) -> Result<(), Fail> {
+    let alloc = rt.alloc();
+    let mut text = thousand(alloc)?;
+    text.push_str("%500 = var\ninfer %999")?;
+    let refusal = Refusal {
+        kind: Kind::Lhs,
+        text: text.as_str(),
+        offset: 10_890,
+        // The first byte of a line is one past the text of the line before.
+        shown: "unknown:1000:11: cannot redefine '%500'\n     |\n1000 | %999 = var\n     |           ^",
+    };
+    is_refused(&rt, alloc, None, &refusal)
 }
 
 #[test]
@@ -200,7 +118,7 @@ fn errors_of_no_source(rt: HostRuntime) -> Result<(), Fail> {
         ),
     ] {
         let error = Infer::parse(&mut Parser::new(rt.alloc(), source)).err();
-        places(&rt, rt.alloc(), error, offset, want)?;
+        reports(&rt, rt.alloc(), error, offset, want)?;
     }
     Ok(())
 }
