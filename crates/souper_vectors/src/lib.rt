@@ -6,8 +6,6 @@
 #[cfg(test)]
 mod again;
 #[cfg(test)]
-mod grammar;
-#[cfg(test)]
 mod orders;
 pub mod sources;
 #[cfg(test)]
