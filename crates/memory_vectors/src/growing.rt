@@ -1,4 +1,4 @@
-//! An arena that grows when it is full, and what tests of builders share.
+//! An arena that grows when it is full, and the calls of builders that make theirs grow.
 ghost use Rattle.std.specs.Prelude.{IfOk};
 ghost use Rattle.souper_graph.specs.Building.{BeginsWithPercent};
 
@@ -53,6 +53,67 @@ pub fn holds(
     }
     Ok(())
 }
+
+/// A call of a builder that appends a statement.
+#[derive(Clone, Copy)]
+pub enum Call {
+    NamedAssignment,
+    UnnamedAssignment,
+    NamedBlock,
+    UnnamedBlock,
+    Condition,
+    ConditionOnPredecessor,
+}
+
+/// The lines of a builder of a block with two predecessors and three conditions, and that of the call.
+pub fn lines(call: Call) -> [&'static str; 5] {
+    let line = match call {
+        Call::NamedAssignment => "%x:i8 = var\n",
+        Call::UnnamedAssignment => "%4 = var\n",
+        Call::NamedBlock => "%b = block 7\n",
+        Call::UnnamedBlock => "%4 = block 7\n",
+        Call::Condition => "pc 5 6\n",
+        Call::ConditionOnPredecessor => "blockpc %0 1 5 6\n",
+    };
+    ["%0 = block 2\n", "pc 1 1\n", "pc 2 2\n", "pc 3 3\n", line]
+}
+
+// Makes the call on a builder with that block. True if it succeeded.
+macro_rules! appends {
+    ($alloc:expr, $builder:ident, $block:expr, $call:expr) => {
+        match $call {
+            Call::NamedAssignment => {
+                let Ok(name) = name($alloc, "%x") else {
+                    return Ok(Met::Unreached);
+                };
+                let ty = Some(Type { width: 8 });
+                let attributes = Vec::new($alloc);
+                $builder
+                    .assignment(name, ty, AssignmentRhs::Var, attributes)
+                    .is_ok()
+            }
+            Call::UnnamedAssignment => {
+                let attributes = Vec::new($alloc);
+                $builder
+                    .assignment(None, None, AssignmentRhs::Var, attributes)
+                    .is_ok()
+            }
+            Call::NamedBlock => {
+                let Ok(name) = name($alloc, "%b") else {
+                    return Ok(Met::Unreached);
+                };
+                $builder.block(name, 7).is_ok()
+            }
+            Call::UnnamedBlock => $builder.block(None, 7).is_ok(),
+            Call::Condition => $builder.pc(number(5), number(6)).is_ok(),
+            Call::ConditionOnPredecessor => $builder
+                .block_pc($block, 1, number(5), number(6))
+                .is_ok(),
+        }
+    };
+}
+
+pub(crate) use appends;
 
 // The condition that the number equals itself.
 fn condition(value: i128) -> Statement {

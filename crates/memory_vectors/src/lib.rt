@@ -1,7 +1,7 @@
 //! Tests of calls in which an allocation fails.
 //!
-//! Each case is a function that makes its call and asserts that the result is one of those that are allowed: the result
-//! with ample memory, which is written out, or out of memory with all as before. It has two tests. The one named
+//! Each case makes its call and asserts that the result is one of those that are allowed: the result with ample memory,
+//! which is written out, or out of memory with all as before. It has two tests. The one named
 //! `_completes` passes only for the result with ample memory, the other for both. `.ci/refused-memory` runs them with
 //! each allocation failing in turn.
 #![tactic(auto)]

@@ -4,7 +4,7 @@ ghost use Rattle.souper_graph.specs.Faults.{IsBlock};
 ghost use Rattle.souper_graph.specs.View.{view_statement};
 ghost use Rattle.souper_graph.specs.WellFormed.{predecessors_at};
 
-use crate::growing::{holds, met, name, number};
+use crate::growing::{Call, appends, holds, lines, met, name, number};
 use crate::met::{Met, strictly};
 use souper_ir::ast::{AssignmentRhs, BlockId, Replacement, ReplacementBuilder, Type};
 use std::alloc::{AllocError, Global};
@@ -24,169 +24,82 @@ fn filled(alloc: Global) -> Result<(ReplacementBuilder, BlockId), AllocError>
     Ok((builder, block))
 }
 
-// The item has the statements of `filled`, and the one of the line if the call appended it.
-fn ends(
-    rt: &impl Abort,
-    alloc: Global,
-    item: &Replacement,
-    line: &str,
-    met: &Met,
-) -> Result<(), Fail> {
-    let Replacement::LhsRhs { statements, .. } = item else {
-        return Err(Fail::new("another kind of replacement"));
-    };
-    let lines = ["%0 = block 2\n", "pc 1 1\n", "pc 2 2\n", "pc 3 3\n", line];
-    holds(rt, alloc, statements, &lines, met)
-}
-
-// Appends a named assignment.
-fn named_assignment(rt: &impl Abort, alloc: Global) -> Result<Met, Fail> {
+// Makes the call on a full builder. The item that it finishes has the statement of the call if it was appended.
+fn appended(rt: &impl Abort, alloc: Global, call: Call) -> Result<Met, Fail> {
     let Ok((mut builder, block)) = filled(alloc) else {
         return Ok(Met::Unreached);
     };
-    let Ok(name) = name(alloc, "%x") else {
-        return Ok(Met::Unreached);
-    };
-    let ty = Some(Type { width: 8 });
-    let met = met(
-        alloc,
-        builder
-            .assignment(name, ty, AssignmentRhs::Var, Vec::new(alloc))
-            .is_ok(),
-    );
+    let met = met(alloc, appends!(alloc, builder, block, call));
     let item = builder.finish(block.into(), number(9), Vec::new(alloc));
-    ends(rt, alloc, &item, "%x:i8 = var\n", &met)?;
+    let Replacement::LhsRhs { statements, .. } = &item else {
+        return Err(Fail::new("another kind of replacement"));
+    };
+    holds(rt, alloc, statements, &lines(call), &met)?;
     Ok(met)
 }
 
 #[test]
 fn putting_a_named_assignment_completes(rt: HostRuntime) -> Result<(), Fail> {
-    strictly(named_assignment(&rt, rt.alloc())?)
+    strictly(appended(&rt, rt.alloc(), Call::NamedAssignment)?)
 }
 
 #[test]
 fn putting_a_named_assignment(rt: HostRuntime) -> Result<(), Fail> {
-    named_assignment(&rt, rt.alloc())?;
+    appended(&rt, rt.alloc(), Call::NamedAssignment)?;
     Ok(())
-}
-
-// Appends an unnamed assignment.
-fn unnamed_assignment(rt: &impl Abort, alloc: Global) -> Result<Met, Fail> {
-    let Ok((mut builder, block)) = filled(alloc) else {
-        return Ok(Met::Unreached);
-    };
-    let met = met(
-        alloc,
-        builder
-            .assignment(None, None, AssignmentRhs::Var, Vec::new(alloc))
-            .is_ok(),
-    );
-    let item = builder.finish(block.into(), number(9), Vec::new(alloc));
-    ends(rt, alloc, &item, "%4 = var\n", &met)?;
-    Ok(met)
 }
 
 #[test]
 fn putting_an_unnamed_assignment_completes(rt: HostRuntime) -> Result<(), Fail> {
-    strictly(unnamed_assignment(&rt, rt.alloc())?)
+    strictly(appended(&rt, rt.alloc(), Call::UnnamedAssignment)?)
 }
 
 #[test]
 fn putting_an_unnamed_assignment(rt: HostRuntime) -> Result<(), Fail> {
-    unnamed_assignment(&rt, rt.alloc())?;
+    appended(&rt, rt.alloc(), Call::UnnamedAssignment)?;
     Ok(())
-}
-
-// Appends a named block.
-fn named_block(rt: &impl Abort, alloc: Global) -> Result<Met, Fail> {
-    let Ok((mut builder, block)) = filled(alloc) else {
-        return Ok(Met::Unreached);
-    };
-    let Ok(name) = name(alloc, "%b") else {
-        return Ok(Met::Unreached);
-    };
-    let met = met(alloc, builder.block(name, 7).is_ok());
-    let item = builder.finish(block.into(), number(9), Vec::new(alloc));
-    ends(rt, alloc, &item, "%b = block 7\n", &met)?;
-    Ok(met)
 }
 
 #[test]
 fn putting_a_named_block_completes(rt: HostRuntime) -> Result<(), Fail> {
-    strictly(named_block(&rt, rt.alloc())?)
+    strictly(appended(&rt, rt.alloc(), Call::NamedBlock)?)
 }
 
 #[test]
 fn putting_a_named_block(rt: HostRuntime) -> Result<(), Fail> {
-    named_block(&rt, rt.alloc())?;
+    appended(&rt, rt.alloc(), Call::NamedBlock)?;
     Ok(())
-}
-
-// Appends an unnamed block.
-fn unnamed_block(rt: &impl Abort, alloc: Global) -> Result<Met, Fail> {
-    let Ok((mut builder, block)) = filled(alloc) else {
-        return Ok(Met::Unreached);
-    };
-    let met = met(alloc, builder.block(None, 7).is_ok());
-    let item = builder.finish(block.into(), number(9), Vec::new(alloc));
-    ends(rt, alloc, &item, "%4 = block 7\n", &met)?;
-    Ok(met)
 }
 
 #[test]
 fn putting_an_unnamed_block_completes(rt: HostRuntime) -> Result<(), Fail> {
-    strictly(unnamed_block(&rt, rt.alloc())?)
+    strictly(appended(&rt, rt.alloc(), Call::UnnamedBlock)?)
 }
 
 #[test]
 fn putting_an_unnamed_block(rt: HostRuntime) -> Result<(), Fail> {
-    unnamed_block(&rt, rt.alloc())?;
+    appended(&rt, rt.alloc(), Call::UnnamedBlock)?;
     Ok(())
-}
-
-// Appends a condition.
-fn condition(rt: &impl Abort, alloc: Global) -> Result<Met, Fail> {
-    let Ok((mut builder, block)) = filled(alloc) else {
-        return Ok(Met::Unreached);
-    };
-    let met = met(alloc, builder.pc(number(5), number(6)).is_ok());
-    let item = builder.finish(block.into(), number(9), Vec::new(alloc));
-    ends(rt, alloc, &item, "pc 5 6\n", &met)?;
-    Ok(met)
 }
 
 #[test]
 fn putting_a_condition_completes(rt: HostRuntime) -> Result<(), Fail> {
-    strictly(condition(&rt, rt.alloc())?)
+    strictly(appended(&rt, rt.alloc(), Call::Condition)?)
 }
 
 #[test]
 fn putting_a_condition(rt: HostRuntime) -> Result<(), Fail> {
-    condition(&rt, rt.alloc())?;
+    appended(&rt, rt.alloc(), Call::Condition)?;
     Ok(())
-}
-
-// Appends a condition on a predecessor.
-fn condition_on_a_predecessor(rt: &impl Abort, alloc: Global) -> Result<Met, Fail> {
-    let Ok((mut builder, block)) = filled(alloc) else {
-        return Ok(Met::Unreached);
-    };
-    let met = met(
-        alloc,
-        builder.block_pc(block, 1, number(5), number(6)).is_ok(),
-    );
-    let item = builder.finish(block.into(), number(9), Vec::new(alloc));
-    ends(rt, alloc, &item, "blockpc %0 1 5 6\n", &met)?;
-    Ok(met)
 }
 
 #[test]
 fn putting_a_condition_on_a_predecessor_completes(rt: HostRuntime) -> Result<(), Fail> {
-    strictly(condition_on_a_predecessor(&rt, rt.alloc())?)
+    strictly(appended(&rt, rt.alloc(), Call::ConditionOnPredecessor)?)
 }
 
 #[test]
 fn putting_a_condition_on_a_predecessor(rt: HostRuntime) -> Result<(), Fail> {
-    condition_on_a_predecessor(&rt, rt.alloc())?;
+    appended(&rt, rt.alloc(), Call::ConditionOnPredecessor)?;
     Ok(())
 }
