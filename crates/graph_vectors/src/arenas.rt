@@ -1,5 +1,5 @@
 //! Arenas, ids and the errors of a text, by calls.
-use crate::building::{Graph, number};
+use crate::fixtures::{Graph, number};
 use souper_graph::ast::{
     Arena, Assignment, AssignmentRhs, BlockId, Id, Infer, LeftHandSide, Statement, ValueId,
 };

@@ -2,7 +2,7 @@
 ghost use Rattle.std.specs.Prelude.{IfOk};
 ghost use Rattle.souper_graph.specs.Building.{BeginsWithPercent};
 
-use crate::building::{number, typed};
+use crate::fixtures::{left_is, number, replacement_is, typed};
 use souper_graph::ast::{
     Arena, Assignment, AssignmentRhs, Attribute, Cand, Instruction, LeftHandSide,
     LeftHandSideBuilder, Operand, Replacement, ReplacementBuilder, RootAttribute, Type, ValueId,
@@ -32,93 +32,59 @@ fn left_hand_side_is_built(rt: HostRuntime) -> Result<(), Fail> {
     };
     let y = builder.assignment(name(alloc, "%y")?, None, product.into(), Vec::new(alloc))?;
     let item = builder.finish(y, Vec::new(alloc));
-    assert!(rt; item.is_well_formed()?);
-    let text = item.to_text()?;
-    assert_eq!(rt; text.as_str(), "%x:i32 = var\n%y = mul %x, 2\ninfer %y\n");
-    Ok(())
+    let text = "%x:i32 = var\n%y = mul %x, 2\ninfer %y\n";
+    left_is(&rt, alloc, &item, text, true)
+}
+
+// A variable and an unnamed one, which is the root. The arguments of `finish` after the root come last.
+macro_rules! with_unnamed_variable {
+    ($alloc:expr, $builder:expr, $($argument:expr),+) => {{
+        let mut builder = $builder;
+        let first = name($alloc, "%1")?;
+        builder.assignment(first, None, AssignmentRhs::Var, Vec::new($alloc))?;
+        let root = builder.assignment(None, None, AssignmentRhs::Var, Vec::new($alloc))?;
+        builder.finish(root, $($argument),+)
+    }};
 }
 
 #[test]
 fn unnamed_values_are_counted(rt: HostRuntime) -> Result<(), Fail> {
     let alloc = rt.alloc();
-    let mut builder = LeftHandSideBuilder::new(alloc);
-    builder.assignment(
-        name(alloc, "%1")?,
-        None,
-        AssignmentRhs::Var,
-        Vec::new(alloc),
-    )?;
-    let last = builder.assignment(None, None, AssignmentRhs::Var, Vec::new(alloc))?;
-    let item = builder.finish(last, Vec::new(alloc));
-    assert!(rt; item.is_well_formed()?);
-    let text = item.to_text()?;
-    assert_eq!(rt; text.as_str(), "%1 = var\ninfer %1\n");
-    Ok(())
+    let builder = LeftHandSideBuilder::new(alloc);
+    let item = with_unnamed_variable!(alloc, builder, Vec::new(alloc));
+    left_is(&rt, alloc, &item, "%1 = var\ninfer %1\n", true)?;
+    let builder = ReplacementBuilder::new(alloc);
+    let item = with_unnamed_variable!(alloc, builder, number(1), Vec::new(alloc));
+    let text = "%1 = var\ninfer %1\nresult 1\n";
+    replacement_is(&rt, alloc, &item, text, true)
 }
 
-#[test]
-fn replacement_with_unnamed_values_is_built(rt: HostRuntime) -> Result<(), Fail> {
-    let alloc = rt.alloc();
-    let mut builder = ReplacementBuilder::new(alloc);
-    builder.assignment(
-        name(alloc, "%1")?,
-        None,
-        AssignmentRhs::Var,
-        Vec::new(alloc),
-    )?;
-    let last = builder.assignment(None, None, AssignmentRhs::Var, Vec::new(alloc))?;
-    let item = builder.finish(last, number(1), Vec::new(alloc));
-    assert!(rt; item.is_well_formed()?);
-    let text = item.to_text()?;
-    assert_eq!(rt; text.as_str(), "%1 = var\ninfer %1\nresult 1\n");
-    Ok(())
+// A variable and an unnamed sum, which is the root and gets the variable's name.
+macro_rules! with_unnamed_sum {
+    ($alloc:expr, $builder:expr, $($argument:expr),+) => {{
+        let mut builder = $builder;
+        let first = name($alloc, "%1")?;
+        let first = builder.assignment(first, None, AssignmentRhs::Var, Vec::new($alloc))?;
+        let sum = Instruction::Add {
+            a: first.into(),
+            b: number(1),
+        };
+        let root = builder.assignment(None, None, sum.into(), Vec::new($alloc))?;
+        builder.finish(root, $($argument),+)
+    }};
 }
 
 #[test]
 fn unnamed_value_may_take_a_name_that_is_there(rt: HostRuntime) -> Result<(), Fail> {
     let alloc = rt.alloc();
-    let mut builder = ReplacementBuilder::new(alloc);
-    let first = builder.assignment(
-        name(alloc, "%1")?,
-        None,
-        AssignmentRhs::Var,
-        Vec::new(alloc),
-    )?;
-    let sum = Instruction::Add {
-        a: first.into(),
-        b: number(1),
-    };
-    let last = builder.assignment(None, None, sum.into(), Vec::new(alloc))?;
-    let item = builder.finish(last, number(1), Vec::new(alloc));
-    assert_eq!(rt; item.is_well_formed()?, false);
-    let text = item.to_text()?;
-    assert_eq!(rt;
-        text.as_str(),
-        "%1 = var\n%1 = add %1, 1\ninfer %1\nresult 1\n"
-    );
-    Ok(())
-}
-
-#[test]
-fn left_hand_side_may_have_a_name_twice(rt: HostRuntime) -> Result<(), Fail> {
-    let alloc = rt.alloc();
-    let mut builder = LeftHandSideBuilder::new(alloc);
-    let first = builder.assignment(
-        name(alloc, "%1")?,
-        None,
-        AssignmentRhs::Var,
-        Vec::new(alloc),
-    )?;
-    let sum = Instruction::Add {
-        a: first.into(),
-        b: number(1),
-    };
-    let last = builder.assignment(None, None, sum.into(), Vec::new(alloc))?;
-    let item = builder.finish(last, Vec::new(alloc));
-    assert_eq!(rt; item.is_well_formed()?, false);
-    let text = item.to_text()?;
-    assert_eq!(rt; text.as_str(), "%1 = var\n%1 = add %1, 1\ninfer %1\n");
-    Ok(())
+    let builder = LeftHandSideBuilder::new(alloc);
+    let item = with_unnamed_sum!(alloc, builder, Vec::new(alloc));
+    let text = "%1 = var\n%1 = add %1, 1\ninfer %1\n";
+    left_is(&rt, alloc, &item, text, false)?;
+    let builder = ReplacementBuilder::new(alloc);
+    let item = with_unnamed_sum!(alloc, builder, number(1), Vec::new(alloc));
+    let text = "%1 = var\n%1 = add %1, 1\ninfer %1\nresult 1\n";
+    replacement_is(&rt, alloc, &item, text, false)
 }
 
 #[test]

@@ -1,5 +1,5 @@
 //! The word of each instruction: no theorem says which variant a word is for.
-use crate::building::number;
+use crate::fixtures::number;
 use souper_graph::ast::Instruction;
 use std::process::Abort;
 use std::test::Fail;

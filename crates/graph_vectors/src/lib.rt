@@ -8,7 +8,7 @@ mod arenas;
 #[cfg(test)]
 mod builders;
 #[cfg(test)]
-mod building;
+mod fixtures;
 #[cfg(test)]
 mod instructions;
 #[cfg(test)]

@@ -1,5 +1,5 @@
 //! The text of single nodes, the words of instructions, and what conversions keep.
-use crate::building::{Graph, foreign_id, number, typed};
+use crate::fixtures::{Graph, foreign_id, number, typed};
 use souper_graph::ast::{
     Arena, Assignment, AssignmentRhs, Attribute, Block, BlockId, BlockPc, Cand, Constant, Id,
     Infer, Instruction, Operand, Pc, Phi, RootAttribute, Statement, Type, ValueId, Var,

@@ -1,5 +1,5 @@
 //! Width, fill, precision and sign are ignored in the shown text of a node, an item or an error.
-use crate::building::{Graph, foreign_id, number, typed};
+use crate::fixtures::{Graph, foreign_id, number, typed};
 use souper_graph::ast::{Attribute, Block, Constant, RootAttribute, Type};
 use souper_graph::stringify::TextError;
 use std::alloc::Global;

@@ -1,5 +1,5 @@
 //! Items that are built: their texts, the order of their statements, and whether they are well formed.
-use crate::building::{Graph, foreign_id, number, typed};
+use crate::fixtures::{Graph, foreign_id, left_is, number, replacement_is, right_is, typed};
 use souper_graph::ast::{
     AssignmentRhs, Attribute, Block, BlockId, Id, Instruction, LeftHandSide, Replacement,
     RightHandSide, Statement,
@@ -8,55 +8,6 @@ use souper_graph::stringify::{Order, TextError};
 use std::alloc::{AllocError, Global};
 use std::process::Abort;
 use std::test::Fail;
-
-// The text of the item, through `to_text` and through `Display`, and whether it is well formed.
-macro_rules! checks {
-    ($rt:expr, $alloc:expr, $item:expr, $want:expr, $well_formed:expr) => {{
-        let text = $item.to_text()?;
-        assert_eq!($rt; text.as_str(), $want);
-        let shown = $item.to_string($alloc)?;
-        assert_eq!($rt; shown.as_str(), $want);
-        assert_eq!($rt; $item.is_well_formed()?, $well_formed, "in {:?}", $want);
-        let again = $item.clone()?.to_text()?;
-        assert_eq!($rt; again.as_str(), $want);
-        let mut appended = String::from_str($alloc, "before\n")?;
-        $item.append_text(&mut appended)?;
-        assert_eq!($rt; appended.strip_prefix("before\n"), Some($want));
-    }};
-}
-
-fn left_is(
-    rt: &impl Abort,
-    alloc: Global,
-    item: &LeftHandSide,
-    want: &str,
-    well_formed: bool,
-) -> Result<(), Fail> {
-    checks!(rt, alloc, item, want, well_formed);
-    Ok(())
-}
-
-fn right_is(
-    rt: &impl Abort,
-    alloc: Global,
-    item: &RightHandSide,
-    want: &str,
-    well_formed: bool,
-) -> Result<(), Fail> {
-    checks!(rt, alloc, item, want, well_formed);
-    Ok(())
-}
-
-fn replacement_is(
-    rt: &impl Abort,
-    alloc: Global,
-    item: &Replacement,
-    want: &str,
-    well_formed: bool,
-) -> Result<(), Fail> {
-    checks!(rt, alloc, item, want, well_formed);
-    Ok(())
-}
 
 // The number of statements in printed order, those before an infer line, and the turns.
 fn counts(order: &Order) -> (usize, usize, u128) {

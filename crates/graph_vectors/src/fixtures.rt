@@ -1,10 +1,12 @@
-//! Arenas that tests build.
+//! What tests share: arenas that grow statement by statement, and the checks of an item.
 use souper_graph::ast::{
     Arena, Assignment, AssignmentRhs, Attribute, Block, BlockId, BlockPc, Cand, Constant, Id,
     Infer, Instruction, LeftHandSide, Operand, Pc, Phi, Replacement, RightHandSide, Statement,
     Type, ValueId,
 };
 use std::alloc::{AllocError, Global};
+use std::process::Abort;
+use std::test::Fail;
 
 // An arena that grows statement by statement.
 #[derive(Drop)]
@@ -173,4 +175,53 @@ pub fn foreign_id(alloc: Global, index: usize) -> Result<ValueId, AllocError> {
         id = other.var("%0")?;
     }
     Ok(id)
+}
+
+// The item has this text, by each call that writes it, so has its copy, and it is well formed or not.
+macro_rules! checks {
+    ($rt:expr, $alloc:expr, $item:expr, $want:expr, $well_formed:expr) => {{
+        let text = $item.to_text()?;
+        assert_eq!($rt; text.as_str(), $want);
+        let shown = $item.to_string($alloc)?;
+        assert_eq!($rt; shown.as_str(), $want);
+        assert_eq!($rt; $item.is_well_formed()?, $well_formed, "in {:?}", $want);
+        let again = $item.clone()?.to_text()?;
+        assert_eq!($rt; again.as_str(), $want);
+        let mut appended = String::from_str($alloc, "before\n")?;
+        $item.append_text(&mut appended)?;
+        assert_eq!($rt; appended.strip_prefix("before\n"), Some($want));
+    }};
+}
+
+pub fn left_is(
+    rt: &impl Abort,
+    alloc: Global,
+    item: &LeftHandSide,
+    want: &str,
+    well_formed: bool,
+) -> Result<(), Fail> {
+    checks!(rt, alloc, item, want, well_formed);
+    Ok(())
+}
+
+pub fn right_is(
+    rt: &impl Abort,
+    alloc: Global,
+    item: &RightHandSide,
+    want: &str,
+    well_formed: bool,
+) -> Result<(), Fail> {
+    checks!(rt, alloc, item, want, well_formed);
+    Ok(())
+}
+
+pub fn replacement_is(
+    rt: &impl Abort,
+    alloc: Global,
+    item: &Replacement,
+    want: &str,
+    well_formed: bool,
+) -> Result<(), Fail> {
+    checks!(rt, alloc, item, want, well_formed);
+    Ok(())
 }
