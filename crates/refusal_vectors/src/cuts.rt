@@ -1,11 +1,12 @@
 //! Texts that are cut off.
+use crate::refusals::read_record;
+use crate::table::TABLE;
 use souper_format::command::Kind;
 use souper_format::items::read_items;
 use souper_ir::parse::{ParseErrorKind, parse_left_hand_sides_str};
 use souper_vectors::sources::{
-    ATTRIBUTES, BLOCKS, DEFINITIONS, FAULTY_ATTRIBUTES, FAULTY_REPLACEMENTS,
-    FAULTY_RIGHT_HAND_SIDES, GAPS, NAMES, PAIRS, PREDECESSORS, PRINTED_PAIRS, RESULTS,
-    RIGHT_HAND_SIDES, VALUES, chain, ones, thousand, words,
+    ATTRIBUTES, BLOCKS, GAPS, PAIRS, PRINTED_PAIRS, RESULTS, RIGHT_HAND_SIDES, VALUES, chain, ones,
+    thousand, words,
 };
 use std::alloc::Global;
 use std::process::Abort;
@@ -104,12 +105,11 @@ fn prefixes_of_left_hand_sides_are_read_or_refused(rt: HostRuntime) -> Result<()
 
 #[test]
 fn prefixes_of_refused_texts_are_read_or_refused(rt: HostRuntime) -> Result<(), Fail> {
-    cuts(&rt, rt.alloc(), Kind::Lhs, &NAMES)?;
-    cuts(&rt, rt.alloc(), Kind::Lhs, &PREDECESSORS)?;
-    cuts(&rt, rt.alloc(), Kind::Lhs, &DEFINITIONS)?;
-    cuts(&rt, rt.alloc(), Kind::Lhs, &FAULTY_ATTRIBUTES)?;
-    cuts(&rt, rt.alloc(), Kind::Rhs, &FAULTY_RIGHT_HAND_SIDES)?;
-    cuts(&rt, rt.alloc(), Kind::Rep, &FAULTY_REPLACEMENTS)
+    for lines in TABLE.split("\n=== ").skip(1) {
+        let refusal = read_record(lines).expect(&rt, lines);
+        cuts(&rt, rt.alloc(), refusal.kind, &[refusal.text])?;
+    }
+    Ok(())
 }
 
 #[test]

@@ -74,8 +74,8 @@ pub fn is_refused(
     reports(rt, alloc, error, offset, shown)
 }
 
-// The record of these lines. `None` if they are no record.
-fn read_record(lines: &str) -> Option<Refusal<'_>> {
+/// The record of these lines. `None` if they are no record.
+pub fn read_record(lines: &str) -> Option<Refusal<'_>> {
     let (head, rest) = lines.split_once('\n')?;
     let (text, shown) = rest.split_once("\n---\n")?;
     let (kind, rest) = head.split_once(' ')?;

@@ -73,6 +73,13 @@ unknown:1:9: cannot redefine '%x'
      |
    1 | %x = var
      |         ^
+=== lhs 9 name defined twice in one line
+%x = var %x = var
+---
+unknown:1:9: cannot redefine '%x'
+     |
+   1 | %x = var %x = var
+     |         ^
 === lhs 9 number defined twice
 %1 = var
 %1 = add %1, 1
@@ -100,6 +107,41 @@ x
 unknown:1:1: expected 'infer'
      |
    1 | x
+     | ^
+=== lhs 0 longer word in place of a left-hand side
+foo
+---
+unknown:1:1: expected 'infer'
+     |
+   1 | foo
+     | ^
+=== lhs 0 instruction in place of a left-hand side
+hole 1
+---
+unknown:1:1: expected 'infer'
+     |
+   1 | hole 1
+     | ^
+=== lhs 0 numbers in place of a left-hand side
+1 2 3
+---
+unknown:1:1: expected 'infer'
+     |
+   1 | 1 2 3
+     | ^
+=== lhs 0 constant in place of a left-hand side
+1:i8 2 3 4
+---
+unknown:1:1: expected 'infer'
+     |
+   1 | 1:i8 2 3 4
+     | ^
+=== lhs 0 attributes in place of a left-hand side
+(negative)(nonZero) var
+---
+unknown:1:1: expected 'infer'
+     |
+   1 | (negative)(nonZero) var
      | ^
 === rhs 0 word in place of a right-hand side
 x
@@ -335,6 +377,13 @@ unknown:1:9: unexpected ']'
 unknown:1:1: expected value name
      |
    1 | %é = var
+     | ^
+=== lhs 0 sign alone
+%
+---
+unknown:1:1: expected value name
+     |
+   1 | %
      | ^
 === lhs 15 sign at the end
 %x = var

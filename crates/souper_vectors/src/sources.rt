@@ -1,4 +1,4 @@
-//! Texts of each kind that are read, and texts that are refused: rows of them, and makers of long ones.
+//! Texts of each kind that are read: rows of them, and makers of long ones.
 use std::alloc::{AllocError, Global};
 
 /// Gaps alone, of every kind.
@@ -57,73 +57,6 @@ pub const ATTRIBUTES: [&str; 6] = [
      1111111111111111111111111111111111111111111111111111111111111111111111111111111111111111111111111111)",
 ];
 
-/// Refused for a name.
-pub const NAMES: [&str; 14] = [
-    "infer %x",
-    "infer 5",
-    "%x = var\r\ninfer %y",
-    "%x = var\n%x = var\ninfer %x",
-    "%x = var %x = var",
-    "%1 = var\n%1 = add %1, 1\ninfer %1\n",
-    "%0 = add %0, 1\ninfer %0\n",
-    "%x = add %y, 1",
-    "%x = var\n%p = phi %x",
-    "\u{e9}",
-    "%\u{e9} = var",
-    "%x",
-    "%",
-    "x",
-];
-
-/// Refused for the predecessors of a block, or for their number.
-pub const PREDECESSORS: [&str; 8] = [
-    "%bb = block 2\n%p = phi %bb, 1\ninfer %p",
-    "%b = block 2\n%p = phi %b\ninfer %p\n",
-    "%b = block 4294967295\n%p = phi %b, 1\ninfer %p",
-    "%b = block 4294967296\ninfer %b",
-    "%b = block -1",
-    "%bb = block 2\n%x = var\nblockpc %bb 2 %x 1\ninfer %x",
-    "%x:i8 = var\n%bb = block 2\nblockpc %bb 2 %x 1\ninfer %x\n",
-    "%bb = block 0\nblockpc %bb 0 1 1\ninfer %bb",
-];
-
-/// Refused at another token of a definition.
-pub const DEFINITIONS: [&str; 17] = [
-    "%x =",
-    "%x var",
-    "%x = foo",
-    "%x = add 1 2",
-    "%x : 8 = var",
-    "%x:i0 = var\ninfer %x",
-    "%x:i65536 = var\ninfer %x",
-    "%x =\u{3000}\u{e9}",
-    "%x = var \u{e9}",
-    "%x = var ]",
-    "\u{feff}",
-    "\u{200b}",
-    "foo",
-    "hole 1",
-    "1 2 3",
-    "1:i8 2 3 4",
-    "(negative)(nonZero) var",
-];
-
-/// Refused at an attribute.
-pub const FAULTY_ATTRIBUTES: [&str; 12] = [
-    "%x = var (",
-    "%x = var (foo)",
-    "%x = var (1)",
-    "%x = var (range=(",
-    "%x = var (negative x)",
-    "%x = var (signBits=256)\ninfer %x",
-    "%x = var (knownBits",
-    "%x = var (knownBits =01)\ninfer %x",
-    "%x = var (knownBitsX)\ninfer %x",
-    "%x = var (knownBits=)\ninfer %x\n",
-    "%x = var\ninfer %x (foo)",
-    "%x = var\ninfer %x (demandedBits=012)",
-];
-
 /// Right-hand sides.
 pub const RIGHT_HAND_SIDES: [&str; 12] = [
     "result 1",
@@ -140,13 +73,6 @@ pub const RIGHT_HAND_SIDES: [&str; 12] = [
     "result \
      0000000000000000000000000000000000000000000000000000000000000000000000000000000000000000000000000000\
      1:i00000065535",
-];
-
-/// Refused as right-hand sides.
-pub const FAULTY_RIGHT_HAND_SIDES: [&str; 3] = [
-    "result 170141183460469231731687303715884105728",
-    "result -",
-    "x",
 ];
 
 /// Replacements by a result.
@@ -187,19 +113,6 @@ pub const PRINTED_PAIRS: [&str; 8] = [
     "%a = var\n%b = var\npc %b 1\npc %a 1\ncand %a 2\n",
     "cand 1 -2\n",
     "cand 1:i8 -2\n",
-];
-
-/// Refused as replacements.
-pub const FAULTY_REPLACEMENTS: [&str; 9] = [
-    "%x = var\ninfer %x\ninfer %x",
-    "%1 = var\n%1 = add %1, 1\ninfer %1\nresult 1\n",
-    "cand 1,,2",
-    "cand , 1 2",
-    "cand 1 2,",
-    "cand 1,",
-    "pc 1, 2\ncand 1 2",
-    "%x = var",
-    "x",
 ];
 
 /// The words, each with its number of operands.
