@@ -1,1 +1,0 @@
-use Rattle.souper_graph.proofs.ast.parts.Parts.append_in_order.Goals as goal
