@@ -1,5 +1,5 @@
 -- Definitions. What a run of the program says, by the command that its arguments name.
-use Rattle.std.specs.Prelude.{◌≡◌, ℕ, List, [], ◌∷◌, ◌++◌, false, codes, string_bytes, Option, None, Some}
+use Rattle.std.specs.Prelude.{◌≡◌, ℕ, List, ◌++◌, false, codes, string_bytes, Option, None, Some}
 use Rattle.souper_format.specs.declared.command.Command.{Command}
 use Rattle.souper_format.specs.declared.command.Command.TheVariants.{Format, Same}
 use Rattle.souper_format.specs.Kinds.{item_type_of}
@@ -10,7 +10,7 @@ use Rattle.souper_format.specs.SameRuns.{FileRead, IsFilesRun}
 -- how the program is used
 abbrev pub usage_text : List ℕ
 usage_text =
-    codes "usage: souper_fmt lhs|rhs|rep" ++ 10 ∷ [] ++ codes "       souper_fmt same lhs|rhs|rep PATH PATH" ++ 10 ∷ []
+    codes "usage: souper_fmt lhs|rhs|rep" ++ codes "\n" ++ codes "       souper_fmt same lhs|rhs|rep PATH PATH" ++ codes "\n"
 
 -- unless the writer has failed, the usage text was written to it
 abbrev pub ReportedUsage : Stream → Type 0

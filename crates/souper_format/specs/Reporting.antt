@@ -1,12 +1,12 @@
 -- Definitions. The lines that report an error.
-use Rattle.std.specs.Prelude.{◌≡◌, ℕ, List, [], ◌∷◌, ◌++◌, false, codes, IfSome, ◌⊎◌}
+use Rattle.std.specs.Prelude.{◌≡◌, ℕ, List, ◌++◌, false, codes, IfSome, ◌⊎◌}
 use Rattle.souper_ir.specs.Errors.{kind_of, shown_error, OnKind}
 use Rattle.souper_ir.specs.declared.parse.ParseError.{ParseError}
 use Rattle.souper_format.specs.Streams.{Stream, IsGiven}
 
 -- the line for out of memory
 abbrev pub memory_line : List ℕ
-memory_line = codes "out of memory" ++ 10 ∷ []
+memory_line = codes "out of memory" ++ codes "\n"
 
 -- unless the writer has failed, the line for out of memory was written to it
 abbrev pub ReportedMemory : Stream → Type 0
@@ -14,7 +14,7 @@ ReportedMemory err = err.failed ≡ false → IsGiven err memory_line
 
 -- the line of an I/O error
 abbrev pub fault_line : List ℕ → List ℕ
-fault_line shown = codes "IO error: " ++ shown ++ 10 ∷ []
+fault_line shown = codes "IO error: " ++ shown ++ codes "\n"
 
 -- unless the writer has failed, the line of an I/O error, or of out of memory, was written to it
 abbrev pub ReportedFault : Stream → Type 0
@@ -26,7 +26,7 @@ IsShown e bytes = IfSome (shown_error e) (λ shown. bytes ≡ shown)
 
 -- the line of an error
 abbrev pub IsErrorLine : ParseError → List ℕ → Type 0
-IsErrorLine e line = (shown : List ℕ) × IsShown e shown × (line ≡ shown ++ 10 ∷ [])
+IsErrorLine e line = (shown : List ℕ) × IsShown e shown × (line ≡ shown ++ codes "\n")
 
 -- unless the writer has failed, the line of the error was written to it
 abbrev pub ReportedLine : Stream → ParseError → Type 0

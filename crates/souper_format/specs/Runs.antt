@@ -1,5 +1,5 @@
 -- Definitions. What each status of a run says of the reader, of the writers and of what was read.
-use Rattle.std.specs.Prelude.{◌≡◌, ℕ, zero, suc, ◌≤◌, List, [], ◌∷◌, ◌++◌, true, false, length, Option, None, IfSome, ◌⊎◌}
+use Rattle.std.specs.Prelude.{◌≡◌, ℕ, zero, suc, ◌≤◌, List, ◌++◌, true, false, codes, length, Option, None, IfSome, ◌⊎◌}
 use Rattle.std.specs.Str.{IsUtf8}
 use Rattle.souper_graph.specs.Syntax.Spelling.{ItemType, SpellsNone}
 use Rattle.souper_ir.specs.Places.{IsRefusalText}
@@ -20,7 +20,7 @@ Done k input out err = ((source : List ℕ) × ReadAll input source × Formats k
 -- to it
 abbrev pub ReportedRefusal : Option (List ℕ) → List ℕ → Stream → Type 0
 ReportedRefusal file source err = err.failed ≡ false → (offset : ℕ) × (shown : List ℕ)
-    × (offset ≤ length source) × IsRefusalText file source offset shown × IsGiven err (shown ++ 10 ∷ [])
+    × (offset ≤ length source) × IsRefusalText file source offset shown × IsGiven err (shown ++ codes "\n")
 
 -- all that was read is a text that spells no items, nothing was written, and the refusal was reported
 abbrev pub Refused : ItemType → Stream → Stream → Stream → Type 0

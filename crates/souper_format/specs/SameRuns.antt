@@ -1,5 +1,5 @@
 -- Definitions. What each status of a comparison of two files says of the two reads and of the writers.
-use Rattle.std.specs.Prelude.{◌≡◌, ℕ, List, [], ◌∷◌, ◌++◌, true, false, codes, string_bytes, Some, Result, Ok, Err, String, ◌⊎◌}
+use Rattle.std.specs.Prelude.{◌≡◌, ℕ, List, ◌++◌, true, false, codes, string_bytes, Some, Result, Ok, Err, String, ◌⊎◌}
 use Rattle.std.specs.List.{AllZip}
 use Rattle.std.specs.declared.alloc.Global.{Global}
 use Rattle.std.specs.declared.io.Error.{Error}
@@ -43,7 +43,7 @@ ReadFailed (Err fault) err = ReportedFault err
 
 -- `same` was written if the fact holds, else `different`
 abbrev pub Says : Type 0 → Stream → Type 0
-Says fact out = (fact × IsGiven out (codes "same" ++ 10 ∷ [])) ⊎ (¬ fact × IsGiven out (codes "different" ++ 10 ∷ []))
+Says fact out = (fact × IsGiven out (codes "same" ++ codes "\n")) ⊎ (¬ fact × IsGiven out (codes "different" ++ codes "\n"))
 
 -- both reads spell items, whether those are pairwise the same graphs was written, and nothing was reported
 abbrev pub Compared : ItemType → FileRead → FileRead → Stream → Stream → Type 0

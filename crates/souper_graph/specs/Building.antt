@@ -1,5 +1,5 @@
 -- Definitions. What the builders append to their arenas, and what they require.
-use Rattle.std.specs.Prelude.{◌≡◌, ℕ, List, ◌∷◌, decimal, Option, Some, None, slice_get}
+use Rattle.std.specs.Prelude.{◌≡◌, ℕ, List, ◌++◌, codes, decimal, Option, Some, None, slice_get}
 use Rattle.std.specs.declared.alloc.Global.{Global}
 use Rattle.std.specs.declared.string.String.{String}
 use Rattle.std.specs.String.{string_bytes}
@@ -14,9 +14,9 @@ abbrev pub BeginsWithPercent : Option (String Global) → Type 0
 BeginsWithPercent None = Unit {0}
 BeginsWithPercent (Some name) = slice_get (string_bytes name) 0 ≡ Some 37
 
--- the given name, or `%` (37) and the number in decimal
+-- the given name, or `%` and the number in decimal
 abbrev pub chosen_name : Option (String Global) → ℕ → List ℕ
-chosen_name None n = 37 ∷ decimal n
+chosen_name None n = codes "%" ++ decimal n
 chosen_name (Some name) n = string_bytes name
 
 -- the assignment that is appended to n statements

@@ -1,6 +1,6 @@
 -- Definitions. What the laws of canonical texts speak of: items of one type, items in another arena order, the lines of
 -- a text.
-use Rattle.std.specs.Prelude.{◌≡◌, ◌⊎◌, ℕ, ◌<◌, List, [], ◌∷◌, ◌++◌, flat_map, length, Some, slice_get}
+use Rattle.std.specs.Prelude.{◌≡◌, ◌⊎◌, ℕ, ◌<◌, List, [], ◌∷◌, ◌++◌, flat_map, length, codes, Some, slice_get}
 use Rattle.std.specs.List.{AllByRecursion}
 use Rattle.souper_graph.specs.Values.{PlainStatement, assigned, condition, block_condition, Item}
 use Rattle.souper_graph.specs.Uses.{Has, conditions, NeededIn}
@@ -35,7 +35,7 @@ pub record IsRearranged (a b : Item) : Type 0 where
 
 -- the bytes end in a newline
 abbrev pub IsLine : List ℕ → Type 0
-IsLine l = (text : List ℕ) × (l ≡ text ++ 10 ∷ [])
+IsLine l = (text : List ℕ) × (l ≡ text ++ codes "\n")
 
 -- each of the first lists is one of the others, in order
 abbrev pub IsSublist : List (List ℕ) → List (List ℕ) → Type 0
@@ -61,4 +61,4 @@ pub record HasConditionLines (a : Item) : Type 0 where
 
 -- the text of the item, with a newline after it, spells the item renumbered
 abbrev pub ReadsBack : ItemType → Item → List ℕ → Type 0
-ReadsBack k a text = TextSpells k (text ++ 10 ∷ []) (renumbered a ∷ [])
+ReadsBack k a text = TextSpells k (text ++ codes "\n") (renumbered a ∷ [])

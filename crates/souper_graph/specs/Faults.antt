@@ -35,12 +35,15 @@ IsMet ss (block_use i) = IsBlock (slice_get ss i)
 abbrev pub AreMet : List PlainStatement → List Use → Type 0
 AreMet ss us = (u : Use) → Has us u → IsMet ss u
 
--- the error says what is wrong with one of the uses, or is out of memory
+-- the error is a bad id among the uses that Used holds of, in the variant for its fault, or is out of memory
+abbrev pub IsFault : List PlainStatement → (Use → Type 0) → TextError → Type 0
+IsFault ss Used (OutOfRange i) = (Used (value_use i) ⊎ Used (block_use i)) × (length ss ≤ i)
+IsFault ss Used (NotAnAssignment i) = Used (value_use i) × (i < length ss) × ¬ IsAssigned (slice_get ss i)
+IsFault ss Used (NotABlock i) = Used (block_use i) × (i < length ss) × ¬ IsBlock (slice_get ss i)
+IsFault ss Used OutOfMemory = Unit {0}
+
 abbrev pub IsFaultAmong : List PlainStatement → List Use → TextError → Type 0
-IsFaultAmong ss us (OutOfRange i) = (Has us (value_use i) ⊎ Has us (block_use i)) × (length ss ≤ i)
-IsFaultAmong ss us (NotAnAssignment i) = Has us (value_use i) × (i < length ss) × ¬ IsAssigned (slice_get ss i)
-IsFaultAmong ss us (NotABlock i) = Has us (block_use i) × (i < length ss) × ¬ IsBlock (slice_get ss i)
-IsFaultAmong ss us OutOfMemory = Unit {0}
+IsFaultAmong ss us e = IsFault ss (Has us) e
 
 -- a root or a needed statement has this use
 abbrev pub NamedIn : Item → Use → Type 0
@@ -52,10 +55,7 @@ HasBadId a = (u : Use) × NamedIn a u × ¬ IsMet a.statements u
 
 -- the error has a bad id of the item, in the variant for its fault, or is out of memory
 abbrev pub IsFaultOf : Item → TextError → Type 0
-IsFaultOf a (OutOfRange i) = (NamedIn a (value_use i) ⊎ NamedIn a (block_use i)) × (length a.statements ≤ i)
-IsFaultOf a (NotAnAssignment i) = NamedIn a (value_use i) × (i < length a.statements) × ¬ IsAssigned (slice_get a.statements i)
-IsFaultOf a (NotABlock i) = NamedIn a (block_use i) × (i < length a.statements) × ¬ IsBlock (slice_get a.statements i)
-IsFaultOf a OutOfMemory = Unit {0}
+IsFaultOf a e = IsFault a.statements (NamedIn a) e
 
 -- how an error is shown
 abbrev pub text_of_error : TextError → List ℕ

@@ -27,7 +27,7 @@ text_of_operand ss (Constant c) = text_of_constant c
 
 -- a comma and a space before each
 abbrev pub text_of_further : List PlainStatement → List Operand → List ℕ
-text_of_further ss xs = flat_map (λ x. 44 ∷ 32 ∷ text_of_operand ss x) xs
+text_of_further ss xs = flat_map (λ x. codes ", " ++ text_of_operand ss x) xs
 
 -- a space before them, and a comma and a space between them
 abbrev pub text_of_operands : List PlainStatement → List Operand → List ℕ
@@ -95,7 +95,7 @@ text_of a = text_in_order a.statements a.ending (printed_order a) (lead_of a)
 
 -- the canonical text of an item and a newline
 abbrev pub text_with_newline : Item → List ℕ
-text_with_newline a = text_of a ++ 10 ∷ []
+text_with_newline a = text_of a ++ codes "\n"
 
 -- the canonical texts of items, a newline after each
 abbrev pub texts_of : List Item → List ℕ

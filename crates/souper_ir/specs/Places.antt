@@ -40,9 +40,9 @@ right_aligned width text = replicate (width - length text) 32 ++ text
 -- the four lines of a refusal, with no newline at the end
 abbrev pub shown_refusal : List ℕ → ℕ → ℕ → List ℕ → List ℕ → List ℕ
 shown_refusal file line column text message =
-    file ++ codes ":" ++ decimal line ++ codes ":" ++ decimal column ++ codes ": " ++ message ++ 10 ∷ []
-    ++ codes "     |" ++ 10 ∷ []
-    ++ right_aligned 4 (decimal line) ++ codes " | " ++ text ++ 10 ∷ []
+    file ++ codes ":" ++ decimal line ++ codes ":" ++ decimal column ++ codes ": " ++ message ++ codes "\n"
+    ++ codes "     |" ++ codes "\n"
+    ++ right_aligned 4 (decimal line) ++ codes " | " ++ text ++ codes "\n"
     ++ codes "     | " ++ right_aligned column (codes "^")
 
 -- the file name, or `unknown`

@@ -44,14 +44,14 @@ known_bits_word = codes "knownBits"
 abbrev pub spelling : Lexeme → List ℕ
 spelling (ident s) = s
 spelling (val_name s) = s
-spelling (known_bits s) = known_bits_word ++ 61 ∷ s
+spelling (known_bits s) = known_bits_word ++ (codes "=" ++ s)
 spelling (int s) = s
-spelling comma = 44 ∷ []
-spelling colon = 58 ∷ []
-spelling equals = 61 ∷ []
-spelling open_paren = 40 ∷ []
-spelling close_paren = 41 ∷ []
-spelling open_bracket = 91 ∷ []
+spelling comma = codes ","
+spelling colon = codes ":"
+spelling equals = codes "="
+spelling open_paren = codes "("
+spelling close_paren = codes ")"
+spelling open_bracket = codes "["
 
 -- each of the bytes passes
 abbrev pub AllAre : (ℕ → Bool) → List ℕ → Type 0
@@ -91,14 +91,14 @@ abbrev pub Stops : (ℕ → Bool) → List ℕ → Type 0
 Stops p [] = Unit {0}
 Stops p (c ∷ rest) = p c ≡ false
 
--- A gap consists of white space characters and of comments, each with the newline after it: 59 is `;`, 10 the newline.
+-- A gap consists of white space characters and of comments, each with the newline after it.
 pub data Piece : Type 0 where
   space : ℕ → Piece
   comment : List ℕ → Piece
 
 abbrev pub piece_text : Piece → List ℕ
 piece_text (space c) = encode_utf8 c
-piece_text (comment s) = 59 ∷ (s ++ 10 ∷ [])
+piece_text (comment s) = codes ";" ++ (s ++ codes "\n")
 
 -- it has no newline
 abbrev pub IsOneLine : List ℕ → Type 0

@@ -1,6 +1,6 @@
 //! Nodes that name statements, appended to a text.
 
-ghost use Rattle.std.specs.Prelude.{◌≡◌, ◌++◌, ◌∷◌, [], List, ℕ, map, OnOk, IfErr};
+ghost use Rattle.std.specs.Prelude.{◌≡◌, ◌++◌, ◌∷◌, [], List, ℕ, codes, map, OnOk, IfErr};
 ghost use Rattle.std.specs.String.{string_bytes};
 ghost use Rattle.souper_graph.specs.Values.{PlainStatement, phi};
 ghost use Rattle.souper_graph.specs.View.{view_phi, view_rhs, view_assignment, view_statement, view_infer, view_cand};
@@ -88,7 +88,7 @@ fn append_next(
     statements: &Arena<Statement>,
     out: &mut String,
 ) -> Result<(), TextError>
-    ensures ok { OnOk result (string_bytes out.new ≡ string_bytes out.old ++ (44 ∷ 32 ∷ text_of_operand (map view_statement statements.now) operand.now)) }
+    ensures ok { OnOk result (string_bytes out.new ≡ string_bytes out.old ++ (codes ", " ++ text_of_operand (map view_statement statements.now) operand.now)) }
     ensures met { OnOk result (AreMet (map view_statement statements.now) (uses_of_operand operand.now)) }
     ensures refused { IfErr result (λ error. IsFaultAmong (map view_statement statements.now) (uses_of_operand operand.now) error) }
 {
