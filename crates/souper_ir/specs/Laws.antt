@@ -3,6 +3,8 @@
 pub mod Unique
 pub mod Peeks
 pub mod Steps
+pub mod Tokens
+pub mod Combinators
 pub mod FromReadings
 pub mod Operands
 pub mod Words

@@ -10,8 +10,7 @@ use Rattle.souper_ir.specs.Parsing.{Parsing}
 use Rattle.souper_graph.specs.Syntax.Optional.{◌>>=◌}
 use Rattle.souper_ir.specs.NodeReadings.{accept, mark_of, operand_at, next_operand_at, further_at, operands_at, instruction_of_at}
 use Rattle.souper_ir.specs.Reading.{cause_of, IfRefused, if_refused, Fails, fails_later}
-use Rattle.souper_ir.specs.Laws.Steps.{bind_some}
-use Rattle.souper_ir.specs.Laws.Operands.{moved}
+use Rattle.souper_ir.specs.Laws.Steps.{bind_some, moved}
 
 bind_assoc : {A B C : Type 0} (o : Option A) (f : A → Option B) (g : B → Option C) → (o >>= λ x. f x >>= g) ≡ ((o >>= f) >>= g)
 bind_assoc (Some x) f g = refl

@@ -9,6 +9,7 @@ use Rattle.souper_ir.specs.Continuation.{attributes_continue}
 use Rattle.souper_ir.specs.Grammar.{Free, Starts, Members, ListGoesOn, Took, Refusal}
 use Rattle.souper_ir.specs.Laws.Unique.{list_alone}
 use Rattle.souper_ir.specs.NodeReadings.{is_mark}
+use Rattle.souper_ir.specs.Laws.Tokens.{is_mark_means}
 use Rattle.souper_ir.specs.Laws.Attributes.{one_more, more_if_open}
 use Rattle.souper_ir.specs.Laws.Sequence.{Split, both_alone, refused_first, refused_second, both_taken, respelled_taken, respelled_refused}
 
@@ -18,10 +19,6 @@ Row {X} spells s xs ts = Members spells (λ (x : X) t. ⊥) xs ts
 
 abbrev pub OneMore : {X : Type 0} → List X → Lexeme → Type 0
 OneMore {X} xs t = ListGoesOn (λ (x : X) t. ⊥) (is_mark open_paren) xs t
-
-is_open_means : (t : Lexeme) → is_mark open_paren t ≡ true → t ≡ open_paren
-is_open_means open_paren e = refl
-is_open_means _ e = absurd cc
 
 pub neither : {A B : Type 0} → ¬ A → ¬ B → A ⊎ B → ⊥
 neither f g (inl a) = f a
@@ -38,7 +35,7 @@ module _ {X : Type 0} (spells : X → List Lexeme → Type 0) (first : (x : X) (
 
   open_front : (P : Lexeme → Type 0) (x : X) (a b : List Lexeme) → spells x a → ¬ P open_paren → Free P (a ++ b)
   open_front P x [] b h n = absurd (first x [] h)
-  open_front P x (t ∷ a) b h n = λ y. n (subst P (is_open_means t (first x (t ∷ a) h)) y)
+  open_front P x (t ∷ a) b h n = λ y. n (subst P (is_mark_means open_paren t (first x (t ∷ a) h)) y)
 
   attributes_before : (before : Type 0) (xs : List X) (t : Lexeme) → Members spells (λ x t. ⊥) xs [] → before → attributes_continue before xs t
   attributes_before before [] t m h = inr h

@@ -1,4 +1,4 @@
--- Lemmas. Attributes: what is read is spelled so, and what is spelled so is read.
+-- Lemmas. The rules of attributes: what is read is spelled so, and what is spelled so is read.
 use Rattle.std.proofs.Common.{◌≡◌, ℕ, ◌^◌, ◌<◌, ◌==◌, Bool, true, false, List, [], ◌∷◌, ◌++◌, map, length, Option, Some, None, refl, sym, ◌∙◌, ap, subst, inl, inr, arith, eqb-true}
 use Rattle.std.specs.Prelude.{ℤ, codes, bytes_eq, if◌then◌else◌}
 use Rattle.std.proofs.lemmas.Slice.Eq.{bytes_eq-Decides}
@@ -6,15 +6,16 @@ use Rattle.souper_graph.specs.Leaves.{text_of_known_bit, text_of_bit}
 use Rattle.souper_graph.specs.Values.{PlainAttribute, known_bits as known_bits_attribute, power_of_two, negative, non_negative, non_zero, has_external_uses, sign_bits, range, PlainRootAttribute, demanded_bits, harvested_from_use}
 use Rattle.souper_graph.specs.Syntax.Tokens.{Lexeme, ident, known_bits, int, comma, equals, open_paren, close_paren, open_bracket}
 use Rattle.souper_graph.specs.Syntax.Numbers.{number_of, count_of, bit_of, known_bit_of, all_of, listed, bits_of, known_bits_of}
-use Rattle.souper_graph.specs.Syntax.Spelling.{kinds, Scope, Joined, attribute_spells, root_attribute_spells, attributes_spell, root_attributes_spell}
-use Rattle.souper_ir.specs.Parsing.{Parsing}
+use Rattle.souper_graph.specs.Syntax.Spelling.{Scope, Joined, word_attribute, attribute_spells, root_attribute_spells, attributes_spell, root_attributes_spell}
 use Rattle.souper_graph.specs.Syntax.Optional.{◌>>=◌}
-use Rattle.souper_ir.specs.Grammar.{Starts, Followed, Members, LastGoesOn, ListGoesOn}
-use Rattle.souper_ir.specs.NodeReadings.{accept, mark_of, is_mark, int_by, ident_by, AttributeKind, plain_kind, bits_kind, sign_bits_kind, range_kind, attribute_kind_of_word, attribute_kind_of, attribute_by, attribute_at, root_kind_of_word, root_attribute_by, root_attribute_at}
+use Rattle.souper_ir.specs.Grammar.{Free, Stops, Starts, Followed, Members, LastGoesOn, ListGoesOn}
+use Rattle.souper_ir.specs.NodeReadings.{accept, mark_of, is_mark, ident_by, AttributeKind, plain_kind, bits_kind, sign_bits_kind, range_kind, attribute_kind_of_word, attribute_kind_of, attribute_by, attribute_at, root_kind_of_word, root_attribute_by, root_attribute_at}
+use Rattle.souper_ir.specs.Laws.Unique.{never}
 use Rattle.souper_ir.specs.Laws.Peeks.{some_is}
-use Rattle.souper_ir.specs.Laws.Steps.{Takes, Takes-then, Takes-none, At, bind_some, accepted, accepts}
-use Rattle.souper_ir.specs.Laws.FromReadings.{Sound, Complete}
-use Rattle.souper_ir.specs.Laws.Operands.{mark_means, int_means, ident_means, never, moved, WasRead, live_still, state_then}
+use Rattle.souper_ir.specs.Laws.Steps.{bind_some}
+use Rattle.souper_ir.specs.Laws.Tokens.{is_mark_means, ident_means}
+use Rattle.souper_ir.specs.Laws.Combinators.{Ends, Form, Reading, Rule, Node, From, respelled, and_then, Done, done, Given, given, one, mark, After, after, Token, number}
+use Rattle.souper_ir.specs.Laws.FromReadings.{Complete}
 
 -- ---- bit lists
 
@@ -127,162 +128,146 @@ kind_means (known_bits s) k e = let same : ◌≡◌ {A = AttributeKind} (bits_k
 kind_means (ident w) k e = word_kind_means w k e
 kind_means _ k e = absurd cc
 
+-- ---- between parentheses
+
+-- a token that begins something, and the rest of that
+pub record Enclosed {K V : Type 0} (kind_of : Lexeme → Option K) (G : K → Form V) (ends : Ends) (s : Scope) (v : V) (ts rest : List Lexeme) : Type 0 where
+  pub token : Lexeme
+  pub kind : K
+  pub body : List Lexeme
+  pub whole : ts ≡ open_paren ∷ token ∷ (body ++ close_paren ∷ [])
+  pub is : kind_of token ≡ Some kind
+  pub inner : G kind ends s v body (close_paren ∷ rest)
+
+enclosed : {K V : Type 0} {G : K → Form V} {f : K → Reading V} (kind_of : Lexeme → Option K) → ((k : K) → Rule (G k) (f k))
+    → Rule (Enclosed kind_of G) (λ p. accept (mark_of open_paren) p >>= λ o. (accept kind_of o.1 >>= λ k. (f k.0 k.1 >>= λ a. (accept (mark_of close_paren) a.1 >>= λ c. Some (a.0, c.1)))))
+enclosed {G = G} kind_of n = respelled (after (mark open_paren refl) (and_then (one kind_of) (λ k. and_then (n k) (λ a. after (mark close_paren refl) (done a)))))
+    (λ s v ts rest h.
+        let k = h.after in
+        let b = k.second in
+        let end : b.suffix ≡ close_paren ∷ [] = b.second.whole ∙ ap (λ (z : List Lexeme). close_paren ∷ z) b.second.after.1 in
+        record {
+          token = k.first.0;
+          kind = k.value;
+          body = b.prefix;
+          whole = h.whole ∙ ap (λ (z : List Lexeme). open_paren ∷ z) (k.whole ∙ ap (λ (z : List Lexeme). z ++ k.suffix) k.first.1 ∙ ap (λ (z : List Lexeme). k.first.0 ∷ z) (b.whole ∙ ap (λ (z : List Lexeme). b.prefix ++ z) end));
+          is = k.first.2;
+          inner = rw b.second.after.0 (subst (λ (z : List Lexeme). G k.value Free s b.value b.prefix (z ++ rest)) end b.first);
+        })
+    (λ faulty s v ts rest h.
+        let tail : List Lexeme = h.body ++ close_paren ∷ [] in
+        record {
+          more = h.token ∷ tail;
+          whole = h.whole;
+          after = record {
+            value = h.kind;
+            prefix = h.token ∷ [];
+            suffix = tail;
+            whole = refl;
+            first = (h.token, refl, h.is);
+            second = record { value = v; prefix = h.body; suffix = close_paren ∷ []; whole = refl; first = h.inner; second = record { more = []; whole = refl; after = (refl, refl) } };
+          };
+        })
+
 -- ---- attributes
 
--- what was read after the kind's token
-abbrev BodyRead : Lexeme → Parsing → PlainAttribute × Parsing → Type 0
-BodyRead t p x = (used : List Lexeme) × Takes p x.1 used × attribute_spells x.0 (open_paren ∷ t ∷ (used ++ close_paren ∷ []))
+-- what is behind the token that begins an attribute
+abbrev AttributeBy : AttributeKind → Form PlainAttribute
+AttributeBy (plain_kind a) = Done a
+AttributeBy (bits_kind t) = Given (λ s. known_bits_of t) (λ bits. Done (known_bits_attribute bits))
+AttributeBy sign_bits_kind = After equals (Token int (count_of (2 ^ 8)) (λ n. Done (sign_bits n)))
+AttributeBy range_kind = After equals (After open_bracket (Token int number_of (λ low. After comma (Token int number_of (λ high. After close_paren (Done (range low high)))))))
 
-number_tokens : (t j k : Lexeme) (word w : List ℕ) → t ≡ ident word → j ≡ equals → k ≡ int w → open_paren ∷ t ∷ j ∷ k ∷ close_paren ∷ [] ≡ open_paren ∷ ident word ∷ equals ∷ int w ∷ close_paren ∷ []
-number_tokens t j k word w e f g =
-    ap (λ (x : Lexeme). open_paren ∷ x ∷ j ∷ k ∷ close_paren ∷ []) e ∙ ap (λ (x : Lexeme). open_paren ∷ ident word ∷ x ∷ k ∷ close_paren ∷ []) f ∙ ap (λ (x : Lexeme). open_paren ∷ ident word ∷ equals ∷ x ∷ close_paren ∷ []) g
+attribute_by_rule : (k : AttributeKind) → Rule (AttributeBy k) (attribute_by k)
+attribute_by_rule (plain_kind a) = done a
+attribute_by_rule (bits_kind t) = given (λ s. known_bits_of t) (λ bits. done (known_bits_attribute bits))
+attribute_by_rule sign_bits_kind = after (mark equals refl) (number (count_of (2 ^ 8)) (λ n. done (sign_bits n)))
+attribute_by_rule range_kind =
+    after (mark equals refl) (after (mark open_bracket refl) (number number_of (λ low. after (mark comma refl) (number number_of (λ high. after (mark close_paren refl) (done (range low high)))))))
 
-sign_bits_sound : (t : Lexeme) (p q : Parsing) (a : PlainAttribute) → t ≡ ident (codes "signBits") → attribute_by sign_bits_kind p ≡ Some (a, q) → BodyRead t p (a, q)
-sign_bits_sound t p q a h e =
-    let g = bind_some (accept (mark_of equals) p) (λ g. accept (int_by (count_of (2 ^ 8))) g.1 >>= λ n. Some (sign_bits n.0, n.1)) (a, q) e in
-    let n = bind_some (accept (int_by (count_of (2 ^ 8))) g.0.1) (λ n. Some (sign_bits n.0, n.1)) (a, q) g.2 in
-    let j = accepted (mark_of equals) p g.0.1 g.0.0 g.1 in
-    let k = accepted (int_by (count_of (2 ^ 8))) g.0.1 n.0.1 n.0.0 n.1 in
-    let w = int_means (count_of (2 ^ 8)) k.0 n.0.0 k.2 in
-    let parts = number_tokens t j.0 k.0 (codes "signBits") w.0 h (mark_means equals j.0 j.2) w.1 in
-    moved (BodyRead t p) (sign_bits n.0.0, n.0.1) (a, q) n.2 (j.0 ∷ k.0 ∷ [], Takes-then p g.0.1 n.0.1 (j.0 ∷ []) (k.0 ∷ []) j.1 k.1, (w.0, parts, w.2))
+attribute_is : (k : AttributeKind) (t : Lexeme) (s : Scope) (a : PlainAttribute) (ts rest : List Lexeme) → KindIs k t → AttributeBy k Free s a ts rest → attribute_spells a (open_paren ∷ t ∷ (ts ++ close_paren ∷ []))
+attribute_is (plain_kind b) t s a ts rest is h = rw (h.0, h.1) is
+attribute_is (bits_kind w) t s a ts rest is h =
+    let m = known_bits_means w h.value h.is in
+    rw (h.after.0, h.after.1) (ap (λ (z : Lexeme). open_paren ∷ z ∷ close_paren ∷ []) (is ∙ ap known_bits m.0), m.1)
+attribute_is sign_bits_kind t s a ts rest is h =
+    let n = h.after in
+    rw n.after.0 (n.word, rw (is, h.whole, n.whole, n.after.1) refl, n.means)
+attribute_is range_kind t s a ts rest is h =
+    let o = h.after in
+    let low = o.after in
+    let c = low.after in
+    let high = c.after in
+    let k = high.after in
+    rw k.after.0 (record { low_word = low.word; high_word = high.word; whole = rw (is, h.whole, o.whole, low.whole, c.whole, high.whole, k.whole, k.after.1) refl; low_is = low.means; high_is = high.means })
 
-range_tokens : (t g o l c u k : Lexeme) (v w : List ℕ) → t ≡ ident (codes "range") → g ≡ equals → o ≡ open_bracket → l ≡ int v → c ≡ comma → u ≡ int w → k ≡ close_paren
-    → open_paren ∷ t ∷ g ∷ o ∷ l ∷ c ∷ u ∷ k ∷ close_paren ∷ [] ≡ open_paren ∷ ident (codes "range") ∷ equals ∷ open_bracket ∷ int v ∷ comma ∷ int w ∷ close_paren ∷ close_paren ∷ []
-range_tokens t g o l c u k v w e0 e1 e2 e3 e4 e5 e6 =
-    ap (λ (x : Lexeme). open_paren ∷ x ∷ g ∷ o ∷ l ∷ c ∷ u ∷ k ∷ close_paren ∷ []) e0
-    ∙ ap (λ (x : Lexeme). open_paren ∷ ident (codes "range") ∷ x ∷ o ∷ l ∷ c ∷ u ∷ k ∷ close_paren ∷ []) e1
-    ∙ ap (λ (x : Lexeme). open_paren ∷ ident (codes "range") ∷ equals ∷ x ∷ l ∷ c ∷ u ∷ k ∷ close_paren ∷ []) e2
-    ∙ ap (λ (x : Lexeme). open_paren ∷ ident (codes "range") ∷ equals ∷ open_bracket ∷ x ∷ c ∷ u ∷ k ∷ close_paren ∷ []) e3
-    ∙ ap (λ (x : Lexeme). open_paren ∷ ident (codes "range") ∷ equals ∷ open_bracket ∷ int v ∷ x ∷ u ∷ k ∷ close_paren ∷ []) e4
-    ∙ ap (λ (x : Lexeme). open_paren ∷ ident (codes "range") ∷ equals ∷ open_bracket ∷ int v ∷ comma ∷ x ∷ k ∷ close_paren ∷ []) e5
-    ∙ ap (λ (x : Lexeme). open_paren ∷ ident (codes "range") ∷ equals ∷ open_bracket ∷ int v ∷ comma ∷ int w ∷ x ∷ close_paren ∷ []) e6
+attribute_from : From (Node (λ s. attribute_spells) (λ a t. ⊥)) (Enclosed attribute_kind_of AttributeBy)
+attribute_from faulty s power_of_two ts rest h = record { token = ident (codes "powerOfTwo"); kind = plain_kind power_of_two; body = []; whole = h.0; is = refl; inner = (refl, refl) }
+attribute_from faulty s negative ts rest h = record { token = ident (codes "negative"); kind = plain_kind negative; body = []; whole = h.0; is = refl; inner = (refl, refl) }
+attribute_from faulty s non_negative ts rest h = record { token = ident (codes "nonNegative"); kind = plain_kind non_negative; body = []; whole = h.0; is = refl; inner = (refl, refl) }
+attribute_from faulty s non_zero ts rest h = record { token = ident (codes "nonZero"); kind = plain_kind non_zero; body = []; whole = h.0; is = refl; inner = (refl, refl) }
+attribute_from faulty s has_external_uses ts rest h = record { token = ident (codes "hasExternalUses"); kind = plain_kind has_external_uses; body = []; whole = h.0; is = refl; inner = (refl, refl) }
+attribute_from faulty s (known_bits_attribute bits) ts rest h =
+    let t = map text_of_known_bit bits in
+    record { token = known_bits t; kind = bits_kind t; body = []; whole = h.0.0; is = refl; inner = record { value = bits; is = known_bits_is bits h.0.1; after = (refl, refl) } }
+attribute_from faulty s (sign_bits n) ts rest h = record {
+  token = ident (codes "signBits");
+  kind = sign_bits_kind;
+  body = equals ∷ int h.0.0 ∷ [];
+  whole = h.0.1;
+  is = refl;
+  inner = record { more = int h.0.0 ∷ []; whole = refl; after = record { word = h.0.0; value = n; more = []; whole = refl; means = h.0.2; after = (refl, refl) } };
+}
+attribute_from faulty s (range low high) ts rest h =
+    let k = h.0 in
+    let end : List Lexeme = int k.high_word ∷ close_paren ∷ [] in
+    let start : List Lexeme = int k.low_word ∷ comma ∷ end in
+    record {
+      token = ident (codes "range");
+      kind = range_kind;
+      body = equals ∷ open_bracket ∷ start;
+      whole = k.whole;
+      is = refl;
+      inner = record {
+        more = open_bracket ∷ start;
+        whole = refl;
+        after = record {
+          more = start;
+          whole = refl;
+          after = record {
+            word = k.low_word;
+            value = low;
+            more = comma ∷ end;
+            whole = refl;
+            means = k.low_is;
+            after = record {
+              more = end;
+              whole = refl;
+              after = record { word = k.high_word; value = high; more = close_paren ∷ []; whole = refl; means = k.high_is; after = record { more = []; whole = refl; after = (refl, refl) } };
+            };
+          };
+        };
+      };
+    }
 
-range_sound : (t : Lexeme) (p q : Parsing) (a : PlainAttribute) → t ≡ ident (codes "range") → attribute_by range_kind p ≡ Some (a, q) → BodyRead t p (a, q)
-range_sound t p q a h e =
-    let g = bind_some (accept (mark_of equals) p) (λ g. accept (mark_of open_bracket) g.1 >>= λ o. (accept (int_by number_of) o.1 >>= λ l. (accept (mark_of comma) l.1 >>= λ c. (accept (int_by number_of) c.1 >>= λ u. (accept (mark_of close_paren) u.1 >>= λ k. Some (range l.0 u.0, k.1)))))) (a, q) e in
-    let o = bind_some (accept (mark_of open_bracket) g.0.1) (λ o. accept (int_by number_of) o.1 >>= λ l. (accept (mark_of comma) l.1 >>= λ c. (accept (int_by number_of) c.1 >>= λ u. (accept (mark_of close_paren) u.1 >>= λ k. Some (range l.0 u.0, k.1))))) (a, q) g.2 in
-    let l = bind_some (accept (int_by number_of) o.0.1) (λ l. accept (mark_of comma) l.1 >>= λ c. (accept (int_by number_of) c.1 >>= λ u. (accept (mark_of close_paren) u.1 >>= λ k. Some (range l.0 u.0, k.1)))) (a, q) o.2 in
-    let c = bind_some (accept (mark_of comma) l.0.1) (λ c. accept (int_by number_of) c.1 >>= λ u. (accept (mark_of close_paren) u.1 >>= λ k. Some (range l.0.0 u.0, k.1))) (a, q) l.2 in
-    let u = bind_some (accept (int_by number_of) c.0.1) (λ u. accept (mark_of close_paren) u.1 >>= λ k. Some (range l.0.0 u.0, k.1)) (a, q) c.2 in
-    let k = bind_some (accept (mark_of close_paren) u.0.1) (λ k. Some (range l.0.0 u.0.0, k.1)) (a, q) u.2 in
-    let g2 = accepted (mark_of equals) p g.0.1 g.0.0 g.1 in
-    let o2 = accepted (mark_of open_bracket) g.0.1 o.0.1 o.0.0 o.1 in
-    let l2 = accepted (int_by number_of) o.0.1 l.0.1 l.0.0 l.1 in
-    let c2 = accepted (mark_of comma) l.0.1 c.0.1 c.0.0 c.1 in
-    let u2 = accepted (int_by number_of) c.0.1 u.0.1 u.0.0 u.1 in
-    let k2 = accepted (mark_of close_paren) u.0.1 k.0.1 k.0.0 k.1 in
-    let v = int_means number_of l2.0 l.0.0 l2.2 in
-    let w = int_means number_of u2.0 u.0.0 u2.2 in
-    let e1 : g2.0 ≡ equals = mark_means equals g2.0 g2.2 in
-    let e2 : o2.0 ≡ open_bracket = mark_means open_bracket o2.0 o2.2 in
-    let e3 : l2.0 ≡ int v.0 = v.1 in
-    let e4 : c2.0 ≡ comma = mark_means comma c2.0 c2.2 in
-    let e5 : u2.0 ≡ int w.0 = w.1 in
-    let e6 : k2.0 ≡ close_paren = mark_means close_paren k2.0 k2.2 in
-    let t5 = Takes-then c.0.1 u.0.1 k.0.1 (u2.0 ∷ []) (k2.0 ∷ []) u2.1 k2.1 in
-    let t4 = Takes-then l.0.1 c.0.1 k.0.1 (c2.0 ∷ []) (u2.0 ∷ k2.0 ∷ []) c2.1 t5 in
-    let t3 = Takes-then o.0.1 l.0.1 k.0.1 (l2.0 ∷ []) (c2.0 ∷ u2.0 ∷ k2.0 ∷ []) l2.1 t4 in
-    let t2 = Takes-then g.0.1 o.0.1 k.0.1 (o2.0 ∷ []) (l2.0 ∷ c2.0 ∷ u2.0 ∷ k2.0 ∷ []) o2.1 t3 in
-    let t1 = Takes-then p g.0.1 k.0.1 (g2.0 ∷ []) (o2.0 ∷ l2.0 ∷ c2.0 ∷ u2.0 ∷ k2.0 ∷ []) g2.1 t2 in
-    let parts = range_tokens t g2.0 o2.0 l2.0 c2.0 u2.0 k2.0 v.0 w.0 h e1 e2 e3 e4 e5 e6 in
-    moved (BodyRead t p) (range l.0.0 u.0.0, k.0.1) (a, q) k.2 (g2.0 ∷ o2.0 ∷ l2.0 ∷ c2.0 ∷ u2.0 ∷ k2.0 ∷ [], t1, record { low_word = v.0; high_word = w.0; whole = parts; low_is = v.2; high_is = w.2 })
-
--- between the two marks that were read
-enclosed : (P : List Lexeme → Type 0) (left t right : Lexeme) (used : List Lexeme) → left ≡ open_paren → right ≡ close_paren → P (open_paren ∷ t ∷ (used ++ close_paren ∷ [])) → P (left ∷ t ∷ (used ++ right ∷ []))
-enclosed P left t right used e f h =
-    subst (λ (x : Lexeme). P (x ∷ t ∷ (used ++ right ∷ []))) (sym e) (subst (λ (x : Lexeme). P (open_paren ∷ t ∷ (used ++ x ∷ []))) (sym f) h)
-
-body_sound : (k : AttributeKind) (t : Lexeme) (p q : Parsing) (a : PlainAttribute) → p.failed ≡ None → KindIs k t → attribute_by k p ≡ Some (a, q) → BodyRead t p (a, q)
-body_sound (plain_kind b) t p q a live h e = moved (BodyRead t p) (b, p) (a, q) e ([], Takes-none p p refl live, h)
-body_sound (bits_kind s) t p q a live h e =
-    let n = bind_some (known_bits_of s) (λ bits. Some (known_bits_attribute bits, p)) (a, q) e in
-    let m = known_bits_means s n.0 n.1 in
-    moved (BodyRead t p) (known_bits_attribute n.0, p) (a, q) n.2 ([], Takes-none p p refl live, (ap (λ (x : Lexeme). open_paren ∷ x ∷ close_paren ∷ []) (h ∙ ap known_bits m.0), m.1))
-body_sound sign_bits_kind t p q a live h e = sign_bits_sound t p q a h e
-body_sound range_kind t p q a live h e = range_sound t p q a h e
-
-pub attribute_sound : Sound (λ s. attribute_spells) (λ a t. ⊥) attribute_at
+pub attribute_rule : Rule (Node (λ s. attribute_spells) (λ a t. ⊥)) attribute_at
 unfolding attribute_at
-attribute_sound p q a e =
-    let o = bind_some (accept (mark_of open_paren) p) (λ o. accept attribute_kind_of o.1 >>= λ k. (attribute_by k.0 k.1 >>= λ b. (accept (mark_of close_paren) b.1 >>= λ c. Some (b.0, c.1)))) (a, q) e in
-    let k = bind_some (accept attribute_kind_of o.0.1) (λ k. attribute_by k.0 k.1 >>= λ b. (accept (mark_of close_paren) b.1 >>= λ c. Some (b.0, c.1))) (a, q) o.2 in
-    let b = bind_some (attribute_by k.0.0 k.0.1) (λ b. accept (mark_of close_paren) b.1 >>= λ c. Some (b.0, c.1)) (a, q) k.2 in
-    let c = bind_some (accept (mark_of close_paren) b.0.1) (λ c. Some (b.0.0, c.1)) (a, q) b.2 in
-    let j1 = accepted (mark_of open_paren) p o.0.1 o.0.0 o.1 in
-    let j2 = accepted attribute_kind_of o.0.1 k.0.1 k.0.0 k.1 in
-    let j3 = body_sound k.0.0 j2.0 k.0.1 b.0.1 b.0.0 (live_still o.0.1 k.0.1 (j2.0 ∷ []) j2.1) (kind_means j2.0 k.0.0 j2.2) b.1 in
-    let j4 = accepted (mark_of close_paren) b.0.1 c.0.1 c.0.0 c.1 in
-    let tail = Takes-then k.0.1 b.0.1 c.0.1 j3.0 (j4.0 ∷ []) j3.1 j4.1 in
-    let body = Takes-then o.0.1 k.0.1 c.0.1 (j2.0 ∷ []) (j3.0 ++ j4.0 ∷ []) j2.1 tail in
-    let whole = Takes-then p o.0.1 c.0.1 (j1.0 ∷ []) (j2.0 ∷ (j3.0 ++ j4.0 ∷ [])) j1.1 body in
-    let spelled = enclosed (attribute_spells b.0.0) j1.0 j2.0 j4.0 j3.0 (mark_means open_paren j1.0 j1.2) (mark_means close_paren j4.0 j4.2) j3.2 in
-    moved (WasRead (λ s. attribute_spells) (λ a t. ⊥) p) (b.0.0, c.0.1) (a, q) c.2 (j1.0 ∷ j2.0 ∷ (j3.0 ++ j4.0 ∷ []), whole, spelled, never (kinds c.0.1.tokens))
-
--- these tokens come next, and are read as the value
-abbrev Reads : {A : Type 0} → (Parsing → Option (A × Parsing)) → A → Parsing → List Lexeme → Type 0
-Reads read a p rest = (q : Parsing) × (read p ≡ Some (a, q)) × At q rest × (q ≡ record p { tokens = q.tokens })
-
--- between its parentheses
-between : (p : Parsing) (a : PlainAttribute) (t : Lexeme) (k : AttributeKind) (used rest : List Lexeme) → At p (open_paren ∷ t ∷ (used ++ close_paren ∷ rest)) → attribute_kind_of t ≡ Some k
-    → ((r : Parsing) → At r (used ++ close_paren ∷ rest) → Reads (attribute_by k) a r (close_paren ∷ rest)) → Reads attribute_at a p rest
-unfolding attribute_at
-between p a t k used rest at is body =
-    let j1 = accepts (mark_of open_paren) p open_paren tt (t ∷ (used ++ close_paren ∷ rest)) at refl in
-    let j2 = accepts attribute_kind_of j1.0 t k (used ++ close_paren ∷ rest) j1.2 is in
-    let j3 = body j2.0 j2.2 in
-    let j4 = accepts (mark_of close_paren) j3.0 close_paren tt rest j3.2 refl in
-    (j4.0, rw (j1.1, j2.1, j3.1, j4.1) refl, j4.2, state_then p j3.0 j4.0 (state_then p j2.0 j3.0 (state_then p j1.0 j2.0 j1.3 j2.3) j3.3) j4.3)
-
-word_alone : (p : Parsing) (a : PlainAttribute) (w : List ℕ) (front rest : List Lexeme) → attribute_kind_of_word w ≡ Some (plain_kind a) → front ≡ open_paren ∷ ident w ∷ close_paren ∷ [] → At p (front ++ rest) → Reads attribute_at a p rest
-word_alone p a w front rest is s at = between p a (ident w) (plain_kind a) [] rest (subst (λ (x : List Lexeme). At p (x ++ rest)) s at) is (λ r there. (r, refl, there, refl))
-
-sign_bits_body : (n : ℕ) (w : List ℕ) (rest : List Lexeme) → count_of (2 ^ 8) w ≡ Some n → (r : Parsing) → At r (equals ∷ int w ∷ close_paren ∷ rest) → Reads (attribute_by sign_bits_kind) (sign_bits n) r (close_paren ∷ rest)
-sign_bits_body n w rest e r there =
-    let j = accepts (mark_of equals) r equals tt (int w ∷ close_paren ∷ rest) there refl in
-    let k = accepts (int_by (count_of (2 ^ 8))) j.0 (int w) n (close_paren ∷ rest) j.2 e in
-    (k.0, rw (j.1, k.1) refl, k.2, state_then r j.0 k.0 j.3 k.3)
-
-range_body : (low high : ℤ) (v w : List ℕ) (rest : List Lexeme) → number_of v ≡ Some low → number_of w ≡ Some high
-    → (r : Parsing) → At r (equals ∷ open_bracket ∷ int v ∷ comma ∷ int w ∷ close_paren ∷ close_paren ∷ rest) → Reads (attribute_by range_kind) (range low high) r (close_paren ∷ rest)
-range_body low high v w rest e f r there =
-    let j1 = accepts (mark_of equals) r equals tt (open_bracket ∷ int v ∷ comma ∷ int w ∷ close_paren ∷ close_paren ∷ rest) there refl in
-    let j2 = accepts (mark_of open_bracket) j1.0 open_bracket tt (int v ∷ comma ∷ int w ∷ close_paren ∷ close_paren ∷ rest) j1.2 refl in
-    let j3 = accepts (int_by number_of) j2.0 (int v) low (comma ∷ int w ∷ close_paren ∷ close_paren ∷ rest) j2.2 e in
-    let j4 = accepts (mark_of comma) j3.0 comma tt (int w ∷ close_paren ∷ close_paren ∷ rest) j3.2 refl in
-    let j5 = accepts (int_by number_of) j4.0 (int w) high (close_paren ∷ close_paren ∷ rest) j4.2 f in
-    let j6 = accepts (mark_of close_paren) j5.0 close_paren tt (close_paren ∷ rest) j5.2 refl in
-    let first_three = state_then r j2.0 j3.0 (state_then r j1.0 j2.0 j1.3 j2.3) j3.3 in
-    (j6.0, rw (j1.1, j2.1, j3.1, j4.1, j5.1, j6.1) (refl {a = Some (range low high, j6.0)}), j6.2, state_then r j5.0 j6.0 (state_then r j4.0 j5.0 (state_then r j3.0 j4.0 first_three j4.3) j5.3) j6.3)
+attribute_rule = respelled (enclosed attribute_kind_of attribute_by_rule)
+    (λ s a ts rest h. (subst (attribute_spells a) (sym h.whole) (attribute_is h.kind h.token s a h.body (close_paren ∷ rest) (kind_means h.token h.kind h.is) h.inner), never rest))
+    attribute_from
 
 pub attribute_complete : Complete (λ s. attribute_spells) (λ a t. ⊥) attribute_at
-attribute_complete p power_of_two front rest at s st = word_alone p power_of_two (codes "powerOfTwo") front rest refl s at
-attribute_complete p negative front rest at s st = word_alone p negative (codes "negative") front rest refl s at
-attribute_complete p non_negative front rest at s st = word_alone p non_negative (codes "nonNegative") front rest refl s at
-attribute_complete p non_zero front rest at s st = word_alone p non_zero (codes "nonZero") front rest refl s at
-attribute_complete p has_external_uses front rest at s st = word_alone p has_external_uses (codes "hasExternalUses") front rest refl s at
-attribute_complete p (known_bits_attribute bits) front rest at s st =
-    let pattern = map text_of_known_bit bits in
-    between p (known_bits_attribute bits) (known_bits pattern) (bits_kind pattern) [] rest (subst (λ (x : List Lexeme). At p (x ++ rest)) s.0 at) refl
-    (λ r there. (r, rw (known_bits_is bits s.1) refl, there, refl))
-attribute_complete p (sign_bits n) front rest at s st =
-    between p (sign_bits n) (ident (codes "signBits")) sign_bits_kind (equals ∷ int s.0 ∷ []) rest (subst (λ (x : List Lexeme). At p (x ++ rest)) s.1 at) refl (sign_bits_body n s.0 rest s.2)
-attribute_complete p (range low high) front rest at s st =
-    between p (range low high) (ident (codes "range")) range_kind (equals ∷ open_bracket ∷ int s.low_word ∷ comma ∷ int s.high_word ∷ close_paren ∷ []) rest (subst (λ (x : List Lexeme). At p (x ++ rest)) s.whole at) refl (range_body low high s.low_word s.high_word rest s.low_is s.high_is)
-
--- after an opening parenthesis
-opened : (ts more : List Lexeme) → ts ≡ open_paren ∷ more → Starts (is_mark open_paren) ts
-opened ts more e = subst (λ (x : List Lexeme). Starts (is_mark open_paren) x) (sym e) refl
+attribute_complete = attribute_rule.complete
 
 pub attribute_first : (s : Scope) (a : PlainAttribute) (ts : List Lexeme) → attribute_spells a ts → Starts (is_mark open_paren) ts
-attribute_first s power_of_two ts h = opened ts (ident (codes "powerOfTwo") ∷ close_paren ∷ []) h
-attribute_first s negative ts h = opened ts (ident (codes "negative") ∷ close_paren ∷ []) h
-attribute_first s non_negative ts h = opened ts (ident (codes "nonNegative") ∷ close_paren ∷ []) h
-attribute_first s non_zero ts h = opened ts (ident (codes "nonZero") ∷ close_paren ∷ []) h
-attribute_first s has_external_uses ts h = opened ts (ident (codes "hasExternalUses") ∷ close_paren ∷ []) h
-attribute_first s (known_bits_attribute bits) ts h = opened ts (known_bits (map text_of_known_bit bits) ∷ close_paren ∷ []) h.0
-attribute_first s (sign_bits n) ts h = opened ts (ident (codes "signBits") ∷ equals ∷ int h.0 ∷ close_paren ∷ []) h.1
-attribute_first s (range low high) ts h = opened ts (ident (codes "range") ∷ equals ∷ open_bracket ∷ int h.low_word ∷ comma ∷ int h.high_word ∷ close_paren ∷ close_paren ∷ []) h.whole
+attribute_first s power_of_two ts h = rw h refl
+attribute_first s negative ts h = rw h refl
+attribute_first s non_negative ts h = rw h refl
+attribute_first s non_zero ts h = rw h refl
+attribute_first s has_external_uses ts h = rw h refl
+attribute_first s (known_bits_attribute bits) ts h = rw h.0 refl
+attribute_first s (sign_bits n) ts h = rw h.1 refl
+attribute_first s (range low high) ts h = rw h.whole refl
 
 -- ---- root attributes
 
@@ -301,69 +286,47 @@ root_kind_means t k e =
     let w = ident_means root_kind_of_word t k e in
     subst (λ (x : Lexeme). RootKindIs k x) (sym w.1) (root_word_means w.0 k w.2)
 
-abbrev RootBodyRead : Lexeme → Parsing → PlainRootAttribute × Parsing → Type 0
-RootBodyRead t p x = (used : List Lexeme) × Takes p x.1 used × root_attribute_spells x.0 (open_paren ∷ t ∷ (used ++ close_paren ∷ []))
+-- what is behind the word of a root attribute
+abbrev RootAttributeBy : Bool → Form PlainRootAttribute
+RootAttributeBy false = Done harvested_from_use
+RootAttributeBy true = After equals (Token int bits_of (λ bits. Done (demanded_bits bits)))
 
-bits_token : (t : Lexeme) (bits : List Bool) → int_by bits_of t ≡ Some bits → (t ≡ int (map text_of_bit bits)) × (0 < length bits)
-bits_token t bits e =
-    let w = int_means bits_of t bits e in
-    let m = bits_means w.0 bits w.2 in
-    (w.1 ∙ ap int m.0, m.1)
+root_attribute_by_rule : (k : Bool) → Rule (RootAttributeBy k) (root_attribute_by k)
+root_attribute_by_rule false = done harvested_from_use
+root_attribute_by_rule true = after (mark equals refl) (number bits_of (λ bits. done (demanded_bits bits)))
 
-root_body_sound : (k : Bool) (t : Lexeme) (p q : Parsing) (a : PlainRootAttribute) → p.failed ≡ None → RootKindIs k t → root_attribute_by k p ≡ Some (a, q) → RootBodyRead t p (a, q)
-root_body_sound false t p q a live h e =
-    moved (RootBodyRead t p) (harvested_from_use, p) (a, q) e ([], Takes-none p p refl live, ap (λ (x : Lexeme). open_paren ∷ x ∷ close_paren ∷ []) h)
-root_body_sound true t p q a live h e =
-    let g = bind_some (accept (mark_of equals) p) (λ g. accept (int_by bits_of) g.1 >>= λ n. Some (demanded_bits n.0, n.1)) (a, q) e in
-    let n = bind_some (accept (int_by bits_of) g.0.1) (λ n. Some (demanded_bits n.0, n.1)) (a, q) g.2 in
-    let j = accepted (mark_of equals) p g.0.1 g.0.0 g.1 in
-    let k = accepted (int_by bits_of) g.0.1 n.0.1 n.0.0 n.1 in
-    let m = bits_token k.0 n.0.0 k.2 in
-    let parts = number_tokens t j.0 k.0 (codes "demandedBits") (map text_of_bit n.0.0) h (mark_means equals j.0 j.2) m.0 in
-    moved (RootBodyRead t p) (demanded_bits n.0.0, n.0.1) (a, q) n.2 (j.0 ∷ k.0 ∷ [], Takes-then p g.0.1 n.0.1 (j.0 ∷ []) (k.0 ∷ []) j.1 k.1, (parts, m.1))
+root_attribute_is : (k : Bool) (t : Lexeme) (s : Scope) (a : PlainRootAttribute) (ts rest : List Lexeme) → RootKindIs k t → RootAttributeBy k Free s a ts rest → root_attribute_spells a (open_paren ∷ t ∷ (ts ++ close_paren ∷ []))
+root_attribute_is false t s a ts rest is h = rw (h.0, h.1, is) refl
+root_attribute_is true t s a ts rest is h =
+    let n = h.after in
+    let m = bits_means n.word n.value n.means in
+    rw n.after.0 (rw (is, h.whole, n.whole, n.after.1, m.0) refl, m.1)
 
-pub root_attribute_sound : Sound (λ s. root_attribute_spells) (λ a t. ⊥) root_attribute_at
+root_attribute_from : From (Node (λ s. root_attribute_spells) (λ a t. ⊥)) (Enclosed (ident_by root_kind_of_word) RootAttributeBy)
+root_attribute_from faulty s harvested_from_use ts rest h = record { token = ident (codes "harvestedFromUse"); kind = false; body = []; whole = h.0; is = refl; inner = (refl, refl) }
+root_attribute_from faulty s (demanded_bits bits) ts rest h =
+    let t : List Lexeme = int (map text_of_bit bits) ∷ [] in
+    record {
+      token = ident (codes "demandedBits");
+      kind = true;
+      body = equals ∷ t;
+      whole = h.0.0;
+      is = refl;
+      inner = record { more = t; whole = refl; after = record { word = map text_of_bit bits; value = bits; more = []; whole = refl; means = bits_is bits h.0.1; after = (refl, refl) } };
+    }
+
+pub root_attribute_rule : Rule (Node (λ s. root_attribute_spells) (λ a t. ⊥)) root_attribute_at
 unfolding root_attribute_at
-root_attribute_sound p q a e =
-    let o = bind_some (accept (mark_of open_paren) p) (λ o. accept (ident_by root_kind_of_word) o.1 >>= λ k. (root_attribute_by k.0 k.1 >>= λ b. (accept (mark_of close_paren) b.1 >>= λ c. Some (b.0, c.1)))) (a, q) e in
-    let k = bind_some (accept (ident_by root_kind_of_word) o.0.1) (λ k. root_attribute_by k.0 k.1 >>= λ b. (accept (mark_of close_paren) b.1 >>= λ c. Some (b.0, c.1))) (a, q) o.2 in
-    let b = bind_some (root_attribute_by k.0.0 k.0.1) (λ b. accept (mark_of close_paren) b.1 >>= λ c. Some (b.0, c.1)) (a, q) k.2 in
-    let c = bind_some (accept (mark_of close_paren) b.0.1) (λ c. Some (b.0.0, c.1)) (a, q) b.2 in
-    let j1 = accepted (mark_of open_paren) p o.0.1 o.0.0 o.1 in
-    let j2 = accepted (ident_by root_kind_of_word) o.0.1 k.0.1 k.0.0 k.1 in
-    let j3 = root_body_sound k.0.0 j2.0 k.0.1 b.0.1 b.0.0 (live_still o.0.1 k.0.1 (j2.0 ∷ []) j2.1) (root_kind_means j2.0 k.0.0 j2.2) b.1 in
-    let j4 = accepted (mark_of close_paren) b.0.1 c.0.1 c.0.0 c.1 in
-    let tail = Takes-then k.0.1 b.0.1 c.0.1 j3.0 (j4.0 ∷ []) j3.1 j4.1 in
-    let body = Takes-then o.0.1 k.0.1 c.0.1 (j2.0 ∷ []) (j3.0 ++ j4.0 ∷ []) j2.1 tail in
-    let whole = Takes-then p o.0.1 c.0.1 (j1.0 ∷ []) (j2.0 ∷ (j3.0 ++ j4.0 ∷ [])) j1.1 body in
-    let spelled = enclosed (root_attribute_spells b.0.0) j1.0 j2.0 j4.0 j3.0 (mark_means open_paren j1.0 j1.2) (mark_means close_paren j4.0 j4.2) j3.2 in
-    moved (WasRead (λ s. root_attribute_spells) (λ a t. ⊥) p) (b.0.0, c.0.1) (a, q) c.2 (j1.0 ∷ j2.0 ∷ (j3.0 ++ j4.0 ∷ []), whole, spelled, never (kinds c.0.1.tokens))
-
-bits_body : (bits : List Bool) (rest : List Lexeme) → 0 < length bits → (r : Parsing) → At r (equals ∷ int (map text_of_bit bits) ∷ close_paren ∷ rest) → Reads (root_attribute_by true) (demanded_bits bits) r (close_paren ∷ rest)
-bits_body bits rest long r there =
-    let j = accepts (mark_of equals) r equals tt (int (map text_of_bit bits) ∷ close_paren ∷ rest) there refl in
-    let k = accepts (int_by bits_of) j.0 (int (map text_of_bit bits)) bits (close_paren ∷ rest) j.2 (bits_is bits long) in
-    (k.0, rw (j.1, k.1) refl, k.2, state_then r j.0 k.0 j.3 k.3)
-
-root_between : (p : Parsing) (a : PlainRootAttribute) (w : List ℕ) (k : Bool) (used rest : List Lexeme) → At p (open_paren ∷ ident w ∷ (used ++ close_paren ∷ rest)) → root_kind_of_word w ≡ Some k
-    → ((r : Parsing) → At r (used ++ close_paren ∷ rest) → Reads (root_attribute_by k) a r (close_paren ∷ rest)) → Reads root_attribute_at a p rest
-unfolding root_attribute_at
-root_between p a w k used rest at is body =
-    let j1 = accepts (mark_of open_paren) p open_paren tt (ident w ∷ (used ++ close_paren ∷ rest)) at refl in
-    let j2 = accepts (ident_by root_kind_of_word) j1.0 (ident w) k (used ++ close_paren ∷ rest) j1.2 is in
-    let j3 = body j2.0 j2.2 in
-    let j4 = accepts (mark_of close_paren) j3.0 close_paren tt rest j3.2 refl in
-    (j4.0, rw (j1.1, j2.1, j3.1, j4.1) refl, j4.2, state_then p j3.0 j4.0 (state_then p j2.0 j3.0 (state_then p j1.0 j2.0 j1.3 j2.3) j3.3) j4.3)
+root_attribute_rule = respelled (enclosed (ident_by root_kind_of_word) root_attribute_by_rule)
+    (λ s a ts rest h. (subst (root_attribute_spells a) (sym h.whole) (root_attribute_is h.kind h.token s a h.body (close_paren ∷ rest) (root_kind_means h.token h.kind h.is) h.inner), never rest))
+    root_attribute_from
 
 pub root_attribute_complete : Complete (λ s. root_attribute_spells) (λ a t. ⊥) root_attribute_at
-root_attribute_complete p harvested_from_use front rest at s st =
-    root_between p harvested_from_use (codes "harvestedFromUse") false [] rest (subst (λ (x : List Lexeme). At p (x ++ rest)) s at) refl (λ r there. (r, refl, there, refl))
-root_attribute_complete p (demanded_bits bits) front rest at s st =
-    root_between p (demanded_bits bits) (codes "demandedBits") true (equals ∷ int (map text_of_bit bits) ∷ []) rest (subst (λ (x : List Lexeme). At p (x ++ rest)) s.0 at) refl (bits_body bits rest s.1)
+root_attribute_complete = root_attribute_rule.complete
 
 pub root_attribute_first : (s : Scope) (a : PlainRootAttribute) (ts : List Lexeme) → root_attribute_spells a ts → Starts (is_mark open_paren) ts
-root_attribute_first s harvested_from_use ts h = opened ts (ident (codes "harvestedFromUse") ∷ close_paren ∷ []) h
-root_attribute_first s (demanded_bits bits) ts h = opened ts (ident (codes "demandedBits") ∷ equals ∷ int (map text_of_bit bits) ∷ close_paren ∷ []) h.0
+root_attribute_first s harvested_from_use ts h = rw h refl
+root_attribute_first s (demanded_bits bits) ts h = rw h.0 refl
 
 -- ---- lists of them
 
@@ -374,9 +337,8 @@ last_ends (v ∷ []) t h = h
 last_ends (v ∷ (w ∷ vs)) t h = last_ends (w ∷ vs) t h
 
 pub one_more : {V : Type 0} (vs : List V) (t : Lexeme) → ListGoesOn (λ v t. ⊥) (is_mark open_paren) vs t → t ≡ open_paren
-one_more vs open_paren h = refl
-one_more vs _ (inl h) = absurd cc
-one_more vs _ (inr h) = absurd (last_ends vs _ h)
+one_more vs t (inl h) = is_mark_means open_paren t h
+one_more vs t (inr h) = absurd (last_ends vs t h)
 
 pub more_if_open : {V : Type 0} (vs : List V) (t : Lexeme) → t ≡ open_paren → ListGoesOn (λ v t. ⊥) (is_mark open_paren) vs t
 more_if_open vs t e = inl (ap (is_mark open_paren) e)

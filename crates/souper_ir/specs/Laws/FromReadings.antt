@@ -9,49 +9,39 @@ use Rattle.souper_graph.specs.Syntax.Spelling.{kinds, Scope}
 use Rattle.souper_ir.specs.Reading.{Gives, cause_of, IfRefused, if_refused, Fails, FailsForMemory, fails_later, IsRead}
 use Rattle.souper_ir.specs.Grammar.{Free, Stops, Took, NoFront, Refusal}
 use Rattle.souper_ir.specs.Laws.Peeks.{some_is}
-use Rattle.souper_ir.specs.Laws.Steps.{Takes, At}
+use Rattle.souper_ir.specs.Laws.Steps.{At}
+use Rattle.souper_ir.specs.Laws.Combinators.{Reads, Rule, Node}
 
 module _ {Y : Type 0} (spells : Scope → Y → List Lexeme → Type 0) (continues : Y → Lexeme → Type 0) (read : Parsing → Option (Y × Parsing)) where
-  -- what is read is spelled so, and not continued
-  abbrev pub Sound : Type 0
-  Sound = (p q : Parsing) (y : Y) → read p ≡ Some (y, q) → (used : List Lexeme) × Takes p q used × spells p.scope y used × Free (continues y) (kinds q.tokens)
-
   -- what is spelled so, and not continued, is read
   abbrev pub Complete : Type 0
-  Complete = (p : Parsing) (y : Y) (front rest : List Lexeme) → At p (front ++ rest) → spells p.scope y front → Stops (continues y) p.faulty rest
-      → (q : Parsing) × (read p ≡ Some (y, q)) × At q rest × (q ≡ record p { tokens = q.tokens })
+  Complete = (p : Parsing) (y : Y) (front rest : List Lexeme) → At p (front ++ rest) → spells p.scope y front × Stops (continues y) p.faulty rest → Reads read y p rest
 
   module _ {X : Type 0} (view : X → Y) where
-    pub is_taken : Sound → (x : X) (p q : Parsing) → IsRead (read p) (view x) p q → Took spells continues (λ s. s) (view x) p q
-    is_taken sound x p q h =
-        let k = sound p q (view x) h.0 in
-        record {
-          used = k.1.places;
-          parts = k.1.parts;
-          spelled = rw k.1.kinds_are k.2;
-          free = k.3;
-          live = h.1;
-          state = k.1.state;
-        }
+    pub is_taken : Rule (Node spells continues) read → (x : X) (p q : Parsing) → IsRead (read p) (view x) p q → Took spells continues (λ s. s) (view x) p q
+    is_taken rule x p q h =
+        let k = rule.sound p q (view x) h.1 h.0 in
+        record { used = k.1.places; parts = k.1.parts; spelled = rw k.1.kinds_are k.2.0; free = k.2.1; live = h.1; state = k.1.state }
 
-    pub taken : Sound → (r : Result X ParseError) (p q : Parsing) → Gives view r (read p) p q → IfOk r (λ x. Took spells continues (λ s. s) (view x) p q)
-    taken sound (Ok x) p q h = is_taken sound x p q h
-    taken sound (Err e) p q h = tt
+    pub taken : Rule (Node spells continues) read → (r : Result X ParseError) (p q : Parsing) → Gives view r (read p) p q → IfOk r (λ x. Took spells continues (λ s. s) (view x) p q)
+    taken rule (Ok x) p q h = is_taken rule x p q h
+    taken rule (Err e) p q h = tt
 
   none_read : Complete → (p : Parsing) → read p ≡ None → p.failed ≡ None → NoFront spells continues p
   none_read complete p unread live y front rest e s st =
-      let k = complete p y front rest (record { kinds_are = e; live = live }) s st in
+      let k = complete p y front rest (record { kinds_are = e; live = live }) (s, st) in
+      let read : read p ≡ Some (y, k.next) = k.is_read in
       cc
 
   none_if : Complete → (p : Parsing) (f : Option Cause) → IfRefused f (read p ≡ None) → IfRefused f (p.failed ≡ None → NoFront spells continues p)
   none_if complete p f = if_refused f (λ h live. none_read complete p h live)
 
-  pub is_refused : Complete → (e : ParseError) (p q : Parsing) → IfRefused (cause_of e) (read p ≡ None) × Fails e p q → Refusal spells continues e p q
-  is_refused complete e p q h = record { failed = h.1; nothing = none_if complete p (cause_of e) h.0 }
+  pub is_refused : Rule (Node spells continues) read → (e : ParseError) (p q : Parsing) → IfRefused (cause_of e) (read p ≡ None) × Fails e p q → Refusal spells continues e p q
+  is_refused rule e p q h = record { failed = h.1; nothing = none_if rule.complete p (cause_of e) h.0 }
 
-  pub refused : {X : Type 0} (view : X → Y) → Complete → (r : Result X ParseError) (p q : Parsing) → Gives view r (read p) p q → IfErr r (λ e. Refusal spells continues e p q)
-  refused view complete (Ok x) p q h = tt
-  refused view complete (Err e) p q h = is_refused complete e p q h
+  pub refused : {X : Type 0} (view : X → Y) → Rule (Node spells continues) read → (r : Result X ParseError) (p q : Parsing) → Gives view r (read p) p q → IfErr r (λ e. Refusal spells continues e p q)
+  refused view rule (Ok x) p q h = tt
+  refused view rule (Err e) p q h = is_refused rule e p q h
 
   -- a parser of these tokens
   kinds_of_places : (ts : List Lexeme) → kinds (map (λ t. (0, t)) ts) ≡ ts
@@ -65,10 +55,10 @@ module _ {Y : Type 0} (spells : Scope → Y → List Lexeme → Type 0) (continu
   pub one_alone : Complete → (s : Scope) (v w : Y) (a b c d : List Lexeme) → a ++ c ≡ b ++ d → spells s v a → spells s w b → Free (continues v) c → Free (continues w) d → (a ≡ b) × (v ≡ w)
   one_alone complete s v w a b c d e m n f g =
       let p : Parsing = record { tokens = map (λ t. (0, t)) (a ++ c); faulty = false; len = 0; scope = s; failed = None } in
-      let j = complete p v a c (record { kinds_are = kinds_of_places (a ++ c); live = refl }) m (stops (continues v) c f) in
-      let k = complete p w b d (record { kinds_are = kinds_of_places (a ++ c) ∙ e; live = refl }) n (stops (continues w) d g) in
-      let same : ◌≡◌ {A = Y × Parsing} (v, j.0) (w, k.0) = some_is (sym j.1 ∙ k.1) in
-      let rest : c ≡ d = sym j.2.kinds_are ∙ ap (λ (x : Y × Parsing). kinds x.1.tokens) same ∙ k.2.kinds_are in
+      let j = complete p v a c (record { kinds_are = kinds_of_places (a ++ c); live = refl }) (m, stops (continues v) c f) in
+      let k = complete p w b d (record { kinds_are = kinds_of_places (a ++ c) ∙ e; live = refl }) (n, stops (continues w) d g) in
+      let same : ◌≡◌ {A = Y × Parsing} (v, j.next) (w, k.next) = some_is (sym j.is_read ∙ k.is_read) in
+      let rest : c ≡ d = sym j.ahead.kinds_are ∙ ap (λ (x : Y × Parsing). kinds x.1.tokens) same ∙ k.ahead.kinds_are in
       (append_cancel_right a b c (e ∙ ap (λ (x : List Lexeme). b ++ x) (sym rest)), ap (λ (x : Y × Parsing). x.0) same)
 
 -- out of memory refuses no text

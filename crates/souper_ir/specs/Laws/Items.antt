@@ -11,11 +11,10 @@ use Rattle.souper_ir.specs.Continuation.{statement_continues, infer_continues, r
 use Rattle.souper_ir.specs.Parsing.{Parsing}
 use Rattle.souper_ir.specs.Reading.{cause_of, IfRefused, if_refused, IsRead, Fails, fails_later}
 use Rattle.souper_ir.specs.Grammar.{Free, Stops, Starts, NoFront, LastGoesOn, Refusal, peek_at}
-use Rattle.souper_ir.specs.Laws.Unique.{Free-weaker, Free-from_Stops}
+use Rattle.souper_ir.specs.Laws.Unique.{never, Free-weaker, Free-from_Stops}
 use Rattle.souper_ir.specs.NodeReadings.{starts_statement, is_word}
 use Rattle.souper_ir.specs.Laws.Peeks.{peeked, peeked_yes, peeked_no, unread}
 use Rattle.souper_ir.specs.Laws.Steps.{kinds-append}
-use Rattle.souper_ir.specs.Laws.Operands.{never}
 use Rattle.souper_ir.specs.Laws.Statements.{statement_first, statement_alone, statement_ends, starts_begins, infer_first, infer_alone, infer_ends, cand_alone, result_alone}
 use Rattle.souper_ir.specs.Items.{Opens, tail_continues, Entered, Stated, AllStated, NoStatement, NoMore, StuckAt, StatedRefusal}
 

@@ -15,7 +15,6 @@ pub record Takes (p q : Parsing) (used : List Lexeme) : Type 0 where
   pub parts : p.tokens ≡ places ++ q.tokens
   pub kinds_are : kinds places ≡ used
   pub state : q ≡ record p { tokens = q.tokens }
-  pub live : p.failed ≡ None
 
 pub kinds-append : (a b : List (ℕ × Lexeme)) → kinds (a ++ b) ≡ kinds a ++ kinds b
 kinds-append [] b = refl
@@ -27,11 +26,10 @@ Takes-then p q r a b m n = record {
   parts = m.parts ∙ ap (λ (x : List (ℕ × Lexeme)). m.places ++ x) n.parts ∙ sym (append_assoc m.places n.places r.tokens);
   kinds_are = kinds-append m.places n.places ∙ ap (λ (x : List Lexeme). x ++ kinds n.places) m.kinds_are ∙ ap (λ (x : List Lexeme). a ++ x) n.kinds_are;
   state = n.state ∙ ap (λ (x : Parsing). record x { tokens = r.tokens }) m.state;
-  live = m.live;
 }
 
-pub Takes-none : (p q : Parsing) → q ≡ p → p.failed ≡ None → Takes p q []
-Takes-none p q e live = subst (λ (x : Parsing). Takes p x []) (sym e) (record { places = []; parts = refl; kinds_are = refl; state = refl; live = live })
+pub Takes-none : (p : Parsing) → Takes p p []
+Takes-none p = record { places = []; parts = refl; kinds_are = refl; state = refl }
 
 -- these tokens come next
 pub record At (p : Parsing) (ts : List Lexeme) : Type 0 where
@@ -43,23 +41,26 @@ pub bind_some : {A B : Type 0} (o : Option A) (f : A → Option B) (y : B) → (
 bind_some (Some x) f y e = (x, refl, e)
 bind_some None f y e = absurd cc
 
+-- what holds of the value that was computed holds of the one that it is
+pub moved : {Y : Type 0} (P : Y → Type 0) (x y : Y) → Some x ≡ Some y → P x → P y
+moved P x y e h = subst P (some_is e) h
+
 -- ---- a token is taken
 
-take_in_some : (failed : Option Cause) (ts : List (ℕ × Lexeme)) (p : Parsing) (t : Lexeme) (rest : List (ℕ × Lexeme)) → take_in failed ts ≡ Some (t, rest) → (failed ≡ None) × (o : ℕ) × (ts ≡ (o, t) ∷ rest)
-take_in_some (Some c) ts p t rest e = absurd cc
-take_in_some None [] p t rest e = absurd cc
-take_in_some None (u ∷ ts) p t rest e =
+take_in_some : (failed : Option Cause) (ts : List (ℕ × Lexeme)) (t : Lexeme) (rest : List (ℕ × Lexeme)) → take_in failed ts ≡ Some (t, rest) → (o : ℕ) × (ts ≡ (o, t) ∷ rest)
+take_in_some (Some c) ts t rest e = absurd cc
+take_in_some None [] t rest e = absurd cc
+take_in_some None (u ∷ ts) t rest e =
     let same : ◌≡◌ {A = Lexeme × List (ℕ × Lexeme)} (u.1, ts) (t, rest) = some_is e in
-    (refl, u.0, ap (λ (x : Lexeme × List (ℕ × Lexeme)). (u.0, x.0) ∷ x.1) same)
+    (u.0, ap (λ (x : Lexeme × List (ℕ × Lexeme)). (u.0, x.0) ∷ x.1) same)
 
 pub took_one : (p q : Parsing) (t : Lexeme) → take_at p ≡ Some (t, q) → Takes p q (t ∷ [])
 unfolding take_at
 took_one p q t e =
     let b = bind_some (take_in p.failed p.tokens) (λ x. Some (x.0, record p { tokens = x.1 })) (t, q) e in
-    let same : ◌≡◌ {A = Lexeme × Parsing} (b.0.0, record p { tokens = b.0.1 }) (t, q) = some_is b.2 in
-    let k = take_in_some p.failed p.tokens p b.0.0 b.0.1 b.1 in
-    let whole : Takes p (record p { tokens = b.0.1 }) (b.0.0 ∷ []) = record { places = (k.1, b.0.0) ∷ []; parts = k.2; kinds_are = refl; state = refl; live = k.0 } in
-    subst (λ (x : Lexeme × Parsing). Takes p x.1 (x.0 ∷ [])) same whole
+    let k = take_in_some p.failed p.tokens b.0.0 b.0.1 b.1 in
+    let whole : Takes p (record p { tokens = b.0.1 }) (b.0.0 ∷ []) = record { places = (k.0, b.0.0) ∷ []; parts = k.1; kinds_are = refl; state = refl } in
+    moved (λ (x : Lexeme × Parsing). Takes p x.1 (x.0 ∷ [])) (b.0.0, record p { tokens = b.0.1 }) (t, q) b.2 whole
 
 take_in_is : (failed : Option Cause) (ts : List (ℕ × Lexeme)) (t : Lexeme) (rest : List Lexeme) → failed ≡ None → kinds ts ≡ t ∷ rest → (more : List (ℕ × Lexeme)) × (take_in failed ts ≡ Some (t, more)) × (kinds more ≡ rest)
 take_in_is (Some c) ts t rest live e = absurd cc
@@ -80,8 +81,7 @@ module _ {A : Type 0} (meaning : Lexeme → Option A) where
   accepted p q a e =
       let b = bind_some (take_at p) (λ x. meaning x.0 >>= λ y. Some (y, x.1)) (a, q) e in
       let d = bind_some (meaning b.0.0) (λ y. Some (y, b.0.1)) (a, q) b.2 in
-      let same : ◌≡◌ {A = A × Parsing} (d.0, b.0.1) (a, q) = some_is d.2 in
-      subst (λ (x : A × Parsing). (t : Lexeme) × Takes p x.1 (t ∷ []) × (meaning t ≡ Some x.0)) same (b.0.0, took_one p b.0.1 b.0.0 b.1, d.1)
+      moved (λ (x : A × Parsing). (t : Lexeme) × Takes p x.1 (t ∷ []) × (meaning t ≡ Some x.0)) (d.0, b.0.1) (a, q) d.2 (b.0.0, took_one p b.0.1 b.0.0 b.1, d.1)
 
   pub accepts : (p : Parsing) (t : Lexeme) (a : A) (rest : List Lexeme) → At p (t ∷ rest) → meaning t ≡ Some a → (q : Parsing) × (accept meaning p ≡ Some (a, q)) × At q rest × (q ≡ record p { tokens = q.tokens })
   unfolding accept

@@ -7,6 +7,11 @@ use Rattle.souper_ir.specs.Grammar.{Free, Stops, Starts, Members, LastGoesOn, Li
 
 -- ---- what comes next
 
+-- nothing continues
+pub never : (ts : List Lexeme) → Free (λ t. ⊥) ts
+never [] = tt
+never (t ∷ ts) = λ h. h
+
 pub Free-weaker : (P Q : Lexeme → Type 0) (ts : List Lexeme) → ((t : Lexeme) → Q t → P t) → Free P ts → Free Q ts
 Free-weaker P Q [] f h = tt
 Free-weaker P Q (t ∷ ts) f h = λ q. h (f t q)

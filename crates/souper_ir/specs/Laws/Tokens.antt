@@ -1,0 +1,52 @@
+-- Lemmas. What a single token means, and the tokens that mean it.
+use Rattle.std.proofs.Common.{◌≡◌, ℕ, Bool, true, false, List, Option, Some, None, refl, ap}
+use Rattle.std.specs.Prelude.{is_some, if◌then◌else◌}
+use Rattle.std.proofs.lemmas.Slice.Eq.{bytes_eq-Decides}
+use Rattle.souper_graph.specs.Syntax.Tokens.{Lexeme, ident, val_name, int, comma, colon, equals, open_paren, close_paren, open_bracket}
+use Rattle.souper_ir.specs.NodeReadings.{name_of, mark_of, is_mark, is_word, word_of, int_by, ident_by}
+use Rattle.souper_ir.specs.Laws.Peeks.{some_is}
+
+pub name_means : (t : Lexeme) (n : List ℕ) → name_of t ≡ Some n → t ≡ val_name n
+name_means (val_name m) n e = ap val_name (some_is e)
+name_means _ n e = absurd cc
+
+pub mark_means : (m t : Lexeme) → mark_of m t ≡ Some tt → t ≡ m
+mark_means comma comma e = refl
+mark_means colon colon e = refl
+mark_means equals equals e = refl
+mark_means open_paren open_paren e = refl
+mark_means close_paren close_paren e = refl
+mark_means open_bracket open_bracket e = refl
+mark_means _ _ e = absurd cc
+
+some_unit : (o : Option (Unit {0})) → is_some o ≡ true → o ≡ Some tt
+some_unit (Some u) e = refl
+some_unit None e = absurd cc
+
+pub is_mark_means : (m t : Lexeme) → is_mark m t ≡ true → t ≡ m
+is_mark_means m t e = mark_means m t (some_unit (mark_of m t) e)
+
+pub is_word_means : (k : List ℕ) (t : Lexeme) → is_word k t ≡ true → t ≡ ident k
+is_word_means k (ident w) e = ap ident ((bytes_eq-Decides w k).0 e)
+is_word_means k _ e = absurd cc
+
+if_some : (b : Bool) → ◌≡◌ {A = Option (Unit {0})} (if b then Some tt else None) (Some tt) → b ≡ true
+if_some true e = refl
+if_some false e = absurd cc
+
+pub word_means : (k : List ℕ) (t : Lexeme) → word_of k t ≡ Some tt → t ≡ ident k
+word_means k t e = is_word_means k t (if_some (is_word k t) e)
+
+pub word_is : (k : List ℕ) → is_word k (ident k) ≡ true
+word_is k = (bytes_eq-Decides k k).1 refl
+
+pub word_of_is : (k : List ℕ) → word_of k (ident k) ≡ Some tt
+word_of_is k = rw (word_is k) refl
+
+pub int_means : {A : Type 0} (f : List ℕ → Option A) (t : Lexeme) (a : A) → int_by f t ≡ Some a → (w : List ℕ) × (t ≡ int w) × (f w ≡ Some a)
+int_means f (int w) a e = (w, refl, e)
+int_means f _ a e = absurd cc
+
+pub ident_means : {A : Type 0} (f : List ℕ → Option A) (t : Lexeme) (a : A) → ident_by f t ≡ Some a → (w : List ℕ) × (t ≡ ident w) × (f w ≡ Some a)
+ident_means f (ident w) a e = (w, refl, e)
+ident_means f _ a e = absurd cc
