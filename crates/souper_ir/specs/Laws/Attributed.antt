@@ -1,13 +1,13 @@
 -- Lemmas. A node with attributes after it: which tokens are its two parts, and what parsing one and then the other
 -- returns.
-use Rattle.std.proofs.Common.{◌≡◌, true, List, [], ◌∷◌, ◌++◌, refl, sym, subst, ◌⊎◌, inl, inr}
+use Rattle.std.proofs.Common.{◌≡◌, List, [], ◌∷◌, ◌++◌, sym, subst, ◌⊎◌, inl, inr}
 use Rattle.souper_ir.specs.declared.parse.error.ParseError.{ParseError}
 use Rattle.souper_ir.specs.Parsing.{Parsing}
 use Rattle.souper_graph.specs.Syntax.Tokens.{Lexeme, open_paren}
 use Rattle.souper_graph.specs.Syntax.Spelling.{Scope}
 use Rattle.souper_ir.specs.Continuation.{attributes_continue}
 use Rattle.souper_ir.specs.Grammar.{Free, Starts, Members, ListGoesOn, Took, Refusal}
-use Rattle.souper_ir.specs.Laws.Unique.{list_alone}
+use Rattle.souper_ir.specs.Laws.Unique.{Alone, list_alone}
 use Rattle.souper_ir.specs.NodeReadings.{is_mark}
 use Rattle.souper_ir.specs.Laws.Tokens.{is_mark_means}
 use Rattle.souper_ir.specs.Laws.Attributes.{one_more, more_if_open}
@@ -54,13 +54,13 @@ module _ {X : Type 0} (spells : X → List Lexeme → Type 0) (first : (x : X) (
 -- what is known of a node C that is a node A with attributes X after it
 pub record Laws {A X C : Type 0} (spells_a : Scope → A → List Lexeme → Type 0) (goes_on_a : A → Lexeme → Type 0) (spells_x : X → List Lexeme → Type 0) (a_of : C → A) (xs_of : C → List X)
     (spells_c : Scope → C → List Lexeme → Type 0) (goes_on_c : C → Lexeme → Type 0) : Type 0 where
-  pub alone : (s : Scope) (v w : C) (a b c d : List Lexeme) → a ++ c ≡ b ++ d → spells_c s v a → spells_c s w b → Free (goes_on_c v) c → Free (goes_on_c w) d → (a ≡ b) × (v ≡ w)
+  pub alone : Alone spells_c goes_on_c
   pub taken : (c : C) (p q r : Parsing) → Took spells_a goes_on_a (λ s. s) (a_of c) p q → Took (Row spells_x) OneMore (λ s. s) (xs_of c) q r → Took spells_c goes_on_c (λ s. s) c p r
   pub refused_before : (e : ParseError) (p q : Parsing) → Refusal spells_a goes_on_a e p q → Refusal spells_c goes_on_c e p q
   pub refused_behind : (a : A) (e : ParseError) (p q r : Parsing) → Took spells_a goes_on_a (λ s. s) a p q → Refusal (Row spells_x) OneMore e q r → Refusal spells_c goes_on_c e p r
 
 module _ {A X C : Type 0} (spells_a : Scope → A → List Lexeme → Type 0) (goes_on_a : A → Lexeme → Type 0) (spells_x : X → List Lexeme → Type 0) (a_of : C → A) (xs_of : C → List X)
-    (alone_a : (s : Scope) (v w : A) (a b c d : List Lexeme) → a ++ c ≡ b ++ d → spells_a s v a → spells_a s w b → Free (goes_on_a v) c → Free (goes_on_a w) d → (a ≡ b) × (v ≡ w))
+    (alone_a : Alone spells_a goes_on_a)
     (alone_x : (v w : X) (a b c d : List Lexeme) → a ++ c ≡ b ++ d → spells_x v a → spells_x w b → Free (λ t. ⊥) c → Free (λ t. ⊥) d → (a ≡ b) × (v ≡ w))
     (first_x : (x : X) (ts : List Lexeme) → spells_x x ts → Starts (is_mark open_paren) ts) where
   abbrev Continues : C → Lexeme → Type 0

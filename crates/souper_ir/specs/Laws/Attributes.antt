@@ -1,20 +1,20 @@
 -- Lemmas. The rules of attributes: what is read is spelled so, and what is spelled so is read.
 use Rattle.std.proofs.Common.{◌≡◌, ℕ, ◌^◌, ◌<◌, ◌==◌, Bool, true, false, List, [], ◌∷◌, ◌++◌, map, length, Option, Some, None, refl, sym, ◌∙◌, ap, subst, inl, inr, arith, eqb-true}
-use Rattle.std.specs.Prelude.{ℤ, codes, bytes_eq, if◌then◌else◌}
+use Rattle.std.specs.Prelude.{codes, bytes_eq, if◌then◌else◌}
 use Rattle.std.proofs.lemmas.Slice.Eq.{bytes_eq-Decides}
 use Rattle.souper_graph.specs.Leaves.{text_of_known_bit, text_of_bit}
 use Rattle.souper_graph.specs.Values.{PlainAttribute, known_bits as known_bits_attribute, power_of_two, negative, non_negative, non_zero, has_external_uses, sign_bits, range, PlainRootAttribute, demanded_bits, harvested_from_use}
 use Rattle.souper_graph.specs.Syntax.Tokens.{Lexeme, ident, known_bits, int, comma, equals, open_paren, close_paren, open_bracket}
 use Rattle.souper_graph.specs.Syntax.Numbers.{number_of, count_of, bit_of, known_bit_of, all_of, listed, bits_of, known_bits_of}
-use Rattle.souper_graph.specs.Syntax.Spelling.{Scope, Joined, word_attribute, attribute_spells, root_attribute_spells, attributes_spell, root_attributes_spell}
+use Rattle.souper_graph.specs.Syntax.Spelling.{Scope, Joined, attribute_spells, root_attribute_spells, attributes_spell, root_attributes_spell}
 use Rattle.souper_graph.specs.Syntax.Optional.{◌>>=◌}
-use Rattle.souper_ir.specs.Grammar.{Free, Stops, Starts, Followed, Members, LastGoesOn, ListGoesOn}
+use Rattle.souper_ir.specs.Grammar.{Free, Starts, Followed, Members, LastGoesOn, ListGoesOn}
 use Rattle.souper_ir.specs.NodeReadings.{accept, mark_of, is_mark, ident_by, AttributeKind, plain_kind, bits_kind, sign_bits_kind, range_kind, attribute_kind_of_word, attribute_kind_of, attribute_by, attribute_at, root_kind_of_word, root_attribute_by, root_attribute_at}
 use Rattle.souper_ir.specs.Laws.Unique.{never}
 use Rattle.souper_ir.specs.Laws.Peeks.{some_is}
 use Rattle.souper_ir.specs.Laws.Steps.{bind_some}
 use Rattle.souper_ir.specs.Laws.Tokens.{is_mark_means, ident_means}
-use Rattle.souper_ir.specs.Laws.Combinators.{Ends, Form, Reading, Rule, Node, From, respelled, and_then, Done, done, Given, given, one, mark, After, after, Token, number}
+use Rattle.souper_ir.specs.Laws.Combinators.{Ends, Form, Reading, Rule, Ruled, ruled, Node, From, respelled, both, and_then, done, found, given, one, mark, next, after, next_word, number}
 use Rattle.souper_ir.specs.Laws.FromReadings.{Complete}
 
 -- ---- bit lists
@@ -156,36 +156,19 @@ enclosed {G = G} kind_of n = respelled (after (mark open_paren refl) (and_then (
         })
     (λ faulty s v ts rest h.
         let tail : List Lexeme = h.body ++ close_paren ∷ [] in
-        record {
-          more = h.token ∷ tail;
-          whole = h.whole;
-          after = record {
-            value = h.kind;
-            prefix = h.token ∷ [];
-            suffix = tail;
-            whole = refl;
-            first = (h.token, refl, h.is);
-            second = record { value = v; prefix = h.body; suffix = close_paren ∷ []; whole = refl; first = h.inner; second = record { more = []; whole = refl; after = (refl, refl) } };
-          };
-        })
+        rw h.whole (next (both h.kind (h.token ∷ []) tail (h.token, refl, h.is) (both v h.body (close_paren ∷ []) h.inner (next (refl, refl))))))
 
 -- ---- attributes
 
 -- what is behind the token that begins an attribute
-abbrev AttributeBy : AttributeKind → Form PlainAttribute
-AttributeBy (plain_kind a) = Done a
-AttributeBy (bits_kind t) = Given (λ s. known_bits_of t) (λ bits. Done (known_bits_attribute bits))
-AttributeBy sign_bits_kind = After equals (Token int (count_of (2 ^ 8)) (λ n. Done (sign_bits n)))
-AttributeBy range_kind = After equals (After open_bracket (Token int number_of (λ low. After comma (Token int number_of (λ high. After close_paren (Done (range low high)))))))
-
-attribute_by_rule : (k : AttributeKind) → Rule (AttributeBy k) (attribute_by k)
-attribute_by_rule (plain_kind a) = done a
-attribute_by_rule (bits_kind t) = given (λ s. known_bits_of t) (λ bits. done (known_bits_attribute bits))
-attribute_by_rule sign_bits_kind = after (mark equals refl) (number (count_of (2 ^ 8)) (λ n. done (sign_bits n)))
+abbrev attribute_by_rule : (k : AttributeKind) → Ruled (attribute_by k)
+attribute_by_rule (plain_kind a) = ruled (done a)
+attribute_by_rule (bits_kind t) = ruled (given (λ s. known_bits_of t) (λ bits. done (known_bits_attribute bits)))
+attribute_by_rule sign_bits_kind = ruled (after (mark equals refl) (number (count_of (2 ^ 8)) (λ n. done (sign_bits n))))
 attribute_by_rule range_kind =
-    after (mark equals refl) (after (mark open_bracket refl) (number number_of (λ low. after (mark comma refl) (number number_of (λ high. after (mark close_paren refl) (done (range low high)))))))
+    ruled (after (mark equals refl) (after (mark open_bracket refl) (number number_of (λ low. after (mark comma refl) (number number_of (λ high. after (mark close_paren refl) (done (range low high))))))))
 
-attribute_is : (k : AttributeKind) (t : Lexeme) (s : Scope) (a : PlainAttribute) (ts rest : List Lexeme) → KindIs k t → AttributeBy k Free s a ts rest → attribute_spells a (open_paren ∷ t ∷ (ts ++ close_paren ∷ []))
+attribute_is : (k : AttributeKind) (t : Lexeme) (s : Scope) (a : PlainAttribute) (ts rest : List Lexeme) → KindIs k t → (attribute_by_rule k).form Free s a ts rest → attribute_spells a (open_paren ∷ t ∷ (ts ++ close_paren ∷ []))
 attribute_is (plain_kind b) t s a ts rest is h = rw (h.0, h.1) is
 attribute_is (bits_kind w) t s a ts rest is h =
     let m = known_bits_means w h.value h.is in
@@ -201,58 +184,28 @@ attribute_is range_kind t s a ts rest is h =
     let k = high.after in
     rw k.after.0 (record { low_word = low.word; high_word = high.word; whole = rw (is, h.whole, o.whole, low.whole, c.whole, high.whole, k.whole, k.after.1) refl; low_is = low.means; high_is = high.means })
 
-attribute_from : From (Node (λ s. attribute_spells) (λ a t. ⊥)) (Enclosed attribute_kind_of AttributeBy)
-attribute_from faulty s power_of_two ts rest h = record { token = ident (codes "powerOfTwo"); kind = plain_kind power_of_two; body = []; whole = h.0; is = refl; inner = (refl, refl) }
-attribute_from faulty s negative ts rest h = record { token = ident (codes "negative"); kind = plain_kind negative; body = []; whole = h.0; is = refl; inner = (refl, refl) }
-attribute_from faulty s non_negative ts rest h = record { token = ident (codes "nonNegative"); kind = plain_kind non_negative; body = []; whole = h.0; is = refl; inner = (refl, refl) }
-attribute_from faulty s non_zero ts rest h = record { token = ident (codes "nonZero"); kind = plain_kind non_zero; body = []; whole = h.0; is = refl; inner = (refl, refl) }
-attribute_from faulty s has_external_uses ts rest h = record { token = ident (codes "hasExternalUses"); kind = plain_kind has_external_uses; body = []; whole = h.0; is = refl; inner = (refl, refl) }
+-- what a token of this kind begins
+opened : {K V : Type 0} {kind_of : Lexeme → Option K} {G : K → Form V} {ends : Ends} {s : Scope} {v : V} {rest : List Lexeme} (t : Lexeme) (k : K) (ts : List Lexeme) → kind_of t ≡ Some k → G k ends s v ts (close_paren ∷ rest) → Enclosed kind_of G ends s v (open_paren ∷ t ∷ (ts ++ close_paren ∷ [])) rest
+opened t k ts e h = record { token = t; kind = k; body = ts; whole = refl; is = e; inner = h }
+
+attribute_from : From (Node (λ s. attribute_spells) (λ a t. ⊥)) (Enclosed attribute_kind_of (λ k. (attribute_by_rule k).form))
+attribute_from faulty s power_of_two ts rest h = rw h.0 (opened (ident (codes "powerOfTwo")) (plain_kind power_of_two) [] refl (refl, refl))
+attribute_from faulty s negative ts rest h = rw h.0 (opened (ident (codes "negative")) (plain_kind negative) [] refl (refl, refl))
+attribute_from faulty s non_negative ts rest h = rw h.0 (opened (ident (codes "nonNegative")) (plain_kind non_negative) [] refl (refl, refl))
+attribute_from faulty s non_zero ts rest h = rw h.0 (opened (ident (codes "nonZero")) (plain_kind non_zero) [] refl (refl, refl))
+attribute_from faulty s has_external_uses ts rest h = rw h.0 (opened (ident (codes "hasExternalUses")) (plain_kind has_external_uses) [] refl (refl, refl))
 attribute_from faulty s (known_bits_attribute bits) ts rest h =
-    let t = map text_of_known_bit bits in
-    record { token = known_bits t; kind = bits_kind t; body = []; whole = h.0.0; is = refl; inner = record { value = bits; is = known_bits_is bits h.0.1; after = (refl, refl) } }
-attribute_from faulty s (sign_bits n) ts rest h = record {
-  token = ident (codes "signBits");
-  kind = sign_bits_kind;
-  body = equals ∷ int h.0.0 ∷ [];
-  whole = h.0.1;
-  is = refl;
-  inner = record { more = int h.0.0 ∷ []; whole = refl; after = record { word = h.0.0; value = n; more = []; whole = refl; means = h.0.2; after = (refl, refl) } };
-}
+    let w : List ℕ = map text_of_known_bit bits in
+    rw h.0.0 (opened (known_bits w) (bits_kind w) [] refl (found (known_bits_is bits h.0.1) (refl, refl)))
+attribute_from faulty s (sign_bits n) ts rest h = rw h.0.1 (opened (ident (codes "signBits")) sign_bits_kind (equals ∷ int h.0.0 ∷ []) refl (next (next_word h.0.0 h.0.2 (refl, refl))))
 attribute_from faulty s (range low high) ts rest h =
     let k = h.0 in
-    let end : List Lexeme = int k.high_word ∷ close_paren ∷ [] in
-    let start : List Lexeme = int k.low_word ∷ comma ∷ end in
-    record {
-      token = ident (codes "range");
-      kind = range_kind;
-      body = equals ∷ open_bracket ∷ start;
-      whole = k.whole;
-      is = refl;
-      inner = record {
-        more = open_bracket ∷ start;
-        whole = refl;
-        after = record {
-          more = start;
-          whole = refl;
-          after = record {
-            word = k.low_word;
-            value = low;
-            more = comma ∷ end;
-            whole = refl;
-            means = k.low_is;
-            after = record {
-              more = end;
-              whole = refl;
-              after = record { word = k.high_word; value = high; more = close_paren ∷ []; whole = refl; means = k.high_is; after = record { more = []; whole = refl; after = (refl, refl) } };
-            };
-          };
-        };
-      };
-    }
+    rw k.whole (opened (ident (codes "range")) range_kind (equals ∷ open_bracket ∷ int k.low_word ∷ comma ∷ int k.high_word ∷ close_paren ∷ []) refl
+    (next (next (next_word k.low_word k.low_is (next (next_word k.high_word k.high_is (next (refl, refl))))))))
 
 pub attribute_rule : Rule (Node (λ s. attribute_spells) (λ a t. ⊥)) attribute_at
 unfolding attribute_at
-attribute_rule = respelled (enclosed attribute_kind_of attribute_by_rule)
+attribute_rule = respelled (enclosed attribute_kind_of (λ k. (attribute_by_rule k).rule))
     (λ s a ts rest h. (subst (attribute_spells a) (sym h.whole) (attribute_is h.kind h.token s a h.body (close_paren ∷ rest) (kind_means h.token h.kind h.is) h.inner), never rest))
     attribute_from
 
@@ -287,37 +240,26 @@ root_kind_means t k e =
     subst (λ (x : Lexeme). RootKindIs k x) (sym w.1) (root_word_means w.0 k w.2)
 
 -- what is behind the word of a root attribute
-abbrev RootAttributeBy : Bool → Form PlainRootAttribute
-RootAttributeBy false = Done harvested_from_use
-RootAttributeBy true = After equals (Token int bits_of (λ bits. Done (demanded_bits bits)))
+abbrev root_attribute_by_rule : (k : Bool) → Ruled (root_attribute_by k)
+root_attribute_by_rule false = ruled (done harvested_from_use)
+root_attribute_by_rule true = ruled (after (mark equals refl) (number bits_of (λ bits. done (demanded_bits bits))))
 
-root_attribute_by_rule : (k : Bool) → Rule (RootAttributeBy k) (root_attribute_by k)
-root_attribute_by_rule false = done harvested_from_use
-root_attribute_by_rule true = after (mark equals refl) (number bits_of (λ bits. done (demanded_bits bits)))
-
-root_attribute_is : (k : Bool) (t : Lexeme) (s : Scope) (a : PlainRootAttribute) (ts rest : List Lexeme) → RootKindIs k t → RootAttributeBy k Free s a ts rest → root_attribute_spells a (open_paren ∷ t ∷ (ts ++ close_paren ∷ []))
+root_attribute_is : (k : Bool) (t : Lexeme) (s : Scope) (a : PlainRootAttribute) (ts rest : List Lexeme) → RootKindIs k t → (root_attribute_by_rule k).form Free s a ts rest → root_attribute_spells a (open_paren ∷ t ∷ (ts ++ close_paren ∷ []))
 root_attribute_is false t s a ts rest is h = rw (h.0, h.1, is) refl
 root_attribute_is true t s a ts rest is h =
     let n = h.after in
     let m = bits_means n.word n.value n.means in
     rw n.after.0 (rw (is, h.whole, n.whole, n.after.1, m.0) refl, m.1)
 
-root_attribute_from : From (Node (λ s. root_attribute_spells) (λ a t. ⊥)) (Enclosed (ident_by root_kind_of_word) RootAttributeBy)
-root_attribute_from faulty s harvested_from_use ts rest h = record { token = ident (codes "harvestedFromUse"); kind = false; body = []; whole = h.0; is = refl; inner = (refl, refl) }
+root_attribute_from : From (Node (λ s. root_attribute_spells) (λ a t. ⊥)) (Enclosed (ident_by root_kind_of_word) (λ k. (root_attribute_by_rule k).form))
+root_attribute_from faulty s harvested_from_use ts rest h = rw h.0 (opened (ident (codes "harvestedFromUse")) false [] refl (refl, refl))
 root_attribute_from faulty s (demanded_bits bits) ts rest h =
-    let t : List Lexeme = int (map text_of_bit bits) ∷ [] in
-    record {
-      token = ident (codes "demandedBits");
-      kind = true;
-      body = equals ∷ t;
-      whole = h.0.0;
-      is = refl;
-      inner = record { more = t; whole = refl; after = record { word = map text_of_bit bits; value = bits; more = []; whole = refl; means = bits_is bits h.0.1; after = (refl, refl) } };
-    }
+    let w : List ℕ = map text_of_bit bits in
+    rw h.0.0 (opened (ident (codes "demandedBits")) true (equals ∷ int w ∷ []) refl (next (next_word w (bits_is bits h.0.1) (refl, refl))))
 
 pub root_attribute_rule : Rule (Node (λ s. root_attribute_spells) (λ a t. ⊥)) root_attribute_at
 unfolding root_attribute_at
-root_attribute_rule = respelled (enclosed (ident_by root_kind_of_word) root_attribute_by_rule)
+root_attribute_rule = respelled (enclosed (ident_by root_kind_of_word) (λ k. (root_attribute_by_rule k).rule))
     (λ s a ts rest h. (subst (root_attribute_spells a) (sym h.whole) (root_attribute_is h.kind h.token s a h.body (close_paren ∷ rest) (root_kind_means h.token h.kind h.is) h.inner), never rest))
     root_attribute_from
 

@@ -4,12 +4,13 @@ use Rattle.std.proofs.lemmas.List.{append-nil}
 use Rattle.souper_graph.specs.Syntax.Optional.{◌>>=◌}
 use Rattle.souper_graph.specs.Syntax.Tokens.{Lexeme, ident, val_name, int}
 use Rattle.souper_graph.specs.Syntax.Spelling.{kinds, Scope}
-use Rattle.souper_ir.specs.Parsing.{Parsing}
+use Rattle.souper_ir.specs.Parsing.{Cause, Parsing}
+use Rattle.souper_ir.specs.Reading.{take_in, take_at}
 use Rattle.souper_ir.specs.Grammar.{Free, Stops, Starts, peek_at}
 use Rattle.souper_ir.specs.NodeReadings.{accept, name_of, mark_of, word_of, int_by, ident_by}
 use Rattle.souper_ir.specs.Laws.Unique.{Free-from_Stops}
-use Rattle.souper_ir.specs.Laws.Peeks.{some_is, Answers, peeked, peeked_yes, peeked_no}
-use Rattle.souper_ir.specs.Laws.Steps.{Takes, Takes-then, Takes-none, At, kinds-append, bind_some, accepted, accepts, peeks, peeks_end}
+use Rattle.souper_ir.specs.Laws.Peeks.{some_is, Answers, peeked, answered, peeked_yes, peeked_no}
+use Rattle.souper_ir.specs.Laws.Steps.{Takes, Takes-then, Takes-none, taken_ahead, At, bind_some, moved}
 use Rattle.souper_ir.specs.Laws.Tokens.{name_means, mark_means, word_means, word_of_is, int_means, ident_means}
 
 -- ---- rules
@@ -36,6 +37,14 @@ pub record Reads {V : Type 0} (read : Reading V) (v : V) (p : Parsing) (rest : L
 pub record Rule {V : Type 0} (form : Form V) (read : Reading V) : Type 0 where
   pub sound : (p q : Parsing) (v : V) → p.failed ≡ None → read p ≡ Some (v, q) → (used : List Lexeme) × Takes p q used × form Free p.scope v used (kinds q.tokens)
   pub complete : (p : Parsing) (v : V) (front rest : List Lexeme) → At p (front ++ rest) → form (λ goes_on. Stops goes_on p.faulty) p.scope v front rest → Reads read v p rest
+
+-- a reading with its form and rule
+pub record Ruled {V : Type 0} (read : Reading V) : Type 1 where
+  pub form : Form V
+  pub rule : Rule form read
+
+abbrev pub ruled : {V : Type 0} {F : Form V} {r : Reading V} → Rule F r → Ruled r
+ruled {F = F} m = record { form = F; rule = m }
 
 -- the tokens spell the value, and those behind do not continue it
 abbrev pub Node : {V : Type 0} → (Scope → V → List Lexeme → Type 0) → (V → Lexeme → Type 0) → Form V
@@ -67,8 +76,8 @@ pub record Then {A B : Type 0} (F : Form A) (G : A → Form B) (ends : Ends) (s 
   pub first : F ends s value prefix (suffix ++ rest)
   pub second : G value ends s v suffix rest
 
-taken_ahead : (p q : Parsing) (used : List Lexeme) → Takes p q used → kinds p.tokens ≡ used ++ kinds q.tokens
-taken_ahead p q used h = ap kinds h.parts ∙ kinds-append h.places q.tokens ∙ ap (λ (x : List Lexeme). x ++ kinds q.tokens) h.kinds_are
+pub both : {A B : Type 0} {F : Form A} {G : A → Form B} {ends : Ends} {s : Scope} {v : B} {rest : List Lexeme} (a : A) (x y : List Lexeme) → F ends s a x (y ++ rest) → G a ends s v y rest → Then F G ends s v (x ++ y) rest
+both a x y f g = record { value = a; prefix = x; suffix = y; whole = refl; first = f; second = g }
 
 pub and_then : {A B : Type 0} {F : Form A} {G : A → Form B} {r : Reading A} {f : A → Reading B} → Rule F r → ((a : A) → Rule (G a) (f a)) → Rule (Then F G) (λ p. r p >>= λ x. f x.0 x.1)
 and_then {F = F} {G = G} {r = r} {f = f} m n = record {
@@ -99,7 +108,7 @@ Done w = λ ends s v ts rest. (v ≡ w) × (ts ≡ [])
 
 pub done : {V : Type 0} (w : V) → Rule (Done w) (λ p. Some (w, p))
 done {V} w = record {
-  sound = λ p q v live e. subst (λ (x : V × Parsing). (used : List Lexeme) × Takes p x.1 used × ((x.0 ≡ w) × (used ≡ []))) (some_is e) ([], Takes-none p, (refl, refl));
+  sound = λ p q v live e. moved (λ (x : V × Parsing). (used : List Lexeme) × Takes p x.1 used × ((x.0 ≡ w) × (used ≡ []))) (w, p) (v, q) e ([], Takes-none p, (refl, refl));
   complete = λ p v front rest at h. record { next = p; is_read = ap (λ (x : V). Some (x, p)) (sym h.0); ahead = subst (λ (x : List Lexeme). At p (x ++ rest)) h.1 at; state = refl };
 }
 
@@ -112,6 +121,9 @@ pub record Given {A B : Type 0} (o : Scope → Option A) (G : A → Form B) (end
   pub value : A
   pub is : o s ≡ Some value
   pub after : G value ends s v ts rest
+
+pub found : {A B : Type 0} {o : Scope → Option A} {G : A → Form B} {ends : Ends} {s : Scope} {a : A} {v : B} {ts rest : List Lexeme} → o s ≡ Some a → G a ends s v ts rest → Given o G ends s v ts rest
+found {a = a} e h = record { value = a; is = e; after = h }
 
 pub given : {A B : Type 0} {G : A → Form B} {f : A → Reading B} (o : Scope → Option A) → ((a : A) → Rule (G a) (f a)) → Rule (Given o G) (λ p. o p.scope >>= λ x. f x p)
 given {f = f} o n = record {
@@ -130,6 +142,9 @@ pub record Last {A B : Type 0} (F : Form A) (g : A → B) (ends : Ends) (s : Sco
   pub is : v ≡ g value
   pub last : F ends s value ts rest
 
+pub made : {A B : Type 0} {F : Form A} {g : A → B} {ends : Ends} {s : Scope} {ts rest : List Lexeme} (a : A) → F ends s a ts rest → Last F g ends s (g a) ts rest
+made a h = record { value = a; is = refl; last = h }
+
 pub last : {A B : Type 0} {F : Form A} {r : Reading A} → Rule F r → (g : A → B) → Rule (Last F g) (λ p. r p >>= λ x. Some (g x.0, x.1))
 last {F = F} m g = respelled (and_then m (λ a. done (g a)))
     (λ s v ts rest h. record {
@@ -142,17 +157,42 @@ last {F = F} m g = respelled (and_then m (λ a. done (g a)))
 
 -- ---- tokens
 
+take_some : (failed : Option Cause) (ts : List (ℕ × Lexeme)) (t : Lexeme) (rest : List (ℕ × Lexeme)) → take_in failed ts ≡ Some (t, rest) → (o : ℕ) × (ts ≡ (o, t) ∷ rest)
+take_some (Some c) ts t rest e = absurd cc
+take_some None [] t rest e = absurd cc
+take_some None (u ∷ ts) t rest e =
+    let same : ◌≡◌ {A = Lexeme × List (ℕ × Lexeme)} (u.1, ts) (t, rest) = some_is e in
+    (u.0, ap (λ (x : Lexeme × List (ℕ × Lexeme)). (u.0, x.0) ∷ x.1) same)
+
+take_is : (failed : Option Cause) (ts : List (ℕ × Lexeme)) (t : Lexeme) (rest : List Lexeme) → failed ≡ None → kinds ts ≡ t ∷ rest → (more : List (ℕ × Lexeme)) × (take_in failed ts ≡ Some (t, more)) × (kinds more ≡ rest)
+take_is (Some c) ts t rest live e = absurd cc
+take_is None [] t rest live e = absurd cc
+take_is None (u ∷ ts) t rest live e =
+    let same : u.1 ≡ t = cc in
+    (ts, ap (λ (x : Lexeme). Some (x, ts)) same, cc)
+
+take : Rule (λ ends s t ts rest. ts ≡ t ∷ []) take_at
+unfolding take_at
+take = record {
+  sound = λ p q t live e.
+      let b = bind_some (take_in p.failed p.tokens) (λ x. Some (x.0, record p { tokens = x.1 })) (t, q) e in
+      let k = take_some p.failed p.tokens b.0.0 b.0.1 b.1 in
+      moved (λ (x : Lexeme × Parsing). (used : List Lexeme) × Takes p x.1 used × (used ≡ x.0 ∷ [])) (b.0.0, record p { tokens = b.0.1 }) (t, q) b.2
+      (b.0.0 ∷ [], record { places = (k.0, b.0.0) ∷ []; parts = k.1; kinds_are = refl; state = refl }, refl);
+  complete = λ p t front rest at h.
+      let k = take_is p.failed p.tokens t rest at.live (at.kinds_are ∙ ap (λ (x : List Lexeme). x ++ rest) h) in
+      record { next = record p { tokens = k.0 }; is_read = rw k.1 refl; ahead = record { kinds_are = k.2; live = at.live }; state = refl };
+}
+
 -- one token, with this meaning
 abbrev pub One : {A : Type 0} → (Lexeme → Option A) → Form A
 One meaning = λ ends s a ts rest. (t : Lexeme) × (ts ≡ t ∷ []) × (meaning t ≡ Some a)
 
 pub one : {A : Type 0} (meaning : Lexeme → Option A) → Rule (One meaning) (accept meaning)
-one meaning = record {
-  sound = λ p q a live e. let k = accepted meaning p q a e in (k.0 ∷ [], k.1, (k.0, refl, k.2));
-  complete = λ p a front rest at h.
-      let k = accepts meaning p h.0 a rest (subst (λ (x : List Lexeme). At p (x ++ rest)) h.1 at) h.2 in
-      record { next = k.0; is_read = k.1; ahead = k.2; state = k.3 };
-}
+unfolding accept
+one meaning = respelled (and_then take (λ t. given (λ s. meaning t) (λ a. done a)))
+    (λ s a ts rest h. (h.value, h.whole ∙ ap (λ (x : List Lexeme). x ++ h.suffix) h.first ∙ ap (λ (x : List Lexeme). h.value ∷ x) h.second.after.1, h.second.is ∙ ap Some (sym h.second.after.0)))
+    (λ faulty s a ts rest h. record { value = h.0; prefix = h.0 ∷ []; suffix = []; whole = h.1; first = refl; second = record { value = a; is = h.2; after = (refl, refl) } })
 
 -- this token
 abbrev pub Just : Lexeme → Form (Unit {0})
@@ -170,6 +210,9 @@ pub record After {V : Type 0} (t : Lexeme) (F : Form V) (ends : Ends) (s : Scope
   pub whole : ts ≡ t ∷ more
   pub after : F ends s v more rest
 
+pub next : {V : Type 0} {t : Lexeme} {F : Form V} {ends : Ends} {s : Scope} {v : V} {more rest : List Lexeme} → F ends s v more rest → After t F ends s v (t ∷ more) rest
+next {more = more} h = record { more = more; whole = refl; after = h }
+
 pub after : {V : Type 0} {t : Lexeme} {F : Form V} {m : Reading (Unit {0})} {r : Reading V} → Rule (Just t) m → Rule F r → Rule (After t F) (λ p. m p >>= λ x. r x.1)
 after {t = t} m n = respelled (and_then m (λ u. n))
     (λ s v ts rest h. record { more = h.suffix; whole = h.whole ∙ ap (λ (x : List Lexeme). x ++ h.suffix) h.first; after = h.second })
@@ -183,6 +226,9 @@ pub record Token {A V : Type 0} (kind : List ℕ → Lexeme) (meaning : List ℕ
   pub whole : ts ≡ kind word ∷ more
   pub means : meaning word ≡ Some value
   pub after : G value ends s v more rest
+
+pub next_word : {A V : Type 0} {kind : List ℕ → Lexeme} {meaning : List ℕ → Option A} {G : A → Form V} {ends : Ends} {s : Scope} {a : A} {v : V} {more rest : List Lexeme} (w : List ℕ) → meaning w ≡ Some a → G a ends s v more rest → Token kind meaning G ends s v (kind w ∷ more) rest
+next_word {a = a} {more = more} w e h = record { word = w; value = a; more = more; whole = refl; means = e; after = h }
 
 token : {A V : Type 0} {G : A → Form V} {f : A → Reading V} (kind : List ℕ → Lexeme) (meaning : List ℕ → Option A) (accepts : Lexeme → Option A)
     → ((t : Lexeme) (a : A) → accepts t ≡ Some a → (w : List ℕ) × (t ≡ kind w) × (meaning w ≡ Some a)) → ((w : List ℕ) → accepts (kind w) ≡ meaning w)
@@ -205,6 +251,9 @@ pub record Named {V : Type 0} (G : List ℕ → Form V) (ends : Ends) (s : Scope
   pub more : List Lexeme
   pub whole : ts ≡ val_name name ∷ more
   pub after : G name ends s v more rest
+
+pub next_name : {V : Type 0} {G : List ℕ → Form V} {ends : Ends} {s : Scope} {v : V} {more rest : List Lexeme} (n : List ℕ) → G n ends s v more rest → Named G ends s v (val_name n ∷ more) rest
+next_name {more = more} n h = record { name = n; more = more; whole = refl; after = h }
 
 pub named : {V : Type 0} {G : List ℕ → Form V} {f : List ℕ → Reading V} → ((n : List ℕ) → Rule (G n) (f n)) → Rule (Named G) (λ p. accept name_of p >>= λ x. f x.0 x.1)
 named n = respelled (and_then (one name_of) n)
@@ -231,20 +280,21 @@ if_not : (b : Bool) → ¬ (b ≡ true) → b ≡ false
 if_not true h = absurd (h refl)
 if_not false h = refl
 
-peek_is : (starts : Lexeme → Bool) (p : Parsing) (b : Bool) (ts : List Lexeme) → At p ts → Seen (λ goes_on. Stops goes_on p.faulty) starts b ts → peek_at starts p ≡ Some (b, p)
-peek_is starts p true [] at h = absurd h
-peek_is starts p true (t ∷ ts) at h = peeks starts p t ts at ∙ ap (λ (x : Bool). Some (x, p)) h
-peek_is starts p false [] at h = peeks_end starts p at h
-peek_is starts p false (t ∷ ts) at h = peeks starts p t ts at ∙ ap (λ (x : Bool). Some (x, p)) (if_not (starts t) h)
+answers : (starts : Lexeme → Bool) (b faulty : Bool) (ts : List (ℕ × Lexeme)) → Seen (λ goes_on. Stops goes_on faulty) starts b (kinds ts) → Answers starts b faulty ts
+answers starts true faulty [] h = absurd h
+answers starts true faulty (t ∷ ts) h = h
+answers starts false faulty [] h = (refl, h)
+answers starts false faulty (t ∷ ts) h = if_not (starts t.1) h
 
-pub choice : {V : Type 0} {G : Bool → Form V} {f : Bool → Reading V} (starts : Lexeme → Bool) → ((b : Bool) → Rule (G b) (f b)) → Rule (Choice starts G) (λ p. peek_at starts p >>= λ b. f b.0 b.1)
+pub choice : {V : Type 0} {f : Bool → Reading V} (starts : Lexeme → Bool) (n : (b : Bool) → Ruled (f b)) → Rule (Choice starts (λ b. (n b).form)) (λ p. peek_at starts p >>= λ b. f b.0 b.1)
 choice {f = f} starts n = record {
   sound = λ p q v live e.
       let b = bind_some (peek_at starts p) (λ b. f b.0 b.1) (v, q) e in
       let look = peeked starts p b.0.1 b.0.0 b.1 in
-      let k = (n b.0.0).sound p q v live (subst (λ (x : Parsing). f b.0.0 x ≡ Some (v, q)) look.0 b.2) in
+      let k = (n b.0.0).rule.sound p q v live (subst (λ (x : Parsing). f b.0.0 x ≡ Some (v, q)) look.0 b.2) in
       (k.0, k.1, record { branch = b.0.0; seen = subst (Seen Free starts b.0.0) (taken_ahead p q k.0 k.1) (seen_after starts b.0.0 p look.2); chosen = k.2 });
   complete = λ p v front rest at h.
-      let k = (n h.branch).complete p v front rest at h.chosen in
-      record { next = k.next; is_read = rw (peek_is starts p h.branch (front ++ rest) at h.seen, k.is_read) refl; ahead = k.ahead; state = k.state };
+      let k = (n h.branch).rule.complete p v front rest at h.chosen in
+      let seen : Seen (λ goes_on. Stops goes_on p.faulty) starts h.branch (kinds p.tokens) = subst (Seen (λ goes_on. Stops goes_on p.faulty) starts h.branch) (sym at.kinds_are) h.seen in
+      record { next = k.next; is_read = rw (answered starts p h.branch at.live (answers starts h.branch p.faulty p.tokens seen), k.is_read) refl; ahead = k.ahead; state = k.state };
 }

@@ -10,6 +10,7 @@ use Rattle.souper_ir.specs.Reading.{Gives, cause_of, IfRefused, if_refused, Fail
 use Rattle.souper_ir.specs.Grammar.{Free, Stops, Took, NoFront, Refusal}
 use Rattle.souper_ir.specs.Laws.Peeks.{some_is}
 use Rattle.souper_ir.specs.Laws.Steps.{At}
+use Rattle.souper_ir.specs.Laws.Unique.{Alone}
 use Rattle.souper_ir.specs.Laws.Combinators.{Reads, Rule, Node}
 
 module _ {Y : Type 0} (spells : Scope → Y → List Lexeme → Type 0) (continues : Y → Lexeme → Type 0) (read : Parsing → Option (Y × Parsing)) where
@@ -52,7 +53,7 @@ module _ {Y : Type 0} (spells : Scope → Y → List Lexeme → Type 0) (continu
   stops goes_on [] h = refl
   stops goes_on (t ∷ ts) h = h
 
-  pub one_alone : Complete → (s : Scope) (v w : Y) (a b c d : List Lexeme) → a ++ c ≡ b ++ d → spells s v a → spells s w b → Free (continues v) c → Free (continues w) d → (a ≡ b) × (v ≡ w)
+  pub one_alone : Complete → Alone spells continues
   one_alone complete s v w a b c d e m n f g =
       let p : Parsing = record { tokens = map (λ t. (0, t)) (a ++ c); faulty = false; len = 0; scope = s; failed = None } in
       let j = complete p v a c (record { kinds_are = kinds_of_places (a ++ c); live = refl }) (m, stops (continues v) c f) in
@@ -60,6 +61,9 @@ module _ {Y : Type 0} (spells : Scope → Y → List Lexeme → Type 0) (continu
       let same : ◌≡◌ {A = Y × Parsing} (v, j.next) (w, k.next) = some_is (sym j.is_read ∙ k.is_read) in
       let rest : c ≡ d = sym j.ahead.kinds_are ∙ ap (λ (x : Y × Parsing). kinds x.1.tokens) same ∙ k.ahead.kinds_are in
       (append_cancel_right a b c (e ∙ ap (λ (x : List Lexeme). b ++ x) (sym rest)), ap (λ (x : Y × Parsing). x.0) same)
+
+pub alone : {Y : Type 0} {spells : Scope → Y → List Lexeme → Type 0} {continues : Y → Lexeme → Type 0} {read : Parsing → Option (Y × Parsing)} → Rule (Node spells continues) read → Alone spells continues
+alone {spells = spells} {continues = continues} {read = read} rule = one_alone spells continues read rule.complete
 
 -- out of memory refuses no text
 pub of_memory : (P : Type 0) (e : ParseError) → cause_of e ≡ Some no_memory → IfRefused (cause_of e) P

@@ -11,7 +11,7 @@ use Rattle.souper_ir.specs.Continuation.{statement_continues, infer_continues, r
 use Rattle.souper_ir.specs.Parsing.{Parsing}
 use Rattle.souper_ir.specs.Reading.{cause_of, IfRefused, if_refused, IsRead, Fails, fails_later}
 use Rattle.souper_ir.specs.Grammar.{Free, Stops, Starts, NoFront, LastGoesOn, Refusal, peek_at}
-use Rattle.souper_ir.specs.Laws.Unique.{never, Free-weaker, Free-from_Stops}
+use Rattle.souper_ir.specs.Laws.Unique.{Alone, never, Free-weaker, Free-from_Stops}
 use Rattle.souper_ir.specs.NodeReadings.{starts_statement, is_word}
 use Rattle.souper_ir.specs.Laws.Peeks.{peeked, peeked_yes, peeked_no, unread}
 use Rattle.souper_ir.specs.Laws.Steps.{kinds-append}
@@ -266,17 +266,12 @@ cand_opens s c ts h = subst Opens (sym h.whole) (refl, λ v. statement_ends v (i
 
 pub tail_opens : (k : ItemType) (s : Scope) (y : Tail) (ts : List Lexeme) → tail_spells k s y ts → Opens ts
 tail_opens left_hand_side s (new, inferred i) ts h = infer_opens s i ts h.1
-tail_opens left_hand_side s (new, resulting r) ts h = absurd h
-tail_opens left_hand_side s (new, replaced i r) ts h = absurd h
-tail_opens left_hand_side s (new, candidate c) ts h = absurd h
-tail_opens right_hand_side s (new, inferred i) ts h = absurd h
+tail_opens left_hand_side s y ts h = absurd h
 tail_opens right_hand_side s (new, resulting r) ts h = result_opens s r ts h.1
-tail_opens right_hand_side s (new, replaced i r) ts h = absurd h
-tail_opens right_hand_side s (new, candidate c) ts h = absurd h
-tail_opens replacement s (new, inferred i) ts h = absurd h
-tail_opens replacement s (new, resulting r) ts h = absurd h
+tail_opens right_hand_side s y ts h = absurd h
 tail_opens replacement s (new, replaced i r) ts h = subst Opens (sym h.whole) (opens_over h.infer (h.middle ++ h.result) (infer_opens s i h.infer h.infer_spelled))
 tail_opens replacement s (new, candidate c) ts h = cand_opens s c ts h.1
+tail_opens replacement s y ts h = absurd h
 
 -- neither a statement nor the result line continues an infer line
 pub infer_over : (faulty : Bool) (s t : Scope) (i : PlainInfer) (r : Operand) (new : List PlainStatement) (middle result d : List Lexeme) → Statements s new middle → result_spells t r result → Stops (infer_continues i) faulty ((middle ++ result) ++ d)
@@ -331,46 +326,33 @@ same_tail end new more x y none also same =
     let second : ◌≡◌ {A = Tail} (more, end x) (more, end y) = ap (λ (z : _). (more, end z)) same in
     first ∙ second
 
-pub tail_alone : (k : ItemType) (s : Scope) (y z : Tail) (a b c d : List Lexeme) → a ++ c ≡ b ++ d → tail_spells k s y a → tail_spells k s z b
-    → Free (tail_continues y) c → Free (tail_continues z) d → (a ≡ b) × (y ≡ z)
+pub tail_alone : (k : ItemType) → Alone (tail_spells k) tail_continues
 tail_alone left_hand_side s (new, inferred i) (more, inferred j) a b c d e m n f g =
     let same = infer_alone s i j a b c d e m.1 n.1 f g in
     (same.0, same_tail inferred new more i j m.0 n.0 same.1)
-tail_alone left_hand_side s (new, inferred i) (more, resulting r) a b c d e m n f g = absurd n
-tail_alone left_hand_side s (new, inferred i) (more, replaced j r) a b c d e m n f g = absurd n
-tail_alone left_hand_side s (new, inferred i) (more, candidate o) a b c d e m n f g = absurd n
-tail_alone left_hand_side s (new, resulting r) z a b c d e m n f g = absurd m
-tail_alone left_hand_side s (new, replaced j r) z a b c d e m n f g = absurd m
-tail_alone left_hand_side s (new, candidate o) z a b c d e m n f g = absurd m
+tail_alone left_hand_side s (new, inferred i) z a b c d e m n f g = absurd n
+tail_alone left_hand_side s y z a b c d e m n f g = absurd m
 tail_alone right_hand_side s (new, resulting r) (more, resulting q) a b c d e m n f g =
     let same = result_alone s r q a b c d e m.1 n.1 f g in
     (same.0, same_tail resulting new more r q m.0 n.0 same.1)
-tail_alone right_hand_side s (new, resulting r) (more, inferred i) a b c d e m n f g = absurd n
-tail_alone right_hand_side s (new, resulting r) (more, replaced j q) a b c d e m n f g = absurd n
-tail_alone right_hand_side s (new, resulting r) (more, candidate o) a b c d e m n f g = absurd n
-tail_alone right_hand_side s (new, inferred i) z a b c d e m n f g = absurd m
-tail_alone right_hand_side s (new, replaced j r) z a b c d e m n f g = absurd m
-tail_alone right_hand_side s (new, candidate o) z a b c d e m n f g = absurd m
+tail_alone right_hand_side s (new, resulting r) z a b c d e m n f g = absurd n
+tail_alone right_hand_side s y z a b c d e m n f g = absurd m
 tail_alone replacement s (new, candidate o) (more, candidate p) a b c d e m n f g =
     let same = cand_alone s o p a b c d e m.1 n.1 f g in
     (same.0, same_tail candidate new more o p m.0 n.0 same.1)
 tail_alone replacement s (new, replaced i r) (more, replaced j q) a b c d e m n f g = replaced_alone s new more i j r q a b c d e m n f g
 tail_alone replacement s (new, replaced i r) (more, candidate o) a b c d e m n f g = absurd (cand_is_no_infer s o b (a ++ c) d n.1 (starts_ahead (is_word (codes "infer")) a c (replaced_begins s new i r a m)) e)
 tail_alone replacement s (new, candidate o) (more, replaced j q) a b c d e m n f g = absurd (cand_is_no_infer s o a (b ++ d) c m.1 (starts_ahead (is_word (codes "infer")) b d (replaced_begins s more j q b n)) (sym e))
-tail_alone replacement s (new, replaced i r) (more, inferred j) a b c d e m n f g = absurd n
-tail_alone replacement s (new, replaced i r) (more, resulting q) a b c d e m n f g = absurd n
-tail_alone replacement s (new, candidate o) (more, inferred j) a b c d e m n f g = absurd n
-tail_alone replacement s (new, candidate o) (more, resulting q) a b c d e m n f g = absurd n
-tail_alone replacement s (new, inferred i) z a b c d e m n f g = absurd m
-tail_alone replacement s (new, resulting r) z a b c d e m n f g = absurd m
+tail_alone replacement s (new, candidate o) z a b c d e m n f g = absurd n
+tail_alone replacement s (new, replaced i r) z a b c d e m n f g = absurd n
+tail_alone replacement s y z a b c d e m n f g = absurd m
 
 -- ---- items
 
 same_item : (v w : Item) → v.statements ≡ w.statements → v.ending ≡ w.ending → v ≡ w
 same_item v w e f = ap (λ (x : List PlainStatement). record { statements = x; ending = v.ending }) e ∙ ap (λ (x : Ending). record { statements = w.statements; ending = x }) f
 
-pub item_alone : (k : ItemType) (s : Scope) (v w : Item) (a b c d : List Lexeme) → a ++ c ≡ b ++ d → item_spells_after k s v a → item_spells_after k s w b
-    → Free (item_continues v) c → Free (item_continues w) d → (a ≡ b) × (v ≡ w)
+pub item_alone : (k : ItemType) → Alone (item_spells_after k) item_continues
 item_alone k s v w a b c d e m n f g =
     let whole : m.head ++ (m.tail ++ c) ≡ n.head ++ (n.tail ++ d) = sym (split a m.head m.tail c m.whole) ∙ e ∙ split b n.head n.tail d n.whole in
     let stated = statements_alone s m.first n.first m.head n.head (m.tail ++ c) (n.tail ++ d) whole m.head_spelled n.head_spelled

@@ -1,5 +1,5 @@
 -- Lemmas. The rules of types, constants and operands: what is read is spelled so, and what is spelled so is read.
-use Rattle.std.proofs.Common.{◌≡◌, ℕ, suc, zero, Bool, true, false, List, [], ◌∷◌, ◌++◌, length, Option, Some, None, refl, sym, ◌∙◌, ap, subst, arith}
+use Rattle.std.proofs.Common.{◌≡◌, ℕ, suc, zero, Bool, true, false, List, [], ◌∷◌, ◌++◌, length, Option, Some, None, refl, ◌∙◌, ap, subst, arith}
 use Rattle.souper_graph.specs.declared.ast.operands.«Type».{«Type» as Ty}
 use Rattle.souper_graph.specs.declared.ast.operands.Constant.{Constant}
 use Rattle.souper_graph.specs.declared.ast.operands.Operand.{Operand}
@@ -15,7 +15,7 @@ use Rattle.souper_ir.specs.Laws.Unique.{never, Free-weaker, Stops-weaker}
 use Rattle.souper_ir.specs.Laws.Peeks.{some_is}
 use Rattle.souper_ir.specs.Laws.Steps.{bind_some}
 use Rattle.souper_ir.specs.Laws.Tokens.{is_mark_means, ident_means}
-use Rattle.souper_ir.specs.Laws.Combinators.{Ends, Form, Rule, Node, To, From, respelled, Then, and_then, Done, done, Given, given, Last, last, one, mark, After, after, Token, number, Named, named, Seen, Choice, choice}
+use Rattle.souper_ir.specs.Laws.Combinators.{Ends, Form, Rule, Ruled, ruled, Node, To, From, respelled, Then, both, and_then, done, found, given, Last, made, last, one, mark, After, next, after, next_word, number, next_name, named, Seen, Choice, choice}
 use Rattle.souper_ir.specs.Laws.FromReadings.{Complete}
 
 -- ---- types
@@ -45,25 +45,21 @@ pub optional_type_stops : (o : Option Ty) (t : Lexeme) → ¬ (t ≡ colon) → 
 optional_type_stops None t h = h
 optional_type_stops (Some ty) t h = λ x. x
 
-abbrev OptionalType : Bool → Form (Option Ty)
-OptionalType false = Done None
-OptionalType true = After colon (Last (Node (λ s. type_spells) (λ t u. ⊥)) (λ t. Some t))
+abbrev optional_type_by_rule : (b : Bool) → Ruled (optional_type_by b)
+optional_type_by_rule false = ruled (done None)
+optional_type_by_rule true = ruled (after (mark colon refl) (last type_rule (λ t. Some t)))
 
-optional_type_by_rule : (b : Bool) → Rule (OptionalType b) (optional_type_by b)
-optional_type_by_rule false = done None
-optional_type_by_rule true = after (mark colon refl) (last type_rule (λ t. Some t))
-
-optional_type_to : (b : Bool) (s : Scope) (o : Option Ty) (ts rest : List Lexeme) → Seen Free (is_mark colon) b (ts ++ rest) → OptionalType b Free s o ts rest → optional_type_spells o ts × Free (optional_type_continues o) rest
+optional_type_to : (b : Bool) (s : Scope) (o : Option Ty) (ts rest : List Lexeme) → Seen Free (is_mark colon) b (ts ++ rest) → (optional_type_by_rule b).form Free s o ts rest → optional_type_spells o ts × Free (optional_type_continues o) rest
 optional_type_to false s o ts rest seen h =
     let quiet : Free (λ t. is_mark colon t ≡ true) rest = subst (λ (x : List Lexeme). Free (λ t. is_mark colon t ≡ true) (x ++ rest)) h.1 seen in
     rw h.0 (h.1, Free-weaker (λ t. is_mark colon t ≡ true) (λ t. t ≡ colon) rest (λ t e. ap (is_mark colon) e) quiet)
 optional_type_to true s o ts rest seen h = rw h.after.is ((h.more, h.whole, h.after.last.0), never rest)
 
-optional_type_from : From (Node (λ s. optional_type_spells) optional_type_continues) (Choice (is_mark colon) OptionalType)
+optional_type_from : From (Node (λ s. optional_type_spells) optional_type_continues) (Choice (is_mark colon) (λ b. (optional_type_by_rule b).form))
 optional_type_from faulty s None ts rest h =
     record { branch = false; seen = rw h.0 (Stops-weaker (λ t. t ≡ colon) (λ t. is_mark colon t ≡ true) faulty rest (is_mark_means colon) h.1); chosen = (refl, h.0) }
 optional_type_from faulty s (Some t) ts rest h =
-    record { branch = true; seen = rw h.0.1 refl; chosen = record { more = h.0.0; whole = h.0.1; after = record { value = t; is = refl; last = (h.0.2, h.1) } } }
+    record { branch = true; seen = rw h.0.1 refl; chosen = rw h.0.1 (next (made t (h.0.2, h.1))) }
 
 pub optional_type_rule : Rule (Node (λ s. optional_type_spells) optional_type_continues) optional_type_at
 unfolding optional_type_at
@@ -75,7 +71,7 @@ pub constant_rule : Rule (Node (λ s. constant_spells) constant_continues) const
 unfolding constant_at
 constant_rule = respelled (number number_of (λ n. last optional_type_rule (λ t. record { value = n; ty = t })))
     (λ s c ts rest h. rw h.after.is (record { word = h.word; rest = h.more; whole = h.whole; value_is = h.means; ty_spelled = h.after.last.0 }, h.after.last.1))
-    (λ faulty s c ts rest h. record { word = h.0.word; value = c.value; more = h.0.rest; whole = h.0.whole; means = h.0.value_is; after = record { value = c.ty; is = refl; last = (h.0.ty_spelled, h.1) } })
+    (λ faulty s c ts rest h. rw h.0.whole (next_word h.0.word h.0.value_is (made c.ty (h.0.ty_spelled, h.1))))
 
 pub constant_complete : Complete (λ s. constant_spells) constant_continues constant_at
 constant_complete = constant_rule.complete
@@ -85,22 +81,17 @@ constant_first s c ts h = rw h.whole refl
 
 -- ---- operands
 
-abbrev OperandBy : Bool → Form Operand
-OperandBy true = Named (λ n. Given (λ s. position_of s n) (λ i. Done (Value i)))
-OperandBy false = Last (Node (λ s. constant_spells) constant_continues) constant_variant
+abbrev operand_by_rule : (b : Bool) → Ruled (operand_by b)
+operand_by_rule true = ruled (named (λ n. given (λ s. position_of s n) (λ i. done (Value i))))
+operand_by_rule false = ruled (last constant_rule constant_variant)
 
-operand_by_rule : (b : Bool) → Rule (OperandBy b) (operand_by b)
-operand_by_rule true = named (λ n. given (λ s. position_of s n) (λ i. done (Value i)))
-operand_by_rule false = last constant_rule constant_variant
-
-operand_to : (b : Bool) → To (OperandBy b) (Node operand_spells operand_continues)
+operand_to : (b : Bool) → To (operand_by_rule b).form (Node operand_spells operand_continues)
 operand_to true s x ts rest h = rw h.after.after.0 ((h.name, h.whole ∙ ap (λ (z : List Lexeme). val_name h.name ∷ z) h.after.after.1, h.after.is), never rest)
 operand_to false s x ts rest h = rw h.is h.last
 
-operand_from : From (Node operand_spells operand_continues) (Choice is_name OperandBy)
-operand_from faulty s (Value i) ts rest h =
-    record { branch = true; seen = rw h.0.1 refl; chosen = record { name = h.0.0; more = []; whole = h.0.1; after = record { value = i; is = h.0.2; after = (refl, refl) } } }
-operand_from faulty s (constant_variant c) ts rest h = record { branch = false; seen = rw h.0.whole (λ e. cc); chosen = record { value = c; is = refl; last = h } }
+operand_from : From (Node operand_spells operand_continues) (Choice is_name (λ b. (operand_by_rule b).form))
+operand_from faulty s (Value i) ts rest h = record { branch = true; seen = rw h.0.1 refl; chosen = rw h.0.1 (next_name h.0.0 (found h.0.2 (refl, refl))) }
+operand_from faulty s (constant_variant c) ts rest h = record { branch = false; seen = rw h.0.whole (λ e. cc); chosen = made c h }
 
 pub operand_rule : Rule (Node operand_spells operand_continues) operand_at
 unfolding operand_at
@@ -139,14 +130,7 @@ pair g = respelled (and_then operand_rule (λ x. last operand_rule (λ y. g x y)
     })
     (λ faulty s v ts rest h.
         let k = h.spelled in
-        record {
-          value = h.x;
-          prefix = k.prefix;
-          suffix = k.suffix;
-          whole = k.whole;
-          first = (k.first, operand_over s h.x h.y faulty k.suffix rest k.second);
-          second = record { value = h.y; is = h.is; last = (k.second, h.free) };
-        })
+        rw (h.is, k.whole) (both h.x k.prefix k.suffix (k.first, operand_over s h.x h.y faulty k.suffix rest k.second) (made h.y (k.second, h.free))))
 
 -- ---- this number of operands
 
@@ -179,14 +163,8 @@ row_from : (n : ℕ) → From (Counted operands_spells (suc n)) (Then (Node oper
 row_from n faulty s [] ts rest h = absurd (omega arith)
 row_from n faulty s (x ∷ xs) ts rest h =
     let k = h.1.0 in
-    record {
-      value = x;
-      prefix = k.prefix;
-      suffix = k.suffix;
-      whole = k.whole;
-      first = (k.first, further_over s x xs faulty k.suffix rest k.second h.1.1);
-      second = record { value = xs; is = refl; last = (omega arith, (k.second, Stops-weaker (operands_continue (x ∷ xs)) (operands_continue xs) faulty rest (later_continues x xs) h.1.1)) };
-    }
+    let later = Stops-weaker (operands_continue (x ∷ xs)) (operands_continue xs) faulty rest (later_continues x xs) h.1.1 in
+    rw k.whole (both x k.prefix k.suffix (k.first, further_over s x xs faulty k.suffix rest k.second h.1.1) (made xs (omega (arith, h.0), (k.second, later))))
 
 -- an operand, and then further ones
 row : (n : ℕ) → Rule (Counted further_spells n) (further_at n) → Rule (Counted operands_spells (suc n)) (operands_at (suc n))
@@ -202,7 +180,7 @@ further_to n s (x ∷ xs) ts rest h = (h.after.0, ((h.more, h.whole, h.after.1.0
 
 further_from : (n : ℕ) → From (Counted further_spells (suc n)) (After comma (Counted operands_spells (suc n)))
 further_from n faulty s [] ts rest h = absurd (omega arith)
-further_from n faulty s (x ∷ xs) ts rest h = record { more = h.1.0.0; whole = h.1.0.1; after = (h.0, (h.1.0.2, h.1.1)) }
+further_from n faulty s (x ∷ xs) ts rest h = rw h.1.0.1 (next (h.0, (h.1.0.2, h.1.1)))
 
 pub further_rule : (n : ℕ) → Rule (Counted further_spells n) (further_at n)
 further_rule zero = none further_spells (λ s ts. (λ h. h, λ h. h))

@@ -36,6 +36,16 @@ pub peeked : (starts : Lexeme → Bool) (p q : Parsing) (b : Bool) → peek_at s
 unfolding peek_at look_at
 peeked starts p q b e = peeked_in starts p q b p.failed p.faulty p.tokens e
 
+answered_in : (starts : Lexeme → Bool) (p : Parsing) (b : Bool) (failed : Option Cause) (faulty : Bool) (ts : List (ℕ × Lexeme)) → failed ≡ None → Answers starts b faulty ts → answer starts p (look_in failed faulty ts) ≡ Some (b, p)
+answered_in starts p b (Some c) faulty ts live h = absurd cc
+answered_in starts p b None faulty (t ∷ ts) live h = ap (λ (x : Bool). Some (x, p)) h
+answered_in starts p b None true [] live h = absurd (let e : true ≡ false = h.1 in cc)
+answered_in starts p b None false [] live h = ap (λ (x : Bool). Some (x, p)) (sym h.0)
+
+pub answered : (starts : Lexeme → Bool) (p : Parsing) (b : Bool) → p.failed ≡ None → Answers starts b p.faulty p.tokens → peek_at starts p ≡ Some (b, p)
+unfolding peek_at look_at
+answered starts p b live h = answered_in starts p b p.failed p.faulty p.tokens live h
+
 pub peeked_yes : (starts : Lexeme → Bool) (faulty : Bool) (ts : List (ℕ × Lexeme)) → Answers starts true faulty ts → Starts starts (kinds ts)
 peeked_yes starts faulty [] h = absurd (let e : true ≡ false = h.0 in cc)
 peeked_yes starts faulty (t ∷ ts) h = h

@@ -10,21 +10,21 @@ use Rattle.souper_graph.specs.Instructions.{word_of as instruction_word, operand
 use Rattle.souper_graph.specs.Values.{PlainPhi, PlainRhs, var, block, phi, reserved_inst, reserved_const, instruction}
 use Rattle.souper_graph.specs.Syntax.Tokens.{Lexeme, ident, val_name, int}
 use Rattle.souper_graph.specs.Syntax.Numbers.{count_of}
-use Rattle.souper_graph.specs.Syntax.Spelling.{Scope, entry_of, further_spells, operands_spells, block_spells, phi_spells, instruction_spells, rhs_spells}
+use Rattle.souper_graph.specs.Syntax.Spelling.{Scope, entry_of, operands_spells, block_spells, phi_spells, instruction_spells, rhs_spells}
 use Rattle.souper_graph.specs.Syntax.Optional.{◌>>=◌}
 use Rattle.souper_ir.specs.declared.parse.words.Opcode.{Opcode}
 use Rattle.souper_ir.specs.declared.parse.words.RhsWord.{RhsWord}
 use Rattle.souper_ir.specs.declared.parse.words.RhsWord.TheVariants.{Var as begins_var, Block as begins_block, Phi as begins_phi, ReservedInst as begins_reserved_inst, ReservedConst as begins_reserved_const, Instruction as begins_instruction}
 use Rattle.souper_ir.specs.Words.{opcode_of, operand_count, instruction_by, rhs_keyword_of, instruction_or, rhs_word_of}
 use Rattle.souper_ir.specs.Continuation.{operands_continue, phi_continues, instruction_continues, rhs_continues}
-use Rattle.souper_ir.specs.Grammar.{Free, Stops, Starts}
+use Rattle.souper_ir.specs.Grammar.{Free, Starts}
 use Rattle.souper_ir.specs.NodeReadings.{is_word, is_any, ident_by, block_after_word_at, block_at, block_entry, block_name_at, phi_after_word_at, phi_at, instruction_of_at, instruction_at, starts_instruction, rhs_word_by, rhs_word_at, rhs_by, rhs_at}
 use Rattle.souper_ir.specs.Laws.Unique.{never}
 use Rattle.souper_ir.specs.Laws.Peeks.{some_is}
 use Rattle.souper_ir.specs.Laws.Words.{opcode_is, opcode_makes}
 use Rattle.souper_ir.specs.Laws.Tokens.{word_is, ident_means}
-use Rattle.souper_ir.specs.Laws.Combinators.{Ends, Form, Reading, Rule, Node, To, From, respelled, Then, and_then, Done, done, given, Last, last, One, one, Just, word, after, Token, number, keyword, named, choice, fail}
-use Rattle.souper_ir.specs.Laws.Operands.{Counted, further_rule, operands_rule}
+use Rattle.souper_ir.specs.Laws.Combinators.{Ends, Form, Reading, Rule, Ruled, ruled, Node, To, From, respelled, Then, both, and_then, done, found, given, made, last, one, Just, word, after, Token, next_word, number, keyword, next_name, named, choice, fail}
+use Rattle.souper_ir.specs.Laws.Operands.{further_rule, operands_rule}
 use Rattle.souper_ir.specs.Laws.FromReadings.{Complete}
 
 -- the tokens spell the value after this token
@@ -44,7 +44,7 @@ block_after_rule : Rule (Behind (ident (codes "block")) (λ s. block_spells) (λ
 unfolding block_after_word_at
 block_after_rule = respelled (number (count_of (2 ^ 32)) (λ n. done (record { predecessors = n })))
     (λ s b ts rest h. rw h.after.0 ((h.word, ap (λ (z : List Lexeme). ident (codes "block") ∷ z) (h.whole ∙ ap (λ (z : List Lexeme). int h.word ∷ z) h.after.1), h.means), never rest))
-    (λ faulty s b ts rest h. record { word = h.0.0; value = b.predecessors; more = []; whole = cc; means = h.0.2; after = (refl, refl) })
+    (λ faulty s b ts rest h. let e : ts ≡ int h.0.0 ∷ [] = cc in rw e (next_word h.0.0 h.0.2 (refl, refl)))
 
 pub block_rule : Rule (Node (λ s. block_spells) (λ b t. ⊥)) block_at
 unfolding block_at
@@ -91,14 +91,7 @@ block_named n = respelled (and_then (named (λ n. given (λ s. block_entry (entr
           is = entry_means (entry_of s k.name) h.value (k.after.is ∙ ap Some (sym k.after.after.0));
           after = h.second;
         })
-    (λ faulty s v ts rest h. record {
-      value = h.block;
-      prefix = val_name h.name ∷ [];
-      suffix = h.more;
-      whole = h.whole;
-      first = record { name = h.name; more = []; whole = refl; after = record { value = h.block; is = entry_is (entry_of s h.name) h.block h.is; after = (refl, refl) } };
-      second = h.after;
-    })
+    (λ faulty s v ts rest h. rw h.whole (both h.block (val_name h.name ∷ []) h.more (next_name h.name (found (entry_is (entry_of s h.name) h.block h.is) (refl, refl))) h.after))
 
 -- ---- phis
 
@@ -110,7 +103,7 @@ phi_after_rule = respelled (block_named (λ b. last (further_rule b.1) (λ xs. r
         rw h.after.is (record { name = h.name; rest = h.more; whole = ap (λ (z : List Lexeme). ident (codes "phi") ∷ z) h.whole; block_is = rw k.0 h.is; values_spelled = k.1.0 }, k.1.1))
     (λ faulty s v ts rest h.
         let k = h.0 in
-        record { name = k.name; block = (v.block, length v.values); more = k.rest; whole = cc; is = k.block_is; after = record { value = v.values; is = refl; last = (refl, (k.values_spelled, h.1)) } })
+        record { name = k.name; block = (v.block, length v.values); more = k.rest; whole = cc; is = k.block_is; after = made v.values (refl, (k.values_spelled, h.1)) })
 
 pub phi_rule : Rule (Node phi_spells phi_continues) phi_at
 unfolding phi_at
@@ -145,7 +138,7 @@ instruction_of_rule o = respelled (and_then (operands_rule (operand_count o)) (�
           free = subst (λ (z : List Lexeme). Free (operands_continue h.value) (z ++ rest)) k.after.1 h.first.1.1;
         })
     (λ faulty s i ts rest h.
-        record { value = h.operands; prefix = ts; suffix = []; whole = sym (append-nil ts); first = (h.counted, (h.spelled, h.free)); second = record { value = i; is = h.made; after = (refl, refl) } })
+        record { value = h.operands; prefix = ts; suffix = []; whole = sym (append-nil ts); first = (h.counted, (h.spelled, h.free)); second = found h.made (refl, refl) })
 
 instruction_to : (o : Opcode) (w : List ℕ) → opcode_of w ≡ Some o → To (Operated o) (Behind (ident w) instruction_spells instruction_continues)
 instruction_to o w means s i ts rest h =
@@ -209,19 +202,15 @@ begins w k e = begins_either (opcode_of w) w k refl e
 
 -- ---- right sides
 
-abbrev RhsWordBy : Bool → Form RhsWord
-RhsWordBy false = λ ends s k ts rest. ⊥
-RhsWordBy true = One (ident_by rhs_word_of)
-
-rhs_word_by_rule : (b : Bool) → Rule (RhsWordBy b) (rhs_word_by b)
-rhs_word_by_rule false = fail
-rhs_word_by_rule true = one (ident_by rhs_word_of)
+abbrev rhs_word_by_rule : (b : Bool) → Ruled (rhs_word_by b)
+rhs_word_by_rule false = ruled fail
+rhs_word_by_rule true = ruled (one (ident_by rhs_word_of))
 
 -- the word alone
 abbrev WordIs : Form RhsWord
 WordIs = λ ends s k ts rest. (w : List ℕ) × (ts ≡ ident w ∷ []) × (rhs_word_of w ≡ Some k)
 
-rhs_word_to : (b : Bool) → To (RhsWordBy b) WordIs
+rhs_word_to : (b : Bool) → To (rhs_word_by_rule b).form WordIs
 rhs_word_to false s k ts rest h = absurd h
 rhs_word_to true s k ts rest h =
     let w = ident_means rhs_word_of h.0 k h.2 in
@@ -233,23 +222,15 @@ rhs_word_rule = respelled (choice is_any rhs_word_by_rule) (λ s k ts rest h. rh
     (λ faulty s k ts rest h. record { branch = true; seen = rw h.1 refl; chosen = (ident h.0, h.1, h.2) })
 
 -- what is behind the word
-abbrev RhsBy : RhsWord → Form PlainRhs
-RhsBy begins_var = Done var
-RhsBy begins_block = Last (Behind (ident (codes "block")) (λ s. block_spells) (λ b t. ⊥)) block
-RhsBy begins_phi = Last (Behind (ident (codes "phi")) phi_spells phi_continues) phi
-RhsBy begins_reserved_inst = Done reserved_inst
-RhsBy begins_reserved_const = Done reserved_const
-RhsBy (begins_instruction o) = Last (Operated o) instruction
+abbrev rhs_by_rule : (k : RhsWord) → Ruled (rhs_by k)
+rhs_by_rule begins_var = ruled (done var)
+rhs_by_rule begins_block = ruled (last block_after_rule block)
+rhs_by_rule begins_phi = ruled (last phi_after_rule phi)
+rhs_by_rule begins_reserved_inst = ruled (done reserved_inst)
+rhs_by_rule begins_reserved_const = ruled (done reserved_const)
+rhs_by_rule (begins_instruction o) = ruled (last (instruction_of_rule o) instruction)
 
-rhs_by_rule : (k : RhsWord) → Rule (RhsBy k) (rhs_by k)
-rhs_by_rule begins_var = done var
-rhs_by_rule begins_block = last block_after_rule block
-rhs_by_rule begins_phi = last phi_after_rule phi
-rhs_by_rule begins_reserved_inst = done reserved_inst
-rhs_by_rule begins_reserved_const = done reserved_const
-rhs_by_rule (begins_instruction o) = last (instruction_of_rule o) instruction
-
-rhs_to : (k : RhsWord) (w : List ℕ) → Begins w k → To (RhsBy k) (Behind (ident w) rhs_spells rhs_continues)
+rhs_to : (k : RhsWord) (w : List ℕ) → Begins w k → To (rhs_by_rule k).form (Behind (ident w) rhs_spells rhs_continues)
 rhs_to begins_var w b s v ts rest h = rw (h.0, h.1, b) (refl, never rest)
 rhs_to begins_block w b s v ts rest h = rw (h.is, b) h.last
 rhs_to begins_phi w b s v ts rest h = rw (h.is, b) h.last
@@ -258,23 +239,23 @@ rhs_to begins_reserved_const w b s v ts rest h = rw (h.0, h.1, b) (refl, never r
 rhs_to (begins_instruction o) w b s v ts rest h = rw h.is (instruction_to o w b s h.value ts rest h.last)
 
 -- the word and what is behind it
-parted : (w : List ℕ) (k : RhsWord) (ends : Ends) (s : Scope) (v : PlainRhs) (ts more rest : List Lexeme) → ts ≡ ident w ∷ more → rhs_word_of w ≡ Some k → RhsBy k ends s v more rest → Then WordIs RhsBy ends s v ts rest
+parted : (w : List ℕ) (k : RhsWord) (ends : Ends) (s : Scope) (v : PlainRhs) (ts more rest : List Lexeme) → ts ≡ ident w ∷ more → rhs_word_of w ≡ Some k → (rhs_by_rule k).form ends s v more rest → Then WordIs (λ k. (rhs_by_rule k).form) ends s v ts rest
 parted w k ends s v ts more rest e is h = record { value = k; prefix = ident w ∷ []; suffix = more; whole = e; first = (w, refl, is); second = h }
 
-rhs_from : From (Node rhs_spells rhs_continues) (Then WordIs RhsBy)
+rhs_from : From (Node rhs_spells rhs_continues) (Then WordIs (λ k. (rhs_by_rule k).form))
 rhs_from faulty s var ts rest h = parted (codes "var") begins_var _ s var ts [] rest h.0 refl (refl, refl)
-rhs_from faulty s (block b) ts rest h = parted (codes "block") begins_block _ s (block b) ts (int h.0.0 ∷ []) rest h.0.1 refl (record { value = b; is = refl; last = ((h.0.0, refl, h.0.2), h.1) })
+rhs_from faulty s (block b) ts rest h = parted (codes "block") begins_block _ s (block b) ts (int h.0.0 ∷ []) rest h.0.1 refl (made b ((h.0.0, refl, h.0.2), h.1))
 rhs_from faulty s (phi f) ts rest h =
-    parted (codes "phi") begins_phi _ s (phi f) ts (val_name h.0.name ∷ h.0.rest) rest h.0.whole refl (record { value = f; is = refl; last = (subst (phi_spells s f) h.0.whole h.0, h.1) })
+    parted (codes "phi") begins_phi _ s (phi f) ts (val_name h.0.name ∷ h.0.rest) rest h.0.whole refl (made f (subst (phi_spells s f) h.0.whole h.0, h.1))
 rhs_from faulty s reserved_inst ts rest h = parted (codes "reservedinst") begins_reserved_inst _ s reserved_inst ts [] rest h.0 refl (refl, refl)
 rhs_from faulty s reserved_const ts rest h = parted (codes "reservedconst") begins_reserved_const _ s reserved_const ts [] rest h.0 refl (refl, refl)
 rhs_from faulty s (instruction i) ts rest h =
     let k = instruction_from faulty s i ts rest h in
-    parted k.word (begins_instruction k.value) _ s (instruction i) ts k.more rest k.whole (ap (λ (x : Option Opcode). instruction_or x (rhs_keyword_of k.word)) k.means) (record { value = i; is = refl; last = k.after })
+    parted k.word (begins_instruction k.value) _ s (instruction i) ts k.more rest k.whole (ap (λ (x : Option Opcode). instruction_or x (rhs_keyword_of k.word)) k.means) (made i k.after)
 
 pub rhs_rule : Rule (Node rhs_spells rhs_continues) rhs_at
 unfolding rhs_at
-rhs_rule = respelled (and_then rhs_word_rule rhs_by_rule)
+rhs_rule = respelled (and_then rhs_word_rule (λ k. (rhs_by_rule k).rule))
     (λ s v ts rest h.
         let k = rhs_to h.value h.first.0 (begins h.first.0 h.value h.first.2) s v h.suffix rest h.second in
         (subst (rhs_spells s v) (sym (h.whole ∙ ap (λ (z : List Lexeme). z ++ h.suffix) h.first.1)) k.0, k.1))

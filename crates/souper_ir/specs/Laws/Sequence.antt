@@ -8,7 +8,7 @@ use Rattle.souper_graph.specs.Syntax.Tokens.{Lexeme}
 use Rattle.souper_graph.specs.Syntax.Spelling.{kinds, Scope}
 use Rattle.souper_ir.specs.Reading.{cause_of, IfRefused, if_refused, fails_later}
 use Rattle.souper_ir.specs.Grammar.{Free, Stops, Followed, Took, NoFront, Refusal}
-use Rattle.souper_ir.specs.Laws.Unique.{Free-from_Stops, Free-front}
+use Rattle.souper_ir.specs.Laws.Unique.{Alone, Free-from_Stops, Free-front}
 use Rattle.souper_ir.specs.Laws.Steps.{kinds-append}
 
 -- the tokens are a spelling of a, and then one of b, which does not continue a
@@ -20,7 +20,7 @@ module _ {A B C : Type 0} (spells_a : Scope → A → List Lexeme → Type 0) (g
     (a_of : C → A) (b_of : C → B)
     (last : (c : C) (t : Lexeme) → goes_on_b (b_of c) t → goes_on_c c t)
     (over : (s : Scope) (c : C) (t : Lexeme) → spells_b s (b_of c) [] → goes_on_a (a_of c) t → goes_on_c c t)
-    (alone_a : (s : Scope) (v w : A) (a b c d : List Lexeme) → a ++ c ≡ b ++ d → spells_a s v a → spells_a s w b → Free (goes_on_a v) c → Free (goes_on_a w) d → (a ≡ b) × (v ≡ w)) where
+    (alone_a : Alone spells_a goes_on_a) where
   abbrev pub Both : Scope → C → List Lexeme → Type 0
   Both s c ts = Split spells_a goes_on_a spells_b s (a_of c) (b_of c) ts
 
@@ -45,7 +45,7 @@ module _ {A B C : Type 0} (spells_a : Scope → A → List Lexeme → Type 0) (g
   regroup : (ts front back rest : List Lexeme) → ts ≡ front ++ back → ts ++ rest ≡ front ++ (back ++ rest)
   regroup ts front back rest e = ap (λ (x : List Lexeme). x ++ rest) e ∙ append_assoc front back rest
 
-  pub both_alone : (alone_b : (s : Scope) (v w : B) (a b c d : List Lexeme) → a ++ c ≡ b ++ d → spells_b s v a → spells_b s w b → Free (goes_on_b v) c → Free (goes_on_b w) d → (a ≡ b) × (v ≡ w))
+  pub both_alone : (alone_b : Alone spells_b goes_on_b)
       (s : Scope) (v w : C) (a b c d : List Lexeme) → a ++ c ≡ b ++ d → Both s v a → Both s w b → Free (goes_on_c v) c → Free (goes_on_c w) d → (a ≡ b) × (a_of v ≡ a_of w) × (b_of v ≡ b_of w)
   both_alone alone_b s v w a b c d e m n f g =
       let whole : m.prefix ++ (m.suffix ++ c) ≡ n.prefix ++ (n.suffix ++ d) = sym (regroup a m.prefix m.suffix c m.whole) ∙ e ∙ regroup b n.prefix n.suffix d n.whole in

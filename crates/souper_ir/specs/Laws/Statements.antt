@@ -12,19 +12,18 @@ use Rattle.souper_graph.specs.Instructions.{operands_of}
 use Rattle.souper_graph.specs.Values.{PlainAttribute, PlainRootAttribute, PlainRhs, var, block, phi, reserved_inst, reserved_const, instruction, PlainAssignment, PlainStatement, assigned, condition, block_condition, PlainInfer, PlainCand}
 use Rattle.souper_graph.specs.Syntax.Tokens.{Lexeme, ident, val_name, int, comma, colon, equals, open_paren}
 use Rattle.souper_graph.specs.Syntax.Numbers.{count_of}
-use Rattle.souper_graph.specs.Syntax.Spelling.{kinds, Scope, entry_of, position_of, optional_type_spells, operand_spells, pair_spells, rhs_spells, attribute_spells, root_attribute_spells, assignment_spells, pc_spells, block_pc_spells, statement_spells, infer_spells, IsOptionalComma, cand_spells, result_spells}
+use Rattle.souper_graph.specs.Syntax.Spelling.{Scope, position_of, optional_type_spells, operand_spells, rhs_spells, attribute_spells, root_attribute_spells, assignment_spells, pc_spells, block_pc_spells, statement_spells, infer_spells, IsOptionalComma, cand_spells, result_spells}
 use Rattle.souper_ir.specs.Continuation.{optional_type_continues, operand_continues, operands_continue, rhs_continues, attributes_continue, assignment_continues, pc_continues, block_pc_continues, statement_continues, infer_continues, cand_continues, result_continues}
-use Rattle.souper_graph.specs.Syntax.Optional.{◌>>=◌}
 use Rattle.souper_ir.specs.Grammar.{Free, Stops, Starts}
-use Rattle.souper_ir.specs.NodeReadings.{is_name, is_mark, is_word, attribute_at, root_attribute_at, Definition, fresh, heading_at, definition_at, starts_statement, pc_at, predecessor_below, block_pc_at, root_at, comma_by, optional_comma_at, pair_at, result_at}
-use Rattle.souper_ir.specs.Laws.Unique.{never}
+use Rattle.souper_ir.specs.NodeReadings.{is_name, is_mark, is_word, Definition, fresh, heading_at, definition_at, starts_statement, pc_at, predecessor_below, block_pc_at, root_at, comma_by, optional_comma_at, pair_at, result_at}
+use Rattle.souper_ir.specs.Laws.Unique.{Alone, never}
 use Rattle.souper_ir.specs.Laws.Peeks.{some_is}
 use Rattle.souper_ir.specs.Laws.Tokens.{is_word_means, word_is}
-use Rattle.souper_ir.specs.Laws.Combinators.{Ends, Form, Rule, Node, respelled, and_then, Done, done, given, last, Just, mark, word, after, number, named, Choice, choice}
-use Rattle.souper_ir.specs.Laws.FromReadings.{one_alone}
+use Rattle.souper_ir.specs.Laws.Combinators.{Ends, Rule, Ruled, ruled, Node, respelled, both, and_then, done, found, given, made, last, mark, word, next, after, next_word, number, next_name, named, Choice, choice}
+use Rattle.souper_ir.specs.Laws.FromReadings.{alone}
 use Rattle.souper_ir.specs.Laws.Operands.{optional_type_stops, optional_type_rule, operand_rule, operand_stops, operand_over, pair}
 use Rattle.souper_ir.specs.Laws.RightSides.{block_named, rhs_rule}
-use Rattle.souper_ir.specs.Laws.Attributes.{attribute_complete, attribute_first, root_attribute_complete, root_attribute_first, attributes_are_members, members_are_attributes, root_attributes_are_members, members_are_root_attributes}
+use Rattle.souper_ir.specs.Laws.Attributes.{attribute_rule, attribute_first, root_attribute_rule, root_attribute_first, attributes_are_members, members_are_attributes, root_attributes_are_members, members_are_root_attributes}
 use Rattle.souper_ir.specs.Laws.Sequence.{Split}
 use Rattle.souper_ir.specs.Laws.Attributed.{Row, attributes_over, Laws, laws}
 
@@ -67,23 +66,7 @@ heading_rule = respelled (named (λ n. given (λ s. fresh (position_of s n)) (λ
           name_is_new = fresh_means (position_of s h.name) tt h.after.is;
           ty_spelled = t.first.0;
         }))
-    (λ faulty s v ts rest h. record {
-      name = v.0;
-      more = h.ty ++ equals ∷ [];
-      whole = h.whole;
-      after = record {
-        value = tt;
-        is = fresh_is (position_of s v.0) h.name_is_new;
-        after = record {
-          value = v.1;
-          prefix = h.ty;
-          suffix = equals ∷ [];
-          whole = refl;
-          first = (h.ty_spelled, optional_type_stops v.1 equals (λ e. cc));
-          second = record { more = []; whole = refl; after = (refl, refl) };
-        };
-      };
-    })
+    (λ faulty s v ts rest h. rw h.whole (next_name v.0 (found (fresh_is (position_of s v.0) h.name_is_new) (both v.1 h.ty (equals ∷ []) (h.ty_spelled, optional_type_stops v.1 equals (λ e. cc)) (next (refl, refl))))))
 
 pub definition_rule : Rule (Node definition_spells definition_continues) definition_at
 unfolding definition_at
@@ -100,17 +83,10 @@ definition_rule = respelled (and_then heading_rule (λ h. last rhs_rule (λ r. r
         }, h.second.last.1))
     (λ faulty s d ts rest h.
         let k = h.0 in
-        record {
-          value = (d.name, d.ty);
-          prefix = val_name d.name ∷ (k.ty ++ equals ∷ []);
-          suffix = k.rhs;
-          whole = k.whole ∙ ap (λ (z : List Lexeme). val_name d.name ∷ z) (sym (append_assoc k.ty (equals ∷ []) k.rhs));
-          first = record { ty = k.ty; whole = refl; name_is_new = k.name_is_new; ty_spelled = k.ty_spelled };
-          second = record { value = d.value; is = refl; last = (k.rhs_spelled, h.1) };
-        })
-
-pub definition_alone : (s : Scope) (v w : Definition) (a b c d : List Lexeme) → a ++ c ≡ b ++ d → definition_spells s v a → definition_spells s w b → Free (definition_continues v) c → Free (definition_continues w) d → (a ≡ b) × (v ≡ w)
-definition_alone = one_alone definition_spells definition_continues definition_at definition_rule.complete
+        let front : List Lexeme = val_name d.name ∷ (k.ty ++ equals ∷ []) in
+        let parts : ts ≡ front ++ k.rhs = k.whole ∙ ap (λ (z : List Lexeme). val_name d.name ∷ z) (sym (append_assoc k.ty (equals ∷ []) k.rhs)) in
+        let heading : Heading (λ goes_on. Stops goes_on faulty) s (d.name, d.ty) front (k.rhs ++ rest) = record { ty = k.ty; whole = refl; name_is_new = k.name_is_new; ty_spelled = k.ty_spelled } in
+        rw parts (both (d.name, d.ty) front k.rhs heading (made d.value (k.rhs_spelled, h.1))))
 
 -- ---- path conditions
 
@@ -118,10 +94,10 @@ pub pc_rule : Rule (Node pc_spells pc_continues) pc_at
 unfolding pc_at
 pc_rule = respelled (after (word (codes "pc")) (pair (λ x y. record { x = x; y = y })))
     (λ s v ts rest h. rw h.after.is ((h.more, h.whole, h.after.spelled), h.after.free))
-    (λ faulty s v ts rest h. record { more = h.0.0; whole = h.0.1; after = record { x = v.x; y = v.y; is = refl; spelled = h.0.2; free = h.1 } })
+    (λ faulty s v ts rest h. rw h.0.1 (next (record { x = v.x; y = v.y; is = refl; spelled = h.0.2; free = h.1 })))
 
-pub pc_alone : (s : Scope) (v w : Pc) (a b c d : List Lexeme) → a ++ c ≡ b ++ d → pc_spells s v a → pc_spells s w b → Free (pc_continues v) c → Free (pc_continues w) d → (a ≡ b) × (v ≡ w)
-pc_alone = one_alone pc_spells pc_continues pc_at pc_rule.complete
+pub pc_alone : Alone pc_spells pc_continues
+pc_alone = alone pc_rule
 
 pub pc_first : (s : Scope) (v : Pc) (ts : List Lexeme) → pc_spells s v ts → Starts (is_word (codes "pc")) ts
 pc_first s v ts h = rw h.1 (word_is (codes "pc"))
@@ -160,28 +136,11 @@ block_pc_rule = respelled
         }, w.after.free))
     (λ faulty s v ts rest h.
         let k = h.0 in
-        record {
-          more = val_name k.name ∷ int k.number ∷ k.rest;
-          whole = k.whole;
-          after = record {
-            name = k.name;
-            block = (v.block, k.predecessors);
-            more = int k.number ∷ k.rest;
-            whole = refl;
-            is = k.block_is;
-            after = record {
-              word = k.number;
-              value = v.predecessor;
-              more = k.rest;
-              whole = refl;
-              means = k.number_is;
-              after = record { value = v.predecessor; is = below_is k.predecessors v.predecessor k.within; after = record { x = v.x; y = v.y; is = refl; spelled = k.operands_spelled; free = h.1 } };
-            };
-          };
-        })
+        rw k.whole (next (record { name = k.name; block = (v.block, k.predecessors); more = int k.number ∷ k.rest; whole = refl; is = k.block_is; after = next_word k.number k.number_is
+        (found (below_is k.predecessors v.predecessor k.within) (record { x = v.x; y = v.y; is = refl; spelled = k.operands_spelled; free = h.1 })) })))
 
-pub block_pc_alone : (s : Scope) (v w : BlockPc) (a b c d : List Lexeme) → a ++ c ≡ b ++ d → block_pc_spells s v a → block_pc_spells s w b → Free (block_pc_continues v) c → Free (block_pc_continues w) d → (a ≡ b) × (v ≡ w)
-block_pc_alone = one_alone block_pc_spells block_pc_continues block_pc_at block_pc_rule.complete
+pub block_pc_alone : Alone block_pc_spells block_pc_continues
+block_pc_alone = alone block_pc_rule
 
 pub block_pc_first : (s : Scope) (v : BlockPc) (ts : List Lexeme) → block_pc_spells s v ts → Starts (is_word (codes "blockpc")) ts
 block_pc_first s v ts h = rw h.whole (word_is (codes "blockpc"))
@@ -197,11 +156,7 @@ root_rule = respelled (after (word (codes "infer")) (named (λ n. given (λ s. p
     (λ s v ts rest h.
         let n = h.after in
         rw n.after.after.0 ((n.name, h.whole ∙ ap (λ (z : List Lexeme). ident (codes "infer") ∷ z) (n.whole ∙ ap (λ (z : List Lexeme). val_name n.name ∷ z) n.after.after.1), n.after.is), never rest))
-    (λ faulty s v ts rest h.
-        record { more = val_name h.0.0 ∷ []; whole = h.0.1; after = record { name = h.0.0; more = []; whole = refl; after = record { value = v; is = h.0.2; after = (refl, refl) } } })
-
-pub root_alone : (s : Scope) (v w : ℕ) (a b c d : List Lexeme) → a ++ c ≡ b ++ d → root_spells s v a → root_spells s w b → Free (λ t. ⊥) c → Free (λ t. ⊥) d → (a ≡ b) × (v ≡ w)
-root_alone = one_alone root_spells (λ i t. ⊥) root_at root_rule.complete
+    (λ faulty s v ts rest h. rw h.0.1 (next (next_name h.0.0 (found h.0.2 (refl, refl)))))
 
 -- ---- the cand line up to its attributes
 
@@ -217,23 +172,19 @@ pub record pair_line_spells (s : Scope) (v : Operand × Operand) (ts : List Lexe
 abbrev pub pair_line_continues : Operand × Operand → Lexeme → Type 0
 pair_line_continues v t = operand_continues v.1 t
 
-abbrev CommaBy : Bool → Form (Unit {0})
-CommaBy false = Done tt
-CommaBy true = Just comma
+abbrev comma_by_rule : (b : Bool) → Ruled (comma_by b)
+comma_by_rule false = ruled (done tt)
+comma_by_rule true = ruled (mark comma refl)
 
-comma_by_rule : (b : Bool) → Rule (CommaBy b) (comma_by b)
-comma_by_rule false = done tt
-comma_by_rule true = mark comma refl
-
-optional_comma_rule : Rule (Choice (is_mark comma) CommaBy) optional_comma_at
+optional_comma_rule : Rule (Choice (is_mark comma) (λ b. (comma_by_rule b).form)) optional_comma_at
 unfolding optional_comma_at
 optional_comma_rule = choice (is_mark comma) comma_by_rule
 
-comma_is : (b : Bool) (ends : Ends) (s : Scope) (u : Unit {0}) (ts rest : List Lexeme) → CommaBy b ends s u ts rest → IsOptionalComma ts
+comma_is : (b : Bool) (ends : Ends) (s : Scope) (u : Unit {0}) (ts rest : List Lexeme) → (comma_by_rule b).form ends s u ts rest → IsOptionalComma ts
 comma_is false ends s u ts rest h = inl h.1
 comma_is true ends s u ts rest h = inr h
 
-comma_seen : (faulty : Bool) (s : Scope) (ts rest : List Lexeme) → Stops (λ t. is_mark comma t ≡ true) faulty rest → IsOptionalComma ts → Choice (is_mark comma) CommaBy (λ goes_on. Stops goes_on faulty) s tt ts rest
+comma_seen : (faulty : Bool) (s : Scope) (ts rest : List Lexeme) → Stops (λ t. is_mark comma t ≡ true) faulty rest → IsOptionalComma ts → Choice (is_mark comma) (λ b. (comma_by_rule b).form) (λ goes_on. Stops goes_on faulty) s tt ts rest
 comma_seen faulty s ts rest st (inl h) = record { branch = false; seen = rw h st; chosen = (refl, h) }
 comma_seen faulty s ts rest st (inr h) = record { branch = true; seen = rw h refl; chosen = h }
 
@@ -265,28 +216,9 @@ pair_line_rule = respelled (after (word (codes "cand")) (and_then operand_rule (
         }, y.last.1))
     (λ faulty s v ts rest h.
         let k = h.0 in
-        record {
-          more = k.lhs ++ (k.between ++ k.rhs);
-          whole = k.whole;
-          after = record {
-            value = v.0;
-            prefix = k.lhs;
-            suffix = k.between ++ k.rhs;
-            whole = refl;
-            first = (k.lhs_spelled, comma_over s v.0 v.1 faulty k.between k.rhs rest k.comma_or_none k.rhs_spelled);
-            second = record {
-              value = tt;
-              prefix = k.between;
-              suffix = k.rhs;
-              whole = refl;
-              first = comma_seen faulty s k.between (k.rhs ++ rest) (operand_no_comma s v.1 faulty k.rhs rest k.rhs_spelled) k.comma_or_none;
-              second = record { value = v.1; is = refl; last = (k.rhs_spelled, h.1) };
-            };
-          };
-        })
-
-pub pair_line_alone : (s : Scope) (v w : Operand × Operand) (a b c d : List Lexeme) → a ++ c ≡ b ++ d → pair_line_spells s v a → pair_line_spells s w b → Free (pair_line_continues v) c → Free (pair_line_continues w) d → (a ≡ b) × (v ≡ w)
-pair_line_alone = one_alone pair_line_spells pair_line_continues pair_at pair_line_rule.complete
+        let comma_read = comma_seen faulty s k.between (k.rhs ++ rest) (operand_no_comma s v.1 faulty k.rhs rest k.rhs_spelled) k.comma_or_none in
+        let over = comma_over s v.0 v.1 faulty k.between k.rhs rest k.comma_or_none k.rhs_spelled in
+        rw k.whole (next (both v.0 k.lhs (k.between ++ k.rhs) (k.lhs_spelled, over) (both tt k.between k.rhs comma_read (made v.1 (k.rhs_spelled, h.1))))))
 
 -- ---- the result line
 
@@ -294,10 +226,10 @@ pub result_rule : Rule (Node result_spells result_continues) result_at
 unfolding result_at
 result_rule = respelled (after (word (codes "result")) operand_rule)
     (λ s v ts rest h. ((h.more, h.whole, h.after.0), h.after.1))
-    (λ faulty s v ts rest h. record { more = h.0.0; whole = h.0.1; after = (h.0.2, h.1) })
+    (λ faulty s v ts rest h. rw h.0.1 (next (h.0.2, h.1)))
 
-pub result_alone : (s : Scope) (v w : Operand) (a b c d : List Lexeme) → a ++ c ≡ b ++ d → result_spells s v a → result_spells s w b → Free (result_continues v) c → Free (result_continues w) d → (a ≡ b) × (v ≡ w)
-result_alone = one_alone result_spells result_continues result_at result_rule.complete
+pub result_alone : Alone result_spells result_continues
+result_alone = alone result_rule
 
 -- ---- what continues no line
 
@@ -370,10 +302,10 @@ cand_ends c t b = λ h. begins_no_more t b (attributes_more (operand_continues c
 -- ---- lines with attributes
 
 attribute_alone : (v w : PlainAttribute) (a b c d : List Lexeme) → a ++ c ≡ b ++ d → attribute_spells v a → attribute_spells w b → Free (λ t. ⊥) c → Free (λ t. ⊥) d → (a ≡ b) × (v ≡ w)
-attribute_alone = one_alone (λ s. attribute_spells) (λ a t. ⊥) attribute_at attribute_complete []
+attribute_alone = alone attribute_rule []
 
 root_attribute_alone : (v w : PlainRootAttribute) (a b c d : List Lexeme) → a ++ c ≡ b ++ d → root_attribute_spells v a → root_attribute_spells w b → Free (λ t. ⊥) c → Free (λ t. ⊥) d → (a ≡ b) × (v ≡ w)
-root_attribute_alone = one_alone (λ s. root_attribute_spells) (λ a t. ⊥) root_attribute_at root_attribute_complete []
+root_attribute_alone = alone root_attribute_rule []
 
 -- an assignment without its attributes
 abbrev pub definition_of : PlainAssignment → Definition
@@ -413,7 +345,7 @@ assignment_same v w d e =
 
 pub assignment_laws : Laws definition_spells definition_continues attribute_spells definition_of (λ (a : PlainAssignment). a.attributes) assignment_spells assignment_continues
 assignment_laws =
-    laws definition_spells definition_continues attribute_spells definition_of (λ (a : PlainAssignment). a.attributes) definition_alone attribute_alone (attribute_first []) assignment_spells assignment_parts parts_assignment assignment_same
+    laws definition_spells definition_continues attribute_spells definition_of (λ (a : PlainAssignment). a.attributes) (alone definition_rule) attribute_alone (attribute_first []) assignment_spells assignment_parts parts_assignment assignment_same
 
 pub infer_parts : (s : Scope) (i : PlainInfer) (ts : List Lexeme) → infer_spells s i ts → Split root_spells (λ (r : ℕ) t. ⊥) (Row root_attribute_spells) s i.value i.attributes ts
 infer_parts s i ts h = record {
@@ -442,7 +374,7 @@ infer_same v w d e =
 
 pub infer_laws : Laws root_spells (λ (r : ℕ) t. ⊥) root_attribute_spells (λ (i : PlainInfer). i.value) (λ (i : PlainInfer). i.attributes) infer_spells infer_continues
 infer_laws =
-    laws root_spells (λ (r : ℕ) t. ⊥) root_attribute_spells (λ (i : PlainInfer). i.value) (λ (i : PlainInfer). i.attributes) root_alone root_attribute_alone (root_attribute_first []) infer_spells infer_parts parts_infer infer_same
+    laws root_spells (λ (r : ℕ) t. ⊥) root_attribute_spells (λ (i : PlainInfer). i.value) (λ (i : PlainInfer). i.attributes) (alone root_rule) root_attribute_alone (root_attribute_first []) infer_spells infer_parts parts_infer infer_same
 
 -- the two operands of a cand line
 abbrev pub pair_of : PlainCand → Operand × Operand
@@ -487,15 +419,15 @@ cand_same v w d e =
 
 pub cand_laws : Laws pair_line_spells pair_line_continues root_attribute_spells pair_of (λ (c : PlainCand). c.attributes) cand_spells cand_continues
 cand_laws =
-    laws pair_line_spells pair_line_continues root_attribute_spells pair_of (λ (c : PlainCand). c.attributes) pair_line_alone root_attribute_alone (root_attribute_first []) cand_spells cand_parts parts_cand cand_same
+    laws pair_line_spells pair_line_continues root_attribute_spells pair_of (λ (c : PlainCand). c.attributes) (alone pair_line_rule) root_attribute_alone (root_attribute_first []) cand_spells cand_parts parts_cand cand_same
 
-pub assignment_alone : (s : Scope) (v w : PlainAssignment) (a b c d : List Lexeme) → a ++ c ≡ b ++ d → assignment_spells s v a → assignment_spells s w b → Free (assignment_continues v) c → Free (assignment_continues w) d → (a ≡ b) × (v ≡ w)
+pub assignment_alone : Alone assignment_spells assignment_continues
 assignment_alone = assignment_laws.alone
 
-pub infer_alone : (s : Scope) (v w : PlainInfer) (a b c d : List Lexeme) → a ++ c ≡ b ++ d → infer_spells s v a → infer_spells s w b → Free (infer_continues v) c → Free (infer_continues w) d → (a ≡ b) × (v ≡ w)
+pub infer_alone : Alone infer_spells infer_continues
 infer_alone = infer_laws.alone
 
-pub cand_alone : (s : Scope) (v w : PlainCand) (a b c d : List Lexeme) → a ++ c ≡ b ++ d → cand_spells s v a → cand_spells s w b → Free (cand_continues v) c → Free (cand_continues w) d → (a ≡ b) × (v ≡ w)
+pub cand_alone : Alone cand_spells cand_continues
 cand_alone = cand_laws.alone
 
 -- ---- first tokens
@@ -530,7 +462,7 @@ two_starts P Q (t ∷ a) (u ∷ b) c d apart m n e =
     let same : t ≡ u = cc in
     apart t m (subst (λ (z : Lexeme). Q z ≡ true) (sym same) n)
 
-pub statement_alone : (s : Scope) (v w : PlainStatement) (a b c d : List Lexeme) → a ++ c ≡ b ++ d → statement_spells s v a → statement_spells s w b → Free (statement_continues v) c → Free (statement_continues w) d → (a ≡ b) × (v ≡ w)
+pub statement_alone : Alone statement_spells statement_continues
 statement_alone s (assigned v) (assigned w) a b c d e m n f g = let k = assignment_alone s v w a b c d e m n f g in (k.0, ap assigned k.1)
 statement_alone s (condition v) (condition w) a b c d e m n f g = let k = pc_alone s v w a b c d e m n f g in (k.0, ap condition k.1)
 statement_alone s (block_condition v) (block_condition w) a b c d e m n f g = let k = block_pc_alone s v w a b c d e m n f g in (k.0, ap block_condition k.1)

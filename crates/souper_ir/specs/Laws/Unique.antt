@@ -3,7 +3,12 @@ use Rattle.std.specs.Prelude.{◌≡◌, Bool, true, List, [], ◌∷◌, ◌++�
 use Rattle.std.proofs.Common.{refl, sym, ◌∙◌, ap, subst, inl, inr, append_assoc}
 use Rattle.std.proofs.lemmas.List.{append_cancel_left}
 use Rattle.souper_graph.specs.Syntax.Tokens.{Lexeme}
+use Rattle.souper_graph.specs.Syntax.Spelling.{Scope}
 use Rattle.souper_ir.specs.Grammar.{Free, Stops, Starts, Members, LastGoesOn, ListGoesOn, OptionSpells, OptionGoesOn}
+
+-- at most one prefix spells a value so that what follows does not continue it
+abbrev pub Alone : {V : Type 0} → (Scope → V → List Lexeme → Type 0) → (V → Lexeme → Type 0) → Type 0
+Alone {V} spells continues = (s : Scope) (v w : V) (a b c d : List Lexeme) → a ++ c ≡ b ++ d → spells s v a → spells s w b → Free (continues v) c → Free (continues w) d → (a ≡ b) × (v ≡ w)
 
 -- ---- what comes next
 
