@@ -1,6 +1,6 @@
 -- Lemmas. A node with attributes after it: which tokens are its two parts, and what parsing one and then the other
 -- returns.
-use Rattle.std.proofs.Common.{◌≡◌, List, [], ◌∷◌, ◌++◌, sym, subst, ◌⊎◌, inl, inr}
+use Rattle.std.proofs.Common.{◌≡◌, List, [], ◌∷◌, ◌++◌, sym, ◌∙◌, ap, subst, ◌⊎◌, inl, inr}
 use Rattle.souper_ir.specs.declared.parse.error.ParseError.{ParseError}
 use Rattle.souper_ir.specs.Parsing.{Parsing}
 use Rattle.souper_graph.specs.Syntax.Tokens.{Lexeme, open_paren}
@@ -61,7 +61,7 @@ pub record Laws {A X C : Type 0} (spells_a : Scope → A → List Lexeme → Typ
 
 module _ {A X C : Type 0} (spells_a : Scope → A → List Lexeme → Type 0) (goes_on_a : A → Lexeme → Type 0) (spells_x : X → List Lexeme → Type 0) (a_of : C → A) (xs_of : C → List X)
     (alone_a : Alone spells_a goes_on_a)
-    (alone_x : (v w : X) (a b c d : List Lexeme) → a ++ c ≡ b ++ d → spells_x v a → spells_x w b → Free (λ t. ⊥) c → Free (λ t. ⊥) d → (a ≡ b) × (v ≡ w))
+    (alone_x : Alone (λ s. spells_x) (λ x t. ⊥))
     (first_x : (x : X) (ts : List Lexeme) → spells_x x ts → Starts (is_mark open_paren) ts) where
   abbrev Continues : C → Lexeme → Type 0
   Continues c t = attributes_continue (goes_on_a (a_of c) t) (xs_of c) t
@@ -79,15 +79,15 @@ module _ {A X C : Type 0} (spells_a : Scope → A → List Lexeme → Type 0) (g
   only s c y rest m f g = attributes_only spells_x first_x (goes_on_a (a_of c)) (xs_of c) y rest m f g
 
   rows_alone : (s : Scope) (v w : List X) (a b c d : List Lexeme) → a ++ c ≡ b ++ d → Row spells_x s v a → Row spells_x s w b → Free (OneMore v) c → Free (OneMore w) d → (a ≡ b) × (v ≡ w)
-  rows_alone s v w a b c d e m n f g = list_alone spells_x (λ (x : X) t. ⊥) (is_mark open_paren) alone_x first_x v w a b c d e m n f g
+  rows_alone s v w a b c d e m n f g = list_alone spells_x (λ (x : X) t. ⊥) (is_mark open_paren) (alone_x s) first_x v w a b c d e m n f g
 
   pub laws : (spells_c : Scope → C → List Lexeme → Type 0) → ((s : Scope) (c : C) (ts : List Lexeme) → spells_c s c ts → Split spells_a goes_on_a (Row spells_x) s (a_of c) (xs_of c) ts)
-      → ((s : Scope) (c : C) (ts : List Lexeme) → Split spells_a goes_on_a (Row spells_x) s (a_of c) (xs_of c) ts → spells_c s c ts) → ((v w : C) → a_of v ≡ a_of w → xs_of v ≡ xs_of w → v ≡ w)
+      → ((s : Scope) (c : C) (ts : List Lexeme) → Split spells_a goes_on_a (Row spells_x) s (a_of c) (xs_of c) ts → spells_c s c ts) → (make : A → List X → C) → ((c : C) → make (a_of c) (xs_of c) ≡ c)
       → Laws spells_a goes_on_a spells_x a_of xs_of spells_c (λ c t. attributes_continue (goes_on_a (a_of c) t) (xs_of c) t)
-  laws spells_c parted joined same = record {
+  laws spells_c parted joined make is = record {
     alone = λ s v w a b c d e m n f g.
         let k = both_alone spells_a goes_on_a (Row spells_x) OneMore Continues a_of xs_of last over alone_a rows_alone s v w a b c d e (parted s v a m) (parted s w b n) f g in
-        (k.0, same v w k.1 k.2);
+        (k.0, sym (is v) ∙ ap (λ (x : A). make x (xs_of v)) k.1 ∙ ap (make (a_of w)) k.2 ∙ is w);
     taken = λ c p q r m n. respelled_taken Parts spells_c Continues (λ s. s) c p r (λ s ts. joined s c ts) (both_taken spells_a goes_on_a (Row spells_x) OneMore Continues a_of xs_of last over alone_a only c p q r m n);
     refused_before = λ e p q h. respelled_refused Parts spells_c Continues e p q parted (refused_first spells_a goes_on_a (Row spells_x) OneMore Continues a_of xs_of last over alone_a e p q h);
     refused_behind = λ a e p q r m h. respelled_refused Parts spells_c Continues e p r parted (refused_second spells_a goes_on_a (Row spells_x) OneMore Continues a_of xs_of last over alone_a a e p q r m h);

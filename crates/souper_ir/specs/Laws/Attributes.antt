@@ -150,7 +150,7 @@ enclosed {G = G} kind_of n = respelled (after (mark open_paren refl) (and_then (
           token = k.first.0;
           kind = k.value;
           body = b.prefix;
-          whole = h.whole ∙ ap (λ (z : List Lexeme). open_paren ∷ z) (k.whole ∙ ap (λ (z : List Lexeme). z ++ k.suffix) k.first.1 ∙ ap (λ (z : List Lexeme). k.first.0 ∷ z) (b.whole ∙ ap (λ (z : List Lexeme). b.prefix ++ z) end));
+          whole = rw (h.whole, k.whole, k.first.1, b.whole, end) refl;
           is = k.first.2;
           inner = rw b.second.after.0 (subst (λ (z : List Lexeme). G k.value Free s b.value b.prefix (z ++ rest)) end b.first);
         })
@@ -206,7 +206,7 @@ attribute_from faulty s (range low high) ts rest h =
 pub attribute_rule : Rule (Node (λ s. attribute_spells) (λ a t. ⊥)) attribute_at
 unfolding attribute_at
 attribute_rule = respelled (enclosed attribute_kind_of (λ k. (attribute_by_rule k).rule))
-    (λ s a ts rest h. (subst (attribute_spells a) (sym h.whole) (attribute_is h.kind h.token s a h.body (close_paren ∷ rest) (kind_means h.token h.kind h.is) h.inner), never rest))
+    (λ s a ts rest h. (rw h.whole (attribute_is h.kind h.token s a h.body (close_paren ∷ rest) (kind_means h.token h.kind h.is) h.inner), never rest))
     attribute_from
 
 pub attribute_complete : Complete (λ s. attribute_spells) (λ a t. ⊥) attribute_at
@@ -260,7 +260,7 @@ root_attribute_from faulty s (demanded_bits bits) ts rest h =
 pub root_attribute_rule : Rule (Node (λ s. root_attribute_spells) (λ a t. ⊥)) root_attribute_at
 unfolding root_attribute_at
 root_attribute_rule = respelled (enclosed (ident_by root_kind_of_word) (λ k. (root_attribute_by_rule k).rule))
-    (λ s a ts rest h. (subst (root_attribute_spells a) (sym h.whole) (root_attribute_is h.kind h.token s a h.body (close_paren ∷ rest) (root_kind_means h.token h.kind h.is) h.inner), never rest))
+    (λ s a ts rest h. (rw h.whole (root_attribute_is h.kind h.token s a h.body (close_paren ∷ rest) (root_kind_means h.token h.kind h.is) h.inner), never rest))
     root_attribute_from
 
 pub root_attribute_complete : Complete (λ s. root_attribute_spells) (λ a t. ⊥) root_attribute_at

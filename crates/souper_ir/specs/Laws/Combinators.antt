@@ -215,7 +215,7 @@ next {more = more} h = record { more = more; whole = refl; after = h }
 
 pub after : {V : Type 0} {t : Lexeme} {F : Form V} {m : Reading (Unit {0})} {r : Reading V} → Rule (Just t) m → Rule F r → Rule (After t F) (λ p. m p >>= λ x. r x.1)
 after {t = t} m n = respelled (and_then m (λ u. n))
-    (λ s v ts rest h. record { more = h.suffix; whole = h.whole ∙ ap (λ (x : List Lexeme). x ++ h.suffix) h.first; after = h.second })
+    (λ s v ts rest h. record { more = h.suffix; whole = rw (h.whole, h.first) refl; after = h.second })
     (λ faulty s v ts rest h. record { value = tt; prefix = t ∷ []; suffix = h.more; whole = h.whole; first = refl; second = h.after })
 
 -- a value after a token of this kind, which depends on what the token means

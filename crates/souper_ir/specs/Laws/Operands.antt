@@ -86,7 +86,7 @@ operand_by_rule true = ruled (named (λ n. given (λ s. position_of s n) (λ i. 
 operand_by_rule false = ruled (last constant_rule constant_variant)
 
 operand_to : (b : Bool) → To (operand_by_rule b).form (Node operand_spells operand_continues)
-operand_to true s x ts rest h = rw h.after.after.0 ((h.name, h.whole ∙ ap (λ (z : List Lexeme). val_name h.name ∷ z) h.after.after.1, h.after.is), never rest)
+operand_to true s x ts rest h = rw h.after.after.0 ((h.name, rw (h.whole, h.after.after.1) refl, h.after.is), never rest)
 operand_to false s x ts rest h = rw h.is h.last
 
 operand_from : From (Node operand_spells operand_continues) (Choice is_name (λ b. (operand_by_rule b).form))

@@ -43,7 +43,7 @@ whole {spells = spells} m n begins = respelled (after m n)
 block_after_rule : Rule (Behind (ident (codes "block")) (λ s. block_spells) (λ b t. ⊥)) block_after_word_at
 unfolding block_after_word_at
 block_after_rule = respelled (number (count_of (2 ^ 32)) (λ n. done (record { predecessors = n })))
-    (λ s b ts rest h. rw h.after.0 ((h.word, ap (λ (z : List Lexeme). ident (codes "block") ∷ z) (h.whole ∙ ap (λ (z : List Lexeme). int h.word ∷ z) h.after.1), h.means), never rest))
+    (λ s b ts rest h. rw h.after.0 ((h.word, rw (h.whole, h.after.1) refl, h.means), never rest))
     (λ faulty s b ts rest h. let e : ts ≡ int h.0.0 ∷ [] = cc in rw e (next_word h.0.0 h.0.2 (refl, refl)))
 
 pub block_rule : Rule (Node (λ s. block_spells) (λ b t. ⊥)) block_at
@@ -87,7 +87,7 @@ block_named n = respelled (and_then (named (λ n. given (λ s. block_entry (entr
           name = k.name;
           block = h.value;
           more = h.suffix;
-          whole = h.whole ∙ ap (λ (z : List Lexeme). z ++ h.suffix) (k.whole ∙ ap (λ (z : List Lexeme). val_name k.name ∷ z) k.after.after.1);
+          whole = rw (h.whole, k.whole, k.after.after.1) refl;
           is = entry_means (entry_of s k.name) h.value (k.after.is ∙ ap Some (sym k.after.after.0));
           after = h.second;
         })
@@ -100,7 +100,7 @@ unfolding phi_after_word_at
 phi_after_rule = respelled (block_named (λ b. last (further_rule b.1) (λ xs. record { block = b.0; values = xs })))
     (λ s v ts rest h.
         let k = h.after.last in
-        rw h.after.is (record { name = h.name; rest = h.more; whole = ap (λ (z : List Lexeme). ident (codes "phi") ∷ z) h.whole; block_is = rw k.0 h.is; values_spelled = k.1.0 }, k.1.1))
+        rw h.after.is (record { name = h.name; rest = h.more; whole = rw h.whole refl; block_is = rw k.0 h.is; values_spelled = k.1.0 }, k.1.1))
     (λ faulty s v ts rest h.
         let k = h.0 in
         record { name = k.name; block = (v.block, length v.values); more = k.rest; whole = cc; is = k.block_is; after = made v.values (refl, (k.values_spelled, h.1)) })
@@ -134,7 +134,7 @@ instruction_of_rule o = respelled (and_then (operands_rule (operand_count o)) (�
           operands = h.value;
           made = k.is ∙ ap Some (sym k.after.0);
           counted = h.first.0;
-          spelled = subst (operands_spells s h.value) (sym (h.whole ∙ ap (λ (z : List Lexeme). h.prefix ++ z) k.after.1 ∙ append-nil h.prefix)) h.first.1.0;
+          spelled = rw (h.whole, k.after.1, append-nil) h.first.1.0;
           free = subst (λ (z : List Lexeme). Free (operands_continue h.value) (z ++ rest)) k.after.1 h.first.1.1;
         })
     (λ faulty s i ts rest h.
@@ -155,7 +155,7 @@ instruction_from faulty s i ts rest h =
 pub instruction_rule : Rule (Node instruction_spells instruction_continues) instruction_at
 unfolding instruction_at
 instruction_rule = respelled (keyword opcode_of instruction_of_rule)
-    (λ s i ts rest h. let k = instruction_to h.value h.word h.means s i h.more rest h.after in (subst (instruction_spells s i) (sym h.whole) k.0, k.1))
+    (λ s i ts rest h. let k = instruction_to h.value h.word h.means s i h.more rest h.after in (rw h.whole k.0, k.1))
     instruction_from
 
 pub instruction_complete : Complete instruction_spells instruction_continues instruction_at
@@ -258,7 +258,7 @@ unfolding rhs_at
 rhs_rule = respelled (and_then rhs_word_rule (λ k. (rhs_by_rule k).rule))
     (λ s v ts rest h.
         let k = rhs_to h.value h.first.0 (begins h.first.0 h.value h.first.2) s v h.suffix rest h.second in
-        (subst (rhs_spells s v) (sym (h.whole ∙ ap (λ (z : List Lexeme). z ++ h.suffix) h.first.1)) k.0, k.1))
+        (rw (h.whole, h.first.1) k.0, k.1))
     rhs_from
 
 pub rhs_complete : Complete rhs_spells rhs_continues rhs_at

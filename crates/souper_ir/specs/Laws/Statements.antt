@@ -9,7 +9,7 @@ use Rattle.souper_graph.specs.declared.ast.operands.Operand.TheVariants.{Value, 
 use Rattle.souper_graph.specs.declared.ast.statements.Pc.{Pc}
 use Rattle.souper_graph.specs.declared.ast.statements.BlockPc.{BlockPc}
 use Rattle.souper_graph.specs.Instructions.{operands_of}
-use Rattle.souper_graph.specs.Values.{PlainAttribute, PlainRootAttribute, PlainRhs, var, block, phi, reserved_inst, reserved_const, instruction, PlainAssignment, PlainStatement, assigned, condition, block_condition, PlainInfer, PlainCand}
+use Rattle.souper_graph.specs.Values.{PlainRhs, var, block, phi, reserved_inst, reserved_const, instruction, PlainAssignment, PlainStatement, assigned, condition, block_condition, PlainInfer, PlainCand}
 use Rattle.souper_graph.specs.Syntax.Tokens.{Lexeme, ident, val_name, int, comma, colon, equals, open_paren}
 use Rattle.souper_graph.specs.Syntax.Numbers.{count_of}
 use Rattle.souper_graph.specs.Syntax.Spelling.{Scope, position_of, optional_type_spells, operand_spells, rhs_spells, attribute_spells, root_attribute_spells, assignment_spells, pc_spells, block_pc_spells, statement_spells, infer_spells, IsOptionalComma, cand_spells, result_spells}
@@ -62,7 +62,7 @@ heading_rule = respelled (named (λ n. given (λ s. fresh (position_of s n)) (λ
         let k = t.second in
         rw k.after.0 (record {
           ty = t.prefix;
-          whole = h.whole ∙ ap (λ (z : List Lexeme). val_name h.name ∷ z) (t.whole ∙ ap (λ (z : List Lexeme). t.prefix ++ z) (k.whole ∙ ap (λ (z : List Lexeme). equals ∷ z) k.after.1));
+          whole = rw (h.whole, t.whole, k.whole, k.after.1) refl;
           name_is_new = fresh_means (position_of s h.name) tt h.after.is;
           ty_spelled = t.first.0;
         }))
@@ -76,7 +76,7 @@ definition_rule = respelled (and_then heading_rule (λ h. last rhs_rule (λ r. r
         rw h.second.is (record {
           ty = k.ty;
           rhs = h.suffix;
-          whole = h.whole ∙ ap (λ (z : List Lexeme). z ++ h.suffix) k.whole ∙ ap (λ (z : List Lexeme). val_name h.value.0 ∷ z) (append_assoc k.ty (equals ∷ []) h.suffix);
+          whole = rw (h.whole, k.whole) (simp append_assoc);
           name_is_new = k.name_is_new;
           ty_spelled = k.ty_spelled;
           rhs_spelled = h.second.last.0;
@@ -84,7 +84,7 @@ definition_rule = respelled (and_then heading_rule (λ h. last rhs_rule (λ r. r
     (λ faulty s d ts rest h.
         let k = h.0 in
         let front : List Lexeme = val_name d.name ∷ (k.ty ++ equals ∷ []) in
-        let parts : ts ≡ front ++ k.rhs = k.whole ∙ ap (λ (z : List Lexeme). val_name d.name ∷ z) (sym (append_assoc k.ty (equals ∷ []) k.rhs)) in
+        let parts : ts ≡ front ++ k.rhs = rw k.whole (simp append_assoc) in
         let heading : Heading (λ goes_on. Stops goes_on faulty) s (d.name, d.ty) front (k.rhs ++ rest) = record { ty = k.ty; whole = refl; name_is_new = k.name_is_new; ty_spelled = k.ty_spelled } in
         rw parts (both (d.name, d.ty) front k.rhs heading (made d.value (k.rhs_spelled, h.1))))
 
@@ -128,7 +128,7 @@ block_pc_rule = respelled
           number = n.word;
           predecessors = b.block.1;
           rest = n.more;
-          whole = h.whole ∙ ap (λ (z : List Lexeme). ident (codes "blockpc") ∷ z) (b.whole ∙ ap (λ (z : List Lexeme). val_name b.name ∷ z) n.whole);
+          whole = rw (h.whole, b.whole, n.whole) refl;
           block_is = b.is;
           number_is = n.means ∙ ap Some below.1;
           within = subst (λ (z : ℕ). z < b.block.1) below.1 below.0;
@@ -155,7 +155,7 @@ unfolding root_at
 root_rule = respelled (after (word (codes "infer")) (named (λ n. given (λ s. position_of s n) (λ i. done i))))
     (λ s v ts rest h.
         let n = h.after in
-        rw n.after.after.0 ((n.name, h.whole ∙ ap (λ (z : List Lexeme). ident (codes "infer") ∷ z) (n.whole ∙ ap (λ (z : List Lexeme). val_name n.name ∷ z) n.after.after.1), n.after.is), never rest))
+        rw n.after.after.0 ((n.name, rw (h.whole, n.whole, n.after.after.1) refl, n.after.is), never rest))
     (λ faulty s v ts rest h. rw h.0.1 (next (next_name h.0.0 (found h.0.2 (refl, refl)))))
 
 -- ---- the cand line up to its attributes
@@ -209,7 +209,7 @@ pair_line_rule = respelled (after (word (codes "cand")) (and_then operand_rule (
           lhs = x.prefix;
           between = c.prefix;
           rhs = c.suffix;
-          whole = h.whole ∙ ap (λ (z : List Lexeme). ident (codes "cand") ∷ z) (x.whole ∙ ap (λ (z : List Lexeme). x.prefix ++ z) c.whole);
+          whole = rw (h.whole, x.whole, c.whole) refl;
           lhs_spelled = x.first.0;
           comma_or_none = comma_is c.first.branch Free s c.value c.prefix (c.suffix ++ rest) c.first.chosen;
           rhs_spelled = y.last.0;
@@ -301,12 +301,6 @@ cand_ends c t b = λ h. begins_no_more t b (attributes_more (operand_continues c
 
 -- ---- lines with attributes
 
-attribute_alone : (v w : PlainAttribute) (a b c d : List Lexeme) → a ++ c ≡ b ++ d → attribute_spells v a → attribute_spells w b → Free (λ t. ⊥) c → Free (λ t. ⊥) d → (a ≡ b) × (v ≡ w)
-attribute_alone = alone attribute_rule []
-
-root_attribute_alone : (v w : PlainRootAttribute) (a b c d : List Lexeme) → a ++ c ≡ b ++ d → root_attribute_spells v a → root_attribute_spells w b → Free (λ t. ⊥) c → Free (λ t. ⊥) d → (a ≡ b) × (v ≡ w)
-root_attribute_alone = alone root_attribute_rule []
-
 -- an assignment without its attributes
 abbrev pub definition_of : PlainAssignment → Definition
 definition_of a = record { name = a.name; ty = a.ty; value = a.value }
@@ -317,7 +311,7 @@ assignment_parts s a ts h =
     record {
       prefix = val_name a.name ∷ (h.ty ++ equals ∷ h.rhs);
       suffix = h.attributes;
-      whole = h.whole ∙ ap (λ (z : List Lexeme). val_name a.name ∷ z) (sym (append_assoc h.ty (equals ∷ h.rhs) h.attributes));
+      whole = rw h.whole (simp append_assoc);
       first = record { ty = h.ty; rhs = h.rhs; whole = refl; name_is_new = h.name_is_new; ty_spelled = h.ty_spelled; rhs_spelled = h.rhs_spelled };
       free = attributes_over attribute_spells (attribute_first s) (rhs_continues a.value) a.attributes h.attributes (no_colon (rhs_continues a.value) (rhs_more a.value)) members;
       second = members;
@@ -330,22 +324,17 @@ parts_assignment s a ts h =
       ty = d.ty;
       rhs = d.rhs;
       attributes = h.suffix;
-      whole = h.whole ∙ ap (λ (z : List Lexeme). z ++ h.suffix) d.whole ∙ ap (λ (z : List Lexeme). val_name a.name ∷ z) (append_assoc d.ty (equals ∷ d.rhs) h.suffix);
+      whole = rw (h.whole, d.whole) (simp append_assoc);
       name_is_new = d.name_is_new;
       ty_spelled = d.ty_spelled;
       rhs_spelled = d.rhs_spelled;
       attributes_spelled = members_are_attributes a.attributes h.suffix h.second;
     }
 
-assignment_same : (v w : PlainAssignment) → definition_of v ≡ definition_of w → v.attributes ≡ w.attributes → v ≡ w
-assignment_same v w d e =
-    let first : v ≡ record { name = w.name; ty = w.ty; value = w.value; attributes = v.attributes } = ap (λ (x : Definition). record { name = x.name; ty = x.ty; value = x.value; attributes = v.attributes }) d in
-    let second : record { name = w.name; ty = w.ty; value = w.value; attributes = v.attributes } ≡ w = ap (λ (x : List PlainAttribute). record { name = w.name; ty = w.ty; value = w.value; attributes = x }) e in
-    first ∙ second
-
 pub assignment_laws : Laws definition_spells definition_continues attribute_spells definition_of (λ (a : PlainAssignment). a.attributes) assignment_spells assignment_continues
 assignment_laws =
-    laws definition_spells definition_continues attribute_spells definition_of (λ (a : PlainAssignment). a.attributes) (alone definition_rule) attribute_alone (attribute_first []) assignment_spells assignment_parts parts_assignment assignment_same
+    laws definition_spells definition_continues attribute_spells definition_of (λ (a : PlainAssignment). a.attributes) (alone definition_rule) (alone attribute_rule) (attribute_first []) assignment_spells assignment_parts parts_assignment
+    (λ d xs. record { name = d.name; ty = d.ty; value = d.value; attributes = xs }) (λ a. refl)
 
 pub infer_parts : (s : Scope) (i : PlainInfer) (ts : List Lexeme) → infer_spells s i ts → Split root_spells (λ (r : ℕ) t. ⊥) (Row root_attribute_spells) s i.value i.attributes ts
 infer_parts s i ts h = record {
@@ -361,20 +350,15 @@ pub parts_infer : (s : Scope) (i : PlainInfer) (ts : List Lexeme) → Split root
 parts_infer s i ts h = record {
   name = h.first.0;
   attributes = h.suffix;
-  whole = h.whole ∙ ap (λ (z : List Lexeme). z ++ h.suffix) h.first.1;
+  whole = rw (h.whole, h.first.1) refl;
   value_is = h.first.2;
   attributes_spelled = members_are_root_attributes i.attributes h.suffix h.second;
 }
 
-infer_same : (v w : PlainInfer) → v.value ≡ w.value → v.attributes ≡ w.attributes → v ≡ w
-infer_same v w d e =
-    let first : v ≡ record { value = w.value; attributes = v.attributes } = ap (λ (x : ℕ). record { value = x; attributes = v.attributes }) d in
-    let second : record { value = w.value; attributes = v.attributes } ≡ w = ap (λ (x : List PlainRootAttribute). record { value = w.value; attributes = x }) e in
-    first ∙ second
-
 pub infer_laws : Laws root_spells (λ (r : ℕ) t. ⊥) root_attribute_spells (λ (i : PlainInfer). i.value) (λ (i : PlainInfer). i.attributes) infer_spells infer_continues
 infer_laws =
-    laws root_spells (λ (r : ℕ) t. ⊥) root_attribute_spells (λ (i : PlainInfer). i.value) (λ (i : PlainInfer). i.attributes) (alone root_rule) root_attribute_alone (root_attribute_first []) infer_spells infer_parts parts_infer infer_same
+    laws root_spells (λ (r : ℕ) t. ⊥) root_attribute_spells (λ (i : PlainInfer). i.value) (λ (i : PlainInfer). i.attributes) (alone root_rule) (alone root_attribute_rule) (root_attribute_first []) infer_spells infer_parts parts_infer
+    (λ r xs. record { value = r; attributes = xs }) (λ i. refl)
 
 -- the two operands of a cand line
 abbrev pub pair_of : PlainCand → Operand × Operand
@@ -383,12 +367,10 @@ pair_of c = (c.lhs, c.rhs)
 pub cand_parts : (s : Scope) (c : PlainCand) (ts : List Lexeme) → cand_spells s c ts → Split pair_line_spells pair_line_continues (Row root_attribute_spells) s (pair_of c) c.attributes ts
 cand_parts s c ts h =
     let members : Row root_attribute_spells s c.attributes h.attributes = root_attributes_are_members c.attributes h.attributes h.attributes_spelled in
-    let regrouped : h.lhs ++ (h.between ++ (h.rhs ++ h.attributes)) ≡ (h.lhs ++ (h.between ++ h.rhs)) ++ h.attributes =
-    sym (append_assoc h.lhs (h.between ++ h.rhs) h.attributes ∙ ap (λ (z : List Lexeme). h.lhs ++ z) (append_assoc h.between h.rhs h.attributes)) in
     record {
       prefix = ident (codes "cand") ∷ (h.lhs ++ (h.between ++ h.rhs));
       suffix = h.attributes;
-      whole = h.whole ∙ ap (λ (z : List Lexeme). ident (codes "cand") ∷ z) regrouped;
+      whole = rw h.whole (simp append_assoc);
       first = record { lhs = h.lhs; between = h.between; rhs = h.rhs; whole = refl; lhs_spelled = h.lhs_spelled; comma_or_none = h.comma_or_none; rhs_spelled = h.rhs_spelled };
       free = attributes_over root_attribute_spells (root_attribute_first s) (operand_continues c.rhs) c.attributes h.attributes (no_colon (operand_continues c.rhs) (operand_more c.rhs)) members;
       second = members;
@@ -397,29 +379,22 @@ cand_parts s c ts h =
 pub parts_cand : (s : Scope) (c : PlainCand) (ts : List Lexeme) → Split pair_line_spells pair_line_continues (Row root_attribute_spells) s (pair_of c) c.attributes ts → cand_spells s c ts
 parts_cand s c ts h =
     let k = h.first in
-    let regrouped : (k.lhs ++ (k.between ++ k.rhs)) ++ h.suffix ≡ k.lhs ++ (k.between ++ (k.rhs ++ h.suffix)) =
-    append_assoc k.lhs (k.between ++ k.rhs) h.suffix ∙ ap (λ (z : List Lexeme). k.lhs ++ z) (append_assoc k.between k.rhs h.suffix) in
     record {
       lhs = k.lhs;
       between = k.between;
       rhs = k.rhs;
       attributes = h.suffix;
-      whole = h.whole ∙ ap (λ (z : List Lexeme). z ++ h.suffix) k.whole ∙ ap (λ (z : List Lexeme). ident (codes "cand") ∷ z) regrouped;
+      whole = rw (h.whole, k.whole) (simp append_assoc);
       lhs_spelled = k.lhs_spelled;
       comma_or_none = k.comma_or_none;
       rhs_spelled = k.rhs_spelled;
       attributes_spelled = members_are_root_attributes c.attributes h.suffix h.second;
     }
 
-cand_same : (v w : PlainCand) → pair_of v ≡ pair_of w → v.attributes ≡ w.attributes → v ≡ w
-cand_same v w d e =
-    let first : v ≡ record { lhs = w.lhs; rhs = w.rhs; attributes = v.attributes } = ap (λ (x : Operand × Operand). record { lhs = x.0; rhs = x.1; attributes = v.attributes }) d in
-    let second : record { lhs = w.lhs; rhs = w.rhs; attributes = v.attributes } ≡ w = ap (λ (x : List PlainRootAttribute). record { lhs = w.lhs; rhs = w.rhs; attributes = x }) e in
-    first ∙ second
-
 pub cand_laws : Laws pair_line_spells pair_line_continues root_attribute_spells pair_of (λ (c : PlainCand). c.attributes) cand_spells cand_continues
 cand_laws =
-    laws pair_line_spells pair_line_continues root_attribute_spells pair_of (λ (c : PlainCand). c.attributes) (alone pair_line_rule) root_attribute_alone (root_attribute_first []) cand_spells cand_parts parts_cand cand_same
+    laws pair_line_spells pair_line_continues root_attribute_spells pair_of (λ (c : PlainCand). c.attributes) (alone pair_line_rule) (alone root_attribute_rule) (root_attribute_first []) cand_spells cand_parts parts_cand
+    (λ o xs. record { lhs = o.0; rhs = o.1; attributes = xs }) (λ c. refl)
 
 pub assignment_alone : Alone assignment_spells assignment_continues
 assignment_alone = assignment_laws.alone
