@@ -11,13 +11,13 @@ use Rattle.souper_ir.specs.Continuation.{statement_continues, infer_continues, c
 use Rattle.souper_ir.specs.Parsing.{Parsing}
 use Rattle.souper_ir.specs.Reading.{cause_of, IfRefused, if_refused, IsRead, Fails, fails_later}
 use Rattle.souper_ir.specs.Grammar.{Free, Starts, Took, NoFront, Refusal, peek_at}
-use Rattle.souper_ir.specs.Laws.Unique.{Free-from_Stops}
+use Rattle.souper_ir.specs.Laws.Unique.{Free-from_Stops, clash}
 use Rattle.souper_ir.specs.NodeReadings.{is_word}
 use Rattle.souper_ir.specs.Laws.Peeks.{peeked, peeked_yes, peeked_no, none_if_unread}
 use Rattle.souper_ir.specs.Laws.Steps.{kinds-append}
 use Rattle.souper_ir.specs.Laws.Statements.{infer_first, infer_alone}
 use Rattle.souper_ir.specs.Items.{tail_continues, Entered, Enters, AllStated, NoMore, StuckAt, StatedRefusal}
-use Rattle.souper_ir.specs.Laws.Items.{free_clash, split, cand_is_no_infer, starts_ahead, replaced_begins, infer_over, result_opens, tail_opens, no_item, weaker, stuck_tail, failed_same, len_same}
+use Rattle.souper_ir.specs.Laws.Items.{split, cand_is_no_infer, starts_ahead, replaced_begins, infer_over, result_opens, tail_opens, no_item, weaker, stuck_tail, failed_same, len_same}
 
 abbrev TookInfer : PlainInfer → Parsing → Parsing → Type 0
 TookInfer i p q = Took infer_spells infer_continues (λ s. s) i p q
@@ -128,7 +128,7 @@ cand_tail_refused e p h q seen bad =
     none : Free (λ t. is_word (codes "infer") t ≡ true) (kinds p.tokens) → NoFront cand_spells cand_continues p → NoFront (tail_spells replacement) tail_continues p
     none free f (new, inferred i) front rest eq sp st = sp
     none free f (new, resulting r) front rest eq sp st = sp
-    none free f (new, replaced i r) front rest eq sp st = free_clash (is_word (codes "infer")) front rest (kinds p.tokens) (replaced_begins p.scope new i r front sp) free eq
+    none free f (new, replaced i r) front rest eq sp st = clash (is_word (codes "infer")) front (kinds p.tokens) rest (replaced_begins p.scope new i r front sp) eq free
     none free f (new, candidate c) front rest eq sp st = f c front rest eq sp.1 st
 
 -- ---- an infer line, further statements and a result line

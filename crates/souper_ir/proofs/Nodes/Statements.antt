@@ -18,7 +18,7 @@ use Rattle.souper_ir.specs.Laws.Peeks.{peeked, peeked_yes, peeked_no, none_if_un
 use Rattle.souper_ir.specs.NodeReadings.{is_name, is_word, rhs_at, Definition, heading_at, definition_at, pc_at, block_pc_at}
 use Rattle.souper_ir.specs.Laws.FromReadings.{is_taken, is_refused}
 use Rattle.souper_ir.specs.Laws.Attributed.{Row, OneMore}
-use Rattle.souper_ir.specs.Laws.Statements.{definition_spells, definition_continues, definition_rule, assignment_laws, assignment_first, pc_rule, pc_first, block_pc_rule, block_pc_first, name_no_word, pc_no_block_pc, two_starts}
+use Rattle.souper_ir.specs.Laws.Statements.{definition_rule, assignment_laws, assignment_first, pc_rule, pc_first, block_pc_rule, block_pc_first, name_no_word, pc_no_block_pc, two_starts}
 
 abbrev pub Refuses : ParseError → Parsing → Parsing → Type 0
 Refuses e p q = Refusal statement_spells statement_continues e p q
@@ -42,13 +42,13 @@ pc_none p st none (block_condition v) front rest e s stops =
 pub pc_taken : (v : Pc) (p q r : Parsing) → IsRead (peek_at (is_word (codes "pc")) p) true p q → IsRead (pc_at q) v q r → Takes_it (condition v) p r
 pc_taken v p q r h k =
     let seen = peeked (is_word (codes "pc")) p q true h.0 in
-    let t = is_taken pc_spells pc_continues pc_at (λ x. x) pc_rule v p r (subst (λ (x : Parsing). IsRead (pc_at x) v x r) seen.0 k) in
+    let t = is_taken pc_rule (λ x. x) v p r (subst (λ (x : Parsing). IsRead (pc_at x) v x r) seen.0 k) in
     record { used = t.used; parts = t.parts; spelled = t.spelled; free = t.free; live = t.live; state = t.state }
 
 pub pc_refused : (e : ParseError) (p q r : Parsing) → IsRead (peek_at (is_word (codes "pc")) p) true p q → IfRefused (cause_of e) (pc_at q ≡ None) × Fails e q r → Refuses e p r
 pc_refused e p q r h k =
     let seen = peeked (is_word (codes "pc")) p q true h.0 in
-    let f = is_refused pc_spells pc_continues pc_at pc_rule e p r (subst (λ (x : Parsing). IfRefused (cause_of e) (pc_at x ≡ None) × Fails e x r) seen.0 k) in
+    let f = is_refused pc_rule e p r (subst (λ (x : Parsing). IfRefused (cause_of e) (pc_at x ≡ None) × Fails e x r) seen.0 k) in
     record { failed = f.failed; nothing = if_refused (cause_of e) (λ none live. pc_none p (peeked_yes (is_word (codes "pc")) p.faulty p.tokens seen.2) (none live)) f.nothing }
 
 -- ---- the word of a condition on a predecessor comes
@@ -63,13 +63,13 @@ block_pc_none p st none (block_condition v) front rest e s stops = none v front 
 pub block_pc_taken : (v : BlockPc) (p q r : Parsing) → IsRead (peek_at (is_word (codes "blockpc")) p) true p q → IsRead (block_pc_at q) v q r → Takes_it (block_condition v) p r
 block_pc_taken v p q r h k =
     let seen = peeked (is_word (codes "blockpc")) p q true h.0 in
-    let t = is_taken block_pc_spells block_pc_continues block_pc_at (λ x. x) block_pc_rule v p r (subst (λ (x : Parsing). IsRead (block_pc_at x) v x r) seen.0 k) in
+    let t = is_taken block_pc_rule (λ x. x) v p r (subst (λ (x : Parsing). IsRead (block_pc_at x) v x r) seen.0 k) in
     record { used = t.used; parts = t.parts; spelled = t.spelled; free = t.free; live = t.live; state = t.state }
 
 pub block_pc_refused : (e : ParseError) (p q r : Parsing) → IsRead (peek_at (is_word (codes "blockpc")) p) true p q → IfRefused (cause_of e) (block_pc_at q ≡ None) × Fails e q r → Refuses e p r
 block_pc_refused e p q r h k =
     let seen = peeked (is_word (codes "blockpc")) p q true h.0 in
-    let f = is_refused block_pc_spells block_pc_continues block_pc_at block_pc_rule e p r (subst (λ (x : Parsing). IfRefused (cause_of e) (block_pc_at x ≡ None) × Fails e x r) seen.0 k) in
+    let f = is_refused block_pc_rule e p r (subst (λ (x : Parsing). IfRefused (cause_of e) (block_pc_at x ≡ None) × Fails e x r) seen.0 k) in
     record { failed = f.failed; nothing = if_refused (cause_of e) (λ none live. block_pc_none p (peeked_yes (is_word (codes "blockpc")) p.faulty p.tokens seen.2) (none live)) f.nothing }
 
 -- ---- an assignment from its parts
@@ -93,10 +93,10 @@ pub parts_taken : (a : PlainAssignment) (p k q r : Parsing) → IsRead (heading_
     → Took assignment_spells assignment_continues (λ s. s) a p r
 parts_taken a p k q r h v xs =
     let d : Definition = record { name = a.name; ty = a.ty; value = a.value } in
-    assignment_laws.taken a p q r (is_taken definition_spells definition_continues definition_at (λ (x : Definition). x) definition_rule d p q (definition_read p k q d h v)) xs
+    assignment_laws.taken a p q r (is_taken definition_rule (λ (x : Definition). x) d p q (definition_read p k q d h v)) xs
 
 refused_definition : (e : ParseError) (p q : Parsing) → IfRefused (cause_of e) (definition_at p ≡ None) → Fails e p q → Refusal assignment_spells assignment_continues e p q
-refused_definition e p q h f = assignment_laws.refused_before e p q (is_refused definition_spells definition_continues definition_at definition_rule e p q (h, f))
+refused_definition e p q h f = assignment_laws.refused_before e p q (is_refused definition_rule e p q (h, f))
 
 pub heading_refused : (e : ParseError) (p q : Parsing) → IfRefused (cause_of e) (heading_at p ≡ None) × Fails e p q → Refusal assignment_spells assignment_continues e p q
 heading_refused e p q h = refused_definition e p q (if_refused (cause_of e) (unread_heading p) h.0) h.1
@@ -107,7 +107,7 @@ value_refused e x p k q h f = refused_definition e p q (if_refused (cause_of e) 
 pub attributes_refused : (e : ParseError) (d : Definition) (p k q r : Parsing) → IsRead (heading_at p) (d.name, d.ty) p k → IsRead (rhs_at k) d.value k q → Refusal (Row attribute_spells) OneMore e q r
     → Refusal assignment_spells assignment_continues e p r
 attributes_refused e d p k q r h v f =
-    assignment_laws.refused_behind d e p q r (is_taken definition_spells definition_continues definition_at (λ (x : Definition). x) definition_rule d p q (definition_read p k q d h v)) f
+    assignment_laws.refused_behind d e p q r (is_taken definition_rule (λ (x : Definition). x) d p q (definition_read p k q d h v)) f
 
 -- ---- neither word comes
 

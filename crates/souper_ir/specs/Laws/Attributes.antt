@@ -1,7 +1,6 @@
 -- Lemmas. The rules of attributes: what is read is spelled so, and what is spelled so is read.
 use Rattle.std.proofs.Common.{◌≡◌, ℕ, ◌^◌, ◌<◌, ◌==◌, Bool, true, false, List, [], ◌∷◌, ◌++◌, map, length, Option, Some, None, refl, sym, ◌∙◌, ap, subst, inl, inr, arith, eqb-true}
-use Rattle.std.specs.Prelude.{codes, bytes_eq, if◌then◌else◌}
-use Rattle.std.proofs.lemmas.Slice.Eq.{bytes_eq-Decides}
+use Rattle.std.specs.Prelude.{codes, if◌then◌else◌}
 use Rattle.souper_graph.specs.Leaves.{text_of_known_bit, text_of_bit}
 use Rattle.souper_graph.specs.Values.{PlainAttribute, known_bits as known_bits_attribute, power_of_two, negative, non_negative, non_zero, has_external_uses, sign_bits, range, PlainRootAttribute, demanded_bits, harvested_from_use}
 use Rattle.souper_graph.specs.Syntax.Tokens.{Lexeme, ident, known_bits, int, comma, equals, open_paren, close_paren, open_bracket}
@@ -13,7 +12,7 @@ use Rattle.souper_ir.specs.NodeReadings.{accept, mark_of, is_mark, ident_by, Att
 use Rattle.souper_ir.specs.Laws.Unique.{never}
 use Rattle.souper_ir.specs.Laws.Peeks.{some_is}
 use Rattle.souper_ir.specs.Laws.Steps.{bind_some}
-use Rattle.souper_ir.specs.Laws.Tokens.{is_mark_means, ident_means}
+use Rattle.souper_ir.specs.Laws.Tokens.{is_mark_means, by_word, ident_means}
 use Rattle.souper_ir.specs.Laws.Combinators.{Ends, Form, Reading, Rule, Ruled, ruled, Node, From, respelled, both, and_then, done, found, given, one, mark, next, after, next_word, number}
 use Rattle.souper_ir.specs.Laws.FromReadings.{Complete}
 
@@ -105,23 +104,15 @@ KindIs (bits_kind s) t = t ≡ known_bits s
 KindIs sign_bits_kind t = t ≡ ident (codes "signBits")
 KindIs range_kind t = t ≡ ident (codes "range")
 
--- one word more
-word_or : {K : Type 0} (P : K → Lexeme → Type 0) (b : Bool) (w word : List ℕ) (k v : K) (o : Option K) → (b ≡ true → w ≡ word) → P k (ident word) → (o ≡ Some v → P v (ident w)) → (if b then Some k else o) ≡ Some v → P v (ident w)
-word_or {K} P true w word k v o is here other e = let same : ◌≡◌ {A = K} k v = some_is e in subst (λ (x : K). P x (ident w)) same (subst (λ (x : List ℕ). P k (ident x)) (sym (is refl)) here)
-word_or P false w word k v o is here other e = other e
-
-same_word : (w word : List ℕ) → bytes_eq w word ≡ true → w ≡ word
-same_word w word = (bytes_eq-Decides w word).0
-
 word_kind_means : (w : List ℕ) (k : AttributeKind) → attribute_kind_of_word w ≡ Some k → KindIs k (ident w)
-word_kind_means w k =
-    word_or KindIs (bytes_eq w (codes "powerOfTwo")) w (codes "powerOfTwo") (plain_kind power_of_two) k _ (same_word w (codes "powerOfTwo")) refl (
-    word_or KindIs (bytes_eq w (codes "negative")) w (codes "negative") (plain_kind negative) k _ (same_word w (codes "negative")) refl (
-    word_or KindIs (bytes_eq w (codes "nonNegative")) w (codes "nonNegative") (plain_kind non_negative) k _ (same_word w (codes "nonNegative")) refl (
-    word_or KindIs (bytes_eq w (codes "nonZero")) w (codes "nonZero") (plain_kind non_zero) k _ (same_word w (codes "nonZero")) refl (
-    word_or KindIs (bytes_eq w (codes "hasExternalUses")) w (codes "hasExternalUses") (plain_kind has_external_uses) k _ (same_word w (codes "hasExternalUses")) refl (
-    word_or KindIs (bytes_eq w (codes "signBits")) w (codes "signBits") sign_bits_kind k _ (same_word w (codes "signBits")) refl (
-    word_or KindIs (bytes_eq w (codes "range")) w (codes "range") range_kind k None (same_word w (codes "range")) refl (λ e. absurd cc)))))))
+word_kind_means w k e =
+    by_word (λ w k. KindIs k (ident w)) w (codes "powerOfTwo") (plain_kind power_of_two) k _ e refl (λ e.
+    by_word (λ w k. KindIs k (ident w)) w (codes "negative") (plain_kind negative) k _ e refl (λ e.
+    by_word (λ w k. KindIs k (ident w)) w (codes "nonNegative") (plain_kind non_negative) k _ e refl (λ e.
+    by_word (λ w k. KindIs k (ident w)) w (codes "nonZero") (plain_kind non_zero) k _ e refl (λ e.
+    by_word (λ w k. KindIs k (ident w)) w (codes "hasExternalUses") (plain_kind has_external_uses) k _ e refl (λ e.
+    by_word (λ w k. KindIs k (ident w)) w (codes "signBits") sign_bits_kind k _ e refl (λ e.
+    by_word (λ w k. KindIs k (ident w)) w (codes "range") range_kind k _ e refl (λ e. absurd cc)))))))
 
 kind_means : (t : Lexeme) (k : AttributeKind) → attribute_kind_of t ≡ Some k → KindIs k t
 kind_means (known_bits s) k e = let same : ◌≡◌ {A = AttributeKind} (bits_kind s) k = some_is e in subst (λ (x : AttributeKind). KindIs x (known_bits s)) same refl
@@ -185,7 +176,8 @@ attribute_is range_kind t s a ts rest is h =
     rw k.after.0 (record { low_word = low.word; high_word = high.word; whole = rw (is, h.whole, o.whole, low.whole, c.whole, high.whole, k.whole, k.after.1) refl; low_is = low.means; high_is = high.means })
 
 -- what a token of this kind begins
-opened : {K V : Type 0} {kind_of : Lexeme → Option K} {G : K → Form V} {ends : Ends} {s : Scope} {v : V} {rest : List Lexeme} (t : Lexeme) (k : K) (ts : List Lexeme) → kind_of t ≡ Some k → G k ends s v ts (close_paren ∷ rest) → Enclosed kind_of G ends s v (open_paren ∷ t ∷ (ts ++ close_paren ∷ [])) rest
+opened : {K V : Type 0} {kind_of : Lexeme → Option K} {G : K → Form V} {ends : Ends} {s : Scope} {v : V} {rest : List Lexeme} (t : Lexeme) (k : K) (ts : List Lexeme)
+    → kind_of t ≡ Some k → G k ends s v ts (close_paren ∷ rest) → Enclosed kind_of G ends s v (open_paren ∷ t ∷ (ts ++ close_paren ∷ [])) rest
 opened t k ts e h = record { token = t; kind = k; body = ts; whole = refl; is = e; inner = h }
 
 attribute_from : From (Node (λ s. attribute_spells) (λ a t. ⊥)) (Enclosed attribute_kind_of (λ k. (attribute_by_rule k).form))
@@ -230,9 +222,9 @@ RootKindIs true t = t ≡ ident (codes "demandedBits")
 RootKindIs false t = t ≡ ident (codes "harvestedFromUse")
 
 root_word_means : (w : List ℕ) (k : Bool) → root_kind_of_word w ≡ Some k → RootKindIs k (ident w)
-root_word_means w k =
-    word_or RootKindIs (bytes_eq w (codes "demandedBits")) w (codes "demandedBits") true k _ (same_word w (codes "demandedBits")) refl (
-    word_or RootKindIs (bytes_eq w (codes "harvestedFromUse")) w (codes "harvestedFromUse") false k None (same_word w (codes "harvestedFromUse")) refl (λ e. absurd cc))
+root_word_means w k e =
+    by_word (λ w k. RootKindIs k (ident w)) w (codes "demandedBits") true k _ e refl (λ e.
+    by_word (λ w k. RootKindIs k (ident w)) w (codes "harvestedFromUse") false k _ e refl (λ e. absurd cc))
 
 root_kind_means : (t : Lexeme) (k : Bool) → ident_by root_kind_of_word t ≡ Some k → RootKindIs k t
 root_kind_means t k e =
@@ -292,18 +284,10 @@ followed h more = record { prefix = h.prefix; suffix = h.suffix; whole = h.whole
 joined : {P Q R : List Lexeme → Type 0} {goes_on : Lexeme → Type 0} {ts : List Lexeme} (h : Followed P goes_on Q ts) → R h.suffix → Joined P R ts
 joined h more = record { prefix = h.prefix; suffix = h.suffix; whole = h.whole; first = h.first; second = more }
 
-pub attributes_are_members : (xs : List PlainAttribute) (ts : List Lexeme) → attributes_spell xs ts → Members attribute_spells (λ a t. ⊥) xs ts
-attributes_are_members [] ts h = h
-attributes_are_members (x ∷ xs) ts h = followed h (attributes_are_members xs h.suffix h.second)
+pub attributes_members : (xs : List PlainAttribute) (ts : List Lexeme) → (attributes_spell xs ts → Members attribute_spells (λ a t. ⊥) xs ts) × (Members attribute_spells (λ a t. ⊥) xs ts → attributes_spell xs ts)
+attributes_members [] ts = (λ h. h, λ h. h)
+attributes_members (x ∷ xs) ts = (λ h. followed h ((attributes_members xs h.suffix).0 h.second), λ h. joined h ((attributes_members xs h.suffix).1 h.second))
 
-pub members_are_attributes : (xs : List PlainAttribute) (ts : List Lexeme) → Members attribute_spells (λ a t. ⊥) xs ts → attributes_spell xs ts
-members_are_attributes [] ts h = h
-members_are_attributes (x ∷ xs) ts h = joined h (members_are_attributes xs h.suffix h.second)
-
-pub root_attributes_are_members : (xs : List PlainRootAttribute) (ts : List Lexeme) → root_attributes_spell xs ts → Members root_attribute_spells (λ a t. ⊥) xs ts
-root_attributes_are_members [] ts h = h
-root_attributes_are_members (x ∷ xs) ts h = followed h (root_attributes_are_members xs h.suffix h.second)
-
-pub members_are_root_attributes : (xs : List PlainRootAttribute) (ts : List Lexeme) → Members root_attribute_spells (λ a t. ⊥) xs ts → root_attributes_spell xs ts
-members_are_root_attributes [] ts h = h
-members_are_root_attributes (x ∷ xs) ts h = joined h (members_are_root_attributes xs h.suffix h.second)
+pub root_attributes_members : (xs : List PlainRootAttribute) (ts : List Lexeme) → (root_attributes_spell xs ts → Members root_attribute_spells (λ a t. ⊥) xs ts) × (Members root_attribute_spells (λ a t. ⊥) xs ts → root_attributes_spell xs ts)
+root_attributes_members [] ts = (λ h. h, λ h. h)
+root_attributes_members (x ∷ xs) ts = (λ h. followed h ((root_attributes_members xs h.suffix).0 h.second), λ h. joined h ((root_attributes_members xs h.suffix).1 h.second))

@@ -1,4 +1,5 @@
--- Lemmas. Rules of the grammar by how readings are combined: what a combination reads, from what its parts read.
+-- Lemmas. Rules of the grammar by how readings are combined: what a combination reads, from what its parts read. Beside
+-- each form stands what builds it: `both`, `found`, `made`, `next`, `next_word`, `next_name`.
 use Rattle.std.proofs.Common.{◌≡◌, ℕ, Bool, true, false, List, [], ◌∷◌, ◌++◌, Option, Some, None, refl, sym, ◌∙◌, ap, subst, append_assoc}
 use Rattle.std.proofs.lemmas.List.{append-nil}
 use Rattle.souper_graph.specs.Syntax.Optional.{◌>>=◌}
@@ -15,7 +16,7 @@ use Rattle.souper_ir.specs.Laws.Tokens.{name_means, mark_means, word_means, word
 
 -- ---- rules
 
--- what is asked of the tokens behind a node, if these tokens continue it
+-- what is asked of the tokens behind a node that some tokens continue: a reading ensures `Free`, and requires `Stops`
 abbrev pub Ends : Type 1
 Ends = (Lexeme → Type 0) → List Lexeme → Type 0
 
@@ -76,7 +77,8 @@ pub record Then {A B : Type 0} (F : Form A) (G : A → Form B) (ends : Ends) (s 
   pub first : F ends s value prefix (suffix ++ rest)
   pub second : G value ends s v suffix rest
 
-pub both : {A B : Type 0} {F : Form A} {G : A → Form B} {ends : Ends} {s : Scope} {v : B} {rest : List Lexeme} (a : A) (x y : List Lexeme) → F ends s a x (y ++ rest) → G a ends s v y rest → Then F G ends s v (x ++ y) rest
+pub both : {A B : Type 0} {F : Form A} {G : A → Form B} {ends : Ends} {s : Scope} {v : B} {rest : List Lexeme} (a : A) (x y : List Lexeme)
+    → F ends s a x (y ++ rest) → G a ends s v y rest → Then F G ends s v (x ++ y) rest
 both a x y f g = record { value = a; prefix = x; suffix = y; whole = refl; first = f; second = g }
 
 pub and_then : {A B : Type 0} {F : Form A} {G : A → Form B} {r : Reading A} {f : A → Reading B} → Rule F r → ((a : A) → Rule (G a) (f a)) → Rule (Then F G) (λ p. r p >>= λ x. f x.0 x.1)
@@ -227,7 +229,8 @@ pub record Token {A V : Type 0} (kind : List ℕ → Lexeme) (meaning : List ℕ
   pub means : meaning word ≡ Some value
   pub after : G value ends s v more rest
 
-pub next_word : {A V : Type 0} {kind : List ℕ → Lexeme} {meaning : List ℕ → Option A} {G : A → Form V} {ends : Ends} {s : Scope} {a : A} {v : V} {more rest : List Lexeme} (w : List ℕ) → meaning w ≡ Some a → G a ends s v more rest → Token kind meaning G ends s v (kind w ∷ more) rest
+pub next_word : {A V : Type 0} {kind : List ℕ → Lexeme} {meaning : List ℕ → Option A} {G : A → Form V} {ends : Ends} {s : Scope} {a : A} {v : V} {more rest : List Lexeme} (w : List ℕ)
+    → meaning w ≡ Some a → G a ends s v more rest → Token kind meaning G ends s v (kind w ∷ more) rest
 next_word {a = a} {more = more} w e h = record { word = w; value = a; more = more; whole = refl; means = e; after = h }
 
 token : {A V : Type 0} {G : A → Form V} {f : A → Reading V} (kind : List ℕ → Lexeme) (meaning : List ℕ → Option A) (accepts : Lexeme → Option A)

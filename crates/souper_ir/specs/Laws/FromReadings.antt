@@ -11,22 +11,12 @@ use Rattle.souper_ir.specs.Grammar.{Free, Stops, Took, NoFront, Refusal}
 use Rattle.souper_ir.specs.Laws.Peeks.{some_is}
 use Rattle.souper_ir.specs.Laws.Steps.{At}
 use Rattle.souper_ir.specs.Laws.Unique.{Alone}
-use Rattle.souper_ir.specs.Laws.Combinators.{Reads, Rule, Node}
+use Rattle.souper_ir.specs.Laws.Combinators.{Reading, Reads, Rule, Node}
 
-module _ {Y : Type 0} (spells : Scope → Y → List Lexeme → Type 0) (continues : Y → Lexeme → Type 0) (read : Parsing → Option (Y × Parsing)) where
+module _ {Y : Type 0} (spells : Scope → Y → List Lexeme → Type 0) (continues : Y → Lexeme → Type 0) (read : Reading Y) where
   -- what is spelled so, and not continued, is read
   abbrev pub Complete : Type 0
   Complete = (p : Parsing) (y : Y) (front rest : List Lexeme) → At p (front ++ rest) → spells p.scope y front × Stops (continues y) p.faulty rest → Reads read y p rest
-
-  module _ {X : Type 0} (view : X → Y) where
-    pub is_taken : Rule (Node spells continues) read → (x : X) (p q : Parsing) → IsRead (read p) (view x) p q → Took spells continues (λ s. s) (view x) p q
-    is_taken rule x p q h =
-        let k = rule.sound p q (view x) h.1 h.0 in
-        record { used = k.1.places; parts = k.1.parts; spelled = rw k.1.kinds_are k.2.0; free = k.2.1; live = h.1; state = k.1.state }
-
-    pub taken : Rule (Node spells continues) read → (r : Result X ParseError) (p q : Parsing) → Gives view r (read p) p q → IfOk r (λ x. Took spells continues (λ s. s) (view x) p q)
-    taken rule (Ok x) p q h = is_taken rule x p q h
-    taken rule (Err e) p q h = tt
 
   none_read : Complete → (p : Parsing) → read p ≡ None → p.failed ≡ None → NoFront spells continues p
   none_read complete p unread live y front rest e s st =
@@ -36,13 +26,6 @@ module _ {Y : Type 0} (spells : Scope → Y → List Lexeme → Type 0) (continu
 
   none_if : Complete → (p : Parsing) (f : Option Cause) → IfRefused f (read p ≡ None) → IfRefused f (p.failed ≡ None → NoFront spells continues p)
   none_if complete p f = if_refused f (λ h live. none_read complete p h live)
-
-  pub is_refused : Rule (Node spells continues) read → (e : ParseError) (p q : Parsing) → IfRefused (cause_of e) (read p ≡ None) × Fails e p q → Refusal spells continues e p q
-  is_refused rule e p q h = record { failed = h.1; nothing = none_if rule.complete p (cause_of e) h.0 }
-
-  pub refused : {X : Type 0} (view : X → Y) → Rule (Node spells continues) read → (r : Result X ParseError) (p q : Parsing) → Gives view r (read p) p q → IfErr r (λ e. Refusal spells continues e p q)
-  refused view rule (Ok x) p q h = tt
-  refused view rule (Err e) p q h = is_refused rule e p q h
 
   -- a parser of these tokens
   kinds_of_places : (ts : List Lexeme) → kinds (map (λ t. (0, t)) ts) ≡ ts
@@ -62,8 +45,26 @@ module _ {Y : Type 0} (spells : Scope → Y → List Lexeme → Type 0) (continu
       let rest : c ≡ d = sym j.ahead.kinds_are ∙ ap (λ (x : Y × Parsing). kinds x.1.tokens) same ∙ k.ahead.kinds_are in
       (append_cancel_right a b c (e ∙ ap (λ (x : List Lexeme). b ++ x) (sym rest)), ap (λ (x : Y × Parsing). x.0) same)
 
-pub alone : {Y : Type 0} {spells : Scope → Y → List Lexeme → Type 0} {continues : Y → Lexeme → Type 0} {read : Parsing → Option (Y × Parsing)} → Rule (Node spells continues) read → Alone spells continues
-alone {spells = spells} {continues = continues} {read = read} rule = one_alone spells continues read rule.complete
+module _ {Y : Type 0} {spells : Scope → Y → List Lexeme → Type 0} {continues : Y → Lexeme → Type 0} {read : Reading Y} (rule : Rule (Node spells continues) read) where
+  pub alone : Alone spells continues
+  alone = one_alone spells continues read rule.complete
+
+  pub is_refused : (e : ParseError) (p q : Parsing) → IfRefused (cause_of e) (read p ≡ None) × Fails e p q → Refusal spells continues e p q
+  is_refused e p q h = record { failed = h.1; nothing = none_if spells continues read rule.complete p (cause_of e) h.0 }
+
+  module _ {X : Type 0} (view : X → Y) where
+    pub is_taken : (x : X) (p q : Parsing) → IsRead (read p) (view x) p q → Took spells continues (λ s. s) (view x) p q
+    is_taken x p q h =
+        let k = rule.sound p q (view x) h.1 h.0 in
+        record { used = k.1.places; parts = k.1.parts; spelled = rw k.1.kinds_are k.2.0; free = k.2.1; live = h.1; state = k.1.state }
+
+    pub taken : (r : Result X ParseError) (p q : Parsing) → Gives view r (read p) p q → IfOk r (λ x. Took spells continues (λ s. s) (view x) p q)
+    taken (Ok x) p q h = is_taken x p q h
+    taken (Err e) p q h = tt
+
+    pub refused : (r : Result X ParseError) (p q : Parsing) → Gives view r (read p) p q → IfErr r (λ e. Refusal spells continues e p q)
+    refused (Ok x) p q h = tt
+    refused (Err e) p q h = is_refused e p q h
 
 -- out of memory refuses no text
 pub of_memory : (P : Type 0) (e : ParseError) → cause_of e ≡ Some no_memory → IfRefused (cause_of e) P

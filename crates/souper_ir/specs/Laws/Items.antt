@@ -11,7 +11,7 @@ use Rattle.souper_ir.specs.Continuation.{statement_continues, infer_continues, r
 use Rattle.souper_ir.specs.Parsing.{Parsing}
 use Rattle.souper_ir.specs.Reading.{cause_of, IfRefused, if_refused, IsRead, Fails, fails_later}
 use Rattle.souper_ir.specs.Grammar.{Free, Stops, Starts, NoFront, LastGoesOn, Refusal, peek_at}
-use Rattle.souper_ir.specs.Laws.Unique.{Alone, never, Free-weaker, Free-from_Stops}
+use Rattle.souper_ir.specs.Laws.Unique.{Alone, never, Free-weaker, Free-from_Stops, clash as starts_clash}
 use Rattle.souper_ir.specs.NodeReadings.{starts_statement, is_word}
 use Rattle.souper_ir.specs.Laws.Peeks.{peeked, peeked_yes, peeked_no, unread}
 use Rattle.souper_ir.specs.Laws.Steps.{kinds-append}
@@ -166,10 +166,6 @@ no_tokens : (c d : List Lexeme) → Opens c → [] ≡ c ++ d → ⊥
 no_tokens [] d o e = o
 no_tokens (t ∷ c) d o e = absurd cc
 
-pub free_clash : (starts : Lexeme → Bool) (a b c : List Lexeme) → Starts starts a → Free (λ t. starts t ≡ true) c → c ≡ a ++ b → ⊥
-free_clash starts [] b c st f e = st
-free_clash starts (t ∷ a) b c st f e = (subst (λ (x : List Lexeme). Free (λ t. starts t ≡ true) x) e f) st
-
 -- the first statement, and what is after it
 pub split : (a f g c : List Lexeme) → a ≡ f ++ g → a ++ c ≡ f ++ (g ++ c)
 split a f g c e = ap (λ (x : List Lexeme). x ++ c) e ∙ append_assoc f g c
@@ -197,7 +193,7 @@ module _ {Y : Type 0} (tail : Scope → Y → List Lexeme → Type 0) (continues
       no_first : (faulty : Bool) (s : Scope) (w : PlainStatement) (ws : List PlainStatement) (c f g e d : List Lexeme) (y : Y) → c ≡ f ++ (g ++ (e ++ d)) → NoMore tail continues (s ++ []) faulty c
           → statement_spells s w f → Statements (s ++ w ∷ []) ws g → tail (s ++ (w ∷ ws)) y e → ⊥
       no_first faulty s w ws c f g e d y ahead (inl (inl k)) first more sp =
-          free_clash starts_statement f (g ++ (e ++ d)) [] (statement_first s w f first) tt (sym k.0 ∙ ahead)
+          starts_clash starts_statement f [] (g ++ (e ++ d)) (statement_first s w f first) (sym k.0 ∙ ahead) tt
       no_first faulty s w ws c f g e d y ahead (inl (inr k)) first more sp =
           k.1 w f (g ++ (e ++ d)) ahead (subst (λ (x : Scope). statement_spells x w f) (sym (append-nil s)) first)
           (subst (λ (x : List Lexeme). Stops (statement_continues w) faulty x) (append_assoc g e d) (over (g ++ e) d (stops_over faulty (s ++ w ∷ []) w ws g e more (opens (s ++ (w ∷ ws)) y e sp)) (grown g e (opens (s ++ (w ∷ ws)) y e sp))))
@@ -211,7 +207,7 @@ module _ {Y : Type 0} (tail : Scope → Y → List Lexeme → Type 0) (continues
           over [] d h no_end = absurd (no_end refl)
           over (t ∷ x) d h no_end = h
       no_first faulty s w ws c f g e d y ahead (inr k) first more sp =
-          free_clash starts_statement f (g ++ (e ++ d)) c (statement_first s w f first) k.0 ahead
+          starts_clash starts_statement f c (g ++ (e ++ d)) (statement_first s w f first) ahead k.0
   no_item faulty s (v ∷ vs) [] a c b e d y eq m f k n sp st =
       clash m.prefix (m.suffix ++ c) e d (statement_first s v m.prefix m.first) (opens (s ++ []) y e sp) (sym (split a m.prefix m.suffix c m.whole) ∙ eq ∙ ap (λ (x : List Lexeme). x ++ (e ++ d)) n)
   no_item faulty s (v ∷ vs) (w ∷ ws) a c b e d y eq m f k n sp st =

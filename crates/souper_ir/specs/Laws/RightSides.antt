@@ -1,8 +1,7 @@
 -- Lemmas. The rules of right sides: what is read is spelled so, and what is spelled so is read.
 use Rattle.std.proofs.Common.{◌≡◌, ℕ, ◌^◌, Bool, true, false, List, [], ◌∷◌, ◌++◌, length, Option, Some, None, refl, sym, ◌∙◌, ap, subst}
-use Rattle.std.specs.Prelude.{codes, bytes_eq, if◌then◌else◌}
+use Rattle.std.specs.Prelude.{codes}
 use Rattle.std.proofs.lemmas.List.{append-nil}
-use Rattle.std.proofs.lemmas.Slice.Eq.{bytes_eq-Decides}
 use Rattle.souper_graph.specs.declared.ast.operands.Operand.{Operand}
 use Rattle.souper_graph.specs.declared.ast.instructions.Instruction.{Instruction}
 use Rattle.souper_graph.specs.declared.ast.statements.Block.{Block}
@@ -22,7 +21,7 @@ use Rattle.souper_ir.specs.NodeReadings.{is_word, is_any, ident_by, block_after_
 use Rattle.souper_ir.specs.Laws.Unique.{never}
 use Rattle.souper_ir.specs.Laws.Peeks.{some_is}
 use Rattle.souper_ir.specs.Laws.Words.{opcode_is, opcode_makes}
-use Rattle.souper_ir.specs.Laws.Tokens.{word_is, ident_means}
+use Rattle.souper_ir.specs.Laws.Tokens.{word_is, by_word, ident_means}
 use Rattle.souper_ir.specs.Laws.Combinators.{Ends, Form, Reading, Rule, Ruled, ruled, Node, To, From, respelled, Then, both, and_then, done, found, given, made, last, one, Just, word, after, Token, next_word, number, keyword, next_name, named, choice, fail}
 use Rattle.souper_ir.specs.Laws.Operands.{further_rule, operands_rule}
 use Rattle.souper_ir.specs.Laws.FromReadings.{Complete}
@@ -178,20 +177,13 @@ Begins w begins_reserved_inst = w ≡ codes "reservedinst"
 Begins w begins_reserved_const = w ≡ codes "reservedconst"
 Begins w (begins_instruction o) = opcode_of w ≡ Some o
 
-begins_if : (b : Bool) (w : List ℕ) (x k : RhsWord) (rest : Option RhsWord) → (if b then Some x else rest) ≡ Some k → (b ≡ true → Begins w x) → (rest ≡ Some k → Begins w k) → Begins w k
-begins_if true w x k rest e here there = subst (Begins w) (some_is e) (here refl)
-begins_if false w x k rest e here there = there e
-
-one_word : (w c : List ℕ) (x k : RhsWord) (rest : Option RhsWord) → (if bytes_eq w c then Some x else rest) ≡ Some k → (w ≡ c → Begins w x) → (rest ≡ Some k → Begins w k) → Begins w k
-one_word w c x k rest e h there = begins_if (bytes_eq w c) w x k rest e (λ q. h ((bytes_eq-Decides w c).0 q)) there
-
 other_begins : (w : List ℕ) (k : RhsWord) → rhs_keyword_of w ≡ Some k → Begins w k
 other_begins w k e =
-    one_word w (codes "var") begins_var k _ e (λ q. q) (λ e.
-    one_word w (codes "block") begins_block k _ e (λ q. q) (λ e.
-    one_word w (codes "phi") begins_phi k _ e (λ q. q) (λ e.
-    one_word w (codes "reservedinst") begins_reserved_inst k _ e (λ q. q) (λ e.
-    one_word w (codes "reservedconst") begins_reserved_const k _ e (λ q. q) (λ e. absurd cc)))))
+    by_word Begins w (codes "var") begins_var k _ e refl (λ e.
+    by_word Begins w (codes "block") begins_block k _ e refl (λ e.
+    by_word Begins w (codes "phi") begins_phi k _ e refl (λ e.
+    by_word Begins w (codes "reservedinst") begins_reserved_inst k _ e refl (λ e.
+    by_word Begins w (codes "reservedconst") begins_reserved_const k _ e refl (λ e. absurd cc)))))
 
 begins_either : (o : Option Opcode) (w : List ℕ) (k : RhsWord) → opcode_of w ≡ o → instruction_or o (rhs_keyword_of w) ≡ Some k → Begins w k
 begins_either (Some o) w k is e = subst (Begins w) (some_is e) is
@@ -239,7 +231,8 @@ rhs_to begins_reserved_const w b s v ts rest h = rw (h.0, h.1, b) (refl, never r
 rhs_to (begins_instruction o) w b s v ts rest h = rw h.is (instruction_to o w b s h.value ts rest h.last)
 
 -- the word and what is behind it
-parted : (w : List ℕ) (k : RhsWord) (ends : Ends) (s : Scope) (v : PlainRhs) (ts more rest : List Lexeme) → ts ≡ ident w ∷ more → rhs_word_of w ≡ Some k → (rhs_by_rule k).form ends s v more rest → Then WordIs (λ k. (rhs_by_rule k).form) ends s v ts rest
+parted : (w : List ℕ) (k : RhsWord) (ends : Ends) (s : Scope) (v : PlainRhs) (ts more rest : List Lexeme)
+    → ts ≡ ident w ∷ more → rhs_word_of w ≡ Some k → (rhs_by_rule k).form ends s v more rest → Then WordIs (λ k. (rhs_by_rule k).form) ends s v ts rest
 parted w k ends s v ts more rest e is h = record { value = k; prefix = ident w ∷ []; suffix = more; whole = e; first = (w, refl, is); second = h }
 
 rhs_from : From (Node rhs_spells rhs_continues) (Then WordIs (λ k. (rhs_by_rule k).form))

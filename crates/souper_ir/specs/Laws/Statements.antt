@@ -23,7 +23,7 @@ use Rattle.souper_ir.specs.Laws.Combinators.{Ends, Rule, Ruled, ruled, Node, res
 use Rattle.souper_ir.specs.Laws.FromReadings.{alone}
 use Rattle.souper_ir.specs.Laws.Operands.{optional_type_stops, optional_type_rule, operand_rule, operand_stops, operand_over, pair}
 use Rattle.souper_ir.specs.Laws.RightSides.{block_named, rhs_rule}
-use Rattle.souper_ir.specs.Laws.Attributes.{attribute_rule, attribute_first, root_attribute_rule, root_attribute_first, attributes_are_members, members_are_attributes, root_attributes_are_members, members_are_root_attributes}
+use Rattle.souper_ir.specs.Laws.Attributes.{attribute_rule, attribute_first, root_attribute_rule, root_attribute_first, attributes_members, root_attributes_members}
 use Rattle.souper_ir.specs.Laws.Sequence.{Split}
 use Rattle.souper_ir.specs.Laws.Attributed.{Row, attributes_over, Laws, laws}
 
@@ -307,7 +307,7 @@ definition_of a = record { name = a.name; ty = a.ty; value = a.value }
 
 pub assignment_parts : (s : Scope) (a : PlainAssignment) (ts : List Lexeme) → assignment_spells s a ts → Split definition_spells definition_continues (Row attribute_spells) s (definition_of a) a.attributes ts
 assignment_parts s a ts h =
-    let members : Row attribute_spells s a.attributes h.attributes = attributes_are_members a.attributes h.attributes h.attributes_spelled in
+    let members : Row attribute_spells s a.attributes h.attributes = (attributes_members a.attributes h.attributes).0 h.attributes_spelled in
     record {
       prefix = val_name a.name ∷ (h.ty ++ equals ∷ h.rhs);
       suffix = h.attributes;
@@ -328,7 +328,7 @@ parts_assignment s a ts h =
       name_is_new = d.name_is_new;
       ty_spelled = d.ty_spelled;
       rhs_spelled = d.rhs_spelled;
-      attributes_spelled = members_are_attributes a.attributes h.suffix h.second;
+      attributes_spelled = (attributes_members a.attributes h.suffix).1 h.second;
     }
 
 pub assignment_laws : Laws definition_spells definition_continues attribute_spells definition_of (λ (a : PlainAssignment). a.attributes) assignment_spells assignment_continues
@@ -343,7 +343,7 @@ infer_parts s i ts h = record {
   whole = h.whole;
   first = (h.name, refl, h.value_is);
   free = never h.attributes;
-  second = root_attributes_are_members i.attributes h.attributes h.attributes_spelled;
+  second = (root_attributes_members i.attributes h.attributes).0 h.attributes_spelled;
 }
 
 pub parts_infer : (s : Scope) (i : PlainInfer) (ts : List Lexeme) → Split root_spells (λ (r : ℕ) t. ⊥) (Row root_attribute_spells) s i.value i.attributes ts → infer_spells s i ts
@@ -352,7 +352,7 @@ parts_infer s i ts h = record {
   attributes = h.suffix;
   whole = rw (h.whole, h.first.1) refl;
   value_is = h.first.2;
-  attributes_spelled = members_are_root_attributes i.attributes h.suffix h.second;
+  attributes_spelled = (root_attributes_members i.attributes h.suffix).1 h.second;
 }
 
 pub infer_laws : Laws root_spells (λ (r : ℕ) t. ⊥) root_attribute_spells (λ (i : PlainInfer). i.value) (λ (i : PlainInfer). i.attributes) infer_spells infer_continues
@@ -366,7 +366,7 @@ pair_of c = (c.lhs, c.rhs)
 
 pub cand_parts : (s : Scope) (c : PlainCand) (ts : List Lexeme) → cand_spells s c ts → Split pair_line_spells pair_line_continues (Row root_attribute_spells) s (pair_of c) c.attributes ts
 cand_parts s c ts h =
-    let members : Row root_attribute_spells s c.attributes h.attributes = root_attributes_are_members c.attributes h.attributes h.attributes_spelled in
+    let members : Row root_attribute_spells s c.attributes h.attributes = (root_attributes_members c.attributes h.attributes).0 h.attributes_spelled in
     record {
       prefix = ident (codes "cand") ∷ (h.lhs ++ (h.between ++ h.rhs));
       suffix = h.attributes;
@@ -388,7 +388,7 @@ parts_cand s c ts h =
       lhs_spelled = k.lhs_spelled;
       comma_or_none = k.comma_or_none;
       rhs_spelled = k.rhs_spelled;
-      attributes_spelled = members_are_root_attributes c.attributes h.suffix h.second;
+      attributes_spelled = (root_attributes_members c.attributes h.suffix).1 h.second;
     }
 
 pub cand_laws : Laws pair_line_spells pair_line_continues root_attribute_spells pair_of (λ (c : PlainCand). c.attributes) cand_spells cand_continues

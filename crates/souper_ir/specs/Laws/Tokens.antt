@@ -1,6 +1,6 @@
 -- Lemmas. What a single token means, and the tokens that mean it.
-use Rattle.std.proofs.Common.{◌≡◌, ℕ, Bool, true, false, List, Option, Some, None, refl, ap}
-use Rattle.std.specs.Prelude.{is_some, if◌then◌else◌}
+use Rattle.std.proofs.Common.{◌≡◌, ℕ, Bool, true, false, List, Option, Some, None, refl, sym, ap, subst}
+use Rattle.std.specs.Prelude.{bytes_eq, is_some, if◌then◌else◌}
 use Rattle.std.proofs.lemmas.Slice.Eq.{bytes_eq-Decides}
 use Rattle.souper_graph.specs.Syntax.Tokens.{Lexeme, ident, val_name, int, comma, colon, equals, open_paren, close_paren, open_bracket}
 use Rattle.souper_ir.specs.NodeReadings.{name_of, mark_of, is_mark, is_word, word_of, int_by, ident_by}
@@ -42,6 +42,14 @@ word_is k = (bytes_eq-Decides k k).1 refl
 
 pub word_of_is : (k : List ℕ) → word_of k (ident k) ≡ Some tt
 word_of_is k = rw (word_is k) refl
+
+by_word_if : {K : Type 0} (P : List ℕ → K → Type 0) (b : Bool) (w c : List ℕ) (x k : K) (rest : Option K) → (b ≡ true → w ≡ c) → (if b then Some x else rest) ≡ Some k → P c x → (rest ≡ Some k → P w k) → P w k
+by_word_if P true w c x k rest is e h there = subst (P w) (some_is e) (subst (λ (z : List ℕ). P z x) (sym (is refl)) h)
+by_word_if P false w c x k rest is e h there = there e
+
+-- one line of a table of words
+pub by_word : {K : Type 0} (P : List ℕ → K → Type 0) (w c : List ℕ) (x k : K) (rest : Option K) → (if bytes_eq w c then Some x else rest) ≡ Some k → P c x → (rest ≡ Some k → P w k) → P w k
+by_word P w c x k rest = by_word_if P (bytes_eq w c) w c x k rest ((bytes_eq-Decides w c).0)
 
 pub int_means : {A : Type 0} (f : List ℕ → Option A) (t : Lexeme) (a : A) → int_by f t ≡ Some a → (w : List ℕ) × (t ≡ int w) × (f w ≡ Some a)
 int_means f (int w) a e = (w, refl, e)

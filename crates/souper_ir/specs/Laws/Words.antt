@@ -1,7 +1,6 @@
 -- Lemmas. The words of the instructions: each names the opcode of its instruction, and no other.
-use Rattle.std.proofs.Common.{◌≡◌, ℕ, Bool, true, false, List, [], ◌∷◌, length, Option, Some, refl, sym, subst}
+use Rattle.std.proofs.Common.{◌≡◌, ℕ, Bool, true, false, List, [], ◌∷◌, length, Option, Some, refl, subst}
 use Rattle.std.specs.Prelude.{codes, bytes_eq, nat_eq, if◌then◌else◌}
-use Rattle.std.proofs.lemmas.Slice.Eq.{bytes_eq-Decides}
 use Rattle.souper_graph.specs.declared.ast.operands.Operand.{Operand}
 use Rattle.souper_graph.specs.declared.ast.instructions.Instruction.{Instruction}
 use Rattle.souper_graph.specs.declared.ast.instructions.Instruction.TheVariants.{Add, AddNsw, AddNuw, AddNw, Sub, SubNsw, SubNuw, SubNw, Mul, MulNsw, MulNuw, MulNw, Udiv, Sdiv, UdivExact, SdivExact, Urem, Srem, And, Or, Xor, Shl, ShlNsw, ShlNuw, ShlNw, Lshr, LshrExact, Ashr, AshrExact, Eq, Ne, Ult, Slt, Ule, Sle, SaddWithOverflow, UaddWithOverflow, SsubWithOverflow, UsubWithOverflow, SmulWithOverflow, UmulWithOverflow, SaddSat, UaddSat, SsubSat, UsubSat, ExtractValue, Zext, Sext, Trunc, Ctpop, Bswap, BitReverse, Cttz, Ctlz, Freeze, Select, Fshl, Fshr, Hole}
@@ -10,6 +9,7 @@ use Rattle.souper_ir.specs.declared.parse.words.Opcode.{Opcode}
 use Rattle.souper_ir.specs.declared.parse.words.Opcode.TheVariants.{Add as do_add, AddNsw as do_add_nsw, AddNuw as do_add_nuw, AddNw as do_add_nw, Sub as do_sub, SubNsw as do_sub_nsw, SubNuw as do_sub_nuw, SubNw as do_sub_nw, Mul as do_mul, MulNsw as do_mul_nsw, MulNuw as do_mul_nuw, MulNw as do_mul_nw, Udiv as do_udiv, Sdiv as do_sdiv, UdivExact as do_udiv_exact, SdivExact as do_sdiv_exact, Urem as do_urem, Srem as do_srem, And as do_and, Or as do_or, Xor as do_xor, Shl as do_shl, ShlNsw as do_shl_nsw, ShlNuw as do_shl_nuw, ShlNw as do_shl_nw, Lshr as do_lshr, LshrExact as do_lshr_exact, Ashr as do_ashr, AshrExact as do_ashr_exact, Eq as do_eq, Ne as do_ne, Ult as do_ult, Slt as do_slt, Ule as do_ule, Sle as do_sle, SaddWithOverflow as do_sadd_with_overflow, UaddWithOverflow as do_uadd_with_overflow, SsubWithOverflow as do_ssub_with_overflow, UsubWithOverflow as do_usub_with_overflow, SmulWithOverflow as do_smul_with_overflow, UmulWithOverflow as do_umul_with_overflow, SaddSat as do_sadd_sat, UaddSat as do_uadd_sat, SsubSat as do_ssub_sat, UsubSat as do_usub_sat, ExtractValue as do_extract_value, Zext as do_zext, Sext as do_sext, Trunc as do_trunc, Ctpop as do_ctpop, Bswap as do_bswap, BitReverse as do_bit_reverse, Cttz as do_cttz, Ctlz as do_ctlz, Freeze as do_freeze, Select as do_select, Fshl as do_fshl, Fshr as do_fshr, Hole as do_hole}
 use Rattle.souper_ir.specs.Words.{two_letters_of, three_letters_of, four_letters_of, five_letters_of, six_letters_of, longer_of, opcode_of_length, opcode_of, Shape, no_operand, one_operand, two_operands, three_operands, shape_of, operand_count, instruction_of_shape, instruction_by}
 use Rattle.souper_ir.specs.Laws.Peeks.{some_is}
+use Rattle.souper_ir.specs.Laws.Tokens.{by_word}
 
 -- ---- the opcode of an instruction
 
@@ -107,13 +107,9 @@ shape_makes (three_operands f) w (a ∷ (b ∷ [])) i h e = absurd cc
 shape_makes (three_operands f) w (a ∷ (b ∷ (c ∷ []))) i h e = subst (Makes w (a ∷ b ∷ c ∷ [])) (some_is e) (h a b c)
 shape_makes (three_operands f) w (a ∷ (b ∷ (c ∷ (d ∷ xs)))) i h e = absurd cc
 
-named_if : (b : Bool) (w : List ℕ) (x o : Opcode) (rest : Option Opcode) → (if b then Some x else rest) ≡ Some o → (b ≡ true → Names w (shape_of x)) → (rest ≡ Some o → Names w (shape_of o)) → Names w (shape_of o)
-named_if true w x o rest e here there = subst (λ (z : Opcode). Names w (shape_of z)) (some_is e) (here refl)
-named_if false w x o rest e here there = there e
-
 -- one line of a table
 named : (w k : List ℕ) (x o : Opcode) (rest : Option Opcode) → (if bytes_eq w k then Some x else rest) ≡ Some o → Names k (shape_of x) → (rest ≡ Some o → Names w (shape_of o)) → Names w (shape_of o)
-named w k x o rest e h there = named_if (bytes_eq w k) w x o rest e (λ q. subst (λ (z : List ℕ). Names z (shape_of x)) (sym ((bytes_eq-Decides w k).0 q)) h) there
+named = by_word (λ w o. Names w (shape_of o))
 
 two_letters_named : (w : List ℕ) (o : Opcode) → two_letters_of w ≡ Some o → Names w (shape_of o)
 two_letters_named w o e =

@@ -2,9 +2,7 @@ use Rattle.std.proofs.Common.{[], map}
 use Rattle.std.proofs.lemmas.Result.{err_from_is_err_and}
 use Rattle.souper_graph.specs.Values.{replaced, candidate, Item}
 use Rattle.souper_graph.specs.View.{view_statement, view_infer, view_cand}
-use Rattle.souper_graph.specs.Syntax.Spelling.{replacement, result_spells}
-use Rattle.souper_ir.specs.Continuation.{result_continues}
-use Rattle.souper_ir.specs.NodeReadings.{result_at}
+use Rattle.souper_graph.specs.Syntax.Spelling.{replacement}
 use Rattle.souper_ir.specs.Laws.Statements.{result_rule}
 use Rattle.souper_ir.specs.Laws.FromReadings.{is_taken, is_refused}
 use Rattle.souper_ir.proofs.Items.Steps.{item_taken, statements_refused, tail_refused, look_refused, cand_tail, cand_tail_refused, root_refused, root_behind, middle_refused, last_refused, replaced_tail}
@@ -42,7 +40,7 @@ pub returns-in_err-rhs-clause-err : goal.returns-in_err-rhs-clause-err
 returns-in_err-rhs-clause-err c =
     let p = err_from_is_err_and c.from_residual-in_err-rhs.result c.from_residual-in_err-rhs.ensures.1 in
     let root = root_behind (view_infer c.in_ok-lhs.lhs) c.statements.new.parser c.word_comes.new.parser c.infer.new.parser (rw c.if-branch.true at c.in_ok-word_comes.ensures) c.in_ok-lhs.ensures.ok in
-    let bad = is_refused result_spells result_continues result_at result_rule (error_of c.in_err-rhs.field-0.0) c.statements-then-branch.new.parser c.result.new.parser c.in_err-rhs.ensures in
+    let bad = is_refused result_rule (error_of c.in_err-rhs.field-0.0) c.statements-then-branch.new.parser c.result.new.parser c.in_err-rhs.ensures in
     rw (p.1, p.2)
     (tail_refused replacement c.in_ok-statements.ensures.ok.0 (error_of c.in_err-rhs.field-0.0) c.args.parser.now c.statements.new.parser c.result.new.parser c.in_ok-statements.ensures.ok.1
     (last_refused (view_infer c.in_ok-lhs.lhs) c.in_ok-statements-2.ensures.ok.0 (error_of c.in_err-rhs.field-0.0) c.statements.new.parser c.infer.new.parser c.statements-then-branch.new.parser c.result.new.parser root c.in_ok-statements-2.ensures.ok.1 bad))
@@ -58,7 +56,7 @@ pub returns-in_ok-rhs-clause-ok : goal.returns-in_ok-rhs-clause-ok
 returns-in_ok-rhs-clause-ok c =
     let item : Item = record { statements = map view_statement c.finish-statements.result; ending = replaced (view_infer c.in_ok-lhs.lhs) c.in_ok-rhs.rhs } in
     let root = root_behind (view_infer c.in_ok-lhs.lhs) c.statements.new.parser c.word_comes.new.parser c.infer.new.parser (rw c.if-branch.true at c.in_ok-word_comes.ensures) c.in_ok-lhs.ensures.ok in
-    let last = is_taken result_spells result_continues result_at (λ x. x) result_rule c.in_ok-rhs.rhs c.statements-then-branch.new.parser c.result.new.parser c.in_ok-rhs.ensures in
+    let last = is_taken result_rule (λ x. x) c.in_ok-rhs.rhs c.statements-then-branch.new.parser c.result.new.parser c.in_ok-rhs.ensures in
     item_taken replacement item c.in_ok-statements.ensures.ok.0 c.in_ok-statements-2.ensures.ok.0 c.args.parser.now c.statements.new.parser c.result.new.parser c.finish-statements.new.self c.in_ok-statements.ensures.ok.1
     (replaced_tail (view_infer c.in_ok-lhs.lhs) c.in_ok-statements-2.ensures.ok.0 c.in_ok-rhs.rhs c.statements.new.parser c.infer.new.parser c.statements-then-branch.new.parser c.result.new.parser root c.in_ok-statements-2.ensures.ok.1 last)
     c.finish-statements.ensures.statements c.finish-statements.ensures.empty

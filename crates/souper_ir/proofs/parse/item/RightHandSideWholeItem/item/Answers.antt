@@ -2,9 +2,7 @@ use Rattle.std.proofs.Common.{[]}
 use Rattle.std.proofs.lemmas.Result.{err_from_is_err_and}
 use Rattle.souper_graph.specs.declared.ast.items.RightHandSide.{RightHandSide}
 use Rattle.souper_graph.specs.View.{view_right_hand_side}
-use Rattle.souper_graph.specs.Syntax.Spelling.{right_hand_side, result_spells}
-use Rattle.souper_ir.specs.Continuation.{result_continues}
-use Rattle.souper_ir.specs.NodeReadings.{result_at}
+use Rattle.souper_graph.specs.Syntax.Spelling.{right_hand_side}
 use Rattle.souper_ir.specs.Laws.Statements.{result_rule}
 use Rattle.souper_ir.specs.Laws.FromReadings.{is_taken, is_refused}
 use Rattle.souper_ir.proofs.Items.Steps.{item_taken, statements_refused, tail_refused, result_tail, result_tail_refused}
@@ -21,11 +19,11 @@ returns-in_err-result-clause-err c =
     let p = err_from_is_err_and c.from_residual-in_err-result.result c.from_residual-in_err-result.ensures.1 in
     rw (p.1, p.2)
     (tail_refused right_hand_side c.in_ok-statements.ensures.ok.0 (error_of c.in_err-result.field-0.0) c.args.parser.now c.statements.new.parser c.result.new.parser c.in_ok-statements.ensures.ok.1
-    (result_tail_refused (error_of c.in_err-result.field-0.0) c.statements.new.parser c.result.new.parser (is_refused result_spells result_continues result_at result_rule (error_of c.in_err-result.field-0.0) c.statements.new.parser c.result.new.parser c.in_err-result.ensures)))
+    (result_tail_refused (error_of c.in_err-result.field-0.0) c.statements.new.parser c.result.new.parser (is_refused result_rule (error_of c.in_err-result.field-0.0) c.statements.new.parser c.result.new.parser c.in_err-result.ensures)))
 
 pub returns-clause-ok : goal.returns-clause-ok
 returns-clause-ok c =
     let item : RightHandSide = record { statements = c.finish-statements.result; result = c.in_ok-result.result } in
     item_taken right_hand_side (view_right_hand_side item) c.in_ok-statements.ensures.ok.0 [] c.args.parser.now c.statements.new.parser c.result.new.parser c.finish-statements.new.self c.in_ok-statements.ensures.ok.1
-    (result_tail c.in_ok-result.result c.statements.new.parser c.result.new.parser (is_taken result_spells result_continues result_at (λ x. x) result_rule c.in_ok-result.result c.statements.new.parser c.result.new.parser c.in_ok-result.ensures))
+    (result_tail c.in_ok-result.result c.statements.new.parser c.result.new.parser (is_taken result_rule (λ x. x) c.in_ok-result.result c.statements.new.parser c.result.new.parser c.in_ok-result.ensures))
     c.finish-statements.ensures.statements c.finish-statements.ensures.empty

@@ -1,13 +1,10 @@
-use Rattle.souper_graph.specs.Syntax.Spelling.{instruction_spells}
-use Rattle.souper_ir.specs.Continuation.{instruction_continues}
 use Rattle.souper_ir.specs.Laws.RightSides.{instruction_rule}
-use Rattle.souper_ir.specs.NodeReadings.{instruction_at}
 use Rattle.souper_ir.specs.Laws.FromReadings.{taken, refused}
 use Rattle.souper_ir.specs.Errors.{widened}
 use Rattle.souper_ir.proofs.parse.rhs.InstructionParse.parse.Goals as goal
 
 pub returns-clause-ok : goal.returns-clause-ok
-returns-clause-ok c = rw c.widen.ensures (taken instruction_spells instruction_continues instruction_at (λ i. i) instruction_rule (widened c.instruction.result) c.args.parser.now c.instruction.new.parser c.instruction.ensures)
+returns-clause-ok c = rw c.widen.ensures (taken instruction_rule (λ i. i) (widened c.instruction.result) c.args.parser.now c.instruction.new.parser c.instruction.ensures)
 
 pub returns-clause-err : goal.returns-clause-err
-returns-clause-err c = rw c.widen.ensures (refused instruction_spells instruction_continues instruction_at (λ i. i) instruction_rule (widened c.instruction.result) c.args.parser.now c.instruction.new.parser c.instruction.ensures)
+returns-clause-err c = rw c.widen.ensures (refused instruction_rule (λ i. i) (widened c.instruction.result) c.args.parser.now c.instruction.new.parser c.instruction.ensures)

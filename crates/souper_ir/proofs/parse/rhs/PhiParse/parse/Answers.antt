@@ -1,14 +1,11 @@
 use Rattle.souper_graph.specs.View.{view_phi}
-use Rattle.souper_graph.specs.Syntax.Spelling.{phi_spells}
-use Rattle.souper_ir.specs.Continuation.{phi_continues}
 use Rattle.souper_ir.specs.Laws.RightSides.{phi_rule}
-use Rattle.souper_ir.specs.NodeReadings.{phi_at}
 use Rattle.souper_ir.specs.Laws.FromReadings.{taken, refused}
 use Rattle.souper_ir.specs.Errors.{widened}
 use Rattle.souper_ir.proofs.parse.rhs.PhiParse.parse.Goals as goal
 
 pub returns-clause-ok : goal.returns-clause-ok
-returns-clause-ok c = rw c.widen.ensures (taken phi_spells phi_continues phi_at view_phi phi_rule (widened c.phi.result) c.args.parser.now c.phi.new.parser c.phi.ensures)
+returns-clause-ok c = rw c.widen.ensures (taken phi_rule view_phi (widened c.phi.result) c.args.parser.now c.phi.new.parser c.phi.ensures)
 
 pub returns-clause-err : goal.returns-clause-err
-returns-clause-err c = rw c.widen.ensures (refused phi_spells phi_continues phi_at view_phi phi_rule (widened c.phi.result) c.args.parser.now c.phi.new.parser c.phi.ensures)
+returns-clause-err c = rw c.widen.ensures (refused phi_rule view_phi (widened c.phi.result) c.args.parser.now c.phi.new.parser c.phi.ensures)

@@ -1,13 +1,10 @@
-use Rattle.souper_graph.specs.Syntax.Spelling.{block_pc_spells}
-use Rattle.souper_ir.specs.Continuation.{block_pc_continues}
 use Rattle.souper_ir.specs.Laws.Statements.{block_pc_rule}
-use Rattle.souper_ir.specs.NodeReadings.{block_pc_at}
 use Rattle.souper_ir.specs.Laws.FromReadings.{taken, refused}
 use Rattle.souper_ir.specs.Errors.{widened}
 use Rattle.souper_ir.proofs.parse.statements.BlockPcParse.parse.Goals as goal
 
 pub returns-clause-ok : goal.returns-clause-ok
-returns-clause-ok c = rw c.widen.ensures (taken block_pc_spells block_pc_continues block_pc_at (λ p. p) block_pc_rule (widened c.block_pc.result) c.args.parser.now c.block_pc.new.parser c.block_pc.ensures)
+returns-clause-ok c = rw c.widen.ensures (taken block_pc_rule (λ p. p) (widened c.block_pc.result) c.args.parser.now c.block_pc.new.parser c.block_pc.ensures)
 
 pub returns-clause-err : goal.returns-clause-err
-returns-clause-err c = rw c.widen.ensures (refused block_pc_spells block_pc_continues block_pc_at (λ p. p) block_pc_rule (widened c.block_pc.result) c.args.parser.now c.block_pc.new.parser c.block_pc.ensures)
+returns-clause-err c = rw c.widen.ensures (refused block_pc_rule (λ p. p) (widened c.block_pc.result) c.args.parser.now c.block_pc.new.parser c.block_pc.ensures)
