@@ -11,7 +11,7 @@ use Rattle.souper_ir.specs.Grammar.{Free, Stops, Starts, peek_at}
 use Rattle.souper_ir.specs.NodeReadings.{accept, name_of, mark_of, word_of, int_by, ident_by}
 use Rattle.souper_ir.specs.Laws.Unique.{Free-from_Stops}
 use Rattle.souper_ir.specs.Laws.Peeks.{some_is, Answers, peeked, answered, peeked_yes, peeked_no}
-use Rattle.souper_ir.specs.Laws.Steps.{Takes, Takes-then, Takes-none, taken_ahead, At, bind_some, moved}
+use Rattle.souper_ir.specs.Laws.Steps.{Takes, Takes-then, Takes-none, state_then, taken_ahead, At, bind_some, moved}
 use Rattle.souper_ir.specs.Laws.Tokens.{name_means, mark_means, word_means, word_of_is, int_means, ident_means}
 
 -- ---- rules
@@ -99,7 +99,7 @@ and_then {F = F} {G = G} {r = r} {f = f} m n = record {
       let ahead : At p (h.prefix ++ (h.suffix ++ rest)) = subst (At p) (ap (λ (x : List Lexeme). x ++ rest) h.whole ∙ append_assoc h.prefix h.suffix rest) at in
       let j = m.complete p h.value h.prefix (h.suffix ++ rest) ahead h.first in
       let k = (n h.value).complete j.next v h.suffix rest j.ahead (subst (λ (x : Parsing). G h.value (λ goes_on. Stops goes_on x.faulty) x.scope v h.suffix rest) (sym j.state) h.second) in
-      record { next = k.next; is_read = rw (j.is_read, k.is_read) refl; ahead = k.ahead; state = k.state ∙ ap (λ (x : Parsing). record x { tokens = k.next.tokens }) j.state };
+      record { next = k.next; is_read = rw (j.is_read, k.is_read) refl; ahead = k.ahead; state = state_then p j.next k.next j.state k.state };
 }
 
 -- ---- ends

@@ -17,12 +17,16 @@ pub kinds-append : (a b : List (ℕ × Lexeme)) → kinds (a ++ b) ≡ kinds a +
 kinds-append [] b = refl
 kinds-append (t ∷ a) b = ap (λ (x : List Lexeme). t.1 ∷ x) (kinds-append a b)
 
+-- the parser after two steps
+pub state_then : (p q r : Parsing) → q ≡ record p { tokens = q.tokens } → r ≡ record q { tokens = r.tokens } → r ≡ record p { tokens = r.tokens }
+state_then p q r e f = f ∙ ap (λ (x : Parsing). record x { tokens = r.tokens }) e
+
 pub Takes-then : (p q r : Parsing) (a b : List Lexeme) → Takes p q a → Takes q r b → Takes p r (a ++ b)
 Takes-then p q r a b m n = record {
   places = m.places ++ n.places;
   parts = m.parts ∙ ap (λ (x : List (ℕ × Lexeme)). m.places ++ x) n.parts ∙ sym (append_assoc m.places n.places r.tokens);
   kinds_are = kinds-append m.places n.places ∙ ap (λ (x : List Lexeme). x ++ kinds n.places) m.kinds_are ∙ ap (λ (x : List Lexeme). a ++ x) n.kinds_are;
-  state = n.state ∙ ap (λ (x : Parsing). record x { tokens = r.tokens }) m.state;
+  state = state_then p q r m.state n.state;
 }
 
 pub Takes-none : (p : Parsing) → Takes p p []
