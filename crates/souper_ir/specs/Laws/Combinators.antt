@@ -99,7 +99,7 @@ and_then {F = F} {G = G} {r = r} {f = f} m n = record {
       let ahead : At p (h.prefix ++ (h.suffix ++ rest)) = subst (At p) (ap (λ (x : List Lexeme). x ++ rest) h.whole ∙ append_assoc h.prefix h.suffix rest) at in
       let j = m.complete p h.value h.prefix (h.suffix ++ rest) ahead h.first in
       let k = (n h.value).complete j.next v h.suffix rest j.ahead (subst (λ (x : Parsing). G h.value (λ goes_on. Stops goes_on x.faulty) x.scope v h.suffix rest) (sym j.state) h.second) in
-      record { next = k.next; is_read = rw (j.is_read, k.is_read) refl; ahead = k.ahead; state = state_then p j.next k.next j.state k.state };
+      record { next = k.next; is_read = rw (j.is_read, k.is_read) (refl {a = Some (v, k.next)}); ahead = k.ahead; state = state_then p j.next k.next j.state k.state };
 }
 
 -- ---- ends
