@@ -205,14 +205,7 @@ pub attribute_complete : Complete (λ s. attribute_spells) (λ a t. ⊥) attribu
 attribute_complete = attribute_rule.complete
 
 pub attribute_first : (s : Scope) (a : PlainAttribute) (ts : List Lexeme) → attribute_spells a ts → Starts (is_mark open_paren) ts
-attribute_first s power_of_two ts h = rw h refl
-attribute_first s negative ts h = rw h refl
-attribute_first s non_negative ts h = rw h refl
-attribute_first s non_zero ts h = rw h refl
-attribute_first s has_external_uses ts h = rw h refl
-attribute_first s (known_bits_attribute bits) ts h = rw h.0 refl
-attribute_first s (sign_bits n) ts h = rw h.1 refl
-attribute_first s (range low high) ts h = rw h.whole refl
+attribute_first s a ts h = let k = attribute_from false s a ts [] (h, refl) in rw k.whole refl
 
 -- ---- root attributes
 
@@ -259,8 +252,7 @@ pub root_attribute_complete : Complete (λ s. root_attribute_spells) (λ a t. �
 root_attribute_complete = root_attribute_rule.complete
 
 pub root_attribute_first : (s : Scope) (a : PlainRootAttribute) (ts : List Lexeme) → root_attribute_spells a ts → Starts (is_mark open_paren) ts
-root_attribute_first s harvested_from_use ts h = rw h refl
-root_attribute_first s (demanded_bits bits) ts h = rw h.0 refl
+root_attribute_first s a ts h = let k = root_attribute_from false s a ts [] (h, refl) in rw k.whole refl
 
 -- ---- lists of them
 
