@@ -1,5 +1,5 @@
 pub mod Lists
-pub mod Shapes
+pub mod Arities
 pub mod Sameness
 pub mod Conditions
 pub mod Order

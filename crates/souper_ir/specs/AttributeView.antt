@@ -1,9 +1,6 @@
 -- Definitions. What the code's kinds of attributes are seen as.
-use Rattle.std.specs.Prelude.{Bool, true, false}
 use Rattle.souper_ir.specs.declared.parse.attributes.Kind.{Kind}
 use Rattle.souper_ir.specs.declared.parse.attributes.Kind.TheVariants.{KnownBits, PowerOfTwo, Negative, NonNegative, NonZero, HasExternalUses, SignBits, Range}
-use Rattle.souper_ir.specs.declared.parse.attributes.RootKind.{RootKind}
-use Rattle.souper_ir.specs.declared.parse.attributes.RootKind.TheVariants.{DemandedBits, HarvestedFromUse}
 use Rattle.souper_graph.specs.Values.{power_of_two, negative, non_negative, non_zero, has_external_uses}
 use Rattle.souper_ir.specs.NodeReadings.{AttributeKind, plain_kind, bits_kind, sign_bits_kind, range_kind}
 
@@ -16,8 +13,3 @@ view_kind NonZero = plain_kind non_zero
 view_kind HasExternalUses = plain_kind has_external_uses
 view_kind SignBits = sign_bits_kind
 view_kind Range = range_kind
-
--- a bit list follows
-abbrev pub has_bits : RootKind → Bool
-has_bits DemandedBits = true
-has_bits HarvestedFromUse = false

@@ -11,6 +11,8 @@ use Rattle.souper_graph.specs.declared.ast.statements.BlockPc.{BlockPc}
 use Rattle.souper_graph.specs.Values.{PlainAttribute, known_bits as known_bits_attribute, power_of_two, negative, non_negative, non_zero, has_external_uses, sign_bits, range, PlainRootAttribute, demanded_bits, harvested_from_use, PlainPhi, PlainRhs, var, block, phi, reserved_inst, reserved_const, instruction, PlainStatement, assigned, condition, block_condition}
 use Rattle.souper_graph.specs.Syntax.Tokens.{Lexeme, ident, val_name, known_bits, int, comma, colon, equals, open_paren, close_paren, open_bracket}
 use Rattle.souper_graph.specs.Syntax.Numbers.{number_of, count_of, width_of, bits_of, known_bits_of}
+use Rattle.souper_ir.specs.declared.parse.attributes.RootKind.{RootKind}
+use Rattle.souper_ir.specs.declared.parse.attributes.RootKind.TheVariants.{DemandedBits, HarvestedFromUse}
 use Rattle.souper_ir.specs.declared.parse.words.Opcode.{Opcode}
 use Rattle.souper_ir.specs.declared.parse.words.RhsWord.{RhsWord}
 use Rattle.souper_ir.specs.declared.parse.words.RhsWord.TheVariants.{Var as begins_var, Block as begins_block, Phi as begins_phi, ReservedInst as begins_reserved_inst, ReservedConst as begins_reserved_const, Instruction as begins_instruction}
@@ -279,12 +281,12 @@ attribute_at p = do
   Some (a.0, c.1)
 
 -- what a root attribute begins with: the word `demandedBits`, or `harvestedFromUse`
-abbrev pub root_kind_of_word : List ℕ → Option Bool
-root_kind_of_word w = if bytes_eq w (codes "demandedBits") then Some true else (if bytes_eq w (codes "harvestedFromUse") then Some false else None)
+abbrev pub root_kind_of_word : List ℕ → Option RootKind
+root_kind_of_word w = if bytes_eq w (codes "demandedBits") then Some DemandedBits else (if bytes_eq w (codes "harvestedFromUse") then Some HarvestedFromUse else None)
 
-abbrev pub root_attribute_by : Bool → Parsing → Option (PlainRootAttribute × Parsing)
-root_attribute_by false p = Some (harvested_from_use, p)
-root_attribute_by true p = do
+abbrev pub root_attribute_by : RootKind → Parsing → Option (PlainRootAttribute × Parsing)
+root_attribute_by HarvestedFromUse p = Some (harvested_from_use, p)
+root_attribute_by DemandedBits p = do
   e ← accept (mark_of equals) p
   bits ← accept (int_by bits_of) e.1
   Some (demanded_bits bits.0, bits.1)

@@ -17,7 +17,7 @@ use Rattle.souper_graph.specs.Syntax.Tokens.{ident, val_name}
 use Rattle.souper_graph.specs.Syntax.Spelling.{Scope}
 use Rattle.souper_graph.proofs.RoundTrip.Parts.{Part, word, one_space, newline, is_loose, AreSound, sound_append, sound_each, loose_each, loose_append}
 use Rattle.souper_graph.proofs.RoundTrip.Lexemes.{is_word, word_lexeme, name_lexeme, count_lexeme, number_lexeme, width_lexeme, known_bits_lexeme, bits_lexeme}
-use Rattle.souper_graph.proofs.Shapes.{Shape, no_operands, unary, binary, ternary, shape_of}
+use Rattle.souper_graph.proofs.Arities.{Arity, no_operands, unary, binary, ternary, arity_of}
 use Rattle.souper_graph.proofs.RoundTrip.Nodes.{parts_of_optional_type, parts_of_constant, parts_of_block, word_parts, parts_of_attribute, parts_of_root_attribute, attribute_parts, parts_of_attributes, root_attribute_parts, parts_of_root_attributes, parts_of_operand, further_parts, parts_of_further, parts_of_operands, parts_of_rhs, parts_of_pair, parts_of_statement, line_parts, parts_of_lines, parts_of_infer, parts_of_cand, parts_of_result}
 use Rattle.souper_graph.proofs.RoundTrip.Ready.{ReadyOperand, ReadyRhs, ReadyStatement, AreReady, Known, AreKnown, known_here, known_after, ready_operands, ready_rhs, ready_first, ready_second}
 
@@ -68,13 +68,13 @@ root_attributes_loose xs = loose_append (parts_of_root_attributes xs) (newline �
 
 -- a word of the grammar for each instruction
 word_of_is : (i : Instruction) → is_word (word_of i) ≡ true
-word_of_is i = of_shape i (shape_of i)
+word_of_is i = of_arity i (arity_of i)
   where
-    of_shape : (i : Instruction) → Shape i → is_word (word_of i) ≡ true
-    of_shape _ no_operands = refl
-    of_shape _ (unary F w a f) = rw (f.word a) f.spelled
-    of_shape _ (binary F w a b f) = rw (f.word a b) f.spelled
-    of_shape _ (ternary F w a b c f) = rw (f.word a b c) f.spelled
+    of_arity : (i : Instruction) → Arity i → is_word (word_of i) ≡ true
+    of_arity _ no_operands = refl
+    of_arity _ (unary F w a f) = rw (f.word a) f.spelled
+    of_arity _ (binary F w a b f) = rw (f.word a b) f.spelled
+    of_arity _ (ternary F w a b c f) = rw (f.word a b c) f.spelled
 
 -- a line ends in a newline, so anything may follow it
 pub line_then : (ps qs : List Part) → AreSound ps → AreSound qs → AreSound ((ps ++ newline ∷ []) ++ qs)

@@ -7,6 +7,8 @@ use Rattle.souper_graph.specs.Syntax.Tokens.{Lexeme, ident, known_bits, int, com
 use Rattle.souper_graph.specs.Syntax.Numbers.{number_of, count_of, bit_of, known_bit_of, all_of, listed, bits_of, known_bits_of}
 use Rattle.souper_graph.specs.Syntax.Spelling.{Scope, Joined, attribute_spells, root_attribute_spells, attributes_spell, root_attributes_spell}
 use Rattle.souper_graph.specs.Syntax.Optional.{◌>>=◌}
+use Rattle.souper_ir.specs.declared.parse.attributes.RootKind.{RootKind}
+use Rattle.souper_ir.specs.declared.parse.attributes.RootKind.TheVariants.{DemandedBits, HarvestedFromUse}
 use Rattle.souper_ir.specs.Grammar.{Free, Starts, Followed, Members, LastGoesOn, ListGoesOn}
 use Rattle.souper_ir.specs.NodeReadings.{accept, mark_of, is_mark, ident_by, AttributeKind, plain_kind, bits_kind, sign_bits_kind, range_kind, attribute_kind_of_word, attribute_kind_of, attribute_by, attribute_at, root_kind_of_word, root_attribute_by, root_attribute_at}
 use Rattle.souper_ir.specs.Laws.Unique.{never}
@@ -151,7 +153,7 @@ enclosed {G = G} kind_of n = respelled (after (mark open_paren refl) (and_then (
 
 -- ---- attributes
 
--- what is behind the token that begins an attribute
+-- what comes after the token that begins an attribute
 abbrev attribute_by_rule : (k : AttributeKind) → Ruled (attribute_by k)
 attribute_by_rule (plain_kind a) = ruled (done a)
 attribute_by_rule (bits_kind t) = ruled (given (λ s. known_bits_of t) (λ bits. done (known_bits_attribute bits)))
@@ -210,37 +212,37 @@ attribute_first s a ts h = let k = attribute_from false s a ts [] (h, refl) in r
 -- ---- root attributes
 
 -- the token begins a root attribute of the kind
-abbrev RootKindIs : Bool → Lexeme → Type 0
-RootKindIs true t = t ≡ ident (codes "demandedBits")
-RootKindIs false t = t ≡ ident (codes "harvestedFromUse")
+abbrev RootKindIs : RootKind → Lexeme → Type 0
+RootKindIs DemandedBits t = t ≡ ident (codes "demandedBits")
+RootKindIs HarvestedFromUse t = t ≡ ident (codes "harvestedFromUse")
 
-root_word_means : (w : List ℕ) (k : Bool) → root_kind_of_word w ≡ Some k → RootKindIs k (ident w)
+root_word_means : (w : List ℕ) (k : RootKind) → root_kind_of_word w ≡ Some k → RootKindIs k (ident w)
 root_word_means w k e =
-    by_word (λ w k. RootKindIs k (ident w)) w (codes "demandedBits") true k _ e refl (λ e.
-    by_word (λ w k. RootKindIs k (ident w)) w (codes "harvestedFromUse") false k _ e refl (λ e. absurd cc))
+    by_word (λ w k. RootKindIs k (ident w)) w (codes "demandedBits") DemandedBits k _ e refl (λ e.
+    by_word (λ w k. RootKindIs k (ident w)) w (codes "harvestedFromUse") HarvestedFromUse k _ e refl (λ e. absurd cc))
 
-root_kind_means : (t : Lexeme) (k : Bool) → ident_by root_kind_of_word t ≡ Some k → RootKindIs k t
+root_kind_means : (t : Lexeme) (k : RootKind) → ident_by root_kind_of_word t ≡ Some k → RootKindIs k t
 root_kind_means t k e =
     let w = ident_means root_kind_of_word t k e in
     subst (λ (x : Lexeme). RootKindIs k x) (sym w.1) (root_word_means w.0 k w.2)
 
--- what is behind the word of a root attribute
-abbrev root_attribute_by_rule : (k : Bool) → Ruled (root_attribute_by k)
-root_attribute_by_rule false = ruled (done harvested_from_use)
-root_attribute_by_rule true = ruled (after (mark equals refl) (number bits_of (λ bits. done (demanded_bits bits))))
+-- what comes after the word of a root attribute
+abbrev root_attribute_by_rule : (k : RootKind) → Ruled (root_attribute_by k)
+root_attribute_by_rule HarvestedFromUse = ruled (done harvested_from_use)
+root_attribute_by_rule DemandedBits = ruled (after (mark equals refl) (number bits_of (λ bits. done (demanded_bits bits))))
 
-root_attribute_is : (k : Bool) (t : Lexeme) (s : Scope) (a : PlainRootAttribute) (ts rest : List Lexeme) → RootKindIs k t → (root_attribute_by_rule k).form Free s a ts rest → root_attribute_spells a (open_paren ∷ t ∷ (ts ++ close_paren ∷ []))
-root_attribute_is false t s a ts rest is h = rw (h.0, h.1, is) refl
-root_attribute_is true t s a ts rest is h =
+root_attribute_is : (k : RootKind) (t : Lexeme) (s : Scope) (a : PlainRootAttribute) (ts rest : List Lexeme) → RootKindIs k t → (root_attribute_by_rule k).form Free s a ts rest → root_attribute_spells a (open_paren ∷ t ∷ (ts ++ close_paren ∷ []))
+root_attribute_is HarvestedFromUse t s a ts rest is h = rw (h.0, h.1, is) refl
+root_attribute_is DemandedBits t s a ts rest is h =
     let n = h.after in
     let m = bits_means n.word n.value n.means in
     rw n.after.0 (rw (is, h.whole, n.whole, n.after.1, m.0) refl, m.1)
 
 root_attribute_from : From (Node (λ s. root_attribute_spells) (λ a t. ⊥)) (Enclosed (ident_by root_kind_of_word) (λ k. (root_attribute_by_rule k).form))
-root_attribute_from faulty s harvested_from_use ts rest h = rw h.0 (opened (ident (codes "harvestedFromUse")) false [] refl (refl, refl))
+root_attribute_from faulty s harvested_from_use ts rest h = rw h.0 (opened (ident (codes "harvestedFromUse")) HarvestedFromUse [] refl (refl, refl))
 root_attribute_from faulty s (demanded_bits bits) ts rest h =
     let w : List ℕ = map text_of_bit bits in
-    rw h.0.0 (opened (ident (codes "demandedBits")) true (equals ∷ int w ∷ []) refl (next (next_word w (bits_is bits h.0.1) (refl, refl))))
+    rw h.0.0 (opened (ident (codes "demandedBits")) DemandedBits (equals ∷ int w ∷ []) refl (next (next_word w (bits_is bits h.0.1) (refl, refl))))
 
 pub root_attribute_rule : Rule (Node (λ s. root_attribute_spells) (λ a t. ⊥)) root_attribute_at
 unfolding root_attribute_at

@@ -1,5 +1,5 @@
 -- Lemmas. Rules of the grammar by how readings are combined: what a combination reads, from what its parts read. Beside
--- each form stands what builds it: `both`, `found`, `made`, `next`, `next_word`, `next_name`.
+-- each form is what builds it: `both`, `found`, `made`, `next`, `next_word`, `next_name`.
 use Rattle.std.proofs.Common.{◌≡◌, ℕ, Bool, true, false, List, [], ◌∷◌, ◌++◌, Option, Some, None, refl, sym, ◌∙◌, ap, subst, append_assoc}
 use Rattle.std.proofs.lemmas.List.{append-nil}
 use Rattle.souper_graph.specs.Syntax.Optional.{◌>>=◌}
@@ -16,11 +16,11 @@ use Rattle.souper_ir.specs.Laws.Tokens.{name_means, mark_means, word_means, word
 
 -- ---- rules
 
--- what is asked of the tokens behind a node that some tokens continue: a reading ensures `Free`, and requires `Stops`
+-- what is asked of the tokens after a node that some tokens continue: a reading ensures `Free`, and requires `Stops`
 abbrev pub Ends : Type 1
 Ends = (Lexeme → Type 0) → List Lexeme → Type 0
 
--- which tokens, with others behind them, spell a value in a scope
+-- which tokens, with others after them, spell a value in a scope
 abbrev pub Form : Type 0 → Type 1
 Form V = Ends → Scope → V → List Lexeme → List Lexeme → Type 0
 
@@ -47,7 +47,7 @@ pub record Ruled {V : Type 0} (read : Reading V) : Type 1 where
 abbrev pub ruled : {V : Type 0} {F : Form V} {r : Reading V} → Rule F r → Ruled r
 ruled {F = F} m = record { form = F; rule = m }
 
--- the tokens spell the value, and those behind do not continue it
+-- the tokens spell the value, and those after them do not continue it
 abbrev pub Node : {V : Type 0} → (Scope → V → List Lexeme → Type 0) → (V → Lexeme → Type 0) → Form V
 Node spells continues = λ ends s v ts rest. spells s v ts × ends (continues v) rest
 

@@ -30,7 +30,7 @@ use Rattle.souper_ir.specs.Laws.FromReadings.{Complete}
 abbrev pub Behind : {V : Type 0} → Lexeme → (Scope → V → List Lexeme → Type 0) → (V → Lexeme → Type 0) → Form V
 Behind t spells continues = λ ends s v ts rest. spells s v (t ∷ ts) × ends (continues v) rest
 
--- the token, and then what is behind it
+-- the token, and what comes after it
 whole : {V : Type 0} {t : Lexeme} {spells : Scope → V → List Lexeme → Type 0} {continues : V → Lexeme → Type 0} {m : Reading (Unit {0})} {r : Reading V}
     → Rule (Just t) m → Rule (Behind t spells continues) r → ((s : Scope) (v : V) (ts : List Lexeme) → spells s v ts → (more : List Lexeme) × (ts ≡ t ∷ more)) → Rule (Node spells continues) (λ p. m p >>= λ x. r x.1)
 whole {spells = spells} m n begins = respelled (after m n)
@@ -213,7 +213,7 @@ unfolding rhs_word_at
 rhs_word_rule = respelled (choice is_any rhs_word_by_rule) (λ s k ts rest h. rhs_word_to h.branch s k ts rest h.chosen)
     (λ faulty s k ts rest h. record { branch = true; seen = rw h.1 refl; chosen = (ident h.0, h.1, h.2) })
 
--- what is behind the word
+-- what comes after the word
 abbrev rhs_by_rule : (k : RhsWord) → Ruled (rhs_by k)
 rhs_by_rule begins_var = ruled (done var)
 rhs_by_rule begins_block = ruled (last block_after_rule block)
@@ -230,7 +230,7 @@ rhs_to begins_reserved_inst w b s v ts rest h = rw (h.0, h.1, b) (refl, never re
 rhs_to begins_reserved_const w b s v ts rest h = rw (h.0, h.1, b) (refl, never rest)
 rhs_to (begins_instruction o) w b s v ts rest h = rw h.is (instruction_to o w b s h.value ts rest h.last)
 
--- the word and what is behind it
+-- the word and what comes after it
 parted : (w : List ℕ) (k : RhsWord) (ends : Ends) (s : Scope) (v : PlainRhs) (ts more rest : List Lexeme)
     → ts ≡ ident w ∷ more → rhs_word_of w ≡ Some k → (rhs_by_rule k).form ends s v more rest → Then WordIs (λ k. (rhs_by_rule k).form) ends s v ts rest
 parted w k ends s v ts more rest e is h = record { value = k; prefix = ident w ∷ []; suffix = more; whole = e; first = (w, refl, is); second = h }

@@ -8,7 +8,7 @@ ghost use Rattle.souper_graph.specs.Syntax.Numbers.{bits_of};
 ghost use Rattle.souper_ir.specs.Errors.{widened};
 ghost use Rattle.souper_ir.specs.Reading.{Gives};
 ghost use Rattle.souper_ir.specs.NodeReadings.{bits_kind, sign_bits_kind, range_kind, accept, is_mark, int_by, ident_by, attribute_kind_of_word, attribute_kind_of, attribute_by, attribute_at, root_kind_of_word, root_attribute_by, root_attribute_at};
-ghost use Rattle.souper_ir.specs.AttributeView.{view_kind, has_bits};
+ghost use Rattle.souper_ir.specs.AttributeView.{view_kind};
 ghost use Rattle.souper_ir.specs.Laws.FromReadings.{one_alone};
 ghost use Rattle.souper_ir.specs.Laws.Attributes.{attribute_complete, attribute_first, root_attribute_complete, root_attribute_first};
 
@@ -134,7 +134,7 @@ enum RootKind {
 
 #[tactic(auto, unfolding(crate::specs::NodeReadings::accept))]
 fn root_kind(parser: &mut Parser<'_>) -> Read<RootKind>
-    ensures { Gives has_bits (widened result) (accept (ident_by root_kind_of_word) parser.old) parser.old parser.new }
+    ensures { Gives (λ k. k) (widened result) (accept (ident_by root_kind_of_word) parser.old) parser.old parser.new }
 {
     match parser.token()? {
         Token::Ident("demandedBits") => Ok(RootKind::DemandedBits),
@@ -161,7 +161,7 @@ fn bit_list(parser: &mut Parser<'_>) -> Read<Vec<bool>>
 // What follows the kind, up to the closing parenthesis.
 fn root_attribute_of_kind(parser: &mut Parser<'_>, kind: RootKind) -> Read<RootAttribute>
     requires { parser.old.failed ≡ None }
-    ensures { Gives view_root_attribute (widened result) (root_attribute_by (has_bits kind) parser.old) parser.old parser.new }
+    ensures { Gives view_root_attribute (widened result) (root_attribute_by kind parser.old) parser.old parser.new }
 {
     match kind {
         RootKind::DemandedBits => {
