@@ -1,5 +1,5 @@
 -- Definitions. What the builders append to their arenas, and what they require.
-use Rattle.std.specs.Prelude.{◌≡◌, ℕ, List, ◌++◌, codes, decimal, Option, Some, None, slice_get}
+use Rattle.std.specs.Prelude.{◌≡◌, ℕ, List, [], ◌∷◌, ◌++◌, map, codes, decimal, Option, Some, None, slice_get}
 use Rattle.std.specs.declared.alloc.Global.{Global}
 use Rattle.std.specs.declared.string.String.{String}
 use Rattle.std.specs.String.{string_bytes}
@@ -8,6 +8,7 @@ use Rattle.souper_graph.specs.declared.ast.statements.Statement.{Statement}
 use Rattle.souper_graph.specs.declared.ast.items.Replacement.{Replacement}
 use Rattle.souper_graph.specs.declared.ast.items.Replacement.TheVariants.{LhsRhs, Cand}
 use Rattle.souper_graph.specs.Values.{PlainStatement, PlainRhs, PlainAttribute, assigned}
+use Rattle.souper_graph.specs.View.{view_statement}
 
 -- a given name begins with `%` (37)
 abbrev pub BeginsWithPercent : Option (String Global) → Type 0
@@ -22,6 +23,10 @@ chosen_name (Some name) n = string_bytes name
 -- the assignment that is appended to n statements
 abbrev pub added_assignment : Option (String Global) → ℕ → Option Ty → PlainRhs → List PlainAttribute → PlainStatement
 added_assignment name n ty value attributes = assigned (record { name = chosen_name name n; ty = ty; value = value; attributes = attributes })
+
+-- the new statements are the old ones with this one after them
+abbrev pub Appends : List Statement → List Statement → PlainStatement → Type 0
+Appends old new s = map view_statement new ≡ map view_statement old ++ s ∷ []
 
 abbrev pub statements_of : Replacement → List Statement
 statements_of (LhsRhs ss l r) = ss

@@ -1,6 +1,6 @@
 //! Builders of items, statement by statement.
 
-ghost use Rattle.std.specs.Prelude.{◌≡◌, ◌<◌, ◌++◌, ◌∷◌, [], Some, None, map, length, slice_get, IfOk, OnOk, OnErr};
+ghost use Rattle.std.specs.Prelude.{◌≡◌, ◌<◌, [], Some, None, map, length, slice_get, IfOk, OnOk, OnErr};
 ghost use Rattle.std.specs.String.{string_bytes};
 ghost use Rattle.souper_graph.specs.declared.ast.items.Replacement.TheVariants.{LhsRhs};
 ghost use Rattle.souper_graph.specs.declared.ast.statements.Statement.TheVariants.{Assignment as assignment_variant};
@@ -8,7 +8,7 @@ ghost use Rattle.souper_graph.specs.Values.{block, condition, block_condition};
 ghost use Rattle.souper_graph.specs.View.{view_attribute, view_rhs, view_statement};
 ghost use Rattle.souper_graph.specs.Faults.{IsAssigned, IsBlock};
 ghost use Rattle.souper_graph.specs.WellFormed.{predecessors_at};
-ghost use Rattle.souper_graph.specs.Building.{BeginsWithPercent, chosen_name, added_assignment, statements_of};
+ghost use Rattle.souper_graph.specs.Building.{BeginsWithPercent, chosen_name, added_assignment, Appends, statements_of};
 
 use crate::ast::arenas::Arena;
 use crate::ast::attributes::{Attribute, RootAttribute};
@@ -37,8 +37,7 @@ fn put_assignment(
     attributes: Vec<Attribute>,
 ) -> Result<ValueId, AllocError>
     ensures position { IfOk result (λ id. id ≡ length statements.old) }
-    ensures grows { OnOk result
-        (map view_statement statements.new ≡ map view_statement statements.old ++ added_assignment name (length statements.old) ty (view_rhs value) (map view_attribute attributes.items) ∷ []) }
+    ensures grows { OnOk result (Appends statements.old statements.new (added_assignment name (length statements.old) ty (view_rhs value) (map view_attribute attributes.items))) }
     ensures err { OnErr result (statements.new ≡ statements.old) }
 {
     let name = name_or_count(statements.allocator(), name, statements.len())?;
@@ -58,8 +57,7 @@ fn put_block(
     predecessors: u32,
 ) -> Result<BlockId, AllocError>
     ensures position { IfOk result (λ id. id ≡ length statements.old) }
-    ensures grows { OnOk result
-        (map view_statement statements.new ≡ map view_statement statements.old ++ added_assignment name (length statements.old) None (block (record { predecessors = predecessors })) [] ∷ []) }
+    ensures grows { OnOk result (Appends statements.old statements.new (added_assignment name (length statements.old) None (block (record { predecessors = predecessors })) [])) }
     ensures err { OnErr result (statements.new ≡ statements.old) }
 {
     let name = name_or_count(statements.allocator(), name, statements.len())?;
@@ -74,8 +72,7 @@ fn put_block(
 }
 
 fn put_pc(statements: &mut Arena<Statement>, x: Operand, y: Operand) -> Result<(), AllocError>
-    ensures grows { OnOk result
-        (map view_statement statements.new ≡ map view_statement statements.old ++ condition (record { x = x; y = y }) ∷ []) }
+    ensures grows { OnOk result (Appends statements.old statements.new (condition (record { x = x; y = y }))) }
     ensures err { OnErr result (statements.new ≡ statements.old) }
 {
     statements.alloc(Pc { x, y }.into())?;
@@ -83,8 +80,7 @@ fn put_pc(statements: &mut Arena<Statement>, x: Operand, y: Operand) -> Result<(
 }
 
 fn put_block_pc(statements: &mut Arena<Statement>, block_pc: BlockPc) -> Result<(), AllocError>
-    ensures grows { OnOk result
-        (map view_statement statements.new ≡ map view_statement statements.old ++ block_condition block_pc ∷ []) }
+    ensures grows { OnOk result (Appends statements.old statements.new (block_condition block_pc)) }
     ensures err { OnErr result (statements.new ≡ statements.old) }
 {
     statements.alloc(block_pc.into())?;
@@ -139,8 +135,7 @@ impl ReplacementBuilder {
     ) -> Result<ValueId, AllocError>
         requires { BeginsWithPercent name }
         ensures position { IfOk result (λ id. id ≡ length self.old) }
-        ensures grows { OnOk result
-            (map view_statement self.new ≡ map view_statement self.old ++ added_assignment name (length self.old) ty (view_rhs value) (map view_attribute attributes.items) ∷ []) }
+        ensures grows { OnOk result (Appends self.old self.new (added_assignment name (length self.old) ty (view_rhs value) (map view_attribute attributes.items))) }
         ensures err { OnErr result (self.new ≡ self.old) }
     {
         put_assignment(&mut self.statements, name, ty, value, attributes)
@@ -153,8 +148,7 @@ impl ReplacementBuilder {
     pub fn block(&mut self, name: Option<String>, predecessors: u32) -> Result<BlockId, AllocError>
         requires { BeginsWithPercent name }
         ensures position { IfOk result (λ id. id ≡ length self.old) }
-        ensures grows { OnOk result
-            (map view_statement self.new ≡ map view_statement self.old ++ added_assignment name (length self.old) None (block (record { predecessors = predecessors })) [] ∷ []) }
+        ensures grows { OnOk result (Appends self.old self.new (added_assignment name (length self.old) None (block (record { predecessors = predecessors })) [])) }
         ensures err { OnErr result (self.new ≡ self.old) }
     {
         put_block(&mut self.statements, name, predecessors)
@@ -164,8 +158,7 @@ impl ReplacementBuilder {
     ///
     /// If memory runs out, the builder is unchanged.
     pub fn pc(&mut self, x: Operand, y: Operand) -> Result<(), AllocError>
-        ensures grows { OnOk result
-            (map view_statement self.new ≡ map view_statement self.old ++ condition (record { x = x; y = y }) ∷ []) }
+        ensures grows { OnOk result (Appends self.old self.new (condition (record { x = x; y = y }))) }
         ensures err { OnErr result (self.new ≡ self.old) }
     {
         put_pc(&mut self.statements, x, y)
@@ -184,8 +177,7 @@ impl ReplacementBuilder {
     ) -> Result<(), AllocError>
         requires is_block { IsBlock (slice_get (map view_statement self.old) block) }
         requires is_way { predecessor < predecessors_at (map view_statement self.old) block }
-        ensures grows { OnOk result
-            (map view_statement self.new ≡ map view_statement self.old ++ block_condition (record { block = block; predecessor = predecessor; x = x; y = y }) ∷ []) }
+        ensures grows { OnOk result (Appends self.old self.new (block_condition (record { block = block; predecessor = predecessor; x = x; y = y }))) }
         ensures err { OnErr result (self.new ≡ self.old) }
     {
         let block_pc = BlockPc {
@@ -263,8 +255,7 @@ impl LeftHandSideBuilder {
     ) -> Result<ValueId, AllocError>
         requires { BeginsWithPercent name }
         ensures position { IfOk result (λ id. id ≡ length self.old) }
-        ensures grows { OnOk result
-            (map view_statement self.new ≡ map view_statement self.old ++ added_assignment name (length self.old) ty (view_rhs value) (map view_attribute attributes.items) ∷ []) }
+        ensures grows { OnOk result (Appends self.old self.new (added_assignment name (length self.old) ty (view_rhs value) (map view_attribute attributes.items))) }
         ensures err { OnErr result (self.new ≡ self.old) }
     {
         put_assignment(&mut self.statements, name, ty, value, attributes)
@@ -277,8 +268,7 @@ impl LeftHandSideBuilder {
     pub fn block(&mut self, name: Option<String>, predecessors: u32) -> Result<BlockId, AllocError>
         requires { BeginsWithPercent name }
         ensures position { IfOk result (λ id. id ≡ length self.old) }
-        ensures grows { OnOk result
-            (map view_statement self.new ≡ map view_statement self.old ++ added_assignment name (length self.old) None (block (record { predecessors = predecessors })) [] ∷ []) }
+        ensures grows { OnOk result (Appends self.old self.new (added_assignment name (length self.old) None (block (record { predecessors = predecessors })) [])) }
         ensures err { OnErr result (self.new ≡ self.old) }
     {
         put_block(&mut self.statements, name, predecessors)
@@ -288,8 +278,7 @@ impl LeftHandSideBuilder {
     ///
     /// If memory runs out, the builder is unchanged.
     pub fn pc(&mut self, x: Operand, y: Operand) -> Result<(), AllocError>
-        ensures grows { OnOk result
-            (map view_statement self.new ≡ map view_statement self.old ++ condition (record { x = x; y = y }) ∷ []) }
+        ensures grows { OnOk result (Appends self.old self.new (condition (record { x = x; y = y }))) }
         ensures err { OnErr result (self.new ≡ self.old) }
     {
         put_pc(&mut self.statements, x, y)
@@ -308,8 +297,7 @@ impl LeftHandSideBuilder {
     ) -> Result<(), AllocError>
         requires is_block { IsBlock (slice_get (map view_statement self.old) block) }
         requires is_way { predecessor < predecessors_at (map view_statement self.old) block }
-        ensures grows { OnOk result
-            (map view_statement self.new ≡ map view_statement self.old ++ block_condition (record { block = block; predecessor = predecessor; x = x; y = y }) ∷ []) }
+        ensures grows { OnOk result (Appends self.old self.new (block_condition (record { block = block; predecessor = predecessor; x = x; y = y }))) }
         ensures err { OnErr result (self.new ≡ self.old) }
     {
         let block_pc = BlockPc {

@@ -329,13 +329,11 @@ impl<'a> Parser<'a> {
     {
         let id = match push(&mut self.statements, assignment.into()) {
             Ok(id) => id,
-            Err(_) => {
-                self.failed = Some(Failure::Memory);
-                return Err(ReadError::Memory);
-            }
+            Err(_) => return Err(self.want_memory()),
         };
         match self.names.define(name, id.into()) {
             Ok(()) => Ok(()),
+            // The names may lack one of the statements now, so the cause is set first.
             Err(_) => {
                 self.failed = Some(Failure::Memory);
                 Err(ReadError::Memory)
@@ -352,10 +350,7 @@ impl<'a> Parser<'a> {
     {
         match push(&mut self.statements, condition) {
             Ok(_) => Ok(()),
-            Err(_) => {
-                self.failed = Some(Failure::Memory);
-                Err(ReadError::Memory)
-            }
+            Err(_) => Err(self.want_memory()),
         }
     }
 
