@@ -1,6 +1,6 @@
 -- What is written of a list that was read, and of a refusal.
 use lib.ListN.{length-map}
-use Rattle.std.proofs.Common.{◌≡◌, ◌≤◌, ℕ, List, [], ◌∷◌, ◌++◌, map, length, codes, decimal, Option, Some, unwrap_or, inl, inr, ap, sym, ◌∙◌, subst}
+use Rattle.std.proofs.Common.{◌≡◌, ◌≤◌, ℕ, List, [], ◌∷◌, ◌++◌, map, length, codes, decimal, Option, Some, unwrap_or, inl, inr, refl, ap, sym, ◌∙◌, subst}
 use Rattle.std.specs.Prelude.{Result, Ok, Err, IfOk, IfSome}
 use Rattle.std.specs.Fmt.{◌++?◌}
 use Rattle.std.specs.String.{string_bytes}
@@ -13,8 +13,8 @@ use Rattle.souper_ir.specs.declared.parse.ParseError.{ParseError}
 use Rattle.souper_ir.specs.declared.parse.ParseErrorKind.{ParseErrorKind}
 use Rattle.souper_ir.specs.declared.parse.ParseErrorKind.TheVariants.{Parse}
 use Rattle.souper_ir.specs.Answers.{IsStrError}
-use Rattle.souper_ir.specs.Errors.{kind_of, offset_of, shown_error, OnKind}
-use Rattle.souper_ir.specs.Places.{IsRefusalText}
+use Rattle.souper_ir.specs.Errors.{kind_of, offset_of, shown_error, ShowsPlace, OnKind}
+use Rattle.souper_ir.specs.Places.{IsRefusalText, shown_refusal}
 use Rattle.examples_using.specs.Reports.{IsReport}
 
 pub of_count : {E : Type 0} (source : List ℕ) (items : List LeftHandSide) (n : ℕ) (r : Result (String Global) E)
@@ -27,7 +27,7 @@ of_count source items n (Err e) spells is written = tt
 -- a refusal of the text at some offset, as the error has it
 abbrev pub IsRefused : List ℕ → ParseError → Type 0
 IsRefused source e = (offset : ℕ) × (offset_of e ≡ Some offset) × (offset ≤ length source) × SpellsNone left_hand_side source
-    × ((shown : List ℕ) × (shown_error e ≡ Some shown) × IsRefusalText (Some (codes "input.souper")) source offset shown)
+    × ShowsPlace (Some (codes "input.souper")) source offset e
 
 -- the bytes that are written for an offset and an error
 abbrev refusal_line : ℕ → Option (List ℕ) → Option (List ℕ)
@@ -36,15 +36,16 @@ refusal_line offset shown = Some (codes "refused at byte ") ++? (Some (decimal o
 of_refused : {E : Type 0} (source : List ℕ) (e : ParseError) (offset : ℕ) (r : Result (String Global) E)
     → IsRefused source e → Some offset ≡ offset_of e
     → IfOk r (λ s. IfSome (refusal_line offset (shown_error e)) (λ bs. string_bytes s ≡ bs)) → IfOk r (λ s. IsReport source (string_bytes s))
-of_refused source e offset (Ok s) (at, is_at, within, nothing, (shown, is_shown, is_text)) is written =
+of_refused source e offset (Ok s) (at, is_at, within, nothing, p) is written =
+    let text : List ℕ = shown_refusal (codes "input.souper") p.line p.column p.text p.message in
     let same : at ≡ offset = ap (λ (o : Option ℕ). unwrap_or o 0) (sym is_at ∙ sym is) in
     inr (
       nothing,
       (
         offset,
-        shown,
-        subst (λ (n : ℕ). IsRefusalText (Some (codes "input.souper")) source n shown) same is_text,
-        subst (λ (o : Option (List ℕ)). IfSome (refusal_line offset o) (λ bs. string_bytes s ≡ bs)) is_shown written,
+        text,
+        subst (λ (n : ℕ). IsRefusalText (Some (codes "input.souper")) source n text) same (p.message, p.line, p.column, p.text, p.is_place, refl),
+        subst (λ (o : Option (List ℕ)). IfSome (refusal_line offset o) (λ bs. string_bytes s ≡ bs)) p.shown_is written,
       ),
     )
 of_refused source e offset (Err x) refused is written = tt

@@ -118,6 +118,8 @@ fn errors_of_no_source(rt: HostRuntime) -> Result<(), Fail> {
         ),
     ] {
         let error = Infer::parse(&mut Parser::new(rt.alloc(), source)).err();
+        let place = error.as_ref().map(|error| (error.line(), error.column()));
+        assert_eq!(&rt; place, Some((None, None)));
         reports(&rt, rt.alloc(), error, offset, want)?;
     }
     Ok(())

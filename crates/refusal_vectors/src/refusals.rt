@@ -35,7 +35,8 @@ pub fn shows(rt: &impl Abort, alloc: Global, error: &ParseError, want: &str) -> 
     Ok(())
 }
 
-/// The error is a refusal at the offset, and shows the text.
+/// The error is a refusal at the offset, shows the text, and has the line and the column that the text has; without a
+/// source it shows 1 for both.
 pub fn reports(
     rt: &impl Abort,
     alloc: Global,
@@ -46,6 +47,9 @@ pub fn reports(
     let error = error.expect(rt, want);
     assert_eq!(rt; error.kind(), ParseErrorKind::Parse, "for {want}");
     assert_eq!(rt; error.offset(), Some(offset), "for {want}");
+    let (line, column) = (error.line().unwrap_or(1), error.column().unwrap_or(1));
+    let place = format!(in alloc; ":{line}:{column}: ")?;
+    assert!(rt; want.contains(place.as_str()), "for {want}");
     shows(rt, alloc, &error, want)
 }
 

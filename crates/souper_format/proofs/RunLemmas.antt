@@ -1,10 +1,9 @@
 -- What an error of the parser makes of a run, and what a run says if the reader's bytes are known.
-use Rattle.std.proofs.Common.{◌≡◌, ◌≤◌, ℕ, List, [], ◌∷◌, ◌++◌, Option, zero, suc, None, Some, IfSome, ◌⊎◌, inl, inr, length, sym, ap, ◌∙◌, subst, append-nil}
+use Rattle.std.proofs.Common.{◌≡◌, ◌≤◌, ℕ, List, [], ◌∷◌, ◌++◌, Option, zero, suc, None, Some, IfSome, ◌⊎◌, inl, inr, length, refl, sym, ap, ◌∙◌, subst, append-nil}
 use Rattle.std.specs.Str.{IsUtf8}
 use Rattle.std.specs.Io.KnownBytes.{Consumes, IsAtEnd}
 use Rattle.souper_graph.specs.Syntax.Spelling.{ItemType, SpellsNone}
-use Rattle.souper_ir.specs.Errors.{kind_of, offset_of, shown_error, OnKind}
-use Rattle.souper_ir.specs.Places.{IsRefusalText}
+use Rattle.souper_ir.specs.Errors.{kind_of, offset_of, ShowsPlace, OnKind}
 use Rattle.souper_ir.specs.Answers.{IsStrError}
 use Rattle.souper_ir.specs.declared.parse.ParseError.{ParseError}
 use Rattle.souper_ir.specs.declared.parse.ParseErrorKind.{ParseErrorKind}
@@ -17,14 +16,14 @@ use Rattle.souper_format.specs.Runs.{Formats, ReportedRefusal, IsRun, IsKnownRun
 -- a refusal at an offset of the source, as the parser returns it
 abbrev pub IsRefusal : ItemType → Option (List ℕ) → List ℕ → ParseError → Type 0
 IsRefusal k file source e = (offset : ℕ) × (offset_of e ≡ Some offset) × (offset ≤ length source) × SpellsNone k source
-    × ((shown : List ℕ) × (shown_error e ≡ Some shown) × IsRefusalText file source offset shown)
+    × ShowsPlace file source offset e
 
 pub reported_refusal : (k : ItemType) (file : Option (List ℕ)) (source : List ℕ) (err : Stream) (e : ParseError)
     → IsRefusal k file source e → ReportedLine err e → ReportedRefusal file source err
-reported_refusal k file source err e (offset, at, within, none, (shown, is_shown, is_text)) reported works =
+reported_refusal k file source err e (offset, at, within, none, p) reported works =
     let (line, (bytes, are_shown, is_line), given) = reported works in
-    let same = subst (λ o. IfSome o (λ s. bytes ≡ s)) is_shown are_shown in
-    (offset, shown, within, is_text, subst (IsGiven err) (is_line ∙ ap (λ (s : List ℕ). s ++ 10 ∷ []) same) given)
+    let same = subst (λ o. IfSome o (λ s. bytes ≡ s)) p.shown_is are_shown in
+    (offset, _, within, (p.message, p.line, p.column, p.text, p.is_place, refl), subst (IsGiven err) (is_line ∙ ap (λ (s : List ℕ). s ++ 10 ∷ []) same) given)
 
 stopped : (k : ItemType) (input out err : Stream) (status : ℕ)
     → IsGivenNothing out → StoppedByMemory err status → IsRun k input out err status

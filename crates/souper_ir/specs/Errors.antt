@@ -1,5 +1,5 @@
 -- Definitions. What an error reports: its kind, its offset and the text that it shows.
-use Rattle.std.specs.Prelude.{◌≡◌, ℕ, List, ◌++◌, ◌⊎◌, codes, Option, None, Some, Result, Ok, Err, IfSome, IsOk, IsSomeAnd, option_map, string_bytes}
+use Rattle.std.specs.Prelude.{◌≡◌, ℕ, List, ◌++◌, ◌⊎◌, codes, Option, None, Some, Result, Ok, Err, IfSome, IsOk, option_map, string_bytes}
 use Rattle.std.specs.Fmt.{WritesOnOk, WritesStyledOnOk}
 use Rattle.std.specs.declared.fmt.Error.{Error as FormatError}
 use Rattle.std.specs.declared.fmt.Formatter.{Formatter}
@@ -13,7 +13,7 @@ use Rattle.souper_ir.specs.declared.parse.error.ReadError.{ReadError}
 use Rattle.souper_ir.specs.declared.parse.error.ReadError.TheVariants.{Refused as RefusedRead, Memory as MemoryRead}
 use Rattle.souper_ir.specs.declared.parse.error.Refusal.{Refusal}
 use Rattle.souper_ir.specs.declared.parse.place.Place.{Place}
-use Rattle.souper_ir.specs.Places.{IsPlace, IsRefusalText, direct_text, file_or_unknown, shown_refusal}
+use Rattle.souper_ir.specs.Places.{IsPlace, direct_text, file_or_unknown, shown_refusal}
 
 -- one of three facts, by the kind: for `Io`, `Parse` and `Memory`
 abbrev pub OnKind : ParseErrorKind → Type 0 → Type 0 → Type 0 → Type 0
@@ -49,6 +49,22 @@ fault_of_cause _ = None
 abbrev pub fault_of : ParseError → Option Error
 fault_of e = fault_of_cause e.cause
 
+-- the place of a refusal, if it was given one
+abbrev pub place_of_cause : Cause → Option Place
+place_of_cause (ParseCause refusal) = refusal.value.place
+place_of_cause _ = None
+
+abbrev pub place_of : ParseError → Option Place
+place_of e = place_of_cause e.cause
+
+-- `e.line()`
+abbrev pub line_of : ParseError → Option ℕ
+line_of e = option_map (λ (place : Place). place.line) (place_of e)
+
+-- `e.column()`
+abbrev pub column_of : ParseError → Option ℕ
+column_of e = option_map (λ (place : Place). place.column) (place_of e)
+
 -- the text that shows a place, with a message
 abbrev pub shown_at : Place → List ℕ → List ℕ
 shown_at place message =
@@ -83,10 +99,20 @@ abbrev pub IsPlaceIn : Option (List ℕ) → List ℕ → ℕ → Place → Type
 IsPlaceIn file source offset place =
     (option_map string_bytes place.file ≡ file) × IsPlace source offset place.line place.column (string_bytes place.text)
 
--- a refusal at that offset of the source, which shows its place
+-- the error has the line and the column of that offset of the source, and shows them
+pub record ShowsPlace (file : Option (List ℕ)) (source : List ℕ) (offset : ℕ) (e : ParseError) : Type 0 where
+  pub message : List ℕ
+  pub line : ℕ
+  pub column : ℕ
+  pub text : List ℕ
+  pub is_place : IsPlace source offset line column text
+  pub line_is : line_of e ≡ Some line
+  pub column_is : column_of e ≡ Some column
+  pub shown_is : shown_error e ≡ Some (shown_refusal (file_or_unknown file) line column text message)
+
+-- a refusal at that offset of the source, which has and shows its place
 abbrev pub IsRefusalAt : Option (List ℕ) → List ℕ → ℕ → ParseError → Type 0
-IsRefusalAt file source offset e =
-    (kind_of e ≡ Parse) × (offset_of e ≡ Some offset) × IsSomeAnd (shown_error e) (IsRefusalText file source offset)
+IsRefusalAt file source offset e = (kind_of e ≡ Parse) × (offset_of e ≡ Some offset) × ShowsPlace file source offset e
 
 -- what became of an error that was given its place in the source: a refusal at an offset shows its place there, or
 -- memory ran out for that; any other error is unchanged

@@ -1,6 +1,6 @@
 -- Texts of items: what they spell, and what is returned if they spell none.
 use Rattle.std.proofs.Common.{◌≡◌, ◌⊎◌, ℕ, ◌≤◌, Bool, false, List, [], length, Option, Some, None, refl, sym, ◌∙◌, ap, subst, inl, inr, arith}
-use Rattle.std.specs.Prelude.{IsSomeAnd, IfSome}
+use Rattle.std.specs.Prelude.{IfSome}
 use Rattle.souper_graph.specs.Values.{Item}
 use Rattle.souper_ir.specs.declared.parse.error.ParseError.{ParseError}
 use Rattle.souper_ir.specs.declared.parse.error.ParseErrorKind.{ParseErrorKind}
@@ -9,11 +9,10 @@ use Rattle.souper_ir.specs.declared.parse.error.Cause.{Cause as ErrorCause}
 use Rattle.souper_ir.specs.declared.parse.error.Cause.TheVariants.{Io as IoCause, Parse as ParseCause, Memory as MemoryCause}
 use Rattle.souper_graph.specs.Syntax.Tokens.{Lexeme, IsLastGap, IsTextOf, AreTokensOf}
 use Rattle.souper_graph.specs.Syntax.Spelling.{kinds, ItemType, list_spells, TextSpells, SpellsNone}
-use Rattle.souper_ir.specs.Places.{IsRefusalText}
-use Rattle.souper_ir.specs.Errors.{OnKind, kind_of, kind_of_cause, offset_of, offset_of_cause, shown_error, IsRefusalAt, IsLocated}
+use Rattle.souper_ir.specs.Errors.{OnKind, kind_of, kind_of_cause, offset_of, offset_of_cause, IsRefusalAt, IsLocated}
 use Rattle.souper_ir.specs.Answers.{IsStrError}
 use Rattle.souper_ir.specs.Parsing.{Cause, refused, Parsing}
-use Rattle.souper_ir.specs.Reading.{cause_of, IfRefused, Fails}
+use Rattle.souper_ir.specs.Reading.{cause_of, IfRefused}
 use Rattle.souper_ir.specs.ItemRuns.{SpellsAll, NoList, ListRefusal}
 
 -- the tokens of a text without a fault are those that it is a text of
@@ -37,10 +36,6 @@ offset_kind MemoryCause o e = absurd cc
 offset_cause : (e : ParseError) (o : ℕ) → offset_of e ≡ Some o → cause_of e ≡ Some (refused o)
 offset_cause e o at = rw (offset_kind e.cause o at, at) refl
 
-some_and : (o : Option (List ℕ)) (P : List ℕ → Type 0) → IsSomeAnd o P → (x : List ℕ) × (o ≡ Some x) × P x
-some_and None P h = absurd h
-some_and (Some x) P h = (x, refl, h)
-
 -- what is known if the parser refused
 none_spelled : (k : ItemType) (bs : List ℕ) (e : ParseError) (p q : Parsing) (o : ℕ) → p.failed ≡ None → ((ts : List (ℕ × Lexeme)) → IsTextOf bs ts → (p.tokens ≡ ts) × (p.faulty ≡ false))
     → ListRefusal k e p q → cause_of e ≡ Some (refused o) → SpellsNone k bs
@@ -60,7 +55,7 @@ module _ (k : ItemType) (file : Option (List ℕ)) (bs : List ℕ) (e new : Pars
   refusal_answer o at r =
       let cause = offset_cause e o at in
       let bound : o ≤ length bs = (let within = h.failed.within o cause in omega (arith, within, h.failed.len, len)) in
-      rw r.0 (o, r.1, bound, none_spelled k bs e p q o live only h cause, some_and (shown_error new) (IsRefusalText file bs o) r.2)
+      rw r.0 (o, r.1, bound, none_spelled k bs e p q o live only h cause, r.2)
 
   by_offset : (o : Option ℕ) → offset_of e ≡ o → IfSome o (λ offset. (kind_of new ≡ Memory) ⊎ IsRefusalAt file bs offset new) → kind_of e ≡ Parse → IsStrError k file bs new
   by_offset None at r kind = absurd (h.failed.caused (rw (kind, at) refl))

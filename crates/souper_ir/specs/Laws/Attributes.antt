@@ -136,20 +136,20 @@ enclosed : {K V : Type 0} {G : K → Form V} {f : K → Reading V} (kind_of : Le
     → Rule (Enclosed kind_of G) (λ p. accept (mark_of open_paren) p >>= λ o. (accept kind_of o.1 >>= λ k. (f k.0 k.1 >>= λ a. (accept (mark_of close_paren) a.1 >>= λ c. Some (a.0, c.1)))))
 enclosed {G = G} kind_of n = respelled (after (mark open_paren refl) (and_then (one kind_of) (λ k. and_then (n k) (λ a. after (mark close_paren refl) (done a)))))
     (λ s v ts rest h.
-        let k = h.after in
-        let b = k.second in
-        let end : b.suffix ≡ close_paren ∷ [] = b.second.whole ∙ ap (λ (z : List Lexeme). close_paren ∷ z) b.second.after.1 in
-        record {
-          token = k.first.0;
-          kind = k.value;
-          body = b.prefix;
-          whole = rw (h.whole, k.whole, k.first.1, b.whole, end) refl;
-          is = k.first.2;
-          inner = rw b.second.after.0 (subst (λ (z : List Lexeme). G k.value Free s b.value b.prefix (z ++ rest)) end b.first);
-        })
+    let k = h.after in
+    let b = k.second in
+    let end : b.suffix ≡ close_paren ∷ [] = b.second.whole ∙ ap (λ (z : List Lexeme). close_paren ∷ z) b.second.after.1 in
+    record {
+      token = k.first.0;
+      kind = k.value;
+      body = b.prefix;
+      whole = rw (h.whole, k.whole, k.first.1, b.whole, end) refl;
+      is = k.first.2;
+      inner = rw b.second.after.0 (subst (λ (z : List Lexeme). G k.value Free s b.value b.prefix (z ++ rest)) end b.first);
+    })
     (λ faulty s v ts rest h.
-        let tail : List Lexeme = h.body ++ close_paren ∷ [] in
-        rw h.whole (next (both h.kind (h.token ∷ []) tail (h.token, refl, h.is) (both v h.body (close_paren ∷ []) h.inner (next (refl, refl))))))
+    let tail : List Lexeme = h.body ++ close_paren ∷ [] in
+    rw h.whole (next (both h.kind (h.token ∷ []) tail (h.token, refl, h.is) (both v h.body (close_paren ∷ []) h.inner (next (refl, refl))))))
 
 -- ---- attributes
 

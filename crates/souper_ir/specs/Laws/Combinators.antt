@@ -86,15 +86,18 @@ and_then {F = F} {G = G} {r = r} {f = f} m n = record {
   sound = λ p q v live e.
       let x = bind_some (r p) (λ x. f x.0 x.1) (v, q) e in
       let j = m.sound p x.0.1 x.0.0 live x.1 in
-      let k = (n x.0.0).sound x.0.1 q v (ap (λ (y : Parsing). y.failed) j.1.state ∙ live) x.2 in
-      (j.0 ++ k.0, Takes-then p x.0.1 q j.0 k.0 j.1 k.1, record {
-        value = x.0.0;
-        prefix = j.0;
-        suffix = k.0;
-        whole = refl;
-        first = subst (F Free p.scope x.0.0 j.0) (taken_ahead x.0.1 q k.0 k.1) j.2;
-        second = subst (λ (y : Parsing). G x.0.0 Free y.scope v k.0 (kinds q.tokens)) j.1.state k.2;
-      });
+      let k = (n x.0.0).sound x.0.1 q v (ap (λ (y : Parsing). y.failed) j.1.state ∙ live) x.2 in (
+        j.0 ++ k.0,
+        Takes-then p x.0.1 q j.0 k.0 j.1 k.1,
+        record {
+          value = x.0.0;
+          prefix = j.0;
+          suffix = k.0;
+          whole = refl;
+          first = subst (F Free p.scope x.0.0 j.0) (taken_ahead x.0.1 q k.0 k.1) j.2;
+          second = subst (λ (y : Parsing). G x.0.0 Free y.scope v k.0 (kinds q.tokens)) j.1.state k.2;
+        },
+      );
   complete = λ p v front rest at h.
       let ahead : At p (h.prefix ++ (h.suffix ++ rest)) = subst (At p) (ap (λ (x : List Lexeme). x ++ rest) h.whole ∙ append_assoc h.prefix h.suffix rest) at in
       let j = m.complete p h.value h.prefix (h.suffix ++ rest) ahead h.first in
@@ -238,8 +241,8 @@ token : {A V : Type 0} {G : A → Form V} {f : A → Reading V} (kind : List ℕ
     → ((a : A) → Rule (G a) (f a)) → Rule (Token kind meaning G) (λ p. accept accepts p >>= λ x. f x.0 x.1)
 token kind meaning accepts means is n = respelled (and_then (one accepts) n)
     (λ s v ts rest h.
-        let w = means h.first.0 h.value h.first.2 in
-        record { word = w.0; value = h.value; more = h.suffix; whole = h.whole ∙ ap (λ (x : List Lexeme). x ++ h.suffix) (h.first.1 ∙ ap (λ (x : Lexeme). x ∷ []) w.1); means = w.2; after = h.second })
+    let w = means h.first.0 h.value h.first.2 in
+    record { word = w.0; value = h.value; more = h.suffix; whole = h.whole ∙ ap (λ (x : List Lexeme). x ++ h.suffix) (h.first.1 ∙ ap (λ (x : Lexeme). x ∷ []) w.1); means = w.2; after = h.second })
     (λ faulty s v ts rest h. record { value = h.value; prefix = kind h.word ∷ []; suffix = h.more; whole = h.whole; first = (kind h.word, refl, is h.word ∙ h.means); second = h.after })
 
 pub number : {A V : Type 0} {G : A → Form V} {f : A → Reading V} (meaning : List ℕ → Option A) → ((a : A) → Rule (G a) (f a)) → Rule (Token int meaning G) (λ p. accept (int_by meaning) p >>= λ x. f x.0 x.1)

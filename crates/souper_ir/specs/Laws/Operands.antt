@@ -32,8 +32,8 @@ type_of_word_is w t e = rw e refl
 pub type_rule : Rule (Node (λ s. type_spells) (λ t u. ⊥)) type_at
 type_rule = respelled (one (ident_by type_of_word))
     (λ s t ts rest h.
-        let w = ident_means type_of_word h.0 t h.2 in
-        ((w.0, h.1 ∙ ap (λ (x : Lexeme). x ∷ []) w.1, type_of_word_means w.0 t w.2), never rest))
+    let w = ident_means type_of_word h.0 t h.2 in
+    ((w.0, h.1 ∙ ap (λ (x : Lexeme). x ∷ []) w.1, type_of_word_means w.0 t w.2), never rest))
     (λ faulty s t ts rest h. (ident h.0.0, h.0.1, type_of_word_is h.0.0 t h.0.2))
 
 pub type_complete : Complete (λ s. type_spells) (λ t u. ⊥) type_at
@@ -129,8 +129,8 @@ pair g = respelled (and_then operand_rule (λ x. last operand_rule (λ y. g x y)
       free = h.second.last.1;
     })
     (λ faulty s v ts rest h.
-        let k = h.spelled in
-        rw (h.is, k.whole) (both h.x k.prefix k.suffix (k.first, operand_over s h.x h.y faulty k.suffix rest k.second) (made h.y (k.second, h.free))))
+    let k = h.spelled in
+    rw (h.is, k.whole) (both h.x k.prefix k.suffix (k.first, operand_over s h.x h.y faulty k.suffix rest k.second) (made h.y (k.second, h.free))))
 
 -- ---- this number of operands
 
@@ -170,8 +170,8 @@ row_from n faulty s (x ∷ xs) ts rest h =
 row : (n : ℕ) → Rule (Counted further_spells n) (further_at n) → Rule (Counted operands_spells (suc n)) (operands_at (suc n))
 row n further = respelled (and_then operand_rule (λ x. last further (λ xs. x ∷ xs)))
     (λ s v ts rest h.
-        let k = h.second.last in
-        rw h.second.is (ap suc k.0, (record { prefix = h.prefix; suffix = h.suffix; whole = h.whole; first = h.first.0; second = k.1.0 }, further_free s h.value h.second.value h.suffix rest k.1.0 h.first.1 k.1.1)))
+    let k = h.second.last in
+    rw h.second.is (ap suc k.0, (record { prefix = h.prefix; suffix = h.suffix; whole = h.whole; first = h.first.0; second = k.1.0 }, further_free s h.value h.second.value h.suffix rest k.1.0 h.first.1 k.1.1)))
     (row_from n)
 
 further_to : (n : ℕ) → To (After comma (Counted operands_spells (suc n))) (Counted further_spells (suc n))

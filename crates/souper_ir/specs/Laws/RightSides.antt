@@ -81,15 +81,15 @@ pub block_named : {V : Type 0} {G : ℕ × ℕ → Form V} {f : ℕ × ℕ → R
 unfolding block_name_at
 block_named n = respelled (and_then (named (λ n. given (λ s. block_entry (entry_of s n)) (λ b. done b))) n)
     (λ s v ts rest h.
-        let k = h.first in
-        record {
-          name = k.name;
-          block = h.value;
-          more = h.suffix;
-          whole = rw (h.whole, k.whole, k.after.after.1) refl;
-          is = entry_means (entry_of s k.name) h.value (k.after.is ∙ ap Some (sym k.after.after.0));
-          after = h.second;
-        })
+    let k = h.first in
+    record {
+      name = k.name;
+      block = h.value;
+      more = h.suffix;
+      whole = rw (h.whole, k.whole, k.after.after.1) refl;
+      is = entry_means (entry_of s k.name) h.value (k.after.is ∙ ap Some (sym k.after.after.0));
+      after = h.second;
+    })
     (λ faulty s v ts rest h. rw h.whole (both h.block (val_name h.name ∷ []) h.more (next_name h.name (found (entry_is (entry_of s h.name) h.block h.is) (refl, refl))) h.after))
 
 -- ---- phis
@@ -98,11 +98,11 @@ phi_after_rule : Rule (Behind (ident (codes "phi")) phi_spells phi_continues) ph
 unfolding phi_after_word_at
 phi_after_rule = respelled (block_named (λ b. last (further_rule b.1) (λ xs. record { block = b.0; values = xs })))
     (λ s v ts rest h.
-        let k = h.after.last in
-        rw h.after.is (record { name = h.name; rest = h.more; whole = rw h.whole refl; block_is = rw k.0 h.is; values_spelled = k.1.0 }, k.1.1))
+    let k = h.after.last in
+    rw h.after.is (record { name = h.name; rest = h.more; whole = rw h.whole refl; block_is = rw k.0 h.is; values_spelled = k.1.0 }, k.1.1))
     (λ faulty s v ts rest h.
-        let k = h.0 in
-        record { name = k.name; block = (v.block, length v.values); more = k.rest; whole = cc; is = k.block_is; after = made v.values (refl, (k.values_spelled, h.1)) })
+    let k = h.0 in
+    record { name = k.name; block = (v.block, length v.values); more = k.rest; whole = cc; is = k.block_is; after = made v.values (refl, (k.values_spelled, h.1)) })
 
 pub phi_rule : Rule (Node phi_spells phi_continues) phi_at
 unfolding phi_at
@@ -128,16 +128,16 @@ instruction_of_rule : (o : Opcode) → Rule (Operated o) (instruction_of_at o)
 unfolding instruction_of_at
 instruction_of_rule o = respelled (and_then (operands_rule (operand_count o)) (λ xs. given (λ s. instruction_by o xs) (λ i. done i)))
     (λ s i ts rest h.
-        let k = h.second in
-        record {
-          operands = h.value;
-          made = k.is ∙ ap Some (sym k.after.0);
-          counted = h.first.0;
-          spelled = rw (h.whole, k.after.1, append-nil) h.first.1.0;
-          free = subst (λ (z : List Lexeme). Free (operands_continue h.value) (z ++ rest)) k.after.1 h.first.1.1;
-        })
+    let k = h.second in
+    record {
+      operands = h.value;
+      made = k.is ∙ ap Some (sym k.after.0);
+      counted = h.first.0;
+      spelled = rw (h.whole, k.after.1, append-nil) h.first.1.0;
+      free = subst (λ (z : List Lexeme). Free (operands_continue h.value) (z ++ rest)) k.after.1 h.first.1.1;
+    })
     (λ faulty s i ts rest h.
-        record { value = h.operands; prefix = ts; suffix = []; whole = sym (append-nil ts); first = (h.counted, (h.spelled, h.free)); second = found h.made (refl, refl) })
+    record { value = h.operands; prefix = ts; suffix = []; whole = sym (append-nil ts); first = (h.counted, (h.spelled, h.free)); second = found h.made (refl, refl) })
 
 instruction_to : (o : Opcode) (w : List ℕ) → opcode_of w ≡ Some o → To (Operated o) (Behind (ident w) instruction_spells instruction_continues)
 instruction_to o w means s i ts rest h =
@@ -250,8 +250,8 @@ pub rhs_rule : Rule (Node rhs_spells rhs_continues) rhs_at
 unfolding rhs_at
 rhs_rule = respelled (and_then rhs_word_rule (λ k. (rhs_by_rule k).rule))
     (λ s v ts rest h.
-        let k = rhs_to h.value h.first.0 (begins h.first.0 h.value h.first.2) s v h.suffix rest h.second in
-        (rw (h.whole, h.first.1) k.0, k.1))
+    let k = rhs_to h.value h.first.0 (begins h.first.0 h.value h.first.2) s v h.suffix rest h.second in
+    (rw (h.whole, h.first.1) k.0, k.1))
     rhs_from
 
 pub rhs_complete : Complete rhs_spells rhs_continues rhs_at

@@ -58,35 +58,38 @@ heading_rule : Rule Heading heading_at
 unfolding heading_at
 heading_rule = respelled (named (λ n. given (λ s. fresh (position_of s n)) (λ f. and_then optional_type_rule (λ t. after (mark equals refl) (done (n, t))))))
     (λ s v ts rest h.
-        let t = h.after.after in
-        let k = t.second in
-        rw k.after.0 (record {
-          ty = t.prefix;
-          whole = rw (h.whole, t.whole, k.whole, k.after.1) refl;
-          name_is_new = fresh_means (position_of s h.name) tt h.after.is;
-          ty_spelled = t.first.0;
-        }))
+    let t = h.after.after in
+    let k = t.second in
+    rw k.after.0 (record {
+      ty = t.prefix;
+      whole = rw (h.whole, t.whole, k.whole, k.after.1) refl;
+      name_is_new = fresh_means (position_of s h.name) tt h.after.is;
+      ty_spelled = t.first.0;
+    }))
     (λ faulty s v ts rest h. rw h.whole (next_name v.0 (found (fresh_is (position_of s v.0) h.name_is_new) (both v.1 h.ty (equals ∷ []) (h.ty_spelled, optional_type_stops v.1 equals (λ e. cc)) (next (refl, refl))))))
 
 pub definition_rule : Rule (Node definition_spells definition_continues) definition_at
 unfolding definition_at
 definition_rule = respelled (and_then heading_rule (λ h. last rhs_rule (λ r. record { name = h.0; ty = h.1; value = r })))
     (λ s d ts rest h.
-        let k = h.first in
-        rw h.second.is (record {
-          ty = k.ty;
-          rhs = h.suffix;
-          whole = rw (h.whole, k.whole) (simp append_assoc);
-          name_is_new = k.name_is_new;
-          ty_spelled = k.ty_spelled;
-          rhs_spelled = h.second.last.0;
-        }, h.second.last.1))
+    let k = h.first in
+    rw h.second.is (
+      record {
+        ty = k.ty;
+        rhs = h.suffix;
+        whole = rw (h.whole, k.whole) (simp append_assoc);
+        name_is_new = k.name_is_new;
+        ty_spelled = k.ty_spelled;
+        rhs_spelled = h.second.last.0;
+      },
+      h.second.last.1,
+    ))
     (λ faulty s d ts rest h.
-        let k = h.0 in
-        let front : List Lexeme = val_name d.name ∷ (k.ty ++ equals ∷ []) in
-        let parts : ts ≡ front ++ k.rhs = rw k.whole (simp append_assoc) in
-        let heading : Heading (λ goes_on. Stops goes_on faulty) s (d.name, d.ty) front (k.rhs ++ rest) = record { ty = k.ty; whole = refl; name_is_new = k.name_is_new; ty_spelled = k.ty_spelled } in
-        rw parts (both (d.name, d.ty) front k.rhs heading (made d.value (k.rhs_spelled, h.1))))
+    let k = h.0 in
+    let front : List Lexeme = val_name d.name ∷ (k.ty ++ equals ∷ []) in
+    let parts : ts ≡ front ++ k.rhs = rw k.whole (simp append_assoc) in
+    let heading : Heading (λ goes_on. Stops goes_on faulty) s (d.name, d.ty) front (k.rhs ++ rest) = record { ty = k.ty; whole = refl; name_is_new = k.name_is_new; ty_spelled = k.ty_spelled } in
+    rw parts (both (d.name, d.ty) front k.rhs heading (made d.value (k.rhs_spelled, h.1))))
 
 -- ---- path conditions
 
@@ -119,25 +122,35 @@ unfolding block_pc_at
 block_pc_rule = respelled
     (after (word (codes "blockpc")) (block_named (λ b. number (count_of (2 ^ 32)) (λ n. given (λ s. predecessor_below b.1 n) (λ w. pair (λ x y. record { block = b.0; predecessor = w; x = x; y = y }))))))
     (λ s v ts rest h.
-        let b = h.after in
-        let n = b.after in
-        let w = n.after in
-        let below = below_means b.block.1 n.value w.value w.is in
-        rw w.after.is (record {
-          name = b.name;
-          number = n.word;
-          predecessors = b.block.1;
-          rest = n.more;
-          whole = rw (h.whole, b.whole, n.whole) refl;
-          block_is = b.is;
-          number_is = n.means ∙ ap Some below.1;
-          within = subst (λ (z : ℕ). z < b.block.1) below.1 below.0;
-          operands_spelled = w.after.spelled;
-        }, w.after.free))
+    let b = h.after in
+    let n = b.after in
+    let w = n.after in
+    let below = below_means b.block.1 n.value w.value w.is in
+    rw w.after.is (
+      record {
+        name = b.name;
+        number = n.word;
+        predecessors = b.block.1;
+        rest = n.more;
+        whole = rw (h.whole, b.whole, n.whole) refl;
+        block_is = b.is;
+        number_is = n.means ∙ ap Some below.1;
+        within = subst (λ (z : ℕ). z < b.block.1) below.1 below.0;
+        operands_spelled = w.after.spelled;
+      },
+      w.after.free,
+    ))
     (λ faulty s v ts rest h.
-        let k = h.0 in
-        rw k.whole (next (record { name = k.name; block = (v.block, k.predecessors); more = int k.number ∷ k.rest; whole = refl; is = k.block_is; after = next_word k.number k.number_is
-        (found (below_is k.predecessors v.predecessor k.within) (record { x = v.x; y = v.y; is = refl; spelled = k.operands_spelled; free = h.1 })) })))
+    let k = h.0 in
+    rw k.whole (next (record {
+      name = k.name;
+      block = (v.block, k.predecessors);
+      more = int k.number ∷ k.rest;
+      whole = refl;
+      is = k.block_is;
+      after = next_word k.number k.number_is
+          (found (below_is k.predecessors v.predecessor k.within) (record { x = v.x; y = v.y; is = refl; spelled = k.operands_spelled; free = h.1 }));
+    })))
 
 pub block_pc_alone : Alone block_pc_spells block_pc_continues
 block_pc_alone = alone block_pc_rule
@@ -154,8 +167,8 @@ pub root_rule : Rule (Node root_spells (λ i t. ⊥)) root_at
 unfolding root_at
 root_rule = respelled (after (word (codes "infer")) (named (λ n. given (λ s. position_of s n) (λ i. done i))))
     (λ s v ts rest h.
-        let n = h.after in
-        rw n.after.after.0 ((n.name, rw (h.whole, n.whole, n.after.after.1) refl, n.after.is), never rest))
+    let n = h.after in
+    rw n.after.after.0 ((n.name, rw (h.whole, n.whole, n.after.after.1) refl, n.after.is), never rest))
     (λ faulty s v ts rest h. rw h.0.1 (next (next_name h.0.0 (found h.0.2 (refl, refl)))))
 
 -- ---- the cand line up to its attributes
@@ -202,23 +215,26 @@ pub pair_line_rule : Rule (Node pair_line_spells pair_line_continues) pair_at
 unfolding pair_at
 pair_line_rule = respelled (after (word (codes "cand")) (and_then operand_rule (λ x. and_then optional_comma_rule (λ c. last operand_rule (λ y. (x, y))))))
     (λ s v ts rest h.
-        let x = h.after in
-        let c = x.second in
-        let y = c.second in
-        rw y.is (record {
-          lhs = x.prefix;
-          between = c.prefix;
-          rhs = c.suffix;
-          whole = rw (h.whole, x.whole, c.whole) refl;
-          lhs_spelled = x.first.0;
-          comma_or_none = comma_is c.first.branch Free s c.value c.prefix (c.suffix ++ rest) c.first.chosen;
-          rhs_spelled = y.last.0;
-        }, y.last.1))
+    let x = h.after in
+    let c = x.second in
+    let y = c.second in
+    rw y.is (
+      record {
+        lhs = x.prefix;
+        between = c.prefix;
+        rhs = c.suffix;
+        whole = rw (h.whole, x.whole, c.whole) refl;
+        lhs_spelled = x.first.0;
+        comma_or_none = comma_is c.first.branch Free s c.value c.prefix (c.suffix ++ rest) c.first.chosen;
+        rhs_spelled = y.last.0;
+      },
+      y.last.1,
+    ))
     (λ faulty s v ts rest h.
-        let k = h.0 in
-        let comma_read = comma_seen faulty s k.between (k.rhs ++ rest) (operand_no_comma s v.1 faulty k.rhs rest k.rhs_spelled) k.comma_or_none in
-        let over = comma_over s v.0 v.1 faulty k.between k.rhs rest k.comma_or_none k.rhs_spelled in
-        rw k.whole (next (both v.0 k.lhs (k.between ++ k.rhs) (k.lhs_spelled, over) (both tt k.between k.rhs comma_read (made v.1 (k.rhs_spelled, h.1))))))
+    let k = h.0 in
+    let comma_read = comma_seen faulty s k.between (k.rhs ++ rest) (operand_no_comma s v.1 faulty k.rhs rest k.rhs_spelled) k.comma_or_none in
+    let over = comma_over s v.0 v.1 faulty k.between k.rhs rest k.comma_or_none k.rhs_spelled in
+    rw k.whole (next (both v.0 k.lhs (k.between ++ k.rhs) (k.lhs_spelled, over) (both tt k.between k.rhs comma_read (made v.1 (k.rhs_spelled, h.1))))))
 
 -- ---- the result line
 

@@ -2,7 +2,7 @@
 ghost use Rattle.std.specs.Prelude.{◌≡◌, ◌≢◌, ◌≤◌, ◌⊎◌, ◌↔◌, length, string_bytes, option_copied, IfOk, IfErr, IfSome, IsSome, Some};
 ghost use Rattle.std.specs.Fmt.{DisplaysOnOk, DisplaysStyledOnOk};
 ghost use Rattle.souper_ir.specs.Places.{direct_text};
-ghost use Rattle.souper_ir.specs.Errors.{error_of, widened, kind_of, offset_of, fault_of, shown_error, shown_refusal_of, IsLocated, IsRefusalAt, ShowsFault};
+ghost use Rattle.souper_ir.specs.Errors.{error_of, widened, kind_of, offset_of, place_of, line_of, column_of, fault_of, shown_error, shown_refusal_of, IsLocated, IsRefusalAt, ShowsFault};
 
 use crate::parse::place::Place;
 use crate::parse::unstyled::write_unstyled;
@@ -147,6 +147,36 @@ impl ParseError {
     {
         match &self.cause {
             Cause::Parse(refusal) => Some(refusal.offset),
+            _ => None,
+        }
+    }
+
+    /// The line that a refusal shows, counted from 1: `Some` if and only if the source is known, as for the refusals of
+    /// the `_str` and `_file` calls.
+    pub fn line(&self) -> Option<usize>
+        ensures { result ≡ line_of self.now }
+    {
+        match self.place() {
+            Some(place) => Some(place.line),
+            None => None,
+        }
+    }
+
+    /// The column that a refusal shows, in bytes and counted from 1: `Some` if and only if the source is known.
+    pub fn column(&self) -> Option<usize>
+        ensures { result ≡ column_of self.now }
+    {
+        match self.place() {
+            Some(place) => Some(place.column),
+            None => None,
+        }
+    }
+
+    fn place(&self) -> Option<&Place>
+        ensures { option_copied result ≡ place_of self.now }
+    {
+        match &self.cause {
+            Cause::Parse(refusal) => refusal.place.as_ref(),
             _ => None,
         }
     }

@@ -19,8 +19,8 @@ struct Line<'a> {
 #[derive(Drop)]
 pub(super) struct Place {
     file: Option<String>,
-    line: usize,
-    column: usize,
+    pub(super) line: usize,
+    pub(super) column: usize,
     text: String,
 }
 
