@@ -44,7 +44,7 @@ of_refused source e offset (Ok s) (at, is_at, within, nothing, p) is written =
       (
         offset,
         text,
-        subst (λ (n : ℕ). IsRefusalText (Some (codes "input.souper")) source n text) same (p.message, p.line, p.column, p.text, p.is_place, refl),
+        subst (λ (n : ℕ). IsRefusalText (Some (codes "input.souper")) source n text) same (p.line, p.column, (p.message, p.text, p.is_place, refl)),
         subst (λ (o : Option (List ℕ)). IfSome (refusal_line offset o) (λ bs. string_bytes s ≡ bs)) p.shown_is written,
       ),
     )

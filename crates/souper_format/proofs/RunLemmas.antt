@@ -23,7 +23,7 @@ pub reported_refusal : (k : ItemType) (file : Option (List ℕ)) (source : List 
 reported_refusal k file source err e (offset, at, within, none, p) reported works =
     let (line, (bytes, are_shown, is_line), given) = reported works in
     let same = subst (λ o. IfSome o (λ s. bytes ≡ s)) p.shown_is are_shown in
-    (offset, _, within, (p.message, p.line, p.column, p.text, p.is_place, refl), subst (IsGiven err) (is_line ∙ ap (λ (s : List ℕ). s ++ 10 ∷ []) same) given)
+    (offset, _, within, (p.line, p.column, (p.message, p.text, p.is_place, refl)), subst (IsGiven err) (is_line ∙ ap (λ (s : List ℕ). s ++ 10 ∷ []) same) given)
 
 stopped : (k : ItemType) (input out err : Stream) (status : ℕ)
     → IsGivenNothing out → StoppedByMemory err status → IsRun k input out err status

@@ -50,11 +50,15 @@ abbrev pub file_or_unknown : Option (List ℕ) → List ℕ
 file_or_unknown None = codes "unknown"
 file_or_unknown (Some file) = file
 
+-- the text shows a refusal at that offset of the source, whose line and column are those numbers
+abbrev pub IsRefusalTextAt : Option (List ℕ) → List ℕ → ℕ → ℕ → ℕ → List ℕ → Type 0
+IsRefusalTextAt file source offset line column shown =
+    (message : List ℕ) × (text : List ℕ) × IsPlace source offset line column text
+    × (shown ≡ shown_refusal (file_or_unknown file) line column text message)
+
 -- the text shows a refusal at that offset of the source
 abbrev pub IsRefusalText : Option (List ℕ) → List ℕ → ℕ → List ℕ → Type 0
-IsRefusalText file source offset shown =
-    (message : List ℕ) × (line : ℕ) × (column : ℕ) × (text : List ℕ) × IsPlace source offset line column text
-    × (shown ≡ shown_refusal (file_or_unknown file) line column text message)
+IsRefusalText file source offset shown = (line : ℕ) × (column : ℕ) × IsRefusalTextAt file source offset line column shown
 
 -- the text of a refusal that has no source
 abbrev pub direct_text : ℕ → List ℕ → List ℕ

@@ -1,0 +1,66 @@
+-- What a failure says of a text that a parser refused.
+use Rattle.std.proofs.Common.{◌≡◌, ℕ, ◌≤◌, List, Option, Some, None, length, sym, ◌∙◌, subst, ap, refl, inl, inr, ◌<◌, arith}
+use Rattle.std.specs.Prelude.{string_bytes, IsSomeAnd}
+use Rattle.std.proofs.lemmas.Bool.{cases_lt}
+use Rattle.souper_graph.specs.Syntax.Spelling.{ItemType, SpellsNone}
+use Rattle.souper_ir.specs.Laws.Peeks.{some_is}
+use Rattle.souper_ir.specs.Answers.{IsStrError}
+use Rattle.souper_ir.specs.Errors.{kind_of, offset_of, line_of, column_of, shown_error, ShowsPlace, OnKind}
+use Rattle.souper_ir.specs.Places.{IsRefusalTextAt}
+use Rattle.souper_ir.specs.declared.parse.ParseError.{ParseError}
+use Rattle.souper_ir.specs.declared.parse.ParseErrorKind.TheVariants.{Parse}
+use Rattle.souper_c.specs.Kinds.{type_of_number}
+use Rattle.souper_c.specs.Outcomes.{IsShort, BeginsWith}
+use Rattle.souper_c.specs.Failures.{IsFailure, IsFailureOf, short_outcome}
+use Rattle.souper_c.specs.declared.outcome.SouperOutcome.{SouperOutcome}
+use Rattle.souper_c.specs.declared.inputs.Refusal.{Refusal}
+use Rattle.souper_c.specs.declared.inputs.Failure.{Failure}
+use Rattle.souper_c.specs.declared.inputs.Failure.TheVariants.{NoKind, NotUtf8, OutOfMemory, Refused}
+
+-- a refusal of the source, as the parser returns it
+abbrev IsRefusal : ItemType → List ℕ → ParseError → Type 0
+IsRefusal k source e = (offset : ℕ) × (offset_of e ≡ Some offset) × (offset ≤ length source) × SpellsNone k source
+    × ShowsPlace None source offset e
+
+-- the same, by the numbers and the text that the error has
+by_numbers : (k : ItemType) (source : List ℕ) (e : ParseError) (offset line column : ℕ) (shown : List ℕ) → IsRefusal k source e
+    → offset_of e ≡ Some offset → line_of e ≡ Some line → column_of e ≡ Some column → shown_error e ≡ Some shown
+    → SpellsNone k source × (offset ≤ length source) × IsRefusalTextAt None source offset line column shown
+by_numbers k source e offset line column shown (found, at, within, none, p) is_offset is_line is_column is_shown =
+    let same : found ≡ offset = some_is (sym at ∙ is_offset) in
+    let same_line : p.line ≡ line = some_is (sym p.line_is ∙ is_line) in
+    let same_column : p.column ≡ column = some_is (sym p.column_is ∙ is_column) in (
+      none,
+      subst (λ (n : ℕ). n ≤ length source) same within,
+      subst (λ (n : ℕ). IsRefusalTextAt None source n line column shown) same
+          (subst (λ (n : ℕ). IsRefusalTextAt None source found n column shown) same_line
+          (subst (λ (n : ℕ). IsRefusalTextAt None source found p.line n shown) same_column
+          (p.message, p.text, p.is_place, some_is (sym is_shown ∙ p.shown_is)))),
+    )
+
+-- what the failure for an error says is so of the source that the parser refused
+pub of_error : (number : ℕ) (k : ItemType) (source : List ℕ) (e : ParseError) (f : Failure)
+    → type_of_number number ≡ Some k → IsStrError k None source e → IsFailureOf e f → IsFailure number source f
+of_error number k source e (Refused r) is_kind is (kind, offset, line, column, shown) =
+    subst (λ o. IsSomeAnd o (λ (k : ItemType). SpellsNone k source × (r.offset ≤ length source)
+    × IsRefusalTextAt None source r.offset r.line r.column (string_bytes r.shown))) (sym is_kind)
+    (by_numbers k source e r.offset r.line r.column (string_bytes r.shown)
+    (subst (λ kind. OnKind kind ⊥ (IsRefusal k source e) (Unit {0})) kind is) offset line column shown)
+of_error number k source e OutOfMemory is_kind is _ = subst (λ o. IsSomeAnd o (λ (k : ItemType). Unit {0})) (sym is_kind) tt
+of_error number k source e NoKind is_kind is impossible = absurd impossible
+of_error number k source e NotUtf8 is_kind is impossible = absurd impossible
+
+-- what writing to a buffer of that content does: the outcome is the given one, or says that the buffer is short
+abbrev Wrote : List ℕ → List ℕ → List ℕ → SouperOutcome → SouperOutcome → Type 0
+Wrote old new shown given o = (length shown ≤ length old → (o ≡ given) × BeginsWith old new shown)
+    × (length old < length shown → (o ≡ short_outcome (length shown)) × (new ≡ old))
+
+-- a buffer that lacks room for a refusal
+pub refusal_is_short : (number : ℕ) (source old new : List ℕ) (r : Refusal) (given o : SouperOutcome) → IsFailure number source (Refused r)
+    → Wrote old new (string_bytes r.shown) given o → given.status ≡ 1 → o.status ≡ 5 → IsShort number source o old
+refusal_is_short number source old new r given o is (fits, lacks) is_given is_short =
+    elim (cases_lt (length old) (length (string_bytes r.shown))) [
+      | inl l ↦ subst (λ (o : SouperOutcome). IsShort number source o old) (sym (lacks l).0)
+          (l, (string_bytes r.shown, inr (r.offset, r.line, r.column, is), refl))
+      | inr l ↦ (let clash : 1 ≡ 5 = sym is_given ∙ (sym (ap (λ (o : SouperOutcome). o.status) (fits l).0) ∙ is_short) in absurd (omega (arith, clash)))
+    ]

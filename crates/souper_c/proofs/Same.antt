@@ -1,0 +1,44 @@
+-- Two sources that spell lists of one kind: the lists are pairwise the same graph if and only if `same` says so.
+use Rattle.std.proofs.Common.{◌≡◌, ℕ, List, Option, Some, None, refl, sym, ap, ◌∙◌}
+use Rattle.std.specs.Prelude.{IsSomeAnd}
+use Rattle.souper_graph.specs.Values.{Item}
+use Rattle.souper_graph.specs.Syntax.Spelling.{ItemType, left_hand_side, right_hand_side, replacement, TextSpells}
+use Rattle.souper_ir.specs.Laws.Peeks.{some_is}
+use Rattle.souper_format.specs.declared.command.Kind.{Kind}
+use Rattle.souper_format.specs.declared.command.Kind.TheVariants.{Lhs, Rhs, Rep}
+use Rattle.souper_format.specs.declared.items.Items.{Items}
+use Rattle.souper_format.specs.Kinds.{item_type_of, kind_of_items, view_items}
+use Rattle.souper_format.specs.Same.{SameItems}
+use Rattle.souper_c.specs.Kinds.{type_of_number, OfType}
+use Rattle.souper_c.specs.Outcomes.{BothSpell, AreSame, AreNotSame}
+
+kind_of_type : ItemType → Kind
+kind_of_type left_hand_side = Lhs
+kind_of_type right_hand_side = Rhs
+kind_of_type replacement = Rep
+
+is_its_kind : (k : Kind) → kind_of_type (item_type_of k) ≡ k
+unfolding kind_of_type
+is_its_kind Lhs = refl
+is_its_kind Rhs = refl
+is_its_kind Rep = refl
+
+one_kind : (o : Option ItemType) (k l : Kind) → o ≡ Some (item_type_of k) → o ≡ Some (item_type_of l) → k ≡ l
+one_kind o k l is_k is_l = sym (is_its_kind k) ∙ (ap kind_of_type (some_is (sym is_k ∙ is_l)) ∙ is_its_kind l)
+
+both : (o : Option ItemType) (s t : List ℕ) (xs ys : List Item) (fact : List Item → List Item → Type 0)
+    → IsSomeAnd o (λ k. TextSpells k s xs) → IsSomeAnd o (λ k. TextSpells k t ys) → fact xs ys
+    → IsSomeAnd o (λ k. (xs : List Item) × (ys : List Item) × TextSpells k s xs × TextSpells k t ys × fact xs ys)
+both None s t xs ys fact impossible _ _ = absurd impossible
+both (Some k) s t xs ys fact first second holds = (xs, ys, first, second, holds)
+
+pub spell_same : (n : ℕ) (a b : Items) (s t : List ℕ) → OfType n (λ k. TextSpells k s (view_items a)) → OfType n (λ k. TextSpells k t (view_items b))
+    → SameItems a b → BothSpell n s t AreSame
+spell_same n a b s t first second are = both (type_of_number n) s t (view_items a) (view_items b) AreSame first second are.1
+
+pub spell_others : (n : ℕ) (a b : Items) (s t : List ℕ) → OfType n (λ k. TextSpells k s (view_items a)) → OfType n (λ k. TextSpells k t (view_items b))
+    → type_of_number n ≡ Some (item_type_of (kind_of_items a)) → type_of_number n ≡ Some (item_type_of (kind_of_items b))
+    → (SameItems a b → ⊥) → BothSpell n s t AreNotSame
+spell_others n a b s t first second is_a is_b are_not =
+    both (type_of_number n) s t (view_items a) (view_items b) AreNotSame first second
+    (λ same. are_not (one_kind (type_of_number n) (kind_of_items a) (kind_of_items b) is_a is_b, same))

@@ -1,0 +1,15 @@
+use Rattle.std.proofs.Common.{rules}
+use Rattle.souper_c.proofs.Same.{spell_same, spell_others}
+use Rattle.souper_c.proofs.souper_same.Goals as goal
+
+-- src/lib.rt:139:1
+pub returns-in-Ok-true-clause-same : goal.returns-in-Ok-true-clause-same
+returns-in-Ok-true-clause-same c is_yes =
+    spell_same c.args.kind c.in-Ok.items c.in-Ok-items.items c.args.a.now c.args.b.now c.in-Ok.ensures.spelled c.in-Ok-items.ensures.spelled
+    (search rules)
+
+-- src/lib.rt:139:1
+pub returns-in-Ok-false-clause-different : goal.returns-in-Ok-false-clause-different
+returns-in-Ok-false-clause-different c is_no =
+    spell_others c.args.kind c.in-Ok.items c.in-Ok-items.items c.args.a.now c.args.b.now c.in-Ok.ensures.spelled c.in-Ok-items.ensures.spelled
+    c.in-Ok.ensures.kind c.in-Ok-items.ensures.kind (search rules)

@@ -1,0 +1,91 @@
+-- Definitions. What the outcome of a call says of the texts and of the buffer.
+use Rattle.std.specs.Prelude.{◌≡◌, ◌≢◌, ℕ, ◌<◌, ◌≤◌, List, ◌++◌, length, drop, None, ◌⊎◌}
+use Rattle.std.specs.List.{AllZip}
+use Rattle.std.specs.Str.{IsUtf8}
+use Rattle.souper_graph.specs.Values.{Item}
+use Rattle.souper_graph.specs.Sameness.{SameGraph}
+use Rattle.souper_graph.specs.Syntax.Spelling.{TextSpells, SpellsNone}
+use Rattle.souper_ir.specs.Places.{IsRefusalTextAt}
+use Rattle.souper_format.specs.Formatted.{IsFormatted}
+use Rattle.souper_c.specs.Kinds.{OfType}
+use Rattle.souper_c.specs.declared.outcome.SouperOutcome.{SouperOutcome}
+
+-- the source spells items of the kind, and the text is their canonical texts
+abbrev pub FormatsTo : ℕ → List ℕ → List ℕ → Type 0
+FormatsTo kind source text = OfType kind (λ k. IsFormatted k source text)
+
+-- the source spells no items of the kind; its refusal has that place, and the text shows it
+abbrev pub IsRefusedAt : ℕ → List ℕ → ℕ → ℕ → ℕ → List ℕ → Type 0
+IsRefusedAt kind source offset line column shown = OfType kind (λ k.
+    SpellsNone k source × (offset ≤ length source) × IsRefusalTextAt None source offset line column shown)
+
+-- the source spells no items of the kind; the outcome has the place of the refusal, which the text shows, and its length
+abbrev pub IsRefused : ℕ → List ℕ → SouperOutcome → List ℕ → Type 0
+IsRefused kind source o shown = IsRefusedAt kind source o.offset o.line o.column shown × (o.length ≡ length shown)
+
+-- the same, for some text
+abbrev pub Refuses : ℕ → List ℕ → SouperOutcome → Type 0
+Refuses kind source o = (shown : List ℕ) × IsRefused kind source o shown
+
+-- the outcome has no place of a refusal
+abbrev pub HasNoPlace : SouperOutcome → Type 0
+HasNoPlace o = (o.offset ≡ 0) × (o.line ≡ 0) × (o.column ≡ 0)
+
+-- the buffer begins with the text, and has changed nowhere else
+abbrev pub BeginsWith : List ℕ → List ℕ → List ℕ → Type 0
+BeginsWith old new text = (length text ≤ length old) × (new ≡ text ++ drop (length text) old)
+
+-- the canonical texts were written to the buffer
+abbrev pub WritesTexts : ℕ → List ℕ → SouperOutcome → List ℕ → List ℕ → Type 0
+WritesTexts kind source o old new =
+    (text : List ℕ) × FormatsTo kind source text × (o.length ≡ length text) × BeginsWith old new text
+
+-- the refusal was written to the buffer
+abbrev pub WritesRefusal : ℕ → List ℕ → SouperOutcome → List ℕ → List ℕ → Type 0
+WritesRefusal kind source o old new = (shown : List ℕ) × IsRefused kind source o shown × BeginsWith old new shown
+
+-- the text is what is written for the source: canonical texts, or a refusal
+abbrev pub IsAnswer : ℕ → List ℕ → List ℕ → Type 0
+IsAnswer kind source text =
+    FormatsTo kind source text ⊎ ((offset : ℕ) × (line : ℕ) × (column : ℕ) × IsRefusedAt kind source offset line column text)
+
+-- the buffer is shorter than what is written for the source, whose length the outcome has
+abbrev pub IsShort : ℕ → List ℕ → SouperOutcome → List ℕ → Type 0
+IsShort kind source o old = (length old < o.length) × ((text : List ℕ) × IsAnswer kind source text × (o.length ≡ length text))
+
+-- the source is its own canonical texts
+abbrev pub IsCanonical : ℕ → List ℕ → SouperOutcome → Type 0
+IsCanonical kind source o = FormatsTo kind source source × (o.length ≡ length source)
+
+-- the source spells items of the kind, and their canonical texts are another text, whose length the outcome has
+abbrev pub IsNotCanonical : ℕ → List ℕ → SouperOutcome → Type 0
+IsNotCanonical kind source o =
+    (text : List ℕ) × FormatsTo kind source text × (text ≢ source) × (o.length ≡ length text)
+
+-- both sources spell items of the kind, of which the fact holds
+abbrev pub BothSpell : ℕ → List ℕ → List ℕ → (List Item → List Item → Type 0) → Type 0
+BothSpell kind a b fact = OfType kind (λ k.
+    (xs : List Item) × (ys : List Item) × TextSpells k a xs × TextSpells k b ys × fact xs ys)
+
+-- one length, and each item the same graph as the one at its index
+abbrev pub AreSame : List Item → List Item → Type 0
+AreSame xs ys = AllZip SameGraph xs ys
+
+abbrev pub AreNotSame : List Item → List Item → Type 0
+AreNotSame xs ys = ¬ (AreSame xs ys)
+
+-- the source spells items of the kind
+abbrev pub SpellsSome : ℕ → List ℕ → Type 0
+SpellsSome kind source = OfType kind (λ k. (xs : List Item) × TextSpells k source xs)
+
+-- the outcome says a thing of one of two inputs: of the first, or of the second after the first spelled items
+abbrev pub OfInput : ℕ → List ℕ → List ℕ → SouperOutcome → (List ℕ → Type 0) → Type 0
+OfInput kind a b o fact = ((o.input ≡ 0) × fact a) ⊎ ((o.input ≡ 1) × SpellsSome kind a × fact b)
+
+-- one of the inputs is refused
+abbrev pub RefusesInput : ℕ → List ℕ → List ℕ → SouperOutcome → Type 0
+RefusesInput kind a b o = OfInput kind a b o (λ source. Refuses kind source o)
+
+-- one of the inputs is not UTF-8
+abbrev pub IsNoTextInput : ℕ → List ℕ → List ℕ → SouperOutcome → Type 0
+IsNoTextInput kind a b o = OfInput kind a b o (λ source. ¬ (IsUtf8 source))

@@ -1,0 +1,151 @@
+//! The library for callers that are not Rattle: C, C++ and Rust, by one static library.
+//!
+//! `embed/souper.h` declares these functions in C, and `docs/EMBEDDING.md` says how to build, link and call them. A call
+//! keeps no memory and has no state of its own. None has a condition that a caller must meet.
+#![tactic(auto)]
+
+mod inputs;
+mod outcome;
+#[cfg(test)]
+mod tests;
+
+ghost use Rattle.std.specs.Prelude.{◌≡◌, ◌≢◌, ◌<◌, ◌≤◌, ◌⊎◌, ◌↔◌, None, length};
+ghost use Rattle.std.specs.Str.{IsUtf8};
+ghost use Rattle.souper_graph.specs.Syntax.Tokens.{IsLastGap};
+ghost use Rattle.souper_c.specs.Kinds.{type_of_number};
+ghost use Rattle.souper_c.specs.Outcomes.{HasNoPlace, BeginsWith, WritesTexts, WritesRefusal, IsShort, IsCanonical, IsNotCanonical, Refuses, BothSpell, AreSame, AreNotSame, RefusesInput, IsNoTextInput};
+ghost use Rattle.souper_c.specs.Failures.{short_outcome};
+
+use crate::inputs::{Failure, canonical_text, items};
+pub use crate::outcome::SouperOutcome;
+use crate::outcome::{DIFFERENT, DONE, OUT_OF_MEMORY, SHORT};
+use souper_format::same::same;
+use std::alloc::Global;
+
+// Writes the answer to the beginning of the buffer, if it has the room.
+fn write(answer: &str, outcome: SouperOutcome, out: &mut [u8]) -> SouperOutcome
+    ensures written { length answer.now ≤ length out.old → (result ≡ outcome) × BeginsWith out.old out.new answer.now }
+    ensures short { length out.old < length answer.now → (result ≡ short_outcome (length answer.now)) × (out.new ≡ out.old) }
+{
+    let bytes = answer.as_bytes();
+    let length = bytes.len();
+    if out.len() < length {
+        return SouperOutcome::new(SHORT, length);
+    }
+    out[..length].copy_from_slice(bytes);
+    outcome
+}
+
+/// Writes the canonical text of each item that `text` spells, a newline after each, to the beginning of `out`.
+///
+/// The kind is 0 for left-hand sides, 1 for right-hand sides and 2 for replacements. The status is
+///
+/// - 0, done: `out` begins with the canonical texts, which have `length` bytes.
+/// - 1, refused: the text spells no list of such items. `out` begins with what the error shows, which has `length`
+///   bytes, and `offset`, `line` and `column` are the numbers of its place.
+/// - 2: the kind is no kind.
+/// - 3: memory ran out.
+/// - 4: the text is not UTF-8.
+/// - 5: `out` is shorter than what status 0 or 1 would write to it, which has `length` bytes.
+///
+/// The rest of `out` is as it was, and if the status is 2 or more, all of it.
+#[unsafe(no_mangle)]
+pub extern "C" fn souper_format(
+    alloc: Global,
+    kind: u32,
+    text: &[u8],
+    out: &mut [u8],
+) -> SouperOutcome
+    ensures known { result.status ≤ 5 }
+    ensures formatted { result.status ≡ 0 → WritesTexts kind text.now result out.old out.new }
+    ensures refused { result.status ≡ 1 → WritesRefusal kind text.now result out.old out.new }
+    ensures no_kind { (result.status ≡ 2) ↔ (type_of_number kind ≡ None) }
+    ensures no_text { result.status ≡ 4 → ¬ (IsUtf8 text.now) }
+    ensures short { result.status ≡ 5 → IsShort kind text.now result out.old }
+    ensures kept { 2 ≤ result.status → out.new ≡ out.old }
+    ensures no_place { (result.status ≡ 1) ⊎ HasNoPlace result }
+    ensures first { result.input ≡ 0 }
+    ensures gaps { type_of_number kind ≢ None → IsUtf8 text.now → IsLastGap text.now → (result.status ≡ 0) × (result.length ≡ 0) }
+{
+    let failure = match canonical_text(alloc, kind, text) {
+        Ok(canonical) => {
+            let outcome = SouperOutcome::new(DONE, canonical.len());
+            return write(canonical.as_str(), outcome, out);
+        }
+        Err(failure) => failure,
+    };
+    let outcome = failure.outcome(0);
+    match failure {
+        Failure::Refused(refusal) => write(refusal.shown.as_str(), outcome, out),
+        _ => outcome,
+    }
+}
+
+/// Whether `text` is canonical: the canonical text of each item that it spells, a newline after each.
+///
+/// The kinds and the statuses 2, 3 and 4 are those of [`souper_format`]. Else the status is
+///
+/// - 0, yes.
+/// - 6, no: the text spells such items, and their canonical texts are other bytes.
+/// - 1, refused: the text spells no list of such items; `offset`, `line` and `column` are those of its refusal.
+///
+/// With these three `length` is the number of bytes that [`souper_format`] would write.
+#[unsafe(no_mangle)]
+pub extern "C" fn souper_check(alloc: Global, kind: u32, text: &[u8]) -> SouperOutcome
+    ensures known { (result.status ≤ 4) ⊎ (result.status ≡ 6) }
+    ensures canonical { result.status ≡ 0 → IsCanonical kind text.now result }
+    ensures not_canonical { result.status ≡ 6 → IsNotCanonical kind text.now result }
+    ensures refused { result.status ≡ 1 → Refuses kind text.now result }
+    ensures no_kind { (result.status ≡ 2) ↔ (type_of_number kind ≡ None) }
+    ensures no_text { result.status ≡ 4 → ¬ (IsUtf8 text.now) }
+    ensures no_place { (result.status ≡ 1) ⊎ HasNoPlace result }
+    ensures first { result.input ≡ 0 }
+{
+    match canonical_text(alloc, kind, text) {
+        Ok(canonical) => {
+            let is_canonical = canonical.as_bytes() == text;
+            let status = if is_canonical { DONE } else { DIFFERENT };
+            SouperOutcome::new(status, canonical.len())
+        }
+        Err(failure) => failure.outcome(0),
+    }
+}
+
+/// Whether two texts spell lists of one length, in which each item is the same graph as the one at its index in the
+/// other list.
+///
+/// Two items are the same graph if and only if they have the same canonical text. The kinds and the statuses 2 and 3
+/// are those of [`souper_format`]. Else the status is
+///
+/// - 0, yes.
+/// - 6, no.
+/// - 1, refused: the text of number `input`, 0 or 1, spells no list of such items; `offset`, `line` and `column` are
+///   those of its refusal, and `length` is the number of bytes that [`souper_format`] would write for it.
+/// - 4: the text of number `input` is not UTF-8.
+///
+/// The second text is looked at after the first was read.
+#[unsafe(no_mangle)]
+pub extern "C" fn souper_same(alloc: Global, kind: u32, a: &[u8], b: &[u8]) -> SouperOutcome
+    ensures known { (result.status ≤ 4) ⊎ (result.status ≡ 6) }
+    ensures same { result.status ≡ 0 → BothSpell kind a.now b.now AreSame }
+    ensures different { result.status ≡ 6 → BothSpell kind a.now b.now AreNotSame }
+    ensures refused { result.status ≡ 1 → RefusesInput kind a.now b.now result }
+    ensures no_kind { (result.status ≡ 2) ↔ (type_of_number kind ≡ None) }
+    ensures no_text { result.status ≡ 4 → IsNoTextInput kind a.now b.now result }
+    ensures no_place { (result.status ≡ 1) ⊎ HasNoPlace result }
+    ensures no_length { (result.status ≡ 1) ⊎ (result.length ≡ 0) }
+{
+    let a = match items(alloc, kind, a) {
+        Ok(items) => items,
+        Err(failure) => return failure.outcome(0),
+    };
+    let b = match items(alloc, kind, b) {
+        Ok(items) => items,
+        Err(failure) => return failure.outcome(1),
+    };
+    match same(alloc, &a, &b) {
+        Ok(true) => SouperOutcome::new(DONE, 0),
+        Ok(false) => SouperOutcome::new(DIFFERENT, 0),
+        Err(_) => SouperOutcome::new(OUT_OF_MEMORY, 0),
+    }
+}

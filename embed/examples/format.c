@@ -1,0 +1,90 @@
+/* Formats a file: format lhs|rhs|rep FILE. Status 0: the canonical texts are on standard output. */
+#include "souper.h"
+
+#include <stdio.h>
+#include <stdlib.h>
+#include <string.h>
+
+/* The bytes of a file, or NULL. */
+static uint8_t *read_file(const char *path, size_t *length) {
+    FILE *file = fopen(path, "rb");
+    uint8_t *bytes = NULL;
+    long size;
+    if (file == NULL) {
+        return NULL;
+    }
+    if (fseek(file, 0, SEEK_END) == 0 && (size = ftell(file)) >= 0 && fseek(file, 0, SEEK_SET) == 0) {
+        *length = (size_t)size;
+        bytes = malloc(*length + 1);
+        if (bytes != NULL && fread(bytes, 1, *length, file) != *length) {
+            free(bytes);
+            bytes = NULL;
+        }
+    }
+    fclose(file);
+    return bytes;
+}
+
+/* Calls souper_format with a buffer that is long enough. The buffer is NULL if there is no memory for it. */
+static SouperOutcome format(uint32_t kind, const uint8_t *text, size_t length, uint8_t **out) {
+    size_t room = length + length / 4 + 256;
+    for (;;) {
+        SouperOutcome outcome = {SOUPER_OUT_OF_MEMORY, 0, 0, 0, 0, 0};
+        *out = malloc(room);
+        if (*out == NULL) {
+            return outcome;
+        }
+        outcome = souper_format(kind, text, length, *out, room);
+        if (outcome.status != SOUPER_SHORT) {
+            return outcome;
+        }
+        free(*out);
+        room = outcome.length;
+    }
+}
+
+static int kind_of(const char *word) {
+    static const char *const words[] = {"lhs", "rhs", "rep"};
+    for (int kind = SOUPER_LHS; kind <= SOUPER_REP; kind++) {
+        if (strcmp(word, words[kind]) == 0) {
+            return kind;
+        }
+    }
+    return -1;
+}
+
+int main(int argc, char **argv) {
+    int kind = argc == 3 ? kind_of(argv[1]) : -1;
+    size_t length = 0;
+    uint8_t *text, *out;
+    SouperOutcome outcome;
+    if (kind < 0) {
+        fprintf(stderr, "usage: format lhs|rhs|rep FILE\n");
+        return 2;
+    }
+    text = read_file(argv[2], &length);
+    if (text == NULL) {
+        perror(argv[2]);
+        return 3;
+    }
+    outcome = format((uint32_t)kind, text, length, &out);
+    switch (outcome.status) {
+    case SOUPER_DONE:
+        if (fwrite(out, 1, outcome.length, stdout) != outcome.length || fflush(stdout) != 0) {
+            outcome.status = 3;
+        }
+        break;
+    case SOUPER_REFUSED:
+        fprintf(stderr, "%s:%zu:%zu (byte %zu)\n%.*s\n", argv[2], outcome.line, outcome.column, outcome.offset,
+                (int)outcome.length, (const char *)out);
+        break;
+    case SOUPER_NOT_UTF8:
+        fprintf(stderr, "%s: not UTF-8\n", argv[2]);
+        break;
+    default:
+        fprintf(stderr, "out of memory\n");
+    }
+    free(out);
+    free(text);
+    return (int)outcome.status;
+}

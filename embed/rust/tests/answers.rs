@@ -1,0 +1,120 @@
+//! The stored answers through Rust, alone and on threads.
+use souper_canon::{Error, Kind, check, format, same};
+use std::path::Path;
+
+struct Record {
+    kind: Kind,
+    is_refused: bool,
+    text: String,
+    answer: String,
+}
+
+fn record(rest: &str) -> (Record, &str) {
+    let (head, rest) = rest.split_once('\n').expect("a record has a head");
+    let words: Vec<&str> = head.split(' ').collect();
+    let [kind, status, _, text, answer] = words[..] else {
+        panic!("a head has five words: {head}")
+    };
+    let kind = match kind {
+        "lhs" => Kind::Lhs,
+        "rhs" => Kind::Rhs,
+        _ => Kind::Rep,
+    };
+    let (text, rest) = rest.split_at(text.parse().unwrap());
+    let (answer, rest) = rest[1..].split_at(answer.parse().unwrap());
+    (
+        Record {
+            kind,
+            is_refused: status == "1",
+            text: text.into(),
+            answer: answer.into(),
+        },
+        &rest[1..],
+    )
+}
+
+fn records() -> Vec<Record> {
+    let path = Path::new(env!("CARGO_MANIFEST_DIR")).join("../../crates/replay_answers/stdin");
+    let stored = std::fs::read_to_string(path).unwrap();
+    let mut records = Vec::new();
+    let mut rest = stored.as_str();
+    while !rest.is_empty() {
+        let (record, tail) = record(rest);
+        records.push(record);
+        rest = tail;
+    }
+    assert_eq!(records.len(), 560);
+    records
+}
+
+fn refuses(error: Error, record: &Record, input: usize) {
+    let Error::Refused(refusal) = &error else {
+        panic!("{error}")
+    };
+    assert_eq!(
+        (refusal.shown(), refusal.input()),
+        (record.answer.as_str(), input)
+    );
+    assert_eq!(error.to_string(), record.answer);
+    // The byte before the offset, or the first.
+    let before = &record.text.as_bytes()[..refusal.offset().saturating_sub(1)];
+    let line = before.split(|byte| *byte == b'\n');
+    assert_eq!(
+        (refusal.line(), refusal.column()),
+        (line.clone().count(), line.last().unwrap().len() + 1)
+    );
+}
+
+fn is_as_stored(record: &Record) {
+    let Record {
+        kind, text, answer, ..
+    } = record;
+    if record.is_refused {
+        refuses(format(*kind, text).unwrap_err(), record, 0);
+        refuses(check(*kind, text).unwrap_err(), record, 0);
+        refuses(same(*kind, text, "").unwrap_err(), record, 0);
+        refuses(same(*kind, "", text).unwrap_err(), record, 1);
+        return;
+    }
+    assert_eq!(format(*kind, text).as_ref(), Ok(answer));
+    assert_eq!(check(*kind, text), Ok(text == answer));
+    assert_eq!(check(*kind, answer), Ok(true));
+    assert_eq!(same(*kind, text, answer), Ok(true));
+    assert_eq!(same(*kind, "", text), Ok(answer.is_empty()));
+}
+
+#[test]
+fn each_answer_is_as_stored() {
+    let records = records();
+    records.iter().for_each(is_as_stored);
+    println!(
+        "Rust: the stored answers: {} passed, 0 failed",
+        records.len()
+    );
+}
+
+#[test]
+fn each_answer_is_as_stored_on_eight_threads() {
+    let records = &records();
+    std::thread::scope(|scope| {
+        for first in 0..8 {
+            scope.spawn(move || {
+                records
+                    .iter()
+                    .cycle()
+                    .skip(70 * first)
+                    .take(records.len())
+                    .for_each(is_as_stored)
+            });
+        }
+    });
+    println!(
+        "Rust: eight threads: {} passed, 0 failed",
+        8 * records.len()
+    );
+}
+
+#[test]
+fn out_of_memory_has_a_text() {
+    assert_eq!(Error::OutOfMemory.to_string(), "out of memory");
+}

@@ -1,0 +1,83 @@
+/* Souper IR for C and C++: canonical texts, whether two texts have the same graphs, whether a text is canonical.
+ *
+ * The functions are those of libsouper_c.a, whose contracts are proved (docs/EMBEDDING.md). That this header fits the
+ * archive, and what is said here of the caller, is not.
+ *
+ * Texts are UTF-8. Lengths and offsets are in bytes; a text needs no byte 0 at its end, and gets none. A text spells a list
+ * of items of one kind: left-hand sides, right-hand sides or replacements.
+ *
+ * Every function returns, and none aborts, throws, or keeps a pointer. All memory that a call allocates is freed when it
+ * returns, so there is nothing to free. There is no state: calls may run at once, on any threads. The caller sees to this:
+ *
+ *   - a pointer is not null, even if its length is 0, and its bytes are there to read, or for `out` to write;
+ *   - `out` overlaps no other argument, and while a call runs, no other thread writes its arguments or uses its `out`;
+ *   - no call is made from a signal handler, nor in the child of a fork of a process with threads;
+ *   - rattle_alloc, rattle_realloc and rattle_dealloc are linked; heap.c has them, over malloc, realloc and free. */
+#ifndef SOUPER_H
+#define SOUPER_H
+
+#include <stddef.h>
+#include <stdint.h>
+
+#if defined(__GNUC__)
+#define SOUPER_NOT_NULL __attribute__((nonnull, warn_unused_result))
+#else
+#define SOUPER_NOT_NULL
+#endif
+
+#ifdef __cplusplus
+extern "C" {
+#endif
+
+/* Kinds. */
+enum { SOUPER_LHS = 0, SOUPER_RHS = 1, SOUPER_REP = 2 };
+
+/* Statuses. */
+enum {
+    SOUPER_DONE = 0,          /* done; or, to a question, yes */
+    SOUPER_REFUSED = 1,       /* a text spells no list of items of the kind */
+    SOUPER_NO_KIND = 2,       /* the kind is no kind */
+    SOUPER_OUT_OF_MEMORY = 3, /* memory ran out: an allocation failed */
+    SOUPER_NOT_UTF8 = 4,      /* a text is not UTF-8 */
+    SOUPER_SHORT = 5,         /* `out` is too short; nothing was written */
+    SOUPER_DIFFERENT = 6      /* to a question, no */
+};
+
+/* What a call did. What is not named for the status is 0. */
+typedef struct SouperOutcome {
+    uint32_t status;
+    uint32_t input; /* REFUSED, NOT_UTF8: of two texts, which one: 0 the first, 1 the second */
+    size_t length;  /* see each function */
+    size_t offset;  /* REFUSED: how many bytes were read */
+    size_t line;    /* REFUSED: the line of the last of these bytes, or of the first of the text if there is none; from 1 */
+    size_t column;  /* REFUSED: its column, from 1 */
+} SouperOutcome;
+
+/* Writes the canonical text of each item that the text spells, a newline after each, to the beginning of `out`.
+ *
+ * DONE: `length` bytes were written.
+ * REFUSED: `length` bytes were written, which show the refusal, as UTF-8 of four lines with no newline at the end.
+ * SHORT: `out` has fewer than the `length` bytes that either would write. A call with that many succeeds, or runs out of
+ * memory. NO_KIND, OUT_OF_MEMORY, NOT_UTF8 as above.
+ *
+ * The other bytes of `out` are as before; unless the status is DONE or REFUSED, all of them. */
+SOUPER_NOT_NULL SouperOutcome souper_format(uint32_t kind, const uint8_t *text, size_t text_length, uint8_t *out,
+                                            size_t out_length);
+
+/* Whether the text is canonical: what souper_format would write for it is the text itself.
+ *
+ * DONE: yes. DIFFERENT: no; the text spells items, and souper_format would write other bytes. REFUSED: the text spells
+ * no list of such items. With these, `length` is what souper_format would write. NO_KIND, OUT_OF_MEMORY, NOT_UTF8. */
+SOUPER_NOT_NULL SouperOutcome souper_check(uint32_t kind, const uint8_t *text, size_t text_length);
+
+/* Whether two texts spell lists of one length, in which each item is the same graph as the one at its index in the other.
+ *
+ * DONE: yes. DIFFERENT: no. REFUSED: text number `input` spells no list of such items; `length` is what souper_format
+ * would write for it. NO_KIND, OUT_OF_MEMORY, NOT_UTF8. */
+SOUPER_NOT_NULL SouperOutcome souper_same(uint32_t kind, const uint8_t *a, size_t a_length, const uint8_t *b, size_t b_length);
+
+#ifdef __cplusplus
+}
+#endif
+
+#endif

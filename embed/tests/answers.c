@@ -1,0 +1,136 @@
+/* Each stored answer through C: what is written, by buffers of every length up to the one that is wanted, and what the two
+ * questions answer of the same text. Bytes of a buffer that a call may not write are seen to be as before. */
+#include "records.h"
+
+#include <stdio.h>
+#include <stdlib.h>
+#include <string.h>
+
+static const SouperOutcome nothing;
+
+static int equal(SouperOutcome a, SouperOutcome b) {
+    return a.status == b.status && a.input == b.input && a.length == b.length && a.offset == b.offset && a.line == b.line
+        && a.column == b.column;
+}
+
+static int untouched(const uint8_t *bytes, size_t length) {
+    for (size_t i = 0; i < length; i++) {
+        if (bytes[i] != 0xaa) {
+            return 0;
+        }
+    }
+    return 1;
+}
+
+static uint8_t *buffer(size_t length) {
+    uint8_t *out = malloc(length ? length : 1);
+    if (out == NULL) {
+        exit(2);
+    }
+    return memset(out, 0xaa, length ? length : 1);
+}
+
+/* The line and the column are those of the byte before the offset, or of the first, and those that the answer begins with. */
+static int is_place(const Record *record, SouperOutcome outcome) {
+    size_t line = 1, column = 1;
+    char head[64];
+    if (outcome.offset > record->text_length) {
+        return 0;
+    }
+    for (size_t i = 0; i + 1 < outcome.offset; i++) {
+        column = record->text[i] == '\n' ? 1 : column + 1;
+        line += record->text[i] == '\n';
+    }
+    snprintf(head, sizeof head, "unknown:%zu:%zu: ", line, column);
+    return outcome.line == line && outcome.column == column && strlen(head) <= record->answer_length
+        && memcmp(record->answer, head, strlen(head)) == 0;
+}
+
+static void lengths(const Record *record) {
+    for (size_t length = 0; length < record->answer_length; length++) {
+        uint8_t *out = buffer(length);
+        SouperOutcome short_outcome = nothing;
+        SouperOutcome outcome = souper_format(record->kind, record->text, record->text_length, out, length);
+        short_outcome.status = SOUPER_SHORT;
+        short_outcome.length = record->answer_length;
+        expect(equal(outcome, short_outcome) && untouched(out, length), "short", record);
+        free(out);
+    }
+}
+
+static SouperOutcome written(const Record *record, size_t more) {
+    size_t length = record->answer_length + more;
+    uint8_t *out = buffer(length);
+    SouperOutcome outcome = souper_format(record->kind, record->text, record->text_length, out, length);
+    expect(outcome.status == record->status && outcome.input == 0 && outcome.length == record->answer_length, "its status", record);
+    expect(memcmp(out, record->answer, record->answer_length) == 0, "what is written", record);
+    expect(untouched(out + record->answer_length, more), "the rest of the buffer", record);
+    free(out);
+    return outcome;
+}
+
+static void questions(const Record *record, SouperOutcome format) {
+    SouperOutcome check = souper_check(record->kind, record->text, record->text_length);
+    SouperOutcome first = souper_same(record->kind, record->text, record->text_length, record->answer, record->answer_length);
+    SouperOutcome second = souper_same(record->kind, (const uint8_t *)"", 0, record->text, record->text_length);
+    SouperOutcome wanted = nothing;
+    if (record->status == SOUPER_REFUSED) {
+        expect(is_place(record, format), "its place", record);
+        expect(equal(check, format), "the check of what is refused", record);
+        expect(equal(first, format), "a first text that is refused", record);
+        format.input = 1;
+        expect(equal(second, format), "a second text that is refused", record);
+        return;
+    }
+    int is_same = record->text_length == record->answer_length && memcmp(record->text, record->answer, record->text_length) == 0;
+    wanted.length = record->answer_length;
+    expect(equal(format, wanted), "an outcome without a place", record);
+    wanted.status = is_same ? SOUPER_DONE : SOUPER_DIFFERENT;
+    expect(equal(check, wanted), "whether it is canonical", record);
+    wanted = nothing;
+    expect(equal(first, wanted), "that it is the same as its canonical text", record);
+    wanted.status = record->answer_length ? SOUPER_DIFFERENT : SOUPER_DONE;
+    expect(equal(second, wanted), "whether it is the same as no items", record);
+    check = souper_check(record->kind, record->answer, record->answer_length);
+    expect(check.status == SOUPER_DONE, "that a canonical text is canonical", record);
+}
+
+/* What no number may do: a kind that is none, bytes that are no text, no bytes. */
+static void numbers(void) {
+    static const uint32_t none[] = {3, 7, 256, 0x80000000u, UINT32_MAX};
+    uint8_t byte = 0xaa, bad[] = {'%', 'x', 0xff};
+    SouperOutcome no_kind = nothing, no_text = nothing;
+    no_kind.status = SOUPER_NO_KIND;
+    no_text.status = SOUPER_NOT_UTF8;
+    for (size_t i = 0; i < sizeof none / sizeof *none; i++) {
+        expect(equal(souper_format(none[i], bad, sizeof bad, &byte, 1), no_kind) && byte == 0xaa, "no kind", NULL);
+        expect(equal(souper_check(none[i], bad, sizeof bad), no_kind), "no kind, check", NULL);
+        expect(equal(souper_same(none[i], bad, sizeof bad, bad, sizeof bad), no_kind), "no kind, same", NULL);
+    }
+    for (uint32_t kind = SOUPER_LHS; kind <= SOUPER_REP; kind++) {
+        SouperOutcome second = no_text;
+        second.input = 1;
+        expect(equal(souper_format(kind, bad, sizeof bad, &byte, 1), no_text) && byte == 0xaa, "no text", NULL);
+        expect(equal(souper_check(kind, bad, sizeof bad), no_text), "no text, check", NULL);
+        expect(equal(souper_same(kind, bad, sizeof bad, &byte, 0), no_text), "no text, first", NULL);
+        expect(equal(souper_same(kind, &byte, 0, bad, sizeof bad), second), "no text, second", NULL);
+        expect(equal(souper_format(kind, &byte, 0, &byte, 0), nothing), "no bytes", NULL);
+        expect(equal(souper_check(kind, &byte, 0), nothing), "no bytes, check", NULL);
+        expect(equal(souper_same(kind, &byte, 0, &byte, 0), nothing), "no bytes, same", NULL);
+    }
+}
+
+int main(int argc, char **argv) {
+    size_t count;
+    Record *records = read_records(argc == 2 ? argv[1] : "", &count);
+    for (size_t i = 0; i < count; i++) {
+        SouperOutcome outcome = written(&records[i], 0);
+        expect(equal(written(&records[i], 7), outcome), "the same outcome for a longer buffer", &records[i]);
+        lengths(&records[i]);
+        questions(&records[i], outcome);
+    }
+    expect(count == 560, "that there are 560 answers", NULL);
+    numbers();
+    free_records(records);
+    return summary("C: the stored answers, every length of the buffer, the questions");
+}

@@ -1,0 +1,97 @@
+/* Each allocation of each call refused in turn, by heap.c over an allocator that refuses the N-th: the call says that memory
+ * ran out, or answers as if it had not; nothing leaks, and a buffer that is not written is as before.
+ * To be linked with --wrap for malloc, realloc and free of heap.c. */
+#include "records.h"
+
+#include <stdio.h>
+#include <stdlib.h>
+#include <string.h>
+
+void *__real_malloc(size_t size);
+void *__real_realloc(void *block, size_t size);
+void __real_free(void *block);
+void *__wrap_malloc(size_t size);
+void *__wrap_realloc(void *block, size_t size);
+void __wrap_free(void *block);
+
+static size_t asked, refused, live;
+
+void *__wrap_malloc(size_t size) {
+    void *block = ++asked == refused ? NULL : __real_malloc(size);
+    live += block != NULL;
+    return block;
+}
+
+void *__wrap_realloc(void *block, size_t size) {
+    return ++asked == refused ? NULL : __real_realloc(block, size);
+}
+
+void __wrap_free(void *block) {
+    live -= block != NULL;
+    __real_free(block);
+}
+
+enum { FORMAT, CHECK, SAME, CALLS };
+
+static uint8_t out[1 << 16];
+
+static SouperOutcome call(int which, const Record *record) {
+    switch (which) {
+    case FORMAT:
+        memset(out, 0xaa, record->answer_length + 1);
+        return souper_format(record->kind, record->text, record->text_length, out, record->answer_length);
+    case CHECK:
+        return souper_check(record->kind, record->text, record->text_length);
+    default:
+        return souper_same(record->kind, record->text, record->text_length, record->answer, record->answer_length);
+    }
+}
+
+static int is_written(const Record *record, int status) {
+    uint8_t first = record->answer_length ? record->answer[0] : 0xaa;
+    if (status == SOUPER_OUT_OF_MEMORY) {
+        first = 0xaa;
+        for (size_t i = 0; i < record->answer_length; i++) {
+            if (out[i] != first) {
+                return 0;
+            }
+        }
+        return 1;
+    }
+    return out[0] == first && memcmp(out, record->answer, record->answer_length) == 0;
+}
+
+static void refuse_each(int which, const Record *record) {
+    SouperOutcome wanted, outcome;
+    size_t count;
+    refused = asked = 0;
+    wanted = call(which, record);
+    count = asked;
+    expect(live == 0, "that all is freed", record);
+    for (size_t i = 1; i <= count; i++) {
+        refused = i;
+        asked = 0;
+        outcome = call(which, record);
+        expect(outcome.status == SOUPER_OUT_OF_MEMORY ? outcome.length == 0 && outcome.line == 0
+                                                      : outcome.status == wanted.status && outcome.length == wanted.length,
+               "the outcome without memory", record);
+        expect(live == 0, "that all is freed without memory", record);
+        expect(which != FORMAT || is_written(record, (int)outcome.status), "the buffer without memory", record);
+    }
+}
+
+int main(int argc, char **argv) {
+    size_t count;
+    Record *records = read_records(argc == 2 ? argv[1] : "", &count);
+    live = 0;
+    for (size_t i = 0; i < count; i++) {
+        for (int which = FORMAT; which < CALLS; which++) {
+            if (records[i].answer_length < sizeof out) {
+                refuse_each(which, &records[i]);
+            }
+        }
+    }
+    refused = 0;
+    free_records(records);
+    return summary("C: each allocation refused in turn");
+}
