@@ -2,10 +2,11 @@
 """Measures the figures of docs/SPEED.md: whole processes, in turn, medians.
 
     speed.py DRIVER PROGRAM [ROUNDS]            the program beside the crate (5 rounds)
+    speed.py --through-c EXAMPLE PROGRAM [ROUNDS]   the same library through C beside the program (5 rounds)
     speed.py --growth PROGRAM [ROUNDS]          how the program grows with its input (3 rounds)
     speed.py --instructions PROGRAM..           instructions per byte of each program, by valgrind's callgrind
 
-DRIVER is the program of driver.rs, PROGRAM is souper_fmt. Prints a table in Markdown.
+DRIVER is the program of driver.rs, PROGRAM is souper_fmt, EXAMPLE is the program of embed/examples/format.c. Prints a table in Markdown.
 """
 import os
 import pathlib
@@ -102,6 +103,14 @@ def beside(driver, program, rounds):
               f"| {crate / ours:.2f} | {our_size / crate_size:.2f} |", flush=True)
 
 
+def through_c(example, program, rounds):
+    print("| Text | MB | Through C: s, MB | Program: s, MB | Through C, times the program's seconds |\n|---|---|---|---|---|")
+    for title, path, size in texts(BESIDE):
+        commands = [[example, "lhs", str(path)], [program, "lhs"]]
+        (c, c_size), (ours, our_size) = in_turn(commands, path, rounds)
+        print(f"| {title} | {size / 1e6:.1f} | {c:.3f}, {c_size:.0f} | {ours:.3f}, {our_size:.0f} | {c / ours:.2f} |", flush=True)
+
+
 def growth(program, rounds):
     print("| Text | MB | Seconds | Nanoseconds a byte | Largest resident MB |\n|---|---|---|---|---|")
     for title, path, size in texts(GROWTH):
@@ -117,6 +126,8 @@ def counts(programs):
 
 def main(words):
     match words:
+        case ["--through-c", example, program, *rounds]:
+            through_c(example, program, int(rounds[0]) if rounds else 5)
         case ["--growth", program, *rounds]:
             growth(program, int(rounds[0]) if rounds else 3)
         case ["--instructions", *programs] if programs:

@@ -1,5 +1,10 @@
-/* The heap that libsouper_c.a calls, over the C library's. It is trusted: malloc and realloc must align a block to each
- * power of two up to 16 that divides its size, as those of the common C libraries do. */
+/* The heap that libsouper_c.a calls, over the C library's. It is to be compiled as C, and is trusted:
+ *
+ *   - malloc and realloc align a block to each power of two up to 16 that divides its size, as those of the common C libraries
+ *     do, and may be called on any threads at once;
+ *   - a block is never null, also if an allocation fails; one of size 0 is a block like others.
+ *
+ * A heap of your own in its place must keep the same, by one allocator for the three functions. */
 #include <stdbool.h>
 #include <stddef.h>
 #include <stdlib.h>
@@ -13,7 +18,10 @@ struct Tried rattle_alloc(size_t size, size_t align);
 struct Tried rattle_realloc(void *block, size_t old_size, size_t size, size_t align);
 void rattle_dealloc(void *block);
 
-/* What a failed allocation points to: a pointer is never null. */
+/* The greatest alignment that malloc sees to. */
+enum { GREATEST = 16 };
+
+/* What a failed allocation points to. */
 static unsigned char nothing;
 
 static struct Tried tried(void *block) {
@@ -21,12 +29,12 @@ static struct Tried tried(void *block) {
 }
 
 struct Tried rattle_alloc(size_t size, size_t align) {
-    return tried(malloc(size ? size : align));
+    return tried(align > GREATEST ? NULL : malloc(size ? size : align));
 }
 
 struct Tried rattle_realloc(void *block, size_t old_size, size_t size, size_t align) {
     (void)old_size;
-    return tried(realloc(block, size ? size : align));
+    return tried(align > GREATEST ? NULL : realloc(block, size ? size : align));
 }
 
 void rattle_dealloc(void *block) {

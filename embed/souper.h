@@ -1,18 +1,22 @@
 /* Souper IR for C and C++: canonical texts, whether two texts have the same graphs, whether a text is canonical.
  *
- * The functions are those of libsouper_c.a, whose contracts are proved (docs/EMBEDDING.md). That this header fits the
- * archive, and what is said here of the caller, is not.
+ * The functions are those of libsouper_c.a, whose contracts are proved. docs/EMBEDDING.md says what is proved, what is tested,
+ * and how to build and link.
  *
  * Texts are UTF-8. Lengths and offsets are in bytes; a text needs no byte 0 at its end, and gets none. A text spells a list
- * of items of one kind: left-hand sides, right-hand sides or replacements.
+ * of items of one kind: left-hand sides, right-hand sides or replacements. Two items are the same graph if a one-to-one map
+ * between the statements that they need carries one to the other; names and the order of path conditions count, the order
+ * of other statements does not.
  *
- * Every function returns, and none aborts, throws, or keeps a pointer. All memory that a call allocates is freed when it
- * returns, so there is nothing to free. There is no state: calls may run at once, on any threads. The caller sees to this:
+ * No function aborts, throws or keeps a pointer. What a call allocates is freed when it returns, so there is nothing to free.
+ * There is no state: calls may run at once, on any threads. The caller sees to this:
  *
- *   - a pointer is not null, even if its length is 0, and its bytes are there to read, or for `out` to write;
+ *   - a pointer is not null, even if its length is 0, and its bytes may be read, or for `out` written;
  *   - `out` overlaps no other argument, and while a call runs, no other thread writes its arguments or uses its `out`;
  *   - no call is made from a signal handler, nor in the child of a fork of a process with threads;
- *   - rattle_alloc, rattle_realloc and rattle_dealloc are linked; heap.c has them, over malloc, realloc and free. */
+ *   - rattle_alloc, rattle_realloc and rattle_dealloc are linked; heap.c has them.
+ *
+ * `out` need not be initialised. */
 #ifndef SOUPER_H
 #define SOUPER_H
 
@@ -20,9 +24,9 @@
 #include <stdint.h>
 
 #if defined(__GNUC__)
-#define SOUPER_NOT_NULL __attribute__((nonnull, warn_unused_result))
+#define SOUPER_CALL __attribute__((nonnull, warn_unused_result))
 #else
-#define SOUPER_NOT_NULL
+#define SOUPER_CALL
 #endif
 
 #ifdef __cplusplus
@@ -36,8 +40,8 @@ enum { SOUPER_LHS = 0, SOUPER_RHS = 1, SOUPER_REP = 2 };
 enum {
     SOUPER_DONE = 0,          /* done; or, to a question, yes */
     SOUPER_REFUSED = 1,       /* a text spells no list of items of the kind */
-    SOUPER_NO_KIND = 2,       /* the kind is no kind */
-    SOUPER_OUT_OF_MEMORY = 3, /* memory ran out: an allocation failed */
+    SOUPER_NO_KIND = 2,       /* the kind is not 0, 1 or 2 */
+    SOUPER_OUT_OF_MEMORY = 3, /* an allocation failed */
     SOUPER_NOT_UTF8 = 4,      /* a text is not UTF-8 */
     SOUPER_SHORT = 5,         /* `out` is too short; nothing was written */
     SOUPER_DIFFERENT = 6      /* to a question, no */
@@ -57,24 +61,25 @@ typedef struct SouperOutcome {
  *
  * DONE: `length` bytes were written.
  * REFUSED: `length` bytes were written, which show the refusal, as UTF-8 of four lines with no newline at the end.
- * SHORT: `out` has fewer than the `length` bytes that either would write. A call with that many succeeds, or runs out of
- * memory. NO_KIND, OUT_OF_MEMORY, NOT_UTF8 as above.
+ * SHORT: `out` has fewer than the `length` bytes that DONE or REFUSED would write.
+ * NO_KIND, OUT_OF_MEMORY, NOT_UTF8: as above.
  *
  * The other bytes of `out` are as before; unless the status is DONE or REFUSED, all of them. */
-SOUPER_NOT_NULL SouperOutcome souper_format(uint32_t kind, const uint8_t *text, size_t text_length, uint8_t *out,
-                                            size_t out_length);
+SOUPER_CALL SouperOutcome souper_format(uint32_t kind, const uint8_t *text, size_t text_length, uint8_t *out, size_t out_length);
 
 /* Whether the text is canonical: what souper_format would write for it is the text itself.
  *
  * DONE: yes. DIFFERENT: no; the text spells items, and souper_format would write other bytes. REFUSED: the text spells
  * no list of such items. With these, `length` is what souper_format would write. NO_KIND, OUT_OF_MEMORY, NOT_UTF8. */
-SOUPER_NOT_NULL SouperOutcome souper_check(uint32_t kind, const uint8_t *text, size_t text_length);
+SOUPER_CALL SouperOutcome souper_check(uint32_t kind, const uint8_t *text, size_t text_length);
 
 /* Whether two texts spell lists of one length, in which each item is the same graph as the one at its index in the other.
  *
  * DONE: yes. DIFFERENT: no. REFUSED: text number `input` spells no list of such items; `length` is what souper_format
- * would write for it. NO_KIND, OUT_OF_MEMORY, NOT_UTF8. */
-SOUPER_NOT_NULL SouperOutcome souper_same(uint32_t kind, const uint8_t *a, size_t a_length, const uint8_t *b, size_t b_length);
+ * would write for it. NO_KIND, OUT_OF_MEMORY, NOT_UTF8. The second text is read after the first. */
+SOUPER_CALL SouperOutcome souper_same(uint32_t kind, const uint8_t *a, size_t a_length, const uint8_t *b, size_t b_length);
+
+#undef SOUPER_CALL
 
 #ifdef __cplusplus
 }

@@ -1,13 +1,16 @@
 // Souper IR for C++17: canonical texts, whether two texts have the same graphs, whether a text is canonical.
 //
-// Thin wrappers over souper.h, which says what the caller sees to; of its list a C++ caller has only the last three. A
-// refused text is thrown as `souper::refused`, bytes that are not UTF-8 as `souper::not_utf8`, and out of memory as
-// `std::bad_alloc`.
+// Thin wrappers over souper.h, which says what the calls promise and what the caller sees to; these see to the pointers. They
+// need exceptions: a refused text is thrown as `souper::refused`, bytes that are not UTF-8 as `souper::not_utf8`, a kind that
+// is none as `std::invalid_argument`, and out of memory as `std::bad_alloc`. Code without exceptions calls souper.h.
 #ifndef SOUPER_HPP
 #define SOUPER_HPP
 
 #include "souper.h"
 
+#include <cstddef>
+#include <cstdint>
+#include <memory>
 #include <new>
 #include <stdexcept>
 #include <string>
@@ -18,16 +21,23 @@ namespace souper {
 /// What a text is read as.
 enum class kind : std::uint32_t { lhs = SOUPER_LHS, rhs = SOUPER_RHS, rep = SOUPER_REP };
 
-/// A text spells no list of items of the kind. `what()` shows why and where, in four lines (it ends at a byte 0 of the text).
+/// A text spells no list of items of the kind. `what()` shows why and where, in four lines.
 class refused : public std::runtime_error {
 public:
     refused(const std::string &shown, const SouperOutcome &outcome)
-        : std::runtime_error(shown), offset(outcome.offset), line(outcome.line), column(outcome.column), input(outcome.input) {}
+        : std::runtime_error(shown), offset(outcome.offset), line(outcome.line), column(outcome.column), input(outcome.input),
+          text(std::make_shared<const std::string>(shown)) {}
+
+    /// What `what()` shows, also after a byte 0.
+    const std::string &shown() const noexcept { return *text; }
 
     std::size_t offset; ///< how many bytes were read
     std::size_t line;   ///< the line of the last of these, or of the first byte if there is none; from 1
     std::size_t column; ///< its column, in bytes and from 1
     unsigned input;     ///< which text of the call: 0 the first, 1 the second
+
+private:
+    std::shared_ptr<const std::string> text;
 };
 
 /// A text is not UTF-8.
@@ -62,6 +72,9 @@ inline SouperOutcome write(kind k, std::string_view text, std::size_t room, std:
 [[noreturn]] inline void fail(kind k, std::string_view text, const SouperOutcome &outcome) {
     if (outcome.status == SOUPER_NOT_UTF8) {
         throw not_utf8(outcome.input);
+    }
+    if (outcome.status == SOUPER_NO_KIND) {
+        throw std::invalid_argument("the kind is none");
     }
     if (outcome.status == SOUPER_REFUSED) {
         std::string shown;

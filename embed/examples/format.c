@@ -1,4 +1,5 @@
-/* Formats a file: format lhs|rhs|rep FILE. Status 0: the canonical texts are on standard output. */
+/* Formats a file: format lhs|rhs|rep FILE. Status 0: the canonical texts are on standard output; 1: the text was refused;
+ * 2: the words are wrong; 3: the file could not be read, or is not UTF-8, or the output failed, or memory ran out. */
 #include "souper.h"
 
 #include <stdio.h>
@@ -54,7 +55,7 @@ static int kind_of(const char *word) {
 }
 
 int main(int argc, char **argv) {
-    int kind = argc == 3 ? kind_of(argv[1]) : -1;
+    int kind = argc == 3 ? kind_of(argv[1]) : -1, status = 3;
     size_t length = 0;
     uint8_t *text, *out;
     SouperOutcome outcome;
@@ -70,21 +71,18 @@ int main(int argc, char **argv) {
     outcome = format((uint32_t)kind, text, length, &out);
     switch (outcome.status) {
     case SOUPER_DONE:
-        if (fwrite(out, 1, outcome.length, stdout) != outcome.length || fflush(stdout) != 0) {
-            outcome.status = 3;
-        }
+        status = fwrite(out, 1, outcome.length, stdout) == outcome.length && fflush(stdout) == 0 ? 0 : 3;
         break;
     case SOUPER_REFUSED:
-        fprintf(stderr, "%s:%zu:%zu (byte %zu)\n%.*s\n", argv[2], outcome.line, outcome.column, outcome.offset,
-                (int)outcome.length, (const char *)out);
-        break;
-    case SOUPER_NOT_UTF8:
-        fprintf(stderr, "%s: not UTF-8\n", argv[2]);
+        fprintf(stderr, "%s:%zu:%zu (byte %zu)\n", argv[2], outcome.line, outcome.column, outcome.offset);
+        fwrite(out, 1, outcome.length, stderr);
+        fputc('\n', stderr);
+        status = 1;
         break;
     default:
-        fprintf(stderr, "out of memory\n");
+        fprintf(stderr, "%s: %s\n", argv[2], outcome.status == SOUPER_NOT_UTF8 ? "not UTF-8" : "out of memory");
     }
     free(out);
     free(text);
-    return (int)outcome.status;
+    return status;
 }

@@ -5,6 +5,7 @@
 #include <iostream>
 #include <iterator>
 #include <map>
+#include <string>
 #include <vector>
 
 int main(int argc, char **argv) {
@@ -13,6 +14,11 @@ int main(int argc, char **argv) {
     for (int i = 1; i < argc; i++) {
         std::ifstream file(argv[i], std::ios::binary);
         const std::string text(std::istreambuf_iterator<char>(file), {});
+        if (!file.is_open()) {
+            std::cerr << argv[i] << ": cannot be read\n";
+            status = 1;
+            continue;
+        }
         try {
             files_of[souper::format(souper::kind::lhs, text)].push_back(argv[i]);
         } catch (const souper::refused &refusal) {

@@ -1,8 +1,10 @@
-// An LLVM pass that prints the canonical left-hand side of each addition of a constant, and how many graphs it has seen.
+// An LLVM pass: of each function, the canonical left-hand sides of its additions of a constant, each with how often it occurs.
+// It is compiled with exceptions, which LLVM's own flags leave out, and lets none through LLVM.
 //
 //   opt -load-pass-plugin=plugin.so -passes=souper-keys -disable-output FILE
 #include "souper.hpp"
 
+#include "llvm/ADT/SmallString.h"
 #include "llvm/IR/Constants.h"
 #include "llvm/IR/Function.h"
 #include "llvm/IR/InstrTypes.h"
@@ -11,7 +13,9 @@
 #include "llvm/Passes/PassPlugin.h"
 #include "llvm/Support/raw_ostream.h"
 
+#include <exception>
 #include <map>
+#include <string>
 
 namespace {
 
@@ -34,7 +38,11 @@ struct Keys : llvm::PassInfoMixin<Keys> {
             }
             llvm::SmallString<32> digits;
             constant->getValue().toStringSigned(digits);
-            seen[souper::format(souper::kind::lhs, left_hand_side(constant->getBitWidth(), digits))]++;
+            try {
+                seen[souper::format(souper::kind::lhs, left_hand_side(constant->getBitWidth(), digits))]++;
+            } catch (const std::exception &error) {
+                llvm::errs() << error.what() << "\n";
+            }
         }
         for (const auto &[key, count] : seen) {
             llvm::outs() << count << " of\n" << key;

@@ -95,10 +95,28 @@ static void questions(const Record *record, SouperOutcome format) {
     expect(check.status == SOUPER_DONE, "that a canonical text is canonical", record);
 }
 
+/* Two texts are the same if and only if their canonical texts are: a record and the next one of its kind. */
+static void neighbors(const Record *record, const Record *next) {
+    SouperOutcome wanted = nothing, outcome;
+    int is_same = record->answer_length == next->answer_length && memcmp(record->answer, next->answer, next->answer_length) == 0;
+    outcome = souper_same(record->kind, record->text, record->text_length, next->text, next->text_length);
+    wanted.status = is_same ? SOUPER_DONE : SOUPER_DIFFERENT;
+    expect(equal(outcome, wanted), "whether it is the same as the next", record);
+}
+
+static const Record *next_of_kind(const Record *record, const Record *end) {
+    for (const Record *next = record + 1; next < end; next++) {
+        if (next->kind == record->kind && next->status == SOUPER_DONE && next->answer_length > 0) {
+            return next;
+        }
+    }
+    return NULL;
+}
+
 /* What no number may do: a kind that is none, bytes that are no text, no bytes. */
 static void numbers(void) {
     static const uint32_t none[] = {3, 7, 256, 0x80000000u, UINT32_MAX};
-    uint8_t byte = 0xaa, bad[] = {'%', 'x', 0xff};
+    uint8_t byte = 0xaa, empty = 0, bad[] = {'%', 'x', 0xff};
     SouperOutcome no_kind = nothing, no_text = nothing;
     no_kind.status = SOUPER_NO_KIND;
     no_text.status = SOUPER_NOT_UTF8;
@@ -112,11 +130,11 @@ static void numbers(void) {
         second.input = 1;
         expect(equal(souper_format(kind, bad, sizeof bad, &byte, 1), no_text) && byte == 0xaa, "no text", NULL);
         expect(equal(souper_check(kind, bad, sizeof bad), no_text), "no text, check", NULL);
-        expect(equal(souper_same(kind, bad, sizeof bad, &byte, 0), no_text), "no text, first", NULL);
-        expect(equal(souper_same(kind, &byte, 0, bad, sizeof bad), second), "no text, second", NULL);
-        expect(equal(souper_format(kind, &byte, 0, &byte, 0), nothing), "no bytes", NULL);
-        expect(equal(souper_check(kind, &byte, 0), nothing), "no bytes, check", NULL);
-        expect(equal(souper_same(kind, &byte, 0, &byte, 0), nothing), "no bytes, same", NULL);
+        expect(equal(souper_same(kind, bad, sizeof bad, &empty, 0), no_text), "no text, first", NULL);
+        expect(equal(souper_same(kind, &empty, 0, bad, sizeof bad), second), "no text, second", NULL);
+        expect(equal(souper_format(kind, &empty, 0, &byte, 0), nothing), "no bytes", NULL);
+        expect(equal(souper_check(kind, &empty, 0), nothing), "no bytes, check", NULL);
+        expect(equal(souper_same(kind, &empty, 0, &empty, 0), nothing), "no bytes, same", NULL);
     }
 }
 
@@ -128,8 +146,11 @@ int main(int argc, char **argv) {
         expect(equal(written(&records[i], 7), outcome), "the same outcome for a longer buffer", &records[i]);
         lengths(&records[i]);
         questions(&records[i], outcome);
+        const Record *next = next_of_kind(&records[i], records + count);
+        if (records[i].status == SOUPER_DONE && next != NULL) {
+            neighbors(&records[i], next);
+        }
     }
-    expect(count == 560, "that there are 560 answers", NULL);
     numbers();
     free_records(records);
     return summary("C: the stored answers, every length of the buffer, the questions");

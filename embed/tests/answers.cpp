@@ -18,7 +18,8 @@ template <typename Call> bool is_refused(Call call, std::string_view shown, unsi
         return false;
     } catch (const souper::refused &refusal) {
         const std::string head = "unknown:" + std::to_string(refusal.line) + ":" + std::to_string(refusal.column) + ": ";
-        return refusal.what() == shown.substr(0, shown.find('\0')) && refusal.input == input && shown.substr(0, head.size()) == head;
+        return refusal.shown() == shown && refusal.what() == shown.substr(0, shown.find('\0')) && refusal.input == input
+            && refusal.offset + 1 >= refusal.column && shown.substr(0, head.size()) == head;
     }
 }
 
@@ -55,6 +56,26 @@ void bytes() {
     expect(is_not_utf8([&] { return souper::same(kind, "", "\xff"); }, 1), "no text, same", nullptr);
 }
 
+// A text whose answers are longer than the first guess at their length: the buffer is too short at first.
+void long_answers() {
+    const std::string name(2000, 'n');
+    const std::string line = "%" + name + " = var infer %" + name + "x";
+    const std::size_t column = line.size() - name.size() - 2;
+    const std::string shown = "unknown:1:" + std::to_string(column) + ": no value named '%" + name + "x' in scope\n     |\n   1 | " + line
+        + "\n     | " + std::string(column - 1, ' ') + "^";
+    expect(is_refused([&] { return souper::format(souper::kind::lhs, line); }, shown, 0), "a long refusal", nullptr);
+    expect(is_refused([&] { return souper::same(souper::kind::lhs, "", line); }, shown, 1), "a long refusal of same", nullptr);
+}
+
+void wrong_kind() {
+    try {
+        souper::format(static_cast<souper::kind>(7), "");
+        expect(false, "the exception of a kind that is none", nullptr);
+    } catch (const std::invalid_argument &) {
+        expect(true, "the exception of a kind that is none", nullptr);
+    }
+}
+
 } // namespace
 
 int main(int argc, char **argv) {
@@ -72,6 +93,8 @@ int main(int argc, char **argv) {
         }
     }
     bytes();
+    long_answers();
+    wrong_kind();
     free_records(records);
     return summary("C++: the stored answers, exceptions, views without bytes");
 }

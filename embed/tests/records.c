@@ -63,7 +63,7 @@ Record *read_records(const char *path, size_t *count) {
         at = record.answer + record.answer_length + 1;
         records[*count] = record;
     }
-    if (at != end) {
+    if (at != end || *count != 560) {
         give_up(path);
     }
     return records;

@@ -13,7 +13,7 @@ typedef struct Record {
     size_t answer_length;
 } Record;
 
-/* The records of a file, and their number. Ends the program if the file is not records from end to end. */
+/* The records of a file, and their number. Ends the program if the file is not the 560 records from end to end. */
 Record *read_records(const char *path, size_t *count);
 
 /* Frees the records and their texts. */

@@ -1,4 +1,4 @@
-/* Each allocation of each call refused in turn, by heap.c over an allocator that refuses the N-th: the call says that memory
+/* Each allocation of each call refused in turn, by heap.c over an allocator that refuses the N-th, or all from it on: the call says that memory
  * ran out, or answers as if it had not; nothing leaks, and a buffer that is not written is as before.
  * To be linked with --wrap for malloc, realloc and free of heap.c. */
 #include "records.h"
@@ -14,16 +14,22 @@ void *__wrap_malloc(size_t size);
 void *__wrap_realloc(void *block, size_t size);
 void __wrap_free(void *block);
 
-static size_t asked, refused, live;
+static size_t asked, refused, live, ran_out;
+static int refuses_the_rest;
+
+static int is_refused(void) {
+    asked++;
+    return refused != 0 && (refuses_the_rest ? asked >= refused : asked == refused);
+}
 
 void *__wrap_malloc(size_t size) {
-    void *block = ++asked == refused ? NULL : __real_malloc(size);
+    void *block = is_refused() ? NULL : __real_malloc(size);
     live += block != NULL;
     return block;
 }
 
 void *__wrap_realloc(void *block, size_t size) {
-    return ++asked == refused ? NULL : __real_realloc(block, size);
+    return is_refused() ? NULL : __real_realloc(block, size);
 }
 
 void __wrap_free(void *block) {
@@ -47,18 +53,17 @@ static SouperOutcome call(int which, const Record *record) {
     }
 }
 
-static int is_written(const Record *record, int status) {
-    uint8_t first = record->answer_length ? record->answer[0] : 0xaa;
-    if (status == SOUPER_OUT_OF_MEMORY) {
-        first = 0xaa;
-        for (size_t i = 0; i < record->answer_length; i++) {
-            if (out[i] != first) {
-                return 0;
-            }
-        }
-        return 1;
+/* The answer, or nothing if memory ran out, and the byte after it as before. */
+static int is_written(const Record *record, uint32_t status) {
+    if (out[record->answer_length] != 0xaa) {
+        return 0;
     }
-    return out[0] == first && memcmp(out, record->answer, record->answer_length) == 0;
+    for (size_t i = 0; i < record->answer_length; i++) {
+        if (out[i] != (status == SOUPER_OUT_OF_MEMORY ? 0xaa : record->answer[i])) {
+            return 0;
+        }
+    }
+    return 1;
 }
 
 static void refuse_each(int which, const Record *record) {
@@ -76,7 +81,8 @@ static void refuse_each(int which, const Record *record) {
                                                       : outcome.status == wanted.status && outcome.length == wanted.length,
                "the outcome without memory", record);
         expect(live == 0, "that all is freed without memory", record);
-        expect(which != FORMAT || is_written(record, (int)outcome.status), "the buffer without memory", record);
+        ran_out += outcome.status == SOUPER_OUT_OF_MEMORY;
+        expect(which != FORMAT || is_written(record, outcome.status), "the buffer without memory", record);
     }
 }
 
@@ -85,13 +91,16 @@ int main(int argc, char **argv) {
     Record *records = read_records(argc == 2 ? argv[1] : "", &count);
     live = 0;
     for (size_t i = 0; i < count; i++) {
-        for (int which = FORMAT; which < CALLS; which++) {
-            if (records[i].answer_length < sizeof out) {
-                refuse_each(which, &records[i]);
-            }
+        expect(records[i].answer_length < sizeof out, "that its answer has room", &records[i]);
+        for (int which = FORMAT; which < CALLS && records[i].answer_length < sizeof out; which++) {
+            refuses_the_rest = 0;
+            refuse_each(which, &records[i]);
+            refuses_the_rest = 1;
+            refuse_each(which, &records[i]);
         }
     }
     refused = 0;
+    expect(ran_out > count, "that memory ran out more often than once a text", NULL);
     free_records(records);
     return summary("C: each allocation refused in turn");
 }

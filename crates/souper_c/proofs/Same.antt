@@ -1,6 +1,7 @@
 -- Two sources that spell lists of one kind: the lists are pairwise the same graph if and only if `same` says so.
-use Rattle.std.proofs.Common.{◌≡◌, ℕ, List, Option, Some, None, refl, sym, ap, ◌∙◌}
+use Rattle.std.proofs.Common.{◌≡◌, ℕ, List, Option, Some, None, refl, sym, ap, subst, ◌∙◌, inl, inr, arith}
 use Rattle.std.specs.Prelude.{IsSomeAnd}
+use Rattle.std.specs.Str.{IsUtf8}
 use Rattle.souper_graph.specs.Values.{Item}
 use Rattle.souper_graph.specs.Syntax.Spelling.{ItemType, left_hand_side, right_hand_side, replacement, TextSpells}
 use Rattle.souper_ir.specs.Laws.Peeks.{some_is}
@@ -10,7 +11,11 @@ use Rattle.souper_format.specs.declared.items.Items.{Items}
 use Rattle.souper_format.specs.Kinds.{item_type_of, kind_of_items, view_items}
 use Rattle.souper_format.specs.Same.{SameItems}
 use Rattle.souper_c.specs.Kinds.{type_of_number, OfType}
-use Rattle.souper_c.specs.Outcomes.{BothSpell, AreSame, AreNotSame}
+use Rattle.souper_c.specs.Outcomes.{BothSpell, AreSame, AreNotSame, IsNoTextInput}
+use Rattle.souper_c.specs.Failures.{IsFailure, outcome_of}
+use Rattle.souper_c.specs.declared.outcome.SouperOutcome.{SouperOutcome}
+use Rattle.souper_c.specs.declared.inputs.Failure.{Failure}
+use Rattle.souper_c.specs.declared.inputs.Failure.TheVariants.{NoKind, NotUtf8, OutOfMemory, Refused}
 
 kind_of_type : ItemType → Kind
 kind_of_type left_hand_side = Lhs
@@ -42,3 +47,25 @@ pub spell_others : (n : ℕ) (a b : Items) (s t : List ℕ) → OfType n (λ k. 
 spell_others n a b s t first second is_a is_b are_not =
     both (type_of_number n) s t (view_items a) (view_items b) AreNotSame first second
     (λ same. are_not (one_kind (type_of_number n) (kind_of_items a) (kind_of_items b) is_a is_b, same))
+
+spells_some : (o : Option ItemType) (s : List ℕ) (xs : List Item) → IsSomeAnd o (λ k. TextSpells k s xs)
+    → IsSomeAnd o (λ k. (xs : List Item) × TextSpells k s xs)
+spells_some None s xs impossible = absurd impossible
+spells_some (Some k) s xs spells = (xs, spells)
+
+of_some : (o : Option ItemType) (fact : Type 0) → IsSomeAnd o (λ k. fact) → fact
+of_some None fact impossible = absurd impossible
+of_some (Some k) fact holds = holds
+
+-- the first source spells items, and the second is not UTF-8
+pub second_no_text : (n : ℕ) (s t : List ℕ) (a : Items) (f : Failure) (o : SouperOutcome) → OfType n (λ k. TextSpells k s (view_items a))
+    → IsFailure n t f → o ≡ outcome_of f 1 → o.status ≡ 4 → IsNoTextInput n s t o
+second_no_text n s t a NotUtf8 o first is is_o is_four =
+    subst (λ (o : SouperOutcome). IsNoTextInput n s t o) (sym is_o)
+    (inr (refl, spells_some (type_of_number n) s (view_items a) first, of_some (type_of_number n) (¬ (IsUtf8 t)) is))
+second_no_text n s t a NoKind o first is is_o is_four =
+    (let clash : 2 ≡ 4 = sym (ap (λ (o : SouperOutcome). o.status) is_o) ∙ is_four in absurd (omega (arith, clash)))
+second_no_text n s t a OutOfMemory o first is is_o is_four =
+    (let clash : 3 ≡ 4 = sym (ap (λ (o : SouperOutcome). o.status) is_o) ∙ is_four in absurd (omega (arith, clash)))
+second_no_text n s t a (Refused r) o first is is_o is_four =
+    (let clash : 1 ≡ 4 = sym (ap (λ (o : SouperOutcome). o.status) is_o) ∙ is_four in absurd (omega (arith, clash)))

@@ -22,6 +22,12 @@ IsFailureOf e (Refused r) = IsRefusalOf e r
 IsFailureOf e OutOfMemory = Unit {0}
 IsFailureOf e _ = ⊥
 
+-- what a failure says of the number of the kind and of bytes that are to be text
+abbrev pub IsInputFailure : ℕ → List ℕ → Failure → Type 0
+IsInputFailure kind source NoKind = type_of_number kind ≡ None
+IsInputFailure kind source NotUtf8 = OfType kind (λ k. ¬ (IsUtf8 source))
+IsInputFailure kind source _ = ⊥
+
 -- what a failure says of the number of the kind and of the source
 abbrev pub IsFailure : ℕ → List ℕ → Failure → Type 0
 IsFailure kind source NoKind = type_of_number kind ≡ None

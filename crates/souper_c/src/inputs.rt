@@ -1,19 +1,20 @@
 //! What a text of a call gives: items, their canonical texts, or a failure.
-ghost use Rattle.std.specs.Prelude.{◌≡◌, ◌≢◌, [], Some, None, IsOk, IsOkAnd, IfOk, IfErr, IfSome, option_map, string_bytes};
+ghost use Rattle.std.specs.Prelude.{◌≡◌, [], Some, None, Err, IsOk, IsOkAnd, IfOk, IfErr, IfSome, option_map, string_bytes};
 ghost use Rattle.std.specs.Str.{IsUtf8};
 ghost use Rattle.std.specs.List.{AllByRecursion};
 ghost use Rattle.souper_graph.specs.WellFormed.{WellFormed};
 ghost use Rattle.souper_graph.specs.Syntax.Spelling.{TextSpells};
 ghost use Rattle.souper_graph.specs.Syntax.Tokens.{IsLastGap};
 ghost use Rattle.souper_format.specs.Kinds.{item_type_of, kind_of_items, view_items};
-ghost use Rattle.souper_c.specs.Kinds.{type_of_number, OfType};
+ghost use Rattle.souper_c.specs.Kinds.{type_of_number, IsKind, OfType};
 ghost use Rattle.souper_c.specs.Outcomes.{FormatsTo};
-ghost use Rattle.souper_c.specs.Failures.{IsFailure, IsFailureOf, IsRefusalOf, outcome_of};
+ghost use Rattle.souper_c.specs.Failures.{IsFailure, IsFailureOf, IsInputFailure, IsRefusalOf, outcome_of};
+ghost use Rattle.souper_c.specs.declared.inputs.Failure.TheVariants.{NotUtf8};
 
 use crate::outcome::{NO_KIND, NOT_UTF8, OUT_OF_MEMORY, REFUSED, SouperOutcome};
 use souper_format::command::Kind;
 use souper_format::items::{Items, format_text, read_items};
-use souper_ir::parse::{ParseError, ParseErrorKind};
+use souper_ir::parse::ParseError;
 use std::alloc::Global;
 use std::str;
 
@@ -74,8 +75,9 @@ fn read_kind(number: u32) -> Option<Kind>
 fn kind_and_source(number: u32, bytes: &[u8]) -> Result<(Kind, &str), Failure>
     ensures kind { IfOk result (λ given. type_of_number number ≡ Some (item_type_of given.0)) }
     ensures source { IfOk result (λ given. given.1.now ≡ bytes.now) }
-    ensures failed { IfErr result (IsFailure number bytes.now) }
-    ensures accepts { type_of_number number ≢ None → IsUtf8 bytes.now → IsOk result }
+    ensures failed { IfErr result (IsInputFailure number bytes.now) }
+    ensures text { IsOk result → IsUtf8 bytes.now }
+    ensures accepts { IsKind number → IsUtf8 bytes.now → IsOk result }
 {
     let kind = read_kind(number).ok_or(Failure::NoKind)?;
     match str::from_utf8(bytes) {
@@ -109,7 +111,9 @@ fn failure_of(alloc: Global, error: &ParseError) -> Failure
 pub(crate) fn canonical_text(alloc: Global, kind: u32, bytes: &[u8]) -> Result<String, Failure>
     ensures formatted { IfOk result (λ text. FormatsTo kind bytes.now (string_bytes text)) }
     ensures failed { IfErr result (IsFailure kind bytes.now) }
-    ensures gaps { type_of_number kind ≢ None → IsUtf8 bytes.now → IsLastGap bytes.now → IsOkAnd result (λ text. string_bytes text ≡ []) }
+    ensures text { IsOk result → IsUtf8 bytes.now }
+    ensures no_text { IsKind kind → ¬ (IsUtf8 bytes.now) → result ≡ Err NotUtf8 }
+    ensures gaps { IsKind kind → IsUtf8 bytes.now → IsLastGap bytes.now → IsOkAnd result (λ text. string_bytes text ≡ []) }
 {
     let (kind, source) = kind_and_source(kind, bytes)?;
     match format_text(alloc, kind, source, None) {
@@ -124,6 +128,8 @@ pub(crate) fn items(alloc: Global, kind: u32, bytes: &[u8]) -> Result<Items, Fai
     ensures spelled { IfOk result (λ items. OfType kind (λ k. TextSpells k bytes.now (view_items items))) }
     ensures well_formed { IfOk result (λ items. AllByRecursion WellFormed (view_items items)) }
     ensures failed { IfErr result (IsFailure kind bytes.now) }
+    ensures text { IsOk result → IsUtf8 bytes.now }
+    ensures no_text { IsKind kind → ¬ (IsUtf8 bytes.now) → result ≡ Err NotUtf8 }
 {
     let (kind, source) = kind_and_source(kind, bytes)?;
     match read_items(alloc, kind, source, None) {

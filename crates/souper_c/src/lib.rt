@@ -1,7 +1,7 @@
 //! The library for callers that are not Rattle: C, C++ and Rust, by one static library.
 //!
 //! `embed/souper.h` declares these functions in C, and `docs/EMBEDDING.md` says how to build, link and call them. A call
-//! keeps no memory and has no state of its own. None has a condition that a caller must meet.
+//! keeps no memory and has no state of its own. No contract has a condition on its arguments.
 #![tactic(auto)]
 
 mod inputs;
@@ -12,7 +12,7 @@ mod tests;
 ghost use Rattle.std.specs.Prelude.{◌≡◌, ◌≢◌, ◌<◌, ◌≤◌, ◌⊎◌, ◌↔◌, None, length};
 ghost use Rattle.std.specs.Str.{IsUtf8};
 ghost use Rattle.souper_graph.specs.Syntax.Tokens.{IsLastGap};
-ghost use Rattle.souper_c.specs.Kinds.{type_of_number};
+ghost use Rattle.souper_c.specs.Kinds.{type_of_number, IsKind};
 ghost use Rattle.souper_c.specs.Outcomes.{HasNoPlace, BeginsWith, WritesTexts, WritesRefusal, IsShort, IsCanonical, IsNotCanonical, Refuses, BothSpell, AreSame, AreNotSame, RefusesInput, IsNoTextInput};
 ghost use Rattle.souper_c.specs.Failures.{short_outcome};
 
@@ -60,12 +60,13 @@ pub extern "C" fn souper_format(
     ensures formatted { result.status ≡ 0 → WritesTexts kind text.now result out.old out.new }
     ensures refused { result.status ≡ 1 → WritesRefusal kind text.now result out.old out.new }
     ensures no_kind { (result.status ≡ 2) ↔ (type_of_number kind ≡ None) }
-    ensures no_text { result.status ≡ 4 → ¬ (IsUtf8 text.now) }
+    ensures no_text { (result.status ≡ 4) ↔ (IsKind kind × ¬ (IsUtf8 text.now)) }
     ensures short { result.status ≡ 5 → IsShort kind text.now result out.old }
     ensures kept { 2 ≤ result.status → out.new ≡ out.old }
     ensures no_place { (result.status ≡ 1) ⊎ HasNoPlace result }
+    ensures no_length { 2 ≤ result.status → result.status ≤ 4 → result.length ≡ 0 }
     ensures first { result.input ≡ 0 }
-    ensures gaps { type_of_number kind ≢ None → IsUtf8 text.now → IsLastGap text.now → (result.status ≡ 0) × (result.length ≡ 0) }
+    ensures gaps { IsKind kind → IsUtf8 text.now → IsLastGap text.now → (result.status ≡ 0) × (result.length ≡ 0) }
 {
     let failure = match canonical_text(alloc, kind, text) {
         Ok(canonical) => {
@@ -97,9 +98,11 @@ pub extern "C" fn souper_check(alloc: Global, kind: u32, text: &[u8]) -> SouperO
     ensures not_canonical { result.status ≡ 6 → IsNotCanonical kind text.now result }
     ensures refused { result.status ≡ 1 → Refuses kind text.now result }
     ensures no_kind { (result.status ≡ 2) ↔ (type_of_number kind ≡ None) }
-    ensures no_text { result.status ≡ 4 → ¬ (IsUtf8 text.now) }
+    ensures no_text { (result.status ≡ 4) ↔ (IsKind kind × ¬ (IsUtf8 text.now)) }
     ensures no_place { (result.status ≡ 1) ⊎ HasNoPlace result }
+    ensures no_length { 2 ≤ result.status → result.status ≤ 4 → result.length ≡ 0 }
     ensures first { result.input ≡ 0 }
+    ensures gaps { IsKind kind → IsUtf8 text.now → IsLastGap text.now → result.status ≢ 3 }
 {
     match canonical_text(alloc, kind, text) {
         Ok(canonical) => {
@@ -132,8 +135,11 @@ pub extern "C" fn souper_same(alloc: Global, kind: u32, a: &[u8], b: &[u8]) -> S
     ensures refused { result.status ≡ 1 → RefusesInput kind a.now b.now result }
     ensures no_kind { (result.status ≡ 2) ↔ (type_of_number kind ≡ None) }
     ensures no_text { result.status ≡ 4 → IsNoTextInput kind a.now b.now result }
+    ensures first_no_text { IsKind kind → ¬ (IsUtf8 a.now) → (result.status ≡ 4) × (result.input ≡ 0) }
+    ensures texts { (result.status ≡ 0) ⊎ (result.status ≡ 6) → IsUtf8 a.now × IsUtf8 b.now }
     ensures no_place { (result.status ≡ 1) ⊎ HasNoPlace result }
     ensures no_length { (result.status ≡ 1) ⊎ (result.length ≡ 0) }
+    ensures first { (result.status ≡ 1) ⊎ (result.status ≡ 4) ⊎ (result.input ≡ 0) }
 {
     let a = match items(alloc, kind, a) {
         Ok(items) => items,

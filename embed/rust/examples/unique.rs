@@ -10,16 +10,19 @@ use std::io::Write;
 use std::process::ExitCode;
 use std::thread;
 
+// An item of a file, by the file's path and the item's text.
+type Item<'a> = (&'a str, &'a str);
+
 // The canonical texts of the items, in their order, each by one of the threads.
-fn canonical<'a>(items: &[&'a str]) -> Vec<(&'a str, Result<String, Error>)> {
+fn canonical<'a>(items: &[Item<'a>]) -> Vec<(Item<'a>, Result<String, Error>)> {
     let threads = thread::available_parallelism().map_or(1, |number| number.get());
     let share = items.len().div_ceil(threads).max(1);
+    let work = |part: &[Item<'a>]| {
+        part.iter()
+            .map(|item| (*item, format(Kind::Lhs, item.1)))
+            .collect::<Vec<_>>()
+    };
     thread::scope(|scope| {
-        let work = |part: &'_ [&'a str]| {
-            part.iter()
-                .map(|item| (*item, format(Kind::Lhs, item)))
-                .collect::<Vec<_>>()
-        };
         let handles: Vec<_> = items
             .chunks(share)
             .map(|part| scope.spawn(move || work(part)))
@@ -32,35 +35,35 @@ fn canonical<'a>(items: &[&'a str]) -> Vec<(&'a str, Result<String, Error>)> {
 }
 
 fn main() -> Result<ExitCode, Box<dyn std::error::Error>> {
-    let texts = std::env::args()
-        .skip(1)
+    let paths: Vec<String> = std::env::args().skip(1).collect();
+    let texts = paths
+        .iter()
         .map(std::fs::read_to_string)
         .collect::<Result<Vec<_>, _>>()?;
-    let items: Vec<&str> = texts
-        .iter()
-        .flat_map(|text| text.split("\n\n"))
-        .filter(|item| !item.trim().is_empty())
+    let files = paths.iter().zip(&texts);
+    let items: Vec<Item> = files
+        .flat_map(|(path, text)| text.split("\n\n").map(|item| (path.as_str(), item)))
         .collect();
-    let (mut seen, mut refused) = (HashSet::new(), 0);
+    let (mut seen, mut count, mut refused) = (HashSet::new(), 0, 0);
     let mut out = std::io::stdout().lock();
-    for (item, result) in canonical(&items) {
+    for ((path, item), result) in canonical(&items) {
         match result {
-            Ok(text) if seen.contains(&text) => (),
+            // What is after the last item of a file.
+            Ok(text) if text.is_empty() => continue,
             Ok(text) => {
-                out.write_all(text.as_bytes())?;
-                seen.insert(text);
+                if !seen.contains(&text) {
+                    out.write_all(text.as_bytes())?;
+                    seen.insert(text);
+                }
             }
             Err(error) => {
-                eprintln!("{error}\nin\n{item}");
+                eprintln!("{path}: {error}\nof the item\n{item}");
                 refused += 1;
             }
         }
+        count += 1;
     }
-    eprintln!(
-        "{} items, {} graphs, {refused} refused",
-        items.len(),
-        seen.len()
-    );
+    eprintln!("{count} items, {} graphs, {refused} refused", seen.len());
     Ok(if refused == 0 {
         ExitCode::SUCCESS
     } else {

@@ -1,7 +1,8 @@
 //! Canonical texts of [Souper](https://github.com/google/souper) IR, and what follows from them.
 //!
-//! Two items have the same canonical text if and only if they are the same graph: the same statements, conditions and
-//! roots, up to the order of statements that do not depend on each other and up to statements that nothing needs.
+//! Two items have the same canonical text if and only if they are the same graph: a one-to-one map between the statements
+//! that they need carries one to the other. Names and the order of path conditions count; the order of other statements
+//! does not.
 //!
 //! ```
 //! use souper_canon::{Kind, format, same};

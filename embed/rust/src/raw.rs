@@ -38,7 +38,6 @@ unsafe extern "C" {
 /// Writes to the room of `out`, which is empty and has `room` bytes or more; `out` is then what was written.
 pub(crate) fn format(kind: Kind, text: &str, out: &mut Vec<u8>, room: usize) -> Outcome {
     assert!(out.is_empty() && room <= out.capacity());
-    // The bytes are made before the call, which may read them.
     out.resize(room, 0);
     // SAFETY: the pointers of slices and vectors are not null, and `out` overlaps nothing, being borrowed mutably.
     let outcome = unsafe {

@@ -115,6 +115,34 @@ fn each_answer_is_as_stored_on_eight_threads() {
 }
 
 #[test]
+fn neighbors_are_the_same_if_their_answers_are() {
+    let mut records = records();
+    records.retain(|record| record.kind == Kind::Lhs && !record.is_refused);
+    for pair in records.windows(2) {
+        let answers_are_equal = pair[0].answer == pair[1].answer;
+        assert_eq!(
+            same(Kind::Lhs, &pair[0].text, &pair[1].text),
+            Ok(answers_are_equal)
+        );
+    }
+}
+
+#[test]
+fn answers_may_be_longer_than_the_first_buffer() {
+    let name = "n".repeat(2000);
+    let line = format!("%{name} = var infer %{name}x");
+    let Err(Error::Refused(refusal)) = format(Kind::Lhs, &line) else {
+        panic!("it is refused")
+    };
+    assert!(refusal.shown().len() > line.len() + line.len() / 4 + 256);
+    let place = line.len() - name.len() - 2;
+    assert_eq!(
+        (refusal.offset(), refusal.line(), refusal.column()),
+        (place, 1, place)
+    );
+}
+
+#[test]
 fn out_of_memory_has_a_text() {
     assert_eq!(Error::OutOfMemory.to_string(), "out of memory");
 }

@@ -1,5 +1,5 @@
 use Rattle.std.proofs.Common.{rules}
-use Rattle.souper_c.proofs.Same.{spell_same, spell_others}
+use Rattle.souper_c.proofs.Same.{spell_same, spell_others, second_no_text}
 use Rattle.souper_c.proofs.souper_same.Goals as goal
 
 -- src/lib.rt:139:1
@@ -13,3 +13,9 @@ pub returns-in-Ok-false-clause-different : goal.returns-in-Ok-false-clause-diffe
 returns-in-Ok-false-clause-different c is_no =
     spell_others c.args.kind c.in-Ok.items c.in-Ok-items.items c.args.a.now c.args.b.now c.in-Ok.ensures.spelled c.in-Ok-items.ensures.spelled
     c.in-Ok.ensures.kind c.in-Ok-items.ensures.kind (search rules)
+
+-- src/lib.rt:150:25
+pub returns-in-Err-items-clause-no_text : goal.returns-in-Err-items-clause-no_text
+returns-in-Err-items-clause-no_text c =
+    second_no_text c.args.kind c.args.a.now c.args.b.now c.in-Ok.items c.in-Err-items.failure c.outcome-in-Err-items.result
+    c.in-Ok.ensures.spelled c.in-Err-items.ensures.failed (search rules)
