@@ -3,12 +3,18 @@ ghost use Rattle.std.specs.Prelude.{◌↔◌, List, IfOk, IsTrue};
 ghost use Rattle.std.specs.List.{AllZip};
 ghost use Rattle.souper_graph.specs.Values.{Item};
 ghost use Rattle.souper_graph.specs.Sameness.{SameGraph};
+ghost use Rattle.souper_graph.specs.Renaming.{SameUpToNames};
+ghost use Rattle.souper_graph.specs.WellFormed.{WellFormed};
+ghost use Rattle.souper_graph.specs.View.{view_left_hand_side};
 ghost use Rattle.souper_graph.specs.Syntax.Spelling.{TextSpells, replacement};
 
 use souper_format::command::Kind;
 use souper_format::items::read_items;
 use souper_format::same::same;
+use souper_ir::ast::LeftHandSide;
+use souper_ir::laws::law_of_canonical_texts;
 use souper_ir::parse::ParseError;
+use souper_ir::stringify::TextError;
 use std::alloc::Global;
 
 /// Whether two texts of replacements have pairwise the same graphs.
@@ -22,10 +28,33 @@ pub fn mean_the_same(alloc: Global, a: &str, b: &str) -> Result<bool, ParseError
     Ok(same(alloc, &a, &b)?)
 }
 
+/// Whether two left-hand sides are the same graph up to names.
+pub fn same_up_to_names(a: &LeftHandSide, b: &LeftHandSide) -> Result<bool, TextError>
+    requires first { WellFormed (view_left_hand_side a.now) }
+    requires second { WellFormed (view_left_hand_side b.now) }
+    ensures { IfOk result (λ answer. IsTrue answer ↔ SameUpToNames (view_left_hand_side a.now) (view_left_hand_side b.now)) }
+{
+    law_of_canonical_texts();
+    let first = a.renamed()?.to_text()?;
+    let second = b.renamed()?.to_text()?;
+    Ok(first.as_str() == second.as_str())
+}
+
 #[cfg(test)]
 mod tests {
     use super::*;
+    use crate::reading::read_one;
     use std::test::Fail;
+
+    #[test]
+    fn names_are_left_aside(rt: HostRuntime) -> Result<(), Fail> {
+        let one = read_one(rt.alloc(), "%x = var\n%y = var\n%z = sub %x, %y\ninfer %z")?.ok_or("not one")?;
+        let other = read_one(rt.alloc(), "%b = var\n%a = var\n%0 = sub %a, %b\ninfer %0")?.ok_or("not one")?;
+        let another = read_one(rt.alloc(), "%x = var\n%z = sub %x, %x\ninfer %z")?.ok_or("not one")?;
+        assert!(rt; same_up_to_names(&one, &other)?);
+        assert!(rt; !same_up_to_names(&one, &another)?);
+        Ok(())
+    }
 
     #[test]
     fn texts_are_compared(rt: HostRuntime) -> Result<(), Fail> {

@@ -1,5 +1,5 @@
 -- What look-ups by id return, said of the statements as plain data.
-use Rattle.std.proofs.Common.{◌≡◌, ◌↔◌, ℕ, List, map, Option, Some, None, Bor, refl, sym, option_copied, true, false}
+use Rattle.std.proofs.Common.{◌≡◌, ◌↔◌, ℕ, List, map, Option, Some, None, Bor, refl, sym, option_copied}
 use Rattle.std.specs.Prelude.{IsTrue, MatchOption, is_some, slice_get, option_map}
 use Rattle.std.specs.String.{string_bytes}
 use Rattle.std.proofs.lemmas.Option.{slice_get-map}

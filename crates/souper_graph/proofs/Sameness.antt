@@ -4,3 +4,7 @@ pub mod Carrying
 pub mod Indices
 pub mod PrintedOrder
 pub mod Renumbered
+pub mod Nameless
+pub mod Renaming
+pub mod Naming
+pub mod Renamed

@@ -15,6 +15,7 @@ pub mod Shown
 pub mod Faults
 pub mod WellFormed
 pub mod Sameness
+pub mod Renaming
 pub mod Syntax
 pub mod CanonicalText
 pub mod ItemText

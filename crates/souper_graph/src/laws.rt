@@ -1,6 +1,6 @@
 //! Laws of the definitions that the contracts of this crate cite. No function here does anything.
 
-ghost use Rattle.std.specs.Prelude.{◌≡◌, ◌↔◌, ℕ, IsTrue, List, map, Some, slice_get};
+ghost use Rattle.std.specs.Prelude.{◌≡◌, ◌↔◌, ◌≤◌, ◌^◌, ℕ, IsTrue, List, length, map, Some, slice_get};
 ghost use Rattle.souper_graph.specs.Values.{condition, block_condition, Item as PlainItem};
 ghost use Rattle.souper_graph.specs.WellFormed.{WellFormed, EachClosed};
 ghost use Rattle.souper_graph.specs.Text.{text_of, texts_of};
@@ -11,6 +11,7 @@ ghost use Rattle.souper_graph.specs.Uses.{NeededIn, UsesBelow};
 ghost use Rattle.souper_graph.specs.Faults.{HasBadId};
 ghost use Rattle.souper_graph.specs.Order.{printed_order, uses_below};
 ghost use Rattle.souper_graph.specs.Sameness.{OrdersNeeded, SameGraph, SameNeeded, renumbered};
+ghost use Rattle.souper_graph.specs.Renaming.{SameUpToNames, renamed};
 
 use crate::ast::{
     BlockId, BlockPc, Id, Item, LeftHandSide, Pc, Replacement, RightHandSide, ValueId,
@@ -54,6 +55,19 @@ pub fn law_of_sameness()
     ensures graph { (a : PlainItem) → WellFormed a → SameGraph a (renumbered a) }
     ensures unneeded { (a b : PlainItem) → WellFormed a → SameNeeded a b → WellFormed b × (renumbered b ≡ renumbered a) }
     ensures exact { (a : PlainItem) → WellFormed a → OrdersNeeded a (printed_order a) }
+{}
+
+/// Two well-formed items are the same graph once they are renamed if and only if they are the same graph up to names.
+///
+/// The renamed item is the item up to names, has its printed order, and is renamed to itself. It is well formed if the
+/// item is, with no more statements than memory can hold: larger numbers have no text in the library's definition of
+/// decimal.
+pub fn law_of_names()
+    ensures same { (a b : PlainItem) → WellFormed a → WellFormed b → SameGraph (renamed a) (renamed b) ↔ SameUpToNames a b }
+    ensures kept { (a : PlainItem) → SameUpToNames a (renamed a) }
+    ensures order { (a : PlainItem) → printed_order (renamed a) ≡ printed_order a }
+    ensures again { (a : PlainItem) → renamed (renamed a) ≡ renamed a }
+    ensures well_formed { (a : PlainItem) → WellFormed a → length (printed_order a) ≤ 2 ^ 64 → WellFormed (renamed a) }
 {}
 
 /// What the ghost members of [`Item`](crate::ast::Item) are: the type of the items, and an item as plain data.

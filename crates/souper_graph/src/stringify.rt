@@ -10,6 +10,7 @@ mod names;
 mod nodes;
 mod numbers;
 mod order;
+mod renamed;
 mod text;
 
 pub use context::DisplayWithContext;

@@ -10,6 +10,7 @@ ghost use Rattle.souper_graph.specs.Values.{PlainAttribute, PlainRootAttribute, 
 ghost use Rattle.souper_graph.specs.View.{view_attribute, view_root_attribute, view_phi, view_rhs, view_assignment, view_statement, view_infer, view_cand, view_left_hand_side, view_right_hand_side, view_replacement};
 ghost use Rattle.souper_graph.specs.Text.{text_of, texts_of};
 ghost use Rattle.souper_graph.specs.Sameness.{renumbered, SameGraph};
+ghost use Rattle.souper_graph.specs.Renaming.{SameUpToNames, IsRenamed};
 ghost use Rattle.souper_graph.specs.CanonicalText.{IsWellFormedOf, AreWellFormed, AllNeeded};
 ghost use Rattle.souper_graph.specs.Syntax.Tokens.{Lexeme, open_paren, OneReading, IsWhiteSpaceListed, EachInText, GapEndsToken, FrontsJoin};
 ghost use Rattle.souper_graph.specs.Syntax.Spelling.{Scope, OneList, type_spells, constant_spells, operand_spells, block_spells, phi_spells, instruction_spells, rhs_spells, attribute_spells, root_attribute_spells, assignment_spells, pc_spells, block_pc_spells, statement_spells, infer_spells, cand_spells, ItemType, left_hand_side, right_hand_side, replacement, item_spells_after, TextSpells};
@@ -45,6 +46,9 @@ pub fn law_of_spelled_items()
 /// The canonical texts of well-formed items of one type spell the renumbered items and nothing else, and two such items
 /// have the same canonical text if and only if they are the same graph.
 ///
+/// What `renamed` returns for two such items has the same text if and only if they are the same graph up to names
+/// (`renamed`).
+///
 /// A renumbered item has the needed statements alone, in printed order. So in what a canonical text spells each name is
 /// defined once and before its first use, and every statement is needed (`defined`). What else holds of canonical texts
 /// is said by the law of this name in `souper_graph`.
@@ -52,6 +56,7 @@ pub fn law_of_canonical_texts()
     ensures exact { (k : ItemType) (items others : List Item) → AreWellFormed k items → TextSpells k (texts_of items) others ↔ (others ≡ map renumbered items) }
     ensures defined { (k : ItemType) (items others : List Item) → AreWellFormed k items → TextSpells k (texts_of items) others → AllByRecursion (λ b. EachClosed b × AllNeeded b) others }
     ensures one_text { (k : ItemType) (a b : Item) → IsWellFormedOf k a → IsWellFormedOf k b → (text_of a ≡ text_of b) ↔ SameGraph a b }
+    ensures renamed { (k : ItemType) (a b x y : Item) → IsWellFormedOf k a → IsWellFormedOf k b → IsRenamed a x → IsRenamed b y → (text_of x ≡ text_of y) ↔ SameUpToNames a b }
 {}
 
 /// What parsing a type promises.

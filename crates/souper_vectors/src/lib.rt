@@ -7,6 +7,8 @@
 mod again;
 #[cfg(test)]
 mod orders;
+#[cfg(test)]
+mod renaming;
 pub mod sources;
 #[cfg(test)]
 mod texts;

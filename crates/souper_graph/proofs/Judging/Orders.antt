@@ -1,5 +1,5 @@
 -- From what the checks return for an order to whether the item is well formed.
-use Rattle.std.proofs.Common.{◌≡◌, ◌∙◌, ◌↔◌, ℕ, Bool, false, Result, Ok, Err, sym}
+use Rattle.std.proofs.Common.{◌≡◌, ◌∙◌, ◌↔◌, Bool, false, Result, Ok, Err, sym}
 use Rattle.std.specs.Prelude.{IsTrue, IfOk, IfErr, MatchResult}
 use Rattle.std.specs.declared.alloc.AllocError.{AllocError}
 use Rattle.std.proofs.lemmas.Bool.{false≢true}

@@ -10,7 +10,7 @@ use Rattle.souper_graph.specs.Values.{PlainStatement}
 use Rattle.souper_graph.specs.Uses.{Has, Use, value_use, block_use, position_of, uses_at}
 use Rattle.souper_graph.specs.Walks.{position_of_target, target_of, IsMetTarget}
 use Rattle.souper_graph.proofs.Lists.{Has-left, Has-right, Has-cases, Has-none, Has-here, Has-later, Has-head, Has-map, Has-mapped}
-use Rattle.souper_graph.proofs.Order.Runs.{Step, trace, finish, Reached, start, walk, dropped, entered, finished, work}
+use Rattle.souper_graph.proofs.Order.Runs.{Step, trace, finish, Reached, start, walk, dropped, entered, finished}
 
 -- an entry, and a list of targets, as positions
 abbrev step_of : Entry → Step

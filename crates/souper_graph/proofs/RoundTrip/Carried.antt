@@ -1,19 +1,14 @@
 -- Lemmas. The text of a node that is carried to other positions is the same, if the names there are the same.
-use Rattle.std.proofs.Common.{◌≡◌, ℕ, List, [], ◌∷◌, ◌++◌, map, refl, sym, ap, ◌∙◌, inl, inr}
-use Rattle.std.specs.Prelude.{codes, flat_map, decimal}
-use Rattle.souper_graph.specs.declared.ast.operands.«Type».{«Type» as Ty}
-use Rattle.souper_graph.specs.declared.ast.operands.Constant.{Constant}
+use Rattle.std.proofs.Common.{◌≡◌, ℕ, List, [], ◌∷◌, ◌++◌, map, refl, ap, ◌∙◌, inl, inr}
+use Rattle.std.specs.Prelude.{codes, decimal}
 use Rattle.souper_graph.specs.declared.ast.operands.Operand.{Operand}
 use Rattle.souper_graph.specs.declared.ast.operands.Operand.TheVariants.{Value, Constant as constant_variant}
 use Rattle.souper_graph.specs.declared.ast.instructions.Instruction.{Instruction}
-use Rattle.souper_graph.specs.declared.ast.statements.Block.{Block}
-use Rattle.souper_graph.specs.declared.ast.statements.Pc.{Pc}
-use Rattle.souper_graph.specs.declared.ast.statements.BlockPc.{BlockPc}
-use Rattle.souper_graph.specs.Values.{PlainAttribute, known_bits as known_bits_attribute, power_of_two, negative, non_negative, non_zero, has_external_uses, sign_bits, range, PlainRootAttribute, demanded_bits, harvested_from_use, PlainPhi, PlainRhs, var, block, phi, reserved_inst, reserved_const, instruction, PlainAssignment, PlainStatement, assigned, condition, block_condition, PlainInfer, PlainCand, Ending, inferred, resulting, replaced, candidate, Item}
+use Rattle.souper_graph.specs.Values.{PlainRhs, var, block, phi, reserved_inst, reserved_const, instruction, PlainStatement, assigned, condition, block_condition, PlainInfer, PlainCand}
 use Rattle.souper_graph.specs.Instructions.{word_of, operands_of, instruction_map}
 use Rattle.souper_graph.specs.Leaves.{text_of_optional_type, text_of_attributes, text_of_root_attributes}
 use Rattle.souper_graph.specs.Uses.{Has, Use, value_use, block_use, position_of, uses_of_operand, uses_of_operands, uses_of_rhs, uses_of}
-use Rattle.souper_graph.specs.Text.{name_at, text_of_operand, text_of_further, text_of_operands, text_of_phi, text_of_instruction, text_of_rhs, text_of_assignment, text_of_pc, text_of_block_pc, text_of_statement, text_of_infer, text_of_cand, text_of_result}
+use Rattle.souper_graph.specs.Text.{name_at, text_of_operand, text_of_further, text_of_operands, text_of_instruction, text_of_rhs, text_of_statement, text_of_infer, text_of_cand, text_of_result}
 use Rattle.souper_graph.specs.Sameness.{carried_operand, carried_rhs, carried, carried_infer, carried_cand}
 use Rattle.souper_graph.proofs.Lists.{Has-left, Has-right}
 use Rattle.souper_graph.proofs.Sameness.InstructionMaps.{operands-map, word-map}

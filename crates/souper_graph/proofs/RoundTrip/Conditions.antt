@@ -1,13 +1,12 @@
 -- Lemmas. The line of each path condition is in the canonical text, in order; an item in another arena order is the
 -- same graph.
-use Rattle.std.proofs.Common.{◌≡◌, ℕ, suc, ◌<◌, ◌⊎◌, inl, inr, Bool, true, false, cond, List, [], ◌∷◌, ◌++◌, length, map, take, drop, Option, Some, None, refl, sym, ap, ◌∙◌, subst, arith, append_assoc, append-nil}
+use Rattle.std.proofs.Common.{◌≡◌, ℕ, suc, ◌<◌, inl, inr, Bool, true, false, cond, List, [], ◌∷◌, ◌++◌, length, map, take, drop, Option, refl, sym, ap, ◌∙◌, subst, arith, append_assoc}
 use Rattle.std.specs.Prelude.{flat_map, filter, codes, slice_get}
 use Rattle.std.specs.List.{AllByRecursion}
 use Rattle.std.proofs.lemmas.List.{take-append-drop, map-append, length_push}
 use Rattle.std.proofs.lemmas.Grind.{flat_map-append}
-use Rattle.std.proofs.lemmas.Option.{slice_get_within}
 use Rattle.souper_graph.specs.Values.{PlainStatement, assigned, condition, block_condition, PlainInfer, Ending, inferred, resulting, replaced, candidate, Item}
-use Rattle.souper_graph.specs.Uses.{Has, used_at, uses_of_optional, position_of, walks_of, walked, used, conditions_from, conditions, NeededIn}
+use Rattle.souper_graph.specs.Uses.{Has, used_at, walks_of, walked, used, conditions_from, conditions, NeededIn}
 use Rattle.souper_graph.specs.Order.{printed_order, lead_of}
 use Rattle.souper_graph.specs.Text.{text_of_statement, text_of_infer, line_of, line_at, lines_of, text_in_order, text_of, text_of_assignment, text_of_pc, text_of_block_pc, name_at}
 use Rattle.souper_graph.specs.Leaves.{text_of_root_attributes}

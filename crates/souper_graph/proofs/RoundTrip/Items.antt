@@ -1,27 +1,17 @@
 -- Lemmas. An item whose statements are all closed and named apart is spelled by the tokens of its listed parts, which
 -- are sound.
-use Rattle.std.proofs.Common.{◌≡◌, ℕ, ◌<◌, ◌≤◌, List, [], ◌∷◌, ◌++◌, length, take, drop, Option, Some, None, refl, sym, ap, ◌∙◌, subst, arith, append_assoc, append-nil, length-take, inl, inr}
+use Rattle.std.proofs.Common.{ℕ, ◌<◌, List, [], ◌∷◌, ◌++◌, length, take, drop, refl, sym, ap, ◌∙◌, subst, arith, append-nil, length-take, inl}
 use Rattle.std.proofs.lemmas.List.{take-append-drop}
-use Rattle.std.specs.List.{AllByRecursion}
-use Rattle.souper_graph.specs.declared.ast.operands.«Type».{«Type» as Ty}
-use Rattle.souper_graph.specs.declared.ast.operands.Constant.{Constant}
 use Rattle.souper_graph.specs.declared.ast.operands.Operand.{Operand}
-use Rattle.souper_graph.specs.declared.ast.operands.Operand.TheVariants.{Value, Constant as constant_variant}
-use Rattle.souper_graph.specs.declared.ast.instructions.Instruction.{Instruction}
-use Rattle.souper_graph.specs.declared.ast.statements.Block.{Block}
-use Rattle.souper_graph.specs.declared.ast.statements.Pc.{Pc}
-use Rattle.souper_graph.specs.declared.ast.statements.BlockPc.{BlockPc}
-use Rattle.souper_graph.specs.Values.{PlainAttribute, known_bits as known_bits_attribute, power_of_two, negative, non_negative, non_zero, has_external_uses, sign_bits, range, PlainRootAttribute, demanded_bits, harvested_from_use, PlainPhi, PlainRhs, var, block, phi, reserved_inst, reserved_const, instruction, PlainAssignment, PlainStatement, assigned, condition, block_condition, PlainInfer, PlainCand, Ending, inferred, resulting, replaced, candidate, Item}
-use Rattle.souper_graph.specs.Uses.{Has, Use, value_use, block_use, position_of as use_position, uses_of_operand, roots_of}
-use Rattle.souper_graph.specs.Faults.{AreMet}
-use Rattle.souper_graph.specs.WellFormed.{FitsInfer, FitsOperand, EachClosed}
+use Rattle.souper_graph.specs.Values.{PlainStatement, PlainInfer, Ending, inferred, resulting, replaced, candidate, Item}
+use Rattle.souper_graph.specs.Uses.{Has, Use, value_use, position_of as use_position, uses_of_operand, roots_of}
+use Rattle.souper_graph.specs.WellFormed.{EachClosed}
 use Rattle.souper_graph.specs.Syntax.Tokens.{Lexeme}
-use Rattle.souper_graph.specs.Syntax.Spelling.{Scope, ItemType, left_hand_side, right_hand_side, replacement, IsEndingOf, Statements, result_spells, tail_spells, item_spells_after, item_spells}
-use Rattle.souper_graph.proofs.Lists.{Has-left, Has-right}
+use Rattle.souper_graph.specs.Syntax.Spelling.{Scope, ItemType, left_hand_side, right_hand_side, replacement, IsEndingOf, result_spells, tail_spells, item_spells}
 use Rattle.souper_graph.proofs.Judging.Needed.{met-inside}
 use Rattle.souper_graph.proofs.RoundTrip.Parts.{Part, newline, words_of, words_append, AreSound, sound_append}
 use Rattle.souper_graph.proofs.RoundTrip.Nodes.{parts_of_lines, parts_of_infer, parts_of_cand, parts_of_result, listed_parts}
-use Rattle.souper_graph.proofs.RoundTrip.Ready.{Known, AreKnown, ReadyOperand, AreReady, known_left, known_right, known_here, known_after, ready_first, ready_second}
+use Rattle.souper_graph.proofs.RoundTrip.Ready.{Known, AreKnown, AreReady, known_left, known_after, ready_first, ready_second}
 use Rattle.souper_graph.proofs.RoundTrip.Scopes.{known, ready}
 use Rattle.souper_graph.proofs.RoundTrip.Sound.{infer_sound, infer_then, cand_sound, result_sound, lines_then}
 use Rattle.souper_graph.proofs.RoundTrip.Spelled.{infer_spelled, cand_spelled, result_spelled, lines_spelled, ended}

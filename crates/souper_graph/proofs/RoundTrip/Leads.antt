@@ -1,5 +1,5 @@
 -- Lemmas. Printed orders of some of an item's walks: how they join, and what a map of the same graph makes of them.
-use Rattle.std.proofs.Common.{◌≡◌, ℕ, zero, suc, ◌+◌, ◌<◌, ◌++◌, inl, inr, length, map, List, [], ◌∷◌, Bool, true, false, cond, refl, sym, ap, ◌∙◌, subst, arith, append_assoc, append-nil}
+use Rattle.std.proofs.Common.{◌≡◌, ℕ, suc, ◌<◌, ◌++◌, inl, inr, length, map, List, [], ◌∷◌, Bool, true, false, cond, refl, sym, ap, ◌∙◌, subst, arith, append_assoc, append-nil}
 use Rattle.std.specs.List.{flat_map}
 use Rattle.std.proofs.lemmas.List.{map-append, length-map}
 use Rattle.std.proofs.lemmas.Bool.{cases_eq}
@@ -7,15 +7,15 @@ use Rattle.souper_graph.specs.Values.{PlainStatement, Ending, Item}
 use Rattle.souper_graph.specs.Uses.{Has, Use, position_of, conditions, first_roots, last_roots, first_walks, walks_of, Needed, walked, used, NeededIn}
 use Rattle.souper_graph.specs.Order.{unfolding_of, order_of_walks, printed_order, lead_of}
 use Rattle.souper_graph.specs.WellFormed.{WellFormed}
-use Rattle.souper_graph.specs.Sameness.{SameGraph, place, carried_ending}
-use Rattle.souper_graph.proofs.Lists.{Has-left, Has-none, Has-here, Has-later, Has-head}
-use Rattle.souper_graph.proofs.Order.Firsts.{has, with_new, gathered, printed-is}
+use Rattle.souper_graph.specs.Sameness.{SameGraph, place}
+use Rattle.souper_graph.proofs.Lists.{Has-left, Has-none, Has-head}
+use Rattle.souper_graph.proofs.Order.Firsts.{has, with_new, printed-is}
 use Rattle.souper_graph.proofs.Order.Sorted.{flat-join}
 use Rattle.souper_graph.proofs.Sameness.Indices.{flat-map, with-map, place-here, place-later}
 use Rattle.souper_graph.proofs.Sameness.Carrying.{positions-carried, first-carried}
 use Rattle.souper_graph.proofs.Judging.Needed.{first_of}
 use Rattle.souper_graph.proofs.Sameness.PrintedOrder.{printed-needed, walks-printed}
-use Rattle.souper_graph.proofs.Sameness.Renumbered.{unfold-carried, has-all, conditions-carried}
+use Rattle.souper_graph.proofs.Sameness.Renumbered.{ordered, unfold-carried, has-all, conditions-carried}
 
 -- ---- orders that are joined
 
@@ -70,7 +70,7 @@ walks-order-carried : (a b : Item) → WellFormed a → WellFormed b → (s : Sa
 walks-order-carried a b wa wb s w f =
     let inner : flat_map (unfolding_of b.statements) (map s.to w) ≡ map s.to (flat_map (unfolding_of a.statements) w) =
     flat-map s.to (unfolding_of a.statements) (unfolding_of b.statements) w (λ u q.
-    unfold-carried a b wa wb s (suc u) (suc (s.to u)) u (omega arith) (omega arith) (f u q)) in
+    unfold-carried a b (ordered a wa) (ordered b wb) s (suc u) (suc (s.to u)) u (omega arith) (omega arith) (f u q)) in
     printed-is b.statements (map s.to w)
     ∙ ap (λ z. with_new [] z) inner
     ∙ with-map s.to (NeededIn a) [] (flat_map (unfolding_of a.statements) w)
@@ -84,7 +84,7 @@ first-walks-carried a b wa s =
     let roots : map position_of (first_roots b.ending) ≡ map s.to (first_of a) =
     ap (λ (d : Ending). map position_of (first_roots d)) s.ending ∙ ap (λ (z : List Use). map position_of z) (first-carried s.to a.ending)
     ∙ positions-carried s.to (first_roots a.ending) in
-    (λ k. roots k ++ conditions-carried a b wa s k) ∙ sym (map-append s.to (first_of a) (conditions a))
+    (λ k. roots k ++ conditions-carried a b (ordered a wa) s k) ∙ sym (map-append s.to (first_of a) (conditions a))
 
 -- the same graph has the same lead
 pub lead-carried : (a b : Item) → WellFormed a → WellFormed b → SameGraph a b → lead_of b ≡ lead_of a

@@ -1,9 +1,9 @@
 -- Numbers, widths, bit lists and words as tokens, and what these tokens spell.
-use Rattle.std.proofs.Common.{◌≡◌, ℕ, ℤ, pos, negsuc, zero, suc, ◌+◌, ◌-◌, ◌<◌, ◌≤◌, ◌^◌, Bool, true, false, List, [], ◌∷◌, length, map, Option, Some, None, get_or, refl, sym, ap, ◌∙◌, subst, arith}
-use Rattle.std.specs.Prelude.{decimal, codes, neg_ℤ, not, ◌&&◌, ◌==◌, nat_lt, int_le, FitsSigned, if◌then◌else◌}
+use Rattle.std.proofs.Common.{◌≡◌, ℕ, ℤ, pos, negsuc, suc, ◌-◌, ◌<◌, ◌≤◌, ◌^◌, Bool, true, false, List, [], ◌∷◌, length, map, Option, Some, None, get_or, refl, ap, ◌∙◌, arith}
+use Rattle.std.specs.Prelude.{decimal, neg_ℤ, not, ◌&&◌, ◌==◌, FitsSigned}
 use Rattle.std.specs.Fmt.{signed_decimal}
 use Rattle.std.specs.Int.{w128}
-use Rattle.std.specs.Char.{is_ascii_digit, is_ascii_alphabetic, digit_value}
+use Rattle.std.specs.Char.{is_ascii_digit, is_ascii_alphabetic}
 use Rattle.std.specs.Str.Parse.{IsNumeral, AllDigits, digits_value, signed_digits_value, without_leading_sign}
 use Rattle.std.proofs.lemmas.Fmt.{decimal_is_IsNumeral_wide}
 use Rattle.std.proofs.lemmas.Str.Parse.{digit_from_value}
@@ -11,7 +11,7 @@ use Rattle.std.proofs.lemmas.Bool.{le-leb, lt-ltb}
 use Rattle.std.proofs.lemmas.Bool.Decides.{nat_tests}
 use Rattle.souper_graph.specs.Names.{is_name_char, IsName}
 use Rattle.souper_graph.specs.Leaves.{text_of_known_bit, text_of_bit}
-use Rattle.souper_graph.specs.Syntax.Tokens.{Lexeme, ident, val_name, known_bits, int, IsLexeme, AllAre, is_bit, begins_int, known_bits_word}
+use Rattle.souper_graph.specs.Syntax.Tokens.{ident, val_name, known_bits, int, IsLexeme, AllAre, is_bit, begins_int}
 use Rattle.souper_graph.specs.Syntax.Numbers.{are_digits, is_numeral, is_within, number_of, count_of, width_of}
 
 -- ---- tokens
@@ -29,7 +29,7 @@ all_digits : (ds : List ℕ) → AllDigits 10 ds → AllAre is_ascii_digit ds
 all_digits [] h = tt
 all_digits (c ∷ ds) h = (let r = digit_from_value c h.0 in digit_is c r.0 r.1, all_digits ds h.1)
 
-all_names : (ds : List ℕ) → AllDigits 10 ds → AllAre is_name_char ds
+pub all_names : (ds : List ℕ) → AllDigits 10 ds → AllAre is_name_char ds
 all_names [] h = tt
 all_names (c ∷ ds) h = (let r = digit_from_value c h.0 in name_digit c r.0 r.1, all_names ds h.1)
 

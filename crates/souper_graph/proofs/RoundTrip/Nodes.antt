@@ -10,11 +10,11 @@ use Rattle.souper_graph.specs.declared.ast.instructions.Instruction.{Instruction
 use Rattle.souper_graph.specs.declared.ast.statements.Block.{Block}
 use Rattle.souper_graph.specs.declared.ast.statements.Pc.{Pc}
 use Rattle.souper_graph.specs.declared.ast.statements.BlockPc.{BlockPc}
-use Rattle.souper_graph.specs.Values.{PlainAttribute, known_bits as known_bits_attribute, power_of_two, negative, non_negative, non_zero, has_external_uses, sign_bits, range, PlainRootAttribute, demanded_bits, harvested_from_use, PlainPhi, PlainRhs, var, block, phi, reserved_inst, reserved_const, instruction, PlainAssignment, PlainStatement, assigned, condition, block_condition, PlainInfer, PlainCand, Ending, inferred, resulting, replaced, candidate, Item}
+use Rattle.souper_graph.specs.Values.{PlainAttribute, known_bits as known_bits_attribute, power_of_two, negative, non_negative, non_zero, has_external_uses, sign_bits, range, PlainRootAttribute, demanded_bits, harvested_from_use, PlainPhi, PlainRhs, var, block, phi, reserved_inst, reserved_const, instruction, PlainAssignment, PlainStatement, assigned, condition, block_condition, PlainInfer, PlainCand, Ending, inferred, resulting, replaced, candidate}
 use Rattle.souper_graph.specs.Instructions.{word_of, operands_of}
 use Rattle.souper_graph.specs.Leaves.{text_of_known_bit, text_of_bit}
 use Rattle.souper_graph.specs.Text.{name_at, text_of_statement, text_of_infer, text_of_cand, text_of_result}
-use Rattle.souper_graph.specs.Syntax.Tokens.{Lexeme, ident, val_name, known_bits, int, comma, colon, equals, open_paren, close_paren, open_bracket}
+use Rattle.souper_graph.specs.Syntax.Tokens.{ident, val_name, known_bits, int, comma, colon, equals, open_paren, close_paren, open_bracket}
 use Rattle.souper_graph.proofs.RoundTrip.Parts.{Part, word, one_space, newline}
 
 abbrev parts_of_type : Ty → List Part

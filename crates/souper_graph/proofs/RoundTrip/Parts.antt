@@ -1,10 +1,10 @@
 -- A printed text in parts: tokens, and the spaces and newlines between them. A sound list of parts is a text of its
 -- tokens.
-use Rattle.std.proofs.Common.{◌≡◌, ℕ, zero, suc, ◌+◌, Bool, true, false, ◌||◌, List, [], ◌∷◌, ◌++◌, length, refl, sym, ap, ◌∙◌, subst, arith, append_assoc, append-nil, length-append, map}
+use Rattle.std.proofs.Common.{◌≡◌, ℕ, ◌+◌, Bool, true, false, ◌||◌, List, [], ◌∷◌, ◌++◌, length, refl, sym, ap, ◌∙◌, subst, arith, append_assoc, append-nil, length-append}
 use Rattle.std.specs.Prelude.{flat_map}
 use Rattle.std.specs.List.{AllByRecursion}
 use Rattle.std.proofs.lemmas.Grind.{flat_map-append}
-use Rattle.souper_graph.specs.Syntax.Tokens.{Lexeme, ident, val_name, known_bits, int, comma, colon, equals, open_paren, close_paren, open_bracket, spelling, IsLexeme, continues, Stops, Piece, space, comment, piece_text, IsPiece, IsGap, IsLastGap, Stands, Begins, IsTextOf}
+use Rattle.souper_graph.specs.Syntax.Tokens.{Lexeme, ident, val_name, known_bits, int, comma, colon, equals, open_paren, close_paren, open_bracket, spelling, IsLexeme, continues, Stops, Piece, space, piece_text, IsPiece, IsGap, Begins, IsTextOf}
 use Rattle.souper_graph.specs.Syntax.Spelling.{kinds}
 use Rattle.souper_graph.proofs.RoundTrip.Gaps.{outside_ends}
 

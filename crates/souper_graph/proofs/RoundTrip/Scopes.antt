@@ -1,25 +1,17 @@
 -- Lemmas. In an item whose statements are all closed and named apart, each statement can be written in the scope of
 -- those before it.
-use Rattle.std.proofs.Common.{◌≡◌, ℕ, zero, suc, ◌+◌, ◌<◌, ◌≤◌, Bool, true, false, List, [], ◌∷◌, ◌++◌, length, Option, Some, None, refl, sym, ap, ◌∙◌, subst, arith, append_assoc, length-append}
+use Rattle.std.proofs.Common.{◌≡◌, ℕ, zero, suc, ◌+◌, ◌<◌, ◌≤◌, Bool, true, false, List, [], ◌∷◌, ◌++◌, length, Option, Some, None, refl, sym, ap, ◌∙◌, subst, arith, append_assoc}
 use Rattle.std.specs.Prelude.{bytes_eq, option_map, slice_get}
 use Rattle.std.proofs.lemmas.Option.{slice_get_within}
 use Rattle.std.proofs.lemmas.Slice.Eq.{bytes_eq-Decides}
-use Rattle.souper_graph.specs.declared.ast.operands.«Type».{«Type» as Ty}
-use Rattle.souper_graph.specs.declared.ast.operands.Constant.{Constant}
-use Rattle.souper_graph.specs.declared.ast.operands.Operand.{Operand}
-use Rattle.souper_graph.specs.declared.ast.operands.Operand.TheVariants.{Value, Constant as constant_variant}
-use Rattle.souper_graph.specs.declared.ast.instructions.Instruction.{Instruction}
-use Rattle.souper_graph.specs.declared.ast.statements.Block.{Block}
-use Rattle.souper_graph.specs.declared.ast.statements.Pc.{Pc}
-use Rattle.souper_graph.specs.declared.ast.statements.BlockPc.{BlockPc}
-use Rattle.souper_graph.specs.Values.{PlainAttribute, known_bits as known_bits_attribute, power_of_two, negative, non_negative, non_zero, has_external_uses, sign_bits, range, PlainRootAttribute, demanded_bits, harvested_from_use, PlainPhi, PlainRhs, var, block, phi, reserved_inst, reserved_const, instruction, PlainAssignment, PlainStatement, assigned, condition, block_condition, PlainInfer, PlainCand, Ending, inferred, resulting, replaced, candidate, Item}
+use Rattle.souper_graph.specs.Values.{PlainRhs, var, block, phi, reserved_inst, reserved_const, instruction, PlainAssignment, PlainStatement, assigned, condition, block_condition, Item}
 use Rattle.souper_graph.specs.Names.{IsName}
-use Rattle.souper_graph.specs.Uses.{Has, Use, value_use, block_use, position_of as use_position}
+use Rattle.souper_graph.specs.Uses.{Use, value_use, block_use, position_of as use_position}
 use Rattle.souper_graph.specs.Text.{name_of, name_at}
 use Rattle.souper_graph.specs.Faults.{IsAssigned, IsBlockRhs, IsBlock, IsMet}
 use Rattle.souper_graph.specs.WellFormed.{predecessors_of_rhs, predecessors_of, predecessors_at, EachClosed}
 use Rattle.souper_graph.specs.Syntax.Spelling.{Scope, predecessors_if_block, entry_from, entry_of, position_of}
-use Rattle.souper_graph.proofs.RoundTrip.Ready.{Known, IsFresh, ReadyStatement, AreReady}
+use Rattle.souper_graph.proofs.RoundTrip.Ready.{Known, IsFresh, AreReady}
 
 -- ---- look-up by name
 

@@ -1,20 +1,18 @@
 -- Lemmas. The bytes of a node are those of its parts.
-use Rattle.std.proofs.Common.{◌≡◌, ℕ, List, [], ◌∷◌, ◌++◌, take, drop, Option, Some, None, refl, sym, ap, ◌∙◌, append_assoc, append-nil}
-use Rattle.std.specs.Prelude.{flat_map, codes}
+use Rattle.std.proofs.Common.{◌≡◌, ℕ, List, [], ◌∷◌, ◌++◌, take, drop, Option, Some, None, refl, ap, ◌∙◌, append-nil}
+use Rattle.std.specs.Prelude.{codes}
 use Rattle.souper_graph.specs.declared.ast.operands.«Type».{«Type» as Ty}
 use Rattle.souper_graph.specs.declared.ast.operands.Constant.{Constant}
 use Rattle.souper_graph.specs.declared.ast.operands.Operand.{Operand}
 use Rattle.souper_graph.specs.declared.ast.operands.Operand.TheVariants.{Value, Constant as constant_variant}
-use Rattle.souper_graph.specs.declared.ast.instructions.Instruction.{Instruction}
 use Rattle.souper_graph.specs.declared.ast.statements.Block.{Block}
 use Rattle.souper_graph.specs.declared.ast.statements.Pc.{Pc}
 use Rattle.souper_graph.specs.declared.ast.statements.BlockPc.{BlockPc}
-use Rattle.souper_graph.specs.Values.{PlainAttribute, known_bits as known_bits_attribute, power_of_two, negative, non_negative, non_zero, has_external_uses, sign_bits, range, PlainRootAttribute, demanded_bits, harvested_from_use, PlainPhi, PlainRhs, var, block, phi, reserved_inst, reserved_const, instruction, PlainAssignment, PlainStatement, assigned, condition, block_condition, PlainInfer, PlainCand, Ending, inferred, resulting, replaced, candidate, Item}
-use Rattle.souper_graph.specs.Instructions.{operands_of}
+use Rattle.souper_graph.specs.Values.{PlainAttribute, known_bits as known_bits_attribute, power_of_two, negative, non_negative, non_zero, has_external_uses, sign_bits, range, PlainRootAttribute, demanded_bits, harvested_from_use, PlainRhs, var, block, phi, reserved_inst, reserved_const, instruction, PlainAssignment, PlainStatement, assigned, condition, block_condition, PlainInfer, PlainCand, Ending, inferred, resulting, replaced, candidate}
 use Rattle.souper_graph.specs.Leaves.{text_of_optional_type, text_of_constant, text_of_block, text_of_attribute, text_of_root_attribute, text_of_attributes, text_of_root_attributes}
-use Rattle.souper_graph.specs.Text.{text_of_operand, text_of_further, text_of_operands, text_of_phi, text_of_instruction, text_of_rhs, text_of_assignment, text_of_pc, text_of_block_pc, text_of_statement, text_of_infer, text_of_cand, text_of_result}
-use Rattle.souper_graph.proofs.RoundTrip.Parts.{Part, newline, printed, printed_append, printed_each}
-use Rattle.souper_graph.proofs.RoundTrip.Nodes.{parts_of_optional_type, parts_of_constant, parts_of_block, parts_of_attribute, parts_of_root_attribute, attribute_parts, parts_of_attributes, root_attribute_parts, parts_of_root_attributes, parts_of_operand, further_parts, parts_of_further, parts_of_operands, parts_of_phi, parts_of_instruction, parts_of_rhs, parts_of_assignment, parts_of_pair, parts_of_pc, parts_of_block_pc, parts_of_statement, line_parts, parts_of_lines, parts_of_infer, parts_of_cand, parts_of_result, listed_parts, text_of_lines, listed_text}
+use Rattle.souper_graph.specs.Text.{text_of_operand, text_of_further, text_of_operands, text_of_rhs, text_of_assignment, text_of_pc, text_of_block_pc, text_of_statement, text_of_infer, text_of_cand, text_of_result}
+use Rattle.souper_graph.proofs.RoundTrip.Parts.{newline, printed, printed_append, printed_each}
+use Rattle.souper_graph.proofs.RoundTrip.Nodes.{parts_of_optional_type, parts_of_constant, parts_of_block, parts_of_attribute, parts_of_root_attribute, attribute_parts, parts_of_attributes, root_attribute_parts, parts_of_root_attributes, parts_of_operand, further_parts, parts_of_further, parts_of_operands, parts_of_rhs, parts_of_assignment, parts_of_pc, parts_of_block_pc, line_parts, parts_of_lines, parts_of_infer, parts_of_cand, parts_of_result, listed_parts, text_of_lines, listed_text}
 
 optional_type_text : (t : Option Ty) → printed (parts_of_optional_type t) ≡ text_of_optional_type t
 optional_type_text None = refl

@@ -18,9 +18,17 @@ use Rattle.souper_graph.proofs.Sameness.PrintedOrder.{printed-needed, needed-pri
 
 -- what a map of the same graph says of the statements at two positions
 
-contents-at : (a b : Item) → WellFormed a → (s : SameGraph a b) → (i : ℕ) → NeededIn a i →
+-- each needed position has a statement, which uses lower positions alone
+pub record Ordered (a : Item) : Type 0 where
+  pub below : UsesBelow a
+  pub there : (i : ℕ) → NeededIn a i → slice_get a.statements i ≡ Some (statement_at a.statements i)
+
+pub ordered : (a : Item) → WellFormed a → Ordered a
+ordered a wa = record { below = well_formed_below a wa; there = well_formed_stands a wa }
+
+pub contents-at : (a b : Item) → Ordered a → (s : SameGraph a b) → (i : ℕ) → NeededIn a i →
     statement_at b.statements (s.to i) ≡ carried s.to (statement_at a.statements i)
-contents-at a b wa s i d = ap stood (s.contents i (statement_at a.statements i) d (well_formed_stands a wa i d))
+contents-at a b oa s i d = ap stood (s.contents i (statement_at a.statements i) d (oa.there i d))
 
 pub condition-at : (a b : Item) (f : ℕ → ℕ) (i j : ℕ) → statement_at b.statements j ≡ carried f (statement_at a.statements i) →
     condition_at b j ≡ condition_at a i
@@ -40,22 +48,22 @@ stood-needed a i d u h = use-needed a i u d (subst (λ (z : List Use). Has z u) 
 
 -- same graph, so the same printed order
 
-pub unfold-carried : (a b : Item) → WellFormed a → WellFormed b → (s : SameGraph a b) → (n m i : ℕ) → i < n → s.to i < m → NeededIn a i →
+pub unfold-carried : (a b : Item) → Ordered a → Ordered b → (s : SameGraph a b) → (n m i : ℕ) → i < n → s.to i < m → NeededIn a i →
     unfold_to b.statements m (s.to i) ≡ map s.to (unfold_to a.statements n i)
-unfold-carried a b wa wb s zero m i h k d = absurd (omega arith)
-unfold-carried a b wa wb s (suc n) zero i h k d = absurd (omega arith)
-unfold-carried a b wa wb s (suc n) (suc m) i h k d =
-    let ue : used_at b.statements (s.to i) ≡ map s.to (used_at a.statements i) = used-carried a b s.to i (s.to i) (contents-at a b wa s i d) in
-    let ua : lower a.statements i ≡ used_at a.statements i = below-all i (used_at a.statements i) (λ u q. well_formed_below a wa i u d q) in
+unfold-carried a b oa ob s zero m i h k d = absurd (omega arith)
+unfold-carried a b oa ob s (suc n) zero i h k d = absurd (omega arith)
+unfold-carried a b oa ob s (suc n) (suc m) i h k d =
+    let ue : used_at b.statements (s.to i) ≡ map s.to (used_at a.statements i) = used-carried a b s.to i (s.to i) (contents-at a b oa s i d) in
+    let ua : lower a.statements i ≡ used_at a.statements i = below-all i (used_at a.statements i) (λ u q. oa.below i u d q) in
     let ub : lower b.statements (s.to i) ≡ map s.to (used_at a.statements i) =
-    below-all (s.to i) (used_at b.statements (s.to i)) (λ u q. well_formed_below b wb (s.to i) u (s.needed i d) q) ∙ ue in
+    below-all (s.to i) (used_at b.statements (s.to i)) (λ u q. ob.below (s.to i) u (s.needed i d) q) ∙ ue in
     let inner : flat_map (unfold_to b.statements m) (map s.to (used_at a.statements i)) ≡ map s.to (flat_map (unfold_to a.statements n) (used_at a.statements i)) =
     flat-map s.to (unfold_to a.statements n) (unfold_to b.statements m) (used_at a.statements i) (λ u q.
-    let la = well_formed_below a wa i u d q in
+    let la = oa.below i u d q in
     let inb : Has (used_at b.statements (s.to i)) (s.to u) =
     subst (λ (z : List ℕ). Has z (s.to u)) (sym ue) (Has-map s.to (used_at a.statements i) u q) in
-    let lb = well_formed_below b wb (s.to i) (s.to u) (s.needed i d) inb in
-    unfold-carried a b wa wb s n m u (omega arith) (omega arith) (used d q)) in
+    let lb = ob.below (s.to i) (s.to u) (s.needed i d) inb in
+    unfold-carried a b oa ob s n m u (omega arith) (omega arith) (used d q)) in
     ap (λ z. flat_map (unfold_to b.statements m) z ++ s.to i ∷ []) ub
     ∙ ap (λ z. z ++ s.to i ∷ []) inner
     ∙ sym (map-append s.to (flat_map (unfold_to a.statements n) (used_at a.statements i)) (i ∷ []))
@@ -86,19 +94,19 @@ map-increasing f (x ∷ xs) a b i j p q l = elim (Has-head x j xs q) [
 ]
 
 -- the path conditions are carried, in order, to the path conditions
-pub conditions-carried : (a b : Item) → WellFormed a → (s : SameGraph a b) → conditions b ≡ map s.to (conditions a)
-conditions-carried a b wa s =
+pub conditions-carried : (a b : Item) → Ordered a → (s : SameGraph a b) → conditions b ≡ map s.to (conditions a)
+conditions-carried a b oa s =
     same-increasing (conditions b) (map s.to (conditions a)) (from-increasing 0 b.statements)
     (increasing-map s.to (conditions a) (from-increasing 0 a.statements) s.condition_order)
     (λ j h.
     let r = s.onto j (walked (in-conditions b j h)) in
     let e : condition_at a r.0 ≡ true =
-    sym (condition-at a b s.to r.0 (s.to r.0) (contents-at a b wa s r.0 r.1)) ∙ ap (λ z. condition_at b z) r.2 ∙ condition-holds b j h in
+    sym (condition-at a b s.to r.0 (s.to r.0) (contents-at a b oa s r.0 r.1)) ∙ ap (λ z. condition_at b z) r.2 ∙ condition-holds b j h in
     subst (λ (z : ℕ). Has (map s.to (conditions a)) z) r.2 (Has-map s.to (conditions a) r.0 (is-condition a r.0 e)))
     (λ j h.
     let r = Has-mapped s.to (conditions a) j h in
     let e : condition_at b j ≡ true =
-    ap (λ z. condition_at b z) (sym r.2) ∙ condition-at a b s.to r.0 (s.to r.0) (contents-at a b wa s r.0 (walked (in-conditions a r.0 r.1)))
+    ap (λ z. condition_at b z) (sym r.2) ∙ condition-at a b s.to r.0 (s.to r.0) (contents-at a b oa s r.0 (walked (in-conditions a r.0 r.1)))
     ∙ condition-holds a r.0 r.1 in
     is-condition b j e)
 
@@ -116,12 +124,12 @@ walks-carried a b f e c =
     (ap (λ (d : Ending). map position_of (last_roots d)) e ∙ ap (λ (z : List Use). map position_of z) (last-carried f a.ending)
     ∙ positions-carried f (last_roots a.ending))
 
-order-carried : (a b : Item) → WellFormed a → WellFormed b → (s : SameGraph a b) → printed_order b ≡ map s.to (printed_order a)
-order-carried a b wa wb s =
-    let w : walks_of b ≡ map s.to (walks_of a) = walks-carried a b s.to s.ending (conditions-carried a b wa s) in
+pub order-carried : (a b : Item) → Ordered a → Ordered b → (s : SameGraph a b) → printed_order b ≡ map s.to (printed_order a)
+order-carried a b oa ob s =
+    let w : walks_of b ≡ map s.to (walks_of a) = walks-carried a b s.to s.ending (conditions-carried a b oa s) in
     let inner : flat_map (unfolding_of b.statements) (map s.to (walks_of a)) ≡ map s.to (flat_map (unfolding_of a.statements) (walks_of a)) =
     flat-map s.to (unfolding_of a.statements) (unfolding_of b.statements) (walks_of a) (λ u q.
-    unfold-carried a b wa wb s (suc u) (suc (s.to u)) u (omega arith) (omega arith) (walked q)) in
+    unfold-carried a b oa ob s (suc u) (suc (s.to u)) u (omega arith) (omega arith) (walked q)) in
     printed-is b.statements (walks_of b)
     ∙ ap (λ z. with_new [] (flat_map (unfolding_of b.statements) z)) w
     ∙ ap (λ z. with_new [] z) inner
@@ -166,14 +174,14 @@ unfolding item_of
 numbered-same a b wa wb s =
     let P = printed_order a in
     let Q = printed_order b in
-    let e : Q ≡ map s.to P = order-carried a b wa wb s in
+    let e : Q ≡ map s.to P = order-carried a b (ordered a wa) (ordered b wb) s in
     let at : (i : ℕ) → NeededIn a i → place Q (s.to i) ≡ place P i = λ i d.
     ap (λ z. place z (s.to i)) e ∙ place-map s.to P i (λ j h q. s.one_to_one j i (needs a j h) d q) in
     let one : (i : ℕ) → Has P i → numbered a i ≡ numbered b (s.to i) = λ i h.
     let d = needs a i h in
     carried-same (place P) (λ u. place Q (s.to u)) (statement_at a.statements i) (λ u q. sym (at (position_of u) (stood-needed a i d u q)))
     ∙ sym (carried-twice s.to (place Q) (statement_at a.statements i))
-    ∙ ap (λ (z : PlainStatement). carried (place Q) z) (sym (contents-at a b wa s i d)) in
+    ∙ ap (λ (z : PlainStatement). carried (place Q) z) (sym (contents-at a b (ordered a wa) s i d)) in
     let st : map (numbered a) P ≡ map (numbered b) Q =
     map-same (numbered a) (λ i. numbered b (s.to i)) P one ∙ sym (map-map s.to (numbered b) P) ∙ ap (λ z. map (numbered b) z) (sym e) in
     let en : carried_ending (place P) a.ending ≡ carried_ending (place Q) b.ending =
@@ -343,7 +351,7 @@ numbered-onto a wa {j = j} (used {i = v} n h) =
     let o = numbered-onto a wa n in
     let r = used-back a wa o.0 v j o.1 o.2 h in (r.0, used o.1 r.1, r.2)
 
-place-one : (a : Item) → WellFormed a → (i j : ℕ) → NeededIn a i → NeededIn a j → place (printed_order a) i ≡ place (printed_order a) j → i ≡ j
+pub place-one : (a : Item) → WellFormed a → (i j : ℕ) → NeededIn a i → NeededIn a j → place (printed_order a) i ≡ place (printed_order a) j → i ≡ j
 place-one a wa i j di dj q =
     sym (at-place (printed_order a) i 0 (inside a wa i di)) ∙ ap (λ z. get_or (printed_order a) z 0) q ∙ at-place (printed_order a) j 0 (inside a wa j dj)
 

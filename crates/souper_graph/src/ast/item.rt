@@ -8,6 +8,7 @@ ghost use Rattle.souper_graph.specs.Uses.{root_operands};
 ghost use Rattle.souper_graph.specs.Faults.{HasBadId, IsFaultOf};
 ghost use Rattle.souper_graph.specs.PrintOrder.{IsPrintOrder};
 ghost use Rattle.souper_graph.specs.ItemText.{IsItemText, AppendsItemText};
+ghost use Rattle.souper_graph.specs.Renaming.{IsRenamed};
 ghost use Rattle.souper_graph.specs.WellFormed.{WellFormed};
 ghost use Rattle.souper_graph.specs.Endings.{replacement_ending};
 ghost use Rattle.souper_graph.specs.Syntax.Spelling.{ItemType, left_hand_side, right_hand_side, replacement, IsEndingOf};
@@ -53,6 +54,11 @@ pub trait Item {
         ensures refused { IfErr result (λ error. IsFaultOf (view self.now) error) }
         ensures printed { IfOk result (λ text. IsItemText item_type (view self.now) (string_bytes text)) };
 
+    /// A copy that is named by its printed order, as [`LeftHandSide::renamed`] returns it.
+    fn renamed(&self) -> Result<Self, TextError>
+        ensures refused { IfErr result (λ error. IsFaultOf (view self.now) error) }
+        ensures named { IfOk result (λ copy. IsRenamed (view self.now) (view copy)) };
+
     /// Whether the item is well formed, by the conditions of [`Replacement::is_well_formed`].
     fn is_well_formed(&self) -> Result<bool, AllocError>
         ensures { IfOk result (λ answer. IsTrue answer ↔ WellFormed (view self.now)) };
@@ -90,6 +96,10 @@ impl Item for LeftHandSide {
         LeftHandSide::to_text(self)
     }
 
+    fn renamed(&self) -> Result<Self, TextError> {
+        LeftHandSide::renamed(self)
+    }
+
     fn is_well_formed(&self) -> Result<bool, AllocError> {
         LeftHandSide::is_well_formed(self)
     }
@@ -122,6 +132,10 @@ impl Item for RightHandSide {
 
     fn to_text(&self) -> Result<String, TextError> {
         RightHandSide::to_text(self)
+    }
+
+    fn renamed(&self) -> Result<Self, TextError> {
+        RightHandSide::renamed(self)
     }
 
     fn is_well_formed(&self) -> Result<bool, AllocError> {
@@ -168,6 +182,10 @@ impl Item for Replacement {
 
     fn to_text(&self) -> Result<String, TextError> {
         Replacement::to_text(self)
+    }
+
+    fn renamed(&self) -> Result<Self, TextError> {
+        Replacement::renamed(self)
     }
 
     fn is_well_formed(&self) -> Result<bool, AllocError> {

@@ -2,14 +2,17 @@
 use Rattle.std.proofs.Common.{◌≡◌, ℕ, List, [], ◌∷◌, ◌++◌, map, sym, ap, subst}
 use Rattle.std.specs.List.{AllByRecursion}
 use Rattle.souper_graph.specs.Values.{PlainStatement, Ending, inferred, resulting, replaced, candidate, Item}
-use Rattle.souper_graph.specs.WellFormed.{EachClosed}
+use Rattle.souper_graph.specs.WellFormed.{WellFormed, EachClosed}
 use Rattle.souper_graph.specs.Text.{text_of, texts_of}
 use Rattle.souper_graph.specs.Sameness.{renumbered, SameGraph}
+use Rattle.souper_graph.specs.Renaming.{SameUpToNames, renamed, IsRenamed}
 use Rattle.souper_graph.specs.CanonicalText.{IsWellFormedOf, AreWellFormed, AllNeeded}
 use Rattle.souper_graph.specs.Syntax.Tokens.{Lexeme}
 use Rattle.souper_graph.specs.Syntax.Spelling.{kinds, Scope, ItemType, left_hand_side, right_hand_side, replacement, IsEndingOf, tail_spells, item_spells, list_spells, TextSpells}
 use Rattle.souper_graph.proofs.RoundTrip.ReadBack.{renumbered-closed, renumbered-needed, texts-read-back, same-graph-text}
-use Rattle.souper_graph.proofs.Sameness.Renumbered.{same-renumbered}
+use Rattle.souper_graph.proofs.Judging.Needed.{well_formed_below}
+use Rattle.souper_graph.proofs.Sameness.Renumbered.{same-renumbered, ordered}
+use Rattle.souper_graph.proofs.Sameness.Renaming.{graph-renamed, renamed-graph}
 use Rattle.souper_ir.proofs.Items.Lists.{text_alone}
 use Rattle.souper_ir.proofs.Items.WellFormed.{closed_well, text_closed}
 
@@ -61,6 +64,18 @@ same_text_graph k a b wa wb e =
 
 pub one_text : (k : ItemType) (a b : Item) → IsWellFormedOf k a → IsWellFormedOf k b → (text_of a ≡ text_of b → SameGraph a b) × (SameGraph a b → text_of a ≡ text_of b)
 one_text k a b wa wb = (same_text_graph k a b wa wb, same-graph-text a b wa.0 wb.0)
+
+-- equal texts of renamed items are texts of the same graph up to names
+pub one_text_up_to_names : (k : ItemType) (a b x y : Item) → IsWellFormedOf k a → IsWellFormedOf k b → IsRenamed a x → IsRenamed b y → (text_of x ≡ text_of y → SameUpToNames a b) × (SameUpToNames a b → text_of x ≡ text_of y)
+one_text_up_to_names k a b x y wa wb rx ry =
+    let x-is : x ≡ renamed a = rx.by_printed_order (well_formed_below a wa.0) in
+    let y-is : y ≡ renamed b = ry.by_printed_order (well_formed_below b wb.0) in
+    let wx : IsWellFormedOf k (renamed a) = (subst (λ (z : Item). WellFormed z) x-is (rx.well_formed wa.0), wa.1) in
+    let wy : IsWellFormedOf k (renamed b) = (subst (λ (z : Item). WellFormed z) y-is (ry.well_formed wb.0), wb.1) in
+    let texts = one_text k (renamed a) (renamed b) wx wy in (
+      (λ e. graph-renamed a b (ordered a wa.0) (ordered b wb.0) (texts.0 (sym (ap text_of x-is) ∙ e ∙ ap text_of y-is))),
+      (λ s. ap text_of x-is ∙ texts.1 (renamed-graph a b (ordered a wa.0) (ordered b wb.0) s) ∙ sym (ap text_of y-is)),
+    )
 
 -- what a canonical text spells has closed and needed statements alone
 each_defined : (k : ItemType) (items : List Item) → AreWellFormed k items → AllByRecursion (λ (b : Item). EachClosed b × AllNeeded b) (map renumbered items)
