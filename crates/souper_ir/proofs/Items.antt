@@ -4,3 +4,4 @@ pub mod Steps
 pub mod Lists
 pub mod Texts
 pub mod OneText
+pub mod Joining

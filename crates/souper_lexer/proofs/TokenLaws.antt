@@ -91,7 +91,7 @@ tokens_law bs utf8 =
       faulty = when_faulty r.rest (lexed_of 0 bs).fault r.outcome;
     }
 
-begins_length : (ts : List (ℕ × Lexeme)) (n : ℕ) (bs rest : List ℕ) → Begins n bs ts rest → length rest ≤ length bs
+pub begins_length : (ts : List (ℕ × Lexeme)) (n : ℕ) (bs rest : List ℕ) → Begins n bs ts rest → length rest ≤ length bs
 begins_length [] n bs rest h = omega (arith, ap length h)
 begins_length (t ∷ ts) n bs rest h =
     let s = h.stands in

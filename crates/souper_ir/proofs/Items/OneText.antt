@@ -1,5 +1,5 @@
 -- Lemmas. A canonical text spells the renumbered items and no others, so it is one text for each graph.
-use Rattle.std.proofs.Common.{◌≡◌, ℕ, List, [], ◌∷◌, ◌++◌, map, sym, ap, subst}
+use Rattle.std.proofs.Common.{◌≡◌, ℕ, List, [], ◌∷◌, ◌++◌, map, sym, ap, ◌∙◌, subst}
 use Rattle.std.specs.List.{AllByRecursion}
 use Rattle.souper_graph.specs.Values.{PlainStatement, Ending, inferred, resulting, replaced, candidate, Item}
 use Rattle.souper_graph.specs.WellFormed.{WellFormed, EachClosed}

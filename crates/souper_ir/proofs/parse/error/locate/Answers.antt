@@ -1,4 +1,4 @@
-use Rattle.std.proofs.Common.{◌≡◌, ℕ, List, Option, Some, option_map, string_bytes, inr, refl, ap, subst}
+use Rattle.std.proofs.Common.{ℕ, List, Option, Some, string_bytes, inr, refl, ap, subst}
 use Rattle.souper_ir.specs.declared.parse.error.Refusal.{Refusal}
 use Rattle.souper_ir.specs.Places.{IsPlace, shown_refusal, file_or_unknown}
 use Rattle.souper_ir.proofs.parse.error.locate.Goals as goal

@@ -1,0 +1,238 @@
+-- Lines and a text after them: together they have the tokens, and the items, of both.
+use Rattle.std.proofs.Common.{◌≡◌, ℕ, ◌+◌, ◌-◌, ◌<◌, ◌≤◌, Bool, true, false, ◌⊎◌, inl, inr, List, [], ◌∷◌, ◌++◌, length, refl, sym, ap, ◌∙◌, subst, arith, append_assoc, append-nil, length-append, drop}
+use Rattle.std.specs.Prelude.{◌==◌, codes}
+use Rattle.std.specs.List.{AllByRecursion}
+use Rattle.std.specs.Char.{is_ascii_alphabetic, is_ascii_digit}
+use Rattle.std.proofs.lemmas.Bool.Decides.{nat_tests}
+use Rattle.std.proofs.lemmas.Grind.{flat_map-append}
+use Rattle.souper_graph.specs.Names.{is_name_char}
+use Rattle.souper_graph.specs.Values.{Item}
+use Rattle.souper_graph.specs.Syntax.Tokens.{Lexeme, ident, val_name, known_bits, int, comma, colon, equals, open_paren, close_paren, open_bracket, spelling, known_bits_word, is_bit, begins_int, AllAre, IsLexeme, continues, Stops, Piece, piece_text, IsPiece, IsGap, IsOneLine, IsLastComment, IsLastGap, Begins, IsTextOf}
+use Rattle.souper_graph.specs.Syntax.Spelling.{kinds, ItemType, list_spells}
+use Rattle.souper_lexer.proofs.TokenFront.{spelled_some}
+use Rattle.souper_lexer.proofs.TokenLaws.{begins_length, begins_append}
+use Rattle.souper_ir.specs.Joining.{IsLines, moved, TokensJoin, ItemsJoin}
+use Rattle.souper_ir.specs.Laws.Steps.{kinds-append}
+
+-- ---- no token has a newline
+
+one_line_from : (p : ℕ → Bool) (s : List ℕ) → ((c : ℕ) → p c ≡ true → (c == 10) ≡ false) → AllAre p s → IsOneLine s
+one_line_from p [] f h = tt
+one_line_from p (c ∷ s) f h = (f c h.0, one_line_from p s f h.1)
+
+name_char_line : (c : ℕ) → is_name_char c ≡ true → (c == 10) ≡ false
+name_char_line c h = grind (arith, nat_tests)
+
+letter_line : (c : ℕ) → is_ascii_alphabetic c ≡ true → (c == 10) ≡ false
+letter_line c h = grind (arith, nat_tests)
+
+digit_line : (c : ℕ) → is_ascii_digit c ≡ true → (c == 10) ≡ false
+digit_line c h = grind (arith, nat_tests)
+
+int_line : (c : ℕ) → begins_int c ≡ true → (c == 10) ≡ false
+int_line c h = grind (arith, nat_tests)
+
+bit_line : (c : ℕ) → is_bit c ≡ true → (c == 10) ≡ false
+bit_line c h = grind (arith, nat_tests)
+
+sign_line : (c : ℕ) → c ≡ 37 → (c == 10) ≡ false
+sign_line c h = ap (λ (z : ℕ). z == 10) h
+
+one_line_append : (a b : List ℕ) → IsOneLine a → IsOneLine b → IsOneLine (a ++ b)
+one_line_append [] b p q = q
+one_line_append (c ∷ a) b p q = (p.0, one_line_append a b p.1 q)
+
+token_line : (t : Lexeme) → IsLexeme t → IsOneLine (spelling t)
+token_line (ident []) h = absurd h
+token_line (ident (c ∷ s)) h = (letter_line c h.0, one_line_from is_name_char s name_char_line h.1)
+token_line (val_name []) h = absurd h
+token_line (val_name (c ∷ s)) h = (sign_line c h.0, one_line_from is_name_char s name_char_line h.2)
+token_line (known_bits s) h = one_line_append known_bits_word (codes "=" ++ s) (refl, (refl, (refl, (refl, (refl, (refl, (refl, (refl, (refl, tt))))))))) (refl, one_line_from is_bit s bit_line h.1)
+token_line (int []) h = absurd h
+token_line (int (c ∷ s)) h = (int_line c h.0, one_line_from is_ascii_digit s digit_line h.1)
+token_line comma h = (refl, tt)
+token_line colon h = (refl, tt)
+token_line equals h = (refl, tt)
+token_line open_paren h = (refl, tt)
+token_line close_paren h = (refl, tt)
+token_line open_bracket h = (refl, tt)
+
+-- ---- the end of lines
+
+newline_last : (front : List ℕ) → IsOneLine (front ++ 10 ∷ []) → ⊥
+newline_last [] h = let e : true ≡ false = h.0 in absurd cc
+newline_last (c ∷ front) h = newline_last front h.1
+
+-- no lines end in a part that is not empty and has no newline
+no_newline_ends : (pre s front : List ℕ) → 0 < length s → IsOneLine s → pre ++ s ≡ front ++ 10 ∷ [] → ⊥
+no_newline_ends [] s front some h e = newline_last front (subst (λ (l : List ℕ). IsOneLine l) e h)
+no_newline_ends (p ∷ pre) s [] some h e = (let l = ap length e in let m = length-append pre s in absurd (omega arith))
+no_newline_ends (p ∷ pre) s (c ∷ front) some h e = no_newline_ends pre s front some h (ap (λ (l : List ℕ). drop 1 l) e)
+
+no_lines_end : (a pre s : List ℕ) → IsLines a → 0 < length s → IsOneLine s → a ≡ pre ++ s → ⊥
+no_lines_end a pre s (inl e) some h at = (let l = ap length (sym at ∙ e) in let m = length-append pre s in absurd (omega arith))
+no_lines_end a pre s (inr end) some h at = no_newline_ends pre s end.0 some h (sym at ∙ end.1)
+
+-- ---- what a text begins with
+
+parts : (ts : List (ℕ × Lexeme)) (n : ℕ) (bs rest : List ℕ) → Begins n bs ts rest → (pre : List ℕ) × (bs ≡ pre ++ rest)
+parts [] n bs rest h = ([], h)
+parts (t ∷ ts) n bs rest h =
+    let r = parts ts (t.0 + length (spelling t.1)) h.after rest h.more in (
+      h.gap ++ (spelling t.1 ++ r.0),
+      h.stands.text ∙ ap (λ (l : List ℕ). h.gap ++ (spelling t.1 ++ l)) r.1
+          ∙ ap (λ (l : List ℕ). h.gap ++ l) (sym (append_assoc (spelling t.1) r.0 rest)) ∙ sym (append_assoc h.gap (spelling t.1 ++ r.0) rest),
+    )
+
+-- if nothing is left, the text is empty, or ends in a token
+record TokenLast (bs : List ℕ) : Type 0 where
+  pub pre : List ℕ
+  pub token : Lexeme
+  pub is_token : IsLexeme token
+  pub whole : bs ≡ pre ++ spelling token
+
+nothing_left : (t : ℕ × Lexeme) (ts : List (ℕ × Lexeme)) (n : ℕ) (bs : List ℕ) → Begins n bs (t ∷ ts) [] → TokenLast bs
+nothing_left t [] n bs h = record {
+  pre = h.gap;
+  token = t.1;
+  is_token = h.stands.is_token;
+  whole = h.stands.text ∙ ap (λ (l : List ℕ). h.gap ++ (spelling t.1 ++ l)) h.more ∙ ap (λ (l : List ℕ). h.gap ++ l) (append-nil (spelling t.1));
+}
+nothing_left t (u ∷ ts) n bs h =
+    let r = nothing_left u ts (t.0 + length (spelling t.1)) h.after h.more in
+    record {
+      pre = h.gap ++ (spelling t.1 ++ r.pre);
+      token = r.token;
+      is_token = r.is_token;
+      whole = h.stands.text ∙ ap (λ (l : List ℕ). h.gap ++ (spelling t.1 ++ l)) r.whole
+          ∙ ap (λ (l : List ℕ). h.gap ++ l) (sym (append_assoc (spelling t.1) r.pre (spelling r.token))) ∙ sym (append_assoc h.gap (spelling t.1 ++ r.pre) (spelling r.token));
+    }
+
+-- of lines something is left after their tokens
+left_of_lines : (ts : List (ℕ × Lexeme)) (a rest : List ℕ) → IsLines a → Begins 0 a ts rest → (ts ≡ []) ⊎ (0 < length rest)
+left_of_lines [] a rest l h = inl refl
+left_of_lines (t ∷ ts) a [] l h =
+    let r = nothing_left t ts 0 a h in
+    absurd (no_lines_end a r.pre (spelling r.token) l (spelled_some r.token r.is_token) (token_line r.token r.is_token) r.whole)
+left_of_lines (t ∷ ts) a (c ∷ rest) l h = inr (omega arith)
+
+-- and it is a gap
+gap_of_lines : (ts : List (ℕ × Lexeme)) (a rest : List ℕ) → IsLines a → Begins 0 a ts rest → IsLastGap rest → IsGap rest
+gap_of_lines ts a rest l h g = under g.last g.is_last g.text
+  where
+    under : (last : List ℕ) → IsLastComment last → rest ≡ g.gap ++ last → IsGap rest
+    under [] c e = subst (λ (x : List ℕ). IsGap x) (sym (e ∙ append-nil g.gap)) g.is_gap
+    under (b ∷ s) c e =
+        let p = parts ts 0 a rest h in
+        let at : a ≡ (p.0 ++ g.gap) ++ (b ∷ s) = p.1 ∙ ap (λ (x : List ℕ). p.0 ++ x) e ∙ sym (append_assoc p.0 g.gap (b ∷ s)) in
+        absurd (no_lines_end a (p.0 ++ g.gap) (b ∷ s) l (omega arith) (ap (λ (z : ℕ). z == 10) c.0, c.1) at)
+
+-- ---- more after a text
+
+stops_more : (p : ℕ → Bool) (xs more : List ℕ) → 0 < length xs → Stops p xs → Stops p (xs ++ more)
+stops_more p [] more some h = absurd (omega arith)
+stops_more p (c ∷ xs) more some h = h
+
+pub begins_more : (ts : List (ℕ × Lexeme)) (n : ℕ) (bs rest more : List ℕ) → (ts ≡ []) ⊎ (0 < length rest) → Begins n bs ts rest → Begins n (bs ++ more) ts (rest ++ more)
+begins_more [] n bs rest more some h = ap (λ (l : List ℕ). l ++ more) h
+begins_more (t ∷ ts) n bs rest more (inl e) h = absurd cc
+begins_more (t ∷ ts) n bs rest more (inr some) h =
+    let long : length rest ≤ length h.after = begins_length ts (t.0 + length (spelling t.1)) h.after rest h.more in
+    record {
+      gap = h.gap;
+      after = h.after ++ more;
+      stands = record {
+        is_gap = h.stands.is_gap;
+        is_token = h.stands.is_token;
+        is_over = stops_more (continues t.1) h.after more (omega arith) h.stands.is_over;
+        text = ap (λ (l : List ℕ). l ++ more) h.stands.text ∙ append_assoc h.gap (spelling t.1 ++ h.after) more
+            ∙ ap (λ (l : List ℕ). h.gap ++ l) (append_assoc (spelling t.1) h.after more);
+      };
+      offset_is = h.offset_is;
+      more = begins_more ts (t.0 + length (spelling t.1)) h.after rest more (inr some) h.more;
+    }
+
+pub begins_moved : (d : ℕ) (ts : List (ℕ × Lexeme)) (n : ℕ) (bs rest : List ℕ) → Begins n bs ts rest → Begins (d + n) bs (moved d ts) rest
+begins_moved d [] n bs rest h = h
+begins_moved d (t ∷ ts) n bs rest h =
+    let at = h.offset_is in
+    record {
+      gap = h.gap;
+      after = h.after;
+      stands = h.stands;
+      offset_is = omega arith;
+      more = subst (λ (m : ℕ). Begins m h.after (moved d ts) rest) (let e : d + (t.0 + length (spelling t.1)) ≡ d + t.0 + length (spelling t.1) = omega arith in e)
+          (begins_moved d ts (t.0 + length (spelling t.1)) h.after rest h.more);
+    }
+
+each_append : (ps qs : List Piece) → AllByRecursion IsPiece ps → AllByRecursion IsPiece qs → AllByRecursion IsPiece (ps ++ qs)
+each_append [] qs a b = b
+each_append (p ∷ ps) qs a b = (a.0, each_append ps qs a.1 b)
+
+gap_append : (x y : List ℕ) → IsGap x → IsGap y → IsGap (x ++ y)
+gap_append x y g h = (g.0 ++ h.0, each_append g.0 h.0 g.1 h.1, (λ i. g.2 i ++ h.2 i) ∙ sym (flat_map-append piece_text g.0 h.0))
+
+-- a gap before the first token
+begins_later : (g : List ℕ) (t : ℕ × Lexeme) (ts : List (ℕ × Lexeme)) (n : ℕ) (bs rest : List ℕ) → IsGap g → Begins (n + length g) bs (t ∷ ts) rest → Begins n (g ++ bs) (t ∷ ts) rest
+begins_later g t ts n bs rest gap h =
+    let at = h.offset_is in
+    let both = length-append g h.gap in
+    record {
+      gap = g ++ h.gap;
+      after = h.after;
+      stands = record {
+        is_gap = gap_append g h.gap gap h.stands.is_gap;
+        is_token = h.stands.is_token;
+        is_over = h.stands.is_over;
+        text = ap (λ (l : List ℕ). g ++ l) h.stands.text ∙ sym (append_assoc g h.gap (spelling t.1 ++ h.after));
+      };
+      offset_is = omega arith;
+      more = h.more;
+    }
+
+last_gap_later : (g bs : List ℕ) → IsGap g → IsLastGap bs → IsLastGap (g ++ bs)
+last_gap_later g bs gap h = record {
+  gap = g ++ h.gap;
+  last = h.last;
+  is_gap = gap_append g h.gap gap h.is_gap;
+  is_last = h.is_last;
+  text = ap (λ (l : List ℕ). g ++ l) h.text ∙ sym (append_assoc g h.gap h.last);
+}
+
+-- ---- lines and a text after them
+
+join_at : (a b ra rb : List ℕ) (ts us : List (ℕ × Lexeme)) → Begins 0 a ts ra → (ts ≡ []) ⊎ (0 < length ra) → IsGap ra → Begins 0 b us rb → IsLastGap rb → IsTextOf (a ++ b) (ts ++ moved (length a) us)
+join_at a b ra rb ts [] h some g k last =
+    let gap : IsLastGap b = subst (λ (l : List ℕ). IsLastGap l) (sym k) last in
+    subst (λ (l : List (ℕ × Lexeme)). IsTextOf (a ++ b) l) (sym (append-nil ts)) (ra ++ b, begins_more ts 0 a ra b some h, last_gap_later ra b g gap)
+join_at a b ra rb ts (u ∷ us) h some g k last =
+    let shorter = begins_length ts 0 a ra h in
+    let n : ℕ = length a - length ra in
+    let later : Begins (length a + 0) b (moved (length a) (u ∷ us)) rb = begins_moved (length a) (u ∷ us) 0 b rb k in
+    let here : Begins (n + length ra) b (moved (length a) (u ∷ us)) rb = subst (λ (m : ℕ). Begins m b (moved (length a) (u ∷ us)) rb) (let e : length a + 0 ≡ n + length ra = omega arith in e) later in
+    let whole : Begins n (ra ++ b) (moved (length a) (u ∷ us)) rb = begins_later ra (length a + u.0, u.1) (moved (length a) us) n b rb g here in
+    let lengths : n ≡ 0 + (length (a ++ b) - length (ra ++ b)) = omega (arith, length-append a b, length-append ra b) in
+    (rb, begins_append ts (moved (length a) (u ∷ us)) 0 (a ++ b) (ra ++ b) rb (begins_more ts 0 a ra b some h) (subst (λ (m : ℕ). Begins m (ra ++ b) (moved (length a) (u ∷ us)) rb) lengths whole), last)
+
+pub tokens_join : TokensJoin
+tokens_join a b ts us l s t = join_at a b s.0 t.0 ts us s.1 (left_of_lines ts a s.0 l s.1) (gap_of_lines ts a s.0 l s.1 s.2) t.1 t.2
+
+kinds_moved : (d : ℕ) (ts : List (ℕ × Lexeme)) → kinds (moved d ts) ≡ kinds ts
+kinds_moved d [] = refl
+kinds_moved d (t ∷ ts) = ap (λ (l : List Lexeme). t.1 ∷ l) (kinds_moved d ts)
+
+list_append : (k : ItemType) (xs ys : List Item) (a b : List Lexeme) → list_spells k xs a → list_spells k ys b → list_spells k (xs ++ ys) (a ++ b)
+list_append k [] ys a b m n = subst (λ (l : List Lexeme). list_spells k ys (l ++ b)) (sym m) n
+list_append k (x ∷ xs) ys a b m n = record {
+  prefix = m.prefix;
+  suffix = m.suffix ++ b;
+  whole = ap (λ (l : List Lexeme). l ++ b) m.whole ∙ append_assoc m.prefix m.suffix b;
+  first = m.first;
+  second = list_append k xs ys m.suffix b m.second n;
+}
+
+pub items_join : ItemsJoin
+items_join k a b xs ys l s t =
+    let kinds_are : kinds s.0 ++ kinds t.0 ≡ kinds (s.0 ++ moved (length a) t.0) =
+    ap (λ (x : List Lexeme). kinds s.0 ++ x) (sym (kinds_moved (length a) t.0)) ∙ sym (kinds-append s.0 (moved (length a) t.0)) in
+    (s.0 ++ moved (length a) t.0, tokens_join a b s.0 t.0 l s.1 t.1, subst (λ (x : List Lexeme). list_spells k (xs ++ ys) x) kinds_are (list_append k xs ys (kinds s.0) (kinds t.0) s.2 t.2))

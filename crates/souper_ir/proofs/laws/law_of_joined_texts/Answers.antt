@@ -1,0 +1,5 @@
+use Rattle.souper_ir.proofs.Items.Joining.{tokens_join, items_join}
+use Rattle.souper_ir.proofs.laws.law_of_joined_texts.Goals as goal
+
+pub returns : goal.returns
+returns c = record { tokens = tokens_join; items = items_join }

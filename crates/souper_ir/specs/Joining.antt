@@ -1,0 +1,22 @@
+-- Definitions. Texts that are put one after the other.
+use Rattle.std.specs.Prelude.{◌≡◌, ◌⊎◌, ℕ, ◌+◌, List, [], ◌++◌, map, length}
+use Rattle.souper_graph.specs.Values.{Item}
+use Rattle.souper_graph.specs.Syntax.Tokens.{Lexeme, IsTextOf}
+use Rattle.souper_graph.specs.Syntax.Spelling.{ItemType, TextSpells}
+use Rattle.souper_ir.specs.Places.{EndsIn}
+
+-- the text is empty, or its last byte is a newline
+abbrev pub IsLines : List ℕ → Type 0
+IsLines bs = (bs ≡ []) ⊎ EndsIn bs 10
+
+-- tokens n bytes later
+abbrev pub moved : ℕ → List (ℕ × Lexeme) → List (ℕ × Lexeme)
+moved n ts = map (λ t. (n + t.0, t.1)) ts
+
+-- lines and a text after them have the tokens of both
+abbrev pub TokensJoin : Type 0
+TokensJoin = (a b : List ℕ) (ts us : List (ℕ × Lexeme)) → IsLines a → IsTextOf a ts → IsTextOf b us → IsTextOf (a ++ b) (ts ++ moved (length a) us)
+
+-- and the items of both
+abbrev pub ItemsJoin : Type 0
+ItemsJoin = (k : ItemType) (a b : List ℕ) (xs ys : List Item) → IsLines a → TextSpells k a xs → TextSpells k b ys → TextSpells k (a ++ b) (xs ++ ys)
