@@ -1,5 +1,5 @@
 //! Comparing two texts by what they mean.
-ghost use Rattle.std.specs.Prelude.{◌↔◌, List, IfOk, IsTrue};
+ghost use Rattle.std.specs.Prelude.{◌≡◌, ◌↔◌, List, IfOk, IsTrue};
 ghost use Rattle.std.specs.List.{AllZip};
 ghost use Rattle.souper_graph.specs.Values.{Item};
 ghost use Rattle.souper_graph.specs.Sameness.{SameGraph};
@@ -11,6 +11,7 @@ ghost use Rattle.souper_graph.specs.Syntax.Spelling.{TextSpells, replacement};
 use souper_format::command::Kind;
 use souper_format::items::read_items;
 use souper_format::same::same;
+use souper_graph::laws::law_of_well_formedness;
 use souper_ir::ast::LeftHandSide;
 use souper_ir::laws::law_of_canonical_texts;
 use souper_ir::parse::ParseError;
@@ -35,9 +36,16 @@ pub fn same_up_to_names(a: &LeftHandSide, b: &LeftHandSide) -> Result<bool, Text
     ensures { IfOk result (λ answer. IsTrue answer ↔ SameUpToNames (view_left_hand_side a.now) (view_left_hand_side b.now)) }
 {
     law_of_canonical_texts();
+    law_of_well_formedness();
     let first = a.renamed()?.to_text()?;
     let second = b.renamed()?.to_text()?;
-    Ok(first.as_str() == second.as_str())
+    Ok(agree(first.as_str(), second.as_str()))
+}
+
+fn agree(a: &str, b: &str) -> bool
+    ensures { IsTrue result ↔ (a.now ≡ b.now) }
+{
+    a == b
 }
 
 #[cfg(test)]
@@ -48,9 +56,21 @@ mod tests {
 
     #[test]
     fn names_are_left_aside(rt: HostRuntime) -> Result<(), Fail> {
-        let one = read_one(rt.alloc(), "%x = var\n%y = var\n%z = sub %x, %y\ninfer %z")?.ok_or("not one")?;
-        let other = read_one(rt.alloc(), "%b = var\n%a = var\n%0 = sub %a, %b\ninfer %0")?.ok_or("not one")?;
-        let another = read_one(rt.alloc(), "%x = var\n%z = sub %x, %x\ninfer %z")?.ok_or("not one")?;
+        let one = read_one(rt.alloc(), "%x = var\n%y = var\n%z = sub %x, %y\ninfer %z")?.ok_or(
+            "not one",
+        )?;
+        let other = read_one(rt.alloc(), "%b = var\n%a = var\n%0 = sub %a, %b\ninfer %0")?.ok_or(
+            "not one",
+        )?;
+        let another = read_one(rt.alloc(), "%x = var\n%z = sub %x, %x\ninfer %z")?.ok_or(
+            "not one",
+        )?;
+        let one_is = one.is_well_formed()?;
+        assert!(rt; one_is);
+        let other_is = other.is_well_formed()?;
+        assert!(rt; other_is);
+        let another_is = another.is_well_formed()?;
+        assert!(rt; another_is);
         assert!(rt; same_up_to_names(&one, &other)?);
         assert!(rt; !same_up_to_names(&one, &another)?);
         Ok(())

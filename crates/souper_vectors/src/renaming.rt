@@ -29,7 +29,10 @@ fn left_hand_sides_are_renamed(rt: HostRuntime) -> Result<(), Fail> {
             "%0 = var\npc %0 1\n%2 = var\npc %2 2\ninfer %0\n",
         ),
         // The order is that of the text, not that in which the statements were written.
-        ("%y = var\n%z = sub %y, %x\ninfer %z", "%0 = var\n%1 = var\n%2 = sub %0, %1\ninfer %2\n"),
+        (
+            "%y = var\n%z = sub %y, %x\ninfer %z",
+            "%0 = var\n%1 = var\n%2 = sub %0, %1\ninfer %2\n",
+        ),
         (
             "%b = block 2\n%y = var\n%p = phi %b, %x, %y\nblockpc %b 0 %x 1\ninfer %p",
             "%0 = block 2\n%1 = var\n%2 = var\n%3 = phi %0, %1, %2\nblockpc %0 0 %1 1\ninfer %3\n",
@@ -47,7 +50,10 @@ fn left_hand_sides_are_renamed(rt: HostRuntime) -> Result<(), Fail> {
 #[test]
 fn right_hand_sides_are_renamed(rt: HostRuntime) -> Result<(), Fail> {
     let table = [
-        ("%a = var\n%b = mul %a, 2\nresult %b", "%0 = var\n%1 = mul %0, 2\nresult %1"),
+        (
+            "%a = var\n%b = mul %a, 2\nresult %b",
+            "%0 = var\n%1 = mul %0, 2\nresult %1",
+        ),
         ("result 5:i8", "result 5:i8"),
     ];
     for (source, want) in table {
@@ -65,7 +71,10 @@ fn replacements_are_renamed(rt: HostRuntime) -> Result<(), Fail> {
             "%a = var\n%b = mul %a, 2\ninfer %b\n%c = shl %a, 1\nresult %c",
             "%0 = var\n%1 = mul %0, 2\ninfer %1\n%2 = shl %0, 1\nresult %2\n",
         ),
-        ("%a = var\n%b = add %a, 0\ncand %b %a", "%0 = var\n%1 = add %0, 0\ncand %1 %0\n"),
+        (
+            "%a = var\n%b = add %a, 0\ncand %b %a",
+            "%0 = var\n%1 = add %0, 0\ncand %1 %0\n",
+        ),
     ];
     for (source, want) in table {
         let items = parse_replacements_str(rt.alloc(), source, None)?;
