@@ -5,3 +5,4 @@ pub mod Lists
 pub mod Texts
 pub mod OneText
 pub mod Joining
+pub mod Parting

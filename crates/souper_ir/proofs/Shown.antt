@@ -1,3 +1,4 @@
 -- What errors show.
 pub mod Lines
 pub mod Unstyled
+pub mod After

@@ -1,5 +1,5 @@
 -- Definitions. What an error reports: its kind, its offset and the text that it shows.
-use Rattle.std.specs.Prelude.{◌≡◌, ℕ, List, ◌++◌, ◌⊎◌, codes, Option, None, Some, Result, Ok, Err, IfSome, IsOk, option_map, string_bytes}
+use Rattle.std.specs.Prelude.{◌≡◌, ℕ, ◌+◌, ◌^◌, ◌<◌, List, [], ◌++◌, length, ◌⊎◌, codes, Option, None, Some, Result, Ok, Err, IfSome, IsOk, option_map, string_bytes}
 use Rattle.std.specs.Fmt.{WritesOnOk, WritesStyledOnOk}
 use Rattle.std.specs.declared.fmt.Error.{Error as FormatError}
 use Rattle.std.specs.declared.fmt.Formatter.{Formatter}
@@ -13,7 +13,9 @@ use Rattle.souper_ir.specs.declared.parse.error.ReadError.{ReadError}
 use Rattle.souper_ir.specs.declared.parse.error.ReadError.TheVariants.{Refused as RefusedRead, Memory as MemoryRead}
 use Rattle.souper_ir.specs.declared.parse.error.Refusal.{Refusal}
 use Rattle.souper_ir.specs.declared.parse.place.Place.{Place}
-use Rattle.souper_ir.specs.Places.{IsPlace, direct_text, file_or_unknown, shown_refusal}
+use Rattle.souper_ir.specs.declared.parse.error.Before.{Before}
+use Rattle.souper_ir.specs.Joining.{IsLines}
+use Rattle.souper_ir.specs.Places.{newlines, IsPlace, direct_text, file_or_unknown, shown_refusal}
 
 -- one of three facts, by the kind: for `Io`, `Parse` and `Memory`
 abbrev pub OnKind : ParseErrorKind → Type 0 → Type 0 → Type 0 → Type 0
@@ -120,6 +122,23 @@ abbrev pub IsLocated : Option (List ℕ) → List ℕ → ParseError → ParseEr
 IsLocated file source old new = OnKind (kind_of old)
     (new ≡ old)
     (IfSome (offset_of old) (λ offset. (kind_of new ≡ Memory) ⊎ IsRefusalAt file source offset new))
+    (new ≡ old)
+
+-- the text is whole lines, of so many bytes and so many lines
+pub record IsBefore (before : Before) (text : List ℕ) : Type 0 where
+  pub lines : IsLines text
+  pub bytes_are : length text ≡ before.bytes
+  pub lines_are : newlines text ≡ before.lines
+
+-- What became of an error of a part of a text, which begins at offset skipped of the source, if other lines come before the
+-- source: a refusal at an offset shows its place in those lines and the source together, or memory ran out for that; any
+-- other error is unchanged. The first byte of a source that has other lines before it is not the one that is refused: its
+-- place would be that of the byte before it.
+abbrev pub IsLocatedAfter : Option (List ℕ) → Before → List ℕ → ℕ → ParseError → ParseError → Type 0
+IsLocatedAfter file before source skipped old new = OnKind (kind_of old)
+    (new ≡ old)
+    (IfSome (offset_of old) (λ offset. (kind_of new ≡ Memory) ⊎ ((text : List ℕ) → IsBefore before text → (0 < skipped + offset) ⊎ (text ≡ [])
+    → length (text ++ source) + 1 < 2 ^ 64 → IsRefusalAt file (text ++ source) (length text + (skipped + offset)) new)))
     (new ≡ old)
 
 -- the cause of a reader's error

@@ -20,3 +20,8 @@ TokensJoin = (a b : List ℕ) (ts us : List (ℕ × Lexeme)) → IsLines a → I
 -- and the items of both
 abbrev pub ItemsJoin : Type 0
 ItemsJoin = (k : ItemType) (a b : List ℕ) (xs ys : List Item) → IsLines a → TextSpells k a xs → TextSpells k b ys → TextSpells k (a ++ b) (xs ++ ys)
+
+-- and no others: where lines and a text after them have tokens, each has those in it
+abbrev pub TokensPart : Type 0
+TokensPart = (a b : List ℕ) (us : List (ℕ × Lexeme)) → IsLines a → IsTextOf (a ++ b) us → (ts : List (ℕ × Lexeme)) × (vs : List (ℕ × Lexeme))
+    × IsTextOf a ts × IsTextOf b vs × (us ≡ ts ++ moved (length a) vs)

@@ -15,7 +15,7 @@ ghost use Rattle.souper_graph.specs.CanonicalText.{IsWellFormedOf, AreWellFormed
 ghost use Rattle.souper_graph.specs.Syntax.Tokens.{Lexeme, open_paren, OneReading, IsWhiteSpaceListed, EachInText, GapEndsToken, FrontsJoin};
 ghost use Rattle.souper_graph.specs.Syntax.Spelling.{Scope, OneList, type_spells, constant_spells, operand_spells, block_spells, phi_spells, instruction_spells, rhs_spells, attribute_spells, root_attribute_spells, assignment_spells, pc_spells, block_pc_spells, statement_spells, infer_spells, cand_spells, ItemType, left_hand_side, right_hand_side, replacement, item_spells_after, TextSpells};
 ghost use Rattle.souper_ir.specs.Continuation.{constant_continues, operand_continues, phi_continues, instruction_continues, rhs_continues, assignment_continues, pc_continues, block_pc_continues, statement_continues, infer_continues, cand_continues, item_continues};
-ghost use Rattle.souper_ir.specs.Joining.{TokensJoin, ItemsJoin};
+ghost use Rattle.souper_ir.specs.Joining.{TokensJoin, TokensPart, ItemsJoin};
 ghost use Rattle.souper_ir.specs.Grammar.{Members, ListGoesOn, OptionSpells, OptionGoesOn};
 ghost use Rattle.souper_ir.specs.NodeReadings.{is_name, is_int, is_mark, is_word, starts_instruction, starts_statement};
 
@@ -39,9 +39,11 @@ pub fn law_of_items()
     ensures { OneList }
 {}
 
-/// Lines, and a text after them, spell the items of both: files that end in a newline can be put one after the other.
+/// Lines, and a text after them, have the tokens of both and no others, and spell the items of both: files that end in a
+/// newline can be put one after the other.
 pub fn law_of_joined_texts()
     ensures tokens { TokensJoin }
+    ensures parts { TokensPart }
     ensures items { ItemsJoin }
 {}
 

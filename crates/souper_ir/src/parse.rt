@@ -19,7 +19,7 @@ mod traits;
 mod unstyled;
 mod words;
 
-pub use error::{ParseError, ParseErrorKind};
+pub use error::{Before, ParseError, ParseErrorKind};
 pub use files::{parse_left_hand_sides_file, parse_replacements_file, parse_right_hand_sides_file};
 pub use item::{
     WholeItem, parse_into, parse_left_hand_sides_str, parse_replacements_str,

@@ -42,7 +42,7 @@ one_line_append : (a b : List ℕ) → IsOneLine a → IsOneLine b → IsOneLine
 one_line_append [] b p q = q
 one_line_append (c ∷ a) b p q = (p.0, one_line_append a b p.1 q)
 
-token_line : (t : Lexeme) → IsLexeme t → IsOneLine (spelling t)
+pub token_line : (t : Lexeme) → IsLexeme t → IsOneLine (spelling t)
 token_line (ident []) h = absurd h
 token_line (ident (c ∷ s)) h = (letter_line c h.0, one_line_from is_name_char s name_char_line h.1)
 token_line (val_name []) h = absurd h
@@ -59,7 +59,7 @@ token_line open_bracket h = (refl, tt)
 
 -- ---- the end of lines
 
-newline_last : (front : List ℕ) → IsOneLine (front ++ 10 ∷ []) → ⊥
+pub newline_last : (front : List ℕ) → IsOneLine (front ++ 10 ∷ []) → ⊥
 newline_last [] h = let e : true ≡ false = h.0 in absurd cc
 newline_last (c ∷ front) h = newline_last front h.1
 
@@ -69,7 +69,7 @@ no_newline_ends [] s front some h e = newline_last front (subst (λ (l : List �
 no_newline_ends (p ∷ pre) s [] some h e = (let l = ap length e in let m = length-append pre s in absurd (omega arith))
 no_newline_ends (p ∷ pre) s (c ∷ front) some h e = no_newline_ends pre s front some h (ap (λ (l : List ℕ). drop 1 l) e)
 
-no_lines_end : (a pre s : List ℕ) → IsLines a → 0 < length s → IsOneLine s → a ≡ pre ++ s → ⊥
+pub no_lines_end : (a pre s : List ℕ) → IsLines a → 0 < length s → IsOneLine s → a ≡ pre ++ s → ⊥
 no_lines_end a pre s (inl e) some h at = (let l = ap length (sym at ∙ e) in let m = length-append pre s in absurd (omega arith))
 no_lines_end a pre s (inr end) some h at = no_newline_ends pre s end.0 some h (sym at ∙ end.1)
 
@@ -109,7 +109,7 @@ nothing_left t (u ∷ ts) n bs h =
     }
 
 -- of lines something is left after their tokens
-left_of_lines : (ts : List (ℕ × Lexeme)) (a rest : List ℕ) → IsLines a → Begins 0 a ts rest → (ts ≡ []) ⊎ (0 < length rest)
+pub left_of_lines : (ts : List (ℕ × Lexeme)) (a rest : List ℕ) → IsLines a → Begins 0 a ts rest → (ts ≡ []) ⊎ (0 < length rest)
 left_of_lines [] a rest l h = inl refl
 left_of_lines (t ∷ ts) a [] l h =
     let r = nothing_left t ts 0 a h in
@@ -117,7 +117,7 @@ left_of_lines (t ∷ ts) a [] l h =
 left_of_lines (t ∷ ts) a (c ∷ rest) l h = inr (omega arith)
 
 -- and it is a gap
-gap_of_lines : (ts : List (ℕ × Lexeme)) (a rest : List ℕ) → IsLines a → Begins 0 a ts rest → IsLastGap rest → IsGap rest
+pub gap_of_lines : (ts : List (ℕ × Lexeme)) (a rest : List ℕ) → IsLines a → Begins 0 a ts rest → IsLastGap rest → IsGap rest
 gap_of_lines ts a rest l h g = under g.last g.is_last g.text
   where
     under : (last : List ℕ) → IsLastComment last → rest ≡ g.gap ++ last → IsGap rest
@@ -169,11 +169,11 @@ each_append : (ps qs : List Piece) → AllByRecursion IsPiece ps → AllByRecurs
 each_append [] qs a b = b
 each_append (p ∷ ps) qs a b = (a.0, each_append ps qs a.1 b)
 
-gap_append : (x y : List ℕ) → IsGap x → IsGap y → IsGap (x ++ y)
+pub gap_append : (x y : List ℕ) → IsGap x → IsGap y → IsGap (x ++ y)
 gap_append x y g h = (g.0 ++ h.0, each_append g.0 h.0 g.1 h.1, (λ i. g.2 i ++ h.2 i) ∙ sym (flat_map-append piece_text g.0 h.0))
 
 -- a gap before the first token
-begins_later : (g : List ℕ) (t : ℕ × Lexeme) (ts : List (ℕ × Lexeme)) (n : ℕ) (bs rest : List ℕ) → IsGap g → Begins (n + length g) bs (t ∷ ts) rest → Begins n (g ++ bs) (t ∷ ts) rest
+pub begins_later : (g : List ℕ) (t : ℕ × Lexeme) (ts : List (ℕ × Lexeme)) (n : ℕ) (bs rest : List ℕ) → IsGap g → Begins (n + length g) bs (t ∷ ts) rest → Begins n (g ++ bs) (t ∷ ts) rest
 begins_later g t ts n bs rest gap h =
     let at = h.offset_is in
     let both = length-append g h.gap in
@@ -190,7 +190,7 @@ begins_later g t ts n bs rest gap h =
       more = h.more;
     }
 
-last_gap_later : (g bs : List ℕ) → IsGap g → IsLastGap bs → IsLastGap (g ++ bs)
+pub last_gap_later : (g bs : List ℕ) → IsGap g → IsLastGap bs → IsLastGap (g ++ bs)
 last_gap_later g bs gap h = record {
   gap = g ++ h.gap;
   last = h.last;
@@ -217,11 +217,11 @@ join_at a b ra rb ts (u ∷ us) h some g k last =
 pub tokens_join : TokensJoin
 tokens_join a b ts us l s t = join_at a b s.0 t.0 ts us s.1 (left_of_lines ts a s.0 l s.1) (gap_of_lines ts a s.0 l s.1 s.2) t.1 t.2
 
-kinds_moved : (d : ℕ) (ts : List (ℕ × Lexeme)) → kinds (moved d ts) ≡ kinds ts
+pub kinds_moved : (d : ℕ) (ts : List (ℕ × Lexeme)) → kinds (moved d ts) ≡ kinds ts
 kinds_moved d [] = refl
 kinds_moved d (t ∷ ts) = ap (λ (l : List Lexeme). t.1 ∷ l) (kinds_moved d ts)
 
-list_append : (k : ItemType) (xs ys : List Item) (a b : List Lexeme) → list_spells k xs a → list_spells k ys b → list_spells k (xs ++ ys) (a ++ b)
+pub list_append : (k : ItemType) (xs ys : List Item) (a b : List Lexeme) → list_spells k xs a → list_spells k ys b → list_spells k (xs ++ ys) (a ++ b)
 list_append k [] ys a b m n = subst (λ (l : List Lexeme). list_spells k ys (l ++ b)) (sym m) n
 list_append k (x ∷ xs) ys a b m n = record {
   prefix = m.prefix;

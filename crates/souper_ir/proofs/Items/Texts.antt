@@ -1,5 +1,5 @@
 -- Texts of items: what they spell, and what is returned if they spell none.
-use Rattle.std.proofs.Common.{◌≡◌, ◌⊎◌, ℕ, ◌≤◌, Bool, false, List, [], length, Option, Some, None, refl, sym, ◌∙◌, ap, subst, inl, inr, arith}
+use Rattle.std.proofs.Common.{◌≡◌, ◌⊎◌, ℕ, ◌+◌, ◌≤◌, Bool, false, List, [], ◌∷◌, ◌++◌, length, Option, Some, None, refl, sym, ◌∙◌, ap, subst, inl, inr, arith}
 use Rattle.std.specs.Prelude.{IfSome}
 use Rattle.souper_graph.specs.Values.{Item}
 use Rattle.souper_ir.specs.declared.parse.error.ParseError.{ParseError}
@@ -7,13 +7,14 @@ use Rattle.souper_ir.specs.declared.parse.error.ParseErrorKind.{ParseErrorKind}
 use Rattle.souper_ir.specs.declared.parse.error.ParseErrorKind.TheVariants.{Io, Parse, Memory}
 use Rattle.souper_ir.specs.declared.parse.error.Cause.{Cause as ErrorCause}
 use Rattle.souper_ir.specs.declared.parse.error.Cause.TheVariants.{Io as IoCause, Parse as ParseCause, Memory as MemoryCause}
-use Rattle.souper_graph.specs.Syntax.Tokens.{Lexeme, IsLastGap, IsTextOf, AreTokensOf}
+use Rattle.souper_graph.specs.Syntax.Tokens.{Lexeme, spelling, IsLastGap, Begins, IsTextOf, AreTokensOf}
 use Rattle.souper_graph.specs.Syntax.Spelling.{kinds, ItemType, list_spells, TextSpells, SpellsNone}
 use Rattle.souper_ir.specs.Errors.{OnKind, kind_of, kind_of_cause, offset_of, offset_of_cause, IsRefusalAt, IsLocated}
 use Rattle.souper_ir.specs.Answers.{IsStrError}
 use Rattle.souper_ir.specs.Parsing.{Cause, refused, Parsing}
 use Rattle.souper_ir.specs.Reading.{cause_of, IfRefused}
 use Rattle.souper_ir.specs.ItemRuns.{SpellsAll, NoList, ListRefusal}
+use Rattle.souper_ir.specs.Sinks.{TakesFirst, TakesPrefix}
 
 -- the tokens of a text without a fault are those that it is a text of
 pub is_text : (bs : List ℕ) (ts : List (ℕ × Lexeme)) (faulty : Bool) → AreTokensOf bs ts faulty → faulty ≡ false → IsTextOf bs ts
@@ -69,3 +70,38 @@ module _ (k : ItemType) (file : Option (List ℕ)) (bs : List ℕ) (e new : Pars
 
   pub located_answer : IsLocated file bs e new → IsStrError k file bs new
   located_answer l = by_kind (kind_of e) refl l
+
+-- ---- what a sink took before a refusal
+
+begins_prefix : (ts us : List (ℕ × Lexeme)) (n : ℕ) (bs rest : List ℕ) → Begins n bs (ts ++ us) rest → (mid : List ℕ) × Begins n bs ts mid
+begins_prefix [] us n bs rest h = (bs, refl)
+begins_prefix (t ∷ ts) us n bs rest h =
+    let r = begins_prefix ts us (t.0 + length (spelling t.1)) h.after rest h.more in
+    (r.0, record { gap = h.gap; after = h.after; stands = h.stands; offset_is = h.offset_is; more = r.1 })
+
+prefix_taken : {S : Type 0} (holds : S → List Item → Type 0) (k : ItemType) (bs : List ℕ) (p : Parsing) (old new : S) → AreTokensOf bs p.tokens p.faulty → TakesFirst holds k p old new → TakesPrefix holds k bs old new
+prefix_taken holds k bs p old new h t =
+    let b = begins_prefix t.used t.others 0 bs h.rest (subst (λ (x : List (ℕ × Lexeme)). Begins 0 bs x h.rest) t.parts h.front) in
+    (t.items, (t.used, b.0, b.1, t.spelled), t.taken)
+
+parse_cause : (e : ParseError) → kind_of e ≡ Parse → (o : ℕ) × (cause_of e ≡ Some (refused o))
+parse_cause e kind = under e.cause refl
+  where
+    under : (c : ErrorCause) → e.cause ≡ c → (o : ℕ) × (cause_of e ≡ Some (refused o))
+    under (IoCause f) at = let bad : Io ≡ Parse = sym (ap kind_of_cause at) ∙ kind in absurd cc
+    under (ParseCause r) at = (r.value.offset, offset_cause e r.value.offset (ap offset_of_cause at))
+    under MemoryCause at = let bad : Memory ≡ Parse = sym (ap kind_of_cause at) ∙ kind in absurd cc
+
+located_kind : (file : Option (List ℕ)) (bs : List ℕ) (e new : ParseError) → IsLocated file bs e new → kind_of new ≡ Parse → kind_of e ≡ Parse
+located_kind file bs e new l kind = under (kind_of e) refl l
+  where
+    under : (x : ParseErrorKind) → kind_of e ≡ x → OnKind x (new ≡ e) (IfSome (offset_of e) (λ offset. (kind_of new ≡ Memory) ⊎ IsRefusalAt file bs offset new)) (new ≡ e) → kind_of e ≡ Parse
+    under Io at same = sym (ap kind_of same) ∙ kind
+    under Parse at same = at
+    under Memory at same = sym (ap kind_of same) ∙ kind
+
+pub taken_before : {S : Type 0} (holds : S → List Item → Type 0) (k : ItemType) (file : Option (List ℕ)) (bs : List ℕ) (e new : ParseError) (p : Parsing) (old now : S)
+    → AreTokensOf bs p.tokens p.faulty → IsLocated file bs e new → IfRefused (cause_of e) (TakesFirst holds k p old now) → kind_of new ≡ Parse → TakesPrefix holds k bs old now
+taken_before holds k file bs e new p old now h l first kind =
+    let c = parse_cause e (located_kind file bs e new l kind) in
+    prefix_taken holds k bs p old now h (subst (λ (x : Option Cause). IfRefused x (TakesFirst holds k p old now)) c.1 first)

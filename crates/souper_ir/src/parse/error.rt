@@ -1,8 +1,8 @@
 //! The error of a parse.
-ghost use Rattle.std.specs.Prelude.{◌≡◌, ◌≢◌, ◌≤◌, ◌⊎◌, ◌↔◌, length, string_bytes, option_copied, IfOk, IfErr, IfSome, IsSome, Some};
+ghost use Rattle.std.specs.Prelude.{◌≡◌, ◌≢◌, ◌≤◌, ◌<◌, ◌+◌, ◌^◌, ◌++◌, [], ℕ, List, ◌⊎◌, ◌↔◌, length, string_bytes, option_copied, IfOk, IfErr, IfSome, IsSome, Some};
 ghost use Rattle.std.specs.Fmt.{DisplaysOnOk, DisplaysStyledOnOk};
 ghost use Rattle.souper_ir.specs.Places.{direct_text};
-ghost use Rattle.souper_ir.specs.Errors.{error_of, widened, kind_of, offset_of, place_of, line_of, column_of, fault_of, shown_error, shown_refusal_of, IsLocated, IsRefusalAt, ShowsFault};
+ghost use Rattle.souper_ir.specs.Errors.{error_of, widened, kind_of, offset_of, place_of, line_of, column_of, fault_of, shown_error, shown_refusal_of, IsLocated, IsBefore, IsLocatedAfter, IsRefusalAt, ShowsFault};
 
 use crate::parse::place::Place;
 use crate::parse::unstyled::write_unstyled;
@@ -27,6 +27,13 @@ pub enum ParseErrorKind {
 #[derive(Drop)]
 pub struct ParseError {
     cause: Cause,
+}
+
+/// How much comes before a text: whole lines, each with its newline.
+#[derive(Clone, Copy, Debug, PartialEq, Eq)]
+pub struct Before {
+    pub bytes: usize,
+    pub lines: usize,
 }
 
 #[derive(Drop)]
@@ -129,6 +136,28 @@ impl ParseError {
         }
     }
 
+    /// Gives a refusal of a part of a text its place in the whole text.
+    ///
+    /// The part begins at the byte `skipped` of `source`, and `before` says what comes before `source`. A refusal is then at
+    /// that place of the whole text, and shows it, unless memory runs out for that. Other errors stay as they are. The place of
+    /// an offset is that of the byte before it: if anything comes before `source`, the offset in `source` must not be 0.
+    pub fn locate_after(
+        self,
+        alloc: Global,
+        before: Before,
+        source: &str,
+        skipped: usize,
+        file: Option<&str>,
+    ) -> ParseError
+        requires { IfSome (offset_of self) (λ offset. skipped + offset ≤ length source.now) }
+        ensures { IsLocatedAfter (option_copied file.entry) before source.now skipped self result }
+    {
+        match self.cause {
+            Cause::Parse(refusal) => locate_after(refusal, alloc, before, source, skipped, file),
+            cause => ParseError { cause },
+        }
+    }
+
     /// Why the parse failed.
     pub fn kind(&self) -> ParseErrorKind
         ensures { result ≡ kind_of self.now }
@@ -202,6 +231,33 @@ fn locate(mut refusal: Box<Refusal>, alloc: Global, source: &str, file: Option<&
     match Place::new(alloc, source, refusal.offset, file) {
         Ok(place) => {
             refusal.place = Some(place);
+            ParseError {
+                cause: Cause::Parse(refusal),
+            }
+        }
+        Err(refused) => ParseError::from(refused),
+    }
+}
+
+// Gives a refusal of a part of a text its place in the whole text.
+fn locate_after(
+    mut refusal: Box<Refusal>,
+    alloc: Global,
+    before: Before,
+    source: &str,
+    skipped: usize,
+    file: Option<&str>,
+) -> ParseError
+    requires { skipped + refusal.value.offset ≤ length source.now }
+    ensures { (kind_of result ≡ ParseErrorKind.Memory) ⊎ ((text : List ℕ) → IsBefore before text → (0 < skipped + refusal.value.offset) ⊎ (text ≡ [])
+        → length (text ++ source.now) + 1 < 2 ^ 64 → IsRefusalAt (option_copied file.entry) (text ++ source.now) (length text + (skipped + refusal.value.offset)) result) }
+{
+    let offset = skipped + refusal.offset;
+    match Place::new(alloc, source, offset, file) {
+        Ok(mut place) => {
+            place.line = place.line.saturating_add(before.lines);
+            refusal.place = Some(place);
+            refusal.offset = offset.saturating_add(before.bytes);
             ParseError {
                 cause: Cause::Parse(refusal),
             }

@@ -7,19 +7,19 @@ ghost use Rattle.souper_graph.specs.WellFormed.{WellFormed, EachClosed};
 ghost use Rattle.souper_graph.specs.Values.{Item as PlainItem};
 ghost use Rattle.souper_graph.specs.Syntax.Tokens.{IsLastGap, IsLexeme};
 ghost use Rattle.souper_graph.specs.Syntax.Spelling.{kinds, ItemType, left_hand_side, right_hand_side, replacement, statement_spells, item_spells_after, TextSpells};
-ghost use Rattle.souper_ir.specs.Errors.{error_of, widened};
+ghost use Rattle.souper_ir.specs.Errors.{error_of, widened, kind_of};
 ghost use Rattle.souper_ir.specs.Continuation.{statement_continues, item_continues};
 ghost use Rattle.souper_ir.specs.Grammar.{Took, Refusal};
 ghost use Rattle.souper_ir.specs.declared.parse.item.Next.{Next};
 ghost use Rattle.souper_ir.specs.NextStatement.{next_at, Begins};
-ghost use Rattle.souper_ir.specs.Reading.{Gives};
+ghost use Rattle.souper_ir.specs.Reading.{Gives, IfRefused, cause_of};
 ghost use Rattle.souper_ir.specs.Items.{Enters, TakesStatements, StatedRefusal};
 ghost use Rattle.souper_ir.specs.Laws.Items.{item_alone};
 ghost use Rattle.souper_ir.specs.ItemRuns.{SpellsAll, ListRefusal};
 ghost use Rattle.souper_ir.specs.Answers.{IsStrError};
-ghost use Rattle.souper_ir.specs.Sinks.{TakesOver, TakesText};
+ghost use Rattle.souper_ir.specs.Sinks.{TakesOver, TakesText, TakesPrefix, TakesFirst};
 
-use crate::parse::error::narrow;
+use crate::parse::error::{ParseErrorKind, narrow};
 use crate::parse::last_lines::{cand, infer, result};
 use crate::parse::parser::{Parser, Read, Result};
 use crate::parse::rhs::rhs;
@@ -228,6 +228,7 @@ fn items<T: WholeItem, S: Sink<T>>(parser: &mut Parser<'_>, sink: &mut S) -> Res
     requires lexemes { AllByRecursion IsLexeme (kinds parser.old.tokens) }
     ensures ok { OnOk result ((items : List PlainItem) × SpellsAll T.item_type items parser.old × TakesOver S.holds items sink.old sink.new) }
     ensures err { IfErr result (λ e. ListRefusal T.item_type e parser.old parser.new) }
+    ensures first { IfErr result (λ e. IfRefused (cause_of e) (TakesFirst S.holds T.item_type parser.old sink.old sink.new)) }
     // The end of the text needs no memory.
     ensures ended { (parser.old.tokens ≡ []) → (parser.old.faulty ≡ false) → (parser.old.failed ≡ None) → IsOkAnd result (λ _. sink.new ≡ sink.old) }
 {
@@ -245,8 +246,8 @@ fn items<T: WholeItem, S: Sink<T>>(parser: &mut Parser<'_>, sink: &mut S) -> Res
 ///
 /// The type of the items is [`LeftHandSide`], [`RightHandSide`] or [`Replacement`]. The file name is for the error,
 /// which shows `unknown` without one. An error of the kind `Parse` says that the text spells no list of such items; the
-/// other kind is `Memory`. After an error the sink may have taken items. A text of white space and comments alone has
-/// no items.
+/// sink then has taken items that the text begins with, those before the one that was refused. The other kind is `Memory`, and
+/// what the sink holds then is not specified. A text of white space and comments alone has no items.
 pub fn parse_into<T: WholeItem, S: Sink<T>>(
     alloc: Global,
     source: &str,
@@ -255,6 +256,7 @@ pub fn parse_into<T: WholeItem, S: Sink<T>>(
 ) -> Result<()>
     ensures taken { OnOk result (TakesText S.holds T.item_type source.now sink.old sink.new) }
     ensures refused { IfErr result (λ e. IsStrError T.item_type (option_copied filename.entry) source.now e) }
+    ensures before { IfErr result (λ e. kind_of e ≡ ParseErrorKind.Parse → TakesPrefix S.holds T.item_type source.now sink.old sink.new) }
     ensures gaps { IsLastGap source.now → IsOkAnd result (λ _. sink.new ≡ sink.old) }
 {
     let mut parser = Parser::new(alloc, source);

@@ -1,7 +1,8 @@
 use Rattle.std.proofs.Common.{◌≡◌, [], ◌∷◌, ◌++◌, false, true}
 use Rattle.std.proofs.lemmas.Result.{err_from_is_err_and}
-use Rattle.souper_ir.proofs.Items.Lists.{runs_on, item_shorter, all_taken, look_refused, item_refused, nothing_taken, nothing_seen, still_sound, read_behind, read_well, takes_one, pushed_some}
+use Rattle.souper_ir.proofs.Items.Lists.{runs_on, item_shorter, all_taken, look_refused, item_refused, nothing_taken, nothing_seen, still_sound, read_behind, read_well, takes_one, pushed_some, taken_first}
 use Rattle.souper_ir.specs.Errors.{error_of}
+use Rattle.souper_ir.specs.Reading.{cause_of}
 use Rattle.souper_ir.proofs.parse.item.items.Goals as goal
 
 pub returns-in_err-token_comes-clause-err : goal.returns-in_err-token_comes-clause-err
@@ -58,3 +59,13 @@ returns-clause-ok g c = (
 pub returns-clause-ended : goal.returns-clause-ended
 returns-clause-ended g c = λ e f l.
     c.loop-parser.invariant.3 (nothing_taken g.T.Item.item_type _ c.args.parser.now c.loop-parser.parser c.loop-parser.invariant.1 e).1
+
+pub returns-in_err-token_comes-clause-first : goal.returns-in_err-token_comes-clause-first
+returns-in_err-token_comes-clause-first g c =
+    let p = err_from_is_err_and c.from_residual.result c.from_residual.ensures.1 in
+    rw (p.1, p.2) (taken_first g.S.Sink.holds g.T.Item.item_type _ (cause_of (error_of c.in_err-token_comes.field-0.0)) c.args.parser.now c.loop-parser.parser c.args.sink.now c.loop-parser.sink c.loop-parser.invariant.1 c.loop-parser.invariant.2)
+
+pub returns-in_err-item-clause-first : goal.returns-in_err-item-clause-first
+returns-in_err-item-clause-first g c =
+    let p = err_from_is_err_and c.from_residual-in_err-item.result c.from_residual-in_err-item.ensures.1 in
+    rw (p.1, p.2) (taken_first g.S.Sink.holds g.T.Item.item_type _ (cause_of c.in_err-item.field-0.0) c.args.parser.now c.loop-parser.parser c.args.sink.now c.loop-parser.sink c.loop-parser.invariant.1 c.loop-parser.invariant.2)

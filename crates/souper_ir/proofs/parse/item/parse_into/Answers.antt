@@ -1,6 +1,6 @@
 use Rattle.std.proofs.Common.{[]}
 use Rattle.std.specs.Prelude.{option_copied}
-use Rattle.souper_ir.proofs.Items.Texts.{all_spelled, gap_text, located_answer}
+use Rattle.souper_ir.proofs.Items.Texts.{all_spelled, gap_text, located_answer, taken_before}
 use Rattle.souper_ir.proofs.Items.WellFormed.{text_lexemes}
 use Rattle.souper_ir.proofs.parse.item.parse_into.Goals as goal
 
@@ -28,3 +28,8 @@ pub returns-clause-refused : goal.returns-clause-refused
 returns-clause-refused g c =
     located_answer g.T.Item.item_type (option_copied c.args.filename) c.args.source.now c.in-Err.error c.locate.result c.new-parser.result c.items.new.parser
     c.new-parser.ensures.live c.new-parser.ensures.len c.new-parser.ensures.only c.in-Err.ensures.err c.locate.ensures
+
+pub returns-clause-before : goal.returns-clause-before
+returns-clause-before g c =
+    taken_before g.S.Sink.holds g.T.Item.item_type (option_copied c.args.filename) c.args.source.now c.in-Err.error c.locate.result c.new-parser.result c.args.sink.now c.items.new.sink
+    c.new-parser.ensures.tokens c.locate.ensures c.in-Err.ensures.first

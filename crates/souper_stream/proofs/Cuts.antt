@@ -1,0 +1,223 @@
+-- What a text spells is parted at a seam.
+use Rattle.std.proofs.Common.{◌≡◌, ◌↔◌, ℕ, ◌+◌, ◌<◌, Bool, true, false, ◌⊎◌, inl, inr, List, [], ◌∷◌, ◌++◌, length, refl, sym, ap, ◌∙◌, subst, arith, append_assoc, append-nil, length-append}
+use Rattle.souper_graph.specs.Values.{Item}
+use Rattle.souper_graph.specs.Syntax.Tokens.{Lexeme, ident, val_name, known_bits, int, comma, colon, equals, open_paren, close_paren, open_bracket, spelling, IsLastGap, Begins, IsTextOf}
+use Rattle.souper_graph.specs.Syntax.Spelling.{kinds, ItemType, item_spells, list_spells, TextSpells}
+use Rattle.souper_lexer.specs.TokenReading.{found, ends, next_of}
+use Rattle.souper_lexer.proofs.TokenComplete.{next_found, next_gap, next_ends}
+use Rattle.souper_lexer.proofs.TokenLaws.{one_reading}
+use Rattle.souper_ir.specs.Joining.{IsLines, moved}
+use Rattle.souper_ir.specs.Laws.Steps.{kinds-append}
+use Rattle.souper_ir.proofs.Items.Joining.{begins_more, kinds_moved, items_join, list_append}
+use Rattle.souper_ir.proofs.Items.Parting.{Within, Beyond, parted_twice, tokens_part}
+use Rattle.souper_stream.specs.Lines.{end_word, defines, starts_line, NoStart}
+use Rattle.souper_stream.specs.Seams.{IsEndLine, EndsItem, StartsLine, IsSeam, SeamsPart}
+use Rattle.souper_stream.proofs.EndLines.{EndsOnce, item_ends, one_end, list_starts, quiet_ends}
+
+-- ---- tokens
+
+quiet_rest : (xs ys : List Lexeme) → NoStart (xs ++ ys) → NoStart ys
+quiet_rest [] ys h = h
+quiet_rest (x ∷ xs) ys h = quiet_rest xs ys h.1
+
+-- what a line starts with defines no name
+start_defines_none : (ts : List Lexeme) → starts_line ts ≡ true → defines ts ≡ false
+start_defines_none [] h = refl
+start_defines_none (ident w ∷ ts) h = refl
+start_defines_none (val_name n ∷ ts) h = refl
+start_defines_none (known_bits w ∷ ts) h = refl
+start_defines_none (int w ∷ ts) h = refl
+start_defines_none (comma ∷ ts) h = refl
+start_defines_none (colon ∷ ts) h = absurd cc
+start_defines_none (equals ∷ ts) h = absurd cc
+start_defines_none (open_paren ∷ ts) h = refl
+start_defines_none (close_paren ∷ ts) h = refl
+start_defines_none (open_bracket ∷ ts) h = refl
+
+defines_first : (t : Lexeme) (ts us : List Lexeme) → defines (t ∷ ts) ≡ true → defines (t ∷ us) ≡ true
+defines_first equals ts us h = refl
+defines_first colon ts us h = refl
+defines_first (ident w) ts us h = h
+defines_first (val_name n) ts us h = h
+defines_first (known_bits w) ts us h = h
+defines_first (int w) ts us h = h
+defines_first comma ts us h = h
+defines_first open_paren ts us h = h
+defines_first close_paren ts us h = h
+defines_first open_bracket ts us h = h
+
+-- a line that starts before another starts without it
+start_before : (xs ts : List Lexeme) → 0 < length xs → starts_line ts ≡ true → starts_line (xs ++ ts) ≡ true → starts_line xs ≡ true
+start_before [] ts some t h = absurd (omega arith)
+start_before (ident w ∷ xs) ts some t h = h
+start_before (val_name n ∷ []) ts some t h = let none = start_defines_none ts t in absurd cc
+start_before (val_name n ∷ (y ∷ xs)) ts some t h = defines_first y (xs ++ ts) xs h
+start_before (known_bits w ∷ xs) ts some t h = h
+start_before (int w ∷ xs) ts some t h = h
+start_before (comma ∷ xs) ts some t h = h
+start_before (colon ∷ xs) ts some t h = h
+start_before (equals ∷ xs) ts some t h = h
+start_before (open_paren ∷ xs) ts some t h = h
+start_before (close_paren ∷ xs) ts some t h = h
+start_before (open_bracket ∷ xs) ts some t h = h
+
+pub starts_longer : (ts us : List Lexeme) → starts_line ts ≡ true → starts_line (ts ++ us) ≡ true
+starts_longer [] us h = absurd cc
+starts_longer (ident w ∷ ts) us h = h
+starts_longer (val_name n ∷ []) us h = absurd cc
+starts_longer (val_name n ∷ (y ∷ ts)) us h = defines_first y ts (ts ++ us) h
+starts_longer (known_bits w ∷ ts) us h = h
+starts_longer (int w ∷ ts) us h = h
+starts_longer (comma ∷ ts) us h = h
+starts_longer (colon ∷ ts) us h = h
+starts_longer (equals ∷ ts) us h = h
+starts_longer (open_paren ∷ ts) us h = h
+starts_longer (close_paren ∷ ts) us h = h
+starts_longer (open_bracket ∷ ts) us h = h
+
+quiet_starts : (xs : List Lexeme) → 0 < length xs → NoStart xs → starts_line xs ≡ true → ⊥
+quiet_starts [] some q h = omega arith
+quiet_starts (x ∷ xs) some q h = let no = q.0 in cc
+
+-- a line that starts after tokens at which none starts: there is one such place
+one_start : (post ts x s : List Lexeme) → post ++ ts ≡ x ++ s → NoStart post → NoStart x → starts_line ts ≡ true → (s ≡ []) ⊎ (starts_line s ≡ true) → (x ≡ post) × (s ≡ ts)
+one_start post ts x s e p q t k = under (parted_twice post ts x s e)
+  where
+    shorter : (left : List Lexeme) → x ≡ post ++ left → ts ≡ left ++ s → (x ≡ post) × (s ≡ ts)
+    shorter [] a b = (a ∙ append-nil post, sym b)
+    shorter (y ∷ left) a b = absurd (quiet_starts (y ∷ left) (omega arith) (quiet_rest post (y ∷ left) (subst (λ (z : List Lexeme). NoStart z) a q)) (over k))
+      where
+        over : (s ≡ []) ⊎ (starts_line s ≡ true) → starts_line (y ∷ left) ≡ true
+        over (inl none) = subst (λ (z : List Lexeme). starts_line z ≡ true) (b ∙ ap (λ (z : List Lexeme). (y ∷ left) ++ z) none ∙ append-nil (y ∷ left)) t
+        over (inr start) = start_before (y ∷ left) s (omega arith) start (subst (λ (z : List Lexeme). starts_line z ≡ true) b t)
+    longer : (more : List Lexeme) → 0 < length more → post ≡ x ++ more → s ≡ more ++ ts → (s ≡ []) ⊎ (starts_line s ≡ true) → (x ≡ post) × (s ≡ ts)
+    longer more some a b (inl none) = let n = ap length (sym b ∙ none) in let m = length-append more ts in absurd (omega arith)
+    longer more some a b (inr start) =
+        absurd (quiet_starts more some (quiet_rest x more (subst (λ (z : List Lexeme). NoStart z) a p)) (start_before more ts some t (subst (λ (z : List Lexeme). starts_line z ≡ true) b start)))
+    under : Within post ts x s ⊎ Beyond post ts x s → (x ≡ post) × (s ≡ ts)
+    under (inl h) = shorter h.left h.first h.second
+    under (inr h) = longer h.more h.some h.first h.second k
+
+-- ---- items
+
+-- the items are those that the first tokens spell, and those that the others spell
+record Split (k : ItemType) (ws : List Item) (ts us : List Lexeme) : Type 0 where
+  pub xs : List Item
+  pub ys : List Item
+  pub whole : ws ≡ xs ++ ys
+  pub first : list_spells k xs ts
+  pub second : list_spells k ys us
+
+one_item : (k : ItemType) (a : Item) (ts : List Lexeme) → item_spells k a ts → list_spells k (a ∷ []) ts
+one_item k a ts h = record { prefix = ts; suffix = []; whole = sym (append-nil ts); first = h; second = refl }
+
+split_step : (k : ItemType) (a : Item) (ws : List Item) (pre post ts p s : List Lexeme) (w : List ℕ) → end_word k w ≡ true → NoStart post → starts_line ts ≡ true
+    → item_spells k a p → list_spells k ws s
+    → ((x : List Lexeme) → list_spells k ws (x ++ ident w ∷ (post ++ ts)) → Split k ws (x ++ ident w ∷ post) ts)
+    → Within pre (ident w ∷ (post ++ ts)) p s ⊎ Beyond pre (ident w ∷ (post ++ ts)) p s → Split k (a ∷ ws) (pre ++ ident w ∷ post) ts
+split_step k a ws pre post ts p s w e q t h more ih (inr b) =
+    let r = ih b.more (subst (λ (z : List Lexeme). list_spells k ws z) b.second more) in
+    record {
+      xs = a ∷ r.xs;
+      ys = r.ys;
+      whole = ap (λ (z : List Item). a ∷ z) r.whole;
+      first = record { prefix = p; suffix = b.more ++ ident w ∷ post; whole = ap (λ (z : List Lexeme). z ++ ident w ∷ post) b.first ∙ append_assoc p b.more (ident w ∷ post); first = h; second = r.first };
+      second = r.second;
+    }
+split_step k a ws pre post ts p s w e q t h more ih (inl b) = here b.left b.first b.second
+  where
+    here : (left : List Lexeme) → p ≡ pre ++ left → ident w ∷ (post ++ ts) ≡ left ++ s → Split k (a ∷ ws) (pre ++ ident w ∷ post) ts
+    here [] first second =
+        let r = ih [] (subst (λ (z : List Lexeme). list_spells k ws z) (sym second) more) in
+        record {
+          xs = a ∷ r.xs;
+          ys = r.ys;
+          whole = ap (λ (z : List Item). a ∷ z) r.whole;
+          first = record { prefix = p; suffix = ident w ∷ post; whole = ap (λ (z : List Lexeme). z ++ ident w ∷ post) (sym (first ∙ append-nil pre)); first = h; second = r.first };
+          second = r.second;
+        }
+    here (y ∷ left) first second =
+        let heads : ident w ≡ y = cc in
+        let tails : post ++ ts ≡ left ++ s = cc in
+        let line = item_ends k a p h in
+        let at : line.head ++ ident line.word ∷ line.others ≡ pre ++ ident w ∷ left = sym line.whole ∙ first ∙ ap (λ (z : Lexeme). pre ++ z ∷ left) (sym heads) in
+        let others : left ≡ line.others = one_end k line.head pre line.others left line.word w line.no_end (quiet_ends k line.others line.quiet) e at in
+        let place = one_start post ts left s tails q (subst (λ (z : List Lexeme). NoStart z) (sym others) line.quiet) t (list_starts k ws s more) in
+        let whole : p ≡ pre ++ ident w ∷ post = first ∙ (λ i. pre ++ sym heads i ∷ place.0 i) in
+        record {
+          xs = a ∷ [];
+          ys = ws;
+          whole = refl;
+          first = subst (λ (z : List Lexeme). list_spells k (a ∷ []) z) whole (one_item k a p h);
+          second = subst (λ (z : List Lexeme). list_spells k ws z) place.1 more;
+        }
+
+-- items are parted where one ends and a line starts
+items_part : (k : ItemType) (ws : List Item) (pre post ts : List Lexeme) (w : List ℕ) → end_word k w ≡ true → NoStart post → starts_line ts ≡ true
+    → list_spells k ws (pre ++ ident w ∷ (post ++ ts)) → Split k ws (pre ++ ident w ∷ post) ts
+items_part k [] pre post ts w e q t h = let n = ap length h in let m = length-append pre (ident w ∷ (post ++ ts)) in absurd (omega arith)
+items_part k (a ∷ ws) pre post ts w e q t h =
+    split_step k a ws pre post ts h.prefix h.suffix w e q t h.first h.second (λ x r. items_part k ws x post ts w e q t r) (parted_twice pre (ident w ∷ (post ++ ts)) h.prefix h.suffix h.whole)
+
+-- ---- texts
+
+-- tokens that a text begins with are its first
+first_tokens : (fs us : List (ℕ × Lexeme)) (n : ℕ) (bs rest other : List ℕ) → Begins n bs fs rest → Begins n bs us other → IsLastGap other → (more : List (ℕ × Lexeme)) × (us ≡ fs ++ more)
+first_tokens [] us n bs rest other h g last = (us, refl)
+first_tokens (f ∷ fs) [] n bs rest other h g last =
+    let one = next_found h.gap f.1 h.after bs h.stands in
+    let none : next_of bs ≡ ends = ap next_of g ∙ next_ends other last in
+    let bad : found f.1 h.after ≡ ends = sym one ∙ none in
+    absurd cc
+first_tokens (f ∷ fs) (u ∷ us) n bs rest other h g last =
+    let both : found f.1 h.after ≡ found u.1 g.after = sym (next_found h.gap f.1 h.after bs h.stands) ∙ next_found g.gap u.1 g.after bs g.stands in
+    let token : f.1 ≡ u.1 = cc in
+    let after : h.after ≡ g.after = cc in
+    let gaps : length h.gap ≡ length g.gap = sym (next_gap h.gap f.1 h.after bs h.stands) ∙ next_gap g.gap u.1 g.after bs g.stands in
+    let at = h.offset_is in
+    let other_at = g.offset_is in
+    let offset : f.0 ≡ u.0 = omega arith in
+    let more : Begins (f.0 + length (spelling f.1)) h.after us other = subst (λ (m : ℕ). Begins m h.after us other) (λ i. sym offset i + length (spelling (sym token i))) (subst (λ (x : List ℕ). Begins (u.0 + length (spelling u.1)) x us other) (sym after) g.more) in
+    let r = first_tokens fs us (f.0 + length (spelling f.1)) h.after rest other h.more more last in
+    (r.0, (λ i. (sym offset i, sym token i) ∷ r.1 i))
+
+-- a text that begins with a line still does with more after it
+pub starts_more : (b more : List ℕ) → StartsLine b → StartsLine (b ++ more)
+starts_more b more h =
+    let n = length-append h.rest more in
+    let some = h.more in
+    record {
+      tokens = h.tokens;
+      rest = h.rest ++ more;
+      begins = begins_more h.tokens 0 b h.rest more (inr h.more) h.begins;
+      starts = h.starts;
+      more = omega arith;
+    }
+
+part : (k : ItemType) (a b : List ℕ) (ws : List Item) → IsSeam k a b → TextSpells k (a ++ b) ws → (xs : List Item) × (ys : List Item) × (ws ≡ xs ++ ys) × TextSpells k a xs × TextSpells k b ys
+part k a b ws seam h =
+    let both = tokens_part a b h.0 seam.lines h.1 in
+    let ts = both.0 in
+    let vs = both.1 in
+    let end = seam.ends in
+    let a_text : IsTextOf (end.before ++ end.last) ts = subst (λ (x : List ℕ). IsTextOf x ts) end.whole both.2 in
+    let lines = tokens_part end.before end.last ts end.lines a_text in
+    let same : lines.1 ≡ end.is_end.tokens = one_reading end.last lines.1 end.is_end.tokens lines.3 end.is_end.is_text in
+    let word = end.is_end.word in
+    let others = end.is_end.others in
+    let last_kinds : kinds (moved (length end.before) lines.1) ≡ ident word ∷ others = kinds_moved (length end.before) lines.1 ∙ ap kinds same ∙ end.is_end.kinds_are in
+    let a_kinds : kinds ts ≡ kinds lines.0 ++ ident word ∷ others = ap kinds lines.4 ∙ kinds-append lines.0 (moved (length end.before) lines.1) ∙ ap (λ (x : List Lexeme). kinds lines.0 ++ x) last_kinds in
+    let start = seam.starts in
+    let firsts = first_tokens start.tokens vs 0 b start.rest both.3.0 start.begins both.3.1 both.3.2 in
+    let b_starts : starts_line (kinds vs) ≡ true =
+    subst (λ (x : List Lexeme). starts_line x ≡ true) (sym (ap kinds firsts.1 ∙ kinds-append start.tokens firsts.0)) (starts_longer (kinds start.tokens) (kinds firsts.0) start.starts) in
+    let whole : kinds h.0 ≡ kinds lines.0 ++ ident word ∷ (others ++ kinds vs) =
+    ap kinds both.4 ∙ kinds-append ts (moved (length a) vs) ∙ (λ i. a_kinds i ++ kinds_moved (length a) vs i) ∙ append_assoc (kinds lines.0) (ident word ∷ others) (kinds vs) in
+    let r = items_part k ws (kinds lines.0) others (kinds vs) word end.is_end.ends end.is_end.no_start b_starts (subst (λ (x : List Lexeme). list_spells k ws x) whole h.2) in
+    (r.xs, r.ys, r.whole, (ts, both.2, subst (λ (x : List Lexeme). list_spells k r.xs x) (sym a_kinds) r.first), (vs, both.3, r.second))
+
+pub seams_part : SeamsPart
+seams_part k a b ws seam = (
+  λ h. part k a b ws seam h,
+  λ h. subst (λ (x : List Item). TextSpells k (a ++ b) x) (sym h.2) (items_join k a b h.0 h.1 seam.lines h.3 h.4),
+)

@@ -1,0 +1,6 @@
+mod Nodes
+mod EndLines
+mod Cuts
+mod Scan
+mod Slices
+mod Progress

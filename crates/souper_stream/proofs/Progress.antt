@@ -1,0 +1,105 @@
+-- What was read of a stream, and what was handed on of it.
+use Rattle.std.proofs.Common.{◌≡◌, ◌⊎◌, inl, inr, ℕ, ◌+◌, ◌-◌, ◌<◌, ◌≤◌, Bool, true, false, List, [], ◌∷◌, ◌++◌, length, take, drop, refl, sym, ap, ◌∙◌, subst, arith, append_assoc, append-nil, length-append}
+use Rattle.std.proofs.lemmas.List.{take-append-drop}
+use Rattle.souper_graph.specs.Values.{Item}
+use Rattle.souper_graph.specs.Syntax.Tokens.{Lexeme, IsGap, IsLastGap, Begins, IsTextOf}
+use Rattle.souper_graph.specs.Syntax.Spelling.{kinds, ItemType, list_spells, TextSpells, SpellsNone}
+use Rattle.souper_lexer.proofs.TokenLaws.{begins_length, begins_append}
+use Rattle.souper_ir.specs.Joining.{IsLines, moved}
+use Rattle.souper_ir.specs.Sinks.{PrefixSpells}
+use Rattle.souper_ir.specs.Laws.Steps.{kinds-append}
+use Rattle.souper_ir.proofs.Items.Lists.{text_alone}
+use Rattle.souper_ir.proofs.Items.Joining.{begins_more, begins_moved, begins_later, left_of_lines, gap_of_lines, kinds_moved, items_join, list_append}
+use Rattle.souper_stream.specs.Seams.{IsEndLine, EndsItem, StartsLine, IsSeam}
+use Rattle.souper_stream.proofs.Cuts.{starts_more, seams_part}
+
+-- ---- lines
+
+pub lines_append : (a b : List ℕ) → IsLines a → IsLines b → IsLines (a ++ b)
+lines_append a b l (inl none) = subst (λ (x : List ℕ). IsLines x) (sym (ap (λ (x : List ℕ). a ++ x) none ∙ append-nil a)) l
+lines_append a b l (inr end) = inr (a ++ end.0, ap (λ (x : List ℕ). a ++ x) end.1 ∙ sym (append_assoc a end.0 (10 ∷ [])))
+
+-- nothing was handed on, or a seam is after what was
+abbrev pub IsOpen : ItemType → List ℕ → List ℕ → Type 0
+IsOpen k done fresh = (done ≡ []) ⊎ IsSeam k done fresh
+
+open_lines : (k : ItemType) (done fresh : List ℕ) → IsOpen k done fresh → IsLines done
+open_lines k done fresh (inl none) = inl none
+open_lines k done fresh (inr seam) = seam.lines
+
+-- more was read
+pub open_more : (k : ItemType) (done fresh more : List ℕ) → IsOpen k done fresh → IsOpen k done (fresh ++ more)
+open_more k done fresh more (inl none) = inl none
+open_more k done fresh more (inr seam) = inr (record { lines = seam.lines; ends = seam.ends; starts = starts_more fresh more seam.starts })
+
+-- a seam after more lines
+pub seam_later : (k : ItemType) (done part rest : List ℕ) → IsLines done → IsSeam k part rest → IsSeam k (done ++ part) rest
+seam_later k done part rest l seam =
+    let end = seam.ends in
+    record {
+      lines = lines_append done part l seam.lines;
+      ends = record {
+        before = done ++ end.before;
+        last = end.last;
+        whole = ap (λ (x : List ℕ). done ++ x) end.whole ∙ sym (append_assoc done end.before end.last);
+        lines = lines_append done end.before l end.lines;
+        last_lines = end.last_lines;
+        is_end = end.is_end;
+      };
+      starts = seam.starts;
+    }
+
+-- ---- items
+
+pub none_spelled : (k : ItemType) → TextSpells k [] []
+none_spelled k = ([], ([], refl, record { gap = []; last = []; is_gap = ([], tt, refl); is_last = tt; text = refl }), refl)
+
+-- the items of what was handed on, and of the part after it
+pub spelled_more : (k : ItemType) (done fresh part : List ℕ) (xs ys : List Item) → IsOpen k done fresh → TextSpells k done xs → TextSpells k part ys → TextSpells k (done ++ part) (xs ++ ys)
+spelled_more k done fresh part xs ys open a b = items_join k done part xs ys (open_lines k done fresh open) a b
+
+-- a part that spells no items, after what was handed on and before a seam
+pub none_after : (k : ItemType) (done part rest : List ℕ) → IsOpen k done (part ++ rest) → IsSeam k part rest → SpellsNone k part → SpellsNone k (done ++ (part ++ rest))
+none_after k done part rest open seam none items spelled = under open
+  where
+    inner : (ys : List Item) → TextSpells k (part ++ rest) ys → ⊥
+    inner ys h = let r = (seams_part k part rest ys seam).0 h in none r.0 r.3
+    under : IsOpen k done (part ++ rest) → ⊥
+    under (inl e) = inner items (subst (λ (x : List ℕ). TextSpells k (x ++ (part ++ rest)) items) e spelled)
+    under (inr s) = let r = (seams_part k done (part ++ rest) items s).0 spelled in inner r.1 r.4
+
+-- the same at the end of what was read
+pub none_at_end : (k : ItemType) (done part : List ℕ) → IsOpen k done part → SpellsNone k part → SpellsNone k (done ++ part)
+none_at_end k done part open none items spelled = under open
+  where
+    under : IsOpen k done part → ⊥
+    under (inl e) = none items (subst (λ (x : List ℕ). TextSpells k (x ++ part) items) e spelled)
+    under (inr s) = let r = (seams_part k done part items s).0 spelled in none r.1 r.4
+
+-- ---- items that a text begins with
+
+-- tokens of lines, and those that the text after them begins with
+begins_join : (a b ra rest : List ℕ) (ts us : List (ℕ × Lexeme)) → Begins 0 a ts ra → (ts ≡ []) ⊎ (0 < length ra) → IsGap ra → Begins 0 b us rest → (other : List ℕ) × Begins 0 (a ++ b) (ts ++ moved (length a) us) other
+begins_join a b ra rest ts [] h some g k = (ra ++ b, subst (λ (x : List (ℕ × Lexeme)). Begins 0 (a ++ b) x (ra ++ b)) (sym (append-nil ts)) (begins_more ts 0 a ra b some h))
+begins_join a b ra rest ts (u ∷ us) h some g k =
+    let shorter = begins_length ts 0 a ra h in
+    let n : ℕ = length a - length ra in
+    let later : Begins (length a + 0) b (moved (length a) (u ∷ us)) rest = begins_moved (length a) (u ∷ us) 0 b rest k in
+    let here : Begins (n + length ra) b (moved (length a) (u ∷ us)) rest = subst (λ (m : ℕ). Begins m b (moved (length a) (u ∷ us)) rest) (let e : length a + 0 ≡ n + length ra = omega arith in e) later in
+    let whole : Begins n (ra ++ b) (moved (length a) (u ∷ us)) rest = begins_later ra (length a + u.0, u.1) (moved (length a) us) n b rest g here in
+    let lengths : n ≡ 0 + (length (a ++ b) - length (ra ++ b)) = omega (arith, length-append a b, length-append ra b) in
+    (rest, begins_append ts (moved (length a) (u ∷ us)) 0 (a ++ b) (ra ++ b) rest (begins_more ts 0 a ra b some h) (subst (λ (m : ℕ). Begins m (ra ++ b) (moved (length a) (u ∷ us)) rest) lengths whole))
+
+-- items of lines, and those that the text after them begins with
+pub prefix_after : (k : ItemType) (done part : List ℕ) (xs ys : List Item) → IsLines done → TextSpells k done xs → PrefixSpells k part ys → PrefixSpells k (done ++ part) (xs ++ ys)
+prefix_after k done part xs ys l a b =
+    let ts = a.0 in
+    let text = a.1 in
+    let j = begins_join done part text.0 b.1 ts b.0 text.1 (left_of_lines ts done text.0 l text.1) (gap_of_lines ts done text.0 l text.1 text.2) b.2 in
+    let are : kinds ts ++ kinds b.0 ≡ kinds (ts ++ moved (length done) b.0) =
+    ap (λ (x : List Lexeme). kinds ts ++ x) (sym (kinds_moved (length done) b.0)) ∙ sym (kinds-append ts (moved (length done) b.0)) in
+    (ts ++ moved (length done) b.0, j.0, j.1, subst (λ (x : List Lexeme). list_spells k (xs ++ ys) x) are (list_append k xs ys (kinds ts) (kinds b.0) a.2 b.3))
+
+-- and with more after them
+pub prefix_longer : (k : ItemType) (part rest : List ℕ) (ys : List Item) → IsLines part → PrefixSpells k part ys → PrefixSpells k (part ++ rest) ys
+prefix_longer k part rest ys l b = (b.0, b.1 ++ rest, begins_more b.0 0 part b.1 rest (left_of_lines b.0 part b.1 l b.2) b.2, b.3)

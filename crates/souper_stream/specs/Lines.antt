@@ -1,0 +1,42 @@
+-- Definitions. Which tokens begin a statement or one of an item's last lines.
+use Rattle.std.specs.Prelude.{◌≡◌, ◌||◌, Bool, true, false, ℕ, List, [], ◌∷◌, codes, bytes_eq}
+use Rattle.souper_graph.specs.Syntax.Tokens.{Lexeme, ident, val_name, equals, colon}
+use Rattle.souper_graph.specs.Syntax.Spelling.{ItemType, left_hand_side, right_hand_side, replacement}
+
+-- the word begins one of an item's last lines
+abbrev pub last_word : List ℕ → Bool
+last_word w = bytes_eq w (codes "infer") || (bytes_eq w (codes "result") || bytes_eq w (codes "cand"))
+
+-- the word begins a path condition, or one of an item's last lines
+abbrev pub line_word : List ℕ → Bool
+line_word w = last_word w || (bytes_eq w (codes "pc") || bytes_eq w (codes "blockpc"))
+
+-- the word begins the line that an item of the type ends with
+abbrev pub end_word : ItemType → List ℕ → Bool
+end_word left_hand_side w = bytes_eq w (codes "infer")
+end_word right_hand_side w = bytes_eq w (codes "result")
+end_word replacement w = bytes_eq w (codes "result") || bytes_eq w (codes "cand")
+
+-- what follows a name that is defined: its type, or the equals sign
+abbrev pub defines : List Lexeme → Bool
+defines (equals ∷ ts) = true
+defines (colon ∷ ts) = true
+defines _ = false
+
+-- the tokens begin with a statement, or with one of an item's last lines
+abbrev pub starts_line : List Lexeme → Bool
+starts_line (ident w ∷ ts) = line_word w
+starts_line (val_name n ∷ ts) = defines ts
+starts_line _ = false
+
+-- at none of these tokens does a statement or one of an item's last lines begin
+abbrev pub NoStart : List Lexeme → Type 0
+NoStart [] = Unit {0}
+NoStart (t ∷ ts) = (starts_line (t ∷ ts) ≡ false) × NoStart ts
+
+-- the token shows that a line begins: it is the word of one, or it defines the name before it, if there is one
+abbrev pub shows_line : Bool → Lexeme → Bool
+shows_line named (ident w) = line_word w
+shows_line named equals = named
+shows_line named colon = named
+shows_line named _ = false

@@ -1,0 +1,129 @@
+//! Where lines begin in a text, and where items end.
+ghost use Rattle.std.specs.Prelude.{◌≡◌, ◌≤◌, ◌<◌, ◌→◌, length, map, take, drop, true, false, IsCharBoundary};
+ghost use Rattle.souper_graph.specs.Syntax.Spelling.{kinds};
+ghost use Rattle.souper_lexer.specs.TokenView.{lexeme_of};
+ghost use Rattle.souper_ir.specs.NodeReadings.{is_name};
+ghost use Rattle.souper_ir.specs.Joining.{IsLines};
+ghost use Rattle.souper_stream.specs.Lines.{last_word, line_word, shows_line, NoStart};
+ghost use Rattle.souper_stream.specs.Seams.{IsEndLine, StartsLine, IsSeam};
+
+use crate::ends::StreamItem;
+use souper_lexer::{Lexer, Token};
+
+fn is_last_word(word: &str) -> bool
+    ensures { result ≡ last_word word.now }
+{
+    word == "infer" || (word == "result" || word == "cand")
+}
+
+// Whether the word begins a path condition, or one of an item's last lines.
+fn is_line_word(word: &str) -> bool
+    ensures { result ≡ line_word word.now }
+{
+    is_last_word(word) || (word == "pc" || word == "blockpc")
+}
+
+// Whether the token shows that a line begins: at its word, or at what defines the name before it.
+fn shows_line(named: bool, token: Token<'_>) -> bool
+    ensures { result ≡ shows_line named (lexeme_of token) }
+{
+    match token {
+        Token::Ident(word) => is_line_word(word),
+        Token::Eq => named,
+        Token::Colon => named,
+        _ => false,
+    }
+}
+
+fn is_name(token: Token<'_>) -> bool
+    ensures { result ≡ is_name (lexeme_of token) }
+{
+    match token {
+        Token::ValName(_) => true,
+        _ => false,
+    }
+}
+
+// Whether neither a statement nor one of an item's last lines begins in the remaining tokens, and no fault follows them.
+fn is_quiet(lexer: &mut Lexer<'_>) -> bool
+    ensures tokens { result ≡ true → NoStart (kinds lexer.old.tokens) }
+    ensures sound { result ≡ true → lexer.old.fault ≡ false }
+{
+    let mut named = false;
+    'tokens: loop {
+        let token = match lexer.next_token() {
+            Ok(Some((_, token))) => token,
+            Ok(None) => return true,
+            Err(_) => return false,
+        };
+        if shows_line(named, token) {
+            return false;
+        }
+        named = is_name(token);
+    }
+}
+
+// Whether the lines have the tokens of the line that an item ends with.
+fn is_end_line<T: StreamItem>(lines: &str) -> bool
+    ensures { result ≡ true → IsEndLine T.item_type lines.now }
+{
+    let mut lexer = Lexer::new(lines);
+    match lexer.next_token() {
+        Ok(Some((_, Token::Ident(word)))) => T::ends_with(word) && is_quiet(&mut lexer),
+        _ => false,
+    }
+}
+
+// Whether the line begins with a statement, or is one of an item's last lines.
+fn starts_line(line: &str) -> bool
+    requires { IsLines line.now }
+    ensures { result ≡ true → StartsLine line.now }
+{
+    let mut lexer = Lexer::new(line);
+    match lexer.next_token() {
+        Ok(Some((_, Token::Ident(word)))) => is_line_word(word),
+        Ok(Some((_, Token::ValName(_)))) => {
+            matches!(lexer.next_token(), Ok(Some((_, Token::Eq | Token::Colon))))
+        }
+        _ => false,
+    }
+}
+
+// The length of the whole lines among the first bytes, as many as `end` says.
+fn lines_len(bytes: &[u8], end: usize) -> usize
+    requires { end ≤ length bytes.now }
+    ensures bound { result ≤ end }
+    ensures lines { IsLines (take result bytes.now) }
+{
+    let mut len = end;
+    while len > 0 && bytes[len - 1] != b'\n' {
+        len -= 1;
+    }
+    len
+}
+
+/// The length of lines that the text begins with, after which an item has ended and a line of the next begins: of all such
+/// that are found line by line, the most. 0 if none is found.
+pub(crate) fn complete_len<T: StreamItem>(text: &str) -> usize
+    ensures bound { result ≤ length text.now }
+    ensures boundary { IsCharBoundary text.now result }
+    ensures seam { 0 < result → IsSeam T.item_type (take result text.now) (drop result text.now) }
+{
+    let mut end = lines_len(text.as_bytes(), text.len());
+    let mut next = None;
+    while end > 0 {
+        let start = lines_len(text.as_bytes(), end - 1);
+        let line = &text[start..end];
+        if let Some(next) = next
+            && is_end_line::<T>(line)
+            && is_end_line::<T>(&text[start..next])
+        {
+            return next;
+        }
+        if starts_line(line) {
+            next = Some(start);
+        }
+        end = start;
+    }
+    0
+}
