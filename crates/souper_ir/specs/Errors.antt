@@ -130,15 +130,18 @@ pub record IsBefore (before : Before) (text : List ℕ) : Type 0 where
   pub bytes_are : length text ≡ before.bytes
   pub lines_are : newlines text ≡ before.lines
 
--- What became of an error of a part of a text, which begins at offset skipped of the source, if other lines come before the
--- source: a refusal at an offset shows its place in those lines and the source together, or memory ran out for that; any
--- other error is unchanged. The first byte of a source that has other lines before it is not the one that is refused: its
--- place would be that of the byte before it.
+-- what became of a refusal at that offset of the source, before which other lines come: it shows its place in these lines and
+-- the source together, or memory ran out for that. The place of an offset is that of the byte before it, which must be there.
+abbrev pub IsPlacedAfter : Option (List ℕ) → Before → List ℕ → ℕ → ParseError → Type 0
+IsPlacedAfter file before source offset new = (kind_of new ≡ Memory) ⊎ ((text : List ℕ) → IsBefore before text → (0 < offset) ⊎ (text ≡ [])
+    → length (text ++ source) + 1 < 2 ^ 64 → IsRefusalAt file (text ++ source) (length text + offset) new)
+
+-- what became of an error of a part of a text, which begins at the offset skipped of the source; an error that is no refusal is
+-- unchanged
 abbrev pub IsLocatedAfter : Option (List ℕ) → Before → List ℕ → ℕ → ParseError → ParseError → Type 0
 IsLocatedAfter file before source skipped old new = OnKind (kind_of old)
     (new ≡ old)
-    (IfSome (offset_of old) (λ offset. (kind_of new ≡ Memory) ⊎ ((text : List ℕ) → IsBefore before text → (0 < skipped + offset) ⊎ (text ≡ [])
-    → length (text ++ source) + 1 < 2 ^ 64 → IsRefusalAt file (text ++ source) (length text + (skipped + offset)) new)))
+    (IfSome (offset_of old) (λ offset. IsPlacedAfter file before source (skipped + offset) new))
     (new ≡ old)
 
 -- the cause of a reader's error

@@ -4,3 +4,6 @@ mod Cuts
 mod Scan
 mod Slices
 mod Progress
+mod Bytes
+mod Keeping
+mod Turns

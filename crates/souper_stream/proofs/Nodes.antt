@@ -44,7 +44,7 @@ all_append P (x ∷ xs) ys a b = (a.0, all_append P xs ys a.1 b)
 -- ---- words
 
 other_word : (P : List ℕ → Type 0) (w k : List ℕ) → P w → (P k → ⊥) → bytes_eq w k ≡ false
-other_word P w k h no = is_not (bytes_eq w k) (λ e. no (subst P (word_means w k e) h))
+other_word P w k h never = is_not (bytes_eq w k) (λ e. never (subst P (word_means w k e) h))
 
 -- a word with a property that none of those that begin a line has
 no_line_word : (P : List ℕ → Type 0) (w : List ℕ) → P w → (P (codes "infer") → ⊥) → (P (codes "result") → ⊥) → (P (codes "cand") → ⊥) → (P (codes "pc") → ⊥) → (P (codes "blockpc") → ⊥) → line_word w ≡ false

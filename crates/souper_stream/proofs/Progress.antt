@@ -56,11 +56,11 @@ none_spelled k = ([], ([], refl, record { gap = []; last = []; is_gap = ([], tt,
 
 -- the items of what was handed on, and of the part after it
 pub spelled_more : (k : ItemType) (done fresh part : List ℕ) (xs ys : List Item) → IsOpen k done fresh → TextSpells k done xs → TextSpells k part ys → TextSpells k (done ++ part) (xs ++ ys)
-spelled_more k done fresh part xs ys open a b = items_join k done part xs ys (open_lines k done fresh open) a b
+spelled_more k done fresh part xs ys opened a b = items_join k done part xs ys (open_lines k done fresh opened) a b
 
 -- a part that spells no items, after what was handed on and before a seam
 pub none_after : (k : ItemType) (done part rest : List ℕ) → IsOpen k done (part ++ rest) → IsSeam k part rest → SpellsNone k part → SpellsNone k (done ++ (part ++ rest))
-none_after k done part rest open seam none items spelled = under open
+none_after k done part rest opened seam none items spelled = under opened
   where
     inner : (ys : List Item) → TextSpells k (part ++ rest) ys → ⊥
     inner ys h = let r = (seams_part k part rest ys seam).0 h in none r.0 r.3
@@ -70,7 +70,7 @@ none_after k done part rest open seam none items spelled = under open
 
 -- the same at the end of what was read
 pub none_at_end : (k : ItemType) (done part : List ℕ) → IsOpen k done part → SpellsNone k part → SpellsNone k (done ++ part)
-none_at_end k done part open none items spelled = under open
+none_at_end k done part opened none items spelled = under opened
   where
     under : IsOpen k done part → ⊥
     under (inl e) = none items (subst (λ (x : List ℕ). TextSpells k (x ++ part) items) e spelled)

@@ -1,5 +1,5 @@
 -- Lines of a text by their lengths.
-use Rattle.std.proofs.Common.{◌≡◌, ◌⊎◌, inl, inr, ℕ, ◌+◌, ◌-◌, ◌<◌, ◌≤◌, min, List, [], ◌∷◌, ◌++◌, length, take, drop, get_or, IsUtf8, refl, sym, ap, ◌∙◌, subst, arith, append_assoc, length-append}
+use Rattle.std.proofs.Common.{◌≡◌, ◌⊎◌, inl, inr, ℕ, ◌+◌, ◌-◌, ◌<◌, ◌≤◌, Bool, true, false, min, List, [], ◌∷◌, ◌++◌, length, take, drop, get_or, IsUtf8, refl, sym, ap, ◌∙◌, subst, arith, append_assoc, length-append}
 use Rattle.std.specs.Str.{IsCharBoundary}
 use Rattle.std.proofs.Math.Seq.{take-append-add, drop-append-add}
 use Rattle.std.proofs.lemmas.List.{take-append-drop, length-take, take_more, get_or_at}
@@ -7,7 +7,11 @@ use Rattle.std.proofs.lemmas.Str.{IsCharBoundary-start, IsCharBoundary-after_asc
 use Rattle.souper_ir.specs.Places.{EndsIn}
 use Rattle.souper_ir.specs.Joining.{IsLines}
 use Rattle.souper_ir.proofs.Items.Parting.{lines_end}
-use Rattle.souper_graph.specs.Syntax.Spelling.{ItemType}
+use Rattle.souper_graph.specs.Syntax.Tokens.{Lexeme, Begins, AreTokensOf}
+use Rattle.souper_graph.specs.Syntax.Spelling.{kinds, ItemType}
+use Rattle.souper_ir.proofs.Items.Texts.{begins_prefix}
+use Rattle.souper_ir.proofs.Items.Joining.{left_of_lines}
+use Rattle.souper_stream.specs.Lines.{starts_line}
 use Rattle.souper_stream.specs.Seams.{IsEndLine, StartsLine, IsSeam}
 use Rattle.souper_stream.proofs.Cuts.{starts_more}
 
@@ -51,6 +55,16 @@ lines_boundary xs n utf8 l (inr end) =
 -- a part between the ends of lines
 pub lines_between : (xs : List ℕ) (s n : ℕ) → s ≤ n → n ≤ length xs → IsLines (take n xs) → IsLines (take (n - s) (drop s xs))
 lines_between xs s n l k h = lines_end (take s xs) (take (n - s) (drop s xs)) (subst (λ (x : List ℕ). IsLines x) (take_parts xs s n l (omega arith)) h)
+
+-- a line starts with the first tokens of these lines
+pub line_begun : (line : List ℕ) (all first others : List (ℕ × Lexeme)) (fault : Bool) → IsLines line → AreTokensOf line all fault → all ≡ first ++ others → starts_line (kinds first) ≡ true → StartsLine line
+line_begun line all first others fault l are e h =
+    let b = begins_prefix first others 0 line are.rest (subst (λ (x : List (ℕ × Lexeme)). Begins 0 line x are.rest) e are.front) in
+    record { tokens = first; rest = b.0; begins = b.1; starts = h; more = some b.0 (left_of_lines first line b.0 l b.1) }
+  where
+    some : (n : List ℕ) → (first ≡ []) ⊎ (0 < length n) → 0 < length n
+    some n (inl none) = let bad : starts_line (kinds []) ≡ true = subst (λ (x : List (ℕ × Lexeme)). starts_line (kinds x) ≡ true) none h in absurd cc
+    some n (inr k) = k
 
 -- at n, no earlier than end, a line starts that is after whole lines
 pub record IsStart (text : List ℕ) (end n : ℕ) : Type 0 where

@@ -1,3 +1,4 @@
 pub mod Lines
 pub mod Seams
 pub mod Reading
+pub mod Holding

@@ -1,22 +1,28 @@
 -- Definitions. What is read of a stream, and what becomes of it.
-use Rattle.std.specs.Prelude.{◌≡◌, ◌⊎◌, ℕ, ◌≤◌, Bool, true, List, ◌++◌, length, take, drop, Option, None}
-use Rattle.std.specs.Io.KnownBytes.{Consumes, IsAtEnd}
+use Rattle.std.specs.Prelude.{◌≡◌, ◌⊎◌, ℕ, ◌+◌, ◌^◌, ◌<◌, ◌≤◌, Bool, true, false, List, ◌++◌, length, take, drop, Option, None, IfSome}
+use Rattle.std.specs.Io.KnownBytes.{Consumes}
 use Rattle.souper_graph.specs.Values.{Item}
 use Rattle.souper_graph.specs.Syntax.Spelling.{ItemType, SpellsNone}
 use Rattle.souper_ir.specs.declared.parse.error.ParseError.{ParseError}
 use Rattle.souper_ir.specs.Answers.{IsStrError}
-use Rattle.souper_ir.specs.Sinks.{TakesPrefix}
+use Rattle.souper_ir.specs.Errors.{IsRefusalAt}
+use Rattle.souper_ir.specs.Sinks.{TakesText, TakesPrefix}
 use Rattle.souper_stream.specs.Seams.{IsSeam}
 
--- these bytes more were read and are held; if the input has ended, nothing is left of it
+-- if the bytes of a reader are known, they are these
+abbrev pub AreAll : Option (List ℕ) → List ℕ → Type 0
+AreAll known bytes = IfSome known (λ all. all ≡ bytes)
+
+-- these bytes more were read and are held; if the input has ended, they are all that was left of it
 pub record ReadsMore (before after : Option (List ℕ)) (old new : List ℕ) (ended : Bool) (more : List ℕ) : Type 0 where
   pub held : new ≡ old ++ more
   pub consumed : Consumes before after more
-  pub at_end : ended ≡ true → IsAtEnd after
+  pub all_read : ended ≡ true → AreAll before more
 
--- the first n bytes are all that was read, if the input has ended, or else nothing, or up to a seam
+-- If the input has ended, the first n bytes are all that was read. Else there are none, or a seam is after them.
 abbrev pub IsComplete : ItemType → Bool → List ℕ → ℕ → Type 0
-IsComplete k ended fresh n = ((ended ≡ true) × (n ≡ length fresh)) ⊎ (n ≡ 0) ⊎ IsSeam k (take n fresh) (drop n fresh)
+IsComplete k true fresh n = n ≡ length fresh
+IsComplete k false fresh n = (n ≡ 0) ⊎ IsSeam k (take n fresh) (drop n fresh)
 
 abbrev pub IsTaken : ItemType → Bool → List ℕ → ℕ → Type 0
 IsTaken k ended fresh n = (n ≤ length fresh) × IsComplete k ended fresh n
@@ -27,3 +33,23 @@ pub record IsRefusedPart {S : Type 0} (k : ItemType) (ended : Bool) (fresh : Lis
   pub taken : IsTaken k ended fresh len
   pub refused : IsStrError k None (take len fresh) e
   pub before : TakesPrefix holds k (take len fresh) old new
+
+-- all of a stream was read, it spells items, and the sink took them
+pub record IsStreamTaken {S : Type 0} (k : ItemType) (before after : Option (List ℕ)) (holds : S → List Item → Type 0) (old new : S) : Type 0 where
+  pub read : List ℕ
+  pub consumed : Consumes before after read
+  pub all_read : AreAll before read
+  pub taken : TakesText holds k read old new
+
+-- no text that begins with what was read of a stream spells items; or what was read is all, and spells none
+abbrev pub NeverSpells : ItemType → Option (List ℕ) → List ℕ → Type 0
+NeverSpells k before read = ((more : List ℕ) → SpellsNone k (read ++ more)) ⊎ (AreAll before read × SpellsNone k read)
+
+-- The stream was refused: whatever follows what was read of it, the whole spells no items. The sink took items that it begins
+-- with, and the error has and shows the place in the whole of what was read.
+pub record IsStreamRefused {S : Type 0} (k : ItemType) (file : Option (List ℕ)) (before after : Option (List ℕ)) (holds : S → List Item → Type 0) (old new : S) (e : ParseError) : Type 0 where
+  pub read : List ℕ
+  pub consumed : Consumes before after read
+  pub never : NeverSpells k before read
+  pub taken : TakesPrefix holds k read old new
+  pub placed : length read + 1 < 2 ^ 64 → (offset : ℕ) × (offset ≤ length read) × IsRefusalAt file read offset e

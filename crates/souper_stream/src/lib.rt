@@ -8,7 +8,10 @@
 #![tactic(auto)]
 
 mod ends;
+mod held;
 pub mod laws;
 mod lines;
+mod read;
 
 pub use ends::StreamItem;
+pub use read::read_into;

@@ -1,10 +1,11 @@
 //! Where lines begin in a text, and where items end.
-ghost use Rattle.std.specs.Prelude.{◌≡◌, ◌≤◌, ◌<◌, ◌→◌, length, map, take, drop, true, false, IsCharBoundary};
+ghost use Rattle.std.specs.Prelude.{◌≡◌, ◌≤◌, ◌<◌, ◌∷◌, [], length, map, take, drop, true, false, IsCharBoundary};
 ghost use Rattle.souper_graph.specs.Syntax.Spelling.{kinds};
 ghost use Rattle.souper_lexer.specs.TokenView.{lexeme_of};
 ghost use Rattle.souper_ir.specs.NodeReadings.{is_name};
 ghost use Rattle.souper_ir.specs.Joining.{IsLines};
-ghost use Rattle.souper_stream.specs.Lines.{last_word, line_word, shows_line, NoStart};
+ghost use Rattle.souper_stream.specs.Lines.{last_word, line_word, shows_line, defines, NoStart};
+ghost use Rattle.souper_stream.specs.Reading.{IsTaken};
 ghost use Rattle.souper_stream.specs.Seams.{IsEndLine, StartsLine, IsSeam};
 
 use crate::ends::StreamItem;
@@ -25,7 +26,7 @@ fn is_line_word(word: &str) -> bool
 
 // Whether the token shows that a line begins: at its word, or at what defines the name before it.
 fn shows_line(named: bool, token: Token<'_>) -> bool
-    ensures { result ≡ shows_line named (lexeme_of token) }
+    ensures { result ≡ shows_line named (lexeme_of token.entry) }
 {
     match token {
         Token::Ident(word) => is_line_word(word),
@@ -36,7 +37,7 @@ fn shows_line(named: bool, token: Token<'_>) -> bool
 }
 
 fn is_name(token: Token<'_>) -> bool
-    ensures { result ≡ is_name (lexeme_of token) }
+    ensures { result ≡ is_name (lexeme_of token.entry) }
 {
     match token {
         Token::ValName(_) => true,
@@ -74,23 +75,39 @@ fn is_end_line<T: StreamItem>(lines: &str) -> bool
     }
 }
 
+// Whether the token, after a name, says that the name is defined.
+fn defines(token: Token<'_>) -> bool
+    ensures { result ≡ defines (lexeme_of token.entry ∷ []) }
+{
+    match token {
+        Token::Eq => true,
+        Token::Colon => true,
+        _ => false,
+    }
+}
+
 // Whether the line begins with a statement, or is one of an item's last lines.
 fn starts_line(line: &str) -> bool
     requires { IsLines line.now }
     ensures { result ≡ true → StartsLine line.now }
 {
     let mut lexer = Lexer::new(line);
-    match lexer.next_token() {
-        Ok(Some((_, Token::Ident(word)))) => is_line_word(word),
-        Ok(Some((_, Token::ValName(_)))) => {
-            matches!(lexer.next_token(), Ok(Some((_, Token::Eq | Token::Colon))))
-        }
+    let first = match lexer.next_token() {
+        Ok(Some((_, token))) => token,
+        _ => return false,
+    };
+    match first {
+        Token::Ident(word) => is_line_word(word),
+        Token::ValName(_) => match lexer.next_token() {
+            Ok(Some((_, token))) => defines(token),
+            _ => false,
+        },
         _ => false,
     }
 }
 
-// The length of the whole lines among the first bytes, as many as `end` says.
-fn lines_len(bytes: &[u8], end: usize) -> usize
+/// The length of the whole lines among the first bytes, as many as `end` says.
+pub(crate) fn lines_len(bytes: &[u8], end: usize) -> usize
     requires { end ≤ length bytes.now }
     ensures bound { result ≤ end }
     ensures lines { IsLines (take result bytes.now) }
@@ -109,10 +126,11 @@ pub(crate) fn complete_len<T: StreamItem>(text: &str) -> usize
     ensures boundary { IsCharBoundary text.now result }
     ensures seam { 0 < result → IsSeam T.item_type (take result text.now) (drop result text.now) }
 {
-    let mut end = lines_len(text.as_bytes(), text.len());
+    let bytes = text.as_bytes();
+    let mut end = lines_len(bytes, bytes.len());
     let mut next = None;
     while end > 0 {
-        let start = lines_len(text.as_bytes(), end - 1);
+        let start = lines_len(bytes, end - 1);
         let line = &text[start..end];
         if let Some(next) = next
             && is_end_line::<T>(line)
@@ -126,4 +144,16 @@ pub(crate) fn complete_len<T: StreamItem>(text: &str) -> usize
         end = start;
     }
     0
+}
+
+/// The length of the text whose items can be handed on: all of it, if the input has ended, or else [`complete_len`].
+pub(crate) fn ready_len<T: StreamItem>(text: &str, ended: bool) -> usize
+    ensures taken { IsTaken T.item_type ended text.now result }
+    ensures boundary { IsCharBoundary text.now result }
+{
+    if ended {
+        text.len()
+    } else {
+        complete_len::<T>(text)
+    }
 }

@@ -1,14 +1,14 @@
 //! Reading items from a stream.
-ghost use Rattle.std.specs.Prelude.{◌≡◌, ◌≤◌, ◌<◌, ◌+◌, ◌++◌, ◌⊎◌, ℕ, List, length, take, drop, true, IfOk, IfErr, OnOk, option_copied};
+ghost use Rattle.std.specs.Prelude.{◌≡◌, ◌≤◌, ◌<◌, ◌+◌, ◌++◌, ◌⊎◌, ℕ, List, length, take, drop, true, IfOk, IfErr, IfSome, OnOk, option_copied};
 ghost use Rattle.std.specs.Io.KnownBytes.{Consumes, IsAtEnd};
-ghost use Rattle.souper_ir.specs.Errors.{kind_of};
+ghost use Rattle.souper_ir.specs.Errors.{kind_of, offset_of, IsLocatedAfter};
 ghost use Rattle.souper_ir.specs.Sinks.{TakesText};
-ghost use Rattle.souper_stream.specs.Reading.{IsTaken, IsRefusedPart, ReadsMore, ReadItems, IsStreamError};
+ghost use Rattle.souper_stream.specs.Reading.{IsTaken, IsRefusedPart, IsStreamTaken, IsStreamRefused, ReadsMore};
 
 use crate::ends::StreamItem;
 use crate::held::Held;
-use crate::lines::complete_len;
-use souper_ir::parse::{ParseError, Result, Sink, parse_into};
+use crate::lines::ready_len;
+use souper_ir::parse::{ParseError, ParseErrorKind, Result, Sink, parse_into};
 use std::alloc::{AllocError, Global};
 use std::io::{BufRead, ErrorKind};
 use std::{io, str};
@@ -43,13 +43,74 @@ fn take_items<T: StreamItem, S: Sink<T>>(
         Ok(text) => text,
         Err(_) => return Err(io::Error::from(ErrorKind::InvalidData).into()),
     };
-    let len = if ended {
-        text.len()
-    } else {
-        complete_len::<T>(text)
-    };
+    let len = ready_len::<T>(text, ended);
     match parse_into::<T, S>(alloc, &text[..len], None, sink) {
         Ok(()) => Ok(len),
         Err(error) => Err(error),
     }
+}
+
+// The error of a read.
+fn read_error(fault: io::Error) -> ParseError
+    ensures { kind_of result ≡ ParseErrorKind.Parse → ⊥ }
+{
+    if fault.kind() == ErrorKind::OutOfMemory {
+        ParseError::from(AllocError)
+    } else {
+        ParseError::from(fault)
+    }
+}
+
+// Gives an error of what is held after the line that was handed on its place in the stream.
+fn place(alloc: Global, held: &Held, error: ParseError, filename: Option<&str>) -> ParseError
+    requires { IfSome (offset_of error) (λ offset. held.now.skipped + offset ≤ length held.now.bytes.items) }
+    ensures { kind_of result ≡ ParseErrorKind.Parse → IsLocatedAfter (option_copied filename.entry) held.now.before held.now.bytes.items held.now.skipped error result }
+{
+    match str::from_utf8(&held.bytes) {
+        Ok(source) => error.locate_after(alloc, held.before, source, held.skipped, filename),
+        Err(_) => ParseError::from(io::Error::from(ErrorKind::InvalidData)),
+    }
+}
+
+/// Reads the items of a stream to its end, and passes them to a sink, one at a time and in order.
+///
+/// As [`parse_into`] of the whole text, which is never in memory as a whole: so much of it is held as its largest item needs,
+/// or 64 KiB. The type of the items is [`LeftHandSide`](souper_ir::ast::LeftHandSide),
+/// [`RightHandSide`](souper_ir::ast::RightHandSide) or [`Replacement`](souper_ir::ast::Replacement). The file name is for the
+/// error, which shows `unknown` without one.
+///
+/// - An error of the kind `Parse` says that no stream that begins with what was read has a text that spells such items. The sink
+///   has then taken the items before the one that was refused. The error's place is that in the stream.
+/// - `Io`: a read failed, or what was read is not UTF-8.
+/// - `Memory`: memory ran out, or the sink returned so.
+pub fn read_into<T: StreamItem, R: BufRead, S: Sink<T>>(
+    alloc: Global,
+    reader: &mut R,
+    filename: Option<&str>,
+    sink: &mut S,
+) -> Result<()>
+    ensures taken { OnOk result (IsStreamTaken T.item_type (R.remaining reader.old) (R.remaining reader.new) S.holds sink.old sink.new) }
+    ensures refused { IfErr result (λ e. kind_of e ≡ ParseErrorKind.Parse → IsStreamRefused T.item_type (option_copied filename.entry) (R.remaining reader.old) (R.remaining reader.new) S.holds sink.old sink.new e) }
+{
+    let mut held = Held::new(alloc);
+    let mut goal = CHUNK;
+    for _turn in 0..u64::MAX {
+        let ended = match fill(reader, &mut held.bytes, goal) {
+            Ok(ended) => ended,
+            Err(fault) => return Err(read_error(fault)),
+        };
+        match take_items::<T, S>(alloc, &held.bytes[held.skipped..], ended, sink) {
+            Ok(len) => {
+                if ended {
+                    return Ok(());
+                }
+                if len > 0 {
+                    held.forget(alloc, len)?;
+                }
+            }
+            Err(error) => return Err(place(alloc, &held, error, filename)),
+        }
+        goal = CHUNK.max(held.bytes.len().saturating_mul(2));
+    }
+    Err(ParseError::from(io::Error::from(ErrorKind::Other)))
 }

@@ -73,7 +73,7 @@ module _ (k : ItemType) (file : Option (List ℕ)) (bs : List ℕ) (e new : Pars
 
 -- ---- what a sink took before a refusal
 
-begins_prefix : (ts us : List (ℕ × Lexeme)) (n : ℕ) (bs rest : List ℕ) → Begins n bs (ts ++ us) rest → (mid : List ℕ) × Begins n bs ts mid
+pub begins_prefix : (ts us : List (ℕ × Lexeme)) (n : ℕ) (bs rest : List ℕ) → Begins n bs (ts ++ us) rest → (mid : List ℕ) × Begins n bs ts mid
 begins_prefix [] us n bs rest h = (bs, refl)
 begins_prefix (t ∷ ts) us n bs rest h =
     let r = begins_prefix ts us (t.0 + length (spelling t.1)) h.after rest h.more in

@@ -1,8 +1,8 @@
 //! The error of a parse.
-ghost use Rattle.std.specs.Prelude.{◌≡◌, ◌≢◌, ◌≤◌, ◌<◌, ◌+◌, ◌^◌, ◌++◌, [], ℕ, List, ◌⊎◌, ◌↔◌, length, string_bytes, option_copied, IfOk, IfErr, IfSome, IsSome, Some};
+ghost use Rattle.std.specs.Prelude.{◌≡◌, ◌≢◌, ◌≤◌, ◌+◌, ◌⊎◌, ◌↔◌, length, string_bytes, option_copied, IfOk, IfErr, IfSome, IsSome, Some};
 ghost use Rattle.std.specs.Fmt.{DisplaysOnOk, DisplaysStyledOnOk};
 ghost use Rattle.souper_ir.specs.Places.{direct_text};
-ghost use Rattle.souper_ir.specs.Errors.{error_of, widened, kind_of, offset_of, place_of, line_of, column_of, fault_of, shown_error, shown_refusal_of, IsLocated, IsBefore, IsLocatedAfter, IsRefusalAt, ShowsFault};
+ghost use Rattle.souper_ir.specs.Errors.{error_of, widened, kind_of, offset_of, place_of, line_of, column_of, fault_of, shown_error, shown_refusal_of, IsLocated, IsPlacedAfter, IsLocatedAfter, IsRefusalAt, ShowsFault};
 
 use crate::parse::place::Place;
 use crate::parse::unstyled::write_unstyled;
@@ -249,8 +249,7 @@ fn locate_after(
     file: Option<&str>,
 ) -> ParseError
     requires { skipped + refusal.value.offset ≤ length source.now }
-    ensures { (kind_of result ≡ ParseErrorKind.Memory) ⊎ ((text : List ℕ) → IsBefore before text → (0 < skipped + refusal.value.offset) ⊎ (text ≡ [])
-        → length (text ++ source.now) + 1 < 2 ^ 64 → IsRefusalAt (option_copied file.entry) (text ++ source.now) (length text + (skipped + refusal.value.offset)) result) }
+    ensures { IsPlacedAfter (option_copied file.entry) before source.now (skipped + refusal.value.offset) result }
 {
     let offset = skipped + refusal.offset;
     match Place::new(alloc, source, offset, file) {
