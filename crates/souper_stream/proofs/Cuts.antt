@@ -1,18 +1,18 @@
 -- What a text spells is parted at a seam.
-use Rattle.std.proofs.Common.{◌≡◌, ◌↔◌, ℕ, ◌+◌, ◌<◌, Bool, true, false, ◌⊎◌, inl, inr, List, [], ◌∷◌, ◌++◌, length, refl, sym, ap, ◌∙◌, subst, arith, append_assoc, append-nil, length-append}
+use Rattle.std.proofs.Common.{◌≡◌, ℕ, ◌+◌, ◌<◌, true, false, ◌⊎◌, inl, inr, List, [], ◌∷◌, ◌++◌, length, refl, sym, ap, ◌∙◌, subst, arith, append_assoc, append-nil, length-append}
 use Rattle.souper_graph.specs.Values.{Item}
 use Rattle.souper_graph.specs.Syntax.Tokens.{Lexeme, ident, val_name, known_bits, int, comma, colon, equals, open_paren, close_paren, open_bracket, spelling, IsLastGap, Begins, IsTextOf}
 use Rattle.souper_graph.specs.Syntax.Spelling.{kinds, ItemType, item_spells, list_spells, TextSpells}
 use Rattle.souper_lexer.specs.TokenReading.{found, ends, next_of}
 use Rattle.souper_lexer.proofs.TokenComplete.{next_found, next_gap, next_ends}
 use Rattle.souper_lexer.proofs.TokenLaws.{one_reading}
-use Rattle.souper_ir.specs.Joining.{IsLines, moved}
+use Rattle.souper_ir.specs.Joining.{moved}
 use Rattle.souper_ir.specs.Laws.Steps.{kinds-append}
-use Rattle.souper_ir.proofs.Items.Joining.{begins_more, kinds_moved, items_join, list_append}
+use Rattle.souper_ir.proofs.Items.Joining.{begins_more, kinds_moved, items_join}
 use Rattle.souper_ir.proofs.Items.Parting.{Within, Beyond, parted_twice, tokens_part}
 use Rattle.souper_stream.specs.Lines.{end_word, defines, starts_line, NoStart}
-use Rattle.souper_stream.specs.Seams.{IsEndLine, EndsItem, StartsLine, IsSeam, SeamsPart}
-use Rattle.souper_stream.proofs.EndLines.{EndsOnce, item_ends, one_end, list_starts, quiet_ends}
+use Rattle.souper_stream.specs.Seams.{StartsLine, IsSeam, SeamsPart}
+use Rattle.souper_stream.proofs.EndLines.{item_ends, one_end, list_starts, quiet_ends}
 
 -- ---- tokens
 
@@ -90,10 +90,12 @@ one_start post ts x s e p q t k = under (parted_twice post ts x s e)
         over : (s ≡ []) ⊎ (starts_line s ≡ true) → starts_line (y ∷ left) ≡ true
         over (inl none) = subst (λ (z : List Lexeme). starts_line z ≡ true) (b ∙ ap (λ (z : List Lexeme). (y ∷ left) ++ z) none ∙ append-nil (y ∷ left)) t
         over (inr start) = start_before (y ∷ left) s (omega arith) start (subst (λ (z : List Lexeme). starts_line z ≡ true) b t)
+
     longer : (more : List Lexeme) → 0 < length more → post ≡ x ++ more → s ≡ more ++ ts → (s ≡ []) ⊎ (starts_line s ≡ true) → (x ≡ post) × (s ≡ ts)
     longer more some a b (inl none) = let n = ap length (sym b ∙ none) in let m = length-append more ts in absurd (omega arith)
     longer more some a b (inr start) =
         absurd (quiet_starts more some (quiet_rest x more (subst (λ (z : List Lexeme). NoStart z) a p)) (start_before more ts some t (subst (λ (z : List Lexeme). starts_line z ≡ true) b start)))
+
     under : Within post ts x s ⊎ Beyond post ts x s → (x ≡ post) × (s ≡ ts)
     under (inl h) = shorter h.left h.first h.second
     under (inr h) = longer h.more h.some h.first h.second k

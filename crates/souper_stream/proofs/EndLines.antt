@@ -1,12 +1,12 @@
 -- An item has one line of those that end it, and it is the last.
-use Rattle.std.proofs.Common.{◌≡◌, ℕ, Bool, true, false, ◌||◌, ◌⊎◌, inl, inr, List, [], ◌∷◌, ◌++◌, refl, sym, ap, ◌∙◌, subst, append_assoc, append-nil}
+use Rattle.std.proofs.Common.{◌≡◌, ℕ, Bool, true, false, ◌⊎◌, inl, inr, List, [], ◌∷◌, ◌++◌, refl, sym, ap, ◌∙◌, subst, append_assoc, append-nil}
 use Rattle.std.specs.Prelude.{codes, bytes_eq}
 use Rattle.std.specs.List.{AllByRecursion}
 use Rattle.souper_graph.specs.declared.ast.operands.Operand.{Operand}
-use Rattle.souper_graph.specs.Values.{PlainStatement, PlainInfer, PlainCand, Ending, inferred, resulting, replaced, candidate, Item}
+use Rattle.souper_graph.specs.Values.{PlainStatement, PlainInfer, PlainCand, inferred, resulting, replaced, candidate, Item}
 use Rattle.souper_graph.specs.Syntax.Tokens.{Lexeme, ident, val_name, known_bits, int, comma, colon, equals, open_paren, close_paren, open_bracket}
-use Rattle.souper_graph.specs.Syntax.Spelling.{Scope, infer_spells, cand_spells, result_spells, IsOptionalComma, Statements, ItemType, left_hand_side, right_hand_side, replacement, Tail, tail_spells, replaced_spells, item_spells, list_spells}
-use Rattle.souper_stream.specs.Lines.{last_word, line_word, end_word, defines, starts_line, NoStart}
+use Rattle.souper_graph.specs.Syntax.Spelling.{Scope, infer_spells, cand_spells, result_spells, IsOptionalComma, Statements, ItemType, left_hand_side, right_hand_side, replacement, Tail, tail_spells, item_spells, list_spells}
+use Rattle.souper_stream.specs.Lines.{last_word, end_word, starts_line, NoStart}
 use Rattle.souper_stream.proofs.Nodes.{or_left, or_right, or_none, is_not, all_append, is_last, NoLast, plain_no_last, operand_quiet, operand_not_defines, root_attributes_plain, root_attributes_not_define, plain_quiet, statement_no_last, statement_starts}
 
 -- ---- words that end an item
@@ -73,6 +73,7 @@ cand_quiet s c ts h = over h.between h.comma_or_none
   where
     quiet : NoStart (h.rhs ++ h.attributes)
     quiet = operand_quiet s c.rhs h.rhs h.attributes h.rhs_spelled (root_attributes_not_define c.attributes h.attributes h.attributes_spelled) (plain_quiet h.attributes (root_attributes_plain c.attributes h.attributes h.attributes_spelled))
+
     over : (between : List Lexeme) → IsOptionalComma between → NoStart (h.lhs ++ (between ++ (h.rhs ++ h.attributes)))
     over between (inl e) = rw e (operand_quiet s c.lhs h.lhs (h.rhs ++ h.attributes) h.lhs_spelled (operand_not_defines s c.rhs h.rhs h.attributes h.rhs_spelled) quiet)
     over between (inr e) = rw e (operand_quiet s c.lhs h.lhs (comma ∷ (h.rhs ++ h.attributes)) h.lhs_spelled refl (refl, quiet))

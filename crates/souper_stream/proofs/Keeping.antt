@@ -1,29 +1,26 @@
 -- What is held of a stream, beside what was read of it and the items that were handed on.
-use Rattle.std.proofs.Common.{◌≡◌, ◌⊎◌, inl, inr, ℕ, zero, suc, ◌+◌, ◌-◌, ◌^◌, ◌<◌, ◌≤◌, min, Bool, true, false, cond, List, [], ◌∷◌, ◌++◌, length, take, drop, Option, Some, None, refl, sym, ap, ◌∙◌, subst, arith, append_assoc, append-nil, length-append}
+use Rattle.std.proofs.Common.{◌≡◌, ◌⊎◌, inl, inr, ℕ, ◌+◌, ◌-◌, ◌^◌, ◌<◌, ◌≤◌, Bool, true, false, cond, List, [], ◌++◌, length, take, drop, Option, Some, None, refl, sym, ap, ◌∙◌, subst, arith, append_assoc, append-nil, length-append}
 use Rattle.std.specs.Prelude.{IfSome, ◌==◌}
 use Rattle.std.specs.Io.KnownBytes.{Consumes}
-use Rattle.std.proofs.KnownBytes.{Consumes-nil, Consumes-trans}
 use Rattle.std.proofs.lemmas.List.{take_all, take-append-drop, take-append-le, drop-append-le, length-drop, length-take}
 use Rattle.std.proofs.lemmas.List.Sums.{sum_by-append, count_by-le-length}
 use Rattle.souper_graph.specs.Values.{Item}
 use Rattle.souper_graph.specs.Syntax.Spelling.{ItemType, TextSpells, SpellsNone}
 use Rattle.souper_ir.specs.declared.parse.error.Before.{Before}
 use Rattle.souper_ir.specs.declared.parse.error.ParseError.{ParseError}
-use Rattle.souper_ir.specs.declared.parse.error.ParseErrorKind.{ParseErrorKind}
 use Rattle.souper_ir.specs.declared.parse.error.ParseErrorKind.TheVariants.{Io, Parse, Memory}
 use Rattle.souper_ir.specs.declared.parse.error.Cause.{Cause}
 use Rattle.souper_ir.specs.declared.parse.error.Cause.TheVariants.{Io as IoCause, Parse as ParseCause, Memory as MemoryCause}
 use Rattle.souper_ir.specs.Places.{newlines}
 use Rattle.souper_ir.specs.Joining.{IsLines}
-use Rattle.souper_ir.specs.Errors.{OnKind, kind_of, kind_of_cause, offset_of, offset_of_cause, IsBefore, IsPlacedAfter, IsLocatedAfter, IsRefusalAt}
+use Rattle.souper_ir.specs.Errors.{kind_of, kind_of_cause, offset_of, offset_of_cause, IsBefore, IsPlacedAfter, IsLocatedAfter, IsRefusalAt}
 use Rattle.souper_ir.specs.Answers.{IsStrError}
-use Rattle.souper_ir.specs.Sinks.{PrefixSpells, TakesOver, TakesText, TakesPrefix}
+use Rattle.souper_ir.specs.Sinks.{PrefixSpells, TakesOver}
 use Rattle.souper_ir.proofs.Items.Lists.{text_alone}
 use Rattle.souper_stream.specs.declared.held.Held.{Held}
 use Rattle.souper_stream.specs.Seams.{IsSeam}
 use Rattle.souper_stream.specs.Holding.{Forgets}
-use Rattle.souper_stream.specs.Reading.{AreAll, ReadsMore, IsComplete, IsTaken, IsRefusedPart, NeverSpells, IsStreamTaken, IsStreamRefused}
-use Rattle.souper_stream.proofs.Bytes.{all_after}
+use Rattle.souper_stream.specs.Reading.{AreAll, IsComplete, IsRefusedPart, NeverSpells, IsStreamRefused}
 use Rattle.souper_stream.proofs.Slices.{take_parts, drop_parts}
 use Rattle.souper_stream.proofs.Cuts.{starts_more}
 use Rattle.std.proofs.Math.Seq.{drop-append_seam}
@@ -148,6 +145,7 @@ held_forgot k read items xs old new n p fits seam t f =
     drop_after m xs b e l =
         let at : length (take m xs) ≡ m = omega (arith, length-take m xs) in
         (λ i. drop (sym at i) (e i)) ∙ drop-append_seam (take m xs) b
+
     open_is_lines : (k : ItemType) (a b : List ℕ) → IsOpen k a b → IsLines a
     open_is_lines k a b (inl none) = inl none
     open_is_lines k a b (inr s) = s.lines
@@ -182,8 +180,10 @@ refused_prefix k ended read items ys h n p complete b =
     open_is_lines : (a c : List ℕ) → IsOpen k a c → IsLines a
     open_is_lines a c (inl none) = inl none
     open_is_lines a c (inr s) = s.lines
+
     after : IsLines (take n (fresh h)) → PrefixSpells k (fresh h) ys
     after l = subst (λ (x : List ℕ). PrefixSpells k x ys) (take-append-drop n (fresh h)) (prefix_longer k (take n (fresh h)) (drop n (fresh h)) ys l b)
+
     longer : (e : Bool) → IsComplete k e (fresh h) n → PrefixSpells k (fresh h) ys
     longer true all = subst (λ (x : List ℕ). PrefixSpells k x ys) (take_all n (fresh h) (omega (arith, all))) b
     longer false (inl zero_is) = after (inl (ap (λ (m : ℕ). take m (fresh h)) zero_is))
@@ -245,11 +245,14 @@ stream_refused k file ended before after holds first old new read items h e show
   where
     ys : List Item
     ys = part.before.0
+
     taken_both : TakesOver holds (items ++ ys) first new
     taken_both held h = subst (λ (x : List Item). holds new x) (append_assoc held items ys) (part.before.2 (held ++ items) (over held h))
+
     some : (o : ℕ) → (0 < h.skipped) ⊎ (p.gone ≡ []) → (0 < h.skipped + o) ⊎ (p.gone ≡ [])
     some o (inl k) = inl (omega arith)
     some o (inr k) = inr k
+
     placed : (o : ℕ) → IsPlacedAfter file h.before h.bytes.items (h.skipped + o) shown → length read + 1 < 2 ^ 64 → IsRefusalAt file read (length p.gone + (h.skipped + o)) shown
     placed o (inl memory) small = let bad : Memory ≡ Parse = sym memory ∙ shown_kind in absurd cc
     placed o (inr at) small =

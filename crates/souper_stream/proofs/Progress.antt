@@ -1,16 +1,14 @@
 -- What was read of a stream, and what was handed on of it.
-use Rattle.std.proofs.Common.{◌≡◌, ◌⊎◌, inl, inr, ℕ, ◌+◌, ◌-◌, ◌<◌, ◌≤◌, Bool, true, false, List, [], ◌∷◌, ◌++◌, length, take, drop, refl, sym, ap, ◌∙◌, subst, arith, append_assoc, append-nil, length-append}
-use Rattle.std.proofs.lemmas.List.{take-append-drop}
+use Rattle.std.proofs.Common.{◌≡◌, ◌⊎◌, inl, inr, ℕ, ◌+◌, ◌-◌, ◌<◌, List, [], ◌∷◌, ◌++◌, length, refl, sym, ap, ◌∙◌, subst, arith, append_assoc, append-nil, length-append}
 use Rattle.souper_graph.specs.Values.{Item}
-use Rattle.souper_graph.specs.Syntax.Tokens.{Lexeme, IsGap, IsLastGap, Begins, IsTextOf}
+use Rattle.souper_graph.specs.Syntax.Tokens.{Lexeme, IsGap, Begins}
 use Rattle.souper_graph.specs.Syntax.Spelling.{kinds, ItemType, list_spells, TextSpells, SpellsNone}
 use Rattle.souper_lexer.proofs.TokenLaws.{begins_length, begins_append}
 use Rattle.souper_ir.specs.Joining.{IsLines, moved}
 use Rattle.souper_ir.specs.Sinks.{PrefixSpells}
 use Rattle.souper_ir.specs.Laws.Steps.{kinds-append}
-use Rattle.souper_ir.proofs.Items.Lists.{text_alone}
 use Rattle.souper_ir.proofs.Items.Joining.{begins_more, begins_moved, begins_later, left_of_lines, gap_of_lines, kinds_moved, items_join, list_append}
-use Rattle.souper_stream.specs.Seams.{IsEndLine, EndsItem, StartsLine, IsSeam}
+use Rattle.souper_stream.specs.Seams.{IsSeam}
 use Rattle.souper_stream.proofs.Cuts.{starts_more, seams_part}
 
 -- ---- lines
@@ -64,6 +62,7 @@ none_after k done part rest opened seam none items spelled = under opened
   where
     inner : (ys : List Item) → TextSpells k (part ++ rest) ys → ⊥
     inner ys h = let r = (seams_part k part rest ys seam).0 h in none r.0 r.3
+
     under : IsOpen k done (part ++ rest) → ⊥
     under (inl e) = inner items (subst (λ (x : List ℕ). TextSpells k (x ++ (part ++ rest)) items) e spelled)
     under (inr s) = let r = (seams_part k done (part ++ rest) items s).0 spelled in inner r.1 r.4

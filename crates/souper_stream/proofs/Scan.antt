@@ -1,9 +1,9 @@
 -- Tokens that are scanned for lines that begin in them.
-use Rattle.std.proofs.Common.{◌≡◌, ℕ, Bool, true, false, List, [], ◌∷◌, ◌++◌, refl, sym, ap, ◌∙◌, subst}
+use Rattle.std.proofs.Common.{◌≡◌, ℕ, Bool, true, false, List, [], ◌∷◌, refl, sym, ◌∙◌}
 use Rattle.souper_graph.specs.Syntax.Tokens.{Lexeme, ident, val_name, known_bits, int, comma, colon, equals, open_paren, close_paren, open_bracket}
 use Rattle.souper_graph.specs.Syntax.Spelling.{kinds}
 use Rattle.souper_ir.specs.NodeReadings.{is_name}
-use Rattle.souper_stream.specs.Lines.{line_word, defines, starts_line, shows_line, NoStart}
+use Rattle.souper_stream.specs.Lines.{defines, shows_line, NoStart}
 
 -- no token shows that a line begins; before the first is a name, or not
 abbrev pub Quiet : Bool → List Lexeme → Type 0

@@ -1,5 +1,5 @@
 -- One turn of the reading of a stream: more is read, and complete items are handed on.
-use Rattle.std.proofs.Common.{◌≡◌, ◌⊎◌, inl, inr, ℕ, zero, suc, ◌+◌, ◌-◌, ◌^◌, ◌<◌, ◌≤◌, Bool, true, false, List, [], ◌∷◌, ◌++◌, length, take, drop, Option, Some, None, refl, sym, ap, ◌∙◌, subst, arith, append_assoc, append-nil}
+use Rattle.std.proofs.Common.{◌≡◌, inl, inr, ℕ, ◌+◌, ◌-◌, ◌<◌, ◌≤◌, Bool, true, false, List, [], ◌++◌, length, take, drop, Option, refl, sym, ap, ◌∙◌, subst, arith, append_assoc, append-nil}
 use Rattle.std.specs.Prelude.{IfSome}
 use Rattle.std.specs.Io.KnownBytes.{Consumes}
 use Rattle.std.proofs.lemmas.List.{take_all, length-drop}
@@ -15,9 +15,9 @@ use Rattle.souper_ir.specs.Sinks.{TakesOver, TakesText}
 use Rattle.souper_stream.specs.declared.held.Held.{Held}
 use Rattle.souper_stream.specs.Seams.{IsSeam}
 use Rattle.souper_stream.specs.Holding.{Forgets}
-use Rattle.souper_stream.specs.Reading.{AreAll, ReadsMore, IsTaken, IsRefusedPart, IsStreamTaken, IsStreamRefused}
+use Rattle.souper_stream.specs.Reading.{ReadsMore, IsTaken, IsRefusedPart, IsStreamTaken, IsStreamRefused}
 use Rattle.souper_stream.proofs.Bytes.{all_after}
-use Rattle.souper_stream.proofs.Keeping.{fresh, IsHeld, held_none, held_more, held_idle, held_forgot, held_all, offset_held, stream_refused}
+use Rattle.souper_stream.proofs.Keeping.{fresh, IsHeld, held_none, held_more, held_idle, held_forgot, held_all, stream_refused}
 
 -- what was read, handed on and held of a stream
 abbrev pub Reached : {S : Type 0} → ItemType → Option (List ℕ) → Option (List ℕ) → (S → List Item → Type 0) → S → S → Held → Type 0

@@ -14,4 +14,4 @@ mod lines;
 mod read;
 
 pub use ends::StreamItem;
-pub use read::read_into;
+pub use read::{read_chunks_into, read_into};

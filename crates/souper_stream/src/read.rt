@@ -13,7 +13,7 @@ use std::alloc::{AllocError, Global};
 use std::io::{BufRead, ErrorKind};
 use std::{io, str};
 
-// At least so many bytes are gathered before items are looked for.
+// So many bytes are read before items are looked for.
 const CHUNK: usize = 65536;
 
 // Reads lines until so many bytes are there, or until the input has ended, which it returns.
@@ -80,9 +80,11 @@ fn place(alloc: Global, held: &Held, error: ParseError, filename: Option<&str>) 
 /// error, which shows `unknown` without one.
 ///
 /// - An error of the kind `Parse` says that no stream that begins with what was read has a text that spells such items. The sink
-///   has then taken the items before the one that was refused. The error's place is that in the stream.
+///   has then taken the items before the one that was refused. The error has and shows its place in the stream.
 /// - `Io`: a read failed, or what was read is not UTF-8.
 /// - `Memory`: memory ran out, or the sink returned so.
+///
+/// After `Io` or `Memory` the sink may have taken items.
 pub fn read_into<T: StreamItem, R: BufRead, S: Sink<T>>(
     alloc: Global,
     reader: &mut R,
@@ -92,8 +94,24 @@ pub fn read_into<T: StreamItem, R: BufRead, S: Sink<T>>(
     ensures taken { OnOk result (IsStreamTaken T.item_type (R.remaining reader.old) (R.remaining reader.new) S.holds sink.old sink.new) }
     ensures refused { IfErr result (λ e. kind_of e ≡ ParseErrorKind.Parse → IsStreamRefused T.item_type (option_copied filename.entry) (R.remaining reader.old) (R.remaining reader.new) S.holds sink.old sink.new e) }
 {
+    read_chunks_into::<T, R, S>(alloc, CHUNK, reader, filename, sink)
+}
+
+/// [`read_into`] that looks for items once lines of `least` bytes were read after the last item. With 1 it looks after each line,
+/// so that an item is passed on as soon as the line after it was read; larger chunks take less time.
+pub fn read_chunks_into<T: StreamItem, R: BufRead, S: Sink<T>>(
+    alloc: Global,
+    least: usize,
+    reader: &mut R,
+    filename: Option<&str>,
+    sink: &mut S,
+) -> Result<()>
+    ensures taken { OnOk result (IsStreamTaken T.item_type (R.remaining reader.old) (R.remaining reader.new) S.holds sink.old sink.new) }
+    ensures refused { IfErr result (λ e. kind_of e ≡ ParseErrorKind.Parse → IsStreamRefused T.item_type (option_copied filename.entry) (R.remaining reader.old) (R.remaining reader.new) S.holds sink.old sink.new e) }
+{
+    let least = least.max(1);
     let mut held = Held::new(alloc);
-    let mut goal = CHUNK;
+    let mut goal = least;
     for _turn in 0..u64::MAX {
         let ended = match fill(reader, &mut held.bytes, goal) {
             Ok(ended) => ended,
@@ -104,13 +122,15 @@ pub fn read_into<T: StreamItem, R: BufRead, S: Sink<T>>(
                 if ended {
                     return Ok(());
                 }
-                if len > 0 {
+                goal = if len > 0 {
                     held.forget(alloc, len)?;
-                }
+                    held.bytes.len().saturating_add(least)
+                } else {
+                    held.bytes.len().saturating_mul(2).max(least)
+                };
             }
             Err(error) => return Err(place(alloc, &held, error, filename)),
         }
-        goal = CHUNK.max(held.bytes.len().saturating_mul(2));
     }
     Err(ParseError::from(io::Error::from(ErrorKind::Other)))
 }

@@ -1,13 +1,12 @@
 -- Lines and a text after them: the tokens that they have together are those of each.
-use Rattle.std.proofs.Common.{◌≡◌, ℕ, ◌+◌, ◌<◌, ◌≤◌, Bool, true, false, ◌⊎◌, inl, inr, List, [], ◌∷◌, ◌++◌, length, refl, sym, ap, ◌∙◌, subst, arith, append_assoc, append-nil, length-append, get_or}
+use Rattle.std.proofs.Common.{◌≡◌, ℕ, ◌+◌, ◌<◌, Bool, ◌⊎◌, inl, inr, List, [], ◌∷◌, ◌++◌, length, refl, sym, ap, ◌∙◌, subst, arith, append_assoc, append-nil, length-append, get_or}
 use Rattle.std.specs.Prelude.{◌==◌, codes, flat_map}
 use Rattle.std.specs.List.{AllByRecursion}
 use Rattle.std.specs.Char.{encode_utf8}
 use Rattle.std.proofs.lemmas.List.{get_or_at}
 use Rattle.std.proofs.lemmas.Str.{encode_ascii, inside_one}
-use Rattle.souper_graph.specs.Syntax.Tokens.{Lexeme, spelling, continues, Stops, IsLexeme, Piece, space, comment, piece_text, IsPiece, IsGap, IsOneLine, IsLastComment, IsLastGap, Begins, IsTextOf}
+use Rattle.souper_graph.specs.Syntax.Tokens.{Lexeme, spelling, continues, Stops, IsLexeme, Piece, space, comment, piece_text, IsPiece, IsGap, IsOneLine, IsLastComment, IsLastGap, Begins}
 use Rattle.souper_lexer.proofs.TokenFront.{spelled_some}
-use Rattle.souper_ir.specs.Places.{EndsIn}
 use Rattle.souper_ir.specs.Joining.{IsLines, moved, TokensPart}
 use Rattle.souper_ir.proofs.Items.Joining.{newline_last, no_lines_end, token_line}
 
@@ -33,8 +32,10 @@ parted_twice {A} (c ∷ x) y (d ∷ r) b e = under (parted_twice x y r b tails)
   where
     heads : c ≡ d
     heads = cc
+
     tails : x ++ y ≡ r ++ b
     tails = cc
+
     under : Within x y r b ⊎ Beyond x y r b → Within (c ∷ x) y (d ∷ r) b ⊎ Beyond (c ∷ x) y (d ∷ r) b
     under (inl h) = inl (record { left = h.left; first = (λ i. sym heads i ∷ h.first i); second = h.second })
     under (inr h) = inr (record { more = h.more; some = h.some; first = (λ i. heads i ∷ h.first i); second = h.second })
@@ -64,6 +65,7 @@ comment_front t r s one e some = under (parted_twice (59 ∷ t) (codes "\n") r s
   where
     whole : IsOneLine (59 ∷ t)
     whole = (refl, one)
+
     under : Within (59 ∷ t) (codes "\n") r s ⊎ Beyond (59 ∷ t) (codes "\n") r s → IsOneLine r
     under (inl h) = nothing_left h.left h.first h.second
       where
@@ -158,6 +160,7 @@ last_parted n r b other l e g = under (gap_parted g.is_gap.0 g.last r b g.is_gap
         let one : IsOneLine (y ∷ last) = (ap (λ (z : ℕ). z == 10) c.0, c.1) in
         let none : x ∷ left ≡ [] = no_line_in (x ∷ left) (one_line_front (x ∷ left) b (subst (λ (z : List ℕ). IsOneLine z) at one)) k in
         absurd cc
+
     under : GapGoesOn g.last r b ⊎ GapEnds (flat_map piece_text g.is_gap.0) g.last r b → Parted n r b []
     under (inl h) = record {
       ts = [];

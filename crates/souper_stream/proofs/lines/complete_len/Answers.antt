@@ -1,8 +1,8 @@
-use Rattle.std.proofs.Common.{◌≡◌, ℕ, ◌-◌, ◌≤◌, List, length, take, drop, sym, subst, arith}
+use Rattle.std.proofs.Common.{ℕ, List, take, sym, subst, arith}
 use Rattle.std.proofs.lemmas.Str.{IsCharBoundary-start}
 use Rattle.souper_ir.specs.Joining.{IsLines}
 use Rattle.souper_stream.specs.Seams.{IsEndLine, StartsLine}
-use Rattle.souper_stream.proofs.Slices.{IsStart, lines_boundary, lines_between, start_later, start_at, seam_at}
+use Rattle.souper_stream.proofs.Slices.{lines_boundary, lines_between, start_at, seam_at}
 use Rattle.souper_stream.proofs.lines.complete_len.Goals as goal
 
 pub range-line-requires-clause-start_boundary : goal.range-line-requires-clause-start_boundary

@@ -1,5 +1,5 @@
 -- Where the lines that were not looked at end, and the nearest place after it where a line starts.
-use Rattle.std.proofs.Common.{◌≤◌, length, take, drop}
+use Rattle.std.proofs.Common.{◌≤◌, length, take}
 use Rattle.std.specs.Prelude.{IfSome}
 use Rattle.souper_ir.specs.Joining.{IsLines}
 use Rattle.souper_stream.proofs.Slices.{IsStart}

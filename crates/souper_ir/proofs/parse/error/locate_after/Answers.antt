@@ -1,4 +1,4 @@
-use Rattle.std.proofs.Common.{◌≡◌, ℕ, ◌+◌, ◌<◌, ◌^◌, min, List, ◌++◌, length, length-append, Option, Some, string_bytes, inr, refl, sym, ap, ◌∙◌, subst, arith}
+use Rattle.std.proofs.Common.{◌≡◌, ℕ, ◌+◌, length, length-append, Option, Some, string_bytes, inr, refl, ap, ◌∙◌, subst, arith}
 use Rattle.souper_ir.specs.declared.parse.error.Refusal.{Refusal}
 use Rattle.souper_ir.specs.declared.parse.place.Place.{Place}
 use Rattle.souper_ir.specs.Errors.{shown_by_place}
@@ -24,8 +24,7 @@ returns-in-Ok c = inr (λ text b some fits.
     let kept : c.deref_mut.result.now ≡ c.args.refusal.value = c.deref_mut.ensures.value in
     let offset : c.saturating_add-in-Ok.result ≡ length text + o = omega (arith, c.saturating_add-in-Ok.ensures, at) in
     let message = string_bytes c.deref_mut-in-Ok.result.now.message in
-    let placed : c.deref_mut-in-Ok.result.now.place ≡ Some (record { file = place.file; line = c.saturating_add.result; column = place.column; text = place.text }) = ap (λ (r : Refusal). r.place) c.deref_mut-in-Ok.ensures.value in
-    (
+    let placed : c.deref_mut-in-Ok.result.now.place ≡ Some (record { file = place.file; line = c.saturating_add.result; column = place.column; text = place.text }) = ap (λ (r : Refusal). r.place) c.deref_mut-in-Ok.ensures.value in (
       refl,
       ap (λ (m : ℕ). Some m) offset,
       record {

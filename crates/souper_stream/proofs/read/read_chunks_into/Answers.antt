@@ -1,12 +1,12 @@
-use Rattle.std.proofs.Common.{◌≡◌, ℕ, ◌<◌, ◌≤◌, Bool, true, false, List, length, take, drop, refl, sym, ap, ◌∙◌, subst, arith}
+use Rattle.std.proofs.Common.{◌≡◌, ℕ, Bool, false, List, take, drop, refl, sym, ap, ◌∙◌, subst, arith}
 use Rattle.std.specs.Prelude.{option_copied}
 use Rattle.souper_ir.specs.Sinks.{TakesText}
 use Rattle.souper_stream.specs.declared.held.Held.{Held}
 use Rattle.souper_stream.specs.Reading.{IsTaken, IsRefusedPart}
 use Rattle.souper_stream.proofs.Keeping.{fresh, offset_held}
 use Rattle.souper_stream.proofs.Turns.{Reached, rest_slice, reached_none, within_now, turn_idle, turn_forgot, turn_ended, turn_refused}
-use Rattle.souper_stream.proofs.read.read_into.Goals as goal
-use Rattle.souper_stream.proofs.read.read_into.Goals.{then-len-gt0+in_ok-forget-in-Ok-take_items, else-len-gt0}
+use Rattle.souper_stream.proofs.read.read_chunks_into.Goals as goal
+use Rattle.souper_stream.proofs.read.read_chunks_into.Goals.{then-len-gt0+in_ok-forget-in-Ok-take_items, else-len-gt0}
 
 pub loop-turn-init : goal.loop-turn-init
 loop-turn-init g c =
@@ -49,12 +49,12 @@ loop-turn-preserved g c =
           let f = w.in_ok-forget-in-Ok-take_items.ensures in
           subst (λ (h : Held). Reached k (rem c.args.reader.now) (rem c.fill.new.reader) g.S.Sink.holds c.args.sink.now c.take_items.new.sink h) (sym w.held-is)
           (turn_forgot k (rem c.args.reader.now) (rem c.loop-turn.reader) (rem c.fill.new.reader) g.S.Sink.holds c.args.sink.now c.loop-turn.sink c.take_items.new.sink c.loop-turn.held h1 w.forget.new.self c.in-Ok.ended m.0 len
-              c.loop-turn.invariant m.1 refl refl w.if-len-gt0.true complete taken f)
+          c.loop-turn.invariant m.1 refl refl w.if-len-gt0.true complete taken f)
       | else-len-gt0 w ↦
           let none : len ≡ 0 = omega (arith, w.if-len-gt0.false) in
           subst (λ (h : Held). Reached k (rem c.args.reader.now) (rem c.fill.new.reader) g.S.Sink.holds c.args.sink.now c.take_items.new.sink h) (sym w.held-is)
           (turn_idle k (rem c.args.reader.now) (rem c.loop-turn.reader) (rem c.fill.new.reader) g.S.Sink.holds c.args.sink.now c.loop-turn.sink c.take_items.new.sink c.loop-turn.held h1 c.in-Ok.ended m.0 len
-              c.loop-turn.invariant m.1 refl refl none taken)
+          c.loop-turn.invariant m.1 refl refl none taken)
     ]
 
 pub place-requires : goal.place-requires
