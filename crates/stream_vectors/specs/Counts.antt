@@ -1,0 +1,9 @@
+-- Definitions. The number of left-hand sides of a stream.
+use Rattle.std.specs.Prelude.{◌≡◌, ℕ, List, length, Option}
+use Rattle.std.specs.Io.KnownBytes.{Consumes}
+use Rattle.souper_graph.specs.Values.{Item}
+use Rattle.souper_graph.specs.Syntax.Spelling.{TextSpells, left_hand_side}
+
+-- what was read of the reader spells so many left-hand sides
+abbrev pub Counts : Option (List ℕ) → Option (List ℕ) → ℕ → Type 0
+Counts before after count = (read : List ℕ) × (items : List Item) × Consumes before after read × TextSpells left_hand_side read items × (count ≡ length items)
