@@ -79,8 +79,8 @@ fn place(alloc: Global, held: &Held, error: ParseError, filename: Option<&str>) 
 /// [`RightHandSide`](souper_ir::ast::RightHandSide) or [`Replacement`](souper_ir::ast::Replacement). The file name is for the
 /// error, which shows `unknown` without one.
 ///
-/// - An error of the kind `Parse` says that no stream that begins with what was read has a text that spells such items. The sink
-///   has then taken the items before the one that was refused. The error has and shows its place in the stream.
+/// - `Parse`: what was read is not the beginning of any text that spells such items; or the stream has ended, and its text spells
+///   none. The sink has then taken the items before the one that was refused. The error has and shows its place in the stream.
 /// - `Io`: a read failed, or what was read is not UTF-8.
 /// - `Memory`: memory ran out, or the sink returned so.
 ///
