@@ -72,15 +72,16 @@ fn place(alloc: Global, held: &Held, error: ParseError, filename: Option<&str>) 
     }
 }
 
-/// Reads the items of a stream to its end, and passes them to a sink, one at a time and in order.
+/// Reads the items of a stream to its end, and passes them to a sink, in order.
 ///
-/// As [`parse_into`] of the whole text, which is never in memory as a whole: so much of it is held as its largest item needs,
-/// or 64 KiB. The type of the items is [`LeftHandSide`](souper_ir::ast::LeftHandSide),
+/// They are those of its whole text ([`parse_into`]). Of the text a part is held: at least 64 KiB, or up to twice what is between
+/// two places where it can be cut, which are after the last line of an item and before a line of the next. The type of the items is [`LeftHandSide`](souper_ir::ast::LeftHandSide),
 /// [`RightHandSide`](souper_ir::ast::RightHandSide) or [`Replacement`](souper_ir::ast::Replacement). The file name is for the
 /// error, which shows `unknown` without one.
 ///
 /// - `Parse`: what was read is not the beginning of any text that spells such items; or the stream has ended, and its text spells
-///   none. The sink has then taken the items before the one that was refused. The error has and shows its place in the stream.
+///   none. The sink has then taken items that the stream begins with. The error has and shows its place in the stream; if the last
+///   line of an item is incomplete, that may be another place than [`parse_into`] finds in the whole text.
 /// - `Io`: a read failed, or what was read is not UTF-8.
 /// - `Memory`: memory ran out, or the sink returned so.
 ///
@@ -97,8 +98,8 @@ pub fn read_into<T: StreamItem, R: BufRead, S: Sink<T>>(
     read_chunks_into::<T, R, S>(alloc, CHUNK, reader, filename, sink)
 }
 
-/// [`read_into`] that looks for items once lines of `least` bytes were read after the last item. With 1 it looks after each line,
-/// so that an item is passed on as soon as the line after it was read; larger chunks take less time.
+/// [`read_into`] that looks for items when lines of `least` bytes more than are held were read and, if none is complete, when as much
+/// again as is held was read. With small chunks items are passed on sooner; larger ones take less time.
 pub fn read_chunks_into<T: StreamItem, R: BufRead, S: Sink<T>>(
     alloc: Global,
     least: usize,

@@ -3,7 +3,8 @@ use Rattle.std.specs.Prelude.{◌≡◌, ℕ, List, length, Option}
 use Rattle.std.specs.Io.KnownBytes.{Consumes}
 use Rattle.souper_graph.specs.Values.{Item}
 use Rattle.souper_graph.specs.Syntax.Spelling.{TextSpells, left_hand_side}
+use Rattle.souper_stream.specs.Reading.{AreAll}
 
--- what was read of the reader spells so many left-hand sides
+-- all that was read of the reader spells so many left-hand sides
 abbrev pub Counts : Option (List ℕ) → Option (List ℕ) → ℕ → Type 0
-Counts before after count = (read : List ℕ) × (items : List Item) × Consumes before after read × TextSpells left_hand_side read items × (count ≡ length items)
+Counts before after count = (read : List ℕ) × (items : List Item) × Consumes before after read × AreAll before read × TextSpells left_hand_side read items × (count ≡ length items)
