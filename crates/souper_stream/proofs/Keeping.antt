@@ -24,7 +24,7 @@ use Rattle.souper_stream.specs.Reading.{AreAll, IsComplete, IsRefusedPart, Never
 use Rattle.souper_stream.proofs.Slices.{take_parts, drop_parts}
 use Rattle.souper_stream.proofs.Cuts.{starts_more}
 use Rattle.std.proofs.Math.Seq.{drop-append_seam}
-use Rattle.souper_stream.proofs.Progress.{lines_append, IsOpen, open_more, seam_later, none_spelled, spelled_more, none_after, none_at_end, prefix_after, prefix_longer}
+use Rattle.souper_stream.proofs.Progress.{lines_append, IsOpen, open_more, seam_later, none_spelled, spelled_more, none_after, none_at_end, prefix_after, prefix_longer, none_before}
 
 -- the text whose items were handed on
 abbrev pub done : List ℕ → Held → List ℕ
@@ -158,6 +158,12 @@ held_all k read items xs h n p all t =
 
 -- ---- refusals
 
+-- if the part spells no items, all that is held spells none
+pub whole_none : (k : ItemType) (ended : Bool) (text : List ℕ) (n : ℕ) → IsComplete k ended text n → SpellsNone k (take n text) → SpellsNone k text
+whole_none k true text n all none = subst (λ (x : List ℕ). SpellsNone k x) (take_all n text (omega (arith, all))) none
+whole_none k false text n (inl zero_is) none = absurd (none [] (subst (λ (m : ℕ). TextSpells k (take m text) []) (sym zero_is) (none_spelled k)))
+whole_none k false text n (inr seam) none = subst (λ (x : List ℕ). SpellsNone k x) (take-append-drop n text) (none_before k (take n text) (drop n text) seam none)
+
 -- the part that was refused, and what is after it
 refused_never : (k : ItemType) (ended : Bool) (before : Option (List ℕ)) (read : List ℕ) (items : List Item) (h : Held) (n : ℕ) → IsHeld k read items h → IsComplete k ended (fresh h) n → SpellsNone k (take n (fresh h)) → (ended ≡ true → AreAll before read) → NeverSpells k before read
 refused_never k true before read items h n p all none at_end =
@@ -198,7 +204,7 @@ kind_offset e kind = under e.cause refl
     under MemoryCause at = let bad : Memory ≡ Parse = sym (ap kind_of_cause at) ∙ kind in absurd cc
 
 -- the offset of a refusal is in the text that was refused
-str_offset : (k : ItemType) (file : Option (List ℕ)) (source : List ℕ) (e : ParseError) → kind_of e ≡ Parse → IsStrError k file source e → (o : ℕ) × (offset_of e ≡ Some o) × (o ≤ length source) × SpellsNone k source
+pub str_offset : (k : ItemType) (file : Option (List ℕ)) (source : List ℕ) (e : ParseError) → kind_of e ≡ Parse → IsStrError k file source e → (o : ℕ) × (offset_of e ≡ Some o) × (o ≤ length source) × SpellsNone k source
 str_offset k file source e kind h = let r = rw kind at h in (r.0, r.1, r.2, r.3)
 
 some_is : (a b : ℕ) → Some a ≡ Some b → a ≡ b
@@ -215,9 +221,8 @@ offset_held k ended h holds old new e within part = under e.cause refl
     under (ParseCause r) at =
         let kind : kind_of e ≡ Parse = ap kind_of_cause at in
         let p = part kind in
-        let s = str_offset k None (take p.len (fresh h)) e kind p.refused in
+        let s = str_offset k None (fresh h) e kind p.refused in
         let same : s.0 ≡ r.value.offset = some_is s.0 r.value.offset (sym s.1 ∙ ap offset_of_cause at) in
-        let short = length-take p.len (fresh h) in
         let long = length-drop h.skipped h.bytes.items in
         let inside = s.2 in
         rw at (omega arith)
@@ -226,11 +231,10 @@ pub stream_refused : (k : ItemType) (file : Option (List ℕ)) (ended : Bool) (b
     → IsHeld k read items h → Consumes before after read → (ended ≡ true → AreAll before read) → TakesOver holds items first old
     → IsRefusedPart k ended (fresh h) holds old new e → kind_of e ≡ Parse → kind_of shown ≡ Parse → IsLocatedAfter file h.before h.bytes.items h.skipped e shown → IsStreamRefused k file before after holds first new shown
 stream_refused k file ended before after holds first old new read items h e shown p consumed at_end over part kind shown_kind located =
-    let s = str_offset k None (take part.len (fresh h)) e kind part.refused in
+    let s = str_offset k None (fresh h) e kind part.refused in
     let ys = part.before.0 in
     let offset : ℕ = h.skipped + s.0 in
     let placed_after : IsPlacedAfter file h.before h.bytes.items offset shown = (let l = rw kind at located in rw s.1 at l) in
-    let short = length-take part.len (fresh h) in
     let long = length-drop h.skipped h.bytes.items in
     let inside = s.2 in
     let within = p.within in
@@ -238,7 +242,7 @@ stream_refused k file ended before after holds first old new read items h e show
     record {
       read = read;
       consumed = consumed;
-      never = refused_never k ended before read items h part.len p part.taken.1 s.3 at_end;
+      never = refused_never k ended before read items h part.len p part.taken.1 part.none at_end;
       taken = (items ++ ys, refused_prefix k ended read items ys h part.len p part.taken.1 part.before.1, taken_both);
       placed = λ small. (length p.gone + offset, omega arith, placed s.0 placed_after small);
     }

@@ -102,3 +102,7 @@ prefix_after k done part xs ys l a b =
 -- and with more after them
 pub prefix_longer : (k : ItemType) (part rest : List ℕ) (ys : List Item) → IsLines part → PrefixSpells k part ys → PrefixSpells k (part ++ rest) ys
 prefix_longer k part rest ys l b = (b.0, b.1 ++ rest, begins_more b.0 0 part b.1 rest (left_of_lines b.0 part b.1 l b.2) b.2, b.3)
+
+-- a part that spells no items, before a seam
+pub none_before : (k : ItemType) (part rest : List ℕ) → IsSeam k part rest → SpellsNone k part → SpellsNone k (part ++ rest)
+none_before k part rest seam none items h = let r = (seams_part k part rest items seam).0 h in none r.0 r.3

@@ -27,11 +27,12 @@ IsComplete k false fresh n = (n ≡ 0) ⊎ IsSeam k (take n fresh) (drop n fresh
 abbrev pub IsTaken : ItemType → Bool → List ℕ → ℕ → Type 0
 IsTaken k ended fresh n = (n ≤ length fresh) × IsComplete k ended fresh n
 
--- the part up to there was refused, and the sink took the items before the one that was refused
+-- the part up to there spells no items, the error is that of the whole, and the sink took items that the part begins with
 pub record IsRefusedPart {S : Type 0} (k : ItemType) (ended : Bool) (fresh : List ℕ) (holds : S → List Item → Type 0) (old new : S) (e : ParseError) : Type 0 where
   pub len : ℕ
   pub taken : IsTaken k ended fresh len
-  pub refused : IsStrError k None (take len fresh) e
+  pub none : SpellsNone k (take len fresh)
+  pub refused : IsStrError k None fresh e
   pub before : TakesPrefix holds k (take len fresh) old new
 
 -- all of a stream was read, it spells items, and the sink took them

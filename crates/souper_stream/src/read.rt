@@ -1,14 +1,16 @@
 //! Reading items from a stream.
-ghost use Rattle.std.specs.Prelude.{◌≡◌, ◌≤◌, ◌<◌, ◌+◌, ◌++◌, ◌⊎◌, ℕ, List, length, take, drop, true, IfOk, IfErr, IfSome, OnOk, option_copied};
+ghost use Rattle.std.specs.Prelude.{◌≡◌, ◌≤◌, ◌<◌, ◌+◌, ◌++◌, ◌⊎◌, ℕ, List, length, take, drop, true, None, IfOk, IfErr, IfSome, OnOk, option_copied};
 ghost use Rattle.std.specs.Io.KnownBytes.{Consumes, IsAtEnd};
 ghost use Rattle.souper_ir.specs.Errors.{kind_of, offset_of, IsLocatedAfter};
+ghost use Rattle.souper_graph.specs.Syntax.Spelling.{SpellsNone};
+ghost use Rattle.souper_ir.specs.Answers.{IsStrError};
 ghost use Rattle.souper_ir.specs.Sinks.{TakesText};
 ghost use Rattle.souper_stream.specs.Reading.{IsTaken, IsRefusedPart, IsStreamTaken, IsStreamRefused, ReadsMore};
 
 use crate::ends::StreamItem;
 use crate::held::Held;
 use crate::lines::ready_len;
-use souper_ir::parse::{ParseError, ParseErrorKind, Result, Sink, parse_into};
+use souper_ir::parse::{ParseError, ParseErrorKind, Result, Sink, WholeItem, parse_into};
 use std::alloc::{AllocError, Global};
 use std::io::{BufRead, ErrorKind};
 use std::{io, str};
@@ -28,9 +30,32 @@ fn fill<R: BufRead>(reader: &mut R, bytes: &mut Vec<u8>, goal: usize) -> io::Res
     Ok(false)
 }
 
+// A sink that keeps nothing.
+#[derive(Clone, Copy)]
+struct Dropped;
+
+impl<T: WholeItem + Drop> Sink<T> for Dropped {
+    ghost holds = { λ dropped items. Unit {0} };
+
+    fn take(&mut self, _item: T) -> std::result::Result<(), AllocError> {
+        Ok(())
+    }
+}
+
+// The refusal of a text that spells no items.
+fn refusal<T: StreamItem + Drop>(alloc: Global, text: &str) -> ParseError
+    requires { SpellsNone T.item_type text.now }
+    ensures { IsStrError T.item_type None text.now result }
+{
+    match parse_into::<T, Dropped>(alloc, text, None, &mut Dropped) {
+        Ok(()) => unreachable!(),
+        Err(error) => error,
+    }
+}
+
 // Passes the items that are complete in what was read to the sink, and returns the length of their text: all of it, if the
 // input has ended.
-fn take_items<T: StreamItem, S: Sink<T>>(
+fn take_items<T: StreamItem + Drop, S: Sink<T>>(
     alloc: Global,
     fresh: &[u8],
     ended: bool,
@@ -46,7 +71,11 @@ fn take_items<T: StreamItem, S: Sink<T>>(
     let len = ready_len::<T>(text, ended);
     match parse_into::<T, S>(alloc, &text[..len], None, sink) {
         Ok(()) => Ok(len),
-        Err(error) => Err(error),
+        Err(error) => match error.kind() {
+            // The part may end in an incomplete line, so the error is that of all that is held.
+            ParseErrorKind::Parse => Err(refusal::<T>(alloc, text)),
+            _ => Err(error),
+        },
     }
 }
 
@@ -80,13 +109,13 @@ fn place(alloc: Global, held: &Held, error: ParseError, filename: Option<&str>) 
 /// error, which shows `unknown` without one.
 ///
 /// - `Parse`: what was read is not the beginning of any text that spells such items; or the stream has ended, and its text spells
-///   none. The sink has then taken items that the stream begins with. The error has and shows its place in the stream; if the last
-///   line of an item is incomplete, that may be another place than [`parse_into`] finds in the whole text.
+///   none. The sink has then taken items that the stream begins with. The error is one of what was read so far, and has and shows
+///   its place in the stream.
 /// - `Io`: a read failed, or what was read is not UTF-8.
 /// - `Memory`: memory ran out, or the sink returned so.
 ///
 /// After `Io` or `Memory` the sink may have taken items.
-pub fn read_into<T: StreamItem, R: BufRead, S: Sink<T>>(
+pub fn read_into<T: StreamItem + Drop, R: BufRead, S: Sink<T>>(
     alloc: Global,
     reader: &mut R,
     filename: Option<&str>,
@@ -100,7 +129,7 @@ pub fn read_into<T: StreamItem, R: BufRead, S: Sink<T>>(
 
 /// [`read_into`] that looks for items when lines of `least` bytes more than are held were read and, if none is complete, when as much
 /// again as is held was read. With small chunks items are passed on sooner; larger ones take less time.
-pub fn read_chunks_into<T: StreamItem, R: BufRead, S: Sink<T>>(
+pub fn read_chunks_into<T: StreamItem + Drop, R: BufRead, S: Sink<T>>(
     alloc: Global,
     least: usize,
     reader: &mut R,

@@ -66,6 +66,8 @@ fn refusal_has_its_place_in_the_stream(rt: HostRuntime) -> Result<(), Fail> {
             1,
         ),
         ("%x = var infer %x\ncand 1 2\n", 1),
+        ("%0 = var\ninfer\n%1 = var\ninfer %1\n", 0),
+        ("%0 = var\ninfer %0 (\n%1 = var\ninfer %1\n", 0),
     ];
     for (bad, items) in rows {
         is_refused(&rt, rt.alloc(), bad, items)?;
