@@ -12,7 +12,7 @@ use Rattle.souper_ir.proofs.Items.Joining.{begins_more, kinds_moved, items_join}
 use Rattle.souper_ir.proofs.Items.Parting.{Within, Beyond, parted_twice, tokens_part}
 use Rattle.souper_stream.specs.Lines.{end_word, defines, starts_line, NoStart}
 use Rattle.souper_stream.specs.Seams.{StartsLine, IsSeam, SeamsPart}
-use Rattle.souper_stream.proofs.EndLines.{item_ends, one_end, list_starts, quiet_ends}
+use Rattle.souper_stream.proofs.EndLines.{item_ends, one_end, list_starts, quiet_no_end}
 
 -- ---- tokens
 
@@ -143,7 +143,7 @@ split_step k a ws pre post ts p s w e q t h more ih (inl b) = here b.left b.firs
         let tails : post ++ ts ≡ left ++ s = cc in
         let line = item_ends k a p h in
         let at : line.head ++ ident line.word ∷ line.others ≡ pre ++ ident w ∷ left = sym line.whole ∙ first ∙ ap (λ (z : Lexeme). pre ++ z ∷ left) (sym heads) in
-        let others : left ≡ line.others = one_end k line.head pre line.others left line.word w line.no_end (quiet_ends k line.others line.quiet) e at in
+        let others : left ≡ line.others = one_end k line.head pre line.others left line.word w line.no_end (quiet_no_end k line.others line.quiet) e at in
         let place = one_start post ts left s tails q (subst (λ (z : List Lexeme). NoStart z) (sym others) line.quiet) t (list_starts k ws s more) in
         let whole : p ≡ pre ++ ident w ∷ post = first ∙ (λ i. pre ++ sym heads i ∷ place.0 i) in
         record {

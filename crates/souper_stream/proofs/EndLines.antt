@@ -52,7 +52,7 @@ start_no_last open_paren ts h = refl
 start_no_last close_paren ts h = refl
 start_no_last open_bracket ts h = refl
 
-quiet_no_end : (k : ItemType) (ts : List Lexeme) → NoStart ts → NoEnd k ts
+pub quiet_no_end : (k : ItemType) (ts : List Lexeme) → NoStart ts → NoEnd k ts
 quiet_no_end k [] h = tt
 quiet_no_end k (t ∷ ts) h = (last_no_end k t (start_no_last t ts h.0), quiet_no_end k ts h.1)
 
@@ -178,6 +178,3 @@ item_starts k a ts ys h = rw h.whole (head_starts k [] h.first h.head h.tail ys 
 pub list_starts : (k : ItemType) (ws : List Item) (ts : List Lexeme) → list_spells k ws ts → (ts ≡ []) ⊎ (starts_line ts ≡ true)
 list_starts k [] ts h = inl h
 list_starts k (w ∷ ws) ts h = inr (rw h.whole (item_starts k w h.prefix h.suffix h.first))
-
-pub quiet_ends : (k : ItemType) (ts : List Lexeme) → NoStart ts → NoEnd k ts
-quiet_ends k ts h = quiet_no_end k ts h

@@ -8,7 +8,7 @@ use Rattle.souper_graph.specs.Values.{Item}
 use Rattle.souper_graph.specs.Syntax.Spelling.{ItemType, TextSpells, SpellsNone}
 use Rattle.souper_ir.specs.declared.parse.error.Before.{Before}
 use Rattle.souper_ir.specs.declared.parse.error.ParseError.{ParseError}
-use Rattle.souper_ir.specs.declared.parse.error.ParseErrorKind.TheVariants.{Io, Parse, Memory}
+use Rattle.souper_ir.specs.declared.parse.error.ParseErrorKind.TheVariants.{Parse, Memory}
 use Rattle.souper_ir.specs.declared.parse.error.Cause.{Cause}
 use Rattle.souper_ir.specs.declared.parse.error.Cause.TheVariants.{Io as IoCause, Parse as ParseCause, Memory as MemoryCause}
 use Rattle.souper_ir.specs.Places.{newlines}
@@ -24,7 +24,7 @@ use Rattle.souper_stream.specs.Reading.{AreAll, IsComplete, IsRefusedPart, Never
 use Rattle.souper_stream.proofs.Slices.{take_parts, drop_parts}
 use Rattle.souper_stream.proofs.Cuts.{starts_more}
 use Rattle.std.proofs.Math.Seq.{drop-append_seam}
-use Rattle.souper_stream.proofs.Progress.{lines_append, IsOpen, open_more, seam_later, none_spelled, spelled_more, none_after, none_at_end, prefix_after, prefix_longer, none_before}
+use Rattle.souper_stream.proofs.Progress.{lines_append, IsOpen, open_lines, open_more, seam_later, none_spelled, spelled_more, none_after, none_at_end, prefix_after, prefix_longer, none_before}
 
 -- the text whose items were handed on
 abbrev pub done : List ℕ → Held → List ℕ
@@ -137,7 +137,7 @@ held_forgot k read items xs old new n p fits seam t f =
       counted = λ small. let b = p.counted small in let b_bytes = b.bytes_are in let b_lines = b.lines_are in record { lines = lines_append p.gone (take start bytes) p.lines f.lines; bytes_are = omega arith; lines_are = omega arith };
       within = omega (arith, ap length f.bytes_are ∙ length-drop start bytes);
       spelled = subst (λ (x : List ℕ). TextSpells k x (items ++ xs)) (sym now) (spelled_more k (done p.gone old) (fresh old) (take n (fresh old)) items xs p.opened p.spelled t);
-      opened = inr (subst (λ (x : List ℕ). IsSeam k x (fresh new)) (sym now) (subst (λ (x : List ℕ). IsSeam k (done p.gone old ++ take n (fresh old)) x) (sym later) (seam_later k (done p.gone old) (take n (fresh old)) (drop n (fresh old)) (open_is_lines k (done p.gone old) (fresh old) p.opened) seam)));
+      opened = inr (subst (λ (x : List ℕ). IsSeam k x (fresh new)) (sym now) (subst (λ (x : List ℕ). IsSeam k (done p.gone old ++ take n (fresh old)) x) (sym later) (seam_later k (done p.gone old) (take n (fresh old)) (drop n (fresh old)) (open_lines k (done p.gone old) (fresh old) p.opened) seam)));
       placed = inl f.some;
     }
   where
@@ -145,10 +145,6 @@ held_forgot k read items xs old new n p fits seam t f =
     drop_after m xs b e l =
         let at : length (take m xs) ≡ m = omega (arith, length-take m xs) in
         (λ i. drop (sym at i) (e i)) ∙ drop-append_seam (take m xs) b
-
-    open_is_lines : (k : ItemType) (a b : List ℕ) → IsOpen k a b → IsLines a
-    open_is_lines k a b (inl none) = inl none
-    open_is_lines k a b (inr s) = s.lines
 
 -- all was handed on
 pub held_all : (k : ItemType) (read : List ℕ) (items xs : List Item) (h : Held) (n : ℕ) → IsHeld k read items h → n ≡ length (fresh h) → TextSpells k (take n (fresh h)) xs → TextSpells k read (items ++ xs)
@@ -181,12 +177,8 @@ refused_never k false before read items h n p (inr seam) none at_end = inl (λ m
 
 refused_prefix : (k : ItemType) (ended : Bool) (read : List ℕ) (items ys : List Item) (h : Held) (n : ℕ) → IsHeld k read items h → IsComplete k ended (fresh h) n → PrefixSpells k (take n (fresh h)) ys → PrefixSpells k read (items ++ ys)
 refused_prefix k ended read items ys h n p complete b =
-    subst (λ (x : List ℕ). PrefixSpells k x (items ++ ys)) (sym (parts_read k read items h p)) (prefix_after k (done p.gone h) (fresh h) items ys (open_is_lines (done p.gone h) (fresh h) p.opened) p.spelled (longer ended complete))
+    subst (λ (x : List ℕ). PrefixSpells k x (items ++ ys)) (sym (parts_read k read items h p)) (prefix_after k (done p.gone h) (fresh h) items ys (open_lines k (done p.gone h) (fresh h) p.opened) p.spelled (longer ended complete))
   where
-    open_is_lines : (a c : List ℕ) → IsOpen k a c → IsLines a
-    open_is_lines a c (inl none) = inl none
-    open_is_lines a c (inr s) = s.lines
-
     after : IsLines (take n (fresh h)) → PrefixSpells k (fresh h) ys
     after l = subst (λ (x : List ℕ). PrefixSpells k x ys) (take-append-drop n (fresh h)) (prefix_longer k (take n (fresh h)) (drop n (fresh h)) ys l b)
 
@@ -194,14 +186,6 @@ refused_prefix k ended read items ys h n p complete b =
     longer true all = subst (λ (x : List ℕ). PrefixSpells k x ys) (take_all n (fresh h) (omega (arith, all))) b
     longer false (inl zero_is) = after (inl (ap (λ (m : ℕ). take m (fresh h)) zero_is))
     longer false (inr seam) = after seam.lines
-
-kind_offset : (e : ParseError) → kind_of e ≡ Parse → (o : ℕ) × (offset_of e ≡ Some o)
-kind_offset e kind = under e.cause refl
-  where
-    under : (c : Cause) → e.cause ≡ c → (o : ℕ) × (offset_of e ≡ Some o)
-    under (IoCause f) at = let bad : Io ≡ Parse = sym (ap kind_of_cause at) ∙ kind in absurd cc
-    under (ParseCause r) at = (r.value.offset, ap offset_of_cause at)
-    under MemoryCause at = let bad : Memory ≡ Parse = sym (ap kind_of_cause at) ∙ kind in absurd cc
 
 -- the offset of a refusal is in the text that was refused
 pub str_offset : (k : ItemType) (file : Option (List ℕ)) (source : List ℕ) (e : ParseError) → kind_of e ≡ Parse → IsStrError k file source e → (o : ℕ) × (offset_of e ≡ Some o) × (o ≤ length source) × SpellsNone k source

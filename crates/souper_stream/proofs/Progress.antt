@@ -21,7 +21,7 @@ lines_append a b l (inr end) = inr (a ++ end.0, ap (λ (x : List ℕ). a ++ x) e
 abbrev pub IsOpen : ItemType → List ℕ → List ℕ → Type 0
 IsOpen k done fresh = (done ≡ []) ⊎ IsSeam k done fresh
 
-open_lines : (k : ItemType) (done fresh : List ℕ) → IsOpen k done fresh → IsLines done
+pub open_lines : (k : ItemType) (done fresh : List ℕ) → IsOpen k done fresh → IsLines done
 open_lines k done fresh (inl none) = inl none
 open_lines k done fresh (inr seam) = seam.lines
 

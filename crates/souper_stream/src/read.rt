@@ -104,9 +104,9 @@ fn place(alloc: Global, held: &Held, error: ParseError, filename: Option<&str>) 
 /// Reads the items of a stream to its end, and passes them to a sink, in order.
 ///
 /// They are those of its whole text ([`parse_into`]). Of the text a part is held: at least 64 KiB, or up to twice what is between
-/// two places where it can be cut, which are after the last line of an item and before a line of the next. The type of the items is [`LeftHandSide`](souper_ir::ast::LeftHandSide),
-/// [`RightHandSide`](souper_ir::ast::RightHandSide) or [`Replacement`](souper_ir::ast::Replacement). The file name is for the
-/// error, which shows `unknown` without one.
+/// two places where it can be cut, which are after the last line of an item and before a line of the next. The type of the items
+/// is [`LeftHandSide`](souper_ir::ast::LeftHandSide), [`RightHandSide`](souper_ir::ast::RightHandSide) or
+/// [`Replacement`](souper_ir::ast::Replacement). The file name is for the error, which shows `unknown` without one.
 ///
 /// - `Parse`: what was read is not the beginning of any text that spells such items; or the stream has ended, and its text spells
 ///   none. The sink has then taken items that the stream begins with. The error is one of what was read so far, and has and shows
@@ -127,8 +127,9 @@ pub fn read_into<T: StreamItem + Drop, R: BufRead, S: Sink<T>>(
     read_chunks_into::<T, R, S>(alloc, CHUNK, reader, filename, sink)
 }
 
-/// [`read_into`] that looks for items when lines of `least` bytes more than are held were read and, if none is complete, when as much
-/// again as is held was read. With small chunks items are passed on sooner; larger ones take less time.
+/// [`read_into`] that looks for items when `least` bytes more than are held were read (at least 1), and the line that the last of
+/// them is in. If no items are complete, it looks again when as much again as is held was read. With a small `least` items are
+/// passed on sooner; with a larger one reading takes less time.
 pub fn read_chunks_into<T: StreamItem + Drop, R: BufRead, S: Sink<T>>(
     alloc: Global,
     least: usize,
