@@ -19,30 +19,12 @@ use Rattle.souper_ir.specs.Sinks.{PrefixSpells, TakesOver}
 use Rattle.souper_ir.proofs.Items.Lists.{text_alone}
 use Rattle.souper_stream.specs.declared.held.Held.{Held}
 use Rattle.souper_stream.specs.Seams.{IsSeam}
-use Rattle.souper_stream.specs.Holding.{Forgets}
-use Rattle.souper_stream.specs.Reading.{AreAll, IsComplete, IsRefusedPart, NeverSpells, IsStreamRefused}
+use Rattle.souper_stream.specs.Holding.{done, fresh, IsOpen, IsHeld, Forgets}
+use Rattle.souper_stream.specs.Reading.{IsComplete, IsRefusedPart, NeverSpells, IsRefused}
 use Rattle.souper_stream.proofs.Slices.{take_parts, drop_parts}
 use Rattle.souper_stream.proofs.Cuts.{starts_more}
 use Rattle.std.proofs.Math.Seq.{drop-append_seam}
-use Rattle.souper_stream.proofs.Progress.{lines_append, IsOpen, open_lines, open_more, seam_later, none_spelled, spelled_more, none_after, none_at_end, prefix_after, prefix_longer, none_before}
-
--- the text whose items were handed on
-abbrev pub done : List ℕ → Held → List ℕ
-done gone h = gone ++ take h.skipped h.bytes.items
-
--- the text after it
-abbrev pub fresh : Held → List ℕ
-fresh h = drop h.skipped h.bytes.items
-
-pub record IsHeld (k : ItemType) (read : List ℕ) (items : List Item) (h : Held) : Type 0 where
-  pub gone : List ℕ
-  pub whole : read ≡ gone ++ h.bytes.items
-  pub lines : IsLines gone
-  pub counted : length read + 1 < 2 ^ 64 → IsBefore h.before gone
-  pub within : h.skipped ≤ length h.bytes.items
-  pub spelled : TextSpells k (done gone h) items
-  pub opened : IsOpen k (done gone h) (fresh h)
-  pub placed : (0 < h.skipped) ⊎ (gone ≡ [])
+use Rattle.souper_stream.proofs.Progress.{lines_append, open_lines, open_more, seam_later, none_spelled, spelled_more, none_after, none_at_end, prefix_after, prefix_longer, none_before}
 
 -- nothing was read
 pub held_none : (k : ItemType) (h : Held) → h.bytes.items ≡ [] → h.skipped ≡ 0 → h.before.bytes ≡ 0 → h.before.lines ≡ 0 → IsHeld k [] [] h
@@ -161,12 +143,12 @@ whole_none k false text n (inl zero_is) none = absurd (none [] (subst (λ (m : �
 whole_none k false text n (inr seam) none = subst (λ (x : List ℕ). SpellsNone k x) (take-append-drop n text) (none_before k (take n text) (drop n text) seam none)
 
 -- the part that was refused, and what is after it
-refused_never : (k : ItemType) (ended : Bool) (before : Option (List ℕ)) (read : List ℕ) (items : List Item) (h : Held) (n : ℕ) → IsHeld k read items h → IsComplete k ended (fresh h) n → SpellsNone k (take n (fresh h)) → (ended ≡ true → AreAll before read) → NeverSpells k before read
-refused_never k true before read items h n p all none at_end =
-    let part : take n (fresh h) ≡ fresh h = take_all n (fresh h) (omega (arith, all)) in
+refused_never : (k : ItemType) (ended : Bool) (all : Type 0) (read : List ℕ) (items : List Item) (h : Held) (n : ℕ) → IsHeld k read items h → IsComplete k ended (fresh h) n → SpellsNone k (take n (fresh h)) → (ended ≡ true → all) → NeverSpells k all read
+refused_never k true all read items h n p long none at_end =
+    let part : take n (fresh h) ≡ fresh h = take_all n (fresh h) (omega (arith, long)) in
     inr (at_end refl, subst (λ (x : List ℕ). SpellsNone k x) (sym (parts_read k read items h p)) (none_at_end k (done p.gone h) (fresh h) p.opened (subst (λ (x : List ℕ). SpellsNone k x) part none)))
-refused_never k false before read items h n p (inl zero_is) none at_end = absurd (none [] (subst (λ (m : ℕ). TextSpells k (take m (fresh h)) []) (sym zero_is) (none_spelled k)))
-refused_never k false before read items h n p (inr seam) none at_end = inl (λ more.
+refused_never k false all read items h n p (inl zero_is) none at_end = absurd (none [] (subst (λ (m : ℕ). TextSpells k (take m (fresh h)) []) (sym zero_is) (none_spelled k)))
+refused_never k false all read items h n p (inr seam) none at_end = inl (λ more.
     let part = take n (fresh h) in
     let rest : List ℕ = drop n (fresh h) ++ more in
     let split : fresh h ++ more ≡ part ++ rest = ap (λ (x : List ℕ). x ++ more) (sym (take-append-drop n (fresh h))) ∙ append_assoc part (drop n (fresh h)) more in
@@ -211,10 +193,11 @@ offset_held k ended h holds old new e within part = under e.cause refl
         let inside = s.2 in
         rw at (omega arith)
 
-pub stream_refused : (k : ItemType) (file : Option (List ℕ)) (ended : Bool) (before after : Option (List ℕ)) {S : Type 0} (holds : S → List Item → Type 0) (first old new : S) (read : List ℕ) (items : List Item) (h : Held) (e shown : ParseError)
-    → IsHeld k read items h → Consumes before after read → (ended ≡ true → AreAll before read) → TakesOver holds items first old
-    → IsRefusedPart k ended (fresh h) holds old new e → kind_of e ≡ Parse → kind_of shown ≡ Parse → IsLocatedAfter file h.before h.bytes.items h.skipped e shown → IsStreamRefused k file before after holds first new shown
-stream_refused k file ended before after holds first old new read items h e shown p consumed at_end over part kind shown_kind located =
+-- what was read and is held spells no items, whatever follows
+pub part_refused : (k : ItemType) (file : Option (List ℕ)) (ended : Bool) (all : Type 0) {S : Type 0} (holds : S → List Item → Type 0) (old new : S) (read : List ℕ) (items : List Item) (h : Held) (e shown : ParseError)
+    → IsHeld k read items h → (ended ≡ true → all) → IsRefusedPart k ended (fresh h) holds old new e → kind_of e ≡ Parse → kind_of shown ≡ Parse → IsLocatedAfter file h.before h.bytes.items h.skipped e shown
+    → IsRefused k file all read items holds old new shown
+part_refused k file ended all holds old new read items h e shown p at_end part kind shown_kind located =
     let s = str_offset k None (fresh h) e kind part.refused in
     let ys = part.before.0 in
     let offset : ℕ = h.skipped + s.0 in
@@ -224,19 +207,13 @@ stream_refused k file ended before after holds first old new read items h e show
     let within = p.within in
     let whole_long = ap length p.whole ∙ length-append p.gone h.bytes.items in
     record {
-      read = read;
-      consumed = consumed;
-      never = refused_never k ended before read items h part.len p part.taken.1 part.none at_end;
-      taken = (items ++ ys, refused_prefix k ended read items ys h part.len p part.taken.1 part.before.1, taken_both);
+      taken = ys;
+      over = part.before.2;
+      begun = refused_prefix k ended read items ys h part.len p part.taken.1 part.before.1;
+      never = refused_never k ended all read items h part.len p part.taken.1 part.none at_end;
       placed = λ small. (length p.gone + offset, omega arith, placed s.0 placed_after small);
     }
   where
-    ys : List Item
-    ys = part.before.0
-
-    taken_both : TakesOver holds (items ++ ys) first new
-    taken_both held h = subst (λ (x : List Item). holds new x) (append_assoc held items ys) (part.before.2 (held ++ items) (over held h))
-
     some : (o : ℕ) → (0 < h.skipped) ⊎ (p.gone ≡ []) → (0 < h.skipped + o) ⊎ (p.gone ≡ [])
     some o (inl k) = inl (omega arith)
     some o (inr k) = inr k

@@ -4,6 +4,6 @@ mod Cuts
 mod Scan
 mod Slices
 mod Progress
-mod Bytes
+pub mod Bytes
 mod Keeping
-mod Turns
+pub mod Turns

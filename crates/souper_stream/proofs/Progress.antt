@@ -9,6 +9,7 @@ use Rattle.souper_ir.specs.Sinks.{PrefixSpells}
 use Rattle.souper_ir.specs.Laws.Steps.{kinds-append}
 use Rattle.souper_ir.proofs.Items.Joining.{begins_more, begins_moved, begins_later, left_of_lines, gap_of_lines, kinds_moved, items_join, list_append}
 use Rattle.souper_stream.specs.Seams.{IsSeam}
+use Rattle.souper_stream.specs.Holding.{IsOpen}
 use Rattle.souper_stream.proofs.Cuts.{starts_more, seams_part}
 
 -- ---- lines
@@ -16,10 +17,6 @@ use Rattle.souper_stream.proofs.Cuts.{starts_more, seams_part}
 pub lines_append : (a b : List ℕ) → IsLines a → IsLines b → IsLines (a ++ b)
 lines_append a b l (inl none) = subst (λ (x : List ℕ). IsLines x) (sym (ap (λ (x : List ℕ). a ++ x) none ∙ append-nil a)) l
 lines_append a b l (inr end) = inr (a ++ end.0, ap (λ (x : List ℕ). a ++ x) end.1 ∙ sym (append_assoc a end.0 (10 ∷ [])))
-
--- nothing was handed on, or a seam is after what was
-abbrev pub IsOpen : ItemType → List ℕ → List ℕ → Type 0
-IsOpen k done fresh = (done ≡ []) ⊎ IsSeam k done fresh
 
 pub open_lines : (k : ItemType) (done fresh : List ℕ) → IsOpen k done fresh → IsLines done
 open_lines k done fresh (inl none) = inl none

@@ -1,8 +1,35 @@
--- Definitions. What is forgotten of a stream.
-use Rattle.std.specs.Prelude.{◌≡◌, ℕ, ◌+◌, ◌-◌, ◌^◌, ◌<◌, ◌≤◌, min, take, drop}
+-- Definitions. What is held of a stream, beside what was read of it and the items that were handed on.
+use Rattle.std.specs.Prelude.{◌≡◌, ◌⊎◌, ℕ, ◌+◌, ◌-◌, ◌^◌, ◌<◌, ◌≤◌, List, [], ◌++◌, length, min, take, drop}
+use Rattle.souper_graph.specs.Values.{Item}
+use Rattle.souper_graph.specs.Syntax.Spelling.{ItemType, TextSpells}
+use Rattle.souper_ir.specs.Errors.{IsBefore}
 use Rattle.souper_ir.specs.Places.{newlines}
 use Rattle.souper_ir.specs.Joining.{IsLines}
 use Rattle.souper_stream.specs.declared.held.Held.{Held}
+use Rattle.souper_stream.specs.Seams.{IsSeam}
+
+-- the text whose items were handed on
+abbrev pub done : List ℕ → Held → List ℕ
+done gone h = gone ++ take h.skipped h.bytes.items
+
+-- the text after it
+abbrev pub fresh : Held → List ℕ
+fresh h = drop h.skipped h.bytes.items
+
+-- nothing was handed on, or a seam is after what was
+abbrev pub IsOpen : ItemType → List ℕ → List ℕ → Type 0
+IsOpen k done fresh = (done ≡ []) ⊎ IsSeam k done fresh
+
+-- Of what was read, lines are gone and counted, and the rest is held. The items of what is done were handed on.
+pub record IsHeld (k : ItemType) (read : List ℕ) (items : List Item) (h : Held) : Type 0 where
+  pub gone : List ℕ
+  pub whole : read ≡ gone ++ h.bytes.items
+  pub lines : IsLines gone
+  pub counted : length read + 1 < 2 ^ 64 → IsBefore h.before gone
+  pub within : h.skipped ≤ length h.bytes.items
+  pub spelled : TextSpells k (done gone h) items
+  pub opened : IsOpen k (done gone h) (fresh h)
+  pub placed : (0 < h.skipped) ⊎ (gone ≡ [])
 
 -- Whole lines were forgotten, and counted; so many bytes more than before are those of the line that was handed on.
 pub record Forgets (old new : Held) (len : ℕ) : Type 0 where

@@ -2,3 +2,4 @@ pub mod Lines
 pub mod Seams
 pub mod Reading
 pub mod Holding
+pub mod Parts

@@ -1,12 +1,12 @@
 -- Definitions. What is read of a stream, and what becomes of it.
-use Rattle.std.specs.Prelude.{◌≡◌, ◌⊎◌, ℕ, ◌+◌, ◌^◌, ◌<◌, ◌≤◌, Bool, true, false, List, ◌++◌, length, take, drop, Option, None, IfSome}
+use Rattle.std.specs.Prelude.{◌≡◌, ◌⊎◌, ℕ, ◌+◌, ◌^◌, ◌<◌, ◌≤◌, Bool, true, false, List, [], ◌++◌, length, take, drop, Option, None, IfSome}
 use Rattle.std.specs.Io.KnownBytes.{Consumes}
 use Rattle.souper_graph.specs.Values.{Item}
 use Rattle.souper_graph.specs.Syntax.Spelling.{ItemType, SpellsNone}
 use Rattle.souper_ir.specs.declared.parse.error.ParseError.{ParseError}
 use Rattle.souper_ir.specs.Answers.{IsStrError}
 use Rattle.souper_ir.specs.Errors.{IsRefusalAt}
-use Rattle.souper_ir.specs.Sinks.{TakesText, TakesPrefix}
+use Rattle.souper_ir.specs.Sinks.{TakesOver, TakesText, TakesPrefix, PrefixSpells}
 use Rattle.souper_stream.specs.Seams.{IsSeam}
 
 -- if the bytes of a reader are known, they are these
@@ -43,14 +43,18 @@ pub record IsStreamTaken {S : Type 0} (k : ItemType) (before after : Option (Lis
   pub taken : TakesText holds k read old new
 
 -- no text that begins with what was read of a stream spells items; or what was read is all, and spells none
-abbrev pub NeverSpells : ItemType → Option (List ℕ) → List ℕ → Type 0
-NeverSpells k before read = ((more : List ℕ) → SpellsNone k (read ++ more)) ⊎ (AreAll before read × SpellsNone k read)
+abbrev pub NeverSpells : ItemType → Type 0 → List ℕ → Type 0
+NeverSpells k all read = ((more : List ℕ) → SpellsNone k (read ++ more)) ⊎ (all × SpellsNone k read)
 
--- The stream was refused: whatever follows what was read of it, the whole spells no items. The sink took items that it begins
--- with, and the error has and shows the place in the whole of what was read.
-pub record IsStreamRefused {S : Type 0} (k : ItemType) (file : Option (List ℕ)) (before after : Option (List ℕ)) (holds : S → List Item → Type 0) (old new : S) (e : ParseError) : Type 0 where
-  pub read : List ℕ
-  pub consumed : Consumes before after read
-  pub never : NeverSpells k before read
-  pub taken : TakesPrefix holds k read old new
+-- What was read of a stream is refused: whatever follows, the whole spells no items. After `items` the sink took further items,
+-- and what was read begins with all of them. The error has and shows its place in what was read.
+pub record IsRefused {S : Type 0} (k : ItemType) (file : Option (List ℕ)) (all : Type 0) (read : List ℕ) (items : List Item) (holds : S → List Item → Type 0) (old new : S) (e : ParseError) : Type 0 where
+  pub taken : List Item
+  pub over : TakesOver holds taken old new
+  pub begun : PrefixSpells k read (items ++ taken)
+  pub never : NeverSpells k all read
   pub placed : length read + 1 < 2 ^ 64 → (offset : ℕ) × (offset ≤ length read) × IsRefusalAt file read offset e
+
+-- the stream was refused
+abbrev pub IsStreamRefused : {S : Type 0} → ItemType → Option (List ℕ) → Option (List ℕ) → Option (List ℕ) → (S → List Item → Type 0) → S → S → ParseError → Type 0
+IsStreamRefused k file before after holds old new e = (read : List ℕ) × Consumes before after read × IsRefused k file (AreAll before read) read [] holds old new e

@@ -11,7 +11,9 @@ mod ends;
 mod held;
 pub mod laws;
 mod lines;
+mod parts;
 mod read;
 
 pub use ends::StreamItem;
+pub use parts::PartReader;
 pub use read::{read_chunks_into, read_into};

@@ -4,7 +4,7 @@ use Rattle.souper_ir.specs.Sinks.{TakesText, TakesPrefix}
 use Rattle.souper_graph.specs.Syntax.Spelling.{SpellsNone}
 use Rattle.souper_stream.specs.Reading.{IsTaken}
 use Rattle.souper_stream.proofs.Keeping.{str_offset, whole_none}
-use Rattle.souper_stream.proofs.read.take_items.Goals as goal
+use Rattle.souper_stream.proofs.parts.take_items.Goals as goal
 
 front_slice : (n : ℕ) (xs : List ℕ) → take (n - 0) xs ≡ take n xs
 front_slice n xs = let e : n - 0 ≡ n = omega arith in ap (λ (m : ℕ). take m xs) e
