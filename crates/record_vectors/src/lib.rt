@@ -1,0 +1,11 @@
+//! Tests of the records of items.
+#![tactic(auto)]
+
+#[cfg(test)]
+mod faults;
+#[cfg(test)]
+mod layouts;
+#[cfg(test)]
+mod streams;
+#[cfg(test)]
+mod support;

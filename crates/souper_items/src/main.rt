@@ -1,0 +1,103 @@
+//! Items of Souper IR for a store, one at a time: the files need not fit in memory.
+#![tactic(auto)]
+
+mod options;
+
+use options::{Task, grammar, read_task};
+use souper_format::command::Kind;
+use souper_format::watched::Watched;
+use souper_ir::ast::{LeftHandSide, Replacement, RightHandSide};
+use souper_records::report::{report_fault, report_memory};
+use souper_records::run::each_run;
+use std::alloc::Global;
+use std::fs::File;
+use std::io::{BufRead, BufReader, Write};
+use std::process::ExitCode;
+use std::{env, io};
+
+const STANDARD_INPUT: &str = "(standard input)";
+
+// Does the task over one stream, and returns the status.
+fn run_stream<R: BufRead, W: Write, E: Write>(
+    alloc: Global,
+    task: &Task<'_>,
+    reader: &mut R,
+    name: &str,
+    out: &mut Watched<W>,
+    err: &mut Watched<E>,
+) -> u8 {
+    let layout = task.layout;
+    match task.kind {
+        Kind::Lhs => each_run::<LeftHandSide, R, W, E>(alloc, layout, reader, name, out, err),
+        Kind::Rhs => each_run::<RightHandSide, R, W, E>(alloc, layout, reader, name, out, err),
+        Kind::Rep => each_run::<Replacement, R, W, E>(alloc, layout, reader, name, out, err),
+    }
+}
+
+fn open(rt: &HostRuntime, path: &str) -> io::Result<BufReader<File>> {
+    let file = File::open(rt, path)?;
+    Ok(BufReader::new(rt.alloc(), file)?)
+}
+
+// Does the task over one file; `-` is standard input.
+fn run_file<W: Write, E: Write>(
+    rt: &HostRuntime,
+    task: &Task<'_>,
+    path: &str,
+    out: &mut Watched<W>,
+    err: &mut Watched<E>,
+) -> u8 {
+    let alloc = rt.alloc();
+    if path == "-" {
+        match BufReader::new(alloc, rt.stdin()) {
+            Ok(mut reader) => run_stream(alloc, task, &mut reader, STANDARD_INPUT, out, err),
+            Err(_) => {
+                report_memory(err);
+                2
+            }
+        }
+    } else {
+        match open(rt, path) {
+            Ok(mut reader) => run_stream(alloc, task, &mut reader, path, out, err),
+            Err(fault) => {
+                report_fault(alloc, path, &fault, err);
+                2
+            }
+        }
+    }
+}
+
+// Does the task over each file, and returns the greatest status.
+fn run<W: Write, E: Write>(
+    rt: &HostRuntime,
+    task: &Task<'_>,
+    out: &mut Watched<W>,
+    err: &mut Watched<E>,
+) -> u8 {
+    if task.files.is_empty() {
+        return run_file(rt, task, "-", out, err);
+    }
+    let mut status = 0;
+    for path in task.files {
+        status = status.max(run_file(rt, task, path, out, err));
+    }
+    status
+}
+
+fn main(rt: HostRuntime) -> anyhow::Result<ExitCode> {
+    let words: Vec<String> = env::args(&rt)?.collect(rt.alloc())?;
+    let matches = match grammar(rt.alloc())?.try_get_matches_from(words.as_slice()) {
+        Ok(matches) => matches,
+        Err(error) => {
+            error.print(&rt)?;
+            return Ok(ExitCode::from(error.exit_code() as u8));
+        }
+    };
+    let mut out = Watched::new(rt.stdout());
+    let mut err = Watched::new(rt.stderr());
+    let status = match read_task(&matches) {
+        Some(task) => run(&rt, &task, &mut out, &mut err),
+        None => 2,
+    };
+    Ok(ExitCode::from(status))
+}

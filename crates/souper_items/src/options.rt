@@ -1,0 +1,103 @@
+//! The command line.
+
+use clap::{Arg, ArgAction, ArgMatches, Command};
+use souper_format::command::Kind;
+use souper_records::layout::{Delimiter, Layout};
+use std::alloc::{AllocError, Global};
+
+static KINDS: [&str; 3] = ["lhs", "rhs", "rep"];
+
+/// What the program is asked to do.
+#[derive(Clone, Copy)]
+pub(crate) struct Task<'a> {
+    pub(crate) kind: Kind,
+    pub(crate) layout: Layout,
+
+    /// The paths, of which `-` is standard input. If there are none, standard input is read.
+    pub(crate) files: &'a [&'a str],
+}
+
+fn kind_arg<'a>(alloc: Global) -> Arg<'a> {
+    Arg::new(alloc, "KIND")
+        .required(true)
+        .value_parser(KINDS.as_slice())
+        .help("What the items are: left-hand sides, right-hand sides or replacements")
+}
+
+fn files_arg<'a>(alloc: Global) -> Arg<'a> {
+    Arg::new(alloc, "FILE")
+        .num_args(0..)
+        .action(ArgAction::Append)
+        .help("The files to read; without any, or for `-`, standard input")
+}
+
+fn flag<'a>(alloc: Global, name: &'a str, help: &'a str) -> Arg<'a> {
+    Arg::new(alloc, name)
+        .long(name)
+        .action(ArgAction::SetTrue)
+        .help(help)
+}
+
+fn each<'a>(alloc: Global) -> Result<Command<'a>, AllocError> {
+    Command::new(alloc, "each")
+        .about("Writes the record of each item: its canonical text and an empty line")
+        .arg(flag(
+            alloc,
+            "null",
+            "End each record with a NUL character instead",
+        )
+        .short('z'))?
+        .arg(flag(
+            alloc,
+            "key",
+            "Put a comment line with the SHA-256 of the text before it",
+        ))?
+        .arg(flag(
+            alloc,
+            "rename",
+            "Name the values %0, %1, .. in printed order",
+        ))?
+        .arg(kind_arg(alloc))?
+        .arg(files_arg(alloc))
+}
+
+/// The commands and options of the program.
+pub(crate) fn grammar<'a>(alloc: Global) -> Result<Command<'a>, AllocError> {
+    Command::new(alloc, "souper_items")
+        .version("1.0.0")
+        .about("Items of Souper IR for a store, one at a time")
+        .subcommand_required(true)
+        .arg_required_else_help(true)
+        .subcommand(each(alloc)?)
+}
+
+fn read_kind(word: &str) -> Option<Kind> {
+    match word {
+        "lhs" => Some(Kind::Lhs),
+        "rhs" => Some(Kind::Rhs),
+        "rep" => Some(Kind::Rep),
+        _ => None,
+    }
+}
+
+fn read_layout(options: &ArgMatches<'_>) -> Layout {
+    Layout {
+        delimiter: if options.get_flag("null") {
+            Delimiter::Nul
+        } else {
+            Delimiter::EmptyLine
+        },
+        key: options.get_flag("key"),
+        rename: options.get_flag("rename"),
+    }
+}
+
+/// What the matches ask for.
+pub(crate) fn read_task<'a>(matches: &'a ArgMatches<'a>) -> Option<Task<'a>> {
+    let (_, options) = matches.subcommand()?;
+    Some(Task {
+        kind: read_kind(options.get_str("KIND")?)?,
+        layout: read_layout(options),
+        files: options.get_strs("FILE").unwrap_or_default(),
+    })
+}

@@ -1,0 +1,4 @@
+pub mod Records
+pub mod Eaches
+pub mod Reports
+pub mod Runs

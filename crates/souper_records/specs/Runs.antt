@@ -1,0 +1,28 @@
+-- Definitions. What each status of a run over a stream says of the stream and of the writers.
+use Rattle.std.specs.Prelude.{◌≡◌, ◌⊎◌, ℕ, zero, suc, List, Option, Some, codes}
+use Rattle.souper_graph.specs.Syntax.Spelling.{ItemType}
+use Rattle.souper_ir.specs.declared.parse.ParseError.{ParseError}
+use Rattle.souper_format.specs.Streams.{Stream, IsGivenNothing}
+use Rattle.souper_format.specs.Reporting.{ReportedLine}
+use Rattle.souper_records.specs.declared.layout.Layout.{Layout}
+use Rattle.souper_records.specs.Eaches.{WritesEach, WritesUpTo}
+use Rattle.souper_records.specs.Reports.{ReportedFault}
+
+-- a fact for each status, of which there are three
+abbrev pub OnStatus : ℕ → Type 0 → Type 0 → Type 0 → Type 0
+OnStatus zero done refused stopped = done
+OnStatus (suc zero) done refused stopped = refused
+OnStatus (suc (suc zero)) done refused stopped = stopped
+OnStatus _ done refused stopped = ⊥
+
+-- how a fault of the output is named
+abbrev pub output_name : List ℕ
+output_name = codes "write error"
+
+-- what the status of writing the record of each item says: 0, all were written, and nothing was reported; 1, the stream is
+-- refused, and that was reported; 2, something failed, and that was reported
+abbrev pub IsEachRun : ItemType → Layout → List ℕ → Option (List ℕ) → Option (List ℕ) → Stream → Stream → ℕ → Type 0
+IsEachRun k l name before after out err status = OnStatus status
+    (WritesEach k l before after out.before out.after × IsGivenNothing err)
+    ((e : ParseError) × WritesUpTo k l (Some name) before after out.before out.after e × ReportedLine err e)
+    (ReportedFault name err ⊎ ReportedFault output_name err)

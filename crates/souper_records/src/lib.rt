@@ -1,0 +1,11 @@
+//! Records of items: what a store of optimizations keeps and compares, made from streams that need not fit in memory.
+//!
+//! The program `souper_items` calls [`run::each_run`].
+#![tactic(auto)]
+
+mod batch;
+pub mod each;
+pub mod layout;
+pub mod records;
+pub mod report;
+pub mod run;

@@ -1,0 +1,92 @@
+//! The record of an item.
+ghost use Rattle.std.specs.Prelude.{◌≡◌, ◌++◌, IfOk, OnOk};
+ghost use Rattle.std.specs.String.{string_bytes};
+ghost use Rattle.souper_graph.specs.Text.{text_of};
+ghost use Rattle.souper_graph.specs.WellFormed.{WellFormed};
+ghost use Rattle.souper_records.specs.Records.{chosen, key_of, key_line, delimited, record_of};
+
+use crate::layout::{Delimiter, Layout};
+use sha2::{Digest, Sha256};
+use souper_ir::ast::Item;
+use std::alloc::{AllocError, Global};
+
+// Appends the canonical text of the item.
+fn append_canonical<T: Item>(item: &T, out: &mut String) -> Result<(), AllocError>
+    requires { WellFormed (T.view item.now) }
+    ensures { OnOk result (string_bytes out.new ≡ string_bytes out.old ++ text_of (T.view item.now)) }
+{
+    match item.append_text(out) {
+        Ok(()) => Ok(()),
+        // A well-formed item has no bad id, so the error is out of memory.
+        Err(_) => Err(AllocError),
+    }
+}
+
+// Appends the canonical text of the item, or that of the item with names by its printed order.
+fn append_text<T: Item + Drop>(rename: bool, item: &T, out: &mut String) -> Result<(), AllocError>
+    requires { WellFormed (T.view item.now) }
+    ensures { OnOk result (string_bytes out.new ≡ string_bytes out.old ++ text_of (chosen rename (T.view item.now))) }
+{
+    if !rename {
+        return append_canonical(item, out);
+    }
+    match item.renamed() {
+        Ok(copy) => append_canonical(&copy, out),
+        Err(_) => Err(AllocError),
+    }
+}
+
+/// The key of a canonical text in a store: its SHA-256, in 64 hexadecimal digits.
+pub fn key_of(alloc: Global, text: &str) -> Result<String, AllocError>
+    ensures { IfOk result (λ key. string_bytes key ≡ key_of text.now) }
+{
+    hex::encode(alloc, &Sha256::digest(text.as_bytes()))
+}
+
+// Appends a comment line with the key of the text.
+fn append_key(alloc: Global, text: &str, out: &mut String) -> Result<(), AllocError>
+    ensures { OnOk result (string_bytes out.new ≡ string_bytes out.old ++ key_line text.now) }
+{
+    let key = key_of(alloc, text)?;
+    out.push_str("; ")?;
+    out.push_str(key.as_str())?;
+    out.push_str("\n")
+}
+
+// Appends the text and what ends its record.
+fn append_delimited(delimiter: Delimiter, text: &str, out: &mut String) -> Result<(), AllocError>
+    ensures { OnOk result (string_bytes out.new ≡ string_bytes out.old ++ delimited delimiter text.now) }
+{
+    out.push_str(text)?;
+    match delimiter {
+        Delimiter::Nul => out.push_str("\0"),
+        Delimiter::EmptyLine => {
+            if text.as_bytes().ends_with(b"\n") {
+                out.push_str("\n")
+            } else {
+                out.push_str("\n\n")
+            }
+        }
+    }
+}
+
+/// Appends the record of the item. The error is out of memory.
+///
+/// `text` is for its canonical text, so that the records of many items take one allocation.
+pub fn append_record<T: Item + Drop>(
+    alloc: Global,
+    layout: Layout,
+    item: &T,
+    text: &mut String,
+    out: &mut String,
+) -> Result<(), AllocError>
+    requires { WellFormed (T.view item.now) }
+    ensures { OnOk result (string_bytes out.new ≡ string_bytes out.old ++ record_of layout (T.view item.now)) }
+{
+    text.clear();
+    append_text(layout.rename, item, text)?;
+    if layout.key {
+        append_key(alloc, text.as_str(), out)?;
+    }
+    append_delimited(layout.delimiter, text.as_str(), out)
+}
