@@ -2,3 +2,4 @@ pub mod Records
 pub mod Eaches
 pub mod Reports
 pub mod Runs
+pub mod Canonical

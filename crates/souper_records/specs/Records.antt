@@ -1,5 +1,5 @@
 -- Definitions. The record of an item.
-use Rattle.std.specs.Prelude.{◌≡◌, Bool, ℕ, List, [], ◌∷◌, ◌++◌, flat_map, codes, nat_eq, if◌then◌else◌}
+use Rattle.std.specs.Prelude.{◌≡◌, Bool, false, ℕ, List, [], ◌∷◌, ◌++◌, flat_map, codes, nat_eq, if◌then◌else◌}
 use Rattle.std.specs.List.{ends_with}
 use Rattle.sha2.specs.Sha256.{sha256}
 use Rattle.hex.specs.Hex.{encode_lower}
@@ -42,3 +42,7 @@ record_of l a = record_of_text l (text_of (chosen l.rename a))
 -- the records of items
 abbrev pub records_of : Layout → List Item → List ℕ
 records_of l items = flat_map (record_of l) items
+
+-- canonical texts, an empty line after each
+abbrev pub plain : Layout
+plain = record { delimiter = EmptyLine; key = false; rename = false }

@@ -10,17 +10,21 @@ use Rattle.souper_format.specs.Reporting.{ReportedLine}
 abbrev pub program_line : List ℕ → List ℕ
 program_line says = codes "souper_items: " ++ (says ++ codes "\n")
 
--- the line of a fault of a stream
-abbrev pub fault_line : List ℕ → List ℕ → List ℕ
-fault_line name shown = program_line (name ++ (codes ": " ++ shown))
+-- the line that says something of a stream
+abbrev pub named_line : List ℕ → List ℕ → List ℕ
+named_line name says = program_line (name ++ (codes ": " ++ says))
 
 -- unless the writer has failed, the line for out of memory was written to it
 abbrev pub ReportedMemory : Stream → Type 0
 ReportedMemory err = err.failed ≡ false → IsGiven err (program_line (codes "out of memory"))
 
--- unless the writer has failed, the line of a fault of the stream, or that for out of memory, was written to it
+-- unless the writer has failed, the line that says this of the stream, or that for out of memory, was written to it
+abbrev pub Reported : List ℕ → List ℕ → Stream → Type 0
+Reported name says err = err.failed ≡ false → IsGiven err (named_line name says) ⊎ IsGiven err (program_line (codes "out of memory"))
+
+-- a fault of the stream was reported
 abbrev pub ReportedFault : List ℕ → Stream → Type 0
-ReportedFault name err = err.failed ≡ false → ((shown : List ℕ) × IsGiven err (fault_line name shown)) ⊎ IsGiven err (program_line (codes "out of memory"))
+ReportedFault name err = err.failed ≡ false → ((shown : List ℕ) × IsGiven err (named_line name shown)) ⊎ IsGiven err (program_line (codes "out of memory"))
 
 -- the status is 1 if the error is a refusal, and its line was written; else it is 2, and what went wrong was reported
 abbrev pub ReportedError : List ℕ → Stream → ℕ → ParseError → Type 0

@@ -23,3 +23,10 @@ pub struct Layout {
     /// ([`renamed`](souper_ir::ast::LeftHandSide::renamed)).
     pub rename: bool,
 }
+
+/// Canonical texts, an empty line after each.
+pub const PLAIN: Layout = Layout {
+    delimiter: Delimiter::EmptyLine,
+    key: false,
+    rename: false,
+};

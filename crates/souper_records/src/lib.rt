@@ -1,9 +1,10 @@
 //! Records of items: what a store of optimizations keeps and compares, made from streams that need not fit in memory.
 //!
-//! The program `souper_items` calls [`run::each_run`].
+//! The program `souper_items` calls [`run::each_run`] and [`check::check_run`].
 #![tactic(auto)]
 
 mod batch;
+pub mod check;
 pub mod each;
 pub mod layout;
 pub mod records;

@@ -1,8 +1,8 @@
 //! The lines that report an error, each to a stream that may fail.
-ghost use Rattle.std.specs.Prelude.{◌≡◌, string_bytes, IfOk, ℕ, List};
+ghost use Rattle.std.specs.Prelude.{◌≡◌, string_bytes, IfOk};
 ghost use Rattle.souper_format.specs.Reporting.{IsErrorLine};
 ghost use Rattle.souper_format.specs.Streams.{stream};
-ghost use Rattle.souper_records.specs.Reports.{fault_line, ReportedMemory, ReportedFault, ReportedError};
+ghost use Rattle.souper_records.specs.Reports.{named_line, ReportedMemory, Reported, ReportedFault, ReportedError};
 
 use souper_format::watched::Watched;
 use souper_ir::parse::{ParseError, ParseErrorKind};
@@ -17,27 +17,41 @@ pub fn report_memory<E: Write>(err: &mut Watched<E>)
     let _ = err.write_all(b"souper_items: out of memory\n");
 }
 
-fn line_of_fault(alloc: Global, name: &str, fault: &io::Error) -> Result<String, AllocError>
-    ensures { IfOk result (λ line. (shown : List ℕ) × (string_bytes line ≡ fault_line name.now shown)) }
+fn line(alloc: Global, name: &str, says: &str) -> Result<String, AllocError>
+    ensures { IfOk result (λ line. string_bytes line ≡ named_line name.now says.now) }
 {
-    let shown = fault.to_string(alloc)?;
     let mut line = String::new(alloc);
     line.push_str("souper_items: ")?;
     line.push_str(name)?;
     line.push_str(": ")?;
-    line.push_str(shown.as_str())?;
+    line.push_str(says)?;
     line.push_str("\n")?;
     Ok(line)
 }
 
-/// Reports a fault of the stream of this name.
-pub fn report_fault<E: Write>(alloc: Global, name: &str, fault: &io::Error, err: &mut Watched<E>)
-    ensures { ReportedFault name.now (stream E.contents err.old err.new) }
+/// Reports something of the stream of this name.
+pub(crate) fn report<E: Write>(alloc: Global, name: &str, says: &str, err: &mut Watched<E>)
+    ensures { Reported name.now says.now (stream E.contents err.old err.new) }
 {
-    match line_of_fault(alloc, name, fault) {
+    match line(alloc, name, says) {
         Ok(line) => {
             let _ = err.write_all(line.as_bytes());
         }
+        Err(_) => report_memory(err),
+    }
+}
+
+/// Reports a fault of the stream of this name.
+pub fn report_fault<E: Write>(
+    alloc: Global,
+    name: &str,
+    fault: &io::Error,
+    err: &mut Watched<E>,
+)
+    ensures { ReportedFault name.now (stream E.contents err.old err.new) }
+{
+    match fault.to_string(alloc) {
+        Ok(says) => report(alloc, name, says.as_str(), err),
         Err(_) => report_memory(err),
     }
 }

@@ -1,0 +1,23 @@
+use Rattle.std.proofs.Common.{◌≡◌, inl, inr, List, ℕ, false, refl, sym, ap, ◌∙◌, subst}
+use Rattle.souper_format.specs.Streams.{stream}
+use Rattle.souper_records.specs.Canonical.{IsWhole, IsCanonical}
+use Rattle.souper_records.proofs.Checking.{whole_is, whole_from, none_canonical, check_refused}
+use Rattle.souper_records.proofs.check.check_run.Goals as goal
+
+pub returns-in-Ok-false : goal.returns-in-Ok-false
+returns-in-Ok-false g c =
+    let rem = g.R.Read.remaining in
+    let text : c.in-Ok.source.now ≡ c.read_to_end.new.buf.items = c.in-Ok.ensures.cases.0 ∙ c.deref.ensures.value in (
+      c.in-Ok.source.now,
+      whole_from (rem c.args.reader.now) (rem c.read_to_end.new.self) c.new-bytes.result.items c.read_to_end.new.buf.items c.in-Ok.source.now c.new-bytes.ensures.items c.in_default.ensures.none_lost c.in_default.ensures.end text,
+      (λ h. let yes = c.in-Ok-false.ensures.answer.1 h in absurd cc),
+      inr c.report.ensures,
+    )
+
+pub returns : goal.returns
+returns g c =
+    let rem = g.R.Read.remaining in
+    let text : c.in-Ok.source.now ≡ c.read_to_end.new.buf.items = c.in-Ok.ensures.cases.0 ∙ c.deref.ensures.value in
+    check_refused g.T.Item.item_type c.args.name.now (rem c.args.reader.now) (rem c.read_to_end.new.self) c.in-Ok.source.now (stream g.E.Write.contents c.args.err.now c.report_error.new.err) c.in-Err-is_canonical.error c.report_error.result
+    (whole_from (rem c.args.reader.now) (rem c.read_to_end.new.self) c.new-bytes.result.items c.read_to_end.new.buf.items c.in-Ok.source.now c.new-bytes.ensures.items c.in_default.ensures.none_lost c.in_default.ensures.end text)
+    c.in-Err-is_canonical.ensures.refused c.report_error.ensures

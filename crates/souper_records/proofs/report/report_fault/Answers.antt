@@ -1,0 +1,15 @@
+use Rattle.std.proofs.Common.{inl, inr, ◌⊎◌, List, ℕ, subst, sym}
+use Rattle.std.specs.Prelude.{codes, string_bytes}
+use Rattle.souper_format.specs.Streams.{stream, IsGiven}
+use Rattle.souper_records.specs.Reports.{named_line, program_line, Reported, ReportedFault}
+use Rattle.souper_format.specs.Streams.{Stream}
+use Rattle.souper_records.proofs.report.report_fault.Goals as goal
+
+fault_from : (name says : List ℕ) (err : Stream) → Reported name says err → ReportedFault name err
+fault_from name says err h works = elim (h works) [
+  | inl line ↦ inl (says, line)
+  | inr memory ↦ inr memory
+]
+
+pub returns-in-Ok : goal.returns-in-Ok
+returns-in-Ok g c = fault_from c.args.name.now c.as_str.result.now (stream g.E.Write.contents c.args.err.now c.report.new.err) c.report.ensures

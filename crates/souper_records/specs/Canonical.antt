@@ -1,0 +1,33 @@
+-- Definitions. Canonical texts, and what each status of a run that looks for them says.
+use Rattle.std.specs.Prelude.{◌≡◌, ◌⊎◌, ℕ, List, Option, Some, codes}
+use Rattle.std.specs.Io.KnownBytes.{Consumes}
+use Rattle.souper_graph.specs.Values.{Item}
+use Rattle.souper_graph.specs.Syntax.Spelling.{ItemType, TextSpells}
+use Rattle.souper_ir.specs.Answers.{IsStrError}
+use Rattle.souper_ir.specs.declared.parse.ParseError.{ParseError}
+use Rattle.souper_stream.specs.Reading.{AreAll}
+use Rattle.souper_format.specs.Streams.{Stream, IsGivenNothing}
+use Rattle.souper_format.specs.Reporting.{ReportedLine}
+use Rattle.souper_records.specs.Records.{records_of, plain}
+use Rattle.souper_records.specs.Reports.{Reported, ReportedFault}
+use Rattle.souper_records.specs.Runs.{OnStatus}
+
+-- the text is the plain records of the items that it spells
+abbrev pub IsCanonical : ItemType → List ℕ → Type 0
+IsCanonical k text = (items : List Item) × TextSpells k text items × (text ≡ records_of plain items)
+
+-- these bytes are all of the stream
+abbrev pub IsWhole : Option (List ℕ) → Option (List ℕ) → List ℕ → Type 0
+IsWhole before after read = Consumes before after read × AreAll before read
+
+-- the text is refused, and that was reported; or that it is not canonical was
+abbrev pub ReportedOther : ItemType → List ℕ → List ℕ → Stream → Type 0
+ReportedOther k name read err = ((e : ParseError) × IsStrError k (Some name) read e × ReportedLine err e) ⊎ Reported name (codes "not canonical") err
+
+-- what the status says: 0, the whole stream is canonical, and nothing was reported; 1, it is not, and that was reported; 2,
+-- something failed, and that was reported
+abbrev pub IsCheckRun : ItemType → List ℕ → Option (List ℕ) → Option (List ℕ) → Stream → ℕ → Type 0
+IsCheckRun k name before after err status = OnStatus status
+    ((read : List ℕ) × IsWhole before after read × IsCanonical k read × IsGivenNothing err)
+    ((read : List ℕ) × IsWhole before after read × (IsCanonical k read → ⊥) × ReportedOther k name read err)
+    (ReportedFault name err)
