@@ -3,12 +3,15 @@
 
 mod options;
 
-use options::{Task, grammar, read_task};
+use clap::ArgMatches;
+use options::{Action, Task, grammar, read_task};
 use souper_format::command::Kind;
 use souper_format::watched::Watched;
 use souper_ir::ast::{LeftHandSide, Replacement, RightHandSide};
+use souper_records::check::check_run;
 use souper_records::report::{report_fault, report_memory};
 use souper_records::run::each_run;
+use souper_stream::StreamItem;
 use std::alloc::Global;
 use std::fs::File;
 use std::io::{BufRead, BufReader, Write};
@@ -17,20 +20,35 @@ use std::{env, io};
 
 const STANDARD_INPUT: &str = "(standard input)";
 
-// Does the task over one stream, and returns the status.
-fn run_stream<R: BufRead, W: Write, E: Write>(
+// Does the task over one stream of items of the type, and returns the status.
+fn run_items<T: StreamItem + Drop, R: BufRead, W: Write, E: Write>(
     alloc: Global,
-    task: &Task<'_>,
+    action: Action,
     reader: &mut R,
     name: &str,
     out: &mut Watched<W>,
     err: &mut Watched<E>,
 ) -> u8 {
-    let layout = task.layout;
+    match action {
+        Action::Each(layout) => each_run::<T, R, W, E>(alloc, layout, reader, name, out, err),
+        Action::Check => check_run::<T, R, E>(alloc, reader, name, err),
+    }
+}
+
+// Does the task over one stream, and returns the status.
+fn run_stream<R: BufRead, W: Write, E: Write>(
+    alloc: Global,
+    task: &Task<'_, '_>,
+    reader: &mut R,
+    name: &str,
+    out: &mut Watched<W>,
+    err: &mut Watched<E>,
+) -> u8 {
+    let action = task.action;
     match task.kind {
-        Kind::Lhs => each_run::<LeftHandSide, R, W, E>(alloc, layout, reader, name, out, err),
-        Kind::Rhs => each_run::<RightHandSide, R, W, E>(alloc, layout, reader, name, out, err),
-        Kind::Rep => each_run::<Replacement, R, W, E>(alloc, layout, reader, name, out, err),
+        Kind::Lhs => run_items::<LeftHandSide, R, W, E>(alloc, action, reader, name, out, err),
+        Kind::Rhs => run_items::<RightHandSide, R, W, E>(alloc, action, reader, name, out, err),
+        Kind::Rep => run_items::<Replacement, R, W, E>(alloc, action, reader, name, out, err),
     }
 }
 
@@ -42,7 +60,7 @@ fn open(rt: &HostRuntime, path: &str) -> io::Result<BufReader<File>> {
 // Does the task over one file; `-` is standard input.
 fn run_file<W: Write, E: Write>(
     rt: &HostRuntime,
-    task: &Task<'_>,
+    task: &Task<'_, '_>,
     path: &str,
     out: &mut Watched<W>,
     err: &mut Watched<E>,
@@ -70,7 +88,7 @@ fn run_file<W: Write, E: Write>(
 // Does the task over each file, and returns the greatest status.
 fn run<W: Write, E: Write>(
     rt: &HostRuntime,
-    task: &Task<'_>,
+    task: &Task<'_, '_>,
     out: &mut Watched<W>,
     err: &mut Watched<E>,
 ) -> u8 {
@@ -84,20 +102,25 @@ fn run<W: Write, E: Write>(
     status
 }
 
+// Does what the matches ask for, and returns the status.
+fn run_matches(rt: &HostRuntime, matches: &ArgMatches<'_>) -> u8 {
+    let mut out = Watched::new(rt.stdout());
+    let mut err = Watched::new(rt.stderr());
+    match read_task(matches) {
+        Some(task) => run(rt, &task, &mut out, &mut err),
+        None => 2,
+    }
+}
+
 fn main(rt: HostRuntime) -> anyhow::Result<ExitCode> {
     let words: Vec<String> = env::args(&rt)?.collect(rt.alloc())?;
-    let matches = match grammar(rt.alloc())?.try_get_matches_from(words.as_slice()) {
+    let command = grammar(rt.alloc())?;
+    let matches = match command.try_get_matches_from(words.as_slice()) {
         Ok(matches) => matches,
         Err(error) => {
             error.print(&rt)?;
             return Ok(ExitCode::from(error.exit_code() as u8));
         }
     };
-    let mut out = Watched::new(rt.stdout());
-    let mut err = Watched::new(rt.stderr());
-    let status = match read_task(&matches) {
-        Some(task) => run(&rt, &task, &mut out, &mut err),
-        None => 2,
-    };
-    Ok(ExitCode::from(status))
+    Ok(ExitCode::from(run_matches(&rt, &matches)))
 }

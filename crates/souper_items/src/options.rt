@@ -7,14 +7,24 @@ use std::alloc::{AllocError, Global};
 
 static KINDS: [&str; 3] = ["lhs", "rhs", "rep"];
 
+/// What is done with the items of a stream.
+#[derive(Clone, Copy)]
+pub(crate) enum Action {
+    /// The record of each is written.
+    Each(Layout),
+
+    /// Whether the stream is canonical is found out.
+    Check,
+}
+
 /// What the program is asked to do.
 #[derive(Clone, Copy)]
-pub(crate) struct Task<'a> {
+pub(crate) struct Task<'m, 'a> {
     pub(crate) kind: Kind,
-    pub(crate) layout: Layout,
+    pub(crate) action: Action,
 
     /// The paths, of which `-` is standard input. If there are none, standard input is read.
-    pub(crate) files: &'a [&'a str],
+    pub(crate) files: &'m [&'a str],
 }
 
 fn kind_arg<'a>(alloc: Global) -> Arg<'a> {
@@ -61,6 +71,15 @@ fn each<'a>(alloc: Global) -> Result<Command<'a>, AllocError> {
         .arg(files_arg(alloc))
 }
 
+fn check<'a>(alloc: Global) -> Result<Command<'a>, AllocError> {
+    Command::new(alloc, "check")
+        .about(
+            "Says which files are not as each writes them, and writes nothing else; status 1 if one is not",
+        )
+        .arg(kind_arg(alloc))?
+        .arg(files_arg(alloc))
+}
+
 /// The commands and options of the program.
 pub(crate) fn grammar<'a>(alloc: Global) -> Result<Command<'a>, AllocError> {
     Command::new(alloc, "souper_items")
@@ -68,7 +87,8 @@ pub(crate) fn grammar<'a>(alloc: Global) -> Result<Command<'a>, AllocError> {
         .about("Items of Souper IR for a store, one at a time")
         .subcommand_required(true)
         .arg_required_else_help(true)
-        .subcommand(each(alloc)?)
+        .subcommand(each(alloc)?)?
+        .subcommand(check(alloc)?)
 }
 
 fn read_kind(word: &str) -> Option<Kind> {
@@ -92,12 +112,20 @@ fn read_layout(options: &ArgMatches<'_>) -> Layout {
     }
 }
 
+fn read_action(name: &str, options: &ArgMatches<'_>) -> Option<Action> {
+    match name {
+        "each" => Some(Action::Each(read_layout(options))),
+        "check" => Some(Action::Check),
+        _ => None,
+    }
+}
+
 /// What the matches ask for.
-pub(crate) fn read_task<'a>(matches: &'a ArgMatches<'a>) -> Option<Task<'a>> {
-    let (_, options) = matches.subcommand()?;
+pub(crate) fn read_task<'m, 'a>(matches: &'m ArgMatches<'a>) -> Option<Task<'m, 'a>> {
+    let (name, options) = matches.subcommand()?;
     Some(Task {
         kind: read_kind(options.get_str("KIND")?)?,
-        layout: read_layout(options),
+        action: read_action(name, options)?,
         files: options.get_strs("FILE").unwrap_or_default(),
     })
 }

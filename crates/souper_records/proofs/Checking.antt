@@ -1,5 +1,5 @@
 -- A text has one list of items, so it is canonical or not.
-use Rattle.std.proofs.Common.{◌≡◌, inl, inr, ℕ, List, [], ◌++◌, length, drop, Option, Some, refl, sym, ap, ◌∙◌, subst}
+use Rattle.std.proofs.Common.{◌≡◌, inl, inr, ℕ, List, [], length, drop, Option, Some, refl, sym, ap, ◌∙◌, subst}
 use Rattle.std.specs.Prelude.{bytes_eq, IsTrue}
 use Rattle.std.specs.Io.{appended_bytes}
 use Rattle.std.specs.Io.KnownBytes.{Consumes, IsAtEnd}
@@ -8,7 +8,6 @@ use Rattle.std.proofs.lemmas.Slice.Eq.{bytes_eq-Decides}
 use Rattle.souper_graph.specs.Values.{Item}
 use Rattle.souper_graph.specs.Syntax.Spelling.{ItemType, TextSpells, SpellsNone}
 use Rattle.souper_ir.proofs.Items.Lists.{text_alone}
-use Rattle.souper_stream.specs.Reading.{AreAll}
 use Rattle.souper_records.specs.Records.{records_of, plain}
 use Rattle.souper_records.specs.Canonical.{IsCanonical, IsWhole, IsCheckRun}
 use Rattle.souper_records.specs.Reports.{ReportedError}

@@ -1,5 +1,5 @@
 -- Definitions. What each status of a run over a stream says of the stream and of the writers.
-use Rattle.std.specs.Prelude.{◌≡◌, ◌⊎◌, ℕ, zero, suc, List, Option, Some, codes}
+use Rattle.std.specs.Prelude.{◌⊎◌, ℕ, zero, suc, List, Option, Some, codes}
 use Rattle.souper_graph.specs.Syntax.Spelling.{ItemType}
 use Rattle.souper_ir.specs.declared.parse.ParseError.{ParseError}
 use Rattle.souper_format.specs.Streams.{Stream, IsGivenNothing}

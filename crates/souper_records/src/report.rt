@@ -42,12 +42,7 @@ pub(crate) fn report<E: Write>(alloc: Global, name: &str, says: &str, err: &mut 
 }
 
 /// Reports a fault of the stream of this name.
-pub fn report_fault<E: Write>(
-    alloc: Global,
-    name: &str,
-    fault: &io::Error,
-    err: &mut Watched<E>,
-)
+pub fn report_fault<E: Write>(alloc: Global, name: &str, fault: &io::Error, err: &mut Watched<E>)
     ensures { ReportedFault name.now (stream E.contents err.old err.new) }
 {
     match fault.to_string(alloc) {

@@ -1,7 +1,6 @@
 -- What is held of a stream, beside what was read of it and the items that were handed on.
 use Rattle.std.proofs.Common.{◌≡◌, ◌⊎◌, inl, inr, ℕ, ◌+◌, ◌-◌, ◌^◌, ◌<◌, ◌≤◌, Bool, true, false, cond, List, [], ◌++◌, length, take, drop, Option, Some, None, refl, sym, ap, ◌∙◌, subst, arith, append_assoc, append-nil, length-append}
 use Rattle.std.specs.Prelude.{IfSome, ◌==◌}
-use Rattle.std.specs.Io.KnownBytes.{Consumes}
 use Rattle.std.proofs.lemmas.List.{take_all, take-append-drop, take-append-le, drop-append-le, length-drop, length-take}
 use Rattle.std.proofs.lemmas.List.Sums.{sum_by-append, count_by-le-length}
 use Rattle.souper_graph.specs.Values.{Item}
@@ -15,7 +14,7 @@ use Rattle.souper_ir.specs.Places.{newlines}
 use Rattle.souper_ir.specs.Joining.{IsLines}
 use Rattle.souper_ir.specs.Errors.{kind_of, kind_of_cause, offset_of, offset_of_cause, IsBefore, IsPlacedAfter, IsLocatedAfter, IsRefusalAt}
 use Rattle.souper_ir.specs.Answers.{IsStrError}
-use Rattle.souper_ir.specs.Sinks.{PrefixSpells, TakesOver}
+use Rattle.souper_ir.specs.Sinks.{PrefixSpells}
 use Rattle.souper_ir.proofs.Items.Lists.{text_alone}
 use Rattle.souper_stream.specs.declared.held.Held.{Held}
 use Rattle.souper_stream.specs.Seams.{IsSeam}

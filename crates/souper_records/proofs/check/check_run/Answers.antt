@@ -1,7 +1,6 @@
-use Rattle.std.proofs.Common.{◌≡◌, inl, inr, List, ℕ, false, refl, sym, ap, ◌∙◌, subst}
+use Rattle.std.proofs.Common.{◌≡◌, inr, ◌∙◌}
 use Rattle.souper_format.specs.Streams.{stream}
-use Rattle.souper_records.specs.Canonical.{IsWhole, IsCanonical}
-use Rattle.souper_records.proofs.Checking.{whole_is, whole_from, none_canonical, check_refused}
+use Rattle.souper_records.proofs.Checking.{whole_from, check_refused}
 use Rattle.souper_records.proofs.check.check_run.Goals as goal
 
 pub returns-in-Ok-false : goal.returns-in-Ok-false

@@ -1,5 +1,4 @@
 use Rattle.std.proofs.Common.{◌≡◌, [], ◌∙◌}
-use Rattle.std.specs.Prelude.{bytes_eq}
 use Rattle.souper_records.specs.Records.{records_of, plain}
 use Rattle.souper_records.proofs.Checking.{canonical_if}
 use Rattle.souper_records.proofs.check.is_canonical.Goals as goal

@@ -1,4 +1,4 @@
-use Rattle.std.proofs.Common.{rules, ◌≡◌, List, [], map, refl, sym, subst}
+use Rattle.std.proofs.Common.{rules, ◌≡◌, List, map, sym, subst}
 use Rattle.std.specs.List.{AllByRecursion}
 use Rattle.std.specs.Prelude.{Some}
 use Rattle.std.specs.Io.KnownBytes.{Appends}

@@ -1,4 +1,4 @@
-use Rattle.std.proofs.Common.{rules, List, ℕ, ◌≡◌, ◌++◌, Bool, true, ap, ◌∙◌, sym, subst}
+use Rattle.std.proofs.Common.{rules, ◌≡◌, ◌++◌, Bool, true, ap, ◌∙◌, sym, subst}
 use Rattle.std.specs.String.{string_bytes}
 use Rattle.std.specs.Prelude.{OnOk}
 use Rattle.souper_graph.specs.Values.{Item}

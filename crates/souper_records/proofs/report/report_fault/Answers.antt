@@ -1,7 +1,6 @@
-use Rattle.std.proofs.Common.{inl, inr, ◌⊎◌, List, ℕ, subst, sym}
-use Rattle.std.specs.Prelude.{codes, string_bytes}
-use Rattle.souper_format.specs.Streams.{stream, IsGiven}
-use Rattle.souper_records.specs.Reports.{named_line, program_line, Reported, ReportedFault}
+use Rattle.std.proofs.Common.{inl, inr, List, ℕ}
+use Rattle.souper_format.specs.Streams.{stream}
+use Rattle.souper_records.specs.Reports.{Reported, ReportedFault}
 use Rattle.souper_format.specs.Streams.{Stream}
 use Rattle.souper_records.proofs.report.report_fault.Goals as goal
 

@@ -1,10 +1,9 @@
-use Rattle.std.proofs.Common.{◌≡◌, ℕ, Bool, true, false, List, take, drop, refl, sym, ap, ◌∙◌, subst, arith}
+use Rattle.std.proofs.Common.{ℕ, Bool, true, false, List, take, drop, refl, ap, ◌∙◌, subst, arith}
 use Rattle.std.specs.Prelude.{option_copied}
-use Rattle.souper_graph.specs.Values.{Item}
 use Rattle.souper_ir.specs.Sinks.{TakesText}
 use Rattle.souper_stream.specs.declared.held.Held.{Held}
 use Rattle.souper_stream.specs.declared.parts.PartReader.{PartReader}
-use Rattle.souper_stream.specs.Holding.{fresh, Forgets}
+use Rattle.souper_stream.specs.Holding.{fresh}
 use Rattle.souper_stream.specs.Reading.{ReadsMore, IsTaken, IsRefusedPart}
 use Rattle.souper_stream.proofs.Turns.{Fills, rest_slice, turn_idle, turn_forgot, turn_ended, turn_refused}
 use Rattle.souper_stream.proofs.parts.PartReader.read_part.Goals as goal

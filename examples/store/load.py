@@ -1,0 +1,72 @@
+#!/usr/bin/env python3
+"""Turns keyed records into the commands that add them to a store. Reads standard input, writes standard output.
+
+    load.py redis PREFIX | redis-cli --pipe        a hash PREFIX:KEY for each key, with the fields `text` and `count`
+    load.py sqlite | sqlite3 -bail STORE           a table item(key TEXT PRIMARY KEY, text TEXT, count INTEGER)
+
+A record is `; KEY`, a newline, a canonical text, NUL, as `souper_items each -z --key` writes it, or that with its count before
+it, as `uniq -zc` writes it. The count in the store grows by that number, or by 1.
+
+Each key has to be the SHA-256 of its text, and the last record has to be whole. Else the status is 1; then SQLite adds nothing,
+and Redis the records before.
+"""
+import hashlib
+import re
+import sys
+
+RECORD = re.compile(rb"(?: *([0-9]+) )?; ([0-9a-f]{64})\n(.+)", re.DOTALL)
+
+
+def parts(file, end, size=1 << 20):
+    """What is before each end. It is an error if something is behind the last one."""
+    rest = b""
+    while block := file.read(size):
+        *whole, rest = (rest + block).split(end) if end in block else (rest + block,)
+        yield from whole
+    if rest:
+        raise ValueError("the last record is not whole")
+
+
+def records(file):
+    """The count, the key and the text of each record."""
+    for part in parts(file, b"\0"):
+        found = RECORD.fullmatch(part)
+        if not found:
+            raise ValueError(f"this is no record: {part[:200]!r}")
+        count, key, text = found.groups()
+        if hashlib.sha256(text).hexdigest().encode() != key:
+            raise ValueError(f"this key is not that of its text: {key.decode()}")
+        yield int(count or 1), key, text
+
+
+def command(*words):
+    """A command of Redis, in its protocol."""
+    return b"*%d\r\n" % len(words) + b"".join(b"$%d\r\n%s\r\n" % (len(word), word) for word in words)
+
+
+def redis(prefix):
+    for count, key, text in records(sys.stdin.buffer):
+        name = prefix.encode() + b":" + key
+        yield command(b"HSETNX", name, b"text", text)
+        yield command(b"HINCRBY", name, b"count", b"%d" % count)
+
+
+def sqlite():
+    yield b"CREATE TABLE IF NOT EXISTS item(key TEXT PRIMARY KEY, text TEXT, count INTEGER);\nBEGIN;\n"
+    for count, key, text in records(sys.stdin.buffer):
+        yield b"INSERT INTO item VALUES ('%s', '%s', %d)" % (key, text.replace(b"'", b"''"), count)
+        yield b" ON CONFLICT (key) DO UPDATE SET count = count + excluded.count;\n"
+    yield b"COMMIT;\n"
+
+
+if __name__ == "__main__":
+    stores = {"redis": (redis, 1), "sqlite": (sqlite, 0)}
+    words = sys.argv[1:]
+    if not words or words[0] not in stores or len(words) != stores[words[0]][1] + 1:
+        sys.exit(__doc__)
+    try:
+        for written in stores[words[0]][0](*words[1:]):
+            sys.stdout.buffer.write(written)
+        sys.stdout.buffer.flush()
+    except ValueError as fault:
+        sys.exit(f"load.py: {fault}")

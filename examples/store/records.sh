@@ -1,0 +1,29 @@
+#!/bin/bash
+# Writes the records of the items of a harvest, by many processes: of each item `; KEY`, a newline, its canonical text, NUL.
+# They are in the order of the names of the files, as one process would write them.
+#
+#     records.sh [--rename] KIND FOLDER         the items of FOLDER/*.KIND, and of folders in it; KIND: lhs, rhs, rep
+#
+# A process reads whole files, so that it finds where each item ends. What is set by the environment:
+#
+#     SOUPER_ITEMS   the program, on each host (souper_items)
+#     STORE_JOBS     how many processes run at once on this host (as many as it has cores)
+#     STORE_HOSTS    other hosts in its place, as `parallel -S` takes them: 4/one,4/two for four processes on each
+#     STORE_SSH      how ssh is called (ssh)
+#     STORE_COPY     a folder for the hosts, into which each file is copied by rsync until it was read. If it is not set, the
+#                    hosts have the harvest in the same place, as on a shared file system.
+#
+# The status is 0 if that of each process was 0. If a file is refused, the items before its bad one have their records, and
+# so have all other files.
+set -o pipefail
+[ $# -ge 2 ] || { echo "usage: records.sh [--rename] KIND FOLDER" >&2; exit 2; }
+options=("${@:1:$#-1}") kind=${*: -2:1} folder=${*: -1}
+cd "$folder" || exit 2
+where=(${STORE_JOBS:+--jobs "$STORE_JOBS"})
+if [ -n "$STORE_HOSTS" ]; then
+    where=(-S "$STORE_HOSTS" --ssh "${STORE_SSH:-ssh}" --workdir "${STORE_COPY:-$PWD}")
+    if [ -n "$STORE_COPY" ]; then where+=(--transferfile {} --cleanup); fi
+fi
+find . -type f -name "*.$kind" -print0 | LC_ALL=C sort -z |
+    parallel --null --no-run-if-empty --keep-order --max-args 8 --quote "${where[@]}" \
+        "${SOUPER_ITEMS:-souper_items}" each -z --key "${options[@]}"
