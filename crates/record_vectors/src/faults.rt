@@ -1,8 +1,9 @@
 //! Reads and writes that fail.
-use crate::support::{PLAIN, run_over};
+use crate::support::run_over;
 use program_vectors::streams::{FaultyReader, FaultyWriter};
 use souper_format::watched::Watched;
 use souper_ir::ast::LeftHandSide;
+use souper_records::layout::PLAIN;
 use souper_records::run::each_run;
 use std::io::BufReader;
 use std::test::Fail;

@@ -1,7 +1,7 @@
 //! What a record has.
-use crate::support::{PLAIN, run_each};
+use crate::support::run_each;
 use souper_ir::ast::{LeftHandSide, Replacement, RightHandSide};
-use souper_records::layout::{Delimiter, Layout};
+use souper_records::layout::{Delimiter, Layout, PLAIN};
 use souper_records::records::key_of;
 use std::test::Fail;
 

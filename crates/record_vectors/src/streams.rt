@@ -1,8 +1,9 @@
 //! The records of a stream are those of its items, whatever the reads give.
-use crate::support::{PLAIN, run_each};
+use crate::support::run_each;
 use souper_format::command::Kind;
 use souper_format::items::format_text;
 use souper_ir::ast::{LeftHandSide, Replacement};
+use souper_records::layout::PLAIN;
 use souper_stream::StreamItem;
 use souper_vectors::sources::{ATTRIBUTES, BLOCKS, GAPS, PAIRS, RESULTS, VALUES};
 use std::alloc::Global;
@@ -41,24 +42,25 @@ fn records_are_what_the_formatter_writes(rt: HostRuntime) -> Result<(), Fail> {
     is_formatted::<Replacement>(&rt, rt.alloc(), Kind::Rep, RESULTS.as_slice())
 }
 
-// So many left-hand sides, and then a bad one, and one after it.
-fn with_a_bad_one(alloc: Global, good: usize) -> Result<String, Fail> {
+// So many left-hand sides, as they are written.
+fn good_ones(alloc: Global, count: usize) -> Result<String, Fail> {
     let mut source = String::new(alloc);
-    for _ in 0..good {
+    for _ in 0..count {
         source.push_str("%a = var\ninfer %a\n\n")?;
     }
-    source.push_str("%b = foo\ninfer %b\n\n%c = var\ninfer %c\n")?;
     Ok(source)
 }
 
 #[test]
 fn items_before_a_refusal_are_written(rt: HostRuntime) -> Result<(), Fail> {
-    for good in [0, 1, 2, 5000] {
-        let source = with_a_bad_one(rt.alloc(), good)?;
+    for (count, line) in [(0, 1), (1, 4), (2, 7), (5000, 15001)] {
+        let good = good_ones(rt.alloc(), count)?;
+        let mut source = String::from_str(rt.alloc(), good.as_str())?;
+        source.push_str("%b = foo\ninfer %b\n\n%c = var\ninfer %c\n")?;
         let run = run_each::<LeftHandSide>(rt.alloc(), PLAIN, source.as_str(), 4096)?;
         assert_eq!(&rt; run.status, 1);
-        assert_eq!(&rt; run.out.as_str(), &source.as_str()[..19 * good]);
-        let place = format!(in rt.alloc(); "a.opt:{}:5: ", good * 3 + 1)?;
+        assert_eq!(&rt; run.out.as_str(), good.as_str());
+        let place = format!(in rt.alloc(); "a.opt:{line}:5: ")?;
         assert!(&rt;
             run.err.as_str().starts_with(place.as_str()),
             "{:?}",

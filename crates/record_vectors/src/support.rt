@@ -1,18 +1,11 @@
 //! Runs over texts that are in memory.
 use souper_format::watched::Watched;
-use souper_records::layout::{Delimiter, Layout};
+use souper_records::layout::Layout;
 use souper_records::run::each_run;
 use souper_stream::StreamItem;
 use std::alloc::Global;
 use std::io::{BufRead, BufReader};
 use std::test::Fail;
-
-/// Canonical texts, an empty line after each.
-pub(crate) const PLAIN: Layout = Layout {
-    delimiter: Delimiter::EmptyLine,
-    key: false,
-    rename: false,
-};
 
 /// What a run did.
 #[derive(Drop)]

@@ -19,7 +19,7 @@ use std::io;
 use std::io::{BufRead, ErrorKind, Write};
 
 // So many bytes are read before items are looked for.
-const CHUNK: usize = 65536;
+const CHUNK: usize = 4096;
 
 /// Why the records of a stream were not all written.
 #[derive(Drop)]

@@ -4,6 +4,7 @@ ghost use Rattle.souper_ir.specs.Places.{newlines};
 ghost use Rattle.souper_stream.specs.Holding.{Forgets};
 
 use crate::lines::lines_len;
+use memchr::memchr_iter;
 use souper_ir::parse::Before;
 use std::alloc::{AllocError, Global};
 
@@ -23,7 +24,8 @@ pub(crate) struct Held {
 fn newline_count(bytes: &[u8]) -> usize
     ensures { result ≡ newlines bytes.now }
 {
-    bytes.iter().filter(|b| **b == b'\n').count()
+    // `Memchr::count` would look at each byte by itself.
+    Iterator::count(memchr_iter(b'\n', bytes))
 }
 
 impl Held {

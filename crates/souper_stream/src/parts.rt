@@ -17,7 +17,7 @@ use std::io::{BufRead, ErrorKind};
 use std::{io, str};
 
 // So many bytes are asked for at a time.
-const BLOCK: usize = 16384;
+const BLOCK: usize = 4096;
 
 // Reads blocks until so many bytes are there, or until the input has ended, which it returns.
 fn fill_blocks<R: BufRead>(reader: &mut R, bytes: &mut Vec<u8>, goal: usize) -> io::Result<bool>
