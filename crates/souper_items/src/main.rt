@@ -1,4 +1,4 @@
-//! Items of Souper IR for a store, one at a time: the files need not fit in memory.
+//! Items of Souper IR for a store: their records, and whether files are canonical.
 #![tactic(auto)]
 
 mod options;
@@ -85,7 +85,7 @@ fn run_file<W: Write, E: Write>(
     }
 }
 
-// Does the task over each file, and returns the greatest status.
+// Does the task over each file, unless a write has failed, and returns the greatest status.
 fn run<W: Write, E: Write>(
     rt: &HostRuntime,
     task: &Task<'_, '_>,
@@ -97,6 +97,9 @@ fn run<W: Write, E: Write>(
     }
     let mut status = 0;
     for path in task.files {
+        if out.failed() {
+            break;
+        }
         status = status.max(run_file(rt, task, path, out, err));
     }
     status
@@ -112,15 +115,26 @@ fn run_matches(rt: &HostRuntime, matches: &ArgMatches<'_>) -> u8 {
     }
 }
 
-fn main(rt: HostRuntime) -> anyhow::Result<ExitCode> {
-    let words: Vec<String> = env::args(&rt)?.collect(rt.alloc())?;
+// Reads the command line and does what it asks for.
+fn run_words(rt: &HostRuntime) -> anyhow::Result<u8> {
+    let words: Vec<String> = env::args(rt)?.collect(rt.alloc())?;
     let command = grammar(rt.alloc())?;
     let matches = match command.try_get_matches_from(words.as_slice()) {
         Ok(matches) => matches,
         Err(error) => {
-            error.print(&rt)?;
-            return Ok(ExitCode::from(error.exit_code() as u8));
+            error.print(rt)?;
+            return Ok(error.exit_code() as u8);
         }
     };
-    Ok(ExitCode::from(run_matches(&rt, &matches)))
+    Ok(run_matches(rt, &matches))
+}
+
+fn main(rt: HostRuntime) -> ExitCode {
+    match run_words(&rt) {
+        Ok(status) => ExitCode::from(status),
+        Err(error) => {
+            let _ = eprintln!(rt; "souper_items: {error}");
+            ExitCode::from(2)
+        }
+    }
 }

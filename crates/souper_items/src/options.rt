@@ -60,7 +60,7 @@ fn each<'a>(alloc: Global) -> Result<Command<'a>, AllocError> {
         .arg(flag(
             alloc,
             "key",
-            "Put a comment line with the SHA-256 of the text before it",
+            "Begin each record with a comment line that has the SHA-256 of its text",
         ))?
         .arg(flag(
             alloc,
@@ -74,7 +74,7 @@ fn each<'a>(alloc: Global) -> Result<Command<'a>, AllocError> {
 fn check<'a>(alloc: Global) -> Result<Command<'a>, AllocError> {
     Command::new(alloc, "check")
         .about(
-            "Says which files are not as each writes them, and writes nothing else; status 1 if one is not",
+            "Says which files are not what each writes of them without options; each file is held in memory",
         )
         .arg(kind_arg(alloc))?
         .arg(files_arg(alloc))
@@ -84,7 +84,10 @@ fn check<'a>(alloc: Global) -> Result<Command<'a>, AllocError> {
 pub(crate) fn grammar<'a>(alloc: Global) -> Result<Command<'a>, AllocError> {
     Command::new(alloc, "souper_items")
         .version("1.0.0")
-        .about("Items of Souper IR for a store, one at a time")
+        .about("Records of Souper IR items for a store")
+        .after_help(
+            "Status: 0, done; 1, a file is refused or not canonical; 2, usage, I/O or memory.",
+        )
         .subcommand_required(true)
         .arg_required_else_help(true)
         .subcommand(each(alloc)?)?
