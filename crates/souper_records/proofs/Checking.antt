@@ -1,6 +1,6 @@
 -- A text has one list of items, so it is canonical or not.
 use Rattle.std.proofs.Common.{◌≡◌, inl, inr, ℕ, List, [], length, drop, Option, Some, refl, sym, ap, ◌∙◌, subst}
-use Rattle.std.specs.Prelude.{bytes_eq, IsTrue}
+use Rattle.std.specs.Prelude.{bytes_eq, IsTrue, Bool, true, false, Result, Ok, Err, OnOk, OnErr}
 use Rattle.std.specs.Io.{appended_bytes}
 use Rattle.std.specs.Io.KnownBytes.{Consumes, IsAtEnd}
 use Rattle.std.proofs.KnownBytes.{Consumes-whole}
@@ -38,5 +38,10 @@ pub check_refused : (k : ItemType) (name : List ℕ) (before after : Option (Lis
     → IsWhole before after read → IsStrError k (Some name) read e → ReportedError name err status e → IsCheckRun k name before after err status
 check_refused k name before after read err e status whole refused (inl (one, kind, line)) =
     subst (IsCheckRun k name before after err) (sym one)
-    (read, whole, none_canonical k read (let r = rw kind at refused in r.3), inl (e, refused, line))
+    (read, whole, none_canonical k read (let r = rw kind at refused in r.3), inl (e, kind, refused, line))
 check_refused k name before after read err e status whole refused (inr (two, fault)) = subst (IsCheckRun k name before after err) (sym two) fault
+
+-- what a call did, unless it has failed
+pub done_unless : {A E : Type 0} (r : Result A E) (failed : Bool) (P : Type 0) → OnOk r P → OnErr r (failed ≡ true) → failed ≡ false → P
+done_unless (Ok a) failed P p e works = p
+done_unless (Err x) failed P p e works = let bad : true ≡ false = sym e ∙ works in absurd cc

@@ -1,15 +1,17 @@
 -- Definitions. Canonical texts, and what each status of a run that looks for them says.
-use Rattle.std.specs.Prelude.{◌≡◌, ◌⊎◌, ℕ, List, Option, Some, codes}
+use Rattle.std.specs.Prelude.{◌≡◌, ◌⊎◌, ℕ, List, Option, Some, false, codes}
 use Rattle.std.specs.Io.KnownBytes.{Consumes}
 use Rattle.souper_graph.specs.Values.{Item}
 use Rattle.souper_graph.specs.Syntax.Spelling.{ItemType, TextSpells}
 use Rattle.souper_ir.specs.Answers.{IsStrError}
 use Rattle.souper_ir.specs.declared.parse.ParseError.{ParseError}
+use Rattle.souper_ir.specs.declared.parse.ParseErrorKind.TheVariants.{Parse}
+use Rattle.souper_ir.specs.Errors.{kind_of}
 use Rattle.souper_stream.specs.Reading.{AreAll}
-use Rattle.souper_format.specs.Streams.{Stream, IsGivenNothing}
+use Rattle.souper_format.specs.Streams.{Stream, IsGiven, IsGivenNothing}
 use Rattle.souper_format.specs.Reporting.{ReportedLine}
 use Rattle.souper_records.specs.Records.{records_of, plain}
-use Rattle.souper_records.specs.Reports.{Reported, ReportedFault}
+use Rattle.souper_records.specs.Reports.{named_line, ReportedFault}
 use Rattle.souper_records.specs.Runs.{OnStatus}
 
 -- the text is the plain records of the items that it spells
@@ -20,9 +22,10 @@ IsCanonical k text = (items : List Item) × TextSpells k text items × (text ≡
 abbrev pub IsWhole : Option (List ℕ) → Option (List ℕ) → List ℕ → Type 0
 IsWhole before after read = Consumes before after read × AreAll before read
 
--- the text is refused, and that was reported; or that it is not canonical was
+-- the text is refused, and that was reported; or it spells items, and that it is not canonical was reported
 abbrev pub ReportedOther : ItemType → List ℕ → List ℕ → Stream → Type 0
-ReportedOther k name read err = ((e : ParseError) × IsStrError k (Some name) read e × ReportedLine err e) ⊎ Reported name (codes "not canonical") err
+ReportedOther k name read err = ((e : ParseError) × (kind_of e ≡ Parse) × IsStrError k (Some name) read e × ReportedLine err e)
+    ⊎ (((items : List Item) × TextSpells k read items) × (err.failed ≡ false → IsGiven err (named_line name (codes "not canonical"))))
 
 -- what the status says: 0, the whole stream is canonical, and nothing was reported; 1, it is not, and that was reported; 2,
 -- something failed, and that was reported

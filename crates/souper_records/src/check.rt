@@ -1,6 +1,8 @@
 //! Whether a text is canonical.
-ghost use Rattle.std.specs.Prelude.{◌≡◌, ◌↔◌, Some, IfOk, IfErr, IsTrue};
+ghost use Rattle.std.specs.Prelude.{◌≡◌, ◌↔◌, List, Some, IfOk, IfErr, IsTrue};
 ghost use Rattle.std.specs.String.{string_bytes};
+ghost use Rattle.souper_graph.specs.Values.{Item};
+ghost use Rattle.souper_graph.specs.Syntax.Spelling.{TextSpells};
 ghost use Rattle.souper_ir.specs.Answers.{IsStrError};
 ghost use Rattle.souper_format.specs.Streams.{stream};
 ghost use Rattle.souper_records.specs.Records.{records_of, plain};
@@ -8,7 +10,7 @@ ghost use Rattle.souper_records.specs.Canonical.{IsCanonical, IsCheckRun};
 
 use crate::layout::PLAIN;
 use crate::records::append_record;
-use crate::report::{report, report_error, report_fault};
+use crate::report::{line, report_error, report_fault, report_memory};
 use souper_format::watched::Watched;
 use souper_ir::parse::{ParseError, Sink, WholeItem, parse_into};
 use std::alloc::{AllocError, Global};
@@ -42,6 +44,7 @@ pub fn is_canonical<T: WholeItem + Drop>(
     source: &str,
     name: &str,
 ) -> Result<bool, ParseError>
+    ensures spelled { IfOk result (λ answer. (items : List Item) × TextSpells T.item_type source.now items) }
     ensures answer { IfOk result (λ answer. IsTrue answer ↔ IsCanonical T.item_type source.now) }
     ensures refused { IfErr result (λ e. IsStrError T.item_type (Some name.now) source.now e) }
 {
@@ -54,7 +57,8 @@ pub fn is_canonical<T: WholeItem + Drop>(
     Ok(records.out.as_str() == source)
 }
 
-/// Reads the whole stream, and returns the status of the program: whether it is canonical ([`is_canonical`]).
+/// Reads the whole stream, and returns the status of the program: whether it is canonical ([`is_canonical`]). The stream and its
+/// records are held in memory.
 ///
 /// - 0: it is, and nothing was written to `err`.
 /// - 1: it is not, and a line that says so was written to `err`; or it is refused, and the refusal was written, which shows the
@@ -85,10 +89,16 @@ pub fn check_run<T: WholeItem + Drop, R: BufRead, E: Write>(
     };
     match is_canonical::<T>(alloc, source, name) {
         Ok(true) => 0,
-        Ok(false) => {
-            report(alloc, name, "not canonical", err);
-            1
-        }
+        Ok(false) => match line(alloc, name, "not canonical") {
+            Ok(line) => {
+                let _ = err.write_all(line.as_bytes());
+                1
+            }
+            Err(_) => {
+                report_memory(err);
+                2
+            }
+        },
         Err(error) => report_error(alloc, name, &error, err),
     }
 }

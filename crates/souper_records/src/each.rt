@@ -65,11 +65,11 @@ fn write_records<T: Item + Drop, W: Write>(
     }
 }
 
-/// Writes the record of each item of the stream, in order, as soon as it was read: of the stream a part is held, as by
-/// [`read_into`](souper_stream::read_into).
+/// Writes the record of each item of the stream, in order, part by part: a part is at least 4 KiB, or up to twice what is between two
+/// places where the stream can be cut ([`PartReader`]).
 ///
-/// `name` is that of the stream, which a refusal shows. If the stream is refused, the records of the items before that were
-/// written. After another error some records may have been written.
+/// `name` is that of the stream, which a refusal shows. If the stream is refused, records of items that it begins with
+/// were written. After another error some records may have been written.
 pub fn each<T: StreamItem + Drop, R: BufRead, W: Write>(
     alloc: Global,
     layout: Layout,

@@ -17,7 +17,8 @@ pub fn report_memory<E: Write>(err: &mut Watched<E>)
     let _ = err.write_all(b"souper_items: out of memory\n");
 }
 
-fn line(alloc: Global, name: &str, says: &str) -> Result<String, AllocError>
+/// The line that says something of the stream of this name.
+pub(crate) fn line(alloc: Global, name: &str, says: &str) -> Result<String, AllocError>
     ensures { IfOk result (λ line. string_bytes line ≡ named_line name.now says.now) }
 {
     let mut line = String::new(alloc);
@@ -29,8 +30,8 @@ fn line(alloc: Global, name: &str, says: &str) -> Result<String, AllocError>
     Ok(line)
 }
 
-/// Reports something of the stream of this name.
-pub(crate) fn report<E: Write>(alloc: Global, name: &str, says: &str, err: &mut Watched<E>)
+// Reports something of the stream of this name.
+fn report<E: Write>(alloc: Global, name: &str, says: &str, err: &mut Watched<E>)
     ensures { Reported name.now says.now (stream E.contents err.old err.new) }
 {
     match line(alloc, name, says) {

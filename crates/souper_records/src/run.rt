@@ -15,7 +15,7 @@ use std::io::{BufRead, Write};
 /// Writes the record of each item of the stream to `out` ([`each`]), and returns the status of the program.
 ///
 /// - 0: done, and nothing was written to `err`.
-/// - 1: the stream is refused. The records of the items before that were written, and to `err` the refusal, which shows the name,
+/// - 1: the stream is refused. Records of items that it begins with were written, and to `err` the refusal, which shows the name,
 ///   and a newline.
 /// - 2: a read or `out` failed, what was read is not UTF-8, or memory ran out. A line that says so was written to `err`.
 ///
