@@ -11,3 +11,5 @@ mod layouts;
 mod streams;
 #[cfg(test)]
 mod support;
+#[cfg(test)]
+mod uniques;

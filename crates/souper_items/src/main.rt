@@ -2,15 +2,18 @@
 #![tactic(auto)]
 
 mod options;
+mod progress;
 
 use clap::ArgMatches;
 use options::{Action, Task, grammar, read_task};
+use progress::Progress;
 use souper_format::command::Kind;
 use souper_format::watched::Watched;
 use souper_ir::ast::{LeftHandSide, Replacement, RightHandSide};
 use souper_records::check::check_run;
 use souper_records::report::{report_fault, report_memory};
-use souper_records::run::each_run;
+use souper_records::run::{each_run, uniq_run};
+use souper_records::seen::Seen;
 use souper_stream::StreamItem;
 use std::alloc::Global;
 use std::fs::File;
@@ -24,6 +27,7 @@ const STANDARD_INPUT: &str = "(standard input)";
 fn run_items<T: StreamItem + Drop, R: BufRead, W: Write, E: Write>(
     alloc: Global,
     action: Action,
+    seen: &mut Seen,
     reader: &mut R,
     name: &str,
     out: &mut Watched<W>,
@@ -31,6 +35,7 @@ fn run_items<T: StreamItem + Drop, R: BufRead, W: Write, E: Write>(
 ) -> u8 {
     match action {
         Action::Each(layout) => each_run::<T, R, W, E>(alloc, layout, reader, name, out, err),
+        Action::Uniq(layout) => uniq_run::<T, R, W, E>(alloc, layout, seen, reader, name, out, err),
         Action::Check => check_run::<T, R, E>(alloc, reader, name, err),
     }
 }
@@ -39,6 +44,7 @@ fn run_items<T: StreamItem + Drop, R: BufRead, W: Write, E: Write>(
 fn run_stream<R: BufRead, W: Write, E: Write>(
     alloc: Global,
     task: &Task<'_, '_>,
+    seen: &mut Seen,
     reader: &mut R,
     name: &str,
     out: &mut Watched<W>,
@@ -46,29 +52,36 @@ fn run_stream<R: BufRead, W: Write, E: Write>(
 ) -> u8 {
     let action = task.action;
     match task.kind {
-        Kind::Lhs => run_items::<LeftHandSide, R, W, E>(alloc, action, reader, name, out, err),
-        Kind::Rhs => run_items::<RightHandSide, R, W, E>(alloc, action, reader, name, out, err),
-        Kind::Rep => run_items::<Replacement, R, W, E>(alloc, action, reader, name, out, err),
+        Kind::Lhs => {
+            run_items::<LeftHandSide, R, W, E>(alloc, action, seen, reader, name, out, err)
+        }
+        Kind::Rhs => {
+            run_items::<RightHandSide, R, W, E>(alloc, action, seen, reader, name, out, err)
+        }
+        Kind::Rep => {
+            run_items::<Replacement, R, W, E>(alloc, action, seen, reader, name, out, err)
+        }
     }
 }
 
-fn open(rt: &HostRuntime, path: &str) -> io::Result<BufReader<File>> {
+fn open<'a>(rt: &'a HostRuntime, path: &str) -> io::Result<BufReader<Progress<'a, File>>> {
     let file = File::open(rt, path)?;
-    Ok(BufReader::new(rt.alloc(), file)?)
+    Ok(BufReader::new(rt.alloc(), Progress::new(rt, file))?)
 }
 
 // Does the task over one file; `-` is standard input.
 fn run_file<W: Write, E: Write>(
     rt: &HostRuntime,
     task: &Task<'_, '_>,
+    seen: &mut Seen,
     path: &str,
     out: &mut Watched<W>,
     err: &mut Watched<E>,
 ) -> u8 {
     let alloc = rt.alloc();
     if path == "-" {
-        match BufReader::new(alloc, rt.stdin()) {
-            Ok(mut reader) => run_stream(alloc, task, &mut reader, STANDARD_INPUT, out, err),
+        match BufReader::new(alloc, Progress::new(rt, rt.stdin())) {
+            Ok(mut reader) => run_stream(alloc, task, seen, &mut reader, STANDARD_INPUT, out, err),
             Err(_) => {
                 report_memory(err);
                 2
@@ -76,7 +89,7 @@ fn run_file<W: Write, E: Write>(
         }
     } else {
         match open(rt, path) {
-            Ok(mut reader) => run_stream(alloc, task, &mut reader, path, out, err),
+            Ok(mut reader) => run_stream(alloc, task, seen, &mut reader, path, out, err),
             Err(fault) => {
                 report_fault(alloc, path, &fault, err);
                 2
@@ -85,22 +98,24 @@ fn run_file<W: Write, E: Write>(
     }
 }
 
-// Does the task over each file, unless a write has failed, and returns the greatest status.
+// Does the task over each file, and returns the greatest status. It ends after a failed write, and where items that were seen
+// count, after any trouble.
 fn run<W: Write, E: Write>(
     rt: &HostRuntime,
     task: &Task<'_, '_>,
     out: &mut Watched<W>,
     err: &mut Watched<E>,
 ) -> u8 {
+    let mut seen = Seen::new(rt.alloc());
     if task.files.is_empty() {
-        return run_file(rt, task, "-", out, err);
+        return run_file(rt, task, &mut seen, "-", out, err);
     }
     let mut status = 0;
     for path in task.files {
-        if out.failed() {
+        if out.failed() || status == 2 && task.action.remembers() {
             break;
         }
-        status = status.max(run_file(rt, task, path, out, err));
+        status = status.max(run_file(rt, task, &mut seen, path, out, err));
     }
     status
 }

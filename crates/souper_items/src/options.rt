@@ -13,8 +13,18 @@ pub(crate) enum Action {
     /// The record of each is written.
     Each(Layout),
 
+    /// The record of the first of each graph is written.
+    Uniq(Layout),
+
     /// Whether the stream is canonical is found out.
     Check,
+}
+
+impl Action {
+    /// Whether what is done with an item depends on those before it.
+    pub(crate) fn remembers(self) -> bool {
+        matches!(self, Action::Uniq(_))
+    }
 }
 
 /// What the program is asked to do.
@@ -48,9 +58,10 @@ fn flag<'a>(alloc: Global, name: &'a str, help: &'a str) -> Arg<'a> {
         .help(help)
 }
 
-fn each<'a>(alloc: Global) -> Result<Command<'a>, AllocError> {
-    Command::new(alloc, "each")
-        .about("Writes the record of each item: its canonical text and an empty line")
+// A command that writes records, with their options.
+fn writer<'a>(alloc: Global, name: &'a str, about: &'a str) -> Result<Command<'a>, AllocError> {
+    Command::new(alloc, name)
+        .about(about)
         .arg(flag(
             alloc,
             "null",
@@ -69,6 +80,22 @@ fn each<'a>(alloc: Global) -> Result<Command<'a>, AllocError> {
         ))?
         .arg(kind_arg(alloc))?
         .arg(files_arg(alloc))
+}
+
+fn each<'a>(alloc: Global) -> Result<Command<'a>, AllocError> {
+    writer(
+        alloc,
+        "each",
+        "Writes the record of each item: its canonical text and an empty line",
+    )
+}
+
+fn uniq<'a>(alloc: Global) -> Result<Command<'a>, AllocError> {
+    writer(
+        alloc,
+        "uniq",
+        "Writes the record of the first item of each graph in all files; their texts are held in memory",
+    )
 }
 
 fn check<'a>(alloc: Global) -> Result<Command<'a>, AllocError> {
@@ -91,6 +118,7 @@ pub(crate) fn grammar<'a>(alloc: Global) -> Result<Command<'a>, AllocError> {
         .subcommand_required(true)
         .arg_required_else_help(true)
         .subcommand(each(alloc)?)?
+        .subcommand(uniq(alloc)?)?
         .subcommand(check(alloc)?)
 }
 
@@ -118,6 +146,7 @@ fn read_layout(options: &ArgMatches<'_>) -> Layout {
 fn read_action(name: &str, options: &ArgMatches<'_>) -> Option<Action> {
     match name {
         "each" => Some(Action::Each(read_layout(options))),
+        "uniq" => Some(Action::Uniq(read_layout(options))),
         "check" => Some(Action::Check),
         _ => None,
     }

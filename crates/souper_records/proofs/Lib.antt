@@ -1,2 +1,4 @@
 mod Turns
 mod Checking
+mod Firsts
+mod Seeing

@@ -32,6 +32,15 @@ pub record WritesUpTo (k : ItemType) (l : Layout) (file : Option (List ℕ)) (be
   pub written : Appends old new (records_of l items)
   pub placed : length read + 1 < 2 ^ 64 → (offset : ℕ) × (offset ≤ length read) × IsRefusalAt file read offset e
 
+-- the records of items that the stream begins with were written, and nothing else
+pub record WritesBegun (k : ItemType) (l : Layout) (before : Option (List ℕ)) (old new : Option (List ℕ)) : Type 0 where
+  pub read : List ℕ
+  pub after : Option (List ℕ)
+  pub items : List Item
+  pub consumed : Consumes before after read
+  pub begun : PrefixSpells k read items
+  pub written : Appends old new (records_of l items)
+
 -- if reading stopped, what holds of the error
 abbrev pub IfInput : Stop → (ParseError → Type 0) → Type 0
 IfInput (Input e) P = P e

@@ -3,3 +3,5 @@ pub mod Eaches
 pub mod Reports
 pub mod Runs
 pub mod Canonical
+pub mod Firsts
+pub mod Uniques

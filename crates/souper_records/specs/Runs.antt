@@ -1,12 +1,17 @@
 -- Definitions. What each status of a run over a stream says of the stream and of the writers.
-use Rattle.std.specs.Prelude.{◌⊎◌, ℕ, zero, suc, List, Option, Some, codes}
+use Rattle.std.specs.Prelude.{◌≡◌, ◌⊎◌, ℕ, zero, suc, List, Option, Some, codes}
+use Rattle.souper_graph.specs.Values.{Item}
 use Rattle.souper_graph.specs.Syntax.Spelling.{ItemType}
 use Rattle.souper_ir.specs.declared.parse.ParseError.{ParseError}
 use Rattle.souper_format.specs.Streams.{Stream, IsGivenNothing}
 use Rattle.souper_format.specs.Reporting.{ReportedLine}
 use Rattle.souper_records.specs.declared.layout.Layout.{Layout}
 use Rattle.souper_records.specs.Eaches.{WritesEach, WritesUpTo}
-use Rattle.souper_records.specs.Reports.{ReportedFault}
+use Rattle.souper_records.specs.declared.each.Stop.{Stop}
+use Rattle.souper_records.specs.declared.each.Stop.TheVariants.{Input, Output}
+use Rattle.souper_records.specs.declared.seen.Seen.{Seen}
+use Rattle.souper_records.specs.Uniques.{WritesFirsts, WritesFirstsUpTo}
+use Rattle.souper_records.specs.Reports.{ReportedFault, ReportedError}
 
 -- a fact for each status, of which there are three
 abbrev pub OnStatus : ℕ → Type 0 → Type 0 → Type 0 → Type 0
@@ -19,10 +24,26 @@ OnStatus _ done refused stopped = ⊥
 abbrev pub output_name : List ℕ
 output_name = codes "write error"
 
+-- the output was flushed, or failed, and that was reported
+abbrev pub IsEnd : Stream → Stream → ℕ → Type 0
+IsEnd out err status = ((status ≡ 0) × IsGivenNothing out × IsGivenNothing err) ⊎ ((status ≡ 2) × ReportedFault output_name err)
+
+-- why not all was written was reported
+abbrev pub IsStop : List ℕ → Stop → Stream → ℕ → Type 0
+IsStop name (Input e) err status = ReportedError name err status e
+IsStop name (Output fault) err status = (status ≡ 2) × ReportedFault output_name err
+
 -- what the status of writing the record of each item says: 0, all were written, and nothing was reported; 1, the stream is
 -- refused, and that was reported; 2, something failed, and that was reported
 abbrev pub IsEachRun : ItemType → Layout → List ℕ → Option (List ℕ) → Option (List ℕ) → Stream → Stream → ℕ → Type 0
 IsEachRun k l name before after out err status = OnStatus status
     (WritesEach k l before after out.before out.after × IsGivenNothing err)
     ((e : ParseError) × WritesUpTo k l (Some name) before after out.before out.after e × ReportedLine err e)
+    (ReportedFault name err ⊎ ReportedFault output_name err)
+
+-- the same of writing the records of the first items, after earlier ones
+abbrev pub IsUniqRun : ItemType → Layout → List Item → List ℕ → Option (List ℕ) → Option (List ℕ) → Stream → Seen → Stream → ℕ → Type 0
+IsUniqRun k l earlier name before after out seen err status = OnStatus status
+    (WritesFirsts k l earlier before after out.before out.after seen × IsGivenNothing err)
+    ((e : ParseError) × WritesFirstsUpTo k l earlier (Some name) before after out.before out.after seen e × ReportedLine err e)
     (ReportedFault name err ⊎ ReportedFault output_name err)

@@ -8,32 +8,15 @@ ghost use Rattle.souper_format.specs.Streams.{stream};
 ghost use Rattle.souper_records.specs.Records.{records_of, plain};
 ghost use Rattle.souper_records.specs.Canonical.{IsCanonical, IsCheckRun};
 
+use crate::fixed::Plain;
 use crate::layout::PLAIN;
-use crate::records::append_record;
 use crate::report::{line, report_error, report_fault, report_memory};
+use crate::sink::Records;
 use souper_format::watched::Watched;
-use souper_ir::parse::{ParseError, Sink, WholeItem, parse_into};
-use std::alloc::{AllocError, Global};
+use souper_ir::parse::{ParseError, WholeItem, parse_into};
+use std::alloc::Global;
 use std::io::{BufRead, ErrorKind, Write};
 use std::{io, str};
-
-// The records of the items that were taken.
-#[derive(Drop)]
-struct Records {
-    alloc: Global,
-
-    // For the text of one item.
-    text: String,
-    out: String,
-}
-
-impl<T: WholeItem + Drop> Sink<T> for Records {
-    ghost holds = { λ records items. string_bytes records.out ≡ records_of plain items };
-
-    fn take(&mut self, item: T) -> Result<(), AllocError> {
-        append_record(self.alloc, PLAIN, &item, &mut self.text, &mut self.out)
-    }
-}
 
 /// Whether the text is the records of the items that it spells, as [`each`](crate::each::each) writes them in the layout
 /// [`PLAIN`].
@@ -48,12 +31,8 @@ pub fn is_canonical<T: WholeItem + Drop>(
     ensures answer { IfOk result (λ answer. IsTrue answer ↔ IsCanonical T.item_type source.now) }
     ensures refused { IfErr result (λ e. IsStrError T.item_type (Some name.now) source.now e) }
 {
-    let mut records = Records {
-        alloc,
-        text: String::new(alloc),
-        out: String::new(alloc),
-    };
-    parse_into::<T, Records>(alloc, source, Some(name), &mut records)?;
+    let mut records = Records::<Plain>::new(alloc, PLAIN);
+    parse_into::<T, Records<Plain>>(alloc, source, Some(name), &mut records)?;
     Ok(records.out.as_str() == source)
 }
 

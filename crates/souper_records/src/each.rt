@@ -1,25 +1,22 @@
 //! The record of each item of a stream.
-ghost use Rattle.std.specs.Prelude.{◌≡◌, map, Some, OnOk, IfOk, IfErr};
-ghost use Rattle.std.specs.List.{AllByRecursion};
+ghost use Rattle.std.specs.Prelude.{◌≡◌, Some, OnOk, IfErr};
 ghost use Rattle.std.specs.Io.KnownBytes.{Appends};
 ghost use Rattle.std.specs.String.{string_bytes};
-ghost use Rattle.souper_graph.specs.WellFormed.{WellFormed};
 ghost use Rattle.souper_ir.specs.Errors.{kind_of};
-ghost use Rattle.souper_records.specs.Records.{records_of};
-ghost use Rattle.souper_records.specs.Eaches.{WritesEach, WritesUpTo, IfInput};
+ghost use Rattle.souper_records.specs.Eaches.{WritesEach, WritesUpTo, WritesBegun, IfInput};
 
-use crate::batch::Batch;
+use crate::fixed::Fixed;
 use crate::layout::Layout;
-use crate::records::append_record;
-use souper_ir::ast::Item;
+use crate::sink::Records;
 use souper_ir::parse::{ParseError, ParseErrorKind};
 use souper_stream::{PartReader, StreamItem};
-use std::alloc::{AllocError, Global};
+use std::alloc::Global;
 use std::io;
 use std::io::{BufRead, ErrorKind, Write};
+use std::marker::Brand;
 
 // So many bytes are read before items are looked for.
-const CHUNK: usize = 4096;
+pub(crate) const CHUNK: usize = 65536;
 
 /// Why the records of a stream were not all written.
 #[derive(Drop)]
@@ -31,45 +28,66 @@ pub enum Stop {
     Output(io::Error),
 }
 
-// The records of the items.
-fn records<T: Item + Drop>(alloc: Global, layout: Layout, items: &[T]) -> Result<String, AllocError>
-    requires { AllByRecursion WellFormed (map T.view items.now) }
-    ensures { IfOk result (λ text. string_bytes text ≡ records_of layout (map T.view items.now)) }
-{
-    let mut text = String::new(alloc);
-    let mut out = String::new(alloc);
-    for item in items {
-        append_record(alloc, layout, item, &mut text, &mut out)?;
-    }
-    Ok(out)
+// What is written of a stream.
+#[derive(Clone, Copy)]
+pub(crate) struct Job<'a> {
+    pub(crate) layout: Layout,
+
+    // The name of the stream.
+    pub(crate) name: &'a str,
 }
 
-// Writes the records of the items.
-fn write_records<T: Item + Drop, W: Write>(
-    alloc: Global,
-    layout: Layout,
-    items: &[T],
-    out: &mut W,
-) -> Result<(), Stop>
-    requires { AllByRecursion WellFormed (map T.view items.now) }
-    ensures written { OnOk result (Appends (W.contents out.old) (W.contents out.new) (records_of layout (map T.view items.now))) }
-    ensures fault { IfErr result (λ stop. IfInput stop (λ e. kind_of e ≡ ParseErrorKind.Parse → ⊥)) }
+pub(crate) fn write_text<W: Write>(text: &String, out: &mut W) -> Result<(), Stop>
+    ensures written { OnOk result (Appends (W.contents out.old) (W.contents out.new) (string_bytes text.now)) }
+    ensures fault { IfErr result (λ stop. IfInput stop (λ e. ⊥)) }
 {
-    let text = match records(alloc, layout, items) {
-        Ok(text) => text,
-        Err(fault) => return Err(Stop::Input(ParseError::from(fault))),
-    };
     match out.write_all(text.as_bytes()) {
         Ok(()) => Ok(()),
         Err(fault) => Err(Stop::Output(fault)),
     }
 }
 
-/// Writes the record of each item of the stream, in order, part by part: a part is at least 4 KiB, or up to twice what is between two
-/// places where the stream can be cut ([`PartReader`]).
+// Does the job in a layout that stays.
+fn each_fixed<L: Fixed, T: StreamItem + Drop, R: BufRead, W: Write>(
+    alloc: Global,
+    job: Job<'_>,
+    reader: &mut R,
+    out: &mut W,
+) -> Result<(), Stop>
+    requires { job.layout ≡ L.layout }
+    ensures written { OnOk result (WritesEach T.item_type job.entry.layout (R.remaining reader.old) (R.remaining reader.new) (W.contents out.old) (W.contents out.new)) }
+    ensures refused { IfErr result (λ stop. IfInput stop (λ e. kind_of e ≡ ParseErrorKind.Parse
+        → WritesUpTo T.item_type job.entry.layout (Some job.entry.name.now) (R.remaining reader.old) (R.remaining reader.new) (W.contents out.old) (W.contents out.new) e)) }
+    ensures begun { IfErr result (λ stop. IfInput stop (λ e.
+        WritesBegun T.item_type job.entry.layout (R.remaining reader.old) (W.contents out.old) (W.contents out.new))) }
+{
+    let mut parts = PartReader::new(alloc, CHUNK);
+    let mut records = Records::<L>::new(alloc, job.layout);
+    for _turn in 0..u64::MAX {
+        records.out.clear();
+        match parts.read_part::<T, R, Records<L>>(alloc, reader, Some(job.name), &mut records) {
+            Ok(ended) => {
+                write_text(&records.out, out)?;
+                if ended {
+                    return Ok(());
+                }
+            }
+            Err(error) if error.kind() == ParseErrorKind::Parse => {
+                write_text(&records.out, out)?;
+                return Err(Stop::Input(error));
+            }
+            Err(error) => return Err(Stop::Input(error)),
+        }
+    }
+    let fault = io::Error::from(ErrorKind::Other);
+    Err(Stop::Input(ParseError::from(fault)))
+}
+
+/// Writes the record of each item of the stream, in order, part by part ([`PartReader`]): a part is at least 64 KiB, or up to twice
+/// what is between two places where the stream can be cut.
 ///
-/// `name` is that of the stream, which a refusal shows. If the stream is refused, records of items that it begins with
-/// were written. After another error some records may have been written.
+/// `name` is that of the stream, which a refusal shows. After an error of the input, what was written is the records of items that
+/// the stream begins with. After one of the output some of a part's records may have been written, or part of one.
 pub fn each<T: StreamItem + Drop, R: BufRead, W: Write>(
     alloc: Global,
     layout: Layout,
@@ -80,26 +98,9 @@ pub fn each<T: StreamItem + Drop, R: BufRead, W: Write>(
     ensures written { OnOk result (WritesEach T.item_type layout (R.remaining reader.old) (R.remaining reader.new) (W.contents out.old) (W.contents out.new)) }
     ensures refused { IfErr result (λ stop. IfInput stop (λ e. kind_of e ≡ ParseErrorKind.Parse
         → WritesUpTo T.item_type layout (Some name.now) (R.remaining reader.old) (R.remaining reader.new) (W.contents out.old) (W.contents out.new) e)) }
+    ensures begun { IfErr result (λ stop. IfInput stop (λ e.
+        WritesBegun T.item_type layout (R.remaining reader.old) (W.contents out.old) (W.contents out.new))) }
 {
-    let mut parts = PartReader::new(alloc, CHUNK);
-    for _turn in 0..u64::MAX {
-        let mut batch = Batch {
-            items: Vec::new(alloc),
-        };
-        match parts.read_part::<T, R, Batch<T>>(alloc, reader, Some(name), &mut batch) {
-            Ok(ended) => {
-                write_records(alloc, layout, &batch.items, out)?;
-                if ended {
-                    return Ok(());
-                }
-            }
-            Err(error) if error.kind() == ParseErrorKind::Parse => {
-                write_records(alloc, layout, &batch.items, out)?;
-                return Err(Stop::Input(error));
-            }
-            Err(error) => return Err(Stop::Input(error)),
-        }
-    }
-    let fault = io::Error::from(ErrorKind::Other);
-    Err(Stop::Input(ParseError::from(fault)))
+    let job = Job { layout, name };
+    each_fixed::<Brand, T, R, W>(alloc, job, reader, out)
 }

@@ -3,10 +3,13 @@
 //! The program `souper_items` calls [`run::each_run`] and [`check::check_run`].
 #![tactic(auto)]
 
-mod batch;
 pub mod check;
 pub mod each;
+mod fixed;
 pub mod layout;
 pub mod records;
 pub mod report;
 pub mod run;
+pub mod seen;
+mod sink;
+pub mod uniq;

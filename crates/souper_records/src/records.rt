@@ -1,9 +1,9 @@
 //! The record of an item.
-ghost use Rattle.std.specs.Prelude.{◌≡◌, ◌++◌, IfOk, OnOk};
+ghost use Rattle.std.specs.Prelude.{◌≡◌, ◌++◌, map, flat_map, IfOk, OnOk};
 ghost use Rattle.std.specs.String.{string_bytes};
 ghost use Rattle.souper_graph.specs.Text.{text_of};
 ghost use Rattle.souper_graph.specs.WellFormed.{WellFormed};
-ghost use Rattle.souper_records.specs.Records.{chosen, key_of, key_line, delimited, record_of};
+ghost use Rattle.souper_records.specs.Records.{chosen, key_of, key_line, delimited, record_of_text, record_of};
 
 use crate::layout::{Delimiter, Layout};
 use sha2::{Digest, Sha256};
@@ -23,9 +23,14 @@ fn append_canonical<T: Item>(item: &T, out: &mut String) -> Result<(), AllocErro
 }
 
 // Appends the canonical text of the item, or that of the item with names by its printed order.
-fn append_text<T: Item + Drop>(rename: bool, item: &T, out: &mut String) -> Result<(), AllocError>
+pub(crate) fn append_text<T: Item + Drop>(
+    rename: bool,
+    item: &T,
+    out: &mut String,
+) -> Result<(), AllocError>
     requires { WellFormed (T.view item.now) }
-    ensures { OnOk result (string_bytes out.new ≡ string_bytes out.old ++ text_of (chosen rename (T.view item.now))) }
+    ensures text { OnOk result (string_bytes out.new ≡ string_bytes out.old ++ text_of (chosen rename (T.view item.now))) }
+    ensures well_formed { OnOk result (WellFormed (chosen rename (T.view item.now))) }
 {
     if !rename {
         return append_canonical(item, out);
@@ -70,6 +75,36 @@ fn append_delimited(delimiter: Delimiter, text: &str, out: &mut String) -> Resul
     }
 }
 
+// Appends the record of an item whose text this is.
+fn append_record_of_text(
+    alloc: Global,
+    layout: Layout,
+    text: &str,
+    out: &mut String,
+) -> Result<(), AllocError>
+    ensures { OnOk result (string_bytes out.new ≡ string_bytes out.old ++ record_of_text layout text.now) }
+{
+    if layout.key {
+        append_key(alloc, text, out)?;
+    }
+    append_delimited(layout.delimiter, text, out)
+}
+
+/// The records of items whose texts these are.
+pub(crate) fn records_of_texts(
+    alloc: Global,
+    layout: Layout,
+    texts: &[String],
+) -> Result<String, AllocError>
+    ensures { IfOk result (λ out. string_bytes out ≡ flat_map (record_of_text layout) (map string_bytes texts.now)) }
+{
+    let mut out = String::new(alloc);
+    for text in texts {
+        append_record_of_text(alloc, layout, text.as_str(), &mut out)?;
+    }
+    Ok(out)
+}
+
 /// Appends the record of the item. The error is out of memory.
 ///
 /// `text` is for its canonical text, so that the records of many items take one allocation.
@@ -85,8 +120,5 @@ pub fn append_record<T: Item + Drop>(
 {
     text.clear();
     append_text(layout.rename, item, text)?;
-    if layout.key {
-        append_key(alloc, text.as_str(), out)?;
-    }
-    append_delimited(layout.delimiter, text.as_str(), out)
+    append_record_of_text(alloc, layout, text.as_str(), out)
 }

@@ -1,16 +1,46 @@
 //! Runs over one stream, by their statuses.
-ghost use Rattle.std.specs.Prelude.{◌≡◌, false};
+ghost use Rattle.std.specs.Prelude.{◌≡◌, false, List};
+ghost use Rattle.souper_graph.specs.Values.{Item};
 ghost use Rattle.souper_format.specs.Streams.{stream};
 ghost use Rattle.souper_format.specs.Watching.{has_failed};
-ghost use Rattle.souper_records.specs.Runs.{IsEachRun};
+ghost use Rattle.souper_records.specs.Uniques.{HasSeen};
+ghost use Rattle.souper_records.specs.Runs.{IsEnd, IsStop, IsEachRun, IsUniqRun};
 
 use crate::each::{Stop, each};
 use crate::layout::Layout;
 use crate::report::{report_error, report_fault};
+use crate::seen::Seen;
+use crate::uniq::uniq;
 use souper_format::watched::Watched;
 use souper_stream::StreamItem;
 use std::alloc::Global;
 use std::io::{BufRead, Write};
+
+// Flushes the output after all was written to it, and returns the status.
+fn end<W: Write, E: Write>(alloc: Global, out: &mut Watched<W>, err: &mut Watched<E>) -> u8
+    ensures { IsEnd (stream W.contents out.old out.new) (stream E.contents err.old err.new) result }
+{
+    match out.flush() {
+        Ok(()) => 0,
+        Err(fault) => {
+            report_fault(alloc, "write error", &fault, err);
+            2
+        }
+    }
+}
+
+// Reports why not all was written, and returns the status.
+fn report_stop<E: Write>(alloc: Global, name: &str, stop: &Stop, err: &mut Watched<E>) -> u8
+    ensures { IsStop name.now stop.now (stream E.contents err.old err.new) result }
+{
+    match stop {
+        Stop::Input(error) => report_error(alloc, name, error, err),
+        Stop::Output(fault) => {
+            report_fault(alloc, "write error", fault, err);
+            2
+        }
+    }
+}
 
 /// Writes the record of each item of the stream to `out` ([`each`]), and returns the status of the program.
 ///
@@ -32,17 +62,28 @@ pub fn each_run<T: StreamItem + Drop, R: BufRead, W: Write, E: Write>(
         (stream W.contents out.old out.new) (stream E.contents err.old err.new) result }
 {
     match each::<T, R, Watched<W>>(alloc, layout, reader, name, out) {
-        Ok(()) => match out.flush() {
-            Ok(()) => 0,
-            Err(fault) => {
-                report_fault(alloc, "write error", &fault, err);
-                2
-            }
-        },
-        Err(Stop::Input(error)) => report_error(alloc, name, &error, err),
-        Err(Stop::Output(fault)) => {
-            report_fault(alloc, "write error", &fault, err);
-            2
-        }
+        Ok(()) => end(alloc, out, err),
+        Err(stop) => report_stop(alloc, name, &stop, err),
+    }
+}
+
+/// Writes the record of each item of the stream that is the same graph as no earlier one to `out` ([`uniq`]), and returns the
+/// status of the program, as [`each_run`] does. After status 2 nothing is known of `seen`.
+pub fn uniq_run<T: StreamItem + Drop, R: BufRead, W: Write, E: Write>(
+    alloc: Global,
+    layout: Layout,
+    seen: &mut Seen,
+    reader: &mut R,
+    name: &str,
+    out: &mut Watched<W>,
+    err: &mut Watched<E>,
+) -> u8
+    ensures { (earlier : List Item) → HasSeen T.item_type layout.rename earlier seen.old
+        → IsUniqRun T.item_type layout earlier name.now (R.remaining reader.old) (R.remaining reader.new)
+        (stream W.contents out.old out.new) seen.new (stream E.contents err.old err.new) result }
+{
+    match uniq::<T, R, Watched<W>>(alloc, layout, seen, reader, name, out) {
+        Ok(()) => end(alloc, out, err),
+        Err(stop) => report_stop(alloc, name, &stop, err),
     }
 }

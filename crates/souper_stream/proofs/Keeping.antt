@@ -168,6 +168,12 @@ refused_prefix k ended read items ys h n p complete b =
     longer false (inl zero_is) = after (inl (ap (λ (m : ℕ). take m (fresh h)) zero_is))
     longer false (inr seam) = after seam.lines
 
+-- what was read begins with the items that were passed to sinks
+pub held_begun : (k : ItemType) (read : List ℕ) (items : List Item) (h : Held) → IsHeld k read items h → PrefixSpells k read items
+held_begun k read items h p =
+    let b = prefix_after k (done p.gone h) (fresh h) items [] (open_lines k (done p.gone h) (fresh h) p.opened) p.spelled ([], fresh h, refl, refl) in
+    subst (λ (x : List ℕ). PrefixSpells k x items) (sym (parts_read k read items h p)) (subst (λ (x : List Item). PrefixSpells k (done p.gone h ++ fresh h) x) (append-nil items) b)
+
 -- the offset of a refusal is in the text that was refused
 pub str_offset : (k : ItemType) (file : Option (List ℕ)) (source : List ℕ) (e : ParseError) → kind_of e ≡ Parse → IsStrError k file source e → (o : ℕ) × (offset_of e ≡ Some o) × (o ≤ length source) × SpellsNone k source
 str_offset k file source e kind h = let r = rw kind at h in (r.0, r.1, r.2, r.3)

@@ -1,6 +1,6 @@
 -- One turn of the reading of a stream: more is read, and complete items are handed on.
-use Rattle.std.proofs.Common.{◌≡◌, inl, inr, ℕ, ◌+◌, ◌-◌, ◌<◌, Bool, true, false, List, [], ◌++◌, length, take, drop, Option, refl, sym, ap, ◌∙◌, subst, arith, append_assoc, append-nil}
-use Rattle.std.specs.Prelude.{IfSome}
+use Rattle.std.proofs.Common.{◌≡◌, inl, inr, ℕ, ◌+◌, ◌-◌, ◌^◌, ◌<◌, ◌≤◌, Bool, true, false, List, [], ◌++◌, length, take, drop, Option, refl, sym, ap, ◌∙◌, subst, arith, append_assoc, append-nil}
+use Rattle.std.specs.Prelude.{min, IfSome}
 use Rattle.std.specs.Io.KnownBytes.{Consumes}
 use Rattle.std.proofs.lemmas.List.{take_all, length-drop}
 use Rattle.std.proofs.KnownBytes.{Consumes-nil, Consumes-trans}
@@ -11,17 +11,21 @@ use Rattle.souper_ir.specs.declared.parse.error.Before.{Before}
 use Rattle.souper_ir.specs.declared.parse.error.ParseErrorKind.{ParseErrorKind}
 use Rattle.souper_ir.specs.declared.parse.error.ParseErrorKind.TheVariants.{Io, Parse, Memory}
 use Rattle.souper_ir.specs.Errors.{OnKind, kind_of, offset_of, IsPlacedAfter, IsLocatedAfter}
-use Rattle.souper_ir.specs.Sinks.{TakesOver, TakesText}
+use Rattle.souper_ir.specs.Sinks.{TakesOver, TakesText, PrefixSpells}
 use Rattle.souper_stream.specs.declared.held.Held.{Held}
 use Rattle.souper_stream.specs.declared.parts.PartReader.{PartReader}
 use Rattle.souper_stream.specs.Seams.{IsSeam}
 use Rattle.souper_stream.specs.Holding.{fresh, IsHeld, Forgets}
-use Rattle.souper_stream.specs.Parts.{ReadsPart, RefusesPart, HasRead}
+use Rattle.souper_stream.specs.Parts.{AwaitsPart, ReadsPart, RefusesPart, HasRead}
 use Rattle.souper_stream.specs.Reading.{AreAll, ReadsMore, IsTaken, IsRefusedPart, IsStreamTaken, IsStreamRefused, NeverSpells}
 use Rattle.souper_stream.proofs.Bytes.{all_after}
-use Rattle.souper_stream.proofs.Keeping.{held_more, held_idle, held_forgot, held_all, part_refused}
+use Rattle.souper_stream.proofs.Keeping.{held_more, held_idle, held_forgot, held_all, held_begun, part_refused}
 
 -- ---- one part
+
+-- a part has as many bytes as the reader asks for
+pub enough_read : (held new least goal more : ℕ) → min (held + least) (2 ^ 64 - 1) ≤ goal → goal ≤ new → new < 2 ^ 63 → new ≡ held + more → least ≤ more
+enough_read held new least goal more room reached small is = omega arith
 
 -- more was read into what is held
 pub record Fills (mid after : Option (List ℕ)) (h0 h1 : Held) (ended : Bool) (more : List ℕ) : Type 0 where
@@ -34,13 +38,14 @@ held_now k read items mid after h0 h1 ended more r m = held_more k read more ite
 
 -- no item is complete
 pub turn_idle : {S : Type 0} (k : ItemType) (read : List ℕ) (items : List Item) (mid after : Option (List ℕ)) (holds : S → List Item → Type 0) (old new : S) (h0 h1 : Held) (p : PartReader) (more : List ℕ) (n : ℕ)
-    → IsHeld k read items h0 → Fills mid after h0 h1 false more → p.held ≡ h1 → n ≡ 0 → TakesText holds k (take n (fresh h1)) old new → ReadsPart k read items mid after holds old new p false
-turn_idle k read items mid after holds old new h0 h1 p more n r m is none t = record {
+    → IsHeld k read items h0 → Fills mid after h0 h1 false more → p.held ≡ h1 → n ≡ 0 → TakesText holds k (take n (fresh h1)) old new → AwaitsPart p → p.least ≤ length more → ReadsPart k read items mid after holds old new p false
+turn_idle k read items mid after holds old new h0 h1 p more n r m is none t awaits enough = record {
   more = more;
   taken = t.0;
   consumed = m.reads.consumed;
   over = t.2;
-  goes_on = λ e. subst (λ (h : Held). IsHeld k (read ++ more) (items ++ t.0) h) (sym is) (held_idle k (read ++ more) items t.0 h1 n (held_now k read items mid after h0 h1 false more r m) none t.1);
+  goes_on = λ e. (subst (λ (h : Held). IsHeld k (read ++ more) (items ++ t.0) h) (sym is) (held_idle k (read ++ more) items t.0 h1 n (held_now k read items mid after h0 h1 false more r m) none t.1), awaits);
+  enough = λ e. enough;
   all_read = λ e. absurd cc;
 }
 
@@ -50,13 +55,14 @@ seam_taken k h n some (fits, inr seam) = seam
 
 -- items were handed on, and forgotten
 pub turn_forgot : {S : Type 0} (k : ItemType) (read : List ℕ) (items : List Item) (mid after : Option (List ℕ)) (holds : S → List Item → Type 0) (old new : S) (h0 h1 : Held) (p : PartReader) (more : List ℕ) (n : ℕ)
-    → IsHeld k read items h0 → Fills mid after h0 h1 false more → Forgets h1 p.held n → 0 < n → IsTaken k false (fresh h1) n → TakesText holds k (take n (fresh h1)) old new → ReadsPart k read items mid after holds old new p false
-turn_forgot k read items mid after holds old new h0 h1 p more n r m f some taken t = record {
+    → IsHeld k read items h0 → Fills mid after h0 h1 false more → Forgets h1 p.held n → 0 < n → IsTaken k false (fresh h1) n → TakesText holds k (take n (fresh h1)) old new → AwaitsPart p → p.least ≤ length more → ReadsPart k read items mid after holds old new p false
+turn_forgot k read items mid after holds old new h0 h1 p more n r m f some taken t awaits enough = record {
   more = more;
   taken = t.0;
   consumed = m.reads.consumed;
   over = t.2;
-  goes_on = λ e. held_forgot k (read ++ more) items t.0 h1 p.held n (held_now k read items mid after h0 h1 false more r m) taken.0 (seam_taken k h1 n some taken) t.1 f;
+  goes_on = λ e. (held_forgot k (read ++ more) items t.0 h1 p.held n (held_now k read items mid after h0 h1 false more r m) taken.0 (seam_taken k h1 n some taken) t.1 f, awaits);
+  enough = λ e. enough;
   all_read = λ e. absurd cc;
 }
 
@@ -69,6 +75,7 @@ turn_ended k read items mid after holds old new h0 h1 p more n r m taken t = rec
   consumed = m.reads.consumed;
   over = t.2;
   goes_on = λ e. absurd cc;
+  enough = λ e. absurd cc;
   all_read = λ e. (m.reads.all_read refl, held_all k (read ++ more) items t.0 h1 n (held_now k read items mid after h0 h1 true more r m) taken.1 t.1);
 }
 
@@ -91,6 +98,10 @@ turn_refused k file read items mid after holds old new h0 h1 ended more e shown 
       m.reads.consumed,
       part_refused k file ended (AreAll mid more) holds old new (read ++ more) items h1 e shown (held_now k read items mid after h0 h1 ended more r m) m.reads.all_read (part kind) kind shown_kind located,
     )
+
+-- what was read begins with the items that were passed to sinks
+pub read_begun : (k : ItemType) (read : List ℕ) (items : List Item) (p : PartReader) → HasRead k read items p → PrefixSpells k read items
+read_begun k read items p h = held_begun k read items p.held h.0
 
 -- ---- part after part
 

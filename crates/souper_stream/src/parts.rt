@@ -1,5 +1,5 @@
 //! The parts that a stream is read in.
-ghost use Rattle.std.specs.Prelude.{◌≡◌, ◌≤◌, ◌+◌, ℕ, List, [], length, take, Option, None, IfOk, IfErr, IfSome, option_copied};
+ghost use Rattle.std.specs.Prelude.{◌≡◌, ◌≤◌, ◌+◌, ℕ, List, [], length, take, max, false, Option, None, IfOk, IfErr, IfSome, option_copied};
 ghost use Rattle.souper_graph.specs.Values.{Item};
 ghost use Rattle.souper_graph.specs.Syntax.Spelling.{ItemType, SpellsNone};
 ghost use Rattle.souper_ir.specs.Answers.{IsStrError};
@@ -21,7 +21,8 @@ const BLOCK: usize = 4096;
 
 // Reads blocks until so many bytes are there, or until the input has ended, which it returns.
 fn fill_blocks<R: BufRead>(reader: &mut R, bytes: &mut Vec<u8>, goal: usize) -> io::Result<bool>
-    ensures { IfOk result (λ ended. (more : List ℕ) × ReadsMore (R.remaining reader.old) (R.remaining reader.new) bytes.old.items bytes.new.items ended more) }
+    ensures more { IfOk result (λ ended. (more : List ℕ) × ReadsMore (R.remaining reader.old) (R.remaining reader.new) bytes.old.items bytes.new.items ended more) }
+    ensures enough { IfOk result (λ ended. ended ≡ false → goal ≤ length bytes.new.items) }
 {
     let mut block = [0u8; BLOCK];
     for _turn in 0..u64::MAX {
@@ -41,7 +42,8 @@ fn fill_blocks<R: BufRead>(reader: &mut R, bytes: &mut Vec<u8>, goal: usize) -> 
 // Reads until so many bytes are there, and the line that the last of them is in, or until the input has ended, which it
 // returns.
 fn fill<R: BufRead>(reader: &mut R, bytes: &mut Vec<u8>, goal: usize) -> io::Result<bool>
-    ensures { IfOk result (λ ended. (more : List ℕ) × ReadsMore (R.remaining reader.old) (R.remaining reader.new) bytes.old.items bytes.new.items ended more) }
+    ensures more { IfOk result (λ ended. (more : List ℕ) × ReadsMore (R.remaining reader.old) (R.remaining reader.new) bytes.old.items bytes.new.items ended more) }
+    ensures enough { IfOk result (λ ended. ended ≡ false → goal ≤ length bytes.new.items) }
 {
     let has_ended = fill_blocks(reader, bytes, goal)?;
     if has_ended || reader.read_until(b'\n', bytes)? == 0 {
@@ -134,11 +136,12 @@ pub struct PartReader {
 }
 
 impl PartReader {
-    /// Of a stream nothing was read yet. Items are looked for when `least` bytes more than are held were read (at least 1), and
-    /// the line that the last of them is in. If no items are complete, they are looked for again when as much again as is held
-    /// was read. With a small `least` items are passed on sooner; with a larger one reading takes less time.
+    /// A reader for a stream of which nothing was read. Items are looked for when `least` bytes more than are held were read (at
+    /// least 1), and the line that the last of them is in. If no items are complete, they are looked for again when as much again
+    /// as is held was read. With a small `least` items are passed to the sink sooner; with a larger one reading takes less time.
     pub fn new(alloc: Global, least: usize) -> PartReader
-        ensures { (k : ItemType) → HasRead k [] [] result }
+        ensures nothing { (k : ItemType) → HasRead k [] [] result }
+        ensures least { result.least ≡ max least 1 }
     {
         let least = least.max(1);
         PartReader {
@@ -149,7 +152,7 @@ impl PartReader {
     }
 
     /// Reads more of the stream, passes the items that are complete to the sink, in order, and returns whether the stream has
-    /// ended. If it has, all items were passed on.
+    /// ended. If it has, all items were passed to sinks; if not, at least `least` bytes were read.
     ///
     /// Each call of one stream is given the same reader and type of items, and the sink may be another each time. The errors are
     /// those of [`read_into`](crate::read_into); after one the stream cannot be read on.
@@ -161,6 +164,7 @@ impl PartReader {
         sink: &mut S,
     ) -> Result<bool>
         requires { (read : List ℕ) × (items : List Item) × HasRead T.item_type read items self.old }
+        ensures least { self.new.least ≡ self.old.least }
         ensures read { IfOk result (λ ended. (read : List ℕ) (items : List Item) → HasRead T.item_type read items self.old
             → ReadsPart T.item_type read items (R.remaining reader.old) (R.remaining reader.new) S.holds sink.old sink.new self.new ended) }
         ensures refused { IfErr result (λ e. kind_of e ≡ ParseErrorKind.Parse → (read : List ℕ) (items : List Item) → HasRead T.item_type read items self.old

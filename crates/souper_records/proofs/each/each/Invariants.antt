@@ -1,6 +1,5 @@
--- What was read, and the records that were written of its items.
-use Rattle.souper_records.proofs.Turns.{Reached}
+-- the layout that stays is the one that was passed
 use Rattle.souper_records.proofs.each.each.Given as goal
 
-abbrev pub invariant-loop-turn : goal.invariant-loop-turn
-invariant-loop-turn g l = Reached g.T.Item.item_type l.fn.layout (g.R.Read.remaining l.fn.reader) (g.R.Read.remaining l.reader) (g.W.Write.contents l.fn.out) (g.W.Write.contents l.out) l.parts
+abbrev pub ghosts-each_fixed : goal.ghosts-each_fixed
+ghosts-each_fixed g a = record { layout = a.job.layout }

@@ -1,8 +1,7 @@
 use Rattle.std.proofs.Common.{◌≡◌, ℕ, List, [], ◌∷◌, ◌++◌, length, sym, ap, ◌∙◌, append-nil}
 use Rattle.std.specs.Iterator.{Yields, Drains}
-use Rattle.memchr.specs.Find.{TakesFirst, is_byte, places}
+use Rattle.memchr.specs.Find.{TakesFirst, is_byte}
 use Rattle.memchr.proofs.lemmas.CallerLemmas.{length-places}
-use Rattle.souper_ir.specs.Places.{newlines}
 use Rattle.souper_stream.proofs.held.newline_count.Goals as goal
 
 yielded : (xs s t : List ℕ) → Yields TakesFirst s xs t → s ≡ xs ++ t

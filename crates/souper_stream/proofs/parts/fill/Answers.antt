@@ -4,12 +4,12 @@ use Rattle.std.proofs.KnownBytes.{Consumes-trans}
 use Rattle.souper_stream.proofs.Bytes.{grown}
 use Rattle.souper_stream.proofs.parts.fill.Goals as goal
 
-pub returns : goal.returns
-returns g c =
+pub returns-clause-more : goal.returns-clause-more
+returns-clause-more g c =
     let rem = g.R.Read.remaining in
     let old = c.fill_blocks.new.bytes.items in
     let new = c.read_until.new.buf.items in
-    let m = c.in_ok-has_ended.ensures in
+    let m = c.in_ok-has_ended.ensures.more in
     let last : List ℕ = appended_bytes old new in (
       m.0 ++ last,
       record {

@@ -1,0 +1,179 @@
+-- Items that were seen: their texts, and part after part of a stream.
+use Rattle.std.proofs.Common.{◌≡◌, ℕ, Bool, true, false, List, [], ◌∷◌, ◌++◌, map, length, drop, Option, refl, sym, ap, ◌∙◌, subst, append_assoc, append-nil}
+use Rattle.std.specs.Prelude.{String, flat_map, bytes_eq, ◌||◌, if◌then◌else◌}
+use Rattle.std.specs.List.{list_any, AllByRecursion}
+use Rattle.std.specs.Io.KnownBytes.{Consumes, Appends}
+use Rattle.std.specs.String.{string_bytes, string_eq}
+use Rattle.indexmap.specs.IndexSet.{insert_key}
+use Rattle.std.proofs.KnownBytes.{Consumes-nil, Consumes-trans, Appends-nil, Appends-trans}
+use Rattle.std.proofs.Math.Seq.{drop-append_seam}
+use Rattle.std.proofs.lemmas.List.{map-append, length-map, drop-map}
+use Rattle.std.proofs.lemmas.List.Folds.{flat_map-map}
+use Rattle.std.proofs.lemmas.Grind.{flat_map-append}
+use Rattle.souper_graph.specs.Values.{Item}
+use Rattle.souper_graph.specs.Renaming.{renamed}
+use Rattle.souper_graph.specs.Syntax.Spelling.{ItemType}
+use Rattle.souper_graph.proofs.Sameness.Renumbered.{ordered}
+use Rattle.souper_graph.proofs.Sameness.Renaming.{graph-renamed, renamed-graph}
+use Rattle.souper_ir.specs.declared.parse.error.ParseError.{ParseError}
+use Rattle.souper_ir.proofs.Items.OneText.{one_text}
+use Rattle.souper_stream.specs.declared.parts.PartReader.{PartReader}
+use Rattle.souper_stream.specs.Parts.{HasRead, ReadsPart, RefusesPart}
+use Rattle.souper_stream.proofs.Bytes.{all_after}
+use Rattle.souper_stream.proofs.Turns.{never_after}
+use Rattle.souper_records.specs.declared.layout.Layout.{Layout}
+use Rattle.souper_records.specs.declared.seen.Seen.{Seen}
+use Rattle.souper_records.specs.Records.{record_of_text, record_of, records_of}
+use Rattle.souper_records.specs.Uniques.{text_by, firsts, AreSame, AreFirsts, IsStored, HasSeen, WritesFirsts, WritesFirstsUpTo}
+use Rattle.souper_records.proofs.Firsts.{firsts-append, keys-more, firsts-unseen, firsts-distinct, firsts-cover, all_append}
+
+-- ---- one text for each graph
+
+pub one_key : (k : ItemType) (rename : Bool) (a b : Item) → IsStored k rename a → IsStored k rename b → AreSame rename a b → text_by rename a ≡ text_by rename b
+one_key k false a b p q same = (one_text k a b p.0 q.0).1 same
+one_key k true a b p q same =
+    (one_text k (renamed a) (renamed b) (p.1, p.0.1) (q.1, q.0.1)).1 (renamed-graph a b (ordered a p.0.0) (ordered b q.0.0) same)
+
+pub one_graph : (k : ItemType) (rename : Bool) (a b : Item) → IsStored k rename a → IsStored k rename b → text_by rename a ≡ text_by rename b → AreSame rename a b
+one_graph k false a b p q e = (one_text k a b p.0 q.0).0 e
+one_graph k true a b p q e =
+    graph-renamed a b (ordered a p.0.0) (ordered b q.0.0) ((one_text k (renamed a) (renamed b) (p.1, p.0.1) (q.1, q.0.1)).0 e)
+
+pub are_firsts : (k : ItemType) (rename : Bool) (before items : List Item) → AllByRecursion (IsStored k rename) before → AllByRecursion (IsStored k rename) items → AreFirsts rename before items (firsts rename before items)
+are_firsts k rename before items bs ps =
+    let key = text_by rename in
+    record {
+      in_order = refl;
+      unseen = firsts-unseen key (IsStored k rename) (AreSame rename) (one_key k rename) before items bs ps;
+      distinct = firsts-distinct key (IsStored k rename) (AreSame rename) (one_key k rename) before items ps;
+      covered = firsts-cover key (IsStored k rename) (AreSame rename) (one_graph k rename) before items bs ps;
+    }
+
+-- ---- one more item
+
+-- a text is among strings
+among : {M : Type 0} (t : List ℕ) (ks : List (String M)) → list_any (λ s. bytes_eq t (string_bytes s)) ks ≡ list_any (bytes_eq t) (map string_bytes ks)
+among t [] = refl
+among t (s ∷ ks) = ap (λ (b : Bool). bytes_eq t (string_bytes s) || b) (among t ks)
+
+-- the texts after a string was inserted
+inserted : {M : Type 0} (ks : List (String M)) (t : String M)
+    → map string_bytes (if list_any (string_eq t) ks then ks else ks ++ t ∷ [])
+    ≡ (if list_any (bytes_eq (string_bytes t)) (map string_bytes ks) then map string_bytes ks else map string_bytes ks ++ string_bytes t ∷ [])
+inserted ks t = rw (among (string_bytes t) ks) (under (list_any (bytes_eq (string_bytes t)) (map string_bytes ks)) refl)
+  where
+    under : (b : Bool) → list_any (bytes_eq (string_bytes t)) (map string_bytes ks) ≡ b
+        → map string_bytes (if list_any (bytes_eq (string_bytes t)) (map string_bytes ks) then ks else ks ++ t ∷ [])
+        ≡ (if list_any (bytes_eq (string_bytes t)) (map string_bytes ks) then map string_bytes ks else map string_bytes ks ++ string_bytes t ∷ [])
+    under true at = rw at refl
+    under false at = rw at (map-append string_bytes ks (t ∷ []))
+
+-- one more item was seen
+pub seen_one : (k : ItemType) (rename : Bool) (items : List Item) (a : Item) (old new : Seen) (t : String _) → HasSeen k rename items old → IsStored k rename a → string_bytes t ≡ text_by rename a
+    → new.texts.keys ≡ insert_key string_eq old.texts.keys t → HasSeen k rename (items ++ a ∷ []) new
+seen_one k rename items a old new t h p is keys =
+    let key = text_by rename in
+    let old_texts = map key (firsts rename [] items) in (
+      all_append key (IsStored k rename) items (a ∷ []) h.0 (p, tt),
+      ap (map string_bytes) keys ∙ inserted old.texts.keys t
+          ∙ (λ i. if list_any (bytes_eq (is i)) (h.1 i) then h.1 i else h.1 i ++ is i ∷ [])
+          ∙ keys-more key items a,
+    )
+
+-- ---- part after part
+
+-- the texts that a part adds
+new_texts : (k : ItemType) (rename : Bool) (before taken : List Item) (s t : Seen) → HasSeen k rename before s → HasSeen k rename (before ++ taken) t
+    → map string_bytes (drop (length s.texts.keys) t.texts.keys) ≡ map (text_by rename) (firsts rename before taken)
+new_texts k rename before taken s t h j =
+    let key = text_by rename in
+    let old = map key (firsts rename [] before) in
+    let more = map key (firsts rename before taken) in
+    let all : map string_bytes t.texts.keys ≡ old ++ more = j.1 ∙ ap (map key) (firsts-append key [] before taken) ∙ map-append key (firsts rename [] before) (firsts rename before taken) in
+    let long : length s.texts.keys ≡ length old = sym (length-map s.texts.keys string_bytes) ∙ ap length h.1 in
+    sym (drop-map string_bytes (length s.texts.keys) t.texts.keys) ∙ (λ i. drop (long i) (all i)) ∙ drop-append_seam old more
+
+records_of_new : (k : ItemType) (l : Layout) (before taken : List Item) (s t : Seen) → HasSeen k l.rename before s → HasSeen k l.rename (before ++ taken) t
+    → flat_map (record_of_text l) (map string_bytes (drop (length s.texts.keys) t.texts.keys)) ≡ records_of l (firsts l.rename before taken)
+records_of_new k l before taken s t h j =
+    ap (flat_map (record_of_text l)) (new_texts k l.rename before taken s t h j) ∙ flat_map-map (record_of_text l) (text_by l.rename) (firsts l.rename before taken)
+
+-- the items were seen, and their records written
+abbrev pub Keeps : ItemType → Layout → Option (List ℕ) → Option (List ℕ) → Seen → Seen → List Item → Type 0
+Keeps k l old now s t items = (earlier : List Item) → HasSeen k l.rename earlier s → HasSeen k l.rename (earlier ++ items) t × Appends old now (records_of l (firsts l.rename earlier items))
+
+abbrev pub Reached : ItemType → Layout → Option (List ℕ) → Option (List ℕ) → Option (List ℕ) → Option (List ℕ) → Seen → Seen → PartReader → Type 0
+Reached k l before mid old now s t p = (read : List ℕ) × (items : List Item) × HasRead k read items p × Consumes before mid read × Keeps k l old now s t items
+
+pub reached_none : (k : ItemType) (l : Layout) (before old : Option (List ℕ)) (s : Seen) (p : PartReader) → HasRead k [] [] p → Reached k l before before old old s s p
+reached_none k l before old s p h = ([], [], h, Consumes-nil before, λ earlier seen. (subst (λ (x : List Item). HasSeen k l.rename x s) (sym (append-nil earlier)) seen, Appends-nil old))
+
+-- what was seen in one part
+abbrev pub SeesMore : ItemType → Bool → List Item → Seen → Seen → Type 0
+SeesMore k rename taken s t = (items : List Item) → HasSeen k rename items s → HasSeen k rename (items ++ taken) t
+
+-- the records that were written of one part
+abbrev pub WritesNew : Layout → Option (List ℕ) → Option (List ℕ) → Seen → Seen → Type 0
+WritesNew l now new s t = Appends now new (flat_map (record_of_text l) (map string_bytes (drop (length s.texts.keys) t.texts.keys)))
+
+keeps_both : (k : ItemType) (l : Layout) (old now new : Option (List ℕ)) (s t u : Seen) (xs ys : List Item) → Keeps k l old now s t xs → SeesMore k l.rename ys t u → WritesNew l now new t u → Keeps k l old new s u (xs ++ ys)
+keeps_both k l old now new s t u xs ys a more w = λ earlier seen.
+    let so_far = a earlier seen in
+    let later = more (earlier ++ xs) so_far.0 in
+    let part = records_of_new k l (earlier ++ xs) ys t u so_far.0 later in
+    let both = firsts-append (text_by l.rename) earlier xs ys in (
+      subst (λ (x : List Item). HasSeen k l.rename x u) (append_assoc earlier xs ys) later,
+      subst (λ (x : List Item). Appends old new (records_of l x)) (sym both)
+          (subst (Appends old new) (sym (flat_map-append (record_of l) (firsts l.rename earlier xs) (firsts l.rename (earlier ++ xs) ys)))
+          (Appends-trans old now new (records_of l (firsts l.rename earlier xs)) (records_of l (firsts l.rename (earlier ++ xs) ys)) so_far.1 (subst (Appends now new) part w))),
+    )
+
+all_parts : (P : Item → Type 0) (xs ys : List Item) → AllByRecursion P (xs ++ ys) → AllByRecursion P ys
+all_parts P [] ys h = h
+all_parts P (x ∷ xs) ys h = all_parts P xs ys h.1
+
+module _ {S : Type 0} (k : ItemType) (l : Layout) (before mid after old now new : Option (List ℕ)) {holds : S → List Item → Type 0} {a b : S} (s t u : Seen) (p : PartReader) (r : Reached k l before mid old now s t p) where
+  pub reached_more : (q : PartReader) (ended : Bool) (m : ReadsPart k r.0 r.1 mid after holds a b q ended) → SeesMore k l.rename m.taken t u → WritesNew l now new t u → ended ≡ false → Reached k l before after old new s u q
+  reached_more q ended m more w e = (
+    r.0 ++ m.more,
+    r.1 ++ m.taken,
+    m.goes_on e,
+    Consumes-trans before mid after r.0 m.more r.3 m.consumed,
+    keeps_both k l old now new s t u r.1 m.taken r.4 more w,
+  )
+
+  pub reached_end : (q : PartReader) (ended : Bool) (m : ReadsPart k r.0 r.1 mid after holds a b q ended) → SeesMore k l.rename m.taken t u → WritesNew l now new t u → ended ≡ true
+      → (earlier : List Item) → HasSeen k l.rename earlier s → WritesFirsts k l earlier before after old new u
+  reached_end q ended m more w e earlier seen =
+      let both = keeps_both k l old now new s t u r.1 m.taken r.4 more w earlier seen in
+      let items = r.1 ++ m.taken in
+      record {
+        read = r.0 ++ m.more;
+        items = items;
+        fresh = firsts l.rename earlier items;
+        consumed = Consumes-trans before mid after r.0 m.more r.3 m.consumed;
+        all_read = all_after before mid r.0 m.more r.3 (m.all_read e).0;
+        spelled = (m.all_read e).1;
+        are_firsts = are_firsts k l.rename earlier items seen.0 (all_parts (IsStored k l.rename) earlier items both.0.0);
+        written = both.1;
+        seen_now = both.0;
+      }
+
+  pub reached_refusal : (file : Option (List ℕ)) (e : ParseError) (m : RefusesPart k file r.0 r.1 mid after holds a b e) → SeesMore k l.rename m.2.taken t u → WritesNew l now new t u
+      → (earlier : List Item) → HasSeen k l.rename earlier s → WritesFirstsUpTo k l earlier file before after old new u e
+  reached_refusal file e m more w earlier seen =
+      let part = m.2 in
+      let both = keeps_both k l old now new s t u r.1 part.taken r.4 more w earlier seen in
+      let items = r.1 ++ part.taken in
+      record {
+        read = r.0 ++ m.0;
+        items = items;
+        fresh = firsts l.rename earlier items;
+        consumed = Consumes-trans before mid after r.0 m.0 r.3 m.1;
+        never = never_after k before mid r.0 m.0 r.3 part.never;
+        begun = part.begun;
+        are_firsts = are_firsts k l.rename earlier items seen.0 (all_parts (IsStored k l.rename) earlier items both.0.0);
+        written = both.1;
+        seen_now = both.0;
+        placed = part.placed;
+      }

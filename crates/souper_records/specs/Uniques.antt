@@ -1,0 +1,76 @@
+-- Definitions. The first item of each graph.
+use Rattle.std.specs.Prelude.{◌≡◌, ℕ, ◌+◌, ◌^◌, ◌<◌, ◌≤◌, Bool, true, false, List, [], ◌++◌, length, map, Option}
+use Rattle.std.specs.List.{AllByRecursion}
+use Rattle.std.specs.Io.KnownBytes.{Consumes, Appends}
+use Rattle.std.specs.String.{string_bytes}
+use Rattle.souper_graph.specs.Values.{Item}
+use Rattle.souper_graph.specs.Text.{text_of}
+use Rattle.souper_graph.specs.WellFormed.{WellFormed}
+use Rattle.souper_graph.specs.Sameness.{SameGraph}
+use Rattle.souper_graph.specs.Renaming.{SameUpToNames}
+use Rattle.souper_graph.specs.CanonicalText.{IsWellFormedOf}
+use Rattle.souper_graph.specs.Syntax.Spelling.{ItemType, TextSpells}
+use Rattle.souper_ir.specs.declared.parse.error.ParseError.{ParseError}
+use Rattle.souper_ir.specs.Errors.{IsRefusalAt}
+use Rattle.souper_ir.specs.Sinks.{PrefixSpells}
+use Rattle.souper_stream.specs.Reading.{AreAll, NeverSpells}
+use Rattle.souper_records.specs.declared.layout.Layout.{Layout}
+use Rattle.souper_records.specs.declared.seen.Seen.{Seen}
+use Rattle.souper_records.specs.Records.{chosen, records_of}
+use Rattle.souper_records.specs.Firsts.{firsts_by, NoTwo, HoldsOfOne}
+
+-- the canonical text of the item, or of the item with names by its printed order
+abbrev pub text_by : Bool → Item → List ℕ
+text_by rename a = text_of (chosen rename a)
+
+-- the items whose text no earlier one has, neither one of `before` nor one of these
+abbrev pub firsts : Bool → List Item → List Item → List Item
+firsts rename before items = firsts_by (text_by rename) before items
+
+-- the same graph, or the same graph up to names
+abbrev pub AreSame : Bool → Item → Item → Type 0
+AreSame false a b = SameGraph a b
+AreSame true a b = SameUpToNames a b
+
+-- The first items, in order: no two of them are the same, nor one of them and one before; and each of the items is the same as
+-- one of them, or as one before.
+pub record AreFirsts (rename : Bool) (before items new : List Item) : Type 0 where
+  pub in_order : new ≡ firsts rename before items
+  pub unseen : AllByRecursion (λ b. AllByRecursion (λ a. AreSame rename a b → ⊥) before) new
+  pub distinct : NoTwo (AreSame rename) new
+  pub covered : AllByRecursion (λ a. HoldsOfOne (AreSame rename a) (before ++ new)) items
+
+-- the item is well formed, and so is its copy with names by its printed order
+abbrev pub IsStored : ItemType → Bool → Item → Type 0
+IsStored k rename a = IsWellFormedOf k a × WellFormed (chosen rename a)
+
+-- these items were seen: the texts are those of the first ones among them
+abbrev pub HasSeen : ItemType → Bool → List Item → Seen → Type 0
+HasSeen k rename items s = AllByRecursion (IsStored k rename) items × (map string_bytes s.texts.keys ≡ map (text_by rename) (firsts rename [] items))
+
+-- All of the stream was read, and it spells items. Of these, those that are the same as no earlier one had their records
+-- written, and nothing else; and all were seen.
+pub record WritesFirsts (k : ItemType) (l : Layout) (earlier : List Item) (before after : Option (List ℕ)) (old new : Option (List ℕ)) (seen : Seen) : Type 0 where
+  pub read : List ℕ
+  pub items : List Item
+  pub fresh : List Item
+  pub consumed : Consumes before after read
+  pub all_read : AreAll before read
+  pub spelled : TextSpells k read items
+  pub are_firsts : AreFirsts l.rename earlier items fresh
+  pub written : Appends old new (records_of l fresh)
+  pub seen_now : HasSeen k l.rename (earlier ++ items) seen
+
+-- The stream is refused: whatever follows what was read of it, the whole spells no items. The same holds of items that it begins
+-- with; the error has and shows its place in the stream.
+pub record WritesFirstsUpTo (k : ItemType) (l : Layout) (earlier : List Item) (file : Option (List ℕ)) (before after : Option (List ℕ)) (old new : Option (List ℕ)) (seen : Seen) (e : ParseError) : Type 0 where
+  pub read : List ℕ
+  pub items : List Item
+  pub fresh : List Item
+  pub consumed : Consumes before after read
+  pub never : NeverSpells k (AreAll before read) read
+  pub begun : PrefixSpells k read items
+  pub are_firsts : AreFirsts l.rename earlier items fresh
+  pub written : Appends old new (records_of l fresh)
+  pub seen_now : HasSeen k l.rename (earlier ++ items) seen
+  pub placed : length read + 1 < 2 ^ 64 → (offset : ℕ) × (offset ≤ length read) × IsRefusalAt file read offset e

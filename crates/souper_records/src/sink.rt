@@ -1,0 +1,56 @@
+//! A sink that makes the records of items.
+ghost use Rattle.std.specs.Prelude.{◌≡◌, []};
+ghost use Rattle.std.specs.Coded.{Coded-set};
+ghost use Rattle.std.specs.String.{string_bytes};
+ghost use Rattle.souper_records.specs.Records.{records_of};
+
+use crate::fixed::Fixed;
+use crate::layout::Layout;
+use crate::records::append_record;
+use souper_ir::parse::{Sink, WholeItem};
+use std::alloc::{AllocError, Global};
+use std::marker::PhantomData;
+
+/// The records of the items that were taken.
+#[derive(Drop)]
+pub(crate) struct Records<L: Fixed> {
+    alloc: Global,
+    layout: Layout,
+
+    // For the text of one item.
+    text: String,
+
+    /// The records, in order.
+    pub(crate) out: String,
+    fixed: PhantomData<L>,
+    ghost stays: { layout ≡ L.layout } by { Coded-set layout-code layout L.layout },
+}
+
+impl<L: Fixed> Records<L> {
+    pub(crate) fn new(alloc: Global, layout: Layout) -> Self
+        requires { layout ≡ L.layout }
+        ensures { string_bytes result.out ≡ [] }
+    {
+        Records {
+            alloc,
+            layout,
+            text: String::new(alloc),
+            out: String::new(alloc),
+            fixed: PhantomData::<L>,
+        }
+    }
+}
+
+impl<L: Fixed, T: WholeItem + Drop> Sink<T> for Records<L> {
+    ghost holds = { λ records items. string_bytes records.out ≡ records_of L.layout items };
+
+    fn take(&mut self, item: T) -> Result<(), AllocError> {
+        append_record(
+            self.alloc,
+            self.layout,
+            &item,
+            &mut self.text,
+            &mut self.out,
+        )
+    }
+}

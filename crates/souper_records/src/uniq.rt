@@ -1,0 +1,155 @@
+//! The record of the first item of each graph in streams.
+ghost use Rattle.std.specs.Prelude.{◌≡◌, List, map, flat_map, drop, Some, OnOk, IfErr};
+ghost use Rattle.std.specs.Coded.{Coded-set};
+ghost use Rattle.std.specs.Io.KnownBytes.{Appends};
+ghost use Rattle.std.specs.String.{string_bytes};
+ghost use Rattle.souper_graph.specs.Values.{Item};
+ghost use Rattle.souper_ir.specs.Errors.{kind_of};
+ghost use Rattle.souper_records.specs.Eaches.{IfInput};
+ghost use Rattle.souper_records.specs.Records.{record_of_text};
+ghost use Rattle.souper_records.specs.Uniques.{HasSeen, WritesFirsts, WritesFirstsUpTo};
+
+use crate::each::{CHUNK, Job, Stop, write_text};
+use crate::fixed::Fixed;
+use crate::layout::Layout;
+use crate::records::{append_text, records_of_texts};
+use crate::seen::Seen;
+use indexmap::IndexSet;
+use souper_ir::parse::{ParseError, ParseErrorKind, Sink, WholeItem};
+use souper_stream::{PartReader, StreamItem};
+use std::alloc::{AllocError, Global};
+use std::io::{BufRead, ErrorKind, Write};
+use std::marker::{Brand, PhantomData};
+use std::{io, mem};
+
+// A sink that keeps the text of the first item of each graph.
+#[derive(Drop)]
+struct Firsts<L: Fixed> {
+    alloc: Global,
+    layout: Layout,
+
+    // For the text of one item.
+    text: String,
+    seen: Seen,
+    fixed: PhantomData<L>,
+    ghost stays: { layout ≡ L.layout } by { Coded-set layout-code layout L.layout },
+}
+
+impl<L: Fixed, T: WholeItem + Drop> Sink<T> for Firsts<L> {
+    ghost holds = { λ firsts items. HasSeen T.item_type L.layout.rename items firsts.seen };
+
+    fn take(&mut self, item: T) -> Result<(), AllocError> {
+        self.text.clear();
+        append_text(self.layout.rename, &item, &mut self.text)?;
+        let text = String::from_str(self.alloc, self.text.as_str())?;
+        match self.seen.texts.insert(text) {
+            Ok(_) => Ok(()),
+            Err(_) => Err(AllocError),
+        }
+    }
+}
+
+// Writes the records of the texts after the first ones, of which there are so many.
+fn write_texts<W: Write>(
+    alloc: Global,
+    layout: Layout,
+    texts: &[String],
+    first: usize,
+    out: &mut W,
+) -> Result<(), Stop>
+    ensures written { OnOk result (Appends (W.contents out.old) (W.contents out.new) (flat_map (record_of_text layout) (map string_bytes (drop first texts.now)))) }
+    ensures fault { IfErr result (λ stop. IfInput stop (λ e. kind_of e ≡ ParseErrorKind.Parse → ⊥)) }
+{
+    let texts = &texts[first.min(texts.len())..];
+    match records_of_texts(alloc, layout, texts) {
+        Ok(text) => write_text(&text, out),
+        Err(fault) => Err(Stop::Input(ParseError::from(fault))),
+    }
+}
+
+// Does the job with a sink.
+fn uniq_parts<L: Fixed, T: StreamItem + Drop, R: BufRead, W: Write>(
+    alloc: Global,
+    job: Job<'_>,
+    firsts: &mut Firsts<L>,
+    reader: &mut R,
+    out: &mut W,
+) -> Result<(), Stop>
+    requires { job.layout ≡ L.layout }
+    ensures written { OnOk result ((earlier : List Item) → HasSeen T.item_type job.entry.layout.rename earlier firsts.old.seen
+        → WritesFirsts T.item_type job.entry.layout earlier (R.remaining reader.old) (R.remaining reader.new) (W.contents out.old) (W.contents out.new) firsts.new.seen) }
+    ensures refused { IfErr result (λ stop. IfInput stop (λ e. kind_of e ≡ ParseErrorKind.Parse
+        → (earlier : List Item) → HasSeen T.item_type job.entry.layout.rename earlier firsts.old.seen
+        → WritesFirstsUpTo T.item_type job.entry.layout earlier (Some job.entry.name.now) (R.remaining reader.old) (R.remaining reader.new) (W.contents out.old) (W.contents out.new) firsts.new.seen e)) }
+{
+    let mut parts = PartReader::new(alloc, CHUNK);
+    for _turn in 0..u64::MAX {
+        let first = firsts.seen.texts.len();
+        match parts.read_part::<T, R, Firsts<L>>(alloc, reader, Some(job.name), firsts) {
+            Ok(ended) => {
+                write_texts(alloc, job.layout, firsts.seen.texts.as_slice(), first, out)?;
+                if ended {
+                    return Ok(());
+                }
+            }
+            Err(error) if error.kind() == ParseErrorKind::Parse => {
+                write_texts(alloc, job.layout, firsts.seen.texts.as_slice(), first, out)?;
+                return Err(Stop::Input(error));
+            }
+            Err(error) => return Err(Stop::Input(error)),
+        }
+    }
+    let fault = io::Error::from(ErrorKind::Other);
+    Err(Stop::Input(ParseError::from(fault)))
+}
+
+// Does the job in a layout that stays.
+fn uniq_fixed<L: Fixed, T: StreamItem + Drop, R: BufRead, W: Write>(
+    alloc: Global,
+    job: Job<'_>,
+    seen: &mut Seen,
+    reader: &mut R,
+    out: &mut W,
+) -> Result<(), Stop>
+    requires { job.layout ≡ L.layout }
+    ensures written { OnOk result ((earlier : List Item) → HasSeen T.item_type job.entry.layout.rename earlier seen.old
+        → WritesFirsts T.item_type job.entry.layout earlier (R.remaining reader.old) (R.remaining reader.new) (W.contents out.old) (W.contents out.new) seen.new) }
+    ensures refused { IfErr result (λ stop. IfInput stop (λ e. kind_of e ≡ ParseErrorKind.Parse
+        → (earlier : List Item) → HasSeen T.item_type job.entry.layout.rename earlier seen.old
+        → WritesFirstsUpTo T.item_type job.entry.layout earlier (Some job.entry.name.now) (R.remaining reader.old) (R.remaining reader.new) (W.contents out.old) (W.contents out.new) seen.new e)) }
+{
+    let mut firsts = Firsts {
+        alloc,
+        layout: job.layout,
+        text: String::new(alloc),
+        seen: mem::replace(seen, Seen::new(alloc)),
+        fixed: PhantomData::<L>,
+    };
+    let result = uniq_parts::<L, T, R, W>(alloc, job, &mut firsts, reader, out);
+    *seen = firsts.seen;
+    result
+}
+
+/// Writes the record of each item of the stream that is the same graph as no earlier one, of this stream or of those before: of
+/// each graph the first item, in order. With a layout that renames, items that differ in names alone are the same.
+///
+/// `seen` is passed from stream to stream of one type and one layout: it has the texts of the items so far, in memory. `name` is
+/// that of the stream, which a refusal shows. If the stream is refused, this was done with items that it begins with. After another
+/// error nothing is known of `seen`.
+pub fn uniq<T: StreamItem + Drop, R: BufRead, W: Write>(
+    alloc: Global,
+    layout: Layout,
+    seen: &mut Seen,
+    reader: &mut R,
+    name: &str,
+    out: &mut W,
+) -> Result<(), Stop>
+    ensures written { OnOk result ((earlier : List Item) → HasSeen T.item_type layout.rename earlier seen.old
+        → WritesFirsts T.item_type layout earlier (R.remaining reader.old) (R.remaining reader.new) (W.contents out.old) (W.contents out.new) seen.new) }
+    ensures refused { IfErr result (λ stop. IfInput stop (λ e. kind_of e ≡ ParseErrorKind.Parse
+        → (earlier : List Item) → HasSeen T.item_type layout.rename earlier seen.old
+        → WritesFirstsUpTo T.item_type layout earlier (Some name.now) (R.remaining reader.old) (R.remaining reader.new) (W.contents out.old) (W.contents out.new) seen.new e)) }
+{
+    let job = Job { layout, name };
+    uniq_fixed::<Brand, T, R, W>(alloc, job, seen, reader, out)
+}
