@@ -9,6 +9,8 @@ RECORDS is what one process writes without keys: souper_items each -z [--rename]
     compare.py keyed RECORDS FILE             FILE has the records with their keys
     compare.py unkeyed RECORDS FILE           FILE has the texts, each with a newline at its end and an empty line after it
     compare.py unique RECORDS FILE            FILE has the records with their keys, each once, in the order of the keys
+    compare.py firsts RECORDS FILE            FILE has the first record of each text, in order
+    compare.py counted RECORDS FILE           the same, each after a comment line that says how often its text is there
     compare.py redis RECORDS PREFIX PORT      the server has exactly these keys under PREFIX, with these texts and counts
     compare.py sqlite RECORDS STORE           the table has exactly these keys, texts and counts
 """
@@ -118,6 +120,10 @@ def cases(task, records, *words):
         return are_answered(texts, *words, 2 if task == "answers" else 1)
     if task == "keyed":
         return same_as(map(keyed, texts), *words)
+    if task == "firsts":
+        return same_as((text + b"\0" for text in dict.fromkeys(texts)), *words)
+    if task == "counted":
+        return same_as((b"; count %d\n%s\0" % (count, text) for text, count in collections.Counter(texts).items()), *words)
     if task == "unkeyed":
         return same_as((text.removesuffix(b"\n") + b"\n\n" for text in texts), *words)
     if task == "unique":

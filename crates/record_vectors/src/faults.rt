@@ -5,8 +5,67 @@ use souper_format::watched::Watched;
 use souper_ir::ast::LeftHandSide;
 use souper_records::layout::PLAIN;
 use souper_records::run::each_run;
-use std::io::BufReader;
+use std::io;
+use std::io::{BufReader, ErrorKind, Read};
 use std::test::Fail;
+
+// A reader whose reads fail for good after these bytes.
+#[derive(Drop)]
+struct BrokenReader<'a> {
+    rest: &'a [u8],
+}
+
+impl Read for BrokenReader<'_> {
+    fn read(&mut self, buf: &mut [u8]) -> io::Result<usize> {
+        if self.rest.is_empty() {
+            return Err(io::Error::from(ErrorKind::BrokenPipe));
+        }
+        self.rest.read(buf)
+    }
+}
+
+#[test]
+fn failed_read_is_reported(rt: HostRuntime) -> Result<(), Fail> {
+    let source = BrokenReader {
+        rest: b"%x = var\ninfer %x\n%y = var\n",
+    };
+    let mut reader = BufReader::with_capacity(rt.alloc(), 3, source)?;
+    let run = run_over::<LeftHandSide, BufReader<BrokenReader<'_>>>(
+        rt.alloc(),
+        PLAIN,
+        &mut reader,
+    )?;
+    assert_eq!(rt; run.status, 2);
+    assert!(rt; run.out.is_empty());
+    assert!(rt;
+        run.err.as_str().starts_with("souper_items: a.opt: "),
+        "{:?}",
+        run.err.as_str()
+    );
+    Ok(())
+}
+
+// If the report cannot be written, the status is that of the refusal.
+#[test]
+fn failed_report_leaves_the_status(rt: HostRuntime) -> Result<(), Fail> {
+    for after in 0..4 {
+        let mut reader = BufReader::new(rt.alloc(), b"infer %x\n".as_slice())?;
+        let mut bytes = Vec::new(rt.alloc());
+        let mut out = Watched::new(&mut bytes);
+        let mut err = Watched::new(FaultyWriter::new(5, after));
+        let status = each_run::<LeftHandSide, BufReader<&[u8]>, &mut Vec<u8>, FaultyWriter>(
+            rt.alloc(),
+            PLAIN,
+            &mut reader,
+            "a.opt",
+            &mut out,
+            &mut err,
+        );
+        assert_eq!(&rt; status, 1);
+        assert!(&rt; err.failed());
+    }
+    Ok(())
+}
 
 #[test]
 fn bytes_that_are_no_text_are_reported(rt: HostRuntime) -> Result<(), Fail> {

@@ -2,10 +2,11 @@
 use souper_format::watched::Watched;
 use souper_ir::ast::{LeftHandSide, RightHandSide};
 use souper_records::layout::{Delimiter, Layout, PLAIN};
-use souper_records::run::uniq_run;
+use souper_records::run::{count_run, uniq_run};
 use souper_records::seen::Seen;
 use souper_stream::StreamItem;
 use std::alloc::Global;
+use std::io;
 use std::io::BufReader;
 use std::process::Abort;
 use std::test::Fail;
@@ -109,4 +110,35 @@ fn many_items_are_written_once(rt: HostRuntime) -> Result<(), Fail> {
     }
     let streams = [(thrice.as_str(), 0), (once.as_str(), 0)];
     writes::<LeftHandSide>(&rt, rt.alloc(), PLAIN, streams.as_slice(), records.as_str())
+}
+
+#[test]
+fn counts_are_those_of_all_streams(rt: HostRuntime) -> Result<(), Fail> {
+    let alloc = rt.alloc();
+    let mut seen = Seen::new(alloc);
+    let mut err_bytes = Vec::new(alloc);
+    let mut err = Watched::new(&mut err_bytes);
+    for source in [
+        "%x = var infer %x %y = var infer %y",
+        "%a = var infer %a %b:i8 = var infer %b %c = var infer %c",
+    ] {
+        let mut reader = BufReader::new(alloc, source.as_bytes())?;
+        let mut sink = Watched::new(io::sink());
+        let status = uniq_run::<LeftHandSide, BufReader<&[u8]>, io::Sink, &mut Vec<u8>>(
+            alloc,
+            RENAMED,
+            &mut seen,
+            &mut reader,
+            "a.opt",
+            &mut sink,
+            &mut err,
+        );
+        assert_eq!(&rt; status, 0);
+    }
+    let mut bytes = Vec::new(alloc);
+    let mut out = Watched::new(&mut bytes);
+    assert_eq!(rt; count_run(alloc, RENAMED, &seen, &mut out, &mut err), 0);
+    let text = "; count 4\n%0 = var\ninfer %0\n\n; count 1\n%0:i8 = var\ninfer %0\n\n";
+    assert_eq!(rt; String::from_utf8(bytes)?.as_str(), text);
+    Ok(())
 }

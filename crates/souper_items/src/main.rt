@@ -12,7 +12,7 @@ use souper_format::watched::Watched;
 use souper_ir::ast::{LeftHandSide, Replacement, RightHandSide};
 use souper_records::check::check_run;
 use souper_records::report::{report_fault, report_memory};
-use souper_records::run::{each_run, uniq_run};
+use souper_records::run::{count_run, each_run, uniq_run};
 use souper_records::seen::Seen;
 use souper_stream::StreamItem;
 use std::alloc::Global;
@@ -36,6 +36,10 @@ fn run_items<T: StreamItem + Drop, R: BufRead, W: Write, E: Write>(
     match action {
         Action::Each(layout) => each_run::<T, R, W, E>(alloc, layout, reader, name, out, err),
         Action::Uniq(layout) => uniq_run::<T, R, W, E>(alloc, layout, seen, reader, name, out, err),
+        Action::Count(layout) => {
+            let mut sink = Watched::new(io::sink());
+            uniq_run::<T, R, io::Sink, E>(alloc, layout, seen, reader, name, &mut sink, err)
+        }
         Action::Check => check_run::<T, R, E>(alloc, reader, name, err),
     }
 }
@@ -98,8 +102,29 @@ fn run_file<W: Write, E: Write>(
     }
 }
 
-// Does the task over each file, and returns the greatest status. It ends after a failed write, and where items that were seen
-// count, after any trouble.
+// Does the task over each file, and returns the greatest status. It ends after a failed write, and where what was seen counts, after
+// any trouble.
+fn run_files<W: Write, E: Write>(
+    rt: &HostRuntime,
+    task: &Task<'_, '_>,
+    seen: &mut Seen,
+    out: &mut Watched<W>,
+    err: &mut Watched<E>,
+) -> u8 {
+    if task.files.is_empty() {
+        return run_file(rt, task, seen, "-", out, err);
+    }
+    let mut status = 0;
+    for path in task.files {
+        if out.failed() || status == 2 && task.action.remembers() {
+            break;
+        }
+        status = status.max(run_file(rt, task, seen, path, out, err));
+    }
+    status
+}
+
+// Does the task, and returns the status.
 fn run<W: Write, E: Write>(
     rt: &HostRuntime,
     task: &Task<'_, '_>,
@@ -107,17 +132,13 @@ fn run<W: Write, E: Write>(
     err: &mut Watched<E>,
 ) -> u8 {
     let mut seen = Seen::new(rt.alloc());
-    if task.files.is_empty() {
-        return run_file(rt, task, &mut seen, "-", out, err);
-    }
-    let mut status = 0;
-    for path in task.files {
-        if out.failed() || status == 2 && task.action.remembers() {
-            break;
+    let status = run_files(rt, task, &mut seen, out, err);
+    match task.action {
+        Action::Count(layout) if status != 2 => {
+            status.max(count_run(rt.alloc(), layout, &seen, out, err))
         }
-        status = status.max(run_file(rt, task, &mut seen, path, out, err));
+        _ => status,
     }
-    status
 }
 
 // Does what the matches ask for, and returns the status.

@@ -16,6 +16,9 @@ pub(crate) enum Action {
     /// The record of the first of each graph is written.
     Uniq(Layout),
 
+    /// The same after all streams, with counts.
+    Count(Layout),
+
     /// Whether the stream is canonical is found out.
     Check,
 }
@@ -23,7 +26,7 @@ pub(crate) enum Action {
 impl Action {
     /// Whether what is done with an item depends on those before it.
     pub(crate) fn remembers(self) -> bool {
-        matches!(self, Action::Uniq(_))
+        matches!(self, Action::Uniq(_) | Action::Count(_))
     }
 }
 
@@ -95,7 +98,12 @@ fn uniq<'a>(alloc: Global) -> Result<Command<'a>, AllocError> {
         alloc,
         "uniq",
         "Writes the record of the first item of each graph in all files; their texts are held in memory",
-    )
+    )?
+    .arg(flag(
+        alloc,
+        "count",
+        "Begin each record with a comment line that says how many items are the same graph",
+    ))
 }
 
 fn check<'a>(alloc: Global) -> Result<Command<'a>, AllocError> {
@@ -146,6 +154,7 @@ fn read_layout(options: &ArgMatches<'_>) -> Layout {
 fn read_action(name: &str, options: &ArgMatches<'_>) -> Option<Action> {
     match name {
         "each" => Some(Action::Each(read_layout(options))),
+        "uniq" if options.get_flag("count") => Some(Action::Count(read_layout(options))),
         "uniq" => Some(Action::Uniq(read_layout(options))),
         "check" => Some(Action::Check),
         _ => None,

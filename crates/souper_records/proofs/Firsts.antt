@@ -7,6 +7,14 @@ use Rattle.std.proofs.lemmas.List.{map-append}
 use Rattle.std.proofs.lemmas.List.Folds.{list_any-append}
 use Rattle.souper_records.specs.Firsts.{has_key, firsts_by, NoTwo, HoldsOfOne}
 
+pub left_none : (b c : Bool) → (b || c) ≡ false → b ≡ false
+left_none false c e = refl
+left_none true c e = absurd cc
+
+pub right_none : (b c : Bool) → (b || c) ≡ false → c ≡ false
+right_none false c e = e
+right_none true c e = absurd cc
+
 module _ {A : Type 0} (key : A → List ℕ) where
   has_append : (k : List ℕ) (xs ys : List A) → has_key key k (xs ++ ys) ≡ (has_key key k xs || has_key key k ys)
   has_append k xs ys = list_any-append (λ b. bytes_eq k (key b)) xs ys
@@ -79,15 +87,7 @@ module _ {A : Type 0} (key : A → List ℕ) where
 
   -- ---- no two of the firsts have one key
 
-  left_none : (b c : Bool) → (b || c) ≡ false → b ≡ false
-  left_none false c e = refl
-  left_none true c e = absurd cc
-
-  right_none : (b c : Bool) → (b || c) ≡ false → c ≡ false
-  right_none false c e = e
-  right_none true c e = absurd cc
-
-  own_key : (k : List ℕ) (x : A) → bytes_eq k (key x) ≡ false → k ≡ key x → ⊥
+  pub own_key : (k : List ℕ) (x : A) → bytes_eq k (key x) ≡ false → k ≡ key x → ⊥
   own_key k x e same = let bad : true ≡ false = sym ((bytes_eq-Decides k (key x)).1 same) ∙ e in absurd cc
 
   -- no element of the list has the key of y

@@ -1,4 +1,6 @@
 mod Turns
 mod Checking
 mod Firsts
+mod Tallies
+mod Counting
 mod Seeing

@@ -1,7 +1,7 @@
 -- Items that were seen: their texts, and part after part of a stream.
-use Rattle.std.proofs.Common.{◌≡◌, ℕ, Bool, true, false, List, [], ◌∷◌, ◌++◌, map, length, drop, Option, refl, sym, ap, ◌∙◌, subst, append_assoc, append-nil}
-use Rattle.std.specs.Prelude.{String, flat_map, bytes_eq, ◌||◌, if◌then◌else◌}
-use Rattle.std.specs.List.{list_any, AllByRecursion}
+use Rattle.std.proofs.Common.{◌≡◌, ◌⊎◌, inl, inr, ℕ, ◌+◌, ◌-◌, ◌^◌, ◌<◌, ◌≤◌, Bool, true, false, not, List, [], ◌∷◌, ◌++◌, map, length, drop, Option, refl, sym, ap, ◌∙◌, subst, arith, append_assoc, append-nil, slice_set, slice_index_or}
+use Rattle.std.specs.Prelude.{String, flat_map, min, bytes_eq, ◌||◌, if◌then◌else◌}
+use Rattle.std.specs.List.{list_any, position_or_len, AllByRecursion}
 use Rattle.std.specs.Io.KnownBytes.{Consumes, Appends}
 use Rattle.std.specs.String.{string_bytes, string_eq}
 use Rattle.indexmap.specs.IndexSet.{insert_key}
@@ -25,6 +25,10 @@ use Rattle.souper_records.specs.declared.layout.Layout.{Layout}
 use Rattle.souper_records.specs.declared.seen.Seen.{Seen}
 use Rattle.souper_records.specs.Records.{record_of_text, record_of, records_of}
 use Rattle.souper_records.specs.Uniques.{text_by, firsts, AreSame, AreFirsts, IsStored, HasSeen, WritesFirsts, WritesFirstsUpTo}
+use Rattle.souper_records.specs.Firsts.{firsts_by}
+use Rattle.souper_records.specs.Counts.{count_of, counts_by, IsCounted}
+use Rattle.souper_records.proofs.Tallies.{index, counts-again, counts-new}
+use Rattle.std.proofs.lemmas.Bool.{cases_order}
 use Rattle.souper_records.proofs.Firsts.{firsts-append, keys-more, firsts-unseen, firsts-distinct, firsts-cover, all_append}
 
 -- ---- one text for each graph
@@ -68,16 +72,35 @@ inserted ks t = rw (among (string_bytes t) ks) (under (list_any (bytes_eq (strin
     under true at = rw at refl
     under false at = rw at (map-append string_bytes ks (t ∷ []))
 
+-- where a text is among strings
+place_of : {M : Type 0} (ks : List (String M)) (t : String M) → position_or_len (string_eq t) ks ≡ position_or_len (bytes_eq (string_bytes t)) (map string_bytes ks)
+place_of [] t = refl
+place_of (s ∷ ks) t = ap (λ (n : ℕ). if not (bytes_eq (string_bytes t) (string_bytes s)) then 1 + n else 0) (place_of ks t)
+
+counted_one : (key : Item → List ℕ) (items : List Item) (a : Item) (old new : List ℕ) (n : ℕ) → old ≡ counts_by key items → n ≡ index key a (firsts_by key [] items) → IsCounted old n new → new ≡ counts_by key (items ++ a ∷ [])
+counted_one key items a old new n are at counted = under (cases_order n (length old)) (ap length are ∙ length-map (firsts_by key [] items) (count_of key items))
+  where
+    later : length old ≤ n → length old ≡ length (firsts_by key [] items) → new ≡ counts_by key (items ++ a ∷ [])
+    later more long = counted.1 more ∙ ap (λ (l : List ℕ). l ++ 1 ∷ []) are ∙ sym (counts-new key items a (omega (arith, at)))
+
+    under : (n ≡ length old) ⊎ ((n < length old) ⊎ (length old < n)) → length old ≡ length (firsts_by key [] items) → new ≡ counts_by key (items ++ a ∷ [])
+    under (inl same) long = later (omega arith) long
+    under (inr (inl less)) long =
+        counted.0 less ∙ (λ i. slice_set (are i) (at i) (min (slice_index_or (are i) (at i) 0 + 1) (2 ^ 64 - 1))) ∙ sym (counts-again key items a (omega (arith, at)))
+    under (inr (inr more)) long = later (omega arith) long
+
 -- one more item was seen
 pub seen_one : (k : ItemType) (rename : Bool) (items : List Item) (a : Item) (old new : Seen) (t : String _) → HasSeen k rename items old → IsStored k rename a → string_bytes t ≡ text_by rename a
-    → new.texts.keys ≡ insert_key string_eq old.texts.keys t → HasSeen k rename (items ++ a ∷ []) new
-seen_one k rename items a old new t h p is keys =
+    → new.texts.keys ≡ insert_key string_eq old.texts.keys t → IsCounted old.counts.items (position_or_len (string_eq t) old.texts.keys) new.counts.items → HasSeen k rename (items ++ a ∷ []) new
+seen_one k rename items a old new t h p is keys counted =
     let key = text_by rename in
     let old_texts = map key (firsts rename [] items) in (
       all_append key (IsStored k rename) items (a ∷ []) h.0 (p, tt),
       ap (map string_bytes) keys ∙ inserted old.texts.keys t
           ∙ (λ i. if list_any (bytes_eq (is i)) (h.1 i) then h.1 i else h.1 i ++ is i ∷ [])
           ∙ keys-more key items a,
+      counted_one key items a old.counts.items new.counts.items (position_or_len (string_eq t) old.texts.keys) h.2
+          (place_of old.texts.keys t ∙ (λ i. position_or_len (bytes_eq (is i)) (h.1 i))) counted,
     )
 
 -- ---- part after part

@@ -4,4 +4,5 @@ pub mod Reports
 pub mod Runs
 pub mod Canonical
 pub mod Firsts
+pub mod Counts
 pub mod Uniques

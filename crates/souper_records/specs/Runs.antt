@@ -3,14 +3,14 @@ use Rattle.std.specs.Prelude.{◌≡◌, ◌⊎◌, ℕ, zero, suc, List, Option
 use Rattle.souper_graph.specs.Values.{Item}
 use Rattle.souper_graph.specs.Syntax.Spelling.{ItemType}
 use Rattle.souper_ir.specs.declared.parse.ParseError.{ParseError}
-use Rattle.souper_format.specs.Streams.{Stream, IsGivenNothing}
+use Rattle.souper_format.specs.Streams.{Stream, IsGiven, IsGivenNothing}
 use Rattle.souper_format.specs.Reporting.{ReportedLine}
 use Rattle.souper_records.specs.declared.layout.Layout.{Layout}
 use Rattle.souper_records.specs.Eaches.{WritesEach, WritesUpTo}
 use Rattle.souper_records.specs.declared.each.Stop.{Stop}
 use Rattle.souper_records.specs.declared.each.Stop.TheVariants.{Input, Output}
 use Rattle.souper_records.specs.declared.seen.Seen.{Seen}
-use Rattle.souper_records.specs.Uniques.{WritesFirsts, WritesFirstsUpTo}
+use Rattle.souper_records.specs.Uniques.{WritesFirsts, WritesFirstsUpTo, counted_records}
 use Rattle.souper_records.specs.Reports.{ReportedFault, ReportedError}
 
 -- a fact for each status, of which there are three
@@ -47,3 +47,7 @@ IsUniqRun k l earlier name before after out seen err status = OnStatus status
     (WritesFirsts k l earlier before after out.before out.after seen × IsGivenNothing err)
     ((e : ParseError) × WritesFirstsUpTo k l earlier (Some name) before after out.before out.after seen e × ReportedLine err e)
     (ReportedFault name err ⊎ ReportedFault output_name err)
+
+-- the records of items with counts were written, and nothing was reported; or something failed, and that was reported
+abbrev pub IsCountRun : Layout → List Item → Stream → Stream → ℕ → Type 0
+IsCountRun l items out err status = ((status ≡ 0) × IsGiven out (counted_records l items) × IsGivenNothing err) ⊎ ((status ≡ 2) × ReportedFault output_name err)

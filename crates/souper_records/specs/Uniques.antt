@@ -1,5 +1,5 @@
 -- Definitions. The first item of each graph.
-use Rattle.std.specs.Prelude.{◌≡◌, ℕ, ◌+◌, ◌^◌, ◌<◌, ◌≤◌, Bool, true, false, List, [], ◌++◌, length, map, Option}
+use Rattle.std.specs.Prelude.{◌≡◌, ℕ, ◌+◌, ◌^◌, ◌<◌, ◌≤◌, Bool, true, false, List, [], ◌++◌, length, map, flat_map, codes, decimal, Option}
 use Rattle.std.specs.List.{AllByRecursion}
 use Rattle.std.specs.Io.KnownBytes.{Consumes, Appends}
 use Rattle.std.specs.String.{string_bytes}
@@ -16,8 +16,9 @@ use Rattle.souper_ir.specs.Sinks.{PrefixSpells}
 use Rattle.souper_stream.specs.Reading.{AreAll, NeverSpells}
 use Rattle.souper_records.specs.declared.layout.Layout.{Layout}
 use Rattle.souper_records.specs.declared.seen.Seen.{Seen}
-use Rattle.souper_records.specs.Records.{chosen, records_of}
+use Rattle.souper_records.specs.Records.{chosen, record_of, records_of}
 use Rattle.souper_records.specs.Firsts.{firsts_by, NoTwo, HoldsOfOne}
+use Rattle.souper_records.specs.Counts.{count_of, counts_by}
 
 -- the canonical text of the item, or of the item with names by its printed order
 abbrev pub text_by : Bool → Item → List ℕ
@@ -44,9 +45,9 @@ pub record AreFirsts (rename : Bool) (before items new : List Item) : Type 0 whe
 abbrev pub IsStored : ItemType → Bool → Item → Type 0
 IsStored k rename a = IsWellFormedOf k a × WellFormed (chosen rename a)
 
--- these items were seen: the texts are those of the first ones among them
+-- these items were seen: the texts are those of the first ones among them, the counts say how many are the same as each
 abbrev pub HasSeen : ItemType → Bool → List Item → Seen → Type 0
-HasSeen k rename items s = AllByRecursion (IsStored k rename) items × (map string_bytes s.texts.keys ≡ map (text_by rename) (firsts rename [] items))
+HasSeen k rename items s = AllByRecursion (IsStored k rename) items × (map string_bytes s.texts.keys ≡ map (text_by rename) (firsts rename [] items)) × (s.counts.items ≡ counts_by (text_by rename) items)
 
 -- All of the stream was read, and it spells items. Of these, those that are the same as no earlier one had their records
 -- written, and nothing else; and all were seen.
@@ -74,3 +75,15 @@ pub record WritesFirstsUpTo (k : ItemType) (l : Layout) (earlier : List Item) (f
   pub written : Appends old new (records_of l fresh)
   pub seen_now : HasSeen k l.rename (earlier ++ items) seen
   pub placed : length read + 1 < 2 ^ 64 → (offset : ℕ) × (offset ≤ length read) × IsRefusalAt file read offset e
+
+-- a comment line with a number
+abbrev pub count_line : ℕ → List ℕ
+count_line n = codes "; count " ++ (decimal n ++ codes "\n")
+
+-- the record of a first item among these, after how many are the same
+abbrev pub counted_record : Layout → List Item → Item → List ℕ
+counted_record l items a = count_line (count_of (text_by l.rename) items a) ++ record_of l a
+
+-- those of all first items
+abbrev pub counted_records : Layout → List Item → List ℕ
+counted_records l items = flat_map (counted_record l items) (firsts l.rename [] items)

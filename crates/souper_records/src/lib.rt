@@ -4,6 +4,7 @@
 #![tactic(auto)]
 
 pub mod check;
+pub mod counts;
 pub mod each;
 mod fixed;
 pub mod layout;

@@ -76,7 +76,7 @@ fn append_delimited(delimiter: Delimiter, text: &str, out: &mut String) -> Resul
 }
 
 // Appends the record of an item whose text this is.
-fn append_record_of_text(
+pub(crate) fn append_record_of_text(
     alloc: Global,
     layout: Layout,
     text: &str,

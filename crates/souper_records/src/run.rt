@@ -4,11 +4,13 @@ ghost use Rattle.souper_graph.specs.Values.{Item};
 ghost use Rattle.souper_format.specs.Streams.{stream};
 ghost use Rattle.souper_format.specs.Watching.{has_failed};
 ghost use Rattle.souper_records.specs.Uniques.{HasSeen};
-ghost use Rattle.souper_records.specs.Runs.{IsEnd, IsStop, IsEachRun, IsUniqRun};
+ghost use Rattle.souper_graph.specs.Syntax.Spelling.{ItemType};
+ghost use Rattle.souper_records.specs.Runs.{IsEnd, IsStop, IsEachRun, IsUniqRun, IsCountRun};
 
+use crate::counts::write_counts;
 use crate::each::{Stop, each};
 use crate::layout::Layout;
-use crate::report::{report_error, report_fault};
+use crate::report::{report_error, report_fault, report_memory};
 use crate::seen::Seen;
 use crate::uniq::uniq;
 use souper_format::watched::Watched;
@@ -85,5 +87,30 @@ pub fn uniq_run<T: StreamItem + Drop, R: BufRead, W: Write, E: Write>(
     match uniq::<T, R, Watched<W>>(alloc, layout, seen, reader, name, out) {
         Ok(()) => end(alloc, out, err),
         Err(stop) => report_stop(alloc, name, &stop, err),
+    }
+}
+
+/// Writes the records of the items that were seen to `out`, with counts ([`write_counts`]), and returns the status of the program: 0,
+/// done, and nothing was written to `err`; 2, `out` failed or memory ran out, and a line that says so was written to `err`.
+pub fn count_run<W: Write, E: Write>(
+    alloc: Global,
+    layout: Layout,
+    seen: &Seen,
+    out: &mut Watched<W>,
+    err: &mut Watched<E>,
+) -> u8
+    ensures { (k : ItemType) (items : List Item) → HasSeen k layout.rename items seen.now
+        → IsCountRun layout items (stream W.contents out.old out.new) (stream E.contents err.old err.new) result }
+{
+    match write_counts(alloc, layout, seen, out) {
+        Ok(()) => end(alloc, out, err),
+        Err(Stop::Output(fault)) => {
+            report_fault(alloc, "write error", &fault, err);
+            2
+        }
+        Err(Stop::Input(_)) => {
+            report_memory(err);
+            2
+        }
     }
 }

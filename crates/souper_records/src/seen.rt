@@ -1,15 +1,20 @@
 //! The items that were seen.
-ghost use Rattle.std.specs.Prelude.{◌≡◌, Bool, []};
+ghost use Rattle.std.specs.Prelude.{◌≡◌, [], Bool, OnOk};
 ghost use Rattle.souper_graph.specs.Syntax.Spelling.{ItemType};
+ghost use Rattle.souper_records.specs.Counts.{IsCounted};
 ghost use Rattle.souper_records.specs.Uniques.{HasSeen};
 
 use indexmap::IndexSet;
-use std::alloc::Global;
+use std::alloc::{AllocError, Global};
 
-/// The canonical texts of the items that were seen, each once, in the order in which they were first seen.
+/// The canonical texts of the items that were seen, each once, in the order in which they were first seen, and how many items have
+/// each.
 #[derive(Drop)]
 pub struct Seen {
     pub(crate) texts: IndexSet<String>,
+
+    // For each text, up to the greatest number.
+    pub(crate) counts: Vec<u64>,
 }
 
 impl Seen {
@@ -19,6 +24,22 @@ impl Seen {
     {
         Seen {
             texts: IndexSet::new(alloc),
+            counts: Vec::new(alloc),
+        }
+    }
+
+    /// Counts an item whose text has this index.
+    pub(crate) fn count(&mut self, index: usize) -> Result<(), AllocError>
+        ensures texts { self.new.texts ≡ self.old.texts }
+        ensures counted { OnOk result (IsCounted self.old.counts.items index self.new.counts.items) }
+    {
+        if index < self.counts.len() {
+            self.counts[index] = self.counts[index].saturating_add(1);
+            return Ok(());
+        }
+        match self.counts.push(1) {
+            Ok(()) => Ok(()),
+            Err(_) => Err(AllocError),
         }
     }
 }

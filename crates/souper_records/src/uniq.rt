@@ -42,8 +42,8 @@ impl<L: Fixed, T: WholeItem + Drop> Sink<T> for Firsts<L> {
         self.text.clear();
         append_text(self.layout.rename, &item, &mut self.text)?;
         let text = String::from_str(self.alloc, self.text.as_str())?;
-        match self.seen.texts.insert(text) {
-            Ok(_) => Ok(()),
+        match self.seen.texts.insert_full(text) {
+            Ok((index, _)) => self.seen.count(index),
             Err(_) => Err(AllocError),
         }
     }

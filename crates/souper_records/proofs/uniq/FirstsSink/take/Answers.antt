@@ -1,18 +1,32 @@
-use Rattle.std.proofs.Common.{◌≡◌, ◌++◌, ◌∙◌, subst}
+use Rattle.std.proofs.Common.{◌≡◌, List, ℕ, ◌++◌, ◌∷◌, [], ap, ◌∙◌, subst}
+use Rattle.std.specs.Prelude.{Result, Ok, Err, OnOk}
 use Rattle.std.specs.String.{string_bytes}
+use Rattle.souper_graph.specs.Values.{Item}
 use Rattle.souper_graph.specs.WellFormed.{WellFormed}
 use Rattle.souper_records.specs.declared.layout.Layout.{Layout}
 use Rattle.souper_records.specs.Records.{chosen}
-use Rattle.souper_records.specs.Uniques.{text_by}
+use Rattle.souper_records.specs.Counts.{IsCounted}
+use Rattle.souper_records.specs.Uniques.{text_by, HasSeen}
 use Rattle.souper_records.proofs.Seeing.{seen_one}
 use Rattle.souper_records.proofs.uniq.FirstsSink.take.Goals as goal
 
+over_ok : {A E : Type 0} (r : Result A E) (P Q : Type 0) → (P → Q) → OnOk r P → OnOk r Q
+over_ok (Ok a) P Q f p = f p
+over_ok (Err e) P Q f p = tt
+
 pub returns-in-Ok : goal.returns-in-Ok
-returns-in-Ok g c = λ items seen.
+returns-in-Ok g c =
+    let k = g.T.Item.item_type in
     let a = g.T.Item.view c.args.item in
     let rename = g.L.Fixed.layout.rename in
     let stays = c.args.self.now.stays in
+    let old = c.args.self.now.seen in
+    let new = c.count.new.self in
     let is : string_bytes c.in_ok-text.text ≡ text_by rename a =
     c.in_ok-text.ensures.ok ∙ c.as_str.ensures.value ∙ c.in_ok-append_text.ensures.text ∙ (λ i. c.clear.ensures.bytes i ++ text_by (stays i).rename a) in
-    seen_one g.T.Item.item_type rename items a c.args.self.now.seen (record { texts = c.insert.new.self }) c.in_ok-text.text seen
-    ((c.requires, g.met.T.Item.ends c.args.item), subst (λ (x : Layout). WellFormed (chosen x.rename a)) stays c.in_ok-append_text.ensures.well_formed) is c.in-Ok.ensures.keys
+    over_ok c.count.result (IsCounted old.counts.items c.in-Ok.index new.counts.items) ((items : List Item) → HasSeen k rename items old → HasSeen k rename (items ++ a ∷ []) new)
+    (λ counted items seen.
+    seen_one k rename items a old new c.in_ok-text.text seen
+    ((c.requires, g.met.T.Item.ends c.args.item), subst (λ (x : Layout). WellFormed (chosen x.rename a)) stays c.in_ok-append_text.ensures.well_formed) is
+    (ap (λ t. t.keys) c.count.ensures.texts ∙ c.in-Ok.ensures.keys) (subst (λ (n : ℕ). IsCounted old.counts.items n new.counts.items) c.in-Ok.ensures.index counted))
+    c.count.ensures.counted
