@@ -380,7 +380,6 @@ impl<'a> Lexer<'a> {
     }
 
     /// The next token with the offset of its first byte, and `None` at the end.
-    #[inline(always)]
     pub fn next_token(&mut self) -> Result<Option<(usize, Token<'a>)>, Fault>
         ensures next { Yields self.old result self.new }
         ensures offset { IfErr result (λ f. f.offset ≤ self.old.len) }
