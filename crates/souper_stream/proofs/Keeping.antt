@@ -1,4 +1,4 @@
--- What is held of a stream, beside what was read of it and the items that were handed on.
+-- What is held of a stream, beside what was read of it and the items that were passed to sinks.
 use Rattle.std.proofs.Common.{◌≡◌, ◌⊎◌, inl, inr, ℕ, ◌+◌, ◌-◌, ◌^◌, ◌<◌, ◌≤◌, Bool, true, false, cond, List, [], ◌++◌, length, take, drop, Option, Some, None, refl, sym, ap, ◌∙◌, subst, arith, append_assoc, append-nil, length-append}
 use Rattle.std.specs.Prelude.{IfSome, ◌==◌}
 use Rattle.std.proofs.lemmas.List.{take_all, take-append-drop, take-append-le, drop-append-le, length-drop, length-take}
@@ -40,7 +40,7 @@ held_none k h none zero_is b l =
       placed = inr refl;
     }
 
--- what was handed on, and the rest, are all that was read
+-- what was passed to sinks, and the rest, are all that was read
 pub parts_read : (k : ItemType) (read : List ℕ) (items : List Item) (h : Held) (p : IsHeld k read items h) → read ≡ done p.gone h ++ fresh h
 parts_read k read items h p =
     p.whole ∙ ap (λ (x : List ℕ). p.gone ++ x) (sym (take-append-drop h.skipped h.bytes.items)) ∙ sym (append_assoc p.gone (take h.skipped h.bytes.items) (fresh h))
@@ -76,7 +76,7 @@ held_idle k read items xs h n p none t =
 newlines-append : (xs ys : List ℕ) → newlines (xs ++ ys) ≡ newlines xs + newlines ys
 newlines-append xs ys = sum_by-append (λ b. cond (b == 10) 1 0) xs ys
 
--- items were handed on, and lines before the last of them forgotten
+-- items were passed to sinks, and lines before the last of them forgotten
 pub held_forgot : (k : ItemType) (read : List ℕ) (items xs : List Item) (old new : Held) (n : ℕ) → IsHeld k read items old → n ≤ length (fresh old) → IsSeam k (take n (fresh old)) (drop n (fresh old)) → TextSpells k (take n (fresh old)) xs
     → Forgets old new n → IsHeld k read (items ++ xs) new
 held_forgot k read items xs old new n p fits seam t f =
@@ -90,7 +90,7 @@ held_forgot k read items xs old new n p fits seam t f =
     let end : ℕ = old.skipped + n in
     let end_fits : end ≤ length bytes = omega arith in
     let gone : List ℕ = p.gone ++ take start bytes in
-    -- the text that was handed on
+    -- the text that was passed to sinks
     let past : end - old.skipped ≡ n = omega arith in
     let left : end - start ≡ new.skipped = omega arith in
     let front : take end bytes ≡ take old.skipped bytes ++ take n (fresh old) = take_parts bytes old.skipped end (omega arith) within ∙ ap (λ (m : ℕ). take old.skipped bytes ++ take m (fresh old)) past in
@@ -127,7 +127,7 @@ held_forgot k read items xs old new n p fits seam t f =
         let at : length (take m xs) ≡ m = omega (arith, length-take m xs) in
         (λ i. drop (sym at i) (e i)) ∙ drop-append_seam (take m xs) b
 
--- all was handed on
+-- all was passed to sinks
 pub held_all : (k : ItemType) (read : List ℕ) (items xs : List Item) (h : Held) (n : ℕ) → IsHeld k read items h → n ≡ length (fresh h) → TextSpells k (take n (fresh h)) xs → TextSpells k read (items ++ xs)
 held_all k read items xs h n p all t =
     let part : TextSpells k (fresh h) xs = subst (λ (x : List ℕ). TextSpells k x xs) (take_all n (fresh h) (omega (arith, all))) t in

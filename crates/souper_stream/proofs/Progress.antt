@@ -1,4 +1,4 @@
--- What was read of a stream, and what was handed on of it.
+-- What was read of a stream, and what was passed to sinks of it.
 use Rattle.std.proofs.Common.{◌≡◌, ◌⊎◌, inl, inr, ℕ, ◌+◌, ◌-◌, ◌<◌, List, [], ◌∷◌, ◌++◌, length, refl, sym, ap, ◌∙◌, subst, arith, append_assoc, append-nil, length-append}
 use Rattle.souper_graph.specs.Values.{Item}
 use Rattle.souper_graph.specs.Syntax.Tokens.{Lexeme, IsGap, Begins}
@@ -49,11 +49,11 @@ seam_later k done part rest l seam =
 pub none_spelled : (k : ItemType) → TextSpells k [] []
 none_spelled k = ([], ([], refl, record { gap = []; last = []; is_gap = ([], tt, refl); is_last = tt; text = refl }), refl)
 
--- the items of what was handed on, and of the part after it
+-- the items of what was passed to sinks, and of the part after it
 pub spelled_more : (k : ItemType) (done fresh part : List ℕ) (xs ys : List Item) → IsOpen k done fresh → TextSpells k done xs → TextSpells k part ys → TextSpells k (done ++ part) (xs ++ ys)
 spelled_more k done fresh part xs ys opened a b = items_join k done part xs ys (open_lines k done fresh opened) a b
 
--- a part that spells no items, after what was handed on and before a seam
+-- a part that spells no items, after what was passed to sinks and before a seam
 pub none_after : (k : ItemType) (done part rest : List ℕ) → IsOpen k done (part ++ rest) → IsSeam k part rest → SpellsNone k part → SpellsNone k (done ++ (part ++ rest))
 none_after k done part rest opened seam none items spelled = under opened
   where

@@ -1,4 +1,4 @@
--- One turn of the reading of a stream: more is read, and complete items are handed on.
+-- One turn of the reading of a stream: more is read, and complete items are passed to the sink.
 use Rattle.std.proofs.Common.{◌≡◌, inl, inr, ℕ, ◌+◌, ◌-◌, ◌^◌, ◌<◌, ◌≤◌, Bool, true, false, List, [], ◌++◌, length, take, drop, Option, refl, sym, ap, ◌∙◌, subst, arith, append_assoc, append-nil}
 use Rattle.std.specs.Prelude.{min, IfSome}
 use Rattle.std.specs.Io.KnownBytes.{Consumes}
@@ -53,7 +53,7 @@ seam_taken : (k : ItemType) (h : Held) (n : ℕ) → 0 < n → IsTaken k false (
 seam_taken k h n some (fits, inl none) = absurd (omega arith)
 seam_taken k h n some (fits, inr seam) = seam
 
--- items were handed on, and forgotten
+-- items were passed to sinks, and forgotten
 pub turn_forgot : {S : Type 0} (k : ItemType) (read : List ℕ) (items : List Item) (mid after : Option (List ℕ)) (holds : S → List Item → Type 0) (old new : S) (h0 h1 : Held) (p : PartReader) (more : List ℕ) (n : ℕ)
     → IsHeld k read items h0 → Fills mid after h0 h1 false more → Forgets h1 p.held n → 0 < n → IsTaken k false (fresh h1) n → TakesText holds k (take n (fresh h1)) old new → AwaitsPart p → p.least ≤ length more → ReadsPart k read items mid after holds old new p false
 turn_forgot k read items mid after holds old new h0 h1 p more n r m f some taken t awaits enough = record {

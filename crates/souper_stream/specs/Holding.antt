@@ -1,4 +1,4 @@
--- Definitions. What is held of a stream, beside what was read of it and the items that were handed on.
+-- Definitions. What is held of a stream, beside what was read of it and the items that were passed to sinks.
 use Rattle.std.specs.Prelude.{◌≡◌, ◌⊎◌, ℕ, ◌+◌, ◌-◌, ◌^◌, ◌<◌, ◌≤◌, List, [], ◌++◌, length, min, take, drop}
 use Rattle.souper_graph.specs.Values.{Item}
 use Rattle.souper_graph.specs.Syntax.Spelling.{ItemType, TextSpells}
@@ -8,7 +8,7 @@ use Rattle.souper_ir.specs.Joining.{IsLines}
 use Rattle.souper_stream.specs.declared.held.Held.{Held}
 use Rattle.souper_stream.specs.Seams.{IsSeam}
 
--- the text whose items were handed on
+-- the text whose items were passed to sinks
 abbrev pub done : List ℕ → Held → List ℕ
 done gone h = gone ++ take h.skipped h.bytes.items
 
@@ -16,11 +16,11 @@ done gone h = gone ++ take h.skipped h.bytes.items
 abbrev pub fresh : Held → List ℕ
 fresh h = drop h.skipped h.bytes.items
 
--- nothing was handed on, or a seam is after what was
+-- nothing was passed to sinks, or a seam is after what was
 abbrev pub IsOpen : ItemType → List ℕ → List ℕ → Type 0
 IsOpen k done fresh = (done ≡ []) ⊎ IsSeam k done fresh
 
--- Of what was read, lines are gone and counted, and the rest is held. The items of what is done were handed on.
+-- Of what was read, lines are gone and counted, and the rest is held. The items of what is done were passed to sinks.
 pub record IsHeld (k : ItemType) (read : List ℕ) (items : List Item) (h : Held) : Type 0 where
   pub gone : List ℕ
   pub whole : read ≡ gone ++ h.bytes.items
@@ -31,7 +31,7 @@ pub record IsHeld (k : ItemType) (read : List ℕ) (items : List Item) (h : Held
   pub opened : IsOpen k (done gone h) (fresh h)
   pub placed : (0 < h.skipped) ⊎ (gone ≡ [])
 
--- Whole lines were forgotten, and counted; so many bytes more than before are those of the line that was handed on.
+-- Whole lines were forgotten, and counted; so many bytes more than before are those of the line that was passed to sinks.
 pub record Forgets (old new : Held) (len : ℕ) : Type 0 where
   pub start : ℕ
   pub within : start ≤ old.skipped + len

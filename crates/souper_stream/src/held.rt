@@ -11,7 +11,7 @@ use std::alloc::{AllocError, Global};
 /// What is held of a stream.
 #[derive(Drop)]
 pub(crate) struct Held {
-    /// A line whose items were handed on, if there is one, and what was read after it.
+    /// A line whose items were passed to sinks, if there is one, and what was read after it.
     pub(crate) bytes: Vec<u8>,
 
     /// The length of that line, in bytes.
@@ -42,7 +42,7 @@ impl Held {
         }
     }
 
-    /// Forgets what was read up to the line that ends so many bytes later, whose items were handed on.
+    /// Forgets what was read up to the line that ends so many bytes later, whose items were passed to sinks.
     pub(crate) fn forget(&mut self, alloc: Global, len: usize) -> Result<(), AllocError>
         requires some { 0 < len }
         requires within { self.old.skipped + len ≤ vec_len self.old.bytes }

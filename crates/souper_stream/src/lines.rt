@@ -146,7 +146,7 @@ pub(crate) fn complete_len<T: StreamItem>(text: &str) -> usize
     0
 }
 
-/// The length of the text whose items can be handed on: all of it, if the input has ended, or else [`complete_len`].
+/// The length of the text whose items can be passed to the sink: all of it, if the input has ended, or else [`complete_len`].
 pub(crate) fn ready_len<T: StreamItem>(text: &str, ended: bool) -> usize
     ensures taken { IsTaken T.item_type ended text.now result }
     ensures boundary { IsCharBoundary text.now result }

@@ -112,7 +112,7 @@ fn read_error(fault: io::Error) -> ParseError
     }
 }
 
-// Gives an error of what is held after the line that was handed on its place in the stream.
+// Gives an error of what is held its place in the stream.
 fn place(alloc: Global, held: &Held, error: ParseError, filename: Option<&str>) -> ParseError
     requires { IfSome (offset_of error) (λ offset. held.now.skipped + offset ≤ length held.now.bytes.items) }
     ensures { kind_of result ≡ ParseErrorKind.Parse → IsLocatedAfter (option_copied filename.entry) held.now.before held.now.bytes.items held.now.skipped error result }
