@@ -6,11 +6,12 @@ mod progress;
 
 use clap::ArgMatches;
 use options::{Action, Task, grammar, read_task};
-use progress::Progress;
+use progress::{Meter, Metered};
 use souper_format::command::Kind;
 use souper_format::watched::Watched;
 use souper_ir::ast::{LeftHandSide, Replacement, RightHandSide};
 use souper_records::check::check_run;
+use souper_records::layout::Layout;
 use souper_records::report::{report_fault, report_memory};
 use souper_records::run::{count_run, each_run, uniq_run};
 use souper_records::seen::Seen;
@@ -37,6 +38,11 @@ fn run_items<T: StreamItem + Drop, R: BufRead, W: Write, E: Write>(
         Action::Each(layout) => each_run::<T, R, W, E>(alloc, layout, reader, name, out, err),
         Action::Uniq(layout) => uniq_run::<T, R, W, E>(alloc, layout, seen, reader, name, out, err),
         Action::Count(layout) => {
+            // The records come at the end.
+            let layout = Layout {
+                key: false,
+                ..layout
+            };
             let mut sink = Watched::new(io::sink());
             uniq_run::<T, R, io::Sink, E>(alloc, layout, seen, reader, name, &mut sink, err)
         }
@@ -68,9 +74,13 @@ fn run_stream<R: BufRead, W: Write, E: Write>(
     }
 }
 
-fn open<'a>(rt: &'a HostRuntime, path: &str) -> io::Result<BufReader<Progress<'a, File>>> {
-    let file = File::open(rt, path)?;
-    Ok(BufReader::new(rt.alloc(), Progress::new(rt, file))?)
+fn open<'m, 'a>(
+    rt: &HostRuntime,
+    meter: &'m mut Meter<'a>,
+    path: &str,
+) -> io::Result<BufReader<Metered<'m, 'a, File>>> {
+    let reader = File::open(rt, path)?;
+    Ok(BufReader::new(rt.alloc(), Metered { reader, meter })?)
 }
 
 // Does the task over one file; `-` is standard input.
@@ -78,13 +88,15 @@ fn run_file<W: Write, E: Write>(
     rt: &HostRuntime,
     task: &Task<'_, '_>,
     seen: &mut Seen,
+    meter: &mut Meter<'_>,
     path: &str,
     out: &mut Watched<W>,
     err: &mut Watched<E>,
 ) -> u8 {
     let alloc = rt.alloc();
     if path == "-" {
-        match BufReader::new(alloc, Progress::new(rt, rt.stdin())) {
+        let reader = rt.stdin();
+        match BufReader::new(alloc, Metered { reader, meter }) {
             Ok(mut reader) => run_stream(alloc, task, seen, &mut reader, STANDARD_INPUT, out, err),
             Err(_) => {
                 report_memory(err);
@@ -92,7 +104,7 @@ fn run_file<W: Write, E: Write>(
             }
         }
     } else {
-        match open(rt, path) {
+        match open(rt, meter, path) {
             Ok(mut reader) => run_stream(alloc, task, seen, &mut reader, path, out, err),
             Err(fault) => {
                 report_fault(alloc, path, &fault, err);
@@ -102,24 +114,24 @@ fn run_file<W: Write, E: Write>(
     }
 }
 
-// Does the task over each file, and returns the greatest status. It ends after a failed write, and where what was seen counts, after
-// any trouble.
+// Does the task over each file, and returns the greatest status. It ends after a failed write; `uniq` also ends after status 2.
 fn run_files<W: Write, E: Write>(
     rt: &HostRuntime,
     task: &Task<'_, '_>,
     seen: &mut Seen,
+    meter: &mut Meter<'_>,
     out: &mut Watched<W>,
     err: &mut Watched<E>,
 ) -> u8 {
     if task.files.is_empty() {
-        return run_file(rt, task, seen, "-", out, err);
+        return run_file(rt, task, seen, meter, "-", out, err);
     }
     let mut status = 0;
     for path in task.files {
         if out.failed() || status == 2 && task.action.remembers() {
             break;
         }
-        status = status.max(run_file(rt, task, seen, path, out, err));
+        status = status.max(run_file(rt, task, seen, meter, path, out, err));
     }
     status
 }
@@ -132,7 +144,9 @@ fn run<W: Write, E: Write>(
     err: &mut Watched<E>,
 ) -> u8 {
     let mut seen = Seen::new(rt.alloc());
-    let status = run_files(rt, task, &mut seen, out, err);
+    let mut meter = Meter::new(rt);
+    let status = run_files(rt, task, &mut seen, &mut meter, out, err);
+    meter.clear();
     match task.action {
         Action::Count(layout) if status != 2 => {
             status.max(count_run(rt.alloc(), layout, &seen, out, err))

@@ -97,13 +97,14 @@ fn uniq<'a>(alloc: Global) -> Result<Command<'a>, AllocError> {
     writer(
         alloc,
         "uniq",
-        "Writes the record of the first item of each graph in all files; their texts are held in memory",
+        "Writes the record of the first item of each graph in all files; the texts of these items are held in memory",
     )?
     .arg(flag(
         alloc,
         "count",
-        "Begin each record with a comment line that says how many items are the same graph",
-    ))
+        "Write the records at the end, each after a comment line that says how many items are the same graph",
+    )
+    .short('c'))
 }
 
 fn check<'a>(alloc: Global) -> Result<Command<'a>, AllocError> {

@@ -6,59 +6,58 @@ use std::io::{IsTerminal, Read};
 // So many bytes are read between two reports.
 const STEP: u64 = 1 << 24;
 
-// Shows on a terminal how much was read.
+/// Shows on a terminal how much was read of all files.
 #[derive(Drop)]
-struct Display<'a> {
+pub(crate) struct Meter<'a> {
     rt: &'a HostRuntime,
-    is_terminal: bool,
+    shows: bool,
     read: u64,
 
     // So much is read when it is shown next.
     next: u64,
 }
 
-impl Display<'_> {
-    // Counts bytes that were read; none are the end of the input.
+impl<'a> Meter<'a> {
+    /// Nothing was read. It shows only if standard error is a terminal, and standard output is none, where records may go.
+    pub(crate) fn new(rt: &'a HostRuntime) -> Meter<'a> {
+        Meter {
+            rt,
+            shows: rt.stderr().is_terminal() && !rt.stdout().is_terminal(),
+            read: 0,
+            next: STEP,
+        }
+    }
+
+    // What is shown is overwritten by what comes next.
     fn count(&mut self, count: usize) {
         self.read = self.read.saturating_add(count as u64);
-        if self.is_terminal && self.read >= self.next {
-            let _ = eprint!(self.rt; "\r{} MiB", self.read >> 20);
+        if self.shows && self.read >= self.next {
+            let _ = eprint!(self.rt; "{} MiB\x1b[K\r", self.read >> 20);
             self.next = self.read.saturating_add(STEP);
         }
-        if self.is_terminal && self.read >= STEP && count == 0 {
-            let _ = eprint!(self.rt; "\r\x1b[K");
+    }
+
+    /// Removes what is shown.
+    pub(crate) fn clear(&self) {
+        if self.shows && self.read >= STEP {
+            let _ = eprint!(self.rt; "\x1b[K");
         }
     }
 }
 
-/// A reader that shows from time to time how much was read, if standard error is a terminal.
+/// A reader of which a meter shows how much was read.
 #[derive(Drop)]
-pub(crate) struct Progress<'a, R> {
-    reader: R,
-    display: Display<'a>,
+pub(crate) struct Metered<'m, 'a, R> {
+    pub(crate) reader: R,
+    pub(crate) meter: &'m mut Meter<'a>,
 }
 
-impl<'a, R> Progress<'a, R> {
-    /// Of a reader of which nothing was read.
-    pub(crate) fn new(rt: &'a HostRuntime, reader: R) -> Progress<'a, R> {
-        Progress {
-            reader,
-            display: Display {
-                rt,
-                is_terminal: rt.stderr().is_terminal(),
-                read: 0,
-                next: STEP,
-            },
-        }
-    }
-}
-
-impl<'a, R: Read> Read for Progress<'a, R> {
+impl<R: Read> Read for Metered<'_, '_, R> {
     ghost remaining = { λ p. R.remaining p.reader };
 
     fn read(&mut self, buf: &mut [u8]) -> io::Result<usize> {
         let count = self.reader.read(buf)?;
-        self.display.count(count);
+        self.meter.count(count);
         Ok(count)
     }
 }

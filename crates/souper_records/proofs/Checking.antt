@@ -45,3 +45,8 @@ check_refused k name before after read err e status whole refused (inr (two, fau
 pub done_unless : {A E : Type 0} (r : Result A E) (failed : Bool) (P : Type 0) → OnOk r P → OnErr r (failed ≡ true) → failed ≡ false → P
 done_unless (Ok a) failed P p e works = p
 done_unless (Err x) failed P p e works = let bad : true ≡ false = sym e ∙ works in absurd cc
+
+-- what follows of what a call did
+pub over_ok : {A E : Type 0} (r : Result A E) (P Q : Type 0) → (P → Q) → OnOk r P → OnOk r Q
+over_ok (Ok a) P Q f p = f p
+over_ok (Err e) P Q f p = tt

@@ -3,7 +3,7 @@ use Rattle.std.proofs.Common.{◌≡◌, ℕ, zero, suc, ◌+◌, ◌<◌, ◌�
 use Rattle.std.specs.Prelude.{String, flat_map}
 use Rattle.std.specs.String.{string_bytes}
 use Rattle.std.specs.Io.KnownBytes.{Appends}
-use Rattle.std.proofs.KnownBytes.{Appends-trans}
+use Rattle.std.proofs.KnownBytes.{Appends-nil, Appends-trans}
 use Rattle.std.proofs.lemmas.List.{take_all, length-map}
 use Rattle.souper_graph.specs.Values.{Item}
 use Rattle.souper_graph.specs.Syntax.Spelling.{ItemType}
@@ -45,24 +45,34 @@ at_map [] i s less is = absurd (omega arith)
 at_map (k ∷ ks) zero s less is = ap string_bytes is
 at_map (k ∷ ks) (suc i) s less is = at_map ks i s (omega arith) is
 
--- one more record was written
-pub counted_step : {M : Type 0} (l : Layout) (old now new : Option (List ℕ)) (keys texts : List (String M)) (ns : List ℕ) (i : ℕ) (s : String M) (t written : List ℕ) (n : ℕ)
-    → texts ≡ keys → i < length texts → s ≡ slice_index_or texts i s → t ≡ string_bytes s → n ≡ slice_index_or ns i 0 → written ≡ line_of l t n
-    → Appends old now (joined l (take i (map string_bytes keys)) ns) → Appends now new written → Appends old new (joined l (take (i + 1) (map string_bytes keys)) ns)
-counted_step l old now new keys texts ns i s t written n same less is text count line a w =
+-- the records up to an index were written, but for the last ones
+abbrev pub IsWritten : {M : Type 0} → Layout → Option (List ℕ) → Option (List ℕ) → List (String M) → List ℕ → ℕ → List ℕ → Type 0
+IsWritten l old now keys ns i last = (done : List ℕ) × Appends old now done × (done ++ last ≡ joined l (take i (map string_bytes keys)) ns)
+
+-- one more record
+pub written_step : {M : Type 0} (l : Layout) (old now new : Option (List ℕ)) (keys texts : List (String M)) (ns : List ℕ) (i : ℕ) (s : String M) (t : List ℕ) (n : ℕ) (b0 b1 b2 : List ℕ)
+    → texts ≡ keys → i < length texts → s ≡ slice_index_or texts i s → t ≡ string_bytes s → n ≡ slice_index_or ns i 0 → b1 ≡ b0 ++ line_of l t n
+    → IsWritten l old now keys ns i b0 → (text : List ℕ) × Appends now new text × (b1 ≡ text ++ b2) → IsWritten l old new keys ns (i + 1) b2
+written_step l old now new keys texts ns i s t n b0 b1 b2 same less is text count line w m =
     let ts = map string_bytes keys in
     let long : length ts ≡ length texts = length-map keys string_bytes ∙ ap length (sym same) in
-    let here : t ≡ slice_index_or ts i t =
-    text ∙ at_map texts i s less is ∙ (λ j. slice_index_or (map string_bytes (same j)) i (sym text j)) in
+    let here : t ≡ slice_index_or ts i t = text ∙ at_map texts i s less is ∙ (λ j. slice_index_or (map string_bytes (same j)) i (sym text j)) in
     let next : suc i ≡ i + 1 = omega arith in
-    let more = joined_more l ts ns i t (omega (arith, long)) here in
-    subst (λ (m : ℕ). Appends old new (joined l (take m ts) ns)) next
-    (subst (Appends old new) (sym more) (Appends-trans old now new (joined l (take i ts) ns) (line_of l t (slice_index_or ns i 0)) a (subst (Appends now new) (line ∙ ap (line_of l t) count) w)))
+    let more : joined l (take i ts) ns ++ line_of l t n ≡ joined l (take (i + 1) ts) ns =
+    ap (λ (x : ℕ). joined l (take i ts) ns ++ line_of l t x) count ∙ sym (joined_more l ts ns i t (omega (arith, long)) here) ∙ ap (λ (x : ℕ). joined l (take x ts) ns) next in (
+      w.0 ++ m.0,
+      Appends-trans old now new w.0 m.0 w.1 m.1,
+      append_assoc w.0 m.0 b2 ∙ ap (λ (x : List ℕ). w.0 ++ x) (sym m.2 ∙ line) ∙ sym (append_assoc w.0 b0 (line_of l t n)) ∙ ap (λ (x : List ℕ). x ++ line_of l t n) w.2 ∙ more,
+    )
 
--- all were written
-pub counted_end : (k : ItemType) (l : Layout) (old now : Option (List ℕ)) (s : Seen) (items : List Item) (i : ℕ) → length s.texts.keys ≤ i → HasSeen k l.rename items s
-    → Appends old now (joined l (take i (map string_bytes s.texts.keys)) s.counts.items) → Appends old now (counted_records l items)
-counted_end k l old now s items i end h a =
+-- nothing was written
+pub written_none : {M : Type 0} (l : Layout) (old : Option (List ℕ)) (keys : List (String M)) (ns : List ℕ) (b : List ℕ) → b ≡ [] → IsWritten l old old keys ns 0 b
+written_none l old keys ns b none = ([], Appends-nil old, none)
+
+-- all were written, and the last ones too
+pub written_end : (k : ItemType) (l : Layout) (old now new : Option (List ℕ)) (s : Seen) (items : List Item) (i : ℕ) (last : List ℕ) → length s.texts.keys ≤ i → HasSeen k l.rename items s
+    → IsWritten l old now s.texts.keys s.counts.items i last → Appends now new last → Appends old new (counted_records l items)
+written_end k l old now new s items i last end h w a =
     let ts = map string_bytes s.texts.keys in
     let all : take i ts ≡ ts = take_all i ts (omega (arith, length-map s.texts.keys string_bytes)) in
-    subst (Appends old now) (ap (λ (x : List (List ℕ)). joined l x s.counts.items) all ∙ joined_all k l items s h) a
+    subst (Appends old new) (w.2 ∙ ap (λ (x : List (List ℕ)). joined l x s.counts.items) all ∙ joined_all k l items s h) (Appends-trans old now new w.0 last w.1 a)

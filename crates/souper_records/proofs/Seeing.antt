@@ -24,7 +24,7 @@ use Rattle.souper_stream.proofs.Turns.{never_after}
 use Rattle.souper_records.specs.declared.layout.Layout.{Layout}
 use Rattle.souper_records.specs.declared.seen.Seen.{Seen}
 use Rattle.souper_records.specs.Records.{record_of_text, record_of, records_of}
-use Rattle.souper_records.specs.Uniques.{text_by, firsts, AreSame, AreFirsts, IsStored, HasSeen, WritesFirsts, WritesFirstsUpTo}
+use Rattle.souper_records.specs.Uniques.{text_by, firsts, AreSame, AreFirsts, HasText, HasSeen, WritesFirsts, WritesFirstsUpTo}
 use Rattle.souper_records.specs.Firsts.{firsts_by}
 use Rattle.souper_records.specs.Counts.{count_of, counts_by, IsCounted}
 use Rattle.souper_records.proofs.Tallies.{index, counts-again, counts-new}
@@ -33,24 +33,24 @@ use Rattle.souper_records.proofs.Firsts.{firsts-append, keys-more, firsts-unseen
 
 -- ---- one text for each graph
 
-pub one_key : (k : ItemType) (rename : Bool) (a b : Item) → IsStored k rename a → IsStored k rename b → AreSame rename a b → text_by rename a ≡ text_by rename b
+pub one_key : (k : ItemType) (rename : Bool) (a b : Item) → HasText k rename a → HasText k rename b → AreSame rename a b → text_by rename a ≡ text_by rename b
 one_key k false a b p q same = (one_text k a b p.0 q.0).1 same
 one_key k true a b p q same =
     (one_text k (renamed a) (renamed b) (p.1, p.0.1) (q.1, q.0.1)).1 (renamed-graph a b (ordered a p.0.0) (ordered b q.0.0) same)
 
-pub one_graph : (k : ItemType) (rename : Bool) (a b : Item) → IsStored k rename a → IsStored k rename b → text_by rename a ≡ text_by rename b → AreSame rename a b
+pub one_graph : (k : ItemType) (rename : Bool) (a b : Item) → HasText k rename a → HasText k rename b → text_by rename a ≡ text_by rename b → AreSame rename a b
 one_graph k false a b p q e = (one_text k a b p.0 q.0).0 e
 one_graph k true a b p q e =
     graph-renamed a b (ordered a p.0.0) (ordered b q.0.0) ((one_text k (renamed a) (renamed b) (p.1, p.0.1) (q.1, q.0.1)).0 e)
 
-pub are_firsts : (k : ItemType) (rename : Bool) (before items : List Item) → AllByRecursion (IsStored k rename) before → AllByRecursion (IsStored k rename) items → AreFirsts rename before items (firsts rename before items)
+pub are_firsts : (k : ItemType) (rename : Bool) (before items : List Item) → AllByRecursion (HasText k rename) before → AllByRecursion (HasText k rename) items → AreFirsts rename before items (firsts rename before items)
 are_firsts k rename before items bs ps =
     let key = text_by rename in
     record {
       in_order = refl;
-      unseen = firsts-unseen key (IsStored k rename) (AreSame rename) (one_key k rename) before items bs ps;
-      distinct = firsts-distinct key (IsStored k rename) (AreSame rename) (one_key k rename) before items ps;
-      covered = firsts-cover key (IsStored k rename) (AreSame rename) (one_graph k rename) before items bs ps;
+      unseen = firsts-unseen key (HasText k rename) (AreSame rename) (one_key k rename) before items bs ps;
+      distinct = firsts-distinct key (HasText k rename) (AreSame rename) (one_key k rename) before items ps;
+      covered = firsts-cover key (HasText k rename) (AreSame rename) (one_graph k rename) before items bs ps;
     }
 
 -- ---- one more item
@@ -90,12 +90,12 @@ counted_one key items a old new n are at counted = under (cases_order n (length 
     under (inr (inr more)) long = later (omega arith) long
 
 -- one more item was seen
-pub seen_one : (k : ItemType) (rename : Bool) (items : List Item) (a : Item) (old new : Seen) (t : String _) → HasSeen k rename items old → IsStored k rename a → string_bytes t ≡ text_by rename a
+pub seen_one : (k : ItemType) (rename : Bool) (items : List Item) (a : Item) (old new : Seen) (t : String _) → HasSeen k rename items old → HasText k rename a → string_bytes t ≡ text_by rename a
     → new.texts.keys ≡ insert_key string_eq old.texts.keys t → IsCounted old.counts.items (position_or_len (string_eq t) old.texts.keys) new.counts.items → HasSeen k rename (items ++ a ∷ []) new
 seen_one k rename items a old new t h p is keys counted =
     let key = text_by rename in
     let old_texts = map key (firsts rename [] items) in (
-      all_append key (IsStored k rename) items (a ∷ []) h.0 (p, tt),
+      all_append key (HasText k rename) items (a ∷ []) h.0 (p, tt),
       ap (map string_bytes) keys ∙ inserted old.texts.keys t
           ∙ (λ i. if list_any (bytes_eq (is i)) (h.1 i) then h.1 i else h.1 i ++ is i ∷ [])
           ∙ keys-more key items a,
@@ -173,11 +173,11 @@ module _ {S : Type 0} (k : ItemType) (l : Layout) (before mid after old now new 
       record {
         read = r.0 ++ m.more;
         items = items;
-        fresh = firsts l.rename earlier items;
+        first = firsts l.rename earlier items;
         consumed = Consumes-trans before mid after r.0 m.more r.3 m.consumed;
         all_read = all_after before mid r.0 m.more r.3 (m.all_read e).0;
         spelled = (m.all_read e).1;
-        are_firsts = are_firsts k l.rename earlier items seen.0 (all_parts (IsStored k l.rename) earlier items both.0.0);
+        are_firsts = are_firsts k l.rename earlier items seen.0 (all_parts (HasText k l.rename) earlier items both.0.0);
         written = both.1;
         seen_now = both.0;
       }
@@ -191,11 +191,11 @@ module _ {S : Type 0} (k : ItemType) (l : Layout) (before mid after old now new 
       record {
         read = r.0 ++ m.0;
         items = items;
-        fresh = firsts l.rename earlier items;
+        first = firsts l.rename earlier items;
         consumed = Consumes-trans before mid after r.0 m.0 r.3 m.1;
         never = never_after k before mid r.0 m.0 r.3 part.never;
         begun = part.begun;
-        are_firsts = are_firsts k l.rename earlier items seen.0 (all_parts (IsStored k l.rename) earlier items both.0.0);
+        are_firsts = are_firsts k l.rename earlier items seen.0 (all_parts (HasText k l.rename) earlier items both.0.0);
         written = both.1;
         seen_now = both.0;
         placed = part.placed;

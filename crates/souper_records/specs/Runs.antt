@@ -6,7 +6,7 @@ use Rattle.souper_ir.specs.declared.parse.ParseError.{ParseError}
 use Rattle.souper_format.specs.Streams.{Stream, IsGiven, IsGivenNothing}
 use Rattle.souper_format.specs.Reporting.{ReportedLine}
 use Rattle.souper_records.specs.declared.layout.Layout.{Layout}
-use Rattle.souper_records.specs.Eaches.{WritesEach, WritesUpTo}
+use Rattle.souper_records.specs.Eaches.{WritesEach, WritesUpTo, WritesBegun}
 use Rattle.souper_records.specs.declared.each.Stop.{Stop}
 use Rattle.souper_records.specs.declared.each.Stop.TheVariants.{Input, Output}
 use Rattle.souper_records.specs.declared.seen.Seen.{Seen}
@@ -33,13 +33,14 @@ abbrev pub IsStop : List ℕ → Stop → Stream → ℕ → Type 0
 IsStop name (Input e) err status = ReportedError name err status e
 IsStop name (Output fault) err status = (status ≡ 2) × ReportedFault output_name err
 
--- what the status of writing the record of each item says: 0, all were written, and nothing was reported; 1, the stream is
--- refused, and that was reported; 2, something failed, and that was reported
+-- What the status of writing the record of each item says: 0, all were written, and nothing was reported; 1, the stream is
+-- refused, and that was reported; 2, the input failed, after records of items that the stream begins with were written, or the
+-- output failed, and that was reported.
 abbrev pub IsEachRun : ItemType → Layout → List ℕ → Option (List ℕ) → Option (List ℕ) → Stream → Stream → ℕ → Type 0
 IsEachRun k l name before after out err status = OnStatus status
     (WritesEach k l before after out.before out.after × IsGivenNothing err)
     ((e : ParseError) × WritesUpTo k l (Some name) before after out.before out.after e × ReportedLine err e)
-    (ReportedFault name err ⊎ ReportedFault output_name err)
+    ((WritesBegun k l before out.before out.after × ReportedFault name err) ⊎ ReportedFault output_name err)
 
 -- the same of writing the records of the first items, after earlier ones
 abbrev pub IsUniqRun : ItemType → Layout → List Item → List ℕ → Option (List ℕ) → Option (List ℕ) → Stream → Seen → Stream → ℕ → Type 0

@@ -24,42 +24,42 @@ use Rattle.souper_records.specs.Counts.{count_of, counts_by}
 abbrev pub text_by : Bool → Item → List ℕ
 text_by rename a = text_of (chosen rename a)
 
--- the items whose text no earlier one has, neither one of `before` nor one of these
+-- the items whose text no earlier one has, neither one of `earlier` nor one of these
 abbrev pub firsts : Bool → List Item → List Item → List Item
-firsts rename before items = firsts_by (text_by rename) before items
+firsts rename earlier items = firsts_by (text_by rename) earlier items
 
 -- the same graph, or the same graph up to names
 abbrev pub AreSame : Bool → Item → Item → Type 0
 AreSame false a b = SameGraph a b
 AreSame true a b = SameUpToNames a b
 
--- The first items, in order: no two of them are the same, nor one of them and one before; and each of the items is the same as
--- one of them, or as one before.
-pub record AreFirsts (rename : Bool) (before items new : List Item) : Type 0 where
-  pub in_order : new ≡ firsts rename before items
-  pub unseen : AllByRecursion (λ b. AllByRecursion (λ a. AreSame rename a b → ⊥) before) new
-  pub distinct : NoTwo (AreSame rename) new
-  pub covered : AllByRecursion (λ a. HoldsOfOne (AreSame rename a) (before ++ new)) items
+-- The first items, in order: no two of them are the same, nor one of them and an earlier one; and each of the items is the same as
+-- one of them, or as an earlier one.
+pub record AreFirsts (rename : Bool) (earlier items first : List Item) : Type 0 where
+  pub in_order : first ≡ firsts rename earlier items
+  pub unseen : AllByRecursion (λ b. AllByRecursion (λ a. AreSame rename a b → ⊥) earlier) first
+  pub distinct : NoTwo (AreSame rename) first
+  pub covered : AllByRecursion (λ a. HoldsOfOne (AreSame rename a) (earlier ++ first)) items
 
--- the item is well formed, and so is its copy with names by its printed order
-abbrev pub IsStored : ItemType → Bool → Item → Type 0
-IsStored k rename a = IsWellFormedOf k a × WellFormed (chosen rename a)
+-- the item is well formed, and so is, with `rename`, its copy with names by its printed order
+abbrev pub HasText : ItemType → Bool → Item → Type 0
+HasText k rename a = IsWellFormedOf k a × WellFormed (chosen rename a)
 
--- these items were seen: the texts are those of the first ones among them, the counts say how many are the same as each
+-- these items were seen: the texts are those of the first ones among them, the counts say how many have each
 abbrev pub HasSeen : ItemType → Bool → List Item → Seen → Type 0
-HasSeen k rename items s = AllByRecursion (IsStored k rename) items × (map string_bytes s.texts.keys ≡ map (text_by rename) (firsts rename [] items)) × (s.counts.items ≡ counts_by (text_by rename) items)
+HasSeen k rename items s = AllByRecursion (HasText k rename) items × (map string_bytes s.texts.keys ≡ map (text_by rename) (firsts rename [] items)) × (s.counts.items ≡ counts_by (text_by rename) items)
 
 -- All of the stream was read, and it spells items. Of these, those that are the same as no earlier one had their records
 -- written, and nothing else; and all were seen.
 pub record WritesFirsts (k : ItemType) (l : Layout) (earlier : List Item) (before after : Option (List ℕ)) (old new : Option (List ℕ)) (seen : Seen) : Type 0 where
   pub read : List ℕ
   pub items : List Item
-  pub fresh : List Item
+  pub first : List Item
   pub consumed : Consumes before after read
   pub all_read : AreAll before read
   pub spelled : TextSpells k read items
-  pub are_firsts : AreFirsts l.rename earlier items fresh
-  pub written : Appends old new (records_of l fresh)
+  pub are_firsts : AreFirsts l.rename earlier items first
+  pub written : Appends old new (records_of l first)
   pub seen_now : HasSeen k l.rename (earlier ++ items) seen
 
 -- The stream is refused: whatever follows what was read of it, the whole spells no items. The same holds of items that it begins
@@ -67,12 +67,12 @@ pub record WritesFirsts (k : ItemType) (l : Layout) (earlier : List Item) (befor
 pub record WritesFirstsUpTo (k : ItemType) (l : Layout) (earlier : List Item) (file : Option (List ℕ)) (before after : Option (List ℕ)) (old new : Option (List ℕ)) (seen : Seen) (e : ParseError) : Type 0 where
   pub read : List ℕ
   pub items : List Item
-  pub fresh : List Item
+  pub first : List Item
   pub consumed : Consumes before after read
   pub never : NeverSpells k (AreAll before read) read
   pub begun : PrefixSpells k read items
-  pub are_firsts : AreFirsts l.rename earlier items fresh
-  pub written : Appends old new (records_of l fresh)
+  pub are_firsts : AreFirsts l.rename earlier items first
+  pub written : Appends old new (records_of l first)
   pub seen_now : HasSeen k l.rename (earlier ++ items) seen
   pub placed : length read + 1 < 2 ^ 64 → (offset : ℕ) × (offset ≤ length read) × IsRefusalAt file read offset e
 
@@ -80,7 +80,7 @@ pub record WritesFirstsUpTo (k : ItemType) (l : Layout) (earlier : List Item) (f
 abbrev pub count_line : ℕ → List ℕ
 count_line n = codes "; count " ++ (decimal n ++ codes "\n")
 
--- the record of a first item among these, after how many are the same
+-- the record of a first item among these, after how many have its text
 abbrev pub counted_record : Layout → List Item → Item → List ℕ
 counted_record l items a = count_line (count_of (text_by l.rename) items a) ++ record_of l a
 

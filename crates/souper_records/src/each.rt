@@ -28,12 +28,11 @@ pub enum Stop {
     Output(io::Error),
 }
 
-// What is written of a stream.
+// The name of a stream, and the layout of its records.
 #[derive(Clone, Copy)]
 pub(crate) struct Job<'a> {
     pub(crate) layout: Layout,
 
-    // The name of the stream.
     pub(crate) name: &'a str,
 }
 
@@ -47,7 +46,7 @@ pub(crate) fn write_text<W: Write>(text: &String, out: &mut W) -> Result<(), Sto
     }
 }
 
-// Does the job in a layout that stays.
+// Does the job in the layout `L.layout`.
 fn each_fixed<L: Fixed, T: StreamItem + Drop, R: BufRead, W: Write>(
     alloc: Global,
     job: Job<'_>,
@@ -83,11 +82,10 @@ fn each_fixed<L: Fixed, T: StreamItem + Drop, R: BufRead, W: Write>(
     Err(Stop::Input(ParseError::from(fault)))
 }
 
-/// Writes the record of each item of the stream, in order, part by part ([`PartReader`]): a part is at least 64 KiB, or up to twice
-/// what is between two places where the stream can be cut.
+/// Writes the record of each item of the stream, in order, part by part ([`PartReader`], with 64 KiB).
 ///
 /// `name` is that of the stream, which a refusal shows. After an error of the input, what was written is the records of items that
-/// the stream begins with. After one of the output some of a part's records may have been written, or part of one.
+/// the stream begins with. After one of the output nothing is known of what was written.
 pub fn each<T: StreamItem + Drop, R: BufRead, W: Write>(
     alloc: Global,
     layout: Layout,

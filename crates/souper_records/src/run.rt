@@ -1,10 +1,9 @@
 //! Runs over one stream, by their statuses.
-ghost use Rattle.std.specs.Prelude.{◌≡◌, false, List};
+ghost use Rattle.std.specs.Prelude.{List};
+ghost use Rattle.souper_graph.specs.Syntax.Spelling.{ItemType};
 ghost use Rattle.souper_graph.specs.Values.{Item};
 ghost use Rattle.souper_format.specs.Streams.{stream};
-ghost use Rattle.souper_format.specs.Watching.{has_failed};
 ghost use Rattle.souper_records.specs.Uniques.{HasSeen};
-ghost use Rattle.souper_graph.specs.Syntax.Spelling.{ItemType};
 ghost use Rattle.souper_records.specs.Runs.{IsEnd, IsStop, IsEachRun, IsUniqRun, IsCountRun};
 
 use crate::counts::write_counts;
@@ -49,7 +48,8 @@ fn report_stop<E: Write>(alloc: Global, name: &str, stop: &Stop, err: &mut Watch
 /// - 0: done, and nothing was written to `err`.
 /// - 1: the stream is refused. Records of items that it begins with were written, and to `err` the refusal, which shows the name,
 ///   and a newline.
-/// - 2: a read or `out` failed, what was read is not UTF-8, or memory ran out. A line that says so was written to `err`.
+/// - 2: a read or `out` failed, what was read is not UTF-8, or memory ran out. A line that says so was written to `err`. Unless `out`
+///   failed, records of items that the stream begins with were written.
 ///
 /// If a write to `err` fails, the status is the same.
 pub fn each_run<T: StreamItem + Drop, R: BufRead, W: Write, E: Write>(
@@ -70,7 +70,8 @@ pub fn each_run<T: StreamItem + Drop, R: BufRead, W: Write, E: Write>(
 }
 
 /// Writes the record of each item of the stream that is the same graph as no earlier one to `out` ([`uniq`]), and returns the
-/// status of the program, as [`each_run`] does. After status 2 nothing is known of `seen`.
+/// status of the program, as [`each_run`] does. After status 2 nothing is known of what was written nor of `seen`, which is not to be
+/// used again.
 pub fn uniq_run<T: StreamItem + Drop, R: BufRead, W: Write, E: Write>(
     alloc: Global,
     layout: Layout,

@@ -13,12 +13,12 @@ use std::alloc::{AllocError, Global};
 pub struct Seen {
     pub(crate) texts: IndexSet<String>,
 
-    // For each text, up to the greatest number.
+    // How many items have each text, at most `u64::MAX`.
     pub(crate) counts: Vec<u64>,
 }
 
 impl Seen {
-    /// Of no items.
+    /// No items were seen.
     pub fn new(alloc: Global) -> Seen
         ensures { (k : ItemType) (rename : Bool) → HasSeen k rename [] result }
     {

@@ -14,7 +14,6 @@ use crate::fixed::Fixed;
 use crate::layout::Layout;
 use crate::records::{append_text, records_of_texts};
 use crate::seen::Seen;
-use indexmap::IndexSet;
 use souper_ir::parse::{ParseError, ParseErrorKind, Sink, WholeItem};
 use souper_stream::{PartReader, StreamItem};
 use std::alloc::{AllocError, Global};
@@ -49,18 +48,18 @@ impl<L: Fixed, T: WholeItem + Drop> Sink<T> for Firsts<L> {
     }
 }
 
-// Writes the records of the texts after the first ones, of which there are so many.
+// Writes the records of the texts from the index `start` on.
 fn write_texts<W: Write>(
     alloc: Global,
     layout: Layout,
     texts: &[String],
-    first: usize,
+    start: usize,
     out: &mut W,
 ) -> Result<(), Stop>
-    ensures written { OnOk result (Appends (W.contents out.old) (W.contents out.new) (flat_map (record_of_text layout) (map string_bytes (drop first texts.now)))) }
+    ensures written { OnOk result (Appends (W.contents out.old) (W.contents out.new) (flat_map (record_of_text layout) (map string_bytes (drop start texts.now)))) }
     ensures fault { IfErr result (λ stop. IfInput stop (λ e. kind_of e ≡ ParseErrorKind.Parse → ⊥)) }
 {
-    let texts = &texts[first.min(texts.len())..];
+    let texts = &texts[start.min(texts.len())..];
     match records_of_texts(alloc, layout, texts) {
         Ok(text) => write_text(&text, out),
         Err(fault) => Err(Stop::Input(ParseError::from(fault))),
@@ -84,16 +83,16 @@ fn uniq_parts<L: Fixed, T: StreamItem + Drop, R: BufRead, W: Write>(
 {
     let mut parts = PartReader::new(alloc, CHUNK);
     for _turn in 0..u64::MAX {
-        let first = firsts.seen.texts.len();
+        let start = firsts.seen.texts.len();
         match parts.read_part::<T, R, Firsts<L>>(alloc, reader, Some(job.name), firsts) {
             Ok(ended) => {
-                write_texts(alloc, job.layout, firsts.seen.texts.as_slice(), first, out)?;
+                write_texts(alloc, job.layout, firsts.seen.texts.as_slice(), start, out)?;
                 if ended {
                     return Ok(());
                 }
             }
             Err(error) if error.kind() == ParseErrorKind::Parse => {
-                write_texts(alloc, job.layout, firsts.seen.texts.as_slice(), first, out)?;
+                write_texts(alloc, job.layout, firsts.seen.texts.as_slice(), start, out)?;
                 return Err(Stop::Input(error));
             }
             Err(error) => return Err(Stop::Input(error)),
@@ -103,7 +102,7 @@ fn uniq_parts<L: Fixed, T: StreamItem + Drop, R: BufRead, W: Write>(
     Err(Stop::Input(ParseError::from(fault)))
 }
 
-// Does the job in a layout that stays.
+// Does the job in the layout `L.layout`.
 fn uniq_fixed<L: Fixed, T: StreamItem + Drop, R: BufRead, W: Write>(
     alloc: Global,
     job: Job<'_>,
@@ -135,7 +134,7 @@ fn uniq_fixed<L: Fixed, T: StreamItem + Drop, R: BufRead, W: Write>(
 ///
 /// `seen` is passed from stream to stream of one type and one layout: it has the texts of the items so far, in memory. `name` is
 /// that of the stream, which a refusal shows. If the stream is refused, this was done with items that it begins with. After another
-/// error nothing is known of `seen`.
+/// error nothing is known of what was written nor of `seen`, which is not to be used again.
 pub fn uniq<T: StreamItem + Drop, R: BufRead, W: Write>(
     alloc: Global,
     layout: Layout,

@@ -9,7 +9,7 @@ use Rattle.souper_stream.specs.declared.parts.PartReader.{PartReader}
 use Rattle.souper_stream.specs.Holding.{IsHeld}
 use Rattle.souper_stream.specs.Reading.{AreAll, IsRefused}
 
--- the next part has at least so many bytes more than are held
+-- the next part has at least `least` bytes more than are held, of which there is one at least
 pub record AwaitsPart (p : PartReader) : Type 0 where
   pub some : 0 < p.least
   pub room : min (length p.held.bytes.items + p.least) (2 ^ 64 - 1) ≤ p.goal
@@ -19,7 +19,7 @@ abbrev pub HasRead : ItemType → List ℕ → List Item → PartReader → Type
 HasRead k read items p = IsHeld k read items p.held × AwaitsPart p
 
 -- More of the stream was read, and its complete items were passed to the sink: all, if the stream has ended. If it has not, the
--- part has as many bytes as the reader asks for.
+-- part has at least as many bytes as the reader asks for.
 pub record ReadsPart {S : Type 0} (k : ItemType) (read : List ℕ) (items : List Item) (before after : Option (List ℕ)) (holds : S → List Item → Type 0) (old new : S) (p : PartReader) (ended : Bool) : Type 0 where
   pub more : List ℕ
   pub taken : List Item

@@ -140,7 +140,7 @@ impl PartReader {
     /// least 1), and the line that the last of them is in. If no items are complete, they are looked for again when as much again
     /// as is held was read. With a small `least` items are passed to the sink sooner; with a larger one reading takes less time.
     pub fn new(alloc: Global, least: usize) -> PartReader
-        ensures nothing { (k : ItemType) → HasRead k [] [] result }
+        ensures start { (k : ItemType) → HasRead k [] [] result }
         ensures least { result.least ≡ max least 1 }
     {
         let least = least.max(1);

@@ -1,9 +1,7 @@
--- the records so far were written
-use Rattle.std.proofs.Common.{map, take}
+-- the records so far were written, but for the last ones
 use Rattle.std.specs.String.{string_bytes}
-use Rattle.std.specs.Io.KnownBytes.{Appends}
-use Rattle.souper_records.proofs.Counting.{joined}
+use Rattle.souper_records.proofs.Counting.{IsWritten}
 use Rattle.souper_records.proofs.counts.write_counts.Given as goal
 
 abbrev pub invariant-loop-index : goal.invariant-loop-index
-invariant-loop-index g l = Appends (g.W.Write.contents l.fn.out) (g.W.Write.contents l.out) (joined l.fn.layout (take l.index (map string_bytes l.fn.seen.texts.keys)) l.fn.seen.counts.items)
+invariant-loop-index g l = IsWritten l.fn.layout (g.W.Write.contents l.fn.out) (g.W.Write.contents l.out) l.fn.seen.texts.keys l.fn.seen.counts.items l.index (string_bytes l.records)

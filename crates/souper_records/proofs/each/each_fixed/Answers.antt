@@ -9,7 +9,7 @@ use Rattle.souper_records.proofs.Turns.{reached_none, reached_begun, reached_mor
 use Rattle.souper_records.proofs.each.each_fixed.Goals as goal
 
 pub loop-turn-init : goal.loop-turn-init
-loop-turn-init g c = reached_none g.T.Item.item_type c.args.job.layout (g.R.Read.remaining c.args.reader.now) (g.W.Write.contents c.args.out.now) c.new-parts.result (c.new-parts.ensures.nothing g.T.Item.item_type)
+loop-turn-init g c = reached_none g.T.Item.item_type c.args.job.layout (g.R.Read.remaining c.args.reader.now) (g.W.Write.contents c.args.out.now) c.new-parts.result (c.new-parts.ensures.start g.T.Item.item_type)
 
 pub returns-then-ended-clause-written : goal.returns-then-ended-clause-written
 returns-then-ended-clause-written g c =

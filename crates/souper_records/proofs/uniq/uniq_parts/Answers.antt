@@ -10,7 +10,7 @@ use Rattle.souper_records.proofs.uniq.uniq_parts.Goals as goal
 
 pub loop-turn-init : goal.loop-turn-init
 loop-turn-init g c =
-    reached_none g.T.Item.item_type c.args.job.layout (g.R.Read.remaining c.args.reader.now) (g.W.Write.contents c.args.out.now) c.args.firsts.now.seen c.new-parts.result (c.new-parts.ensures.nothing g.T.Item.item_type)
+    reached_none g.T.Item.item_type c.args.job.layout (g.R.Read.remaining c.args.reader.now) (g.W.Write.contents c.args.out.now) c.args.firsts.now.seen c.new-parts.result (c.new-parts.ensures.start g.T.Item.item_type)
 
 pub returns-then-ended-clause-written : goal.returns-then-ended-clause-written
 returns-then-ended-clause-written g c =
@@ -23,7 +23,7 @@ returns-then-ended-clause-written g c =
     let t = c.loop-turn.firsts.seen in
     let u = c.read_part.new.sink.seen in
     let more : SeesMore k l.rename m.taken t u = λ items h. subst (λ (x : Layout). HasSeen k x.rename (items ++ m.taken) u) (sym c.requires) (m.over items (subst (λ (x : Layout). HasSeen k x.rename items t) c.requires h)) in
-    let new : drop c.len-first.result c.as_slice.result.now ≡ drop (length t.texts.keys) u.texts.keys = (λ i. drop (c.len-first.ensures.len i) (c.as_slice.ensures.keys i)) in
+    let new : drop c.len-start.result c.as_slice.result.now ≡ drop (length t.texts.keys) u.texts.keys = (λ i. drop (c.len-start.ensures.len i) (c.as_slice.ensures.keys i)) in
     let w : WritesNew l (con c.loop-turn.out) (con c.write_texts.new.out) t u =
     subst (λ xs. Appends (con c.loop-turn.out) (con c.write_texts.new.out) (flat_map (record_of_text l) (map string_bytes xs))) new c.in_ok-write_texts-in-Ok.ensures.written in
     reached_end k l (rem c.args.reader.now) (rem c.loop-turn.reader) (rem c.read_part.new.reader) (con c.args.out.now) (con c.loop-turn.out) (con c.write_texts.new.out)
@@ -40,7 +40,7 @@ loop-turn-preserved g c =
     let t = c.loop-turn.firsts.seen in
     let u = c.read_part.new.sink.seen in
     let more : SeesMore k l.rename m.taken t u = λ items h. subst (λ (x : Layout). HasSeen k x.rename (items ++ m.taken) u) (sym c.requires) (m.over items (subst (λ (x : Layout). HasSeen k x.rename items t) c.requires h)) in
-    let new : drop c.len-first.result c.as_slice.result.now ≡ drop (length t.texts.keys) u.texts.keys = (λ i. drop (c.len-first.ensures.len i) (c.as_slice.ensures.keys i)) in
+    let new : drop c.len-start.result c.as_slice.result.now ≡ drop (length t.texts.keys) u.texts.keys = (λ i. drop (c.len-start.ensures.len i) (c.as_slice.ensures.keys i)) in
     let w : WritesNew l (con c.loop-turn.out) (con c.write_texts.new.out) t u =
     subst (λ xs. Appends (con c.loop-turn.out) (con c.write_texts.new.out) (flat_map (record_of_text l) (map string_bytes xs))) new c.in_ok-write_texts-in-Ok.ensures.written in
     reached_more k l (rem c.args.reader.now) (rem c.loop-turn.reader) (rem c.read_part.new.reader) (con c.args.out.now) (con c.loop-turn.out) (con c.write_texts.new.out)
@@ -57,7 +57,7 @@ returns-in-Err-clause-refused g c = λ kind.
     let t = c.loop-turn.firsts.seen in
     let u = c.read_part.new.sink.seen in
     let more : SeesMore k l.rename m.2.taken t u = λ items h. subst (λ (x : Layout). HasSeen k x.rename (items ++ m.2.taken) u) (sym c.requires) (m.2.over items (subst (λ (x : Layout). HasSeen k x.rename items t) c.requires h)) in
-    let new : drop c.len-first.result c.as_slice-in-Err.result.now ≡ drop (length t.texts.keys) u.texts.keys = (λ i. drop (c.len-first.ensures.len i) (c.as_slice-in-Err.ensures.keys i)) in
+    let new : drop c.len-start.result c.as_slice-in-Err.result.now ≡ drop (length t.texts.keys) u.texts.keys = (λ i. drop (c.len-start.ensures.len i) (c.as_slice-in-Err.ensures.keys i)) in
     let w : WritesNew l (con c.loop-turn.out) (con c.write_texts-in-Err.new.out) t u =
     subst (λ xs. Appends (con c.loop-turn.out) (con c.write_texts-in-Err.new.out) (flat_map (record_of_text l) (map string_bytes xs))) new c.in_ok-write_texts-in-Err.ensures.written in
     reached_refusal k l (rem c.args.reader.now) (rem c.loop-turn.reader) (rem c.read_part.new.reader) (con c.args.out.now) (con c.loop-turn.out) (con c.write_texts-in-Err.new.out)

@@ -4,7 +4,7 @@ use Rattle.souper_stream.proofs.Turns.{reached_none, reached_more, reached_end, 
 use Rattle.souper_stream.proofs.read.read_chunks_into.Goals as goal
 
 pub loop-turn-init : goal.loop-turn-init
-loop-turn-init g c = reached_none g.T.Item.item_type (g.R.Read.remaining c.args.reader.now) g.S.Sink.holds c.args.sink.now c.new-parts.result (c.new-parts.ensures.nothing g.T.Item.item_type)
+loop-turn-init g c = reached_none g.T.Item.item_type (g.R.Read.remaining c.args.reader.now) g.S.Sink.holds c.args.sink.now c.new-parts.result (c.new-parts.ensures.start g.T.Item.item_type)
 
 pub returns-then-branch-clause-taken : goal.returns-then-branch-clause-taken
 returns-then-branch-clause-taken g c =

@@ -1,5 +1,4 @@
 use Rattle.std.proofs.Common.{◌≡◌, List, ℕ, ◌++◌, ◌∷◌, [], ap, ◌∙◌, subst}
-use Rattle.std.specs.Prelude.{Result, Ok, Err, OnOk}
 use Rattle.std.specs.String.{string_bytes}
 use Rattle.souper_graph.specs.Values.{Item}
 use Rattle.souper_graph.specs.WellFormed.{WellFormed}
@@ -7,12 +6,9 @@ use Rattle.souper_records.specs.declared.layout.Layout.{Layout}
 use Rattle.souper_records.specs.Records.{chosen}
 use Rattle.souper_records.specs.Counts.{IsCounted}
 use Rattle.souper_records.specs.Uniques.{text_by, HasSeen}
+use Rattle.souper_records.proofs.Checking.{over_ok}
 use Rattle.souper_records.proofs.Seeing.{seen_one}
 use Rattle.souper_records.proofs.uniq.FirstsSink.take.Goals as goal
-
-over_ok : {A E : Type 0} (r : Result A E) (P Q : Type 0) → (P → Q) → OnOk r P → OnOk r Q
-over_ok (Ok a) P Q f p = f p
-over_ok (Err e) P Q f p = tt
 
 pub returns-in-Ok : goal.returns-in-Ok
 returns-in-Ok g c =
