@@ -173,7 +173,6 @@ fn space_len(text: &str) -> usize
 
 // What is left after the gap.
 #[tactic(auto, using(crate::proofs::TokenGap::gap_past_blank, crate::proofs::TokenGap::gap_past_control, crate::proofs::TokenGap::gap_past_remark, crate::proofs::TokenGap::gap_past_space, crate::proofs::TokenGap::gap_stops_below, crate::proofs::TokenGap::gap_stops_above, crate::proofs::TokenGap::gap_stops_wide, crate::proofs::TokenGap::gap_nil))]
-#[inline(always)]
 fn after_gap(text: &str) -> &str
     ensures rest { result.now ≡ after_gap text.now }
     ensures len { length result.now ≤ length text.now }
@@ -346,7 +345,6 @@ fn longer_at(offset: usize, text: &str) -> Result<(Token<'_>, &str), Fault>
 
 // The token that the text begins with, and what is left after it.
 #[tactic(auto, unfolding(crate::specs::TokenReading::front_of))]
-#[inline(always)]
 fn token_at(offset: usize, text: &str) -> Result<(Token<'_>, &str), Fault>
     requires some { 0 < length text.now }
     requires room { offset + length text.now < 2 ^ 64 }
@@ -382,7 +380,6 @@ impl<'a> Lexer<'a> {
     }
 
     /// The next token with the offset of its first byte, and `None` at the end.
-    #[inline(always)]
     pub fn next_token(&mut self) -> Result<Option<(usize, Token<'a>)>, Fault>
         ensures next { Yields self.old result self.new }
         ensures offset { IfErr result (λ f. f.offset ≤ self.old.len) }
