@@ -24,6 +24,9 @@ use std::{env, io};
 
 const STANDARD_INPUT: &str = "(standard input)";
 
+// How many bytes are asked for at a time: those of a pipe of Linux.
+const CAPACITY: usize = 1 << 16;
+
 // Does the task over one stream of items of the type, and returns the status.
 fn run_items<T: StreamItem + Drop, R: BufRead, W: Write, E: Write>(
     alloc: Global,
@@ -80,7 +83,7 @@ fn open<'m, 'a>(
     path: &str,
 ) -> io::Result<BufReader<Metered<'m, 'a, File>>> {
     let reader = File::open(rt, path)?;
-    Ok(BufReader::new(rt.alloc(), Metered { reader, meter })?)
+    Ok(BufReader::with_capacity(rt.alloc(), CAPACITY, Metered { reader, meter })?)
 }
 
 // Does the task over one file; `-` is standard input.
@@ -96,7 +99,7 @@ fn run_file<W: Write, E: Write>(
     let alloc = rt.alloc();
     if path == "-" {
         let reader = rt.stdin();
-        match BufReader::new(alloc, Metered { reader, meter }) {
+        match BufReader::with_capacity(alloc, CAPACITY, Metered { reader, meter }) {
             Ok(mut reader) => run_stream(alloc, task, seen, &mut reader, STANDARD_INPUT, out, err),
             Err(_) => {
                 report_memory(err);

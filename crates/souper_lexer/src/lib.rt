@@ -13,9 +13,6 @@ ghost use Rattle.souper_graph.specs.Syntax.Tokens.{Lexeme, ident, val_name, begi
 ghost use Rattle.souper_lexer.specs.TokenReading.{remark, space_len, after_from, after_gap, run_of, after_run, found, lexed_of, Lexed, bits_at, word_at, name_at, mark_of, longer_at, front_of};
 ghost use Rattle.souper_lexer.specs.TokenView.{lexeme_of, is_in, Reads, Takes, Yields};
 
-#[cfg(test)]
-mod tests;
-
 use std::fmt;
 use std::marker::Model;
 
