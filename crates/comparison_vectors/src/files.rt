@@ -1,4 +1,6 @@
 //! Files that are read, and files that are compared.
+use crate::asserts::equal;
+use program_vectors::checks::{FAULT, Ran, text, told};
 use souper_format::command::Kind;
 use souper_format::same_run::same_run;
 use souper_format::watched::Watched;
@@ -14,19 +16,55 @@ use std::{fs, io};
 
 const REFUSAL: &str = ":1:6: no value named '%x' in scope\n     |\n   1 | infer %x\n     |      ^";
 
+// The files that are compared: the path of each, and on the next lines its text.
+const COMPARED: &str = "first
+%b = var
+%a = var
+%c = add %a, %b
+infer %c
+
+second
+%a = var
+%b = var
+%c = add %a, %b
+infer %c
+
+third
+%a = var
+%b = var
+%c = add %b, %a
+infer %c
+
+variable
+%a = var
+infer %a
+
+renamed
+%b = var
+infer %b
+
+refused
+infer %x";
+
 /// Writes the files that are compared.
 pub fn write_files<R: Files + AllocGlobal>(rt: &R) -> io::Result<()> {
-    for (path, text) in [
-        ("first", "%b = var\n%a = var\n%c = add %a, %b\ninfer %c"),
-        ("second", "%a = var\n%b = var\n%c = add %a, %b\ninfer %c"),
-        ("third", "%a = var\n%b = var\n%c = add %b, %a\ninfer %c"),
-        ("variable", "%a = var\ninfer %a"),
-        ("renamed", "%b = var\ninfer %b"),
-        ("refused", "infer %x"),
-    ] {
-        fs::write(rt, path, text)?;
+    for file in COMPARED.split("\n\n") {
+        if let Some((path, text)) = file.split_once('\n') {
+            fs::write(rt, path, text)?;
+        }
     }
     fs::write(rt, "no_text", b"\xff".as_slice())
+}
+
+// So many items were read.
+fn has_items<T: Drop>(
+    rt: &impl Abort,
+    read: Result<Vec<T>, ParseError>,
+    count: usize,
+) -> Result<(), Fail> {
+    let items = read?;
+    equal(rt, items.len(), count);
+    Ok(())
 }
 
 #[test]
@@ -34,141 +72,122 @@ fn items_of_files_are_read(rt: HostRuntime) -> Result<(), Fail> {
     fs::write(&rt, "lhs", "%a = var\n%b = var\ninfer %b")?;
     fs::write(&rt, "rep", "cand 1-2")?;
     fs::write(&rt, "rhs", "result 1\nresult 2")?;
-    assert_eq!(rt;
-        parse_left_hand_sides_file(&rt, rt.alloc(), "lhs")?.len(),
-        1
-    );
-    assert_eq!(rt; parse_replacements_file(&rt, rt.alloc(), "rep")?.len(), 1);
-    assert_eq!(rt;
-        parse_right_hand_sides_file(&rt, rt.alloc(), "rhs")?.len(),
-        2
-    );
-    Ok(())
+    has_items(&rt, parse_left_hand_sides_file(&rt, rt.alloc(), "lhs"), 1)?;
+    has_items(&rt, parse_replacements_file(&rt, rt.alloc(), "rep"), 1)?;
+    has_items(&rt, parse_right_hand_sides_file(&rt, rt.alloc(), "rhs"), 2)
 }
 
 #[test]
 fn empty_file_has_no_items(rt: HostRuntime) -> Result<(), Fail> {
     fs::write(&rt, "empty", "")?;
-    assert!(rt; parse_left_hand_sides_file(&rt, rt.alloc(), "empty")?.is_empty());
-    assert!(rt; parse_replacements_file(&rt, rt.alloc(), "empty")?.is_empty());
-    assert!(rt; parse_right_hand_sides_file(&rt, rt.alloc(), "empty")?.is_empty());
+    has_items(&rt, parse_left_hand_sides_file(&rt, rt.alloc(), "empty"), 0)?;
+    has_items(&rt, parse_replacements_file(&rt, rt.alloc(), "empty"), 0)?;
+    has_items(
+        &rt,
+        parse_right_hand_sides_file(&rt, rt.alloc(), "empty"),
+        0,
+    )
+}
+
+// The left-hand sides of the file at the path are refused.
+fn is_refused<R: Files + AllocGlobal + Abort>(rt: &R, path: &str) -> Result<(), Fail> {
+    let error = parse_left_hand_sides_file(rt, rt.alloc(), path)
+        .err()
+        .ok_or("no refusal")?;
+    let shown = error.to_string(rt.alloc())?;
+    let rest = shown.as_str().strip_prefix(path);
+    equal(
+        rt,
+        (path, error.kind(), error.offset(), rest),
+        (path, ParseErrorKind::Parse, Some(6), Some(REFUSAL)),
+    );
     Ok(())
 }
 
 #[test]
 fn refusal_shows_the_path(rt: HostRuntime) -> Result<(), Fail> {
     fs::write(&rt, "a file", "infer %x")?;
-    for path in ["a file", "./a file"] {
-        let error = parse_left_hand_sides_file(&rt, rt.alloc(), path)
-            .err()
-            .ok_or("no refusal")?;
-        assert_eq!(rt; error.kind(), ParseErrorKind::Parse);
-        assert_eq!(rt; error.offset(), Some(6));
-        let shown = error.to_string(rt.alloc())?;
-        let want = format!(in rt.alloc(); "{path}{REFUSAL}")?;
-        assert_eq!(rt; shown.as_str(), want.as_str());
-    }
-    Ok(())
+    is_refused(&rt, "a file")?;
+    is_refused(&rt, "./a file")
 }
 
 // The error is that of a read that failed.
-fn is_fault(rt: &impl Abort, alloc: Global, error: &ParseError, path: &str) -> Result<(), Fail> {
-    assert_eq!(rt; error.kind(), ParseErrorKind::Io, "for {path}");
-    assert_eq!(rt; error.offset(), None, "for {path}");
+fn is_fault<T: Drop>(
+    rt: &impl Abort,
+    alloc: Global,
+    read: Result<Vec<T>, ParseError>,
+    path: &str,
+) -> Result<(), Fail> {
+    let error = read.err().ok_or("no error")?;
     let shown = error.to_string(alloc)?;
-    assert!(rt; shown.as_str().starts_with("IO error: "), "for {path}");
+    let is_told = shown.as_str().starts_with("IO error: ");
+    equal(
+        rt,
+        (path, error.kind(), error.offset(), is_told),
+        (path, ParseErrorKind::Io, None, true),
+    );
     Ok(())
 }
 
 #[test]
 fn failed_read_is_reported(rt: HostRuntime) -> Result<(), Fail> {
+    let alloc = rt.alloc();
     fs::write(&rt, "no_text", b"\xff".as_slice())?;
     for path in ["absent", "no_text", "."] {
-        let error = parse_left_hand_sides_file(&rt, rt.alloc(), path)
-            .err()
-            .ok_or("no error")?;
-        is_fault(&rt, rt.alloc(), &error, path)?;
-        let error = parse_replacements_file(&rt, rt.alloc(), path)
-            .err()
-            .ok_or("no error")?;
-        is_fault(&rt, rt.alloc(), &error, path)?;
-        let error = parse_right_hand_sides_file(&rt, rt.alloc(), path)
-            .err()
-            .ok_or("no error")?;
-        is_fault(&rt, rt.alloc(), &error, path)?;
+        is_fault(
+            &rt,
+            alloc,
+            parse_left_hand_sides_file(&rt, alloc, path),
+            path,
+        )?;
+        is_fault(&rt, alloc, parse_replacements_file(&rt, alloc, path), path)?;
+        is_fault(
+            &rt,
+            alloc,
+            parse_right_hand_sides_file(&rt, alloc, path),
+            path,
+        )?;
     }
     Ok(())
 }
 
-// Compares the files, which ends in this status. What `out` and `err` were given.
-fn compares<R: Files + AllocGlobal + Abort>(
-    rt: &R,
-    (first, second): (&str, &str),
-    want: u8,
-) -> (Vec<u8>, Vec<u8>) {
+// The comparison of the files does this.
+fn compares<R: Files + AllocGlobal + Abort>(rt: &R, (first, second): (&str, &str), want: Ran<'_>) {
     let mut written = Vec::new(rt.alloc());
     let mut reported = Vec::new(rt.alloc());
     let mut out = Watched::new(&mut written);
     let mut err = Watched::new(&mut reported);
     let status = same_run(rt, rt.alloc(), Kind::Lhs, first, second, &mut out, &mut err);
-    assert_eq!(rt; status, want, "for {first} {second}");
-    (written, reported)
+    let ran = (status, text(&written), told(&reported));
+    equal(rt, (first, second, ran), (first, second, want));
 }
 
 #[test]
 fn files_are_compared(rt: HostRuntime) -> Result<(), Fail> {
     write_files(&rt)?;
-    for (first, second, want) in [
-        ("first", "first", "same\n"),
-        ("first", "second", "same\n"),
-        ("first", "third", "different\n"),
-        ("variable", "renamed", "different\n"),
-    ] {
-        let (written, reported) = compares(&rt, (first, second), 0);
-        assert_eq!(rt; written.as_slice(), want.as_bytes(), "for {first} {second}");
-        assert!(rt; reported.is_empty(), "for {first} {second}");
-    }
+    compares(&rt, ("first", "first"), (0, "same\n", ""));
+    compares(&rt, ("first", "second"), (0, "same\n", ""));
+    compares(&rt, ("first", "third"), (0, "different\n", ""));
+    compares(&rt, ("variable", "renamed"), (0, "different\n", ""));
     Ok(())
 }
 
 #[test]
 fn refusal_of_a_compared_file_is_reported(rt: HostRuntime) -> Result<(), Fail> {
     write_files(&rt)?;
-    for (first, second) in [
-        ("refused", "absent"),
-        ("refused", "refused"),
-        ("variable", "refused"),
-    ] {
-        let (written, reported) = compares(&rt, (first, second), 1);
-        assert!(rt; written.is_empty(), "for {first} {second}");
-        let want = format!(in rt.alloc(); "refused{REFUSAL}\n")?;
-        assert_eq!(rt;
-            reported.as_slice(),
-            want.as_bytes(),
-            "for {first} {second}"
-        );
-    }
+    let line = format!(in rt.alloc(); "refused{REFUSAL}\n")?;
+    let want = (1, "", line.as_str());
+    compares(&rt, ("refused", "absent"), want);
+    compares(&rt, ("refused", "refused"), want);
+    compares(&rt, ("variable", "refused"), want);
     Ok(())
 }
 
 #[test]
 fn failed_read_of_a_compared_file_is_reported(rt: HostRuntime) -> Result<(), Fail> {
     write_files(&rt)?;
-    for (first, second) in [
-        ("absent", "variable"),
-        ("variable", "absent"),
-        ("variable", "."),
-    ] {
-        let (written, reported) = compares(&rt, (first, second), 3);
-        assert!(rt; written.is_empty(), "for {first} {second}");
-        assert!(rt;
-            reported.as_slice().starts_with(b"IO error: "),
-            "for {first} {second}"
-        );
-        assert!(rt;
-            reported.as_slice().ends_with(b"\n"),
-            "for {first} {second}"
-        );
-    }
+    compares(&rt, ("absent", "variable"), (3, "", FAULT));
+    compares(&rt, ("variable", "absent"), (3, "", FAULT));
+    compares(&rt, ("variable", "."), (3, "", FAULT));
     Ok(())
 }

@@ -1,10 +1,13 @@
 //! Comparisons of two files over writers that fail.
+use crate::asserts::equal;
 use crate::files::write_files;
+use program_vectors::checks::{FAULT, text, told};
 use program_vectors::streams::FaultyWriter;
 use souper_format::command::Kind;
 use souper_format::same_run::same_run;
 use souper_format::watched::Watched;
 use std::io::Write;
+use std::process::Abort;
 use std::rt::Files;
 use std::test::Fail;
 
@@ -18,53 +21,89 @@ fn compare<R: Files + AllocGlobal, W: Write, E: Write>(
     same_run(rt, rt.alloc(), Kind::Lhs, first, second, out, err)
 }
 
+// A comparison with `first` has this status, and reports this line. `out` fails after so many calls.
+fn writes<R: Files + AllocGlobal + Abort>(
+    rt: &R,
+    path: &str,
+    after: usize,
+    fails: bool,
+    want: (u8, &str),
+) {
+    let mut reported = Vec::new(rt.alloc());
+    let mut out = Watched::new(FaultyWriter::new(2, after));
+    let mut err = Watched::new(&mut reported);
+    let status = compare(rt, ("first", path), &mut out, &mut err);
+    let failed = out.failed();
+    let ran = (status, told(&reported));
+    equal(rt, (path, after, failed, ran), (path, after, fails, want));
+}
+
 // `same` and a newline go in three writes, `different` and a newline in five; a further call flushes.
 #[test]
 fn failed_write_is_a_fault(rt: HostRuntime) -> Result<(), Fail> {
     write_files(&rt)?;
-    for (path, calls) in [("second", 4), ("third", 6)] {
-        for after in 0..=calls {
-            let mut reported = Vec::new(rt.alloc());
-            let mut out = Watched::new(FaultyWriter::new(2, after));
-            let mut err = Watched::new(&mut reported);
-            let status = compare(&rt, ("first", path), &mut out, &mut err);
-            let works = after == calls;
-            assert_eq!(rt; status, if works { 0 } else { 3 }, "{path} after {after}");
-            assert_eq!(rt; out.failed(), !works, "{path} after {after}");
-            assert_eq!(rt; reported.is_empty(), works, "{path} after {after}");
-            let is_fault = reported.as_slice().starts_with(b"IO error: ")
-                && reported.as_slice().ends_with(b"\n");
-            assert_eq!(rt; is_fault, !works, "{path} after {after}");
-        }
+    for after in 0..4 {
+        writes(&rt, "second", after, true, (3, FAULT));
     }
+    writes(&rt, "second", 4, false, (0, ""));
+    for after in 0..6 {
+        writes(&rt, "third", after, true, (3, FAULT));
+    }
+    writes(&rt, "third", 6, false, (0, ""));
     Ok(())
+}
+
+// A comparison over an `err` that fails after so many calls: the status, whether `out` and `err` failed, and whether
+// nothing is written.
+fn compare_over_err<R: Files + AllocGlobal>(
+    rt: &R,
+    paths: (&str, &str),
+    after: usize,
+) -> (u8, bool, bool, bool) {
+    let mut written = Vec::new(rt.alloc());
+    let mut out = Watched::new(&mut written);
+    let mut err = Watched::new(FaultyWriter::new(1, after));
+    let status = compare(rt, paths, &mut out, &mut err);
+    let (out_failed, err_failed) = (out.failed(), err.failed());
+    (status, out_failed, err_failed, written.is_empty())
+}
+
+// The comparison has this status, whichever of the bytes of its line `err` fails at.
+fn keeps_status<R: Files + AllocGlobal + Abort>(
+    rt: &R,
+    paths: (&str, &str),
+    status: u8,
+    bytes: usize,
+) {
+    for after in 0..bytes {
+        let ran = compare_over_err(rt, paths, after);
+        let want = (status, false, true, true);
+        equal(rt, (paths, after, ran), (paths, after, want));
+    }
 }
 
 // The line of a refusal is 79 bytes, and that of a fault of a read begins with 10 known ones.
 #[test]
 fn failed_err_keeps_the_status(rt: HostRuntime) -> Result<(), Fail> {
     write_files(&rt)?;
-    for (first, second, want, bytes) in [
-        ("refused", "absent", 1, 79),
-        ("first", "refused", 1, 79),
-        ("absent", "refused", 3, 10),
-        ("first", "absent", 3, 10),
-        ("first", "no_text", 3, 10),
-    ] {
-        for after in 0..bytes {
-            let mut written = Vec::new(rt.alloc());
-            let mut out = Watched::new(&mut written);
-            let mut err = Watched::new(FaultyWriter::new(1, after));
-            let status = compare(&rt, (first, second), &mut out, &mut err);
-            assert_eq!(rt; status, want, "{first} {second} after {after}");
-            assert!(rt;
-                err.failed() && !out.failed(),
-                "{first} {second} after {after}"
-            );
-            assert!(rt; written.is_empty(), "{first} {second} after {after}");
-        }
-    }
+    keeps_status(&rt, ("refused", "absent"), 1, 79);
+    keeps_status(&rt, ("first", "refused"), 1, 79);
+    keeps_status(&rt, ("absent", "refused"), 3, 10);
+    keeps_status(&rt, ("first", "absent"), 3, 10);
+    keeps_status(&rt, ("first", "no_text"), 3, 10);
     Ok(())
+}
+
+// A comparison over an `out` and an `err` that fail after so many calls: the status, and whether each failed.
+fn compare_over_both<R: Files + AllocGlobal>(
+    rt: &R,
+    after: usize,
+    bytes: usize,
+) -> (u8, bool, bool) {
+    let mut out = Watched::new(FaultyWriter::new(2, after));
+    let mut err = Watched::new(FaultyWriter::new(1, bytes));
+    let status = compare(rt, ("first", "second"), &mut out, &mut err);
+    (status, out.failed(), err.failed())
 }
 
 #[test]
@@ -72,27 +111,28 @@ fn failed_write_is_a_fault_though_err_fails(rt: HostRuntime) -> Result<(), Fail>
     write_files(&rt)?;
     for after in 0..4 {
         for bytes in 0..10 {
-            let mut out = Watched::new(FaultyWriter::new(2, after));
-            let mut err = Watched::new(FaultyWriter::new(1, bytes));
-            let status = compare(&rt, ("first", "second"), &mut out, &mut err);
-            assert_eq!(rt; status, 3, "after {after} and {bytes}");
-            assert!(rt; out.failed() && err.failed(), "after {after} and {bytes}");
+            let ran = compare_over_both(&rt, after, bytes);
+            equal(&rt, (after, bytes, ran), (after, bytes, (3, true, true)));
         }
     }
     Ok(())
 }
 
+// The comparison with `first` writes this, and nothing to `err`, whose first call would fail.
+fn needs_no_err<R: Files + AllocGlobal + Abort>(rt: &R, path: &str, want: &str) {
+    let mut written = Vec::new(rt.alloc());
+    let mut out = Watched::new(&mut written);
+    let mut err = Watched::new(FaultyWriter::new(1, 0));
+    let status = compare(rt, ("first", path), &mut out, &mut err);
+    let failed = err.failed();
+    let ran = (status, failed, text(&written));
+    equal(rt, (path, ran), (path, (0, false, want)));
+}
+
 #[test]
 fn comparison_needs_no_err(rt: HostRuntime) -> Result<(), Fail> {
     write_files(&rt)?;
-    for (path, want) in [("second", "same\n"), ("third", "different\n")] {
-        let mut written = Vec::new(rt.alloc());
-        let mut out = Watched::new(&mut written);
-        let mut err = Watched::new(FaultyWriter::new(1, 0));
-        let status = compare(&rt, ("first", path), &mut out, &mut err);
-        assert_eq!(rt; status, 0, "for {path}");
-        assert!(rt; !err.failed(), "for {path}");
-        assert_eq!(rt; written.as_slice(), want.as_bytes(), "for {path}");
-    }
+    needs_no_err(&rt, "second", "same\n");
+    needs_no_err(&rt, "third", "different\n");
     Ok(())
 }

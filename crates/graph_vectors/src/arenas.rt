@@ -1,11 +1,12 @@
 //! Arenas, ids and the errors of a text, by calls.
-use crate::fixtures::{Graph, number};
+use crate::fixtures::{Graph, equal, is_text, number};
 use souper_graph::ast::{
     Arena, Assignment, AssignmentRhs, BlockId, Id, Infer, LeftHandSide, Statement, ValueId,
 };
 use souper_graph::stringify::{DisplayWithContext, TextError};
 use std::alloc::{AllocError, AllocFailed, Global};
 use std::hash::{DefaultHasher, Hash, Hasher};
+use std::process::Abort;
 use std::test::Fail;
 
 // An arena of variables with these names.
@@ -23,20 +24,29 @@ fn variables(alloc: Global, names: &[&str]) -> Result<Arena<Statement>, AllocErr
     Ok(statements)
 }
 
-#[test]
-fn items_keep_their_positions(rt: HostRuntime) -> Result<(), Fail> {
-    let mut arena = Arena::new(rt.alloc());
-    assert_eq!(rt; arena.len(), 0);
-    assert!(rt; arena.iter().next().is_none());
-    let first = arena.alloc(10u8)?;
+// The id is that of the position, and the item is there.
+fn has_item(rt: &impl Abort, arena: &Arena<u8>, id: Id<u8>, position: usize, item: u8) {
+    equal(rt, id.index(), position);
+    equal(rt, arena.get(id).copied(), Some(item));
+}
+
+// Three items are put into the empty arena.
+fn keeps_positions(rt: &impl Abort, arena: &mut Arena<u8>) -> Result<(), AllocError> {
+    equal(rt, arena.len(), 0);
+    equal(rt, arena.iter().next().is_none(), true);
+    let first = arena.alloc(10)?;
     let second = arena.alloc(20)?;
     let third = arena.alloc(30)?;
-    assert_eq!(rt; arena.len(), 3);
-    assert_eq!(rt; [first.index(), second.index(), third.index()], [0, 1, 2]);
-    assert_eq!(rt; arena.get(first).copied(), Some(10));
-    assert_eq!(rt; arena.get(second).copied(), Some(20));
-    assert_eq!(rt; arena.get(third).copied(), Some(30));
+    equal(rt, arena.len(), 3);
+    has_item(rt, arena, first, 0, 10);
+    has_item(rt, arena, second, 1, 20);
+    has_item(rt, arena, third, 2, 30);
     Ok(())
+}
+
+#[test]
+fn items_keep_their_positions(rt: HostRuntime) -> Result<(), Fail> {
+    Ok(keeps_positions(&rt, &mut Arena::new(rt.alloc()))?)
 }
 
 #[test]
@@ -49,35 +59,51 @@ fn items_come_in_order(rt: HostRuntime) -> Result<(), Fail> {
     for (id, item) in arena.iter() {
         seen.push((id.index(), *item))?;
     }
-    assert_eq!(rt; seen.as_slice(), [(0, 7), (1, 5), (2, 7)].as_slice());
+    equal(&rt, seen.as_slice(), &[(0, 7), (1, 5), (2, 7)]);
+    Ok(())
+}
+
+// Two items are put into the empty arena, and the second is written.
+fn changes_one(rt: &impl Abort, arena: &mut Arena<u8>) -> Result<(), Fail> {
+    let first = arena.alloc(1)?;
+    let second = arena.alloc(2)?;
+    *arena.get_mut(second).ok_or("no item")? = 9;
+    equal(rt, arena.len(), 2);
+    has_item(rt, arena, first, 0, 1);
+    has_item(rt, arena, second, 1, 9);
     Ok(())
 }
 
 #[test]
 fn writes_change_one_item(rt: HostRuntime) -> Result<(), Fail> {
-    let mut arena = Arena::new(rt.alloc());
-    let first = arena.alloc(1u8)?;
-    let second = arena.alloc(2)?;
-    *arena.get_mut(second).ok_or("no item")? = 9;
-    assert_eq!(rt; arena.get(first).copied(), Some(1));
-    assert_eq!(rt; arena.get(second).copied(), Some(9));
-    assert_eq!(rt; arena.len(), 2);
+    changes_one(&rt, &mut Arena::new(rt.alloc()))
+}
+
+// The ids of two items, from an arena that is dropped.
+fn foreign_ids(alloc: Global) -> Result<(Id<u8>, Id<u8>), AllocError> {
+    let mut other = Arena::new(alloc);
+    Ok((other.alloc(1u8)?, other.alloc(2)?))
+}
+
+// One item is put into the empty arena.
+fn has_the_first(
+    rt: &impl Abort,
+    arena: &mut Arena<u8>,
+    first: Id<u8>,
+    second: Id<u8>,
+) -> Result<(), AllocError> {
+    let own = arena.alloc(3)?;
+    equal(rt, (first == own, second == own), (true, false));
+    has_item(rt, arena, first, 0, 3);
+    equal(rt, arena.get(second).is_none(), true);
+    equal(rt, arena.get_mut(second).is_none(), true);
     Ok(())
 }
 
 #[test]
 fn foreign_ids_are_positions(rt: HostRuntime) -> Result<(), Fail> {
-    let mut long = Arena::new(rt.alloc());
-    let mut short = Arena::new(rt.alloc());
-    let first = long.alloc(1u8)?;
-    let second = long.alloc(2)?;
-    let own = short.alloc(3)?;
-    assert_eq!(rt; first, own);
-    assert_ne!(rt; second, own);
-    assert_eq!(rt; short.get(first).copied(), Some(3));
-    assert_eq!(rt; short.get(second), None);
-    assert!(rt; short.get_mut(second).is_none());
-    Ok(())
+    let (first, second) = foreign_ids(rt.alloc())?;
+    Ok(has_the_first(&rt, &mut Arena::new(rt.alloc()), first, second)?)
 }
 
 // The id of the position in an arena of three variables.
@@ -96,10 +122,12 @@ fn ids_convert_by_position(rt: HostRuntime) -> Result<(), Fail> {
     let first = id_at(rt.alloc(), 0)?;
     let second = id_at(rt.alloc(), 1)?;
     let value = ValueId::from(second);
-    assert_eq!(rt; Id::from(value), second);
-    assert_eq!(rt; Id::from(value).index(), 1);
-    assert_eq!(rt; value, second.into());
-    assert_ne!(rt; value, first.into());
+    equal(&rt, (Id::from(value), Id::from(value).index()), (second, 1));
+    equal(
+        &rt,
+        (value == second.into(), value == first.into()),
+        (true, false),
+    );
     Ok(())
 }
 
@@ -116,8 +144,7 @@ fn rooted(alloc: Global, id: Id<Statement>) -> Result<LeftHandSide, AllocError> 
 #[test]
 fn foreign_root_in_range_has_a_text(rt: HostRuntime) -> Result<(), Fail> {
     let item = rooted(rt.alloc(), id_at(rt.alloc(), 1)?)?;
-    let text = item.to_text()?;
-    assert_eq!(rt; text.as_str(), "%b = var\ninfer %b\n");
+    is_text(&rt, item.to_text()?, "%b = var\ninfer %b\n");
     Ok(())
 }
 
@@ -125,31 +152,56 @@ fn foreign_root_in_range_has_a_text(rt: HostRuntime) -> Result<(), Fail> {
 fn foreign_root_out_of_range_has_no_text(rt: HostRuntime) -> Result<(), Fail> {
     let id = id_at(rt.alloc(), 2)?;
     let item = rooted(rt.alloc(), id)?;
-    let error = item.to_text().err().ok_or("a text")?;
-    assert_eq!(rt; error, TextError::OutOfRange(id));
-    let shown = error.to_string(rt.alloc())?;
-    assert_eq!(rt; shown.as_str(), "statement id 2 is out of range");
-    assert!(rt; item.to_string(rt.alloc()).is_err());
+    equal(&rt, item.to_text().err(), Some(TextError::OutOfRange(id)));
+    equal(&rt, item.to_string(rt.alloc()).is_err(), true);
+    let shown = TextError::OutOfRange(id).to_string(rt.alloc())?;
+    is_text(&rt, shown, "statement id 2 is out of range");
     Ok(())
 }
 
 #[test]
 fn text_errors_are_shown(rt: HostRuntime) -> Result<(), Fail> {
-    let id = id_at(rt.alloc(), 1)?;
-    for (error, want) in [
-        (TextError::OutOfRange(id), "statement id 1 is out of range"),
-        (
-            TextError::NotAnAssignment(id),
-            "statement id 1 is not an assignment",
-        ),
-        (TextError::NotABlock(id), "statement id 1 is not a block"),
-        (TextError::OutOfMemory, "out of memory"),
-        (TextError::from(AllocError), "out of memory"),
-        (TextError::from(AllocFailed { value: id }), "out of memory"),
-    ] {
-        let shown = error.to_string(rt.alloc())?;
-        assert_eq!(rt; shown.as_str(), want);
+    let alloc = rt.alloc();
+    let id = id_at(alloc, 1)?;
+    let error = TextError::OutOfRange(id);
+    is_text(
+        &rt,
+        error.to_string(alloc)?,
+        "statement id 1 is out of range",
+    );
+    let error = TextError::NotAnAssignment(id);
+    is_text(
+        &rt,
+        error.to_string(alloc)?,
+        "statement id 1 is not an assignment",
+    );
+    let error = TextError::NotABlock(id);
+    is_text(
+        &rt,
+        error.to_string(alloc)?,
+        "statement id 1 is not a block",
+    );
+    is_text(
+        &rt,
+        TextError::OutOfMemory.to_string(alloc)?,
+        "out of memory",
+    );
+    equal(&rt, TextError::from(AllocError), TextError::OutOfMemory);
+    equal(
+        &rt,
+        TextError::from(AllocFailed { value: id }),
+        TextError::OutOfMemory,
+    );
+    Ok(())
+}
+
+// The statements are two variables, `%a` and `%b`.
+fn are_a_and_b(rt: &impl Abort, alloc: Global, statements: &Arena<Statement>) -> Result<(), Fail> {
+    let mut lines = String::new(alloc);
+    for (_, statement) in statements.iter() {
+        statement.clone()?.display(statements, &mut lines)?;
     }
+    is_text(rt, lines, "%a = var\n%b = var\n");
     Ok(())
 }
 
@@ -157,17 +209,10 @@ fn text_errors_are_shown(rt: HostRuntime) -> Result<(), Fail> {
 fn grown_shrunk_and_copied_arenas_keep_their_statements(rt: HostRuntime) -> Result<(), Fail> {
     let mut statements = variables(rt.alloc(), &["%a", "%b"])?;
     statements.reserve(16)?;
-    assert_eq!(rt; statements.len(), 2);
+    are_a_and_b(&rt, rt.alloc(), &statements)?;
     statements.shrink_to_fit();
-    assert_eq!(rt; statements.len(), 2);
-    let copy = statements.clone()?;
-    assert_eq!(rt; copy.len(), 2);
-    let mut lines = String::new(rt.alloc());
-    for (_, statement) in copy.iter() {
-        statement.clone()?.display(&copy, &mut lines)?;
-    }
-    assert_eq!(rt; lines.as_str(), "%a = var\n%b = var\n");
-    Ok(())
+    are_a_and_b(&rt, rt.alloc(), &statements)?;
+    are_a_and_b(&rt, rt.alloc(), &statements.clone()?)
 }
 
 fn hash_of<T: Hash>(value: &T) -> u64 {
@@ -176,43 +221,61 @@ fn hash_of<T: Hash>(value: &T) -> u64 {
     hasher.finish()
 }
 
+// The hashes of the first are the same, and not that of the other.
+fn hashes_differ<T: Hash>(rt: &impl Abort, first: &T, again: &T, other: &T) {
+    let hash = hash_of(first);
+    equal(
+        rt,
+        (hash == hash_of(again), hash == hash_of(other)),
+        (true, false),
+    );
+}
+
 #[test]
 fn ids_are_hashed_by_position(rt: HostRuntime) -> Result<(), Fail> {
     let first = id_at(rt.alloc(), 0)?;
     let again = id_at(rt.alloc(), 0)?;
-    let second = id_at(rt.alloc(), 1)?;
-    assert_eq!(rt; hash_of(&first), hash_of(&again));
-    assert_ne!(rt; hash_of(&first), hash_of(&second));
-    let (value, other) = (ValueId::from(first), ValueId::from(second));
-    assert_eq!(rt; hash_of(&value), hash_of(&ValueId::from(again)));
-    assert_ne!(rt; hash_of(&value), hash_of(&other));
-    let (block, other) = (BlockId::from(first), BlockId::from(second));
-    assert_eq!(rt; hash_of(&block), hash_of(&BlockId::from(again)));
-    assert_ne!(rt; hash_of(&block), hash_of(&other));
+    let other = id_at(rt.alloc(), 1)?;
+    hashes_differ(&rt, &first, &again, &other);
+    hashes_differ::<ValueId>(&rt, &first.into(), &again.into(), &other.into());
+    hashes_differ::<BlockId>(&rt, &first.into(), &again.into(), &other.into());
     Ok(())
+}
+
+// A variable `%x`, a block with three predecessors, and a path condition.
+fn three_statements(alloc: Global) -> Result<Arena<Statement>, AllocError> {
+    let mut graph = Graph::new(alloc);
+    let value = graph.var("%x")?;
+    graph.block("%bb", 3)?;
+    graph.pc(value.into(), number(1))?;
+    Ok(graph.statements)
+}
+
+// The name of the assignment and the predecessors of the block at the id.
+fn found(statements: &Arena<Statement>, id: Id<Statement>) -> (Option<&str>, Option<u32>) {
+    let name = statements
+        .assignment(id.into())
+        .map(|assignment| assignment.name.as_str());
+    let predecessors = statements.block(id.into()).map(|block| block.predecessors);
+    (name, predecessors)
 }
 
 #[test]
 fn ids_look_up_what_they_name(rt: HostRuntime) -> Result<(), Fail> {
-    let mut graph = Graph::new(rt.alloc());
-    let value = graph.var("%x")?;
-    let block = graph.block("%bb", 3)?;
-    graph.pc(value.into(), number(1))?;
-    let statements = graph.statements;
-    let found = statements.assignment(value).ok_or("no assignment")?;
-    assert_eq!(rt; found.name.as_str(), "%x");
-    let found = statements.block(block).ok_or("no block")?;
-    assert_eq!(rt; found.predecessors, 3);
-    // A block is the value of an assignment, but a variable is no block.
-    let (first, second) = (id_at(rt.alloc(), 0)?, id_at(rt.alloc(), 1)?);
-    assert!(rt; statements.assignment(second.into()).is_some());
-    assert!(rt; statements.block(first.into()).is_none());
-    // A path condition, and a position past the end.
+    let statements = three_statements(rt.alloc())?;
+    equal(
+        &rt,
+        found(&statements, id_at(rt.alloc(), 0)?),
+        (Some("%x"), None),
+    );
+    equal(
+        &rt,
+        found(&statements, id_at(rt.alloc(), 1)?),
+        (Some("%bb"), Some(3)),
+    );
     let third = id_at(rt.alloc(), 2)?;
+    equal(&rt, found(&statements, third), (None, None));
     let empty: Arena<Statement> = Arena::new(rt.alloc());
-    for arena in [&statements, &empty] {
-        assert!(rt; arena.assignment(third.into()).is_none());
-        assert!(rt; arena.block(third.into()).is_none());
-    }
+    equal(&rt, found(&empty, third), (None, None));
     Ok(())
 }

@@ -2,12 +2,14 @@
 ghost use Rattle.std.specs.Prelude.{IfOk};
 ghost use Rattle.souper_graph.specs.Building.{BeginsWithPercent};
 
-use crate::fixtures::{left_is, number, replacement_is, typed};
+use crate::fixtures::{equal, is_text, item_is, number, typed};
 use souper_graph::ast::{
-    Arena, Assignment, AssignmentRhs, Attribute, Cand, Instruction, LeftHandSide,
+    Arena, Assignment, AssignmentRhs, Attribute, BlockId, Cand, Instruction, LeftHandSide,
     LeftHandSideBuilder, Operand, Replacement, ReplacementBuilder, RootAttribute, Type, ValueId,
 };
 use std::alloc::Global;
+use std::fmt::Debug;
+use std::process::Abort;
 use std::test::Fail;
 
 // The name, which begins with `%`.
@@ -33,82 +35,90 @@ fn left_hand_side_is_built(rt: HostRuntime) -> Result<(), Fail> {
     let y = builder.assignment(name(alloc, "%y")?, None, product.into(), Vec::new(alloc))?;
     let item = builder.finish(y, Vec::new(alloc));
     let text = "%x:i32 = var\n%y = mul %x, 2\ninfer %y\n";
-    left_is(&rt, alloc, &item, text, true)
+    item_is(&rt, alloc, item, text, true)
 }
 
-// A variable and an unnamed one, which is the root. The arguments of `finish` after the root come last.
-macro_rules! with_unnamed_variable {
-    ($alloc:expr, $builder:expr, $($argument:expr),+) => {{
-        let mut builder = $builder;
-        let first = name($alloc, "%1")?;
-        builder.assignment(first, None, AssignmentRhs::Var, Vec::new($alloc))?;
-        let root = builder.assignment(None, None, AssignmentRhs::Var, Vec::new($alloc))?;
-        builder.finish(root, $($argument),+)
-    }};
+// A variable and an unnamed one, which is the root, or an unnamed sum of the variable and 1.
+fn unnamed_root(alloc: Global, is_sum: bool) -> Result<LeftHandSide, Fail> {
+    let mut builder = LeftHandSideBuilder::new(alloc);
+    let var = AssignmentRhs::Var;
+    let first = builder.assignment(name(alloc, "%1")?, None, var, Vec::new(alloc))?;
+    let rhs = second_rhs(first, is_sum);
+    let root = builder.assignment(None, None, rhs, Vec::new(alloc))?;
+    Ok(builder.finish(root, Vec::new(alloc)))
+}
+
+// The same, replaced by 1.
+fn unnamed_root_replaced(alloc: Global, is_sum: bool) -> Result<Replacement, Fail> {
+    let mut builder = ReplacementBuilder::new(alloc);
+    let var = AssignmentRhs::Var;
+    let first = builder.assignment(name(alloc, "%1")?, None, var, Vec::new(alloc))?;
+    let rhs = second_rhs(first, is_sum);
+    let root = builder.assignment(None, None, rhs, Vec::new(alloc))?;
+    Ok(builder.finish(root, number(1), Vec::new(alloc)))
+}
+
+fn second_rhs(first: ValueId, is_sum: bool) -> AssignmentRhs {
+    if is_sum {
+        let (a, b) = (first.into(), number(1));
+        Instruction::Add { a, b }.into()
+    } else {
+        AssignmentRhs::Var
+    }
 }
 
 #[test]
 fn unnamed_values_are_counted(rt: HostRuntime) -> Result<(), Fail> {
     let alloc = rt.alloc();
-    let builder = LeftHandSideBuilder::new(alloc);
-    let item = with_unnamed_variable!(alloc, builder, Vec::new(alloc));
-    left_is(&rt, alloc, &item, "%1 = var\ninfer %1\n", true)?;
-    let builder = ReplacementBuilder::new(alloc);
-    let item = with_unnamed_variable!(alloc, builder, number(1), Vec::new(alloc));
-    let text = "%1 = var\ninfer %1\nresult 1\n";
-    replacement_is(&rt, alloc, &item, text, true)
-}
-
-// A variable and an unnamed sum, which is the root and gets the variable's name.
-macro_rules! with_unnamed_sum {
-    ($alloc:expr, $builder:expr, $($argument:expr),+) => {{
-        let mut builder = $builder;
-        let first = name($alloc, "%1")?;
-        let first = builder.assignment(first, None, AssignmentRhs::Var, Vec::new($alloc))?;
-        let sum = Instruction::Add {
-            a: first.into(),
-            b: number(1),
-        };
-        let root = builder.assignment(None, None, sum.into(), Vec::new($alloc))?;
-        builder.finish(root, $($argument),+)
-    }};
+    let item = unnamed_root(alloc, false)?;
+    item_is(&rt, alloc, item, "%1 = var\ninfer %1\n", true)?;
+    let item = unnamed_root_replaced(alloc, false)?;
+    item_is(&rt, alloc, item, "%1 = var\ninfer %1\nresult 1\n", true)
 }
 
 #[test]
 fn unnamed_value_may_take_a_name_that_is_there(rt: HostRuntime) -> Result<(), Fail> {
     let alloc = rt.alloc();
-    let builder = LeftHandSideBuilder::new(alloc);
-    let item = with_unnamed_sum!(alloc, builder, Vec::new(alloc));
+    let item = unnamed_root(alloc, true)?;
     let text = "%1 = var\n%1 = add %1, 1\ninfer %1\n";
-    left_is(&rt, alloc, &item, text, false)?;
-    let builder = ReplacementBuilder::new(alloc);
-    let item = with_unnamed_sum!(alloc, builder, number(1), Vec::new(alloc));
+    item_is(&rt, alloc, item, text, false)?;
+    let item = unnamed_root_replaced(alloc, true)?;
     let text = "%1 = var\n%1 = add %1, 1\ninfer %1\nresult 1\n";
-    replacement_is(&rt, alloc, &item, text, false)
+    item_is(&rt, alloc, item, text, false)
+}
+
+// A builder that each of its calls was given to once, with the value and the block without names, and the named block.
+fn grown(alloc: Global) -> Result<(ReplacementBuilder, ValueId, [BlockId; 2]), Fail> {
+    let mut builder = ReplacementBuilder::new(alloc);
+    let attributes = Vec::from_array(alloc, [Attribute::NonZero])?;
+    let x = builder.assignment(None, None, AssignmentRhs::Var, attributes)?;
+    let block = builder.block(None, 2)?;
+    builder.pc(x.into(), typed(-1, 8))?;
+    let named = builder.block(name(alloc, "%b")?, 0)?;
+    Ok((builder, x, [block, named]))
 }
 
 #[test]
 fn every_growing_call_puts_its_statement(rt: HostRuntime) -> Result<(), Fail> {
     let alloc = rt.alloc();
-    let mut builder = ReplacementBuilder::new(alloc);
-    let mut attributes = Vec::new(alloc);
-    attributes.push(Attribute::NonZero)?;
-    let x = builder.assignment(None, None, AssignmentRhs::Var, attributes)?;
-    let block = builder.block(None, 2)?;
-    builder.pc(x.into(), typed(-1, 8))?;
-    let named = builder.block(name(alloc, "%b")?, 0)?;
-    let copy = builder.clone()?;
-    let mut roots = Vec::new(alloc);
-    roots.push(RootAttribute::HarvestedFromUse)?;
-    let item = copy.finish(x, Operand::Value(named.into()), roots);
-    let text = item.to_text()?;
+    let (builder, x, [block, _]) = grown(alloc)?;
+    let item = builder.finish(x, Operand::Value(block.into()), Vec::new(alloc));
+    let want = "%0 = var (nonZero)\npc %0 -1:i8\ninfer %0\n%1 = block 2\nresult %1\n";
+    is_text(&rt, item.to_text()?, want);
+    Ok(())
+}
+
+#[test]
+fn copy_of_a_builder_has_its_statements(rt: HostRuntime) -> Result<(), Fail> {
+    let alloc = rt.alloc();
+    let (builder, x, [_, named]) = grown(alloc)?;
+    let roots = Vec::from_array(alloc, [RootAttribute::HarvestedFromUse])?;
+    let item = builder
+        .clone()?
+        .finish(x, Operand::Value(named.into()), roots);
     let want =
         "%0 = var (nonZero)\npc %0 -1:i8\ninfer %0 (harvestedFromUse)\n%b = block 0\nresult %b\n";
-    assert_eq!(rt; text.as_str(), want);
-    let item = builder.finish(x, Operand::Value(block.into()), Vec::new(alloc));
-    let text = item.to_text()?;
-    let want = "%0 = var (nonZero)\npc %0 -1:i8\ninfer %0\n%1 = block 2\nresult %1\n";
-    assert_eq!(rt; text.as_str(), want);
+    is_text(&rt, item.to_text()?, want);
     Ok(())
 }
 
@@ -120,8 +130,7 @@ fn left_hand_side_builder_grows_too(rt: HostRuntime) -> Result<(), Fail> {
     builder.pc(Operand::Value(block.into()), number(1))?;
     let copy = builder.clone()?;
     let item = copy.finish(block.into(), Vec::new(alloc));
-    let text = item.to_text()?;
-    assert_eq!(rt; text.as_str(), "%b = block 1\npc %b 1\ninfer %b\n");
+    is_text(&rt, item.to_text()?, "%b = block 1\npc %b 1\ninfer %b\n");
     Ok(())
 }
 
@@ -143,13 +152,15 @@ fn conditioned_replacement(alloc: Global) -> Result<Replacement, Fail> {
 
 #[test]
 fn conditions_on_predecessors_are_appended(rt: HostRuntime) -> Result<(), Fail> {
-    let text = conditioned(rt.alloc())?.to_text()?;
-    assert_eq!(rt; text.as_str(), "%b = block 2\nblockpc %b 1 0 1\ninfer %b\n");
-    let text = conditioned_replacement(rt.alloc())?.to_text()?;
-    assert_eq!(rt;
-        text.as_str(),
-        "%b = block 2\nblockpc %b 1 0 1\ninfer %b\nresult 3\n"
+    let item = conditioned(rt.alloc())?;
+    is_text(
+        &rt,
+        item.to_text()?,
+        "%b = block 2\nblockpc %b 1 0 1\ninfer %b\n",
     );
+    let item = conditioned_replacement(rt.alloc())?;
+    let text = "%b = block 2\nblockpc %b 1 0 1\ninfer %b\nresult 3\n";
+    is_text(&rt, item.to_text()?, text);
     Ok(())
 }
 
@@ -199,26 +210,28 @@ fn own_name_in_cand(alloc: Global, text: &str) -> Result<String, Fail> {
 
 #[test]
 fn values_are_got_by_their_id(rt: HostRuntime) -> Result<(), Fail> {
-    let got = own_name(rt.alloc(), "%x")?;
-    assert_eq!(rt; got.as_str(), "%x");
-    let got = own_name_in_replacement(rt.alloc(), "%x.1")?;
-    assert_eq!(rt; got.as_str(), "%x.1");
-    let got = own_name_in_cand(rt.alloc(), "%x.2")?;
-    assert_eq!(rt; got.as_str(), "%x.2");
+    is_text(&rt, own_name(rt.alloc(), "%x")?, "%x");
+    is_text(&rt, own_name_in_replacement(rt.alloc(), "%x.1")?, "%x.1");
+    is_text(&rt, own_name_in_cand(rt.alloc(), "%x.2")?, "%x.2");
     Ok(())
 }
 
 // What is shown for `{:?}` is not specified, but that something is.
-#[test]
-fn builders_and_orders_have_a_debug_text(rt: HostRuntime) -> Result<(), Fail> {
-    let builder = LeftHandSideBuilder::new(rt.alloc());
-    let shown = format!(in rt.alloc(); "{builder:?}")?;
-    assert!(rt; !shown.is_empty());
-    let builder = ReplacementBuilder::new(rt.alloc());
-    let shown = format!(in rt.alloc(); "{builder:?}")?;
-    assert!(rt; !shown.is_empty());
-    let order = conditioned(rt.alloc())?.print_order()?;
-    let shown = format!(in rt.alloc(); "{order:?}")?;
-    assert!(rt; !shown.is_empty());
+fn has_debug_text<T: Debug>(rt: &impl Abort, alloc: Global, value: &T) -> Result<(), Fail> {
+    let shown = format!(in alloc; "{value:?}")?;
+    equal(rt, shown.is_empty(), false);
     Ok(())
+}
+
+#[test]
+fn builders_have_a_debug_text(rt: HostRuntime) -> Result<(), Fail> {
+    let alloc = rt.alloc();
+    has_debug_text(&rt, alloc, &LeftHandSideBuilder::new(alloc))?;
+    has_debug_text(&rt, alloc, &ReplacementBuilder::new(alloc))
+}
+
+#[test]
+fn orders_have_a_debug_text(rt: HostRuntime) -> Result<(), Fail> {
+    let order = conditioned(rt.alloc())?.print_order()?;
+    has_debug_text(&rt, rt.alloc(), &order)
 }

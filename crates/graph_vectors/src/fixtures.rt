@@ -1,10 +1,12 @@
 //! What tests share: arenas that grow statement by statement, and the checks of an item.
 use souper_graph::ast::{
     Arena, Assignment, AssignmentRhs, Attribute, Block, BlockId, BlockPc, Cand, Constant, Id,
-    Infer, Instruction, LeftHandSide, Operand, Pc, Phi, Replacement, RightHandSide, Statement,
-    Type, ValueId,
+    Infer, Instruction, Item, LeftHandSide, Operand, Pc, Phi, Replacement, RightHandSide,
+    Statement, Type, ValueId,
 };
+use souper_graph::stringify::Order;
 use std::alloc::{AllocError, Global};
+use std::fmt::{Debug, Display};
 use std::process::Abort;
 use std::test::Fail;
 
@@ -177,51 +179,87 @@ pub fn foreign_id(alloc: Global, index: usize) -> Result<ValueId, AllocError> {
     Ok(id)
 }
 
-// The item has this text, by each call that writes it, so has its copy, and it is well formed or not.
-macro_rules! checks {
-    ($rt:expr, $alloc:expr, $item:expr, $want:expr, $well_formed:expr) => {{
-        let text = $item.to_text()?;
-        assert_eq!($rt; text.as_str(), $want);
-        let shown = $item.to_string($alloc)?;
-        assert_eq!($rt; shown.as_str(), $want);
-        assert_eq!($rt; $item.is_well_formed()?, $well_formed, "in {:?}", $want);
-        let again = $item.clone()?.to_text()?;
-        assert_eq!($rt; again.as_str(), $want);
-        let mut appended = String::from_str($alloc, "before\n")?;
-        $item.append_text(&mut appended)?;
-        assert_eq!($rt; appended.strip_prefix("before\n"), Some($want));
-    }};
+pub fn equal<T: Copy + PartialEq + Debug>(rt: &impl Abort, found: T, want: T) {
+    assert_eq!(rt; found, want);
 }
 
-pub fn left_is(
+pub fn is_text(rt: &impl Abort, text: String, want: &str) {
+    equal(rt, text.as_str(), want);
+}
+
+// The text of the item, appended to a line.
+fn appended<I: Item>(alloc: Global, item: &I) -> Result<String, Fail> {
+    let mut text = String::from_str(alloc, "before\n")?;
+    item.append_text(&mut text)?;
+    Ok(text)
+}
+
+// An item that has a copy.
+pub trait Copied: Item {
+    // The text of the copy.
+    fn text_of_copy(&self) -> Result<String, Fail>;
+}
+
+impl Copied for LeftHandSide {
+    fn text_of_copy(&self) -> Result<String, Fail> {
+        Ok(self.clone()?.to_text()?)
+    }
+}
+
+impl Copied for RightHandSide {
+    fn text_of_copy(&self) -> Result<String, Fail> {
+        Ok(self.clone()?.to_text()?)
+    }
+}
+
+impl Copied for Replacement {
+    fn text_of_copy(&self) -> Result<String, Fail> {
+        Ok(self.clone()?.to_text()?)
+    }
+}
+
+// The item has this text, by each call that writes it.
+fn is_written<I: Copied + Display>(
     rt: &impl Abort,
     alloc: Global,
-    item: &LeftHandSide,
+    item: &I,
     want: &str,
-    well_formed: bool,
 ) -> Result<(), Fail> {
-    checks!(rt, alloc, item, want, well_formed);
+    is_text(rt, item.to_text()?, want);
+    is_text(rt, item.to_string(alloc)?, want);
+    is_text(rt, item.text_of_copy()?, want);
+    let whole = format!(in alloc; "before\n{want}")?;
+    is_text(rt, appended(alloc, item)?, whole.as_str());
     Ok(())
 }
 
-pub fn right_is(
+// The item has this text, and is well formed or not.
+pub fn item_is<I: Copied + Display + Drop>(
     rt: &impl Abort,
     alloc: Global,
-    item: &RightHandSide,
+    item: I,
     want: &str,
     well_formed: bool,
 ) -> Result<(), Fail> {
-    checks!(rt, alloc, item, want, well_formed);
-    Ok(())
+    equal(rt, item.is_well_formed()?, well_formed);
+    is_written(rt, alloc, &item, want)
 }
 
-pub fn replacement_is(
+// The number of statements in printed order, those before an infer line, and the turns.
+type Counts = (usize, usize, u128);
+
+pub fn has_counts(rt: &impl Abort, order: Order, want: Counts) {
+    equal(rt, (order.ids.len(), order.lead, order.turns), want);
+}
+
+// The item is well formed, and has this text and these counts.
+pub fn prints<I: Copied + Display + Drop>(
     rt: &impl Abort,
     alloc: Global,
-    item: &Replacement,
+    item: I,
     want: &str,
-    well_formed: bool,
+    counts: Counts,
 ) -> Result<(), Fail> {
-    checks!(rt, alloc, item, want, well_formed);
-    Ok(())
+    has_counts(rt, item.print_order()?, counts);
+    item_is(rt, alloc, item, want, true)
 }

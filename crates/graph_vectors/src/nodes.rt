@@ -1,5 +1,5 @@
 //! The text of single nodes, the words of instructions, and what conversions keep.
-use crate::fixtures::{Graph, foreign_id, number, typed};
+use crate::fixtures::{Graph, equal, foreign_id, is_text, number, typed};
 use souper_graph::ast::{
     Arena, Assignment, AssignmentRhs, Attribute, Block, BlockId, BlockPc, Cand, Constant, Id,
     Infer, Instruction, Operand, Pc, Phi, RootAttribute, Statement, Type, ValueId, Var,
@@ -7,6 +7,7 @@ use souper_graph::ast::{
 use souper_graph::stringify::{DisplayWithContext, TextError};
 use std::alloc::{AllocError, Global};
 use std::default::Default;
+use std::fmt::Display;
 use std::process::Abort;
 use std::test::Fail;
 
@@ -19,13 +20,9 @@ fn instruction_is(
     operands: &[Operand],
     text: &str,
 ) -> Result<(), Fail> {
-    let graph = Graph::new(alloc);
-    assert_eq!(rt; instruction.instruction_name(), word);
-    assert_eq!(rt; instruction.operands().as_slice(), operands);
-    let mut out = String::new(alloc);
-    instruction.display(&graph.statements, &mut out)?;
-    assert_eq!(rt; out.as_str(), text);
-    Ok(())
+    equal(rt, instruction.instruction_name(), word);
+    equal(rt, instruction.operands().as_slice(), operands);
+    displays(rt, alloc, &instruction, &Arena::new(alloc), text)
 }
 
 #[test]
@@ -52,58 +49,91 @@ fn instructions_have_their_word_and_operands(rt: HostRuntime) -> Result<(), Fail
 
 #[test]
 fn operands_default_to_zero(rt: HostRuntime) -> Result<(), Fail> {
-    assert_eq!(rt; Operand::default(), number(0));
+    equal(&rt, Operand::default(), number(0));
     Ok(())
+}
+
+fn shows<D: Display>(rt: &impl Abort, alloc: Global, value: &D, want: &str) -> Result<(), Fail> {
+    is_text(rt, value.to_string(alloc)?, want);
+    Ok(())
+}
+
+fn constant_is(
+    rt: &impl Abort,
+    alloc: Global,
+    value: i128,
+    ty: Option<Type>,
+    want: &str,
+) -> Result<(), Fail> {
+    shows(rt, alloc, &Constant { value, ty }, want)
 }
 
 #[test]
 fn leaves_are_shown(rt: HostRuntime) -> Result<(), Fail> {
     let alloc = rt.alloc();
-    let ty = Type { width: 65535 };
-    assert_eq!(rt; ty.to_string(alloc)?.as_str(), "i65535");
-    for (value, width, want) in [
-        (i128::MIN, None, "-170141183460469231731687303715884105728"),
-        (i128::MAX, None, "170141183460469231731687303715884105727"),
-        (7, Some(8), "7:i8"),
-        (0, None, "0"),
-    ] {
-        let ty = width.map(|width| Type { width });
-        assert_eq!(rt; Constant { value, ty }.to_string(alloc)?.as_str(), want);
-    }
-    for (predecessors, want) in [(0, "block 0"), (u32::MAX, "block 4294967295")] {
-        assert_eq!(rt; Block { predecessors }.to_string(alloc)?.as_str(), want);
-    }
-    Ok(())
+    shows(&rt, alloc, &Type { width: 65535 }, "i65535")?;
+    constant_is(
+        &rt,
+        alloc,
+        i128::MIN,
+        None,
+        "-170141183460469231731687303715884105728",
+    )?;
+    constant_is(
+        &rt,
+        alloc,
+        i128::MAX,
+        None,
+        "170141183460469231731687303715884105727",
+    )?;
+    constant_is(&rt, alloc, 7, Some(Type { width: 8 }), "7:i8")?;
+    constant_is(&rt, alloc, 0, None, "0")?;
+    shows(&rt, alloc, &Block { predecessors: 0 }, "block 0")?;
+    let predecessors = u32::MAX;
+    shows(&rt, alloc, &Block { predecessors }, "block 4294967295")
+}
+
+fn attribute_is(
+    rt: &impl Abort,
+    alloc: Global,
+    attribute: Attribute,
+    want: &str,
+) -> Result<(), Fail> {
+    shows(rt, alloc, &attribute.clone()?, want)?;
+    shows(rt, alloc, &attribute, want)
 }
 
 #[test]
 fn attributes_are_shown(rt: HostRuntime) -> Result<(), Fail> {
     let alloc = rt.alloc();
     let bits = Vec::from_slice(alloc, &[Some(false), Some(true), None, Some(true)])?;
-    for (attribute, want) in [
-        (Attribute::KnownBits(bits), "(knownBits=01x1)"),
-        (Attribute::PowerOfTwo, "(powerOfTwo)"),
-        (Attribute::Negative, "(negative)"),
-        (Attribute::NonNegative, "(nonNegative)"),
-        (Attribute::NonZero, "(nonZero)"),
-        (Attribute::HasExternalUses, "(hasExternalUses)"),
-        (Attribute::SignBits(255), "(signBits=255)"),
-        (Attribute::Range(-1, 5), "(range=[-1,5))"),
-    ] {
-        assert_eq!(rt; attribute.to_string(alloc)?.as_str(), want);
-        let copy = attribute.clone()?;
-        assert_eq!(rt; copy.to_string(alloc)?.as_str(), want);
-    }
-    let bits = Vec::from_slice(alloc, &[false, true, true])?;
-    for (attribute, want) in [
-        (RootAttribute::DemandedBits(bits), "(demandedBits=011)"),
-        (RootAttribute::HarvestedFromUse, "(harvestedFromUse)"),
-    ] {
-        assert_eq!(rt; attribute.to_string(alloc)?.as_str(), want);
-        let copy = attribute.clone()?;
-        assert_eq!(rt; copy.to_string(alloc)?.as_str(), want);
-    }
-    Ok(())
+    attribute_is(&rt, alloc, Attribute::KnownBits(bits), "(knownBits=01x1)")?;
+    attribute_is(&rt, alloc, Attribute::PowerOfTwo, "(powerOfTwo)")?;
+    attribute_is(&rt, alloc, Attribute::Negative, "(negative)")?;
+    attribute_is(&rt, alloc, Attribute::NonNegative, "(nonNegative)")?;
+    attribute_is(&rt, alloc, Attribute::NonZero, "(nonZero)")?;
+    attribute_is(&rt, alloc, Attribute::HasExternalUses, "(hasExternalUses)")?;
+    attribute_is(&rt, alloc, Attribute::SignBits(255), "(signBits=255)")?;
+    attribute_is(&rt, alloc, Attribute::Range(-1, 5), "(range=[-1,5))")
+}
+
+fn root_attribute_is(
+    rt: &impl Abort,
+    alloc: Global,
+    attribute: RootAttribute,
+    want: &str,
+) -> Result<(), Fail> {
+    shows(rt, alloc, &attribute.clone()?, want)?;
+    shows(rt, alloc, &attribute, want)
+}
+
+#[test]
+fn root_attributes_are_shown(rt: HostRuntime) -> Result<(), Fail> {
+    let bits = Vec::from_slice(rt.alloc(), &[false, true, true])?;
+    let demanded = RootAttribute::DemandedBits(bits);
+    root_attribute_is(&rt, rt.alloc(), demanded, "(demandedBits=011)")?;
+    let harvested = RootAttribute::HarvestedFromUse;
+    root_attribute_is(&rt, rt.alloc(), harvested, "(harvestedFromUse)")
 }
 
 // The node's text is appended to what `out` holds, and is that of the node.
@@ -116,9 +146,7 @@ fn displays<N: DisplayWithContext>(
 ) -> Result<(), Fail> {
     let mut out = String::from_str(alloc, "ab ")?;
     node.display(statements, &mut out)?;
-    let mut whole = String::from_str(alloc, "ab ")?;
-    whole.push_str(want)?;
-    assert_eq!(rt; out.as_str(), whole.as_str());
+    equal(rt, out.as_str().strip_prefix("ab "), Some(want));
     Ok(())
 }
 
@@ -130,13 +158,37 @@ fn two_values(alloc: Global) -> Result<(Graph, ValueId, BlockId), AllocError> {
     Ok((graph, x, block))
 }
 
+fn operands_display(
+    rt: &impl Abort,
+    alloc: Global,
+    statements: &Arena<Statement>,
+    x: ValueId,
+    block: BlockId,
+) -> Result<(), Fail> {
+    displays(rt, alloc, &x, statements, "%x")?;
+    displays(rt, alloc, &block, statements, "%b")?;
+    displays(rt, alloc, &Operand::from(x), statements, "%x")?;
+    displays(rt, alloc, &typed(-1, 8), statements, "-1:i8")
+}
+
 #[test]
 fn operands_are_displayed_with_their_names(rt: HostRuntime) -> Result<(), Fail> {
     let (graph, x, block) = two_values(rt.alloc())?;
-    displays(&rt, rt.alloc(), &x, &graph.statements, "%x")?;
-    displays(&rt, rt.alloc(), &block, &graph.statements, "%b")?;
-    displays(&rt, rt.alloc(), &Operand::from(x), &graph.statements, "%x")?;
-    displays(&rt, rt.alloc(), &typed(-1, 8), &graph.statements, "-1:i8")
+    operands_display(&rt, rt.alloc(), &graph.statements, x, block)
+}
+
+fn conditions_display(
+    rt: &impl Abort,
+    alloc: Global,
+    statements: &Arena<Statement>,
+    pc: Pc,
+    block_pc: BlockPc,
+) -> Result<(), Fail> {
+    displays(rt, alloc, &pc, statements, "pc %x 1")?;
+    displays(rt, alloc, &Statement::from(pc), statements, "pc %x 1\n")?;
+    displays(rt, alloc, &block_pc, statements, "blockpc %b 1 0 %x")?;
+    let statement = Statement::from(block_pc);
+    displays(rt, alloc, &statement, statements, "blockpc %b 1 0 %x\n")
 }
 
 #[test]
@@ -146,207 +198,223 @@ fn conditions_are_displayed_with_their_names(rt: HostRuntime) -> Result<(), Fail
         x: x.into(),
         y: number(1),
     };
-    displays(&rt, rt.alloc(), &pc, &graph.statements, "pc %x 1")?;
-    displays(
-        &rt,
-        rt.alloc(),
-        &Statement::from(pc),
-        &graph.statements,
-        "pc %x 1\n",
-    )?;
     let block_pc = BlockPc {
         block,
         predecessor: 1,
         x: number(0),
         y: x.into(),
     };
-    displays(
-        &rt,
-        rt.alloc(),
-        &block_pc,
-        &graph.statements,
-        "blockpc %b 1 0 %x",
-    )?;
-    displays(
-        &rt,
-        rt.alloc(),
-        &Statement::from(block_pc),
-        &graph.statements,
-        "blockpc %b 1 0 %x\n",
-    )
+    conditions_display(&rt, rt.alloc(), &graph.statements, pc, block_pc)
+}
+
+// The right side and its copy are displayed so.
+fn rhs_displays(
+    rt: &impl Abort,
+    alloc: Global,
+    rhs: AssignmentRhs,
+    statements: &Arena<Statement>,
+    want: &str,
+) -> Result<(), Fail> {
+    displays(rt, alloc, &rhs.clone()?, statements, want)?;
+    displays(rt, alloc, &rhs, statements, want)
+}
+
+fn plain_sides_display(
+    rt: &impl Abort,
+    alloc: Global,
+    statements: &Arena<Statement>,
+) -> Result<(), Fail> {
+    rhs_displays(rt, alloc, AssignmentRhs::Var, statements, "var")?;
+    let rhs = AssignmentRhs::ReservedInst;
+    rhs_displays(rt, alloc, rhs, statements, "reservedinst")?;
+    let rhs = AssignmentRhs::ReservedConst;
+    rhs_displays(rt, alloc, rhs, statements, "reservedconst")?;
+    let rhs = AssignmentRhs::from(Block { predecessors: 3 });
+    rhs_displays(rt, alloc, rhs, statements, "block 3")?;
+    let rhs = AssignmentRhs::from(Instruction::Hole);
+    rhs_displays(rt, alloc, rhs, statements, "hole")
 }
 
 #[test]
 fn right_sides_are_displayed(rt: HostRuntime) -> Result<(), Fail> {
+    plain_sides_display(&rt, rt.alloc(), &Arena::new(rt.alloc()))
+}
+
+// The phi, its copy, and the right side that it is are displayed so.
+fn phi_displays(
+    rt: &impl Abort,
+    alloc: Global,
+    phi: Phi,
+    statements: &Arena<Statement>,
+    want: &str,
+) -> Result<(), Fail> {
+    displays(rt, alloc, &phi, statements, want)?;
+    displays(rt, alloc, &phi.clone()?, statements, want)?;
+    rhs_displays(rt, alloc, phi.into(), statements, want)
+}
+
+#[test]
+fn phis_are_displayed(rt: HostRuntime) -> Result<(), Fail> {
     let (graph, x, block) = two_values(rt.alloc())?;
-    let phi = Phi {
-        block,
-        values: Vec::from_slice(rt.alloc(), &[x.into(), number(2)])?,
-    };
-    displays(&rt, rt.alloc(), &phi, &graph.statements, "phi %b, %x, 2")?;
-    displays(
-        &rt,
-        rt.alloc(),
-        &phi.clone()?,
-        &graph.statements,
-        "phi %b, %x, 2",
-    )?;
-    displays(
-        &rt,
-        rt.alloc(),
-        &AssignmentRhs::from(phi),
-        &graph.statements,
-        "phi %b, %x, 2",
-    )?;
-    for (rhs, want) in [
-        (AssignmentRhs::Var, "var"),
-        (AssignmentRhs::ReservedInst, "reservedinst"),
-        (AssignmentRhs::ReservedConst, "reservedconst"),
-        (AssignmentRhs::from(Block { predecessors: 3 }), "block 3"),
-        (AssignmentRhs::from(Instruction::Hole), "hole"),
-    ] {
-        displays(&rt, rt.alloc(), &rhs, &graph.statements, want)?;
-        displays(&rt, rt.alloc(), &rhs.clone()?, &graph.statements, want)?;
-    }
-    Ok(())
+    let values = Vec::from_slice(rt.alloc(), &[x.into(), number(2)])?;
+    let phi = Phi { block, values };
+    phi_displays(&rt, rt.alloc(), phi, &graph.statements, "phi %b, %x, 2")
+}
+
+// The assignment and its copy are displayed so, and the statement that it is with a newline.
+fn assignment_displays(
+    rt: &impl Abort,
+    alloc: Global,
+    assignment: Assignment,
+    statements: &Arena<Statement>,
+) -> Result<(), Fail> {
+    let want = "%y:i8 = var (nonZero) (signBits=3)";
+    displays(rt, alloc, &assignment, statements, want)?;
+    displays(rt, alloc, &assignment.clone()?, statements, want)?;
+    let line = "%y:i8 = var (nonZero) (signBits=3)\n";
+    displays(rt, alloc, &Statement::from(assignment), statements, line)
 }
 
 #[test]
 fn assignments_are_displayed(rt: HostRuntime) -> Result<(), Fail> {
     let alloc = rt.alloc();
-    let (graph, _, _) = two_values(alloc)?;
-    let mut attributes = Vec::new(alloc);
-    attributes.push(Attribute::NonZero)?;
-    attributes.push(Attribute::SignBits(3))?;
     let assignment = Assignment {
         name: String::from_str(alloc, "%y")?,
         ty: Some(Type { width: 8 }),
         value: AssignmentRhs::Var,
+        attributes: Vec::from_array(alloc, [Attribute::NonZero, Attribute::SignBits(3)])?,
+    };
+    assignment_displays(&rt, alloc, assignment, &Arena::new(alloc))
+}
+
+// The attributes of a root that was harvested from a use.
+fn harvested(alloc: Global) -> Result<Vec<RootAttribute>, AllocError> {
+    Ok(Vec::from_array(alloc, [RootAttribute::HarvestedFromUse])?)
+}
+
+// The line of the root and its copy.
+fn infer_displays(
+    rt: &impl Abort,
+    alloc: Global,
+    value: ValueId,
+    statements: &Arena<Statement>,
+) -> Result<(), Fail> {
+    let attributes = harvested(alloc)?;
+    let infer = Infer { value, attributes };
+    let want = "infer %x (harvestedFromUse)\n";
+    displays(rt, alloc, &infer, statements, want)?;
+    displays(rt, alloc, &infer.clone()?, statements, want)
+}
+
+// The line of a pair and its copy.
+fn cand_displays(
+    rt: &impl Abort,
+    alloc: Global,
+    lhs: Operand,
+    statements: &Arena<Statement>,
+) -> Result<(), Fail> {
+    let (rhs, attributes) = (number(2), harvested(alloc)?);
+    let cand = Cand {
+        lhs,
+        rhs,
         attributes,
     };
-    let want = "%y:i8 = var (nonZero) (signBits=3)";
-    displays(&rt, rt.alloc(), &assignment, &graph.statements, want)?;
-    displays(
-        &rt,
-        rt.alloc(),
-        &assignment.clone()?,
-        &graph.statements,
-        want,
-    )?;
-    let line = "%y:i8 = var (nonZero) (signBits=3)\n";
-    displays(
-        &rt,
-        rt.alloc(),
-        &Statement::from(assignment),
-        &graph.statements,
-        line,
-    )
+    let want = "cand %x 2 (harvestedFromUse)\n";
+    displays(rt, alloc, &cand, statements, want)?;
+    displays(rt, alloc, &cand.clone()?, statements, want)
 }
 
 #[test]
 fn last_lines_are_displayed(rt: HostRuntime) -> Result<(), Fail> {
     let (graph, x, _) = two_values(rt.alloc())?;
-    let mut attributes = Vec::new(rt.alloc());
-    attributes.push(RootAttribute::HarvestedFromUse)?;
-    let infer = Infer {
-        value: x,
-        attributes,
+    infer_displays(&rt, rt.alloc(), x, &graph.statements)?;
+    cand_displays(&rt, rt.alloc(), x.into(), &graph.statements)
+}
+
+// The node has no text, and what was there before stays.
+fn display_is_refused<N: DisplayWithContext>(
+    rt: &impl Abort,
+    alloc: Global,
+    node: &N,
+    statements: &Arena<Statement>,
+    want: TextError,
+) -> Result<(), Fail> {
+    let mut out = String::from_str(alloc, "ab")?;
+    let error = node.display(statements, &mut out).err();
+    equal(rt, (out.as_str(), error), ("ab", Some(want)));
+    Ok(())
+}
+
+// An operand out of range, alone and after another.
+fn far_is_refused(
+    rt: &impl Abort,
+    alloc: Global,
+    value: ValueId,
+    far: ValueId,
+    statements: &Arena<Statement>,
+) -> Result<(), Fail> {
+    let want = TextError::OutOfRange(far.into());
+    display_is_refused(rt, alloc, &Operand::Value(far), statements, want)?;
+    let pc = Pc {
+        x: value.into(),
+        y: far.into(),
     };
-    displays(
-        &rt,
-        rt.alloc(),
-        &infer,
-        &graph.statements,
-        "infer %x (harvestedFromUse)\n",
-    )?;
-    let cand = Cand {
-        lhs: x.into(),
-        rhs: number(2),
-        attributes: infer.clone()?.attributes,
-    };
-    displays(
-        &rt,
-        rt.alloc(),
-        &cand,
-        &graph.statements,
-        "cand %x 2 (harvestedFromUse)\n",
-    )?;
-    displays(
-        &rt,
-        rt.alloc(),
-        &cand.clone()?,
-        &graph.statements,
-        "cand %x 2 (harvestedFromUse)\n",
-    )
+    display_is_refused(rt, alloc, &pc, statements, want)
 }
 
 #[test]
 fn refused_display_leaves_the_text(rt: HostRuntime) -> Result<(), Fail> {
-    let alloc = rt.alloc();
-    let far = foreign_id(alloc, 9)?;
-    let mut graph = Graph::new(alloc);
-    let x = graph.var("%x")?;
-    let mut out = String::from_str(alloc, "ab")?;
-    let operand = Operand::Value(far);
-    let error = operand.display(&graph.statements, &mut out).err();
-    assert_eq!(rt; error, Some(TextError::OutOfRange(far.into())));
-    assert_eq!(rt; out.as_str(), "ab");
-    let pc = Pc {
-        x: x.into(),
-        y: operand,
-    };
-    let error = pc.display(&graph.statements, &mut out).err();
-    assert_eq!(rt; error, Some(TextError::OutOfRange(far.into())));
-    assert_eq!(rt; out.as_str(), "ab");
-    let block = BlockId::from(Id::from(x));
+    let far = foreign_id(rt.alloc(), 9)?;
+    let (graph, value, _) = two_values(rt.alloc())?;
+    far_is_refused(&rt, rt.alloc(), value, far, &graph.statements)?;
     let phi = Phi {
-        block,
-        values: Vec::new(alloc),
+        block: BlockId::from(Id::from(value)),
+        values: Vec::new(rt.alloc()),
     };
-    let error = phi.display(&graph.statements, &mut out).err();
-    assert_eq!(rt; error, Some(TextError::NotABlock(x.into())));
-    assert_eq!(rt; out.as_str(), "ab");
-    Ok(())
+    let want = TextError::NotABlock(value.into());
+    display_is_refused(&rt, rt.alloc(), &phi, &graph.statements, want)
 }
 
 #[test]
 fn block_ids_convert_by_position(rt: HostRuntime) -> Result<(), Fail> {
     let third = foreign_id(rt.alloc(), 2)?;
     let block = BlockId::from(Id::from(third));
-    assert_eq!(rt; Id::from(block).index(), 2);
-    assert_eq!(rt; ValueId::from(block), third);
-    assert_eq!(rt; block, BlockId::from(Id::from(block)));
+    equal(
+        &rt,
+        (Id::from(block).index(), ValueId::from(block)),
+        (2, third),
+    );
+    equal(&rt, block, BlockId::from(Id::from(block)));
     Ok(())
 }
 
 #[test]
 fn variables_are_copied_with_their_attributes(rt: HostRuntime) -> Result<(), Fail> {
-    let mut attributes = Vec::new(rt.alloc());
-    attributes.push(Attribute::Negative)?;
+    let attributes = Vec::from_array(rt.alloc(), [Attribute::Negative])?;
     let var = Var { attributes };
-    assert_eq!(rt; var.clone()?.attributes.len(), 1);
+    equal(&rt, var.clone()?.attributes.len(), 1);
     Ok(())
 }
 
 #[test]
 fn plain_nodes_are_copied(rt: HostRuntime) -> Result<(), Fail> {
     let (_, x, block) = two_values(rt.alloc())?;
-    assert_eq!(rt; x.clone()?, x);
-    assert_eq!(rt; block.clone()?, block);
-    assert_eq!(rt; Id::from(x).clone()?, Id::from(x));
+    equal(&rt, x.clone()?, x);
+    equal(&rt, block.clone()?, block);
+    equal(&rt, Id::from(x).clone()?, Id::from(x));
     let ty = Type { width: 8 };
-    assert_eq!(rt; ty.clone()?, ty);
+    equal(&rt, ty.clone()?, ty);
     let constant = Constant {
         value: -1,
         ty: Some(ty),
     };
-    assert_eq!(rt; constant.clone()?, constant);
+    equal(&rt, constant.clone()?, constant);
     let (a, b) = (Operand::from(x), Operand::from(constant));
-    assert_eq!(rt; a.clone()?, a);
+    equal(&rt, a.clone()?, a);
     let sum = Instruction::Add { a, b };
-    assert_eq!(rt; sum.clone()?, sum);
+    equal(&rt, sum.clone()?, sum);
     let error = TextError::OutOfRange(x.into());
-    assert_eq!(rt; error.clone()?, error);
+    equal(&rt, error.clone()?, error);
     Ok(())
 }
 
@@ -355,15 +423,15 @@ fn blocks_and_conditions_are_copied(rt: HostRuntime) -> Result<(), Fail> {
     let (_, value, block) = two_values(rt.alloc())?;
     let (x, y) = (Operand::from(value), number(1));
     let pc = Pc { x, y };
-    assert_eq!(rt; pc.clone()?, pc);
+    equal(&rt, pc.clone()?, pc);
     let block_pc = BlockPc {
         block,
         predecessor: 1,
         x,
         y,
     };
-    assert_eq!(rt; block_pc.clone()?, block_pc);
+    equal(&rt, block_pc.clone()?, block_pc);
     let block = Block { predecessors: 2 };
-    assert_eq!(rt; block.clone()?, block);
+    equal(&rt, block.clone()?, block);
     Ok(())
 }

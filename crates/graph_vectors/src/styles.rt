@@ -1,5 +1,5 @@
 //! Width, fill, precision and sign are ignored in the shown text of a node, an item or an error.
-use crate::fixtures::{Graph, foreign_id, number, typed};
+use crate::fixtures::{Graph, equal, foreign_id, is_text, number, typed};
 use souper_graph::ast::{Attribute, Block, Constant, RootAttribute, Type};
 use souper_graph::stringify::TextError;
 use std::alloc::Global;
@@ -9,17 +9,15 @@ use std::test::Fail;
 
 // Whatever the options are, the text is the same.
 fn shows<D: Display>(rt: &impl Abort, alloc: Global, value: &D, want: &str) -> Result<(), Fail> {
-    assert_eq!(rt; format!(in alloc; "{value}")?.as_str(), want);
-    assert_eq!(rt; format!(in alloc; "{value:99}")?.as_str(), want);
-    assert_eq!(rt; format!(in alloc; "{value:*^99}")?.as_str(), want);
-    assert_eq!(rt; format!(in alloc; "{value:.1}")?.as_str(), want);
-    assert_eq!(rt; format!(in alloc; "{value:+}")?.as_str(), want);
-    assert_eq!(rt; format!(in alloc; "{value:#}")?.as_str(), want);
-    assert_eq!(rt; format!(in alloc; "{value:>+#099.3}")?.as_str(), want);
-    assert_eq!(rt;
-        format!(in alloc; "[{value:_<+99.0}]")?.len(),
-        want.len() + 2
-    );
+    is_text(rt, format!(in alloc; "{value}")?, want);
+    is_text(rt, format!(in alloc; "{value:99}")?, want);
+    is_text(rt, format!(in alloc; "{value:*^99}")?, want);
+    is_text(rt, format!(in alloc; "{value:.1}")?, want);
+    is_text(rt, format!(in alloc; "{value:+}")?, want);
+    is_text(rt, format!(in alloc; "{value:#}")?, want);
+    is_text(rt, format!(in alloc; "{value:>+#099.3}")?, want);
+    let within = format!(in alloc; "[{value:_<+99.0}]")?;
+    equal(rt, within.len(), want.len() + 2);
     Ok(())
 }
 
@@ -66,25 +64,28 @@ fn errors_have_no_style(rt: HostRuntime) -> Result<(), Fail> {
 }
 
 #[test]
-fn items_have_no_style(rt: HostRuntime) -> Result<(), Fail> {
-    let alloc = rt.alloc();
-    let mut graph = Graph::new(alloc);
+fn left_hand_sides_have_no_style(rt: HostRuntime) -> Result<(), Fail> {
+    let mut graph = Graph::new(rt.alloc());
     let x = graph.typed_var("%x", 8)?;
-    shows(&rt, alloc, &graph.infer(x), "%x:i8 = var\ninfer %x\n")?;
-    shows(
-        &rt,
-        alloc,
-        &Graph::new(alloc).result(typed(-5, 8)),
-        "result -5:i8",
-    )?;
-    let cand = Graph::new(alloc).cand(number(1), number(2));
-    shows(&rt, alloc, &cand, "cand 1 2\n")?;
-    let mut graph = Graph::new(alloc);
+    shows(&rt, rt.alloc(), &graph.infer(x), "%x:i8 = var\ninfer %x\n")
+}
+
+#[test]
+fn right_hand_sides_have_no_style(rt: HostRuntime) -> Result<(), Fail> {
+    let item = Graph::new(rt.alloc()).result(typed(-5, 8));
+    shows(&rt, rt.alloc(), &item, "result -5:i8")
+}
+
+#[test]
+fn replacements_have_no_style(rt: HostRuntime) -> Result<(), Fail> {
+    let item = Graph::new(rt.alloc()).cand(number(1), number(2));
+    shows(&rt, rt.alloc(), &item, "cand 1 2\n")
+}
+
+#[test]
+fn replacements_by_a_result_have_no_style(rt: HostRuntime) -> Result<(), Fail> {
+    let mut graph = Graph::new(rt.alloc());
     let x = graph.var("%x")?;
-    shows(
-        &rt,
-        alloc,
-        &graph.replaced(x, number(0)),
-        "%x = var\ninfer %x\nresult 0\n",
-    )
+    let item = graph.replaced(x, number(0));
+    shows(&rt, rt.alloc(), &item, "%x = var\ninfer %x\nresult 0\n")
 }

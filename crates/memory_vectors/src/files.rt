@@ -1,13 +1,14 @@
 //! Files that are read, and files that are compared. The writers are arrays, which do not allocate.
-use crate::met::{Met, completed, strictly};
-use crate::runs::holds;
+use crate::met::{Met, completed, completed_if, equal, strictly};
+use crate::runs::{holds, wrote};
 use crate::texts::{
-    ATTRIBUTES, TWO_ITEMS, are_attributes, are_two_items, is_out_of_memory, is_refusal,
+    ATTRIBUTES, TWO_ITEMS, are_attributes, are_two_items, is_out_of_memory, is_refusal, is_text,
     right_hand_side_text, shown,
 };
 use souper_format::command::Kind;
 use souper_format::same_run::same_run;
 use souper_format::watched::Watched;
+use souper_ir::ast::RightHandSide;
 use souper_ir::parse::{
     ParseError, ParseErrorKind, parse_left_hand_sides_file, parse_replacements_file,
     parse_right_hand_sides_file,
@@ -23,9 +24,9 @@ fn is_for_memory(rt: &impl Abort, alloc: Global, error: &ParseError) -> Result<M
     if error.kind() != ParseErrorKind::Io {
         return is_out_of_memory(rt, alloc, error);
     }
-    assert!(rt; error.offset().is_none());
+    equal(rt, error.offset(), None);
     let text = shown(alloc, error)?;
-    assert!(rt; text.as_str().starts_with("IO error: "));
+    equal(rt, text.as_str().starts_with("IO error: "), true);
     Ok(Met::Refused)
 }
 
@@ -57,17 +58,20 @@ fn results<R: Files + AllocGlobal + Abort>(rt: &R, alloc: Global) -> Result<Met,
         return Ok(Met::Unreached);
     };
     match parse_right_hand_sides_file(rt, alloc, "results") {
-        Ok(items) => {
-            let met = completed(alloc);
-            assert_eq!(rt; items.len(), 2);
-            for (item, want) in items.iter().zip(&["result 1", "result 2"]) {
-                let text = right_hand_side_text(item)?;
-                assert_eq!(rt; text.as_str(), *want);
-            }
-            Ok(met)
-        }
+        Ok(items) => are_results(rt, alloc, items.as_slice()),
         Err(error) => is_for_memory(rt, alloc, &error),
     }
+}
+
+// A call just returned the two results.
+fn are_results(rt: &impl Abort, alloc: Global, items: &[RightHandSide]) -> Result<Met, Fail> {
+    let met = completed(alloc);
+    let [first, second] = items else {
+        return Err(Fail::new("not two items"));
+    };
+    is_text(rt, right_hand_side_text(first), "result 1")?;
+    is_text(rt, right_hand_side_text(second), "result 2")?;
+    Ok(met)
 }
 
 #[test]
@@ -113,14 +117,18 @@ fn refusal<R: Files + AllocGlobal + Abort>(rt: &R, alloc: Global) -> Result<Met,
     let Ok(()) = fs::write(rt, "refused", REFUSED) else {
         return Ok(Met::Unreached);
     };
-    let Err(error) = parse_left_hand_sides_file(rt, alloc, "refused") else {
-        return Err(Fail::new("a name is unknown"));
-    };
+    match parse_left_hand_sides_file(rt, alloc, "refused") {
+        Ok(_) => Err(Fail::new("a name is unknown")),
+        Err(error) => is_unknown_name(rt, alloc, &error),
+    }
+}
+
+fn is_unknown_name(rt: &impl Abort, alloc: Global, error: &ParseError) -> Result<Met, Fail> {
     if error.kind() != ParseErrorKind::Parse {
-        return is_for_memory(rt, alloc, &error);
+        return is_for_memory(rt, alloc, error);
     }
     let want = REFUSAL.strip_suffix("\n").ok_or("no newline")?;
-    is_refusal(rt, alloc, &error, 6, want)
+    is_refusal(rt, alloc, error, 6, want)
 }
 
 #[test]
@@ -152,22 +160,22 @@ fn compare<R: Files + AllocGlobal + Abort>(
     let mut out = Watched::new(written.as_mut_slice());
     let mut err = Watched::new(reported.as_mut_slice());
     let status = same_run(rt, alloc, Kind::Lhs, first, second, &mut out, &mut err);
-    let met = if status == want {
-        completed(alloc)
-    } else {
-        Met::Refused
-    };
-    assert!(rt; !out.failed() && !err.failed());
+    let met = completed_if(alloc, status == want);
+    equal(rt, (out.failed(), err.failed()), (false, false));
     if status == want {
-        assert!(rt; holds(&written, output) && holds(&reported, line));
+        wrote(rt, &written, output);
+        wrote(rt, &reported, line);
     } else {
-        assert_eq!(rt; status, 3);
-        assert!(rt; holds(&written, b""));
-        assert!(rt;
-            holds(&reported, b"out of memory\n") || reported.as_slice().starts_with(b"IO error: ")
-        );
+        equal(rt, status, 3);
+        wrote(rt, &written, b"");
+        equal(rt, is_line_for_memory(&reported), true);
     }
     Ok(met)
+}
+
+// Whether the array has the line of out of memory, or begins with that of a read that failed.
+fn is_line_for_memory(array: &[u8]) -> bool {
+    holds(array, b"out of memory\n") || array.starts_with(b"IO error: ")
 }
 
 // Files that differ in the order of their definitions.

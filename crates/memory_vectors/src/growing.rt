@@ -2,7 +2,8 @@
 ghost use Rattle.std.specs.Prelude.{IfOk};
 ghost use Rattle.souper_graph.specs.Building.{BeginsWithPercent};
 
-use crate::met::{Met, completed, strictly};
+use crate::met::{Met, completed_if, equal, strictly};
+use crate::texts::is_text;
 use souper_ir::ast::{Arena, Constant, Operand, Pc, Statement};
 use souper_ir::stringify::{DisplayWithContext, TextError};
 use std::alloc::{AllocError, Global};
@@ -24,34 +25,35 @@ pub fn name(alloc: Global, text: &str) -> Result<Option<String>, AllocError>
     Ok(Some(String::from_str(alloc, text)?))
 }
 
-/// What became of a call that grew the list, or did not.
-pub fn met(alloc: Global, has_grown: bool) -> Met {
-    if has_grown {
-        completed(alloc)
-    } else {
-        Met::Refused
+// The statement's line. One allocation of a run fails, so that a second try has its memory.
+fn line(
+    alloc: Global,
+    statements: &Arena<Statement>,
+    statement: &Statement,
+) -> Result<String, TextError> {
+    let mut out = String::new(alloc);
+    if let Err(TextError::OutOfMemory) = statement.display(statements, &mut out) {
+        statement.display(statements, &mut out)?;
     }
+    Ok(out)
 }
 
-/// The arena has the statements with these lines, and the one of the last line if the call appended it.
+/// A call just grew the arena, or did not. It has the statements with these lines, and the one of the last line if the
+/// call appended it.
 pub fn holds(
     rt: &impl Abort,
     alloc: Global,
     statements: &Arena<Statement>,
     lines: &[&str; 5],
-    met: &Met,
-) -> Result<(), Fail> {
-    let len = if let Met::Refused = met { 4 } else { 5 };
-    assert_eq!(rt; statements.len(), len);
-    for ((_, statement), want) in statements.iter().zip(lines) {
-        let mut out = String::new(alloc);
-        // One allocation of a run fails, so that a second try has its memory.
-        if let Err(TextError::OutOfMemory) = statement.display(statements, &mut out) {
-            statement.display(statements, &mut out)?;
-        }
-        assert_eq!(rt; out.as_str(), *want);
+    has_grown: bool,
+) -> Result<Met, Fail> {
+    let met = completed_if(alloc, has_grown);
+    equal(rt, statements.len(), if has_grown { 5 } else { 4 });
+    for (id, statement) in statements.iter() {
+        let want = lines.get(id.index()).ok_or("no such line")?;
+        is_text(rt, line(alloc, statements, statement), want)?;
     }
-    Ok(())
+    Ok(met)
 }
 
 /// A call of a builder that appends a statement.
@@ -78,61 +80,29 @@ pub fn lines(call: Call) -> [&'static str; 5] {
     ["%0 = block 2\n", "pc 1 1\n", "pc 2 2\n", "pc 3 3\n", line]
 }
 
-// Makes the call on a builder with that block. True if it succeeded.
-macro_rules! appends {
-    ($alloc:expr, $builder:ident, $block:expr, $call:expr) => {
-        match $call {
-            Call::NamedAssignment => {
-                let Ok(name) = name($alloc, "%x") else {
-                    return Ok(Met::Unreached);
-                };
-                let ty = Some(Type { width: 8 });
-                let attributes = Vec::new($alloc);
-                $builder
-                    .assignment(name, ty, AssignmentRhs::Var, attributes)
-                    .is_ok()
-            }
-            Call::UnnamedAssignment => {
-                let attributes = Vec::new($alloc);
-                $builder
-                    .assignment(None, None, AssignmentRhs::Var, attributes)
-                    .is_ok()
-            }
-            Call::NamedBlock => {
-                let Ok(name) = name($alloc, "%b") else {
-                    return Ok(Met::Unreached);
-                };
-                $builder.block(name, 7).is_ok()
-            }
-            Call::UnnamedBlock => $builder.block(None, 7).is_ok(),
-            Call::Condition => $builder.pc(number(5), number(6)).is_ok(),
-            Call::ConditionOnPredecessor => $builder
-                .block_pc($block, 1, number(5), number(6))
-                .is_ok(),
-        }
-    };
-}
-
-pub(crate) use appends;
-
 // The condition that the number equals itself.
 fn condition(value: i128) -> Statement {
     let (x, y) = (number(value), number(value));
     Pc { x, y }.into()
 }
 
-// Grows an arena by a statement.
-fn arena(rt: &impl Abort, alloc: Global) -> Result<Met, Fail> {
+// An arena of four conditions.
+fn filled(alloc: Global) -> Result<Arena<Statement>, AllocError> {
     let mut statements = Arena::new(alloc);
     for value in [0, 1, 2, 3] {
-        if statements.alloc(condition(value)).is_err() {
-            return Ok(Met::Unreached);
-        }
+        statements.alloc(condition(value))?;
     }
-    let met = met(alloc, statements.alloc(condition(4)).is_ok());
+    Ok(statements)
+}
+
+// Grows an arena by a statement.
+fn arena(rt: &impl Abort, alloc: Global) -> Result<Met, Fail> {
+    let Ok(mut statements) = filled(alloc) else {
+        return Ok(Met::Unreached);
+    };
+    let has_grown = statements.alloc(condition(4)).is_ok();
     let lines = ["pc 0 0\n", "pc 1 1\n", "pc 2 2\n", "pc 3 3\n", "pc 4 4\n"];
-    holds(rt, alloc, &statements, &lines, &met)?;
-    Ok(met)
+    holds(rt, alloc, &statements, &lines, has_grown)
 }
 
 #[test]

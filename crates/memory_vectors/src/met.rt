@@ -1,5 +1,7 @@
 //! What became of a call while one allocation failed.
 use std::alloc::Global;
+use std::fmt::Debug;
+use std::process::Abort;
 use std::test::Fail;
 
 /// What became of a call whose result was allowed.
@@ -21,6 +23,20 @@ pub fn completed(alloc: Global) -> Met {
         Ok(_) => Met::Completed,
         Err(_) => Met::NoneRefused,
     }
+}
+
+/// What became of a call that just returned its result with ample memory, or else out of memory.
+pub fn completed_if(alloc: Global, has_completed: bool) -> Met {
+    if has_completed {
+        completed(alloc)
+    } else {
+        Met::Refused
+    }
+}
+
+/// The value is the one that is wanted.
+pub fn equal<T: Copy + PartialEq + Debug>(rt: &impl Abort, found: T, want: T) {
+    assert_eq!(rt; found, want);
 }
 
 /// Passes only for the result with ample memory, and reports to the script why not.

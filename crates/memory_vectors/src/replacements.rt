@@ -4,7 +4,7 @@ ghost use Rattle.souper_graph.specs.Faults.{IsBlock};
 ghost use Rattle.souper_graph.specs.View.{view_statement};
 ghost use Rattle.souper_graph.specs.WellFormed.{predecessors_at};
 
-use crate::growing::{Call, appends, holds, lines, met, name, number};
+use crate::growing::{Call, holds, lines, name, number};
 use crate::met::{Met, strictly};
 use souper_ir::ast::{AssignmentRhs, BlockId, Replacement, ReplacementBuilder, Type};
 use std::alloc::{AllocError, Global};
@@ -24,18 +24,72 @@ fn filled(alloc: Global) -> Result<(ReplacementBuilder, BlockId), AllocError>
     Ok((builder, block))
 }
 
+// The item of a full builder after the call, and whether the call succeeded. No name is given if `text` is empty.
+fn with_assignment(
+    alloc: Global,
+    text: &str,
+    ty: Option<Type>,
+) -> Result<(Replacement, bool), AllocError> {
+    let (mut builder, block) = filled(alloc)?;
+    let name = name(alloc, text)?;
+    let attributes = Vec::new(alloc);
+    let has_grown = builder
+        .assignment(name, ty, AssignmentRhs::Var, attributes)
+        .is_ok();
+    Ok((
+        builder.finish(block.into(), number(9), Vec::new(alloc)),
+        has_grown,
+    ))
+}
+
+fn with_block(alloc: Global, text: &str) -> Result<(Replacement, bool), AllocError> {
+    let (mut builder, block) = filled(alloc)?;
+    let name = name(alloc, text)?;
+    let has_grown = builder.block(name, 7).is_ok();
+    Ok((
+        builder.finish(block.into(), number(9), Vec::new(alloc)),
+        has_grown,
+    ))
+}
+
+fn with_condition(alloc: Global) -> Result<(Replacement, bool), AllocError> {
+    let (mut builder, block) = filled(alloc)?;
+    let has_grown = builder.pc(number(5), number(6)).is_ok();
+    Ok((
+        builder.finish(block.into(), number(9), Vec::new(alloc)),
+        has_grown,
+    ))
+}
+
+fn with_condition_on_predecessor(alloc: Global) -> Result<(Replacement, bool), AllocError> {
+    let (mut builder, block) = filled(alloc)?;
+    let has_grown = builder.block_pc(block, 1, number(5), number(6)).is_ok();
+    Ok((
+        builder.finish(block.into(), number(9), Vec::new(alloc)),
+        has_grown,
+    ))
+}
+
+fn grown(alloc: Global, call: Call) -> Result<(Replacement, bool), AllocError> {
+    match call {
+        Call::NamedAssignment => with_assignment(alloc, "%x", Some(Type { width: 8 })),
+        Call::UnnamedAssignment => with_assignment(alloc, "", None),
+        Call::NamedBlock => with_block(alloc, "%b"),
+        Call::UnnamedBlock => with_block(alloc, ""),
+        Call::Condition => with_condition(alloc),
+        Call::ConditionOnPredecessor => with_condition_on_predecessor(alloc),
+    }
+}
+
 // Makes the call on a full builder. The item that it finishes has the statement of the call if it was appended.
 fn appended(rt: &impl Abort, alloc: Global, call: Call) -> Result<Met, Fail> {
-    let Ok((mut builder, block)) = filled(alloc) else {
-        return Ok(Met::Unreached);
-    };
-    let met = met(alloc, appends!(alloc, builder, block, call));
-    let item = builder.finish(block.into(), number(9), Vec::new(alloc));
-    let Replacement::LhsRhs { statements, .. } = &item else {
-        return Err(Fail::new("another kind of replacement"));
-    };
-    holds(rt, alloc, statements, &lines(call), &met)?;
-    Ok(met)
+    match grown(alloc, call) {
+        Ok((Replacement::LhsRhs { statements, .. }, has_grown)) => {
+            holds(rt, alloc, &statements, &lines(call), has_grown)
+        }
+        Ok(_) => Err(Fail::new("another kind of replacement")),
+        Err(_) => Ok(Met::Unreached),
+    }
 }
 
 #[test]

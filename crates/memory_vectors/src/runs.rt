@@ -1,5 +1,5 @@
 //! Runs of the formatter. The writers are arrays, which do not allocate.
-use crate::met::{Met, completed, strictly};
+use crate::met::{Met, completed_if, equal, strictly};
 use souper_format::command::Kind;
 use souper_format::run::format_run;
 use souper_format::watched::Watched;
@@ -13,6 +13,11 @@ pub fn holds(array: &[u8], bytes: &[u8]) -> bool {
         Some(rest) => rest.iter().all(|byte| *byte == 0),
         None => false,
     }
+}
+
+/// These bytes, and no others, were written to the array.
+pub fn wrote(rt: &impl Abort, array: &[u8], bytes: &[u8]) {
+    equal(rt, holds(array, bytes), true);
 }
 
 // Formats the source, which ends in this status with these bytes, or in out of memory.
@@ -30,17 +35,16 @@ fn run(
     let mut out = Watched::new(written.as_mut_slice());
     let mut err = Watched::new(reported.as_mut_slice());
     let status = format_run(alloc, Kind::Lhs, &mut input, &mut out, &mut err);
-    let met = if status == want {
-        completed(alloc)
-    } else {
-        Met::Refused
-    };
-    assert!(rt; !input.failed() && !out.failed() && !err.failed());
+    let met = completed_if(alloc, status == want);
+    equal(rt, input.failed(), false);
+    equal(rt, (out.failed(), err.failed()), (false, false));
     if status == want {
-        assert!(rt; holds(&written, output) && holds(&reported, line));
+        wrote(rt, &written, output);
+        wrote(rt, &reported, line);
     } else {
-        assert_eq!(rt; status, 3);
-        assert!(rt; holds(&written, b"") && holds(&reported, b"out of memory\n"));
+        equal(rt, status, 3);
+        wrote(rt, &written, b"");
+        wrote(rt, &reported, b"out of memory\n");
     }
     Ok(met)
 }

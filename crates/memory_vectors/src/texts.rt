@@ -1,5 +1,5 @@
 //! Texts that are read.
-use crate::met::{Met, completed, strictly};
+use crate::met::{Met, completed, equal, strictly};
 use souper_ir::ast::{LeftHandSide, Replacement, RightHandSide};
 use souper_ir::parse::{
     ParseError, ParseErrorKind, parse_left_hand_sides_str, parse_replacements_str,
@@ -59,35 +59,52 @@ pub fn shown(alloc: Global, error: &ParseError) -> Result<String, Fail> {
     }
 }
 
+/// There is a text, which is this one.
+pub fn is_text(rt: &impl Abort, found: Result<String, TextError>, want: &str) -> Result<(), Fail> {
+    let text = found?;
+    equal(rt, text.as_str(), want);
+    Ok(())
+}
+
+/// The error shows this text.
+pub fn shows(rt: &impl Abort, alloc: Global, error: &ParseError, want: &str) -> Result<(), Fail> {
+    let text = shown(alloc, error)?;
+    equal(rt, text.as_str(), want);
+    Ok(())
+}
+
 /// The error is out of memory.
 pub fn is_out_of_memory(rt: &impl Abort, alloc: Global, error: &ParseError) -> Result<Met, Fail> {
-    assert!(rt; error.kind() == ParseErrorKind::Memory);
-    assert!(rt; error.offset().is_none());
-    let text = shown(alloc, error)?;
-    assert_eq!(rt; text.as_str(), "out of memory");
+    equal(rt, error.kind(), ParseErrorKind::Memory);
+    equal(rt, error.offset(), None);
+    shows(rt, alloc, error, "out of memory")?;
     Ok(Met::Refused)
 }
 
 /// A call just returned the two items.
 pub fn are_two_items(rt: &impl Abort, alloc: Global, items: &[Replacement]) -> Result<Met, Fail> {
     let met = completed(alloc);
-    assert_eq!(rt; items.len(), 2);
-    for (item, want) in items.iter().zip(&TWO_TEXTS) {
-        let text = replacement_text(item)?;
-        assert_eq!(rt; text.as_str(), *want);
-    }
+    let [first, second] = items else {
+        return Err(Fail::new("not two items"));
+    };
+    is_text(rt, replacement_text(first), TWO_TEXTS[0])?;
+    is_text(rt, replacement_text(second), TWO_TEXTS[1])?;
     Ok(met)
 }
 
 /// A call just returned the item with attributes.
-pub fn are_attributes(rt: &impl Abort, alloc: Global, items: &[LeftHandSide]) -> Result<Met, Fail> {
+pub fn is_attributes(rt: &impl Abort, alloc: Global, item: &LeftHandSide) -> Result<Met, Fail> {
     let met = completed(alloc);
-    assert_eq!(rt; items.len(), 1);
-    for item in items.iter() {
-        let text = left_hand_side_text(item)?;
-        assert_eq!(rt; text.as_str(), ATTRIBUTES_TEXT);
-    }
+    is_text(rt, left_hand_side_text(item), ATTRIBUTES_TEXT)?;
     Ok(met)
+}
+
+/// A call just returned the item with attributes, and no other.
+pub fn are_attributes(rt: &impl Abort, alloc: Global, items: &[LeftHandSide]) -> Result<Met, Fail> {
+    match items {
+        [item] => is_attributes(rt, alloc, item),
+        _ => Err(Fail::new("not one item")),
+    }
 }
 
 /// A call just returned a refusal, which is at this offset and shows this text.
@@ -99,9 +116,8 @@ pub fn is_refusal(
     want: &str,
 ) -> Result<Met, Fail> {
     let met = completed(alloc);
-    assert!(rt; error.offset() == Some(offset));
-    let text = shown(alloc, error)?;
-    assert_eq!(rt; text.as_str(), want);
+    equal(rt, error.offset(), Some(offset));
+    shows(rt, alloc, error, want)?;
     Ok(met)
 }
 
@@ -146,14 +162,18 @@ fn reading_attributes(rt: HostRuntime) -> Result<(), Fail> {
 // Refuses a text that defines a name twice.
 fn name_twice(rt: &impl Abort, alloc: Global) -> Result<Met, Fail> {
     let source = "%x = var\n%x = var\ninfer %x";
-    let Err(error) = parse_left_hand_sides_str(alloc, source, None) else {
-        return Err(Fail::new("a name is defined twice"));
-    };
+    match parse_left_hand_sides_str(alloc, source, None) {
+        Ok(_) => Err(Fail::new("a name is defined twice")),
+        Err(error) => is_name_twice(rt, alloc, &error),
+    }
+}
+
+fn is_name_twice(rt: &impl Abort, alloc: Global, error: &ParseError) -> Result<Met, Fail> {
     if error.kind() != ParseErrorKind::Parse {
-        return is_out_of_memory(rt, alloc, &error);
+        return is_out_of_memory(rt, alloc, error);
     }
     let want = "unknown:1:9: cannot redefine '%x'\n     |\n   1 | %x = var\n     |         ^";
-    is_refusal(rt, alloc, &error, 9, want)
+    is_refusal(rt, alloc, error, 9, want)
 }
 
 #[test]

@@ -1,5 +1,5 @@
 //! Lists of attributes, from parsers that are used directly.
-use crate::parsers::reports;
+use crate::checks::{is_text, refuses};
 use souper_ir::ast::{Attribute, RootAttribute};
 use souper_ir::parse::{Parse, Parser, Peek};
 use std::alloc::Global;
@@ -15,30 +15,23 @@ fn read<P: Peek + Drop + std::fmt::Debug>(
 ) -> Result<(), Fail> {
     let mut parser = Parser::new(alloc, source);
     let attributes = Vec::<P>::parse(&mut parser)?;
-    let shown = format!(in alloc; "{attributes:?}")?;
-    assert_eq!(rt; shown.as_str(), want);
+    is_text(rt, format!(in alloc; "{attributes:?}")?, want);
     Ok(())
 }
 
 #[test]
 fn attributes(rt: HostRuntime) -> Result<(), Fail> {
-    for (source, want) in [
-        ("", "[]"),
-        ("(powerOfTwo) (negative)", "[PowerOfTwo, Negative]"),
-        (
-            "(nonNegative)(nonZero)(hasExternalUses)",
-            "[NonNegative, NonZero, HasExternalUses]",
-        ),
-        (
-            "(knownBits=0x1)",
-            "[KnownBits([Some(false), None, Some(true)])]",
-        ),
-        ("( signBits = 007 )", "[SignBits(7)]"),
-        ("(range=[-5,300)) x", "[Range(-5, 300)]"),
-    ] {
-        read::<Attribute>(&rt, rt.alloc(), source, want)?;
-    }
-    Ok(())
+    let alloc = rt.alloc();
+    read::<Attribute>(&rt, alloc, "", "[]")?;
+    let want = "[PowerOfTwo, Negative]";
+    read::<Attribute>(&rt, alloc, "(powerOfTwo) (negative)", want)?;
+    let source = "(nonNegative)(nonZero)(hasExternalUses)";
+    let want = "[NonNegative, NonZero, HasExternalUses]";
+    read::<Attribute>(&rt, alloc, source, want)?;
+    let want = "[KnownBits([Some(false), None, Some(true)])]";
+    read::<Attribute>(&rt, alloc, "(knownBits=0x1)", want)?;
+    read::<Attribute>(&rt, alloc, "( signBits = 007 )", "[SignBits(7)]")?;
+    read::<Attribute>(&rt, alloc, "(range=[-5,300)) x", "[Range(-5, 300)]")
 }
 
 #[test]
@@ -48,46 +41,44 @@ fn root_attributes(rt: HostRuntime) -> Result<(), Fail> {
     read::<RootAttribute>(&rt, rt.alloc(), source, want)
 }
 
+fn refused(
+    rt: &impl Abort,
+    alloc: Global,
+    source: &str,
+    offset: usize,
+    message: &str,
+) -> Result<(), Fail> {
+    refuses::<Attribute>(rt, alloc, source, offset, message)
+}
+
 #[test]
 fn refused_attributes(rt: HostRuntime) -> Result<(), Fail> {
-    for (source, offset, message) in [
-        ("negative", 0, "expected '('"),
-        ("(odd)", 1, "unknown attribute 'odd'"),
-        ("(12)", 1, "expected an attribute identifier"),
-        ("(negative", 8, "unexpected EOF"),
-        ("(negative,", 9, "expected ')'"),
-        ("(signBits=x)", 10, "expected an integer literal"),
-        (
-            "(signBits=256)",
-            10,
-            "number too large to fit in target type",
-        ),
-        (
-            "(signBits=-1)",
-            10,
-            "number too small to fit in target type",
-        ),
-        ("(range=(0,1))", 7, "expected '['"),
-    ] {
-        let error = Attribute::parse(&mut Parser::new(rt.alloc(), source)).err();
-        reports(&rt, rt.alloc(), error, offset, message)?;
-    }
-    Ok(())
+    let alloc = rt.alloc();
+    refused(&rt, alloc, "negative", 0, "expected '('")?;
+    refused(&rt, alloc, "(odd)", 1, "unknown attribute 'odd'")?;
+    refused(&rt, alloc, "(12)", 1, "expected an attribute identifier")?;
+    refused(&rt, alloc, "(negative", 8, "unexpected EOF")?;
+    refused(&rt, alloc, "(negative,", 9, "expected ')'")?;
+    refused(
+        &rt,
+        alloc,
+        "(signBits=x)",
+        10,
+        "expected an integer literal",
+    )?;
+    let large = "number too large to fit in target type";
+    refused(&rt, alloc, "(signBits=256)", 10, large)?;
+    let small = "number too small to fit in target type";
+    refused(&rt, alloc, "(signBits=-1)", 10, small)?;
+    refused(&rt, alloc, "(range=(0,1))", 7, "expected '['")
 }
 
 #[test]
 fn refused_root_attributes(rt: HostRuntime) -> Result<(), Fail> {
-    for (source, offset, message) in [
-        (
-            "(negative)",
-            1,
-            "expected 'demandedBits' or 'harvestedFromUse'",
-        ),
-        ("(demandedBits=012)", 14, "expected [0|1]+ bit pattern"),
-        ("(demandedBits=x)", 14, "expected [0|1]+ bit pattern"),
-    ] {
-        let error = RootAttribute::parse(&mut Parser::new(rt.alloc(), source)).err();
-        reports(&rt, rt.alloc(), error, offset, message)?;
-    }
-    Ok(())
+    let alloc = rt.alloc();
+    let word = "expected 'demandedBits' or 'harvestedFromUse'";
+    refuses::<RootAttribute>(&rt, alloc, "(negative)", 1, word)?;
+    let bits = "expected [0|1]+ bit pattern";
+    refuses::<RootAttribute>(&rt, alloc, "(demandedBits=012)", 14, bits)?;
+    refuses::<RootAttribute>(&rt, alloc, "(demandedBits=x)", 14, bits)
 }

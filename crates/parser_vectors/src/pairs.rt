@@ -47,7 +47,7 @@ impl Peek for Pair {
 #[cfg(test)]
 mod tests {
     use super::*;
-    use crate::parsers::reports;
+    use crate::checks::{equal, refuses_next, refuses_to_peek};
     use souper_ir::ast::Type;
     use std::test::Fail;
 
@@ -59,32 +59,26 @@ mod tests {
     fn pairs_follow_one_another(rt: HostRuntime) -> std::result::Result<(), Fail> {
         let mut parser = Parser::new(rt.alloc(), "1:i8 2 3 4");
         let pairs = <Vec<Pair>>::parse(&mut parser)?;
-        let first = Constant {
-            value: 1,
-            ty: Some(Type { width: 8 }),
+        let ty = Some(Type { width: 8 });
+        let first = Pair {
+            first: Constant { value: 1, ty },
+            second: plain(2),
         };
-        let want = [
-            Pair {
-                first,
-                second: plain(2),
-            },
-            Pair {
-                first: plain(3),
-                second: plain(4),
-            },
-        ];
-        assert_eq!(rt; pairs.as_slice(), want.as_slice());
-        assert!(rt; !Pair::peek(&mut parser)?);
-        assert!(rt; <Option<Pair>>::parse(&mut parser)?.is_none());
+        let second = Pair {
+            first: plain(3),
+            second: plain(4),
+        };
+        equal(&rt, pairs.as_slice(), [first, second].as_slice());
+        equal(&rt, Pair::peek(&mut parser)?, false);
+        equal(&rt, <Option<Pair>>::parse(&mut parser)?, None);
         Ok(())
     }
 
     #[test]
     fn half_a_pair_is_refused(rt: HostRuntime) -> std::result::Result<(), Fail> {
         let mut parser = Parser::new(rt.alloc(), "1 2 3");
-        let error = <Vec<Pair>>::parse(&mut parser).err();
-        reports(&rt, rt.alloc(), error, 4, "unexpected EOF")?;
-        let error = Pair::peek(&mut parser).err();
-        reports(&rt, rt.alloc(), error, 4, "the parser has already failed")
+        refuses_next::<Vec<Pair>>(&rt, rt.alloc(), &mut parser, 4, "unexpected EOF")?;
+        let failed = "the parser has already failed";
+        refuses_to_peek::<Pair>(&rt, rt.alloc(), &mut parser, 4, failed)
     }
 }

@@ -1,4 +1,5 @@
 //! Parsers that are used directly.
+use crate::checks::{equal, has_failed, is_text, refuses, refuses_next, refuses_to_peek};
 use souper_ir::ast::{
     Assignment, AssignmentRhs, Attribute, Block, BlockPc, Cand, Constant, Infer, Instruction,
     LeftHandSide, Operand, Pc, Phi, Replacement, RightHandSide, RootAttribute, Statement, Type,
@@ -8,27 +9,6 @@ use std::alloc::{AllocError, AllocFailed, Global};
 use std::io;
 use std::process::Abort;
 use std::test::Fail;
-
-// The error is a refusal at the offset, with the message and without a place.
-pub fn reports(
-    rt: &impl Abort,
-    alloc: Global,
-    error: Option<ParseError>,
-    offset: usize,
-    message: &str,
-) -> Result<(), Fail> {
-    let error = error.ok_or("no refusal")?;
-    assert_eq!(rt; error.kind(), ParseErrorKind::Parse);
-    assert_eq!(rt; error.offset(), Some(offset));
-    let want = format!(in alloc;
-        "unknown:1:1: {message}\n     |\n   1 | byte offset {offset}\n     | ^"
-    )?;
-    let shown = error.to_string(alloc)?;
-    assert_eq!(rt; shown.as_str(), want.as_str());
-    let shown = format!(in alloc; "{error:?}")?;
-    assert_eq!(rt; shown.as_str(), want.as_str());
-    Ok(())
-}
 
 // A constant without a type.
 fn number(value: i128) -> Operand {
@@ -48,29 +28,26 @@ fn peeked<P: Peek>(alloc: Global, source: &str) -> Result<bool, ParseError> {
 #[test]
 fn refused_parser_stays_failed(rt: HostRuntime) -> Result<(), Fail> {
     let mut parser = Parser::new(rt.alloc(), "infer %x");
-    let error = LeftHandSide::parse(&mut parser).err();
     let unnamed = "no value named '%x' in scope";
-    reports(&rt, rt.alloc(), error, 6, unnamed)?;
+    refuses_next::<LeftHandSide>(&rt, rt.alloc(), &mut parser, 6, unnamed)?;
     let failed = "the parser has already failed";
-    let error = LeftHandSide::parse(&mut parser).err();
-    reports(&rt, rt.alloc(), error, 6, failed)?;
-    let error = Statement::peek(&mut parser).err();
-    reports(&rt, rt.alloc(), error, 6, failed)?;
-    let error = <Vec<Assignment>>::parse(&mut parser).err();
-    reports(&rt, rt.alloc(), error, 6, failed)
+    refuses_to_peek::<Statement>(&rt, rt.alloc(), &mut parser, 6, failed)?;
+    has_failed::<Vec<Assignment>>(&rt, rt.alloc(), &mut parser, 6)
+}
+
+fn next_is(rt: &impl Abort, parser: &mut Parser<'_>, want: &str) -> Result<(), Fail> {
+    let item = LeftHandSide::parse(parser)?;
+    is_text(rt, item.to_text()?, want);
+    Ok(())
 }
 
 #[test]
 fn items_follow_one_another(rt: HostRuntime) -> Result<(), Fail> {
     let mut parser = Parser::new(rt.alloc(), "%x = var infer %x %x = var infer %x");
-    for _ in 0..2 {
-        let item = LeftHandSide::parse(&mut parser)?;
-        let text = item.to_text()?;
-        assert_eq!(rt; text.as_str(), "%x = var\ninfer %x\n");
-    }
-    assert!(rt; !Statement::peek(&mut parser)?);
-    let error = LeftHandSide::parse(&mut parser).err();
-    reports(&rt, rt.alloc(), error, 34, "unexpected EOF")
+    next_is(&rt, &mut parser, "%x = var\ninfer %x\n")?;
+    next_is(&rt, &mut parser, "%x = var\ninfer %x\n")?;
+    equal(&rt, Statement::peek(&mut parser)?, false);
+    refuses_next::<LeftHandSide>(&rt, rt.alloc(), &mut parser, 34, "unexpected EOF")
 }
 
 // The name that a statement defines.
@@ -81,162 +58,160 @@ fn defined(statement: &Statement) -> Option<&str> {
     }
 }
 
+// The name of the next statement.
+fn next_defines(rt: &impl Abort, parser: &mut Parser<'_>, want: &str) -> Result<(), Fail> {
+    let statement = Statement::parse(parser)?;
+    equal(rt, defined(&statement), Some(want));
+    Ok(())
+}
+
 #[test]
 fn parts_alone_add_no_name(rt: HostRuntime) -> Result<(), Fail> {
     let mut parser = Parser::new(rt.alloc(), "%x = var %x = var infer %x");
-    let assignment = Assignment::parse(&mut parser)?;
-    assert_eq!(rt; assignment.name.as_str(), "%x");
-    let statement = Statement::parse(&mut parser)?;
-    assert_eq!(rt; defined(&statement), Some("%x"));
-    assert!(rt; Infer::peek(&mut parser)?);
-    let error = Infer::parse(&mut parser).err();
+    is_text(&rt, Assignment::parse(&mut parser)?.name, "%x");
+    next_defines(&rt, &mut parser, "%x")?;
+    equal(&rt, Infer::peek(&mut parser)?, true);
     let unnamed = "no value named '%x' in scope";
-    reports(&rt, rt.alloc(), error, 24, unnamed)
+    refuses_next::<Infer>(&rt, rt.alloc(), &mut parser, 24, unnamed)
 }
 
 #[test]
 fn items_are_parsed(rt: HostRuntime) -> Result<(), Fail> {
     let item = parsed::<LeftHandSide>(rt.alloc(), "%x = var infer %x )")?;
-    assert_eq!(rt; item.statements.len(), 1);
+    is_text(&rt, item.to_text()?, "%x = var\ninfer %x\n");
     let item = parsed::<RightHandSide>(rt.alloc(), "%x = var result %x )")?;
-    assert_eq!(rt; item.statements.len(), 1);
+    is_text(&rt, item.to_text()?, "%x = var\nresult %x");
     let item = parsed::<Replacement>(rt.alloc(), "%x = var infer %x result 1 )")?;
-    let text = item.to_text()?;
-    assert_eq!(rt; text.as_str(), "%x = var\ninfer %x\nresult 1\n");
+    is_text(&rt, item.to_text()?, "%x = var\ninfer %x\nresult 1\n");
     let item = parsed::<Replacement>(rt.alloc(), "%x = var cand %x 1 )")?;
-    let text = item.to_text()?;
-    assert_eq!(rt; text.as_str(), "%x = var\ncand %x 1\n");
+    is_text(&rt, item.to_text()?, "%x = var\ncand %x 1\n");
     Ok(())
 }
 
 #[test]
 fn statements_and_last_lines_are_parsed(rt: HostRuntime) -> Result<(), Fail> {
-    let assignment = parsed::<Assignment>(rt.alloc(), "%x = var")?;
-    assert_eq!(rt; assignment.name.as_str(), "%x");
-    let statement = parsed::<Statement>(rt.alloc(), "%y = var %z")?;
-    assert_eq!(rt; defined(&statement), Some("%y"));
+    is_text(
+        &rt,
+        parsed::<Assignment>(rt.alloc(), "%x = var")?.name,
+        "%x",
+    );
+    next_defines(&rt, &mut Parser::new(rt.alloc(), "%y = var %z"), "%y")?;
     let (x, y) = (number(1), number(2));
-    assert_eq!(rt; parsed::<Pc>(rt.alloc(), "pc 1 2 3")?, Pc { x, y });
+    equal(&rt, parsed::<Pc>(rt.alloc(), "pc 1 2 3")?, Pc { x, y });
     let cand = parsed::<Cand>(rt.alloc(), "cand 1, 2 (harvestedFromUse) 3")?;
-    assert_eq!(rt; (cand.lhs, cand.rhs), (x, y));
-    assert_eq!(rt; cand.attributes.len(), 1);
+    equal(&rt, (cand.lhs, cand.rhs, cand.attributes.len()), (x, y, 1));
     Ok(())
 }
 
 #[test]
 fn right_sides_and_operands_are_parsed(rt: HostRuntime) -> Result<(), Fail> {
     let rhs = parsed::<AssignmentRhs>(rt.alloc(), "var infer")?;
-    assert!(rt; matches!(rhs, AssignmentRhs::Var));
+    equal(&rt, matches!(rhs, AssignmentRhs::Var), true);
     let block = parsed::<Block>(rt.alloc(), "block 3 4")?;
-    assert_eq!(rt; block, Block { predecessors: 3 });
+    equal(&rt, block, Block { predecessors: 3 });
     let (a, b) = (number(1), number(2));
     let instruction = parsed::<Instruction>(rt.alloc(), "add 1, 2, 3")?;
-    assert_eq!(rt; instruction, Instruction::Add { a, b });
-    let ty = parsed::<Type>(rt.alloc(), "i8 = var")?;
-    assert_eq!(rt; ty, Type { width: 8 });
-    let constant = parsed::<Constant>(rt.alloc(), "1:i8 2")?;
-    let value = 1;
-    assert_eq!(rt;
-        constant,
-        Constant {
-            value,
-            ty: Some(ty)
-        }
+    equal(&rt, instruction, Instruction::Add { a, b });
+    let ty = Type { width: 8 };
+    equal(&rt, parsed::<Type>(rt.alloc(), "i8 = var")?, ty);
+    let constant = Constant {
+        value: 1,
+        ty: Some(ty),
+    };
+    equal(&rt, parsed::<Constant>(rt.alloc(), "1:i8 2")?, constant);
+    equal(
+        &rt,
+        parsed::<Operand>(rt.alloc(), "1:i8, 2")?,
+        constant.into(),
     );
-    let operand = parsed::<Operand>(rt.alloc(), "1:i8, 2")?;
-    assert_eq!(rt; operand, constant.into());
     Ok(())
 }
 
 #[test]
 fn single_attributes_are_parsed(rt: HostRuntime) -> Result<(), Fail> {
     let attribute = parsed::<Attribute>(rt.alloc(), "(signBits=3) (negative)")?;
-    assert!(rt; matches!(attribute, Attribute::SignBits(3)));
-    match parsed::<RootAttribute>(rt.alloc(), "(demandedBits=10) (harvestedFromUse)")? {
-        RootAttribute::DemandedBits(bits) => {
-            assert_eq!(rt; bits.as_slice(), [true, false].as_slice());
-        }
-        RootAttribute::HarvestedFromUse => return Err(Fail::new("another attribute")),
-    }
+    is_text(&rt, attribute.to_string(rt.alloc())?, "(signBits=3)");
+    let source = "(demandedBits=10) (harvestedFromUse)";
+    let attribute = parsed::<RootAttribute>(rt.alloc(), source)?;
+    is_text(&rt, attribute.to_string(rt.alloc())?, "(demandedBits=10)");
     Ok(())
+}
+
+// The next attributes are so many.
+fn next_attributes(parser: &mut Parser<'_>) -> Result<usize, Fail> {
+    Ok(<Vec<Attribute>>::parse(parser)?.len())
 }
 
 #[test]
 fn attributes_come_before_a_right_side(rt: HostRuntime) -> Result<(), Fail> {
     let mut parser = Parser::new(rt.alloc(), "(negative)(nonZero) var");
-    let attributes = <Vec<Attribute>>::parse(&mut parser)?;
-    let [Attribute::Negative, Attribute::NonZero] = attributes.as_slice() else {
-        return Err(Fail::new("other attributes"));
-    };
+    equal(&rt, next_attributes(&mut parser)?, 2);
     let rhs = AssignmentRhs::parse(&mut parser)?;
-    assert!(rt; matches!(rhs, AssignmentRhs::Var));
-    assert!(rt; !Statement::peek(&mut parser)?);
-    assert!(rt; <Vec<Attribute>>::parse(&mut parser)?.is_empty());
+    equal(&rt, matches!(rhs, AssignmentRhs::Var), true);
+    equal(&rt, Statement::peek(&mut parser)?, false);
+    equal(&rt, next_attributes(&mut parser)?, 0);
     Ok(())
 }
 
 #[test]
 fn option_takes_nothing_of_another_kind(rt: HostRuntime) -> Result<(), Fail> {
     let mut parser = Parser::new(rt.alloc(), "%x");
-    assert!(rt; <Option<Constant>>::parse(&mut parser)?.is_none());
-    let error = Operand::parse(&mut parser).err();
-    reports(&rt, rt.alloc(), error, 0, "unknown value '%x'")?;
-    let error = Constant::peek(&mut parser).err();
-    reports(&rt, rt.alloc(), error, 0, "the parser has already failed")
+    equal(&rt, <Option<Constant>>::parse(&mut parser)?, None);
+    refuses_next::<Operand>(&rt, rt.alloc(), &mut parser, 0, "unknown value '%x'")?;
+    let failed = "the parser has already failed";
+    refuses_to_peek::<Constant>(&rt, rt.alloc(), &mut parser, 0, failed)
 }
 
 #[test]
 fn hole_has_no_operands(rt: HostRuntime) -> Result<(), Fail> {
     let mut parser = Parser::new(rt.alloc(), "hole 1");
-    let instruction = Instruction::parse(&mut parser)?;
-    assert_eq!(rt; instruction, Instruction::Hole);
-    let constant = Constant::parse(&mut parser)?;
-    assert_eq!(rt; constant, Constant { value: 1, ty: None });
+    equal(&rt, Instruction::parse(&mut parser)?, Instruction::Hole);
+    equal(&rt, Operand::parse(&mut parser)?, number(1));
     Ok(())
+}
+
+// Whether the source begins with a value.
+fn is_there<P: Peek + Drop>(alloc: Global, source: &str) -> Result<bool, ParseError> {
+    Ok(parsed::<Option<P>>(alloc, source)?.is_some())
 }
 
 #[test]
 fn options_and_vectors_are_parsed(rt: HostRuntime) -> Result<(), Fail> {
-    assert!(rt; parsed::<Option<Infer>>(rt.alloc(), "")?.is_none());
-    assert!(rt; parsed::<Option<Infer>>(rt.alloc(), "%x = var")?.is_none());
-    assert!(rt; parsed::<Option<Assignment>>(rt.alloc(), "%x = var")?.is_some());
-    assert!(rt; parsed::<Vec<Infer>>(rt.alloc(), "var")?.is_empty());
-    assert!(rt; parsed::<Vec<Assignment>>(rt.alloc(), "")?.is_empty());
-    let two = parsed::<Vec<Assignment>>(rt.alloc(), "%x = var %y = var infer %x")?;
-    let mut names = two.iter().map(|assignment| assignment.name.as_str());
-    assert_eq!(rt; names.next(), Some("%x"));
-    assert_eq!(rt; names.next(), Some("%y"));
-    assert_eq!(rt; names.next(), None);
+    let alloc = rt.alloc();
+    equal(&rt, is_there::<Infer>(alloc, "")?, false);
+    equal(&rt, is_there::<Infer>(alloc, "%x = var")?, false);
+    equal(&rt, is_there::<Assignment>(alloc, "%x = var")?, true);
+    equal(&rt, parsed::<Vec<Infer>>(alloc, "var")?.len(), 0);
+    equal(&rt, parsed::<Vec<Assignment>>(alloc, "")?.len(), 0);
+    let two = parsed::<Vec<Assignment>>(alloc, "%x = var %y = var infer %x")?;
+    let (first, second) = (two.first(), two.get(1));
+    equal(
+        &rt,
+        (first.map(name_of), second.map(name_of)),
+        (Some("%x"), Some("%y")),
+    );
+    equal(&rt, two.len(), 2);
     Ok(())
+}
+
+fn name_of(assignment: &Assignment) -> &str {
+    assignment.name.as_str()
+}
+
+// Whether the source begins with an assignment, with a statement, and with an infer line.
+fn seen(alloc: Global, source: &str) -> Result<(bool, bool, bool), ParseError> {
+    let assignment = peeked::<Assignment>(alloc, source)?;
+    let statement = peeked::<Statement>(alloc, source)?;
+    Ok((assignment, statement, peeked::<Infer>(alloc, source)?))
 }
 
 #[test]
 fn first_token_tells(rt: HostRuntime) -> Result<(), Fail> {
-    for (source, named, infer) in [
-        ("%x infer", true, false),
-        ("infer %x", false, true),
-        (";c\n infer", false, true),
-        ("inferx", false, false),
-        ("var", false, false),
-        ("=", false, false),
-        ("", false, false),
-        (" ;c", false, false),
-    ] {
-        assert_eq!(rt;
-            peeked::<Assignment>(rt.alloc(), source)?,
-            named,
-            "in {source:?}"
-        );
-        assert_eq!(rt;
-            peeked::<Statement>(rt.alloc(), source)?,
-            named,
-            "in {source:?}"
-        );
-        assert_eq!(rt;
-            peeked::<Infer>(rt.alloc(), source)?,
-            infer,
-            "in {source:?}"
-        );
+    equal(&rt, seen(rt.alloc(), "%x infer")?, (true, true, false));
+    equal(&rt, seen(rt.alloc(), "infer %x")?, (false, false, true));
+    equal(&rt, seen(rt.alloc(), ";c\n infer")?, (false, false, true));
+    for source in ["inferx", "var", "=", "", " ;c"] {
+        equal(&rt, seen(rt.alloc(), source)?, (false, false, false));
     }
     Ok(())
 }
@@ -245,35 +220,33 @@ fn first_token_tells(rt: HostRuntime) -> Result<(), Fail> {
 fn peek_takes_no_token(rt: HostRuntime) -> Result<(), Fail> {
     let mut parser = Parser::new(rt.alloc(), "%x = var");
     for _ in 0..3 {
-        assert!(rt; Statement::peek(&mut parser)?);
-        assert!(rt; !Infer::peek(&mut parser)?);
+        equal(&rt, Statement::peek(&mut parser)?, true);
+        equal(&rt, Infer::peek(&mut parser)?, false);
     }
-    Statement::parse(&mut parser)?;
+    next_defines(&rt, &mut parser, "%x")?;
     for _ in 0..3 {
-        assert!(rt; !Statement::peek(&mut parser)?);
+        equal(&rt, Statement::peek(&mut parser)?, false);
     }
     Ok(())
 }
 
+// A look ahead at a lexical fault is refused, and the parser has failed.
+fn fault_is_seen<P: Peek + Drop>(rt: &impl Abort, alloc: Global) -> Result<(), Fail> {
+    let mut parser = Parser::new(alloc, "%");
+    refuses_to_peek::<P>(rt, alloc, &mut parser, 0, "expected value name")?;
+    has_failed::<Vec<P>>(rt, alloc, &mut parser, 0)
+}
+
 #[test]
 fn lexical_fault_is_refused_by_peek(rt: HostRuntime) -> Result<(), Fail> {
-    let mut parser = Parser::new(rt.alloc(), "%");
-    let error = Infer::peek(&mut parser).err();
-    reports(&rt, rt.alloc(), error, 0, "expected value name")?;
-    let failed = "the parser has already failed";
-    let error = <Vec<Infer>>::parse(&mut parser).err();
-    reports(&rt, rt.alloc(), error, 0, failed)?;
-    let mut parser = Parser::new(rt.alloc(), "%");
-    let error = Pc::peek(&mut parser).err();
-    reports(&rt, rt.alloc(), error, 0, "expected value name")?;
-    let error = <Vec<Pc>>::parse(&mut parser).err();
-    reports(&rt, rt.alloc(), error, 0, failed)
+    fault_is_seen::<Infer>(&rt, rt.alloc())?;
+    fault_is_seen::<Pc>(&rt, rt.alloc())
 }
 
 // The source begins with a value, as `peek` returns; an equals sign does not.
 fn sees<P: Peek>(rt: &impl Abort, alloc: Global, source: &str) -> Result<(), Fail> {
-    assert!(rt; peeked::<P>(alloc, source)?, "in {source:?}");
-    assert!(rt; !peeked::<P>(alloc, "=")?, "in {source:?}");
+    equal(rt, (source, peeked::<P>(alloc, source)?), (source, true));
+    equal(rt, (source, peeked::<P>(alloc, "=")?), (source, false));
     Ok(())
 }
 
@@ -296,88 +269,61 @@ fn each_type_is_seen_to_come(rt: HostRuntime) -> Result<(), Fail> {
 #[test]
 fn names_out_of_scope_are_refused(rt: HostRuntime) -> Result<(), Fail> {
     let alloc = rt.alloc();
-    let error = parsed::<BlockPc>(alloc, "blockpc %b 0 1 2").err();
-    reports(&rt, alloc, error, 8, "unknown block '%b'")?;
-    let error = parsed::<Phi>(alloc, "phi %b, 1").err();
-    reports(&rt, alloc, error, 4, "unknown block '%b'")?;
-    let error = parsed::<Pc>(alloc, "pc %x 1").err();
-    reports(&rt, alloc, error, 3, "unknown value '%x'")?;
-    let error = parsed::<Cand>(alloc, "cand 1 %x").err();
-    reports(&rt, alloc, error, 7, "unknown value '%x'")?;
-    let error = parsed::<Infer>(alloc, "infer %x").err();
-    reports(&rt, alloc, error, 6, "no value named '%x' in scope")
+    refuses::<BlockPc>(&rt, alloc, "blockpc %b 0 1 2", 8, "unknown block '%b'")?;
+    refuses::<Phi>(&rt, alloc, "phi %b, 1", 4, "unknown block '%b'")?;
+    refuses::<Pc>(&rt, alloc, "pc %x 1", 3, "unknown value '%x'")?;
+    refuses::<Cand>(&rt, alloc, "cand 1 %x", 7, "unknown value '%x'")?;
+    refuses::<Infer>(&rt, alloc, "infer %x", 6, "no value named '%x' in scope")
 }
 
 #[test]
 fn parts_refuse_other_tokens(rt: HostRuntime) -> Result<(), Fail> {
     let alloc = rt.alloc();
     let name = "expected a value name";
-    reports(
-        &rt,
-        alloc,
-        parsed::<Assignment>(alloc, "infer").err(),
-        0,
-        name,
-    )?;
-    reports(
-        &rt,
-        alloc,
-        parsed::<Statement>(alloc, " infer").err(),
-        1,
-        name,
-    )?;
-    reports(
-        &rt,
-        alloc,
-        parsed::<Infer>(alloc, "%x").err(),
-        0,
-        "expected 'infer'",
-    )?;
+    refuses::<Assignment>(&rt, alloc, "infer", 0, name)?;
+    refuses::<Statement>(&rt, alloc, " infer", 1, name)?;
+    refuses::<Infer>(&rt, alloc, "%x", 0, "expected 'infer'")?;
     let right_side = "expected a constant, var, block, phi, or instruction";
-    reports(
-        &rt,
-        alloc,
-        parsed::<AssignmentRhs>(alloc, "%x").err(),
-        0,
-        right_side,
-    )?;
-    reports(
-        &rt,
-        alloc,
-        parsed::<AssignmentRhs>(alloc, "").err(),
-        0,
-        right_side,
-    )?;
-    reports(
-        &rt,
-        alloc,
-        parsed::<Infer>(alloc, "").err(),
-        0,
-        "unexpected EOF",
-    )?;
-    let instruction = parsed::<Instruction>(alloc, "foo").err();
-    reports(&rt, alloc, instruction, 0, "expected instruction")?;
-    let attribute = parsed::<Attribute>(alloc, "x").err();
-    reports(&rt, alloc, attribute, 0, "expected '('")?;
-    let assignments = parsed::<Vec<Assignment>>(alloc, "%x = var %y").err();
-    reports(&rt, alloc, assignments, 10, "unexpected EOF")
+    refuses::<AssignmentRhs>(&rt, alloc, "%x", 0, right_side)?;
+    refuses::<AssignmentRhs>(&rt, alloc, "", 0, right_side)?;
+    refuses::<Infer>(&rt, alloc, "", 0, "unexpected EOF")?;
+    refuses::<Instruction>(&rt, alloc, "foo", 0, "expected instruction")?;
+    refuses::<Attribute>(&rt, alloc, "x", 0, "expected '('")?;
+    refuses::<Vec<Assignment>>(&rt, alloc, "%x = var %y", 10, "unexpected EOF")
+}
+
+fn is_out_of_memory(rt: &impl Abort, alloc: Global, error: ParseError) -> Result<(), Fail> {
+    equal(
+        rt,
+        (error.kind(), error.offset()),
+        (ParseErrorKind::Memory, None),
+    );
+    is_text(rt, error.to_string(alloc)?, "out of memory");
+    Ok(())
 }
 
 #[test]
 fn other_faults_are_reported_by_their_kind(rt: HostRuntime) -> Result<(), Fail> {
-    for error in [
-        ParseError::from(AllocError),
+    is_out_of_memory(&rt, rt.alloc(), ParseError::from(AllocError))?;
+    is_out_of_memory(
+        &rt,
+        rt.alloc(),
         ParseError::from(AllocFailed { value: 1u8 }),
-    ] {
-        assert_eq!(rt; error.kind(), ParseErrorKind::Memory);
-        assert_eq!(rt; error.offset(), None);
-        assert_eq!(rt; error.to_string(rt.alloc())?.as_str(), "out of memory");
-    }
+    )?;
     let error = ParseError::from(io::Error::from(io::ErrorKind::NotFound));
-    assert_eq!(rt; error.kind().clone()?, ParseErrorKind::Io);
-    assert_eq!(rt; error.offset(), None);
+    equal(
+        &rt,
+        (error.kind(), error.offset()),
+        (ParseErrorKind::Io, None),
+    );
     let shown = error.to_string(rt.alloc())?;
-    assert!(rt; shown.as_str().starts_with("IO error: "));
+    equal(&rt, shown.as_str().starts_with("IO error: "), true);
+    Ok(())
+}
+
+#[test]
+fn kinds_are_copied(rt: HostRuntime) -> Result<(), Fail> {
+    equal(&rt, ParseErrorKind::Io.clone()?, ParseErrorKind::Io);
     Ok(())
 }
 
@@ -386,6 +332,6 @@ fn other_faults_are_reported_by_their_kind(rt: HostRuntime) -> Result<(), Fail> 
 fn parsers_have_a_debug_text(rt: HostRuntime) -> Result<(), Fail> {
     let parser = Parser::new(rt.alloc(), "infer %x");
     let shown = format!(in rt.alloc(); "{parser:?}")?;
-    assert!(rt; !shown.is_empty());
+    equal(&rt, shown.is_empty(), false);
     Ok(())
 }

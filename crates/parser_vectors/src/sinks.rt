@@ -28,21 +28,33 @@ impl<T: WholeItem + Drop> Sink<T> for Count {
 #[cfg(test)]
 mod tests {
     use super::*;
+    use crate::checks::{equal, is_text};
     use souper_ir::ast::{LeftHandSide, Replacement, RightHandSide};
     use souper_ir::parse::{ParseErrorKind, parse_into};
+    use std::alloc::Global;
+    use std::process::Abort;
     use std::test::Fail;
+
+    // The items of the text are added to the count.
+    fn counts<T: WholeItem + Drop>(
+        rt: &impl Abort,
+        alloc: Global,
+        text: &str,
+        count: &mut Count,
+        items: u64,
+    ) -> Result<(), Fail> {
+        parse_into::<T, Count>(alloc, text, None, count)?;
+        equal(rt, *count, Count { items });
+        Ok(())
+    }
 
     #[test]
     fn items_are_counted(rt: HostRuntime) -> Result<(), Fail> {
         let mut count = Count { items: 0 };
         let text = "%0 = var infer %0\n; two\n%0 = var infer %0 %a = var infer %a";
-        parse_into::<LeftHandSide, Count>(rt.alloc(), text, None, &mut count)?;
-        assert_eq!(rt; count, Count { items: 3 });
-        parse_into::<RightHandSide, Count>(rt.alloc(), "result 1", None, &mut count)?;
-        assert_eq!(rt; count, Count { items: 4 });
-        parse_into::<Replacement, Count>(rt.alloc(), " ; none", None, &mut count)?;
-        assert_eq!(rt; count, Count { items: 4 });
-        Ok(())
+        counts::<LeftHandSide>(&rt, rt.alloc(), text, &mut count, 3)?;
+        counts::<RightHandSide>(&rt, rt.alloc(), "result 1", &mut count, 4)?;
+        counts::<Replacement>(&rt, rt.alloc(), " ; none", &mut count, 4)
     }
 
     #[test]
@@ -51,13 +63,23 @@ mod tests {
         let text = "%0 = var infer %0\ninfer %x";
         let read = parse_into::<LeftHandSide, Count>(rt.alloc(), text, Some("a.opt"), &mut count);
         let error = read.err().ok_or("no refusal")?;
-        assert_eq!(rt; error.kind(), ParseErrorKind::Parse);
-        assert_eq!(rt; error.offset(), Some(24));
-        let shown = error.to_string(rt.alloc())?;
+        equal(
+            &rt,
+            (error.kind(), error.offset()),
+            (ParseErrorKind::Parse, Some(24)),
+        );
         let want =
             "a.opt:2:6: no value named '%x' in scope\n     |\n   2 | infer %x\n     |      ^";
-        assert_eq!(rt; shown.as_str(), want);
+        is_text(&rt, error.to_string(rt.alloc())?, want);
         Ok(())
+    }
+
+    fn texts(alloc: Global, items: &[LeftHandSide]) -> Result<String, Fail> {
+        let mut texts = String::new(alloc);
+        for item in items {
+            item.append_text(&mut texts)?;
+        }
+        Ok(texts)
     }
 
     #[test]
@@ -65,20 +87,10 @@ mod tests {
         let mut items: Vec<LeftHandSide> = Vec::new(rt.alloc());
         let text = "%0 = var infer %0 %1 = var infer %1";
         parse_into::<LeftHandSide, Vec<LeftHandSide>>(rt.alloc(), text, None, &mut items)?;
-        parse_into::<LeftHandSide, Vec<LeftHandSide>>(
-            rt.alloc(),
-            "%2 = var infer %2",
-            None,
-            &mut items,
-        )?;
-        let mut texts = String::new(rt.alloc());
-        for item in &items {
-            texts.push_str(item.to_text()?.as_str())?;
-        }
-        assert_eq!(rt;
-            texts.as_str(),
-            "%0 = var\ninfer %0\n%1 = var\ninfer %1\n%2 = var\ninfer %2\n"
-        );
+        let text = "%2 = var infer %2";
+        parse_into::<LeftHandSide, Vec<LeftHandSide>>(rt.alloc(), text, None, &mut items)?;
+        let want = "%0 = var\ninfer %0\n%1 = var\ninfer %1\n%2 = var\ninfer %2\n";
+        is_text(&rt, texts(rt.alloc(), &items)?, want);
         Ok(())
     }
 }

@@ -1,59 +1,76 @@
 //! The commands of the program, and its lines that report no text.
+use crate::asserts::equal;
+use crate::checks::{FAULT, text, told};
 use souper_format::command::{Command, Kind, read_command};
 use souper_format::run::{report, usage};
 use souper_format::watched::Watched;
 use std::alloc::{AllocError, Global};
 use std::io;
 use std::io::ErrorKind;
+use std::process::Abort;
 use std::test::Fail;
 
-fn command(alloc: Global, words: &[&str]) -> Result<Option<Command>, AllocError> {
+// Lines of words that are no command.
+const NO_COMMANDS: &str = "same
+same|lhs
+same|lhs|a
+same|lhs|a|b|c
+same|x|a|b
+Same|lhs|a|b
+lhs|lhs|a|b
+lhs|x
+lhs|lhs
+x|lhs
+LHS";
+
+// The command that the words between the bars are.
+fn command(alloc: Global, line: &str) -> Result<Option<Command>, AllocError> {
     let mut args = Vec::new(alloc);
-    for word in words {
+    for word in line.split('|') {
         args.push(String::from_str(alloc, word)?)?;
     }
     Ok(read_command(args))
 }
 
+fn is_kind(rt: &impl Abort, alloc: Global, word: &str, kind: Kind) -> Result<(), Fail> {
+    let found = command(alloc, word)?;
+    assert_eq!(rt; found, Some(Command::Format(kind)));
+    equal(rt, kind.clone()?, kind);
+    Ok(())
+}
+
 #[test]
 fn kinds_are_commands(rt: HostRuntime) -> Result<(), Fail> {
-    for (word, kind) in [("lhs", Kind::Lhs), ("rhs", Kind::Rhs), ("rep", Kind::Rep)] {
-        assert_eq!(rt; command(rt.alloc(), &[word])?, Some(Command::Format(kind)));
-        assert_eq!(rt; kind.clone()?, kind);
-    }
+    is_kind(&rt, rt.alloc(), "lhs", Kind::Lhs)?;
+    is_kind(&rt, rt.alloc(), "rhs", Kind::Rhs)?;
+    is_kind(&rt, rt.alloc(), "rep", Kind::Rep)
+}
+
+// The line compares items of the kind, of the files `a` and `b c`.
+fn is_same(rt: &impl Abort, alloc: Global, line: &str, kind: Kind) -> Result<(), Fail> {
+    let first = String::from_str(alloc, "a")?;
+    let second = String::from_str(alloc, "b c")?;
+    let found = command(alloc, line)?;
+    assert_eq!(rt; found, Some(Command::Same(kind, first, second)));
     Ok(())
 }
 
 #[test]
 fn same_takes_a_kind_and_two_paths(rt: HostRuntime) -> Result<(), Fail> {
-    for (word, kind) in [("lhs", Kind::Lhs), ("rhs", Kind::Rhs), ("rep", Kind::Rep)] {
-        let first = String::from_str(rt.alloc(), "a")?;
-        let second = String::from_str(rt.alloc(), "b c")?;
-        let command = command(rt.alloc(), &["same", word, "a", "b c"])?;
-        assert_eq!(rt; command, Some(Command::Same(kind, first, second)));
-    }
-    Ok(())
+    is_same(&rt, rt.alloc(), "same|lhs|a|b c", Kind::Lhs)?;
+    is_same(&rt, rt.alloc(), "same|rhs|a|b c", Kind::Rhs)?;
+    is_same(&rt, rt.alloc(), "same|rep|a|b c", Kind::Rep)
 }
 
 #[test]
 fn other_words_are_no_command(rt: HostRuntime) -> Result<(), Fail> {
-    let rows: [&[&str]; 13] = [
-        &[],
-        &["same"],
-        &["same", "lhs"],
-        &["same", "lhs", "a"],
-        &["same", "lhs", "a", "b", "c"],
-        &["same", "x", "a", "b"],
-        &["Same", "lhs", "a", "b"],
-        &["lhs", "lhs", "a", "b"],
-        &["lhs", "x"],
-        &["lhs", "lhs"],
-        &["x", "lhs"],
-        &["LHS"],
-        &[""],
-    ];
-    for words in rows {
-        assert_eq!(rt; command(rt.alloc(), words)?, None, "for {words:?}");
+    let is_none = read_command(Vec::new(rt.alloc())).is_none();
+    equal(&rt, is_none, true);
+    let is_none = command(rt.alloc(), "")?.is_none();
+    equal(&rt, is_none, true);
+    for line in NO_COMMANDS.lines() {
+        let is_none = command(rt.alloc(), line)?.is_none();
+        equal(&rt, (line, is_none), (line, true));
     }
     Ok(())
 }
@@ -62,10 +79,10 @@ fn other_words_are_no_command(rt: HostRuntime) -> Result<(), Fail> {
 fn usage_is_reported(rt: HostRuntime) {
     let mut reported = Vec::new(rt.alloc());
     let mut err = Watched::new(&mut reported);
-    assert_eq!(rt; usage(&mut err), 2);
-    assert!(rt; !err.failed());
+    let status = usage(&mut err);
+    let failed = err.failed();
     let want = "usage: souper_fmt lhs|rhs|rep\n       souper_fmt same lhs|rhs|rep PATH PATH\n";
-    assert_eq!(rt; reported.as_slice(), want.as_bytes());
+    equal(&rt, (status, failed, text(&reported)), (2, false, want));
 }
 
 #[test]
@@ -73,8 +90,7 @@ fn fault_is_reported(rt: HostRuntime) {
     let mut reported = Vec::new(rt.alloc());
     let mut err = Watched::new(&mut reported);
     let fault = io::Error::from(ErrorKind::NotFound);
-    assert_eq!(rt; report(rt.alloc(), &fault, &mut err), 3);
-    assert!(rt; !err.failed());
-    assert!(rt; reported.as_slice().starts_with(b"IO error: "));
-    assert!(rt; reported.as_slice().ends_with(b"\n"));
+    let status = report(rt.alloc(), &fault, &mut err);
+    let failed = err.failed();
+    equal(&rt, (status, failed, told(&reported)), (3, false, FAULT));
 }

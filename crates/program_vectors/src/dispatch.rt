@@ -1,4 +1,6 @@
 //! Runs of the program by its arguments, over files, readers and writers in memory.
+use crate::asserts::equal;
+use crate::checks::{Ran, text};
 use crate::streams::FaultyWriter;
 use souper_format::dispatch::run_command;
 use souper_format::files::TextFiles;
@@ -34,112 +36,155 @@ impl TextFiles for TextsInMemory {
     }
 }
 
-fn words(alloc: Global, words: &[&str]) -> Result<Vec<String>, AllocError> {
+// The words of the line.
+fn words(alloc: Global, line: &str) -> Result<Vec<String>, AllocError> {
     let mut args = Vec::new(alloc);
-    for word in words {
+    for word in line.split_whitespace() {
         args.push(String::from_str(alloc, word)?)?;
     }
     Ok(args)
 }
 
-// What the arguments do over that input: whether it was read, the status, and what was written to `out` and `err`.
+// The words do this over that input, which is read to its end or not.
 fn runs(
     rt: &impl Abort,
     alloc: Global,
-    args: &[&str],
+    line: &str,
     source: &str,
-    want: (bool, u8, &str, &str),
+    ends: bool,
+    want: Ran<'_>,
 ) -> Result<(), Fail> {
+    let args = words(alloc, line)?;
+    let files = TextsInMemory { alloc };
     let mut written = Vec::new(alloc);
     let mut reported = Vec::new(alloc);
     let mut input = Watched::new(source.as_bytes());
     let mut out = Watched::new(&mut written);
     let mut err = Watched::new(&mut reported);
-    let files = TextsInMemory { alloc };
-    let args = words(alloc, args)?;
     let status = run_command(&files, alloc, args, &mut input, &mut out, &mut err);
+    let failed = input.failed() || out.failed() || err.failed();
     let ended = input.ended();
-    assert!(rt; !input.failed() && !out.failed() && !err.failed());
-    assert_eq!(rt; (ended, status), (want.0, want.1));
-    assert_eq!(rt; written.as_slice(), want.2.as_bytes());
-    assert_eq!(rt; reported.as_slice(), want.3.as_bytes());
+    let ran = (status, text(&written), text(&reported));
+    equal(rt, (line, ended, failed, ran), (line, ends, false, want));
     Ok(())
 }
 
 // Each source is read by its own kind alone.
 #[test]
 fn kind_formats_the_input(rt: HostRuntime) -> Result<(), Fail> {
-    let rows = [
-        ("lhs", "%x = var\ninfer %x", "%x = var\ninfer %x\n\n"),
-        ("rhs", "result 1", "result 1\n"),
-        ("rep", "cand 1, 2", "cand 1 2\n\n"),
-    ];
-    for (word, source, text) in rows {
-        runs(&rt, rt.alloc(), &[word], source, (true, 0, text, ""))?;
-    }
+    let source = "%x = var\ninfer %x";
+    let want = (0, "%x = var\ninfer %x\n\n", "");
+    runs(&rt, rt.alloc(), "lhs", source, true, want)?;
+    runs(
+        &rt,
+        rt.alloc(),
+        "rhs",
+        "result 1",
+        true,
+        (0, "result 1\n", ""),
+    )?;
+    runs(
+        &rt,
+        rt.alloc(),
+        "rep",
+        "cand 1, 2",
+        true,
+        (0, "cand 1 2\n\n", ""),
+    )?;
     let line = "unknown:1:1: expected 'infer'\n     |\n   1 | result 1\n     | ^\n";
-    runs(&rt, rt.alloc(), &["lhs"], "result 1", (true, 1, "", line))
+    runs(&rt, rt.alloc(), "lhs", "result 1", true, (1, "", line))
+}
+
+// The words do this, and the input is not read.
+fn does(rt: &impl Abort, alloc: Global, line: &str, want: Ran<'_>) -> Result<(), Fail> {
+    runs(rt, alloc, line, "result 1", false, want)
 }
 
 #[test]
 fn same_compares_the_files(rt: HostRuntime) -> Result<(), Fail> {
-    let rows = [
-        ("lhs", "sum", "ordered", "same\n"),
-        ("lhs", "ordered", "turned", "different\n"),
-        ("rhs", "one", "one", "same\n"),
-        ("rhs", "one", "two", "different\n"),
-        ("rep", "cand", "cand", "same\n"),
-    ];
-    for (kind, a, b, text) in rows {
-        let args = ["same", kind, a, b];
-        runs(&rt, rt.alloc(), &args, "result 1", (false, 0, text, ""))?;
-    }
-    Ok(())
+    let same = (0, "same\n", "");
+    let different = (0, "different\n", "");
+    does(&rt, rt.alloc(), "same lhs sum ordered", same)?;
+    does(&rt, rt.alloc(), "same lhs ordered turned", different)?;
+    does(&rt, rt.alloc(), "same rhs one one", same)?;
+    does(&rt, rt.alloc(), "same rhs one two", different)?;
+    does(&rt, rt.alloc(), "same rep cand cand", same)
 }
 
 #[test]
 fn same_tells_the_file_that_is_refused(rt: HostRuntime) -> Result<(), Fail> {
-    let rest = ":1:1: expected 'infer'\n     |\n   1 | result 1\n     | ^\n";
-    for (a, b) in [("one", "absent"), ("one", "sum"), ("sum", "one")] {
-        let line = format!(in rt.alloc(); "one{rest}")?;
-        let args = ["same", "lhs", a, b];
-        runs(&rt, rt.alloc(), &args, "", (false, 1, "", line.as_str()))?;
-    }
+    let line = "one:1:1: expected 'infer'\n     |\n   1 | result 1\n     | ^\n";
+    runs(
+        &rt,
+        rt.alloc(),
+        "same lhs one absent",
+        "",
+        false,
+        (1, "", line),
+    )?;
+    runs(
+        &rt,
+        rt.alloc(),
+        "same lhs one sum",
+        "",
+        false,
+        (1, "", line),
+    )?;
+    runs(
+        &rt,
+        rt.alloc(),
+        "same lhs sum one",
+        "",
+        false,
+        (1, "", line),
+    )?;
     let line = "IO error: entity not found\n";
-    for (a, b) in [("absent", "sum"), ("sum", "absent")] {
-        let args = ["same", "lhs", a, b];
-        runs(&rt, rt.alloc(), &args, "", (false, 3, "", line))?;
-    }
-    Ok(())
+    runs(
+        &rt,
+        rt.alloc(),
+        "same lhs absent sum",
+        "",
+        false,
+        (3, "", line),
+    )?;
+    runs(
+        &rt,
+        rt.alloc(),
+        "same lhs sum absent",
+        "",
+        false,
+        (3, "", line),
+    )
 }
 
 #[test]
 fn other_words_get_the_usage(rt: HostRuntime) -> Result<(), Fail> {
-    let rows: [&[&str]; 5] = [
-        &[],
-        &["same", "lhs", "sum"],
-        &["lhs", "rhs"],
-        &["format"],
-        &["same", "x", "sum", "sum"],
-    ];
-    for args in rows {
-        runs(&rt, rt.alloc(), args, "result 1", (false, 2, "", USAGE))?;
-    }
-    Ok(())
+    does(&rt, rt.alloc(), "", (2, "", USAGE))?;
+    does(&rt, rt.alloc(), "same lhs sum", (2, "", USAGE))?;
+    does(&rt, rt.alloc(), "lhs rhs", (2, "", USAGE))?;
+    does(&rt, rt.alloc(), "format", (2, "", USAGE))?;
+    does(&rt, rt.alloc(), "same x sum sum", (2, "", USAGE))
+}
+
+// A run without a command over an `err` that fails after so many calls: the status, whether `err` failed, and whether
+// nothing is written.
+fn usage_over_err(alloc: Global, after: usize) -> Result<(u8, bool, bool), AllocError> {
+    let args = words(alloc, "same")?;
+    let files = TextsInMemory { alloc };
+    let mut written = Vec::new(alloc);
+    let mut input = Watched::new(b"".as_slice());
+    let mut out = Watched::new(&mut written);
+    let mut err = Watched::new(FaultyWriter::new(30, after));
+    let status = run_command(&files, alloc, args, &mut input, &mut out, &mut err);
+    let failed = err.failed();
+    Ok((status, failed, written.is_empty()))
 }
 
 #[test]
 fn failed_err_keeps_the_status_of_the_usage(rt: HostRuntime) -> Result<(), Fail> {
     for after in 0..4 {
-        let mut written = Vec::new(rt.alloc());
-        let mut input = Watched::new(b"".as_slice());
-        let mut out = Watched::new(&mut written);
-        let mut err = Watched::new(FaultyWriter::new(30, after));
-        let files = TextsInMemory { alloc: rt.alloc() };
-        let args = words(rt.alloc(), &["same"])?;
-        let status = run_command(&files, rt.alloc(), args, &mut input, &mut out, &mut err);
-        assert_eq!(&rt; (status, err.failed()), (2, after < 3));
-        assert!(&rt; written.is_empty());
+        let ran = usage_over_err(rt.alloc(), after)?;
+        equal(&rt, (after, ran), (after, (2, after < 3, true)));
     }
     Ok(())
 }

@@ -4,6 +4,9 @@
 #![tactic(auto)]
 
 #[cfg(test)]
+mod asserts;
+pub mod checks;
+#[cfg(test)]
 mod commands;
 #[cfg(test)]
 mod dispatch;

@@ -1,58 +1,62 @@
 //! What a watched stream records of its calls.
+use crate::asserts::equal;
 use crate::streams::{FaultyReader, FaultyWriter};
 use souper_format::watched::Watched;
 use std::io::{Read, Write};
-use std::test::Fail;
 
-#[test]
-fn end_of_a_reader_is_reported(rt: HostRuntime) -> Result<(), Fail> {
-    let mut input = Watched::new(b"abc".as_slice());
-    assert!(rt; !input.ended() && !input.failed());
-    assert_eq!(rt; input.read(&mut [])?, 0);
-    assert!(rt; !input.ended());
-    let mut buffer = [0u8; 2];
-    assert_eq!(rt; input.read(&mut buffer)?, 2);
-    assert_eq!(rt; buffer, *b"ab");
-    assert_eq!(rt; input.read(&mut buffer)?, 1);
-    assert!(rt; !input.ended());
-    assert_eq!(rt; input.read(&mut buffer)?, 0);
-    assert!(rt; input.ended() && !input.failed());
-    Ok(())
+// What a read gives, and whether the stream then has failed and has ended.
+fn read<R: Read>(input: &mut Watched<R>, buffer: &mut [u8]) -> (Option<usize>, bool, bool) {
+    let count = input.read(buffer).ok();
+    (count, input.failed(), input.ended())
+}
+
+// The same of a write.
+fn write<W: Write>(out: &mut Watched<W>, bytes: &[u8]) -> (Option<usize>, bool, bool) {
+    let count = out.write(bytes).ok();
+    (count, out.failed(), out.ended())
+}
+
+// Whether a flush works, and whether the stream then has failed.
+fn flush<W: Write>(out: &mut Watched<W>) -> (bool, bool) {
+    let works = out.flush().is_ok();
+    (works, out.failed())
 }
 
 #[test]
-fn failed_read_is_reported(rt: HostRuntime) -> Result<(), Fail> {
+fn end_of_a_reader_is_reported(rt: HostRuntime) {
+    let mut input = Watched::new(b"abc".as_slice());
+    equal(&rt, (input.failed(), input.ended()), (false, false));
+    equal(&rt, read(&mut input, &mut []), (Some(0), false, false));
+    let mut buffer = [0u8; 2];
+    equal(&rt, read(&mut input, &mut buffer), (Some(2), false, false));
+    equal(&rt, buffer, *b"ab");
+    equal(&rt, read(&mut input, &mut buffer), (Some(1), false, false));
+    equal(&rt, read(&mut input, &mut buffer), (Some(0), false, true));
+}
+
+#[test]
+fn failed_read_is_reported(rt: HostRuntime) {
     let mut input = Watched::new(FaultyReader::new(b"a", 1, 1));
     let mut buffer = [0u8; 2];
-    assert_eq!(rt; input.read(&mut buffer)?, 1);
-    assert!(rt; !input.failed());
-    assert!(rt; input.read(&mut buffer).is_err());
-    assert!(rt; input.failed() && !input.ended());
-    assert_eq!(rt; input.read(&mut buffer)?, 0);
-    assert!(rt; input.failed() && input.ended());
-    Ok(())
+    equal(&rt, read(&mut input, &mut buffer), (Some(1), false, false));
+    equal(&rt, read(&mut input, &mut buffer), (None, true, false));
+    equal(&rt, read(&mut input, &mut buffer), (Some(0), true, true));
 }
 
 #[test]
-fn failed_write_is_reported(rt: HostRuntime) -> Result<(), Fail> {
+fn failed_write_is_reported(rt: HostRuntime) {
     let mut out = Watched::new(FaultyWriter::new(1, 2));
-    assert!(rt; !out.ended() && !out.failed());
-    assert_eq!(rt; out.write(b"ab")?, 1);
-    out.flush()?;
-    assert!(rt; !out.failed());
-    assert!(rt; out.flush().is_err());
-    assert!(rt; out.failed());
-    out.write_all(b"ab")?;
-    assert!(rt; out.failed() && !out.ended());
-    Ok(())
+    equal(&rt, (out.failed(), out.ended()), (false, false));
+    equal(&rt, write(&mut out, b"ab"), (Some(1), false, false));
+    equal(&rt, flush(&mut out), (true, false));
+    equal(&rt, flush(&mut out), (false, true));
+    let works = out.write_all(b"ab").is_ok();
+    equal(&rt, (works, out.failed(), out.ended()), (true, true, false));
 }
 
 #[test]
-fn write_that_takes_nothing_is_reported(rt: HostRuntime) -> Result<(), Fail> {
+fn write_that_takes_nothing_is_reported(rt: HostRuntime) {
     let mut out = Watched::new(FaultyWriter::new(0, 9));
-    assert_eq!(rt; out.write(b"")?, 0);
-    assert!(rt; !out.failed());
-    assert!(rt; out.write(b"a").is_err());
-    assert!(rt; out.failed());
-    Ok(())
+    equal(&rt, write(&mut out, b""), (Some(0), false, false));
+    equal(&rt, write(&mut out, b"a"), (None, true, false));
 }

@@ -1,4 +1,5 @@
 //! Whether streams are canonical.
+use crate::support::{equal, headed};
 use souper_format::watched::Watched;
 use souper_ir::ast::{LeftHandSide, RightHandSide};
 use souper_records::check::check_run;
@@ -8,60 +9,55 @@ use std::io::BufReader;
 use std::process::Abort;
 use std::test::Fail;
 
-// The status of the text, and what was reported of it.
-fn checked<T: StreamItem + Drop>(alloc: Global, source: &[u8]) -> Result<(u8, String), Fail> {
+// A check of the text has this status, and reports lines with this head.
+fn is_told<T: StreamItem + Drop>(
+    rt: &impl Abort,
+    alloc: Global,
+    source: &[u8],
+    want: (u8, &str),
+) -> Result<(), Fail> {
     let mut reader = BufReader::new(alloc, source)?;
-    let mut err_bytes = Vec::new(alloc);
-    let mut err = Watched::new(&mut err_bytes);
+    let mut reported = Vec::new(alloc);
+    let mut err = Watched::new(&mut reported);
     let status = check_run::<T, BufReader<&[u8]>, &mut Vec<u8>>(
         alloc,
         &mut reader,
         "a.opt",
         &mut err,
     );
-    Ok((status, String::from_utf8(err_bytes)?))
+    let found = (status, headed(&reported, want.1));
+    equal(rt, (source, found), (source, want));
+    Ok(())
 }
 
-fn is_told<T: StreamItem + Drop>(
+fn is_lhs_told(
     rt: &impl Abort,
     alloc: Global,
     source: &[u8],
-    status: u8,
-    told: &str,
+    want: (u8, &str),
 ) -> Result<(), Fail> {
-    let (found, err) = checked::<T>(alloc, source)?;
-    assert_eq!(rt; found, status);
-    assert!(rt; err.as_str().starts_with(told), "{:?}", err.as_str());
-    assert_eq!(rt; err.is_empty(), status == 0);
-    Ok(())
+    is_told::<LeftHandSide>(rt, alloc, source, want)
 }
 
 #[test]
 fn records_are_canonical(rt: HostRuntime) -> Result<(), Fail> {
-    is_told::<LeftHandSide>(&rt, rt.alloc(), b"", 0, "")?;
-    is_told::<LeftHandSide>(
-        &rt,
-        rt.alloc(),
-        b"%x = var\ninfer %x\n\n%y = var\ninfer %y\n\n",
-        0,
-        "",
-    )?;
-    is_told::<RightHandSide>(&rt, rt.alloc(), b"result 1:i8\n\nresult 2:i8\n\n", 0, "")
+    is_lhs_told(&rt, rt.alloc(), b"", (0, ""))?;
+    let source = b"%x = var\ninfer %x\n\n%y = var\ninfer %y\n\n";
+    is_lhs_told(&rt, rt.alloc(), source, (0, ""))?;
+    let source = b"result 1:i8\n\nresult 2:i8\n\n";
+    is_told::<RightHandSide>(&rt, rt.alloc(), source, (0, ""))
 }
 
 #[test]
 fn other_texts_are_told(rt: HostRuntime) -> Result<(), Fail> {
-    let told = "souper_items: a.opt: not canonical\n";
-    for source in [
-        b"%x = var\ninfer %x\n".as_slice(),
-        b"%x = var\ninfer %x\n\n\n".as_slice(),
-        b"%x = var\ninfer %x\n\n; end\n".as_slice(),
-        b"%x = var\n%y = var\ninfer %x\n\n".as_slice(),
-        b"\n".as_slice(),
-    ] {
-        is_told::<LeftHandSide>(&rt, rt.alloc(), source, 1, told)?;
-    }
-    is_told::<RightHandSide>(&rt, rt.alloc(), b"result 1:i8\n", 1, told)?;
-    is_told::<LeftHandSide>(&rt, rt.alloc(), b"%x = var\ninfer %y\n", 1, "a.opt:2:6: ")?;
-    is_told::<LeftHandSide>(&rt, rt.alloc(), b"\xff", 2, "souper_items: a.opt: ")
+    let alloc = rt.alloc();
+    let want = (1, "souper_items: a.opt: not canonical\n");
+    is_lhs_told(&rt, alloc, b"%x = var\ninfer %x\n", want)?;
+    is_lhs_told(&rt, alloc, b"%x = var\ninfer %x\n\n\n", want)?;
+    is_lhs_told(&rt, alloc, b"%x = var\ninfer %x\n\n; end\n", want)?;
+    is_lhs_told(&rt, alloc, b"%x = var\n%y = var\ninfer %x\n\n", want)?;
+    is_lhs_told(&rt, alloc, b"\n", want)?;
+    is_told::<RightHandSide>(&rt, alloc, b"result 1:i8\n", want)?;
+    is_lhs_told(&rt, alloc, b"%x = var\ninfer %y\n", (1, "a.opt:2:6: "))?;
+    is_lhs_told(&rt, alloc, b"\xff", (2, "souper_items: a.opt: "))
 }

@@ -1,13 +1,21 @@
 //! Reads and writes that fail.
-use crate::support::run_over;
+use crate::support::{did, equal, headed, run_over};
 use program_vectors::streams::{FaultyReader, FaultyWriter};
 use souper_format::watched::Watched;
 use souper_ir::ast::LeftHandSide;
 use souper_records::layout::PLAIN;
 use souper_records::run::each_run;
+use std::alloc::Global;
 use std::io;
 use std::io::{BufReader, ErrorKind, Read};
+use std::process::Abort;
 use std::test::Fail;
+
+// How the line of a failed read begins.
+const READ_ERROR: &str = "souper_items: a.opt: ";
+
+// How the line of a failed write begins.
+const WRITE_ERROR: &str = "souper_items: write error: ";
 
 // A reader whose reads fail for good after these bytes.
 #[derive(Drop)]
@@ -30,39 +38,34 @@ fn failed_read_is_reported(rt: HostRuntime) -> Result<(), Fail> {
         rest: b"%x = var\ninfer %x\n%y = var\n",
     };
     let mut reader = BufReader::with_capacity(rt.alloc(), 3, source)?;
-    let run = run_over::<LeftHandSide, BufReader<BrokenReader<'_>>>(
-        rt.alloc(),
+    let run = run_over::<LeftHandSide, BufReader<BrokenReader<'_>>>(rt.alloc(), PLAIN, &mut reader);
+    did(&rt, run, (2, "", READ_ERROR));
+    Ok(())
+}
+
+// The status of a run that is refused and whose report fails after so many calls, and whether the report failed.
+fn failed_report(alloc: Global, after: usize) -> Result<(u8, bool), Fail> {
+    let mut reader = BufReader::new(alloc, b"infer %x\n".as_slice())?;
+    let mut written = Vec::new(alloc);
+    let mut out = Watched::new(&mut written);
+    let mut err = Watched::new(FaultyWriter::new(5, after));
+    let status = each_run::<LeftHandSide, BufReader<&[u8]>, &mut Vec<u8>, FaultyWriter>(
+        alloc,
         PLAIN,
         &mut reader,
-    )?;
-    assert_eq!(rt; run.status, 2);
-    assert!(rt; run.out.is_empty());
-    assert!(rt;
-        run.err.as_str().starts_with("souper_items: a.opt: "),
-        "{:?}",
-        run.err.as_str()
+        "a.opt",
+        &mut out,
+        &mut err,
     );
-    Ok(())
+    Ok((status, err.failed()))
 }
 
 // If the report cannot be written, the status is that of the refusal.
 #[test]
 fn failed_report_leaves_the_status(rt: HostRuntime) -> Result<(), Fail> {
     for after in 0..4 {
-        let mut reader = BufReader::new(rt.alloc(), b"infer %x\n".as_slice())?;
-        let mut bytes = Vec::new(rt.alloc());
-        let mut out = Watched::new(&mut bytes);
-        let mut err = Watched::new(FaultyWriter::new(5, after));
-        let status = each_run::<LeftHandSide, BufReader<&[u8]>, &mut Vec<u8>, FaultyWriter>(
-            rt.alloc(),
-            PLAIN,
-            &mut reader,
-            "a.opt",
-            &mut out,
-            &mut err,
-        );
-        assert_eq!(&rt; status, 1);
-        assert!(&rt; err.failed());
+        let found = failed_report(rt.alloc(), after)?;
+        equal(&rt, (after, found), (after, (1, true)));
     }
     Ok(())
 }
@@ -70,14 +73,18 @@ fn failed_report_leaves_the_status(rt: HostRuntime) -> Result<(), Fail> {
 #[test]
 fn bytes_that_are_no_text_are_reported(rt: HostRuntime) -> Result<(), Fail> {
     let mut reader = BufReader::new(rt.alloc(), b"%x = var\ninfer %x\n\xff".as_slice())?;
-    let run = run_over::<LeftHandSide, BufReader<&[u8]>>(rt.alloc(), PLAIN, &mut reader)?;
-    assert_eq!(rt; run.status, 2);
-    assert!(rt;
-        run.err.as_str().starts_with("souper_items: a.opt: "),
-        "{:?}",
-        run.err.as_str()
-    );
-    assert!(rt; run.err.as_str().ends_with("\n"));
+    let run = run_over::<LeftHandSide, BufReader<&[u8]>>(rt.alloc(), PLAIN, &mut reader);
+    let found = (run.status, headed(&run.err, READ_ERROR));
+    equal(&rt, found, (2, READ_ERROR));
+    Ok(())
+}
+
+// A run in which one read is interrupted.
+fn is_tried_again(rt: &impl Abort, alloc: Global, after: usize) -> Result<(), Fail> {
+    let source = FaultyReader::new(b"%x = var\ninfer %x\n", 5, after);
+    let mut reader = BufReader::with_capacity(alloc, 3, source)?;
+    let run = run_over::<LeftHandSide, BufReader<FaultyReader<'_>>>(alloc, PLAIN, &mut reader);
+    did(rt, run, (0, "%x = var\ninfer %x\n\n", ""));
     Ok(())
 }
 
@@ -85,48 +92,42 @@ fn bytes_that_are_no_text_are_reported(rt: HostRuntime) -> Result<(), Fail> {
 #[test]
 fn interrupted_read_is_tried_again(rt: HostRuntime) -> Result<(), Fail> {
     for after in 0..8 {
-        let source = FaultyReader::new(b"%x = var\ninfer %x\n", 5, after);
-        let mut reader = BufReader::with_capacity(rt.alloc(), 3, source)?;
-        let run = run_over::<LeftHandSide, BufReader<FaultyReader<'_>>>(
-            rt.alloc(),
-            PLAIN,
-            &mut reader,
-        )?;
-        assert_eq!(&rt; run.status, 0);
-        assert_eq!(&rt; run.out.as_str(), "%x = var\ninfer %x\n\n");
+        is_tried_again(&rt, rt.alloc(), after)?;
     }
     Ok(())
 }
 
+// A run has this status, and reports a line with this head. A call of the writer fails or not.
+fn writes(
+    rt: &impl Abort,
+    alloc: Global,
+    after: usize,
+    fails: bool,
+    want: (u8, &str),
+) -> Result<(), Fail> {
+    let mut reader = BufReader::new(alloc, b"%x = var\ninfer %x\n".as_slice())?;
+    let mut reported = Vec::new(alloc);
+    let mut err = Watched::new(&mut reported);
+    let mut out = Watched::new(FaultyWriter::new(5, after));
+    let status = each_run::<LeftHandSide, BufReader<&[u8]>, FaultyWriter, &mut Vec<u8>>(
+        alloc,
+        PLAIN,
+        &mut reader,
+        "a.opt",
+        &mut out,
+        &mut err,
+    );
+    let failed = out.failed();
+    let found = (status, headed(&reported, want.1));
+    equal(rt, (after, failed, found), (after, fails, want));
+    Ok(())
+}
+
+// The 19 bytes go in four writes, and a fifth call flushes.
 #[test]
 fn failed_write_is_reported(rt: HostRuntime) -> Result<(), Fail> {
-    for after in 0..6 {
-        let mut reader = BufReader::new(rt.alloc(), b"%x = var\ninfer %x\n".as_slice())?;
-        let mut err_bytes = Vec::new(rt.alloc());
-        let mut err = Watched::new(&mut err_bytes);
-        let mut out = Watched::new(FaultyWriter::new(5, after));
-        let status = each_run::<LeftHandSide, BufReader<&[u8]>, FaultyWriter, &mut Vec<u8>>(
-            rt.alloc(),
-            PLAIN,
-            &mut reader,
-            "a.opt",
-            &mut out,
-            &mut err,
-        );
-        let failed = out.failed();
-        let err = String::from_utf8(err_bytes)?;
-        if after < 5 {
-            assert_eq!(&rt; status, 2);
-            assert!(&rt; failed);
-            assert!(&rt;
-                err.as_str().starts_with("souper_items: write error: "),
-                "{:?}",
-                err.as_str()
-            );
-        } else {
-            assert_eq!(&rt; status, 0);
-            assert!(&rt; err.is_empty());
-        }
+    for after in 0..5 {
+        writes(&rt, rt.alloc(), after, true, (2, WRITE_ERROR))?;
     }
-    Ok(())
+    writes(&rt, rt.alloc(), 5, false, (0, ""))
 }

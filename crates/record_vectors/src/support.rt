@@ -1,18 +1,36 @@
-//! Runs over texts that are in memory.
+//! Runs over texts that are in memory, and the comparison of plain values.
+use program_vectors::checks::{Ran, text};
 use souper_format::watched::Watched;
 use souper_records::layout::Layout;
 use souper_records::run::each_run;
 use souper_stream::StreamItem;
 use std::alloc::Global;
+use std::fmt::Debug;
 use std::io::{BufRead, BufReader};
+use std::process::Abort;
 use std::test::Fail;
 
 /// What a run did.
 #[derive(Drop)]
 pub(crate) struct Run {
     pub(crate) status: u8,
-    pub(crate) out: String,
-    pub(crate) err: String,
+    pub(crate) out: Vec<u8>,
+    pub(crate) err: Vec<u8>,
+}
+
+/// Asserts that what was found is what is wanted.
+pub(crate) fn equal<T: Copy + PartialEq + Debug>(rt: &impl Abort, found: T, want: T) {
+    assert_eq!(rt; found, want);
+}
+
+/// The bytes as a text, or the head alone if they are lines that begin with it.
+pub(crate) fn headed<'a>(bytes: &'a [u8], head: &'a str) -> &'a str {
+    let lines = text(bytes);
+    if !head.is_empty() && lines.starts_with(head) && lines.ends_with("\n") {
+        head
+    } else {
+        lines
+    }
 }
 
 /// A run of `each` over a reader.
@@ -20,28 +38,40 @@ pub(crate) fn run_over<T: StreamItem + Drop, R: BufRead>(
     alloc: Global,
     layout: Layout,
     reader: &mut R,
-) -> Result<Run, Fail> {
-    let mut out_bytes = Vec::new(alloc);
-    let mut err_bytes = Vec::new(alloc);
-    let mut out = Watched::new(&mut out_bytes);
-    let mut err = Watched::new(&mut err_bytes);
+) -> Run {
+    let mut written = Vec::new(alloc);
+    let mut reported = Vec::new(alloc);
+    let mut out = Watched::new(&mut written);
+    let mut err = Watched::new(&mut reported);
     let status = each_run::<T, R, &mut Vec<u8>, &mut Vec<u8>>(
         alloc, layout, reader, "a.opt", &mut out, &mut err,
     );
-    Ok(Run {
+    Run {
         status,
-        out: String::from_utf8(out_bytes)?,
-        err: String::from_utf8(err_bytes)?,
-    })
+        out: written,
+        err: reported,
+    }
 }
 
-/// A run of `each` over a text, with so many bytes a read.
-pub(crate) fn run_each<T: StreamItem + Drop>(
+/// Asserts what the run did. Of the lines on `err` the wanted text is the head.
+pub(crate) fn did(rt: &impl Abort, run: Run, want: Ran<'_>) {
+    let found = (run.status, text(&run.out), headed(&run.err, want.2));
+    equal(rt, found, want);
+}
+
+/// Asserts what a run of `each` over a text does, with so many bytes a read.
+pub(crate) fn runs<T: StreamItem + Drop>(
+    rt: &impl Abort,
     alloc: Global,
     layout: Layout,
-    source: &str,
-    capacity: usize,
-) -> Result<Run, Fail> {
+    (source, capacity): (&str, usize),
+    want: Ran<'_>,
+) -> Result<(), Fail> {
     let mut reader = BufReader::with_capacity(alloc, capacity, source.as_bytes())?;
-    run_over::<T, BufReader<&[u8]>>(alloc, layout, &mut reader)
+    did(
+        rt,
+        run_over::<T, BufReader<&[u8]>>(alloc, layout, &mut reader),
+        want,
+    );
+    Ok(())
 }

@@ -1,13 +1,15 @@
 //! The first item of each graph.
+use crate::support::equal;
+use program_vectors::checks::{Ran, text};
 use souper_format::watched::Watched;
 use souper_ir::ast::{LeftHandSide, RightHandSide};
 use souper_records::layout::{Delimiter, Layout, PLAIN};
 use souper_records::run::{count_run, uniq_run};
 use souper_records::seen::Seen;
 use souper_stream::StreamItem;
-use std::alloc::Global;
+use std::alloc::{AllocError, Global};
 use std::io;
-use std::io::BufReader;
+use std::io::{BufReader, Write};
 use std::process::Abort;
 use std::test::Fail;
 
@@ -17,47 +19,70 @@ const RENAMED: Layout = Layout {
     rename: true,
 };
 
+// The status of a stream after those that were seen, with so many bytes a read.
+fn uniq<T: StreamItem + Drop, W: Write>(
+    alloc: Global,
+    layout: Layout,
+    seen: &mut Seen,
+    (source, capacity): (&str, usize),
+    out: &mut Watched<W>,
+) -> Result<u8, Fail> {
+    let mut reader = BufReader::with_capacity(alloc, capacity, source.as_bytes())?;
+    let mut reported = Vec::new(alloc);
+    let mut err = Watched::new(&mut reported);
+    let status = uniq_run::<T, BufReader<&[u8]>, W, &mut Vec<u8>>(
+        alloc,
+        layout,
+        seen,
+        &mut reader,
+        "a.opt",
+        out,
+        &mut err,
+    );
+    Ok(status)
+}
+
 // The streams, one after the other, have these statuses, and this is written of them all.
 fn writes<T: StreamItem + Drop>(
     rt: &impl Abort,
     alloc: Global,
     layout: Layout,
     streams: &[(&str, u8)],
-    text: &str,
+    want: &str,
 ) -> Result<(), Fail> {
     let mut seen = Seen::new(alloc);
-    let mut bytes = Vec::new(alloc);
-    let mut out = Watched::new(&mut bytes);
-    let mut err_bytes = Vec::new(alloc);
-    let mut err = Watched::new(&mut err_bytes);
+    let mut written = Vec::new(alloc);
+    let mut out = Watched::new(&mut written);
     for (source, status) in streams {
-        let mut reader = BufReader::with_capacity(alloc, 7, source.as_bytes())?;
-        let found = uniq_run::<T, BufReader<&[u8]>, &mut Vec<u8>, &mut Vec<u8>>(
-            alloc,
-            layout,
-            &mut seen,
-            &mut reader,
-            "a.opt",
-            &mut out,
-            &mut err,
-        );
-        assert_eq!(rt; found, *status);
+        let found = uniq::<T, &mut Vec<u8>>(alloc, layout, &mut seen, (source, 7), &mut out)?;
+        equal(rt, found, *status);
     }
-    assert_eq!(rt; String::from_utf8(bytes)?.as_str(), text);
+    equal(rt, text(&written), want);
     Ok(())
+}
+
+// This is written of the one stream.
+fn writes_of<T: StreamItem + Drop>(
+    rt: &impl Abort,
+    alloc: Global,
+    layout: Layout,
+    source: &str,
+    want: &str,
+) -> Result<(), Fail> {
+    writes::<T>(rt, alloc, layout, [(source, 0)].as_slice(), want)
 }
 
 #[test]
 fn first_of_each_graph_is_written(rt: HostRuntime) -> Result<(), Fail> {
     let source = "%x = var infer %x %y = var infer %y %x = var infer %x %z = var infer %z";
     let text = "%x = var\ninfer %x\n\n%y = var\ninfer %y\n\n%z = var\ninfer %z\n\n";
-    writes::<LeftHandSide>(&rt, rt.alloc(), PLAIN, [(source, 0)].as_slice(), text)?;
+    writes_of::<LeftHandSide>(&rt, rt.alloc(), PLAIN, source, text)?;
     // Up to names they are one graph.
     let text = "%0 = var\ninfer %0\n\n";
-    writes::<LeftHandSide>(&rt, rt.alloc(), RENAMED, [(source, 0)].as_slice(), text)?;
+    writes_of::<LeftHandSide>(&rt, rt.alloc(), RENAMED, source, text)?;
     let source = "result 1:i8 result 2:i8 result 1:i8 result 1:i16";
     let text = "result 1:i8\n\nresult 2:i8\n\nresult 1:i16\n\n";
-    writes::<RightHandSide>(&rt, rt.alloc(), PLAIN, [(source, 0)].as_slice(), text)
+    writes_of::<RightHandSide>(&rt, rt.alloc(), PLAIN, source, text)
 }
 
 // Other orders of definitions, and statements that nothing needs, are the same graph.
@@ -66,18 +91,11 @@ fn layout_of_an_item_does_not_count(rt: HostRuntime) -> Result<(), Fail> {
     let source = "%x = var\n%y = var\n%z = add %x, %y\ninfer %z\n\
                   %y = var ; first\n%a = var\n%x = var\n%z = add %x, %y\ninfer %z\n\
                   %x = var\n%y = var\n%z = add %y, %x\ninfer %z\n";
-    let first = "%x = var\n%y = var\n%z = add %x, %y\ninfer %z\n\n";
-    let last = "%y = var\n%x = var\n%z = add %y, %x\ninfer %z\n\n";
-    let text = format!(in rt.alloc(); "{first}{last}")?;
-    writes::<LeftHandSide>(
-        &rt,
-        rt.alloc(),
-        PLAIN,
-        [(source, 0)].as_slice(),
-        text.as_str(),
-    )?;
+    let text = "%x = var\n%y = var\n%z = add %x, %y\ninfer %z\n\n\
+                %y = var\n%x = var\n%z = add %y, %x\ninfer %z\n\n";
+    writes_of::<LeftHandSide>(&rt, rt.alloc(), PLAIN, source, text)?;
     let text = "%0 = var\n%1 = var\n%2 = add %0, %1\ninfer %2\n\n";
-    writes::<LeftHandSide>(&rt, rt.alloc(), RENAMED, [(source, 0)].as_slice(), text)
+    writes_of::<LeftHandSide>(&rt, rt.alloc(), RENAMED, source, text)
 }
 
 #[test]
@@ -93,52 +111,60 @@ fn items_of_earlier_streams_count(rt: HostRuntime) -> Result<(), Fail> {
     writes::<LeftHandSide>(&rt, rt.alloc(), PLAIN, streams.as_slice(), text)
 }
 
+// Many items, and this after each.
+fn many(alloc: Global, end: &str) -> Result<String, AllocError> {
+    let mut items = String::new(alloc);
+    for n in 0..3000 {
+        let item = format!(in alloc; "%x = add {n}, {n}\ninfer %x\n{end}")?;
+        items.push_str(item.as_str())?;
+    }
+    Ok(items)
+}
+
 // Many items in several parts, each thrice.
 #[test]
 fn many_items_are_written_once(rt: HostRuntime) -> Result<(), Fail> {
-    let mut once = String::new(rt.alloc());
-    let mut records = String::new(rt.alloc());
-    for n in 0..3000 {
-        let item = format!(in rt.alloc(); "%x = add {n}, {n}\ninfer %x\n")?;
-        once.push_str(item.as_str())?;
-        records.push_str(item.as_str())?;
-        records.push_str("\n")?;
-    }
-    let mut thrice = String::new(rt.alloc());
-    for _turn in 0..3 {
-        thrice.push_str(once.as_str())?;
-    }
-    let streams = [(thrice.as_str(), 0), (once.as_str(), 0)];
+    let once = many(rt.alloc(), "")?;
+    let once = once.as_str();
+    let records = many(rt.alloc(), "\n")?;
+    let thrice = format!(in rt.alloc(); "{once}{once}{once}")?;
+    let streams = [(thrice.as_str(), 0), (once, 0)];
     writes::<LeftHandSide>(&rt, rt.alloc(), PLAIN, streams.as_slice(), records.as_str())
+}
+
+// The counts of what was seen are this.
+fn has_counts(rt: &impl Abort, alloc: Global, seen: &Seen, want: Ran<'_>) {
+    let mut written = Vec::new(alloc);
+    let mut reported = Vec::new(alloc);
+    let mut out = Watched::new(&mut written);
+    let mut err = Watched::new(&mut reported);
+    let status = count_run(alloc, RENAMED, seen, &mut out, &mut err);
+    equal(rt, (status, text(&written), text(&reported)), want);
 }
 
 #[test]
 fn counts_are_those_of_all_streams(rt: HostRuntime) -> Result<(), Fail> {
     let alloc = rt.alloc();
     let mut seen = Seen::new(alloc);
-    let mut err_bytes = Vec::new(alloc);
-    let mut err = Watched::new(&mut err_bytes);
-    for source in [
-        "%x = var infer %x %y = var infer %y",
-        "%a = var infer %a %b:i8 = var infer %b %c = var infer %c",
-    ] {
-        let mut reader = BufReader::new(alloc, source.as_bytes())?;
-        let mut sink = Watched::new(io::sink());
-        let status = uniq_run::<LeftHandSide, BufReader<&[u8]>, io::Sink, &mut Vec<u8>>(
-            alloc,
-            RENAMED,
-            &mut seen,
-            &mut reader,
-            "a.opt",
-            &mut sink,
-            &mut err,
-        );
-        assert_eq!(&rt; status, 0);
-    }
-    let mut bytes = Vec::new(alloc);
-    let mut out = Watched::new(&mut bytes);
-    assert_eq!(rt; count_run(alloc, RENAMED, &seen, &mut out, &mut err), 0);
+    let mut sink = Watched::new(io::sink());
+    let source = "%x = var infer %x %y = var infer %y";
+    let first = uniq::<LeftHandSide, io::Sink>(
+        alloc,
+        RENAMED,
+        &mut seen,
+        (source, 8192),
+        &mut sink,
+    )?;
+    let source = "%a = var infer %a %b:i8 = var infer %b %c = var infer %c";
+    let second = uniq::<LeftHandSide, io::Sink>(
+        alloc,
+        RENAMED,
+        &mut seen,
+        (source, 8192),
+        &mut sink,
+    )?;
+    equal(&rt, (first, second), (0, 0));
     let text = "; count 4\n%0 = var\ninfer %0\n\n; count 1\n%0:i8 = var\ninfer %0\n\n";
-    assert_eq!(rt; String::from_utf8(bytes)?.as_str(), text);
+    has_counts(&rt, alloc, &seen, (0, text, ""));
     Ok(())
 }

@@ -2,7 +2,7 @@
 ghost use Rattle.std.specs.Prelude.{IfOk};
 ghost use Rattle.souper_graph.specs.Building.{BeginsWithPercent};
 
-use crate::refusals::reports;
+use crate::refusals::{equal, is_text, reports};
 use souper_ir::ast::{
     Arena, AssignmentRhs, Attribute, Constant, Id, Instruction, LeftHandSide, LeftHandSideBuilder,
     Statement,
@@ -30,11 +30,9 @@ fn is(
     want: &str,
     well_formed: bool,
 ) -> Result<(), Fail> {
-    assert_eq!(rt; item.is_well_formed()?, well_formed);
-    let text = item.to_text()?;
-    assert_eq!(rt; text.as_str(), want);
-    let shown = item.to_string(alloc)?;
-    assert_eq!(rt; shown.as_str(), want);
+    equal(rt, item.is_well_formed()?, well_formed, want);
+    is_text(rt, item.to_text()?, want);
+    is_text(rt, item.to_string(alloc)?, want);
     Ok(())
 }
 
@@ -50,9 +48,7 @@ fn is_refused(
     reports(rt, alloc, error, offset, want)
 }
 
-#[test]
-fn text_with_a_name_twice_is_refused(rt: HostRuntime) -> Result<(), Fail> {
-    let alloc = rt.alloc();
+fn with_a_name_twice(alloc: Global) -> Result<LeftHandSide, Fail> {
     let mut builder = LeftHandSideBuilder::new(alloc);
     let first = builder.assignment(
         name(alloc, "%1")?,
@@ -66,23 +62,31 @@ fn text_with_a_name_twice_is_refused(rt: HostRuntime) -> Result<(), Fail> {
         b: one.into(),
     };
     let root = builder.assignment(None, None, sum.into(), Vec::new(alloc))?;
-    let item = builder.finish(root, Vec::new(alloc));
+    Ok(builder.finish(root, Vec::new(alloc)))
+}
+
+#[test]
+fn text_with_a_name_twice_is_refused(rt: HostRuntime) -> Result<(), Fail> {
+    let alloc = rt.alloc();
     let text = "%1 = var\n%1 = add %1, 1\ninfer %1\n";
-    is(&rt, alloc, &item, text, false)?;
+    is(&rt, alloc, &with_a_name_twice(alloc)?, text, false)?;
     let want = "unknown:1:9: cannot redefine '%1'\n     |\n   1 | %1 = var\n     |         ^";
     is_refused(&rt, alloc, text, 9, want)
+}
+
+fn without_bits(alloc: Global) -> Result<LeftHandSide, Fail> {
+    let mut builder = LeftHandSideBuilder::new(alloc);
+    let mut attributes = Vec::new(alloc);
+    attributes.push(Attribute::KnownBits(Vec::new(alloc)))?;
+    let root = builder.assignment(name(alloc, "%x")?, None, AssignmentRhs::Var, attributes)?;
+    Ok(builder.finish(root, Vec::new(alloc)))
 }
 
 #[test]
 fn text_without_bits_is_refused(rt: HostRuntime) -> Result<(), Fail> {
     let alloc = rt.alloc();
-    let mut builder = LeftHandSideBuilder::new(alloc);
-    let mut attributes = Vec::new(alloc);
-    attributes.push(Attribute::KnownBits(Vec::new(alloc)))?;
-    let root = builder.assignment(name(alloc, "%x")?, None, AssignmentRhs::Var, attributes)?;
-    let item = builder.finish(root, Vec::new(alloc));
     let text = "%x = var (knownBits=)\ninfer %x\n";
-    is(&rt, alloc, &item, text, false)?;
+    is(&rt, alloc, &without_bits(alloc)?, text, false)?;
     let want =
         "unknown:1:20: expected [0|1|x]+ bit pattern for knownBits\n     |\n   1 | %x = var (knownBits=)\n     |                    ^";
     is_refused(&rt, alloc, text, 20, want)
@@ -119,8 +123,8 @@ fn on_third_predecessor(alloc: Global, source: &str) -> Result<LeftHandSide, Fai
 fn text_with_a_predecessor_out_of_range_is_refused(rt: HostRuntime) -> Result<(), Fail> {
     let alloc = rt.alloc();
     let source = "%bb = block 2\n%x:i8 = var\nblockpc %bb 0 %x 1\ninfer %x";
-    let item = on_third_predecessor(alloc, source)?;
     let text = "%x:i8 = var\n%bb = block 2\nblockpc %bb 2 %x 1\ninfer %x\n";
+    let item = on_third_predecessor(alloc, source)?;
     is(&rt, alloc, &item, text, false)?;
     let want =
         "unknown:3:12: predecessor 2 out of range for block '%bb'\n     |\n   3 | blockpc %bb 2 %x 1\n     |            ^";
@@ -131,8 +135,8 @@ fn text_with_a_predecessor_out_of_range_is_refused(rt: HostRuntime) -> Result<()
 fn text_with_a_predecessor_in_range_is_read_back(rt: HostRuntime) -> Result<(), Fail> {
     let alloc = rt.alloc();
     let source = "%bb = block 3\n%x:i8 = var\nblockpc %bb 0 %x 1\ninfer %x";
-    let item = on_third_predecessor(alloc, source)?;
     let text = "%x:i8 = var\n%bb = block 3\nblockpc %bb 2 %x 1\ninfer %x\n";
+    let item = on_third_predecessor(alloc, source)?;
     is(&rt, alloc, &item, text, true)?;
     is(&rt, alloc, &first(alloc, text)?, text, true)
 }

@@ -1,9 +1,9 @@
 //! Texts that are cut off.
-use crate::refusals::read_record;
+use crate::refusals::{equal, read_record};
 use crate::table::TABLE;
 use souper_format::command::Kind;
 use souper_format::items::read_items;
-use souper_ir::parse::{ParseErrorKind, parse_left_hand_sides_str};
+use souper_ir::parse::{ParseError, ParseErrorKind, parse_left_hand_sides_str};
 use souper_vectors::sources::{
     ATTRIBUTES, BLOCKS, GAPS, PAIRS, PRINTED_PAIRS, RESULTS, RIGHT_HAND_SIDES, VALUES, chain, ones,
     thousand, words,
@@ -14,53 +14,62 @@ use std::test::Fail;
 
 const SOURCE: &str = "%a = var\n%b = var\ninfer %b";
 
-const NAME: &str = "expected value name";
+// The length of each prefix, the offset at which it is refused, and the message.
+const PREFIXES: &str = "1 0 expected value name
+2 1 unexpected EOF
+3 2 unexpected EOF
+4 3 expected a constant, var, block, phi, or instruction
+5 3 expected a constant, var, block, phi, or instruction
+6 5 expected a constant, var, block, phi, or instruction
+7 5 expected a constant, var, block, phi, or instruction
+8 7 unexpected EOF
+9 8 unexpected EOF
+10 9 expected value name
+11 10 unexpected EOF
+12 11 unexpected EOF
+13 12 expected a constant, var, block, phi, or instruction
+14 12 expected a constant, var, block, phi, or instruction
+15 14 expected a constant, var, block, phi, or instruction
+16 14 expected a constant, var, block, phi, or instruction
+17 16 unexpected EOF
+18 17 unexpected EOF
+19 18 expected 'infer'
+20 18 expected 'infer'
+21 18 expected 'infer'
+22 18 expected 'infer'
+23 22 unexpected EOF
+24 23 unexpected EOF
+25 24 expected value name";
 
-const END: &str = "unexpected EOF";
+fn read_row(row: &str) -> Option<(usize, usize, &str)> {
+    let (len, rest) = row.split_once(' ')?;
+    let (offset, message) = rest.split_once(' ')?;
+    let len = len.parse::<usize>().ok()?;
+    Some((len, offset.parse::<usize>().ok()?, message))
+}
 
-const RIGHT_SIDE: &str = "expected a constant, var, block, phi, or instruction";
+// The message in the first line of what an error shows.
+fn message(shown: &str) -> Option<&str> {
+    let (_place, message) = shown.lines().next()?.split_once(": ")?;
+    Some(message)
+}
 
-const INFER: &str = "expected 'infer'";
+fn prefix_is_refused(rt: &impl Abort, alloc: Global, row: &str) -> Result<(), Fail> {
+    let (len, offset, want) = read_row(row).ok_or("no row")?;
+    let prefix = SOURCE.get(..len).ok_or("no such prefix")?;
+    let error = parse_left_hand_sides_str(alloc, prefix, None).err();
+    let error = error.expect(rt, row);
+    equal(rt, error.kind(), ParseErrorKind::Parse, row);
+    equal(rt, error.offset(), Some(offset), row);
+    let shown = error.to_string(alloc)?;
+    equal(rt, message(shown.as_str()), Some(want), row);
+    Ok(())
+}
 
 #[test]
 fn each_prefix_of_a_text_is_refused(rt: HostRuntime) -> Result<(), Fail> {
-    for (len, message, offset) in [
-        (1, NAME, 0),
-        (2, END, 1),
-        (3, END, 2),
-        (4, RIGHT_SIDE, 3),
-        (5, RIGHT_SIDE, 3),
-        (6, RIGHT_SIDE, 5),
-        (7, RIGHT_SIDE, 5),
-        (8, END, 7),
-        (9, END, 8),
-        (10, NAME, 9),
-        (11, END, 10),
-        (12, END, 11),
-        (13, RIGHT_SIDE, 12),
-        (14, RIGHT_SIDE, 12),
-        (15, RIGHT_SIDE, 14),
-        (16, RIGHT_SIDE, 14),
-        (17, END, 16),
-        (18, END, 17),
-        (19, INFER, 18),
-        (20, INFER, 18),
-        (21, INFER, 18),
-        (22, INFER, 18),
-        (23, END, 22),
-        (24, END, 23),
-        (25, NAME, 24),
-    ] {
-        let prefix = SOURCE.get(..len).ok_or("no such prefix")?;
-        let error = parse_left_hand_sides_str(rt.alloc(), prefix, None)
-            .err()
-            .ok_or("no refusal")?;
-        assert_eq!(rt; error.kind(), ParseErrorKind::Parse, "at {len}");
-        assert_eq!(rt; error.offset(), Some(offset), "at {len}");
-        let shown = error.to_string(rt.alloc())?;
-        let first = shown.lines().next().ok_or("no line")?;
-        let (_, found) = first.split_once(": ").ok_or("no message")?;
-        assert_eq!(rt; found, message, "at {len}");
+    for row in PREFIXES.lines() {
+        prefix_is_refused(&rt, rt.alloc(), row)?;
     }
     Ok(())
 }
@@ -75,23 +84,31 @@ fn empty_prefix_and_whole_text_are_read(rt: HostRuntime) -> Result<(), Fail> {
     Ok(())
 }
 
-// Each prefix of each text is read, or refused within it.
-fn cuts(rt: &impl Abort, alloc: Global, kind: Kind, texts: &[&str]) -> Result<(), Fail> {
-    for source in texts {
-        for len in 0..=source.len() {
-            let Some(prefix) = source.get(..len) else {
-                continue;
-            };
-            if let Err(error) = read_items(alloc, kind, prefix, None) {
-                assert_eq!(rt;
-                    error.kind(),
-                    ParseErrorKind::Parse,
-                    "at {len} of {source:?}"
-                );
-                let offset = error.offset().ok_or("no offset")?;
-                assert!(rt; offset <= len, "at {len} of {source:?}");
-            }
+// The text is refused within it.
+fn is_refused_within(rt: &impl Abort, error: &ParseError, text: &str) -> Result<(), Fail> {
+    equal(rt, error.kind(), ParseErrorKind::Parse, text);
+    let offset = error.offset().ok_or("no offset")?;
+    equal(rt, offset <= text.len(), true, text);
+    Ok(())
+}
+
+// Each prefix of the text is read, or refused within it.
+fn cuts_of(rt: &impl Abort, alloc: Global, kind: Kind, text: &str) -> Result<(), Fail> {
+    for len in 0..=text.len() {
+        let Some(prefix) = text.get(..len) else {
+            continue;
+        };
+        if let Err(error) = read_items(alloc, kind, prefix, None) {
+            is_refused_within(rt, &error, prefix)?;
         }
+    }
+    Ok(())
+}
+
+// The same, of each text.
+fn cuts(rt: &impl Abort, alloc: Global, kind: Kind, texts: &[&str]) -> Result<(), Fail> {
+    for text in texts {
+        cuts_of(rt, alloc, kind, text)?;
     }
     Ok(())
 }
@@ -107,7 +124,7 @@ fn prefixes_of_left_hand_sides_are_read_or_refused(rt: HostRuntime) -> Result<()
 fn prefixes_of_refused_texts_are_read_or_refused(rt: HostRuntime) -> Result<(), Fail> {
     for lines in TABLE.split("\n=== ").skip(1) {
         let refusal = read_record(lines).expect(&rt, lines);
-        cuts(&rt, rt.alloc(), refusal.kind, &[refusal.text])?;
+        cuts_of(&rt, rt.alloc(), refusal.kind, refusal.text)?;
     }
     Ok(())
 }
@@ -121,13 +138,18 @@ fn prefixes_of_other_items_are_read_or_refused(rt: HostRuntime) -> Result<(), Fa
     cuts(&rt, rt.alloc(), Kind::Rep, &GAPS)
 }
 
+// The text of a value of this instruction, each of whose operands is 1.
+fn instruction(alloc: Global, word: &str, count: usize) -> Result<String, Fail> {
+    let operands = ones(alloc, count)?;
+    Ok(format!(in alloc; "%x = {word}{operands}\ninfer %x")?)
+}
+
 #[test]
 fn prefixes_of_instructions_are_read_or_refused(rt: HostRuntime) -> Result<(), Fail> {
     let alloc = rt.alloc();
     for (word, count) in words() {
-        let operands = ones(alloc, count)?;
-        let source = format!(in alloc; "%x = {word}{operands}\ninfer %x")?;
-        cuts(&rt, alloc, Kind::Lhs, &[source.as_str()])?;
+        let source = instruction(alloc, word, count)?;
+        cuts_of(&rt, alloc, Kind::Lhs, source.as_str())?;
     }
     Ok(())
 }
@@ -135,12 +157,6 @@ fn prefixes_of_instructions_are_read_or_refused(rt: HostRuntime) -> Result<(), F
 #[test]
 fn prefixes_of_long_texts_are_read_or_refused(rt: HostRuntime) -> Result<(), Fail> {
     let alloc = rt.alloc();
-    let doublings = chain(alloc, 199)?;
-    let definitions = thousand(alloc)?;
-    cuts(
-        &rt,
-        alloc,
-        Kind::Lhs,
-        &[doublings.as_str(), definitions.as_str()],
-    )
+    cuts_of(&rt, alloc, Kind::Lhs, chain(alloc, 199)?.as_str())?;
+    cuts_of(&rt, alloc, Kind::Lhs, thousand(alloc)?.as_str())
 }

@@ -1,44 +1,43 @@
 //! The places of refusals: the name of the file, lines and columns far away, and errors without a place.
-use crate::refusals::{Refusal, is_refused, reports, shows};
+use crate::refusals::{Refusal, equal, is_refused, reports, shows};
 use souper_format::command::Kind;
 use souper_ir::ast::Infer;
 use souper_ir::parse::{Parse, ParseError, ParseErrorKind, Parser};
 use souper_vectors::sources::thousand;
 use std::alloc::{AllocError, Global};
 use std::io;
+use std::process::Abort;
 use std::test::Fail;
+
+// A left-hand side of this file is refused.
+fn is_refused_in(
+    rt: &impl Abort,
+    alloc: Global,
+    file: &str,
+    (text, offset): (&str, usize),
+    shown: &str,
+) -> Result<(), Fail> {
+    let refusal = Refusal {
+        kind: Kind::Lhs,
+        text,
+        offset,
+        shown,
+    };
+    is_refused(rt, alloc, Some(file), &refusal)
+}
 
 #[test]
 fn file_name_is_shown(rt: HostRuntime) -> Result<(), Fail> {
-    for (file, text, offset, shown) in [
-        (
-            "path/to/foo.txt",
-            "; hello, how are you?\n; I am good, thanks\npc 1 thats good\n",
-            47,
-            "path/to/foo.txt:3:5: expected an integer literal\n     |\n   3 | pc 1 thats good\n     |     ^",
-        ),
-        (
-            "a file.opt",
-            "infer %x",
-            6,
-            "a file.opt:1:6: no value named '%x' in scope\n     |\n   1 | infer %x\n     |      ^",
-        ),
-        (
-            "",
-            "infer %x",
-            6,
-            ":1:6: no value named '%x' in scope\n     |\n   1 | infer %x\n     |      ^",
-        ),
-    ] {
-        let refusal = Refusal {
-            kind: Kind::Lhs,
-            text,
-            offset,
-            shown,
-        };
-        is_refused(&rt, rt.alloc(), Some(file), &refusal)?;
-    }
-    Ok(())
+    let alloc = rt.alloc();
+    let text = "; hello, how are you?\n; I am good, thanks\npc 1 thats good\n";
+    let shown =
+        "path/to/foo.txt:3:5: expected an integer literal\n     |\n   3 | pc 1 thats good\n     |     ^";
+    is_refused_in(&rt, alloc, "path/to/foo.txt", (text, 47), shown)?;
+    let shown =
+        "a file.opt:1:6: no value named '%x' in scope\n     |\n   1 | infer %x\n     |      ^";
+    is_refused_in(&rt, alloc, "a file.opt", ("infer %x", 6), shown)?;
+    let shown = ":1:6: no value named '%x' in scope\n     |\n   1 | infer %x\n     |      ^";
+    is_refused_in(&rt, alloc, "", ("infer %x", 6), shown)
 }
 
 // The character, `count` times.
@@ -68,24 +67,33 @@ fn line_is_far_down(rt: HostRuntime) -> Result<(), Fail> {
     is_refused(&rt, alloc, Some("f"), &refusal)
 }
 
+// The word is expected where an `x` is, after these spaces and one more.
+fn is_expected_after(
+    rt: &impl Abort,
+    alloc: Global,
+    spaces: &str,
+    kind: Kind,
+    wanted: &str,
+) -> Result<(), Fail> {
+    let text = format!(in alloc; "{spaces} x")?;
+    let shown = format!(in alloc;
+        "unknown:1:70000: expected '{wanted}'\n     |\n   1 | {text}\n     | {spaces}^"
+    )?;
+    let refusal = Refusal {
+        kind,
+        text: text.as_str(),
+        offset: 70_000,
+        shown: shown.as_str(),
+    };
+    is_refused(rt, alloc, None, &refusal)
+}
+
 #[test]
 fn marker_is_far_to_the_right(rt: HostRuntime) -> Result<(), Fail> {
     let alloc = rt.alloc();
     let spaces = repeated(alloc, ' ', 69_999)?;
-    let text = format!(in alloc; "{spaces} x")?;
-    for (kind, wanted) in [(Kind::Rhs, "result"), (Kind::Lhs, "infer")] {
-        let shown = format!(in alloc;
-            "unknown:1:70000: expected '{wanted}'\n     |\n   1 | {text}\n     | {spaces}^"
-        )?;
-        let refusal = Refusal {
-            kind,
-            text: text.as_str(),
-            offset: 70_000,
-            shown: shown.as_str(),
-        };
-        is_refused(&rt, alloc, None, &refusal)?;
-    }
-    Ok(())
+    is_expected_after(&rt, alloc, spaces.as_str(), Kind::Rhs, "result")?;
+    is_expected_after(&rt, alloc, spaces.as_str(), Kind::Lhs, "infer")
 }
 
 #[test]
@@ -103,45 +111,49 @@ fn second_definition_among_a_thousand_is_refused(rt: HostRuntime) -> Result<(), 
     is_refused(&rt, alloc, None, &refusal)
 }
 
+fn has_no_source(
+    rt: &impl Abort,
+    alloc: Global,
+    source: &str,
+    offset: usize,
+    want: &str,
+) -> Result<(), Fail> {
+    let error = Infer::parse(&mut Parser::new(alloc, source)).err();
+    let place = error.as_ref().map(|error| (error.line(), error.column()));
+    equal(rt, place, Some((None, None)), want);
+    reports(rt, alloc, error, offset, want)
+}
+
 #[test]
 fn errors_of_no_source(rt: HostRuntime) -> Result<(), Fail> {
-    for (source, offset, want) in [
-        (
-            "",
-            0,
-            "unknown:1:1: unexpected EOF\n     |\n   1 | byte offset 0\n     | ^",
-        ),
-        (
-            "infer  %x",
-            7,
-            "unknown:1:1: no value named '%x' in scope\n     |\n   1 | byte offset 7\n     | ^",
-        ),
-    ] {
-        let error = Infer::parse(&mut Parser::new(rt.alloc(), source)).err();
-        let place = error.as_ref().map(|error| (error.line(), error.column()));
-        assert_eq!(&rt; place, Some((None, None)));
-        reports(&rt, rt.alloc(), error, offset, want)?;
-    }
-    Ok(())
+    let want = "unknown:1:1: unexpected EOF\n     |\n   1 | byte offset 0\n     | ^";
+    has_no_source(&rt, rt.alloc(), "", 0, want)?;
+    let want = "unknown:1:1: no value named '%x' in scope\n     |\n   1 | byte offset 7\n     | ^";
+    has_no_source(&rt, rt.alloc(), "infer  %x", 7, want)
+}
+
+// The error is of this kind, and of this fault if there is one. It has no offset.
+fn has_no_text(
+    rt: &impl Abort,
+    alloc: Global,
+    error: ParseError,
+    (kind, fault): (ParseErrorKind, Option<io::ErrorKind>),
+    want: &str,
+) -> Result<(), Fail> {
+    equal(rt, (error.kind(), error.offset()), (kind, None), want);
+    let found = error.io_error().map(|found| found.kind());
+    equal(rt, found == fault, true, want);
+    shows(rt, alloc, &error, want)
 }
 
 #[test]
 fn errors_of_no_text(rt: HostRuntime) -> Result<(), Fail> {
-    let memory = ParseError::from(AllocError);
-    assert_eq!(&rt;
-        (memory.kind(), memory.offset()),
-        (ParseErrorKind::Memory, None)
-    );
-    assert!(&rt; memory.io_error().is_none());
-    shows(&rt, rt.alloc(), &memory, "out of memory")?;
+    let alloc = rt.alloc();
+    let error = ParseError::from(AllocError);
+    let kinds = (ParseErrorKind::Memory, None);
+    has_no_text(&rt, alloc, error, kinds, "out of memory")?;
     let fault = io::Error::from(io::ErrorKind::NotFound);
-    let error = ParseError::from(fault);
-    assert_eq!(&rt; (error.kind(), error.offset()), (ParseErrorKind::Io, None));
-    assert!(&rt;
-        error
-            .io_error()
-            .is_some_and(|found| found.kind() == fault.kind())
-    );
-    let want = format!(in rt.alloc(); "IO error: {fault}")?;
-    shows(&rt, rt.alloc(), &error, want.as_str())
+    let kinds = (ParseErrorKind::Io, Some(fault.kind()));
+    let want = format!(in alloc; "IO error: {fault}")?;
+    has_no_text(&rt, alloc, ParseError::from(fault), kinds, want.as_str())
 }

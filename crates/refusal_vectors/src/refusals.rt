@@ -7,6 +7,7 @@ use souper_ir::parse::{
     parse_right_hand_sides_str,
 };
 use std::alloc::Global;
+use std::fmt::Debug;
 use std::process::Abort;
 use std::test::Fail;
 
@@ -19,19 +20,36 @@ pub struct Refusal<'a> {
     pub shown: &'a str,
 }
 
+/// The value is the one that is wanted. `text` is what it is of.
+pub fn equal<T: Copy + PartialEq + Debug>(rt: &impl Abort, found: T, want: T, text: &str) {
+    assert_eq!(rt; found, want, "for {text}");
+}
+
+/// The text is the one that is wanted.
+pub fn is_text(rt: &impl Abort, text: String, want: &str) {
+    assert_eq!(rt; text.as_str(), want);
+}
+
 /// The error shows the text. Width, fill, precision and sign are ignored.
 pub fn shows(rt: &impl Abort, alloc: Global, error: &ParseError, want: &str) -> Result<(), Fail> {
-    let shown = error.to_string(alloc)?;
-    assert_eq!(rt; shown.as_str(), want);
-    let shown = format!(in alloc; "{error:?}")?;
-    assert_eq!(rt; shown.as_str(), want);
+    is_text(rt, error.to_string(alloc)?, want);
+    is_text(rt, format!(in alloc; "{error:?}")?, want);
     let thrice = format!(in alloc; "{want}{want}{want}")?;
+    has_no_style(rt, alloc, error, thrice.as_str())
+}
+
+fn has_no_style(
+    rt: &impl Abort,
+    alloc: Global,
+    error: &ParseError,
+    thrice: &str,
+) -> Result<(), Fail> {
     let shown = format!(in alloc; "{error:*>300}{error:*^300}{error:300}")?;
-    assert_eq!(rt; shown.as_str(), thrice.as_str());
+    is_text(rt, shown, thrice);
     let shown = format!(in alloc; "{error:.3}{error:+}{error:+0300.0}")?;
-    assert_eq!(rt; shown.as_str(), thrice.as_str());
+    is_text(rt, shown, thrice);
     let shown = format!(in alloc; "{error:*<300?}{error:.3?}{error:+0300?}")?;
-    assert_eq!(rt; shown.as_str(), thrice.as_str());
+    is_text(rt, shown, thrice);
     Ok(())
 }
 
@@ -45,12 +63,32 @@ pub fn reports(
     want: &str,
 ) -> Result<(), Fail> {
     let error = error.expect(rt, want);
-    assert_eq!(rt; error.kind(), ParseErrorKind::Parse, "for {want}");
-    assert_eq!(rt; error.offset(), Some(offset), "for {want}");
+    is_placed(rt, alloc, &error, offset, want)?;
+    shows(rt, alloc, &error, want)
+}
+
+fn is_placed(
+    rt: &impl Abort,
+    alloc: Global,
+    error: &ParseError,
+    offset: usize,
+    want: &str,
+) -> Result<(), Fail> {
+    equal(rt, error.kind(), ParseErrorKind::Parse, want);
+    equal(rt, error.offset(), Some(offset), want);
     let (line, column) = (error.line().unwrap_or(1), error.column().unwrap_or(1));
     let place = format!(in alloc; ":{line}:{column}: ")?;
-    assert!(rt; want.contains(place.as_str()), "for {want}");
-    shows(rt, alloc, &error, want)
+    equal(rt, want.contains(place.as_str()), true, want);
+    Ok(())
+}
+
+// The error that reading the text gives.
+fn parse_error(alloc: Global, kind: Kind, text: &str, file: Option<&str>) -> Option<ParseError> {
+    match kind {
+        Kind::Lhs => parse_left_hand_sides_str(alloc, text, file).err(),
+        Kind::Rhs => parse_right_hand_sides_str(alloc, text, file).err(),
+        Kind::Rep => parse_replacements_str(alloc, text, file).err(),
+    }
 }
 
 /// Every call that reads or formats the text, of a file of this name, gives the error.
@@ -66,11 +104,7 @@ pub fn is_refused(
         offset,
         shown,
     } = *refusal;
-    let error = match kind {
-        Kind::Lhs => parse_left_hand_sides_str(alloc, text, file).err(),
-        Kind::Rhs => parse_right_hand_sides_str(alloc, text, file).err(),
-        Kind::Rep => parse_replacements_str(alloc, text, file).err(),
-    };
+    let error = parse_error(alloc, kind, text, file);
     reports(rt, alloc, error, offset, shown)?;
     let error = read_items(alloc, kind, text, file).err();
     reports(rt, alloc, error, offset, shown)?;

@@ -11,7 +11,7 @@ ghost use Rattle.std.specs.Char.{is_ascii_alphabetic};
 ghost use Rattle.souper_graph.specs.Names.{is_name_char};
 ghost use Rattle.souper_graph.specs.Syntax.Tokens.{Lexeme, ident, val_name, begins_int, IsTextOf, AreTokensOf};
 ghost use Rattle.souper_lexer.specs.TokenReading.{remark, space_len, after_from, after_gap, run_of, after_run, found, lexed_of, Lexed, bits_at, word_at, name_at, mark_of, longer_at, front_of};
-ghost use Rattle.souper_lexer.specs.TokenView.{lexeme_of, is_in, Reads, Takes, Yields};
+ghost use Rattle.souper_lexer.specs.TokenView.{lexeme_of, is_in, Reads, Takes, Yields, Lexes};
 
 use std::fmt;
 use std::marker::Model;
@@ -390,6 +390,28 @@ impl<'a> Lexer<'a> {
         self.offset = offset + (text.len() - rest.len());
         self.rest = rest;
         Ok(Some((offset, token)))
+    }
+
+    /// Lexes the next token into `ahead`, which is `None` at the end, and sets `offset` to that of its first byte.
+    ///
+    /// The same as [`Lexer::next_token`], for callers that keep the token: as a result it would be copied once more in each
+    /// of them.
+    // It is not inlined, so that `next_token` is, here: that has no other caller in a program.
+    #[inline(never)]
+    pub fn lex(
+        &mut self,
+        ahead: &mut Option<(usize, Token<'a>)>,
+        offset: &mut usize,
+    ) -> Result<(), Fault>
+        ensures next { Lexes self.old result ahead.new self.new }
+        ensures last { offset.old ≤ self.old.len → offset.new ≤ self.old.len }
+        ensures fault { IfErr result (λ fault. fault.offset ≤ self.old.len) }
+    {
+        *ahead = self.next_token()?;
+        if let Some((start, _)) = *ahead {
+            *offset = start;
+        }
+        Ok(())
     }
 
     /// Takes the next token, if it is this mark and one space at most comes before it, and returns its offset. A shortcut

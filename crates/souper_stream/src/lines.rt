@@ -1,7 +1,7 @@
 //! Where lines begin in a text, and where items end.
 ghost use Rattle.std.specs.Prelude.{◌≡◌, ◌≤◌, ◌<◌, ◌∷◌, [], length, map, take, drop, true, false, IsCharBoundary};
 ghost use Rattle.souper_graph.specs.Syntax.Spelling.{kinds};
-ghost use Rattle.souper_lexer.specs.TokenView.{lexeme_of};
+ghost use Rattle.souper_lexer.specs.TokenView.{lexeme_of, Yields};
 ghost use Rattle.souper_ir.specs.NodeReadings.{is_name};
 ghost use Rattle.souper_ir.specs.Joining.{IsLines};
 ghost use Rattle.souper_stream.specs.Lines.{last_word, line_word, shows_line, defines, NoStart};
@@ -9,7 +9,7 @@ ghost use Rattle.souper_stream.specs.Reading.{IsTaken};
 ghost use Rattle.souper_stream.specs.Seams.{IsEndLine, StartsLine, IsSeam};
 
 use crate::ends::StreamItem;
-use souper_lexer::{Lexer, Token};
+use souper_lexer::{Fault, Lexer, Token};
 
 fn is_last_word(word: &str) -> bool
     ensures { result ≡ last_word word.now }
@@ -45,6 +45,15 @@ fn is_name(token: Token<'_>) -> bool
     }
 }
 
+// The next token. It is lexed as the parser lexes it, so that a program has one caller of `Lexer::next_token`.
+fn next_token<'a>(lexer: &mut Lexer<'a>) -> Result<Option<(usize, Token<'a>)>, Fault>
+    ensures { Yields lexer.old result lexer.new }
+{
+    let (mut ahead, mut offset) = (None, 0);
+    lexer.lex(&mut ahead, &mut offset)?;
+    Ok(ahead)
+}
+
 // Whether neither a statement nor one of an item's last lines begins in the remaining tokens, and no fault follows them.
 fn is_quiet(lexer: &mut Lexer<'_>) -> bool
     ensures tokens { result ≡ true → NoStart (kinds lexer.old.tokens) }
@@ -52,7 +61,7 @@ fn is_quiet(lexer: &mut Lexer<'_>) -> bool
 {
     let mut named = false;
     'tokens: loop {
-        let token = match lexer.next_token() {
+        let token = match next_token(lexer) {
             Ok(Some((_, token))) => token,
             Ok(None) => return true,
             Err(_) => return false,
@@ -69,7 +78,7 @@ fn is_end_line<T: StreamItem>(lines: &str) -> bool
     ensures { result ≡ true → IsEndLine T.item_type lines.now }
 {
     let mut lexer = Lexer::new(lines);
-    match lexer.next_token() {
+    match next_token(&mut lexer) {
         Ok(Some((_, Token::Ident(word)))) => T::ends_with(word) && is_quiet(&mut lexer),
         _ => false,
     }
@@ -92,13 +101,13 @@ fn starts_line(line: &str) -> bool
     ensures { result ≡ true → StartsLine line.now }
 {
     let mut lexer = Lexer::new(line);
-    let first = match lexer.next_token() {
+    let first = match next_token(&mut lexer) {
         Ok(Some((_, token))) => token,
         _ => return false,
     };
     match first {
         Token::Ident(word) => is_line_word(word),
-        Token::ValName(_) => match lexer.next_token() {
+        Token::ValName(_) => match next_token(&mut lexer) {
             Ok(Some((_, token))) => defines(token),
             _ => false,
         },

@@ -4,11 +4,15 @@
 #![tactic(auto)]
 
 #[cfg(test)]
-mod again;
+mod kept;
 #[cfg(test)]
 mod orders;
 #[cfg(test)]
 mod renaming;
+#[cfg(test)]
+mod rows;
 pub mod sources;
+#[cfg(test)]
+mod table;
 #[cfg(test)]
 mod texts;

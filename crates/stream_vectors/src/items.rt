@@ -49,13 +49,20 @@ fn of_stream<T: StreamItem + Drop>(
     Ok(texts.text)
 }
 
+fn is_text(rt: &impl Abort, text: String, want: &str) {
+    assert_eq!(rt; text.as_str(), want);
+}
+
 fn is_same<T: StreamItem + Drop>(rt: &impl Abort, alloc: Global, source: &str) -> Result<(), Fail> {
     let whole = of_whole::<T>(alloc, source)?;
     for least in [0, 1, 7, 30, 65536] {
-        for capacity in [1, 5, 4096] {
-            let text = of_stream::<T>(alloc, source, capacity, least)?;
-            assert!(rt; text.as_str() == whole.as_str(), "in {source:?}");
-        }
+        is_text(rt, of_stream::<T>(alloc, source, 1, least)?, whole.as_str());
+        is_text(rt, of_stream::<T>(alloc, source, 5, least)?, whole.as_str());
+        is_text(
+            rt,
+            of_stream::<T>(alloc, source, 4096, least)?,
+            whole.as_str(),
+        );
     }
     Ok(())
 }
@@ -97,16 +104,26 @@ fn words_and_layout_that_look_like_an_end_are_none(rt: HostRuntime) -> Result<()
         "%x = var infer %x %y\n= var\ninfer\n%y %z:i8 = var\n\ninfer %z ; end\n",
         "%x\n=\nvar\ninfer\n%x\n(\ndemandedBits\n=\n01\n)\n%x = var\ninfer %x\n",
     ];
-    are_same::<LeftHandSide>(&rt, rt.alloc(), sources.as_slice())?;
-    let sources = [
-        "%x = var\ninfer %x\n%y = add %x, 1\npc %y 1\nresult\n%y\ncand 1\n2\n%x = var\ncand %x\n%x\ncand %x\n",
-    ];
-    let refused = of_stream::<Replacement>(rt.alloc(), sources[0], 4096, 1);
+    are_same::<LeftHandSide>(&rt, rt.alloc(), sources.as_slice())
+}
+
+#[test]
+fn operands_may_come_on_further_lines(rt: HostRuntime) -> Result<(), Fail> {
+    let source = "%x = var\ninfer %x\n%y = add %x, 1\npc %y 1\nresult\n%y\ncand 1\n2\n%x = var\n\
+                  cand %x\n%x\ncand 1,\n2\n";
+    is_same::<Replacement>(&rt, rt.alloc(), source)?;
+    let refused = of_stream::<Replacement>(rt.alloc(), "%x = var\ncand %x\n%x\ncand %x\n", 4096, 1);
     assert!(rt; refused.is_err());
-    let sources = [
-        "%x = var\ninfer %x\n%y = add %x, 1\npc %y 1\nresult\n%y\ncand 1\n2\n%x = var\ncand %x\n%x\ncand 1,\n2\n",
-    ];
-    are_same::<Replacement>(&rt, rt.alloc(), sources.as_slice())
+    Ok(())
+}
+
+fn of_chunks(alloc: Global, source: &str) -> Result<String, ParseError> {
+    let mut texts = Texts {
+        text: String::new(alloc),
+    };
+    let mut reader = BufReader::new(alloc, source.as_bytes())?;
+    read_into::<LeftHandSide, BufReader<&[u8]>, Texts>(alloc, &mut reader, None, &mut texts)?;
+    Ok(texts.text)
 }
 
 #[test]
@@ -116,11 +133,6 @@ fn long_stream_is_read_in_chunks(rt: HostRuntime) -> Result<(), Fail> {
         source.push_str("%bb = block 2\n%x:i8 = var ; a value\nblockpc %bb 0 %x 1\ninfer %x\n\n")?;
     }
     let whole = of_whole::<LeftHandSide>(rt.alloc(), source.as_str())?;
-    let mut texts = Texts {
-        text: String::new(rt.alloc()),
-    };
-    let mut reader = BufReader::new(rt.alloc(), source.as_bytes())?;
-    read_into::<LeftHandSide, BufReader<&[u8]>, Texts>(rt.alloc(), &mut reader, None, &mut texts)?;
-    assert!(rt; texts.text.as_str() == whole.as_str());
+    is_text(&rt, of_chunks(rt.alloc(), source.as_str())?, whole.as_str());
     Ok(())
 }

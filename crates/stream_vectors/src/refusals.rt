@@ -1,6 +1,6 @@
 //! Refusals of streams: their places are those in the whole text, and the items before them were taken.
 use souper_ir::ast::LeftHandSide;
-use souper_ir::parse::{ParseErrorKind, Sink, WholeItem, parse_left_hand_sides_str};
+use souper_ir::parse::{ParseError, ParseErrorKind, Sink, WholeItem, parse_left_hand_sides_str};
 use souper_stream::read_chunks_into;
 use std::alloc::{AllocError, Global};
 use std::io::BufReader;
@@ -22,78 +22,130 @@ impl<T: WholeItem + Drop> Sink<T> for Count {
     }
 }
 
+// How many left-hand sides are taken of a stream that is looked at after so many bytes, and its error.
+fn read(alloc: Global, source: &[u8], least: usize) -> Result<(usize, Option<ParseError>), Fail> {
+    let mut count = Count { items: 0 };
+    let mut reader = BufReader::new(alloc, source)?;
+    let read = read_chunks_into::<LeftHandSide, BufReader<&[u8]>, Count>(
+        alloc,
+        least,
+        &mut reader,
+        Some("a"),
+        &mut count,
+    );
+    Ok((count.items, read.err()))
+}
+
+// The place of a refusal: its offset, line and column.
+fn place_of(error: &ParseError) -> (Option<usize>, Option<usize>, Option<usize>) {
+    (error.offset(), error.line(), error.column())
+}
+
+// The errors are refusals with one place, and shown as one text.
+fn are_same(
+    rt: &impl Abort,
+    alloc: Global,
+    error: ParseError,
+    whole: &ParseError,
+) -> Result<(), Fail> {
+    assert_eq!(rt; error.kind(), ParseErrorKind::Parse);
+    assert_eq!(rt; place_of(&error), place_of(whole));
+    let want = whole.to_string(alloc)?;
+    is_text(rt, error.to_string(alloc)?, want.as_str());
+    Ok(())
+}
+
+fn is_text(rt: &impl Abort, text: String, want: &str) {
+    assert_eq!(rt; text.as_str(), want);
+}
+
 // The stream is refused as the whole text is, after so many items.
-fn is_refused(rt: &impl Abort, alloc: Global, source: &str, items: usize) -> Result<(), Fail> {
+fn is_refused(rt: &impl Abort, alloc: Global, source: &str, want: usize) -> Result<(), Fail> {
     let whole = parse_left_hand_sides_str(alloc, source, Some("a"));
     let whole = whole.err().ok_or("the text is read")?;
     for least in [1, 20, 65536] {
-        let mut count = Count { items: 0 };
-        let mut reader = BufReader::new(alloc, source.as_bytes())?;
-        let read = read_chunks_into::<LeftHandSide, BufReader<&[u8]>, Count>(
-            alloc,
-            least,
-            &mut reader,
-            Some("a"),
-            &mut count,
-        );
-        let error = read.err().ok_or("the stream is read")?;
-        assert_eq!(rt; error.kind(), ParseErrorKind::Parse);
-        assert_eq!(rt; error.offset(), whole.offset(), "in {source:?}");
-        assert_eq!(rt; error.line(), whole.line(), "in {source:?}");
-        assert_eq!(rt; error.column(), whole.column(), "in {source:?}");
-        let shown = error.to_string(alloc)?;
-        let expected = whole.to_string(alloc)?;
-        assert_eq!(rt; shown.as_str(), expected.as_str());
-        assert_eq!(rt; count.items, items, "in {source:?}");
+        let (items, error) = read(alloc, source.as_bytes(), least)?;
+        are_same(rt, alloc, error.ok_or("the stream is read")?, &whole)?;
+        assert_eq!(rt; items, want, "in {source:?}");
     }
     Ok(())
 }
 
+// Two items.
+const GOOD: &str = "%x = var ; one\n\n%y = add %x, 1\ninfer %y\n; two\n%x = var\ninfer %x\n";
+
+// Texts that are refused before their first item ends.
+const BAD: &str = "\
+infer %x
+----
+result 1
+----
+%x = foo
+infer %x
+%x = var
+infer %x
+----
+%x = var
+infer %x (bad)
+%x = var
+infer %x
+----
+%x = var ]
+infer %x
+%x = var
+infer %x
+----
+%x = var\ninfer %y\r\n%x = var
+infer %x
+----
+%x = var----
+%x = var
+infer %x
+#
+%x = var
+infer %x
+----
+%0 = var
+infer
+%1 = var
+infer %1
+----
+%0 = var
+infer %0 (
+%1 = var
+infer %1
+";
+
+// The text is refused after so many items, also between others.
+fn is_refused_between(rt: &impl Abort, alloc: Global, bad: &str, items: usize) -> Result<(), Fail> {
+    is_refused(rt, alloc, bad, items)?;
+    let mut source = String::from_str(alloc, GOOD)?;
+    source.push_str(bad)?;
+    is_refused(rt, alloc, source.as_str(), items + 2)?;
+    source.push_str(GOOD)?;
+    is_refused(rt, alloc, source.as_str(), items + 2)
+}
+
 #[test]
 fn refusal_has_its_place_in_the_stream(rt: HostRuntime) -> Result<(), Fail> {
-    let good = "%x = var ; one\n\n%y = add %x, 1\ninfer %y\n; two\n%x = var\ninfer %x\n";
-    let rows = [
-        ("infer %x\n", 0),
-        ("result 1\n", 0),
-        ("%x = foo\ninfer %x\n%x = var\ninfer %x\n", 0),
-        ("%x = var\ninfer %x (bad)\n%x = var\ninfer %x\n", 0),
-        ("%x = var ]\ninfer %x\n%x = var\ninfer %x\n", 0),
-        ("%x = var\ninfer %y\r\n%x = var\ninfer %x\n", 0),
-        ("%x = var", 0),
-        ("%x = var\ninfer %x\n#\n%x = var\ninfer %x\n", 0),
-        (
-            "%x = var\ninfer %x\n%z = var\n%z = var\ninfer %z\n%x = var\ninfer %x\n",
-            1,
-        ),
-        ("%x = var infer %x\ncand 1 2\n", 1),
-        ("%0 = var\ninfer\n%1 = var\ninfer %1\n", 0),
-        ("%0 = var\ninfer %0 (\n%1 = var\ninfer %1\n", 0),
-    ];
-    for (bad, items) in rows {
-        is_refused(&rt, rt.alloc(), bad, items)?;
-        let mut source = String::from_str(rt.alloc(), good)?;
-        source.push_str(bad)?;
-        is_refused(&rt, rt.alloc(), source.as_str(), items + 2)?;
-        source.push_str(good)?;
-        is_refused(&rt, rt.alloc(), source.as_str(), items + 2)?;
+    for bad in BAD.split("----\n") {
+        is_refused_between(&rt, rt.alloc(), bad, 0)?;
     }
+    let bad = "%x = var\ninfer %x\n%z = var\n%z = var\ninfer %z\n%x = var\ninfer %x\n";
+    is_refused_between(&rt, rt.alloc(), bad, 1)?;
+    is_refused_between(&rt, rt.alloc(), "%x = var infer %x\ncand 1 2\n", 1)
+}
+
+// The stream is a fault and no refusal.
+fn is_no_text(rt: &impl Abort, alloc: Global, source: &[u8]) -> Result<(), Fail> {
+    let (_, error) = read(alloc, source, 1)?;
+    let kind = error.map(|error| error.kind());
+    assert_eq!(rt; kind, Some(ParseErrorKind::Io));
     Ok(())
 }
 
 #[test]
 fn bytes_that_are_no_text_are_a_fault(rt: HostRuntime) -> Result<(), Fail> {
-    for source in [b"%x = var\ninfer %x\n\xff\n".as_slice(), b"\xc3".as_slice()] {
-        let mut count = Count { items: 0 };
-        let mut reader = BufReader::new(rt.alloc(), source)?;
-        let read = read_chunks_into::<LeftHandSide, BufReader<&[u8]>, Count>(
-            rt.alloc(),
-            1,
-            &mut reader,
-            None,
-            &mut count,
-        );
-        let error = read.err().ok_or("the stream is read")?;
-        assert_eq!(&rt; error.kind(), ParseErrorKind::Io);
-    }
-    Ok(())
+    is_no_text(&rt, rt.alloc(), b"%x = var\ninfer %x\n\xff\n")?;
+    is_no_text(&rt, rt.alloc(), b"\xc3")
 }

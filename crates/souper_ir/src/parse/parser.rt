@@ -4,7 +4,7 @@ ghost use Rattle.std.specs.String.{string_bytes};
 ghost use Rattle.souper_graph.specs.View.{view_statement, view_assignment};
 ghost use Rattle.souper_graph.specs.Values.{assigned};
 ghost use Rattle.souper_graph.specs.Syntax.Tokens.{Lexeme, ident, AreTokensOf, IsTextOf};
-ghost use Rattle.souper_lexer.specs.TokenView.{lexeme_of, Lexes};
+ghost use Rattle.souper_lexer.specs.TokenView.{lexeme_of};
 ghost use Rattle.souper_graph.specs.Uses.{is_condition};
 ghost use Rattle.souper_graph.specs.Syntax.Spelling.{entry_of, position_of};
 ghost use Rattle.souper_ir.specs.NodeReadings.{accept, block_entry, is_any, is_mark, is_name, mark_of, name_of};
@@ -20,7 +20,7 @@ use crate::parse::message::Message;
 use crate::parse::names::Names;
 use crate::parse::tokens::{Mark, byte_of};
 use souper_graph::ast::{Arena, Assignment, BlockId, Id, Statement, ValueId};
-use souper_lexer::{Fault, Lexer, Token};
+use souper_lexer::{Lexer, Token};
 use std::alloc::{AllocError, Global};
 use std::marker::Model;
 use std::mem;
@@ -91,25 +91,6 @@ impl<'a> Parser<'a> {
     pub(crate) fn alloc(&self) -> Global {
         self.alloc
     }
-}
-
-// Lexes the next token into `ahead`, which stays `None` at the end of the text, and sets `offset` to where it begins.
-// The parser reads the token there: as a result it would be copied once more in each caller.
-#[inline(never)]
-fn lex<'a>(
-    lexer: &mut Lexer<'a>,
-    ahead: &mut Option<(usize, Token<'a>)>,
-    offset: &mut usize,
-) -> std::result::Result<(), Fault>
-    ensures next { Lexes lexer.old result ahead.new lexer.new }
-    ensures last { offset.old ≤ lexer.old.len → offset.new ≤ lexer.old.len }
-    ensures fault { IfErr result (λ fault. fault.offset ≤ lexer.old.len) }
-{
-    *ahead = lexer.next_token()?;
-    if let Some((start, _)) = *ahead {
-        *offset = start;
-    }
-    Ok(())
 }
 
 impl<'a> Parser<'a> {
@@ -187,7 +168,7 @@ impl<'a> Parser<'a> {
             return Err(self.fail_again());
         }
         if self.ahead.is_none() {
-            if let Err(fault) = lex(&mut self.lexer, &mut self.ahead, &mut self.offset) {
+            if let Err(fault) = self.lexer.lex(&mut self.ahead, &mut self.offset) {
                 return Err(self.fail_at(fault.offset, Message::Lexical(fault.kind)));
             }
         }
@@ -207,7 +188,7 @@ impl<'a> Parser<'a> {
             return Err(self.fail_again());
         }
         if self.ahead.is_none() {
-            if let Err(fault) = lex(&mut self.lexer, &mut self.ahead, &mut self.offset) {
+            if let Err(fault) = self.lexer.lex(&mut self.ahead, &mut self.offset) {
                 return Err(self.fail_at(fault.offset, Message::Lexical(fault.kind)));
             }
         }
