@@ -84,15 +84,6 @@ impl Graph {
         self.rhs(name, Instruction::Add { a, b }.into())
     }
 
-    // An instruction without a type.
-    pub fn instruction(
-        &mut self,
-        name: &str,
-        instruction: Instruction,
-    ) -> Result<ValueId, AllocError> {
-        self.rhs(name, instruction.into())
-    }
-
     // Appends a path condition.
     pub fn pc(&mut self, x: Operand, y: Operand) -> Result<(), AllocError> {
         self.statements.alloc(Pc { x, y }.into())?;
@@ -250,16 +241,4 @@ type Counts = (usize, usize, u128);
 
 pub fn has_counts(rt: &impl Abort, order: Order, want: Counts) {
     equal(rt, (order.ids.len(), order.lead, order.turns), want);
-}
-
-// The item is well formed, and has this text and these counts.
-pub fn prints<I: Copied + Display + Drop>(
-    rt: &impl Abort,
-    alloc: Global,
-    item: I,
-    want: &str,
-    counts: Counts,
-) -> Result<(), Fail> {
-    has_counts(rt, item.print_order()?, counts);
-    item_is(rt, alloc, item, want, true)
 }

@@ -319,6 +319,23 @@ blockpc %bb 1 %x 1
 infer %x
 
 ----
+lhs
+%bb = block 3
+%x:i8 = var
+blockpc %bb 2 %x 1
+infer %x
+=>
+%x:i8 = var
+%bb = block 3
+blockpc %bb 2 %x 1
+infer %x
+
+----
+rhs
+result 1
+=>
+result 1
+----
 rep
 %a = var
 %b = var
