@@ -341,32 +341,38 @@ fn display_is_refused<N: DisplayWithContext>(
 ) -> Result<(), Fail> {
     let mut out = String::from_str(alloc, "ab")?;
     let error = node.display(statements, &mut out).err();
-    equal(rt, (out.as_str(), error), ("ab", Some(want)));
+    equal(rt, error, Some(want));
+    is_text(rt, out, "ab");
     Ok(())
 }
 
-// An operand out of range, alone and after another.
+// The id has no text, neither alone nor as an operand of the condition.
 fn far_is_refused(
     rt: &impl Abort,
     alloc: Global,
-    value: ValueId,
-    far: ValueId,
+    far: &ValueId,
+    pc: &Pc,
     statements: &Arena<Statement>,
 ) -> Result<(), Fail> {
-    let want = TextError::OutOfRange(far.into());
-    display_is_refused(rt, alloc, &Operand::Value(far), statements, want)?;
-    let pc = Pc {
-        x: value.into(),
-        y: far.into(),
-    };
-    display_is_refused(rt, alloc, &pc, statements, want)
+    let id = Id::from(*far);
+    display_is_refused(rt, alloc, far, statements, TextError::OutOfRange(id))?;
+    display_is_refused(rt, alloc, pc, statements, TextError::OutOfRange(id))
 }
 
 #[test]
 fn refused_display_leaves_the_text(rt: HostRuntime) -> Result<(), Fail> {
     let far = foreign_id(rt.alloc(), 9)?;
     let (graph, value, _) = two_values(rt.alloc())?;
-    far_is_refused(&rt, rt.alloc(), value, far, &graph.statements)?;
+    let pc = Pc {
+        x: value.into(),
+        y: far.into(),
+    };
+    far_is_refused(&rt, rt.alloc(), &far, &pc, &graph.statements)
+}
+
+#[test]
+fn phi_over_no_block_is_not_displayed(rt: HostRuntime) -> Result<(), Fail> {
+    let (graph, value, _) = two_values(rt.alloc())?;
     let phi = Phi {
         block: BlockId::from(Id::from(value)),
         values: Vec::new(rt.alloc()),

@@ -1,6 +1,6 @@
 //! Items that no text spells: their texts, the order of their statements, and that they are not well formed. The others are
 //! tested with the texts that spell them, in `souper_vectors`.
-use crate::fixtures::{Graph, equal, foreign_id, has_counts, item_is, number, typed};
+use crate::fixtures::{Graph, equal, foreign_id, has_counts, is_text, item_is, number, typed};
 use souper_graph::ast::{AssignmentRhs, Attribute, BlockId, Id, LeftHandSide, Statement};
 use souper_graph::stringify::TextError;
 use std::alloc::{AllocError, Global};
@@ -119,7 +119,8 @@ fn refused(
     equal(rt, item.to_string(alloc).is_err(), true);
     equal(rt, item.is_well_formed()?, false);
     let (text, error) = refused_append(alloc, item)?;
-    equal(rt, (text.as_str(), error), ("before", Some(want)));
+    equal(rt, error, Some(want));
+    is_text(rt, text, "before");
     Ok(())
 }
 
