@@ -6,7 +6,7 @@ ghost use Rattle.souper_graph.specs.WellFormed.{predecessors_at};
 
 use crate::growing::{Call, holds, lines, name, number};
 use crate::met::{Met, strictly};
-use souper_ir::ast::{AssignmentRhs, BlockId, Replacement, ReplacementBuilder, Type};
+use souper_ir::ast::{AssignmentRhs, BlockId, Item, Replacement, ReplacementBuilder, Type};
 use std::alloc::{AllocError, Global};
 use std::process::Abort;
 use std::test::Fail;
@@ -84,10 +84,7 @@ fn grown(alloc: Global, call: Call) -> Result<(Replacement, bool), AllocError> {
 // Makes the call on a full builder. The item that it finishes has the statement of the call if it was appended.
 fn appended(rt: &impl Abort, alloc: Global, call: Call) -> Result<Met, Fail> {
     match grown(alloc, call) {
-        Ok((Replacement::LhsRhs { statements, .. }, has_grown)) => {
-            holds(rt, alloc, &statements, &lines(call), has_grown)
-        }
-        Ok(_) => Err(Fail::new("another kind of replacement")),
+        Ok((item, has_grown)) => holds(rt, alloc, item.statements(), &lines(call), has_grown),
         Err(_) => Ok(Met::Unreached),
     }
 }
