@@ -19,6 +19,8 @@ mod met;
 #[cfg(test)]
 mod parsers;
 #[cfg(test)]
+mod records;
+#[cfg(test)]
 mod replacements;
 #[cfg(test)]
 mod runs;

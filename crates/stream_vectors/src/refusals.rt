@@ -121,9 +121,9 @@ fn is_refused_between(rt: &impl Abort, alloc: Global, bad: &str, items: usize) -
     is_refused(rt, alloc, bad, items)?;
     let mut source = String::from_str(alloc, GOOD)?;
     source.push_str(bad)?;
-    is_refused(rt, alloc, source.as_str(), items + 2)?;
+    is_refused(rt, alloc, source.as_str(), items.saturating_add(2))?;
     source.push_str(GOOD)?;
-    is_refused(rt, alloc, source.as_str(), items + 2)
+    is_refused(rt, alloc, source.as_str(), items.saturating_add(2))
 }
 
 #[test]

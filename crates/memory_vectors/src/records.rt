@@ -1,0 +1,165 @@
+//! Records of a stream. The writers are arrays, which do not allocate.
+use crate::met::{Met, completed_if, equal, strictly};
+use crate::runs::{holds, wrote};
+use souper_format::watched::Watched;
+use souper_ir::ast::LeftHandSide;
+use souper_records::layout::{Delimiter, Layout, PLAIN};
+use souper_records::run::{each_run, uniq_run};
+use souper_records::seen::Seen;
+use std::alloc::Global;
+use std::process::Abort;
+use std::test::Fail;
+
+// What a run of one of the two commands is to do with ample memory.
+#[derive(Clone, Copy)]
+struct Want<'a> {
+    status: u8,
+    records: &'a [u8],
+    line: &'a [u8],
+}
+
+const KEYED: Layout = Layout {
+    delimiter: Delimiter::EmptyLine,
+    key: true,
+    rename: true,
+};
+
+// Two items of one graph.
+const TWICE: &[u8] = b"%a = var\n%b = var\ninfer %b\n\n%b = var\ninfer %b\n";
+
+// What was wanted, or out of memory with the records or none of them. Whether it is what was wanted.
+fn did(rt: &impl Abort, status: u8, written: &[u8], reported: &[u8], want: Want<'_>) -> bool {
+    if status == want.status {
+        wrote(rt, written, want.records);
+        wrote(rt, reported, want.line);
+        return true;
+    }
+    equal(rt, status, 2);
+    equal(
+        rt,
+        holds(written, want.records) || holds(written, b""),
+        true,
+    );
+    wrote(rt, reported, b"souper_items: out of memory\n");
+    false
+}
+
+// Writes the record of each item of the source.
+fn each(rt: &impl Abort, alloc: Global, layout: Layout, mut source: &[u8], want: Want<'_>) -> Met {
+    let mut written = [0u8; 200];
+    let mut reported = [0u8; 200];
+    let mut out = Watched::new(written.as_mut_slice());
+    let mut err = Watched::new(reported.as_mut_slice());
+    let status = each_run::<LeftHandSide, &[u8], &mut [u8], &mut [u8]>(
+        alloc,
+        layout,
+        &mut source,
+        "a.opt",
+        &mut out,
+        &mut err,
+    );
+    let met = completed_if(alloc, status == want.status);
+    did(rt, status, &written, &reported, want);
+    met
+}
+
+// Writes the record of the first item of each graph of the source.
+fn uniq(rt: &impl Abort, alloc: Global, mut source: &[u8], want: Want<'_>) -> Met {
+    let mut written = [0u8; 200];
+    let mut reported = [0u8; 200];
+    let mut out = Watched::new(written.as_mut_slice());
+    let mut err = Watched::new(reported.as_mut_slice());
+    let mut seen = Seen::new(alloc);
+    let status = uniq_run::<LeftHandSide, &[u8], &mut [u8], &mut [u8]>(
+        alloc,
+        PLAIN,
+        &mut seen,
+        &mut source,
+        "a.opt",
+        &mut out,
+        &mut err,
+    );
+    let met = completed_if(alloc, status == want.status);
+    did(rt, status, &written, &reported, want);
+    met
+}
+
+fn plain_records(rt: &impl Abort, alloc: Global) -> Met {
+    let want = Want {
+        status: 0,
+        records: b"%b = var\ninfer %b\n\n%b = var\ninfer %b\n\n",
+        line: b"",
+    };
+    each(rt, alloc, PLAIN, TWICE, want)
+}
+
+#[test]
+fn writing_records_completes(rt: HostRuntime) -> Result<(), Fail> {
+    strictly(plain_records(&rt, rt.alloc()))
+}
+
+#[test]
+fn writing_records(rt: HostRuntime) -> Result<(), Fail> {
+    plain_records(&rt, rt.alloc());
+    Ok(())
+}
+
+fn keyed_records(rt: &impl Abort, alloc: Global) -> Met {
+    let want = Want {
+        status: 0,
+        records: b"; d32f2ebccf6585b8a12455a400baff7b04e2eaa4b0ecef3bf2107f7f84065684\n%0 = var\ninfer %0\n\n",
+        line: b"",
+    };
+    each(rt, alloc, KEYED, b"%b = var infer %b", want)
+}
+
+#[test]
+fn writing_records_with_keys_completes(rt: HostRuntime) -> Result<(), Fail> {
+    strictly(keyed_records(&rt, rt.alloc()))
+}
+
+#[test]
+fn writing_records_with_keys(rt: HostRuntime) -> Result<(), Fail> {
+    keyed_records(&rt, rt.alloc());
+    Ok(())
+}
+
+fn refused_stream(rt: &impl Abort, alloc: Global) -> Met {
+    let want = Want {
+        status: 1,
+        records: b"%b = var\ninfer %b\n\n",
+        line: b"a.opt:3:6: no value named '%x' in scope\n     |\n   3 | infer %x\n     |      ^\n",
+    };
+    each(rt, alloc, PLAIN, b"%b = var\ninfer %b\ninfer %x\n", want)
+}
+
+#[test]
+fn reporting_a_refused_stream_completes(rt: HostRuntime) -> Result<(), Fail> {
+    strictly(refused_stream(&rt, rt.alloc()))
+}
+
+#[test]
+fn reporting_a_refused_stream(rt: HostRuntime) -> Result<(), Fail> {
+    refused_stream(&rt, rt.alloc());
+    Ok(())
+}
+
+fn first_items(rt: &impl Abort, alloc: Global) -> Met {
+    let want = Want {
+        status: 0,
+        records: b"%b = var\ninfer %b\n\n",
+        line: b"",
+    };
+    uniq(rt, alloc, TWICE, want)
+}
+
+#[test]
+fn writing_first_items_completes(rt: HostRuntime) -> Result<(), Fail> {
+    strictly(first_items(&rt, rt.alloc()))
+}
+
+#[test]
+fn writing_first_items(rt: HostRuntime) -> Result<(), Fail> {
+    first_items(&rt, rt.alloc());
+    Ok(())
+}
