@@ -49,8 +49,9 @@ infer %x";
 /// Writes the files that are compared.
 pub fn write_files<R: Files + AllocGlobal>(rt: &R) -> io::Result<()> {
     for file in COMPARED.split("\n\n") {
-        if let Some((path, text)) = file.split_once('\n') {
-            fs::write(rt, path, text)?;
+        match file.split_once('\n') {
+            Some((path, text)) => fs::write(rt, path, text)?,
+            None => return Err(io::Error::from(io::ErrorKind::InvalidData)),
         }
     }
     fs::write(rt, "no_text", b"\xff".as_slice())

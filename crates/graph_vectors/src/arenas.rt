@@ -202,6 +202,7 @@ fn are_a_and_b(rt: &impl Abort, alloc: Global, statements: &Arena<Statement>) ->
         statement.clone()?.display(statements, &mut lines)?;
     }
     is_text(rt, lines, "%a = var\n%b = var\n");
+    equal(rt, statements.len(), 2);
     Ok(())
 }
 

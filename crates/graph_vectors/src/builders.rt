@@ -87,7 +87,7 @@ fn unnamed_value_may_take_a_name_that_is_there(rt: HostRuntime) -> Result<(), Fa
     item_is(&rt, alloc, item, text, false)
 }
 
-// A builder that each of its calls was given to once, with the value and the block without names, and the named block.
+// A builder of an unnamed variable, an unnamed block, a path condition and a named block, with the variable and the blocks.
 fn grown(alloc: Global) -> Result<(ReplacementBuilder, ValueId, [BlockId; 2]), Fail> {
     let mut builder = ReplacementBuilder::new(alloc);
     let attributes = Vec::from_array(alloc, [Attribute::NonZero])?;
@@ -102,6 +102,8 @@ fn grown(alloc: Global) -> Result<(ReplacementBuilder, ValueId, [BlockId; 2]), F
 fn every_growing_call_puts_its_statement(rt: HostRuntime) -> Result<(), Fail> {
     let alloc = rt.alloc();
     let (builder, x, [block, _]) = grown(alloc)?;
+    // A copy leaves the builder as it was.
+    let _copy = builder.clone()?;
     let item = builder.finish(x, Operand::Value(block.into()), Vec::new(alloc));
     let want = "%0 = var (nonZero)\npc %0 -1:i8\ninfer %0\n%1 = block 2\nresult %1\n";
     is_text(&rt, item.to_text()?, want);

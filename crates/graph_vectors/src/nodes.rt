@@ -346,16 +346,16 @@ fn display_is_refused<N: DisplayWithContext>(
     Ok(())
 }
 
-// The id has no text, neither alone nor as an operand of the condition.
+// Neither the operand nor the condition has a text: the id is out of range.
 fn far_is_refused(
     rt: &impl Abort,
     alloc: Global,
-    far: &ValueId,
+    operand: &Operand,
     pc: &Pc,
+    id: Id<Statement>,
     statements: &Arena<Statement>,
 ) -> Result<(), Fail> {
-    let id = Id::from(*far);
-    display_is_refused(rt, alloc, far, statements, TextError::OutOfRange(id))?;
+    display_is_refused(rt, alloc, operand, statements, TextError::OutOfRange(id))?;
     display_is_refused(rt, alloc, pc, statements, TextError::OutOfRange(id))
 }
 
@@ -363,11 +363,19 @@ fn far_is_refused(
 fn refused_display_leaves_the_text(rt: HostRuntime) -> Result<(), Fail> {
     let far = foreign_id(rt.alloc(), 9)?;
     let (graph, value, _) = two_values(rt.alloc())?;
+    let operand = Operand::Value(far);
     let pc = Pc {
         x: value.into(),
         y: far.into(),
     };
-    far_is_refused(&rt, rt.alloc(), &far, &pc, &graph.statements)
+    far_is_refused(
+        &rt,
+        rt.alloc(),
+        &operand,
+        &pc,
+        far.into(),
+        &graph.statements,
+    )
 }
 
 #[test]

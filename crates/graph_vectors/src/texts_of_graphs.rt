@@ -1,5 +1,5 @@
-//! Items that no text spells: their texts, the order of their statements, and that they are not well formed. The others are
-//! tested with the texts that spell them, in `souper_vectors`.
+//! Items that are built, mostly such as no text spells: their texts, the order of their statements, and whether they are well
+//! formed. The others are tested with the texts that spell them, in `souper_vectors`.
 use crate::fixtures::{Graph, equal, foreign_id, has_counts, is_text, item_is, number, typed};
 use souper_graph::ast::{AssignmentRhs, Attribute, BlockId, Id, LeftHandSide, Statement};
 use souper_graph::stringify::TextError;

@@ -34,7 +34,6 @@ pub fn completed_if(alloc: Global, has_completed: bool) -> Met {
     }
 }
 
-/// The value is the one that is wanted.
 pub fn equal<T: Copy + PartialEq + Debug>(rt: &impl Abort, found: T, want: T) {
     assert_eq!(rt; found, want);
 }

@@ -137,19 +137,21 @@ fn single_attributes_are_parsed(rt: HostRuntime) -> Result<(), Fail> {
     Ok(())
 }
 
-// The next attributes are so many.
-fn next_attributes(parser: &mut Parser<'_>) -> Result<usize, Fail> {
-    Ok(<Vec<Attribute>>::parse(parser)?.len())
+// What is shown of the next attributes.
+fn next_attributes(alloc: Global, parser: &mut Parser<'_>) -> Result<String, Fail> {
+    let attributes = <Vec<Attribute>>::parse(parser)?;
+    Ok(format!(in alloc; "{attributes:?}")?)
 }
 
 #[test]
 fn attributes_come_before_a_right_side(rt: HostRuntime) -> Result<(), Fail> {
     let mut parser = Parser::new(rt.alloc(), "(negative)(nonZero) var");
-    equal(&rt, next_attributes(&mut parser)?, 2);
+    let attributes = next_attributes(rt.alloc(), &mut parser)?;
+    is_text(&rt, attributes, "[Negative, NonZero]");
     let rhs = AssignmentRhs::parse(&mut parser)?;
     equal(&rt, matches!(rhs, AssignmentRhs::Var), true);
     equal(&rt, Statement::peek(&mut parser)?, false);
-    equal(&rt, next_attributes(&mut parser)?, 0);
+    is_text(&rt, next_attributes(rt.alloc(), &mut parser)?, "[]");
     Ok(())
 }
 
@@ -166,11 +168,12 @@ fn option_takes_nothing_of_another_kind(rt: HostRuntime) -> Result<(), Fail> {
 fn hole_has_no_operands(rt: HostRuntime) -> Result<(), Fail> {
     let mut parser = Parser::new(rt.alloc(), "hole 1");
     equal(&rt, Instruction::parse(&mut parser)?, Instruction::Hole);
-    equal(&rt, Operand::parse(&mut parser)?, number(1));
+    let one = Constant { value: 1, ty: None };
+    equal(&rt, Constant::parse(&mut parser)?, one);
     Ok(())
 }
 
-// Whether the source begins with a value.
+// Whether an option of a value is read as some.
 fn is_there<P: Peek + Drop>(alloc: Global, source: &str) -> Result<bool, ParseError> {
     Ok(parsed::<Option<P>>(alloc, source)?.is_some())
 }

@@ -102,7 +102,7 @@ fn refused(rt: HostRuntime) -> Result<(), Fail> {
 }
 
 #[test]
-fn refused_without_a_sign(rt: HostRuntime) -> Result<(), Fail> {
+fn refused_after_known_bits(rt: HostRuntime) -> Result<(), Fail> {
     let want = "9 ExpectedEquals(' '): expected '=', found ' '\n";
     lexes(&rt, rt.alloc(), "knownBits =01", want)?;
     lexes(&rt, rt.alloc(), "knownBits =", want)?;
@@ -110,6 +110,23 @@ fn refused_without_a_sign(rt: HostRuntime) -> Result<(), Fail> {
     lexes(&rt, rt.alloc(), "knownBits\u{3000}", want)?;
     let want = "0 Ident(\"a\")\n10 UnexpectedEnd: unexpected EOF\n";
     lexes(&rt, rt.alloc(), "a knownBits", want)?;
+    lexes(
+        &rt,
+        rt.alloc(),
+        "knownBits",
+        "8 UnexpectedEnd: unexpected EOF\n",
+    )
+}
+
+#[test]
+fn refused_at_once(rt: HostRuntime) -> Result<(), Fail> {
+    lexes(&rt, rt.alloc(), "é", "0 Unexpected('é'): unexpected 'é'\n")?;
+    lexes(
+        &rt,
+        rt.alloc(),
+        "%",
+        "0 ExpectedValueName: expected value name\n",
+    )?;
     let want = "0 Ident(\"a\")\n1 Unexpected('\\u{200b}'): unexpected '\u{200b}'\n";
     lexes(&rt, rt.alloc(), "a\u{200b}", want)
 }

@@ -18,18 +18,19 @@ pub(crate) struct Run {
     pub(crate) err: Vec<u8>,
 }
 
-/// Asserts that what was found is what is wanted.
 pub(crate) fn equal<T: Copy + PartialEq + Debug>(rt: &impl Abort, found: T, want: T) {
     assert_eq!(rt; found, want);
 }
 
-/// The bytes as a text, or the head alone if they are lines that begin with it.
+/// The bytes as a text, or the head alone if they are lines that begin with it. The head without a newline is no line.
 pub(crate) fn headed<'a>(bytes: &'a [u8], head: &'a str) -> &'a str {
     let lines = text(bytes);
-    if !head.is_empty() && lines.starts_with(head) && lines.ends_with("\n") {
+    if head.is_empty() || !lines.starts_with(head) {
+        lines
+    } else if lines.ends_with("\n") {
         head
     } else {
-        lines
+        "no newline"
     }
 }
 

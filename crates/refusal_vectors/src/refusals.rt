@@ -20,12 +20,11 @@ pub struct Refusal<'a> {
     pub shown: &'a str,
 }
 
-/// The value is the one that is wanted. `text` is what it is of.
+/// `text` is what a failure shows.
 pub fn equal<T: Copy + PartialEq + Debug>(rt: &impl Abort, found: T, want: T, text: &str) {
     assert_eq!(rt; found, want, "for {text}");
 }
 
-/// The text is the one that is wanted.
 pub fn is_text(rt: &impl Abort, text: String, want: &str) {
     assert_eq!(rt; text.as_str(), want);
 }

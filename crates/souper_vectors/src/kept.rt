@@ -8,7 +8,7 @@ use std::fmt::Display;
 use std::process::Abort;
 use std::test::Fail;
 
-// Appends the item's text and a newline. The item and its copy are well formed, and are printed and shown as one text.
+// Appends the item's text and a newline. The item and its copy are well formed and have one text, which is shown of the item.
 fn append_kept<I: Item + Display + Drop>(
     rt: &impl Abort,
     alloc: Global,

@@ -1,4 +1,4 @@
-//! Tables of texts: what is read, and what is then printed. A line `----` ends each row but the last.
+//! Tables of texts, and of what is wanted of them. `----` and a newline come between two rows.
 
 /// White space and comments alone.
 pub const BLANK: &str = "\
@@ -602,7 +602,7 @@ infer %x
 
 ";
 
-/// Rows of a kind, and of the first item of a text and after `=>` of that item when it is named by its printed order.
+/// Rows of a kind, a text, and after `=>` the text of its first item when that is named by its printed order.
 pub const RENAMED: &str = "\
 lhs
 %x = var
@@ -684,7 +684,7 @@ cand %b %a
 cand %1 %0
 ----
 lhs
-; One graph under other names, and with its variables in another order, has one text; another graph has another.
+; The next three are one graph and have one text; the fourth is another and has another.
 %x = var
 %y = var
 %z = sub %x, %y

@@ -67,7 +67,7 @@ fn applied(alloc: Global, word: &str, count: usize) -> Result<String, Fail> {
     Ok(format!(in alloc; "%x = {word}{operands}\ninfer %x")?)
 }
 
-// The text with `count` operands is its own, and that with one less, if there is one, is refused.
+// The source with `count` operands is printed as it is, and that with one less, if there is one, is refused.
 fn has_operands(rt: &impl Abort, alloc: Global, word: &str, count: usize) -> Result<(), Fail> {
     let source = applied(alloc, word, count)?;
     let want = format!(in alloc; "{source}\n\n")?;

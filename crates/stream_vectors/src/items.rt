@@ -109,10 +109,15 @@ fn words_and_layout_that_look_like_an_end_are_none(rt: HostRuntime) -> Result<()
 
 #[test]
 fn operands_may_come_on_further_lines(rt: HostRuntime) -> Result<(), Fail> {
+    let sources = [
+        "%x = var\ninfer %x\n%y = add %x, 1\npc %y 1\nresult\n%y\ncand 1\n2\n%x = var\n\
+                    cand %x\n%x\ncand 1,\n2\n",
+    ];
+    are_same::<Replacement>(&rt, rt.alloc(), sources.as_slice())?;
+    // The last item has no second operand.
     let source = "%x = var\ninfer %x\n%y = add %x, 1\npc %y 1\nresult\n%y\ncand 1\n2\n%x = var\n\
-                  cand %x\n%x\ncand 1,\n2\n";
-    is_same::<Replacement>(&rt, rt.alloc(), source)?;
-    let refused = of_stream::<Replacement>(rt.alloc(), "%x = var\ncand %x\n%x\ncand %x\n", 4096, 1);
+                  cand %x\n%x\ncand %x\n";
+    let refused = of_stream::<Replacement>(rt.alloc(), source, 4096, 1);
     assert!(rt; refused.is_err());
     Ok(())
 }

@@ -74,7 +74,7 @@ fn is_refused(rt: &impl Abort, alloc: Global, source: &str, want: usize) -> Resu
 // Two items.
 const GOOD: &str = "%x = var ; one\n\n%y = add %x, 1\ninfer %y\n; two\n%x = var\ninfer %x\n";
 
-// Texts that are refused before their first item ends.
+// Texts that are refused before an item of them is taken.
 const BAD: &str = "\
 infer %x
 ----
