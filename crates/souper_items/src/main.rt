@@ -24,7 +24,7 @@ use std::{env, io};
 
 const STANDARD_INPUT: &str = "(standard input)";
 
-// How many bytes are asked for at a time: those of a pipe of Linux.
+// How many bytes are asked for at a time: as many as a pipe of Linux holds.
 const CAPACITY: usize = 1 << 16;
 
 // Does the task over one stream of items of the type, and returns the status.

@@ -5,7 +5,7 @@
 //! end, or the [`Fault`] that the text has there.
 #![tactic(auto)]
 
-ghost use Rattle.std.specs.Prelude.{◌≡◌, ℕ, ◌+◌, ◌<◌, ◌≤◌, ◌^◌, List, length, drop, IsCharBoundary, IfErr, IfSome, IfNone, Some, slice_index, option_map, is_some, true, false};
+ghost use Rattle.std.specs.Prelude.{◌≡◌, ℕ, ◌+◌, ◌<◌, ◌≤◌, ◌^◌, ◌×◌, List, length, drop, IsCharBoundary, IfErr, IfSome, IfNone, OnOk, OnErr, Some, slice_index, option_map, is_some, true, false};
 ghost use Rattle.std.specs.List.{prefix_len};
 ghost use Rattle.std.specs.Char.{is_ascii_alphabetic};
 ghost use Rattle.souper_graph.specs.Names.{is_name_char};
@@ -396,7 +396,7 @@ impl<'a> Lexer<'a> {
     ///
     /// The same as [`Lexer::next_token`], for callers that keep the token: as a result it would be copied once more in each
     /// of them.
-    // It is not inlined, so that `next_token` is, here: that has no other caller in a program.
+    // It is not inlined, so that `next_token` is, here: but for tests that has no other caller.
     #[inline(never)]
     pub fn lex(
         &mut self,
@@ -405,6 +405,9 @@ impl<'a> Lexer<'a> {
     ) -> Result<(), Fault>
         ensures next { Lexes self.old result ahead.new self.new }
         ensures last { offset.old ≤ self.old.len → offset.new ≤ self.old.len }
+        ensures placed { OnOk result (IfSome ahead.new (λ token. offset.new ≡ token.0)) }
+        ensures ended { OnOk result (IfNone ahead.new (offset.new ≡ offset.old)) }
+        ensures faulty { OnErr result ((ahead.new ≡ ahead.old) × (offset.new ≡ offset.old)) }
         ensures fault { IfErr result (λ fault. fault.offset ≤ self.old.len) }
     {
         *ahead = self.next_token()?;
