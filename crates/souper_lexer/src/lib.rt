@@ -5,7 +5,7 @@
 //! end, or the [`Fault`] that the text has there.
 #![tactic(auto)]
 
-ghost use Rattle.std.specs.Prelude.{◌≡◌, ℕ, ◌+◌, ◌<◌, ◌≤◌, ◌^◌, ◌×◌, List, length, drop, IsCharBoundary, IfErr, IfSome, IfNone, OnOk, OnErr, Some, slice_index, option_map, is_some, true, false};
+ghost use Rattle.std.specs.Prelude.{◌≡◌, ℕ, ◌+◌, ◌<◌, ◌≤◌, ◌^◌, List, length, drop, IsCharBoundary, IfErr, IfSome, IfNone, OnOk, OnErr, Some, slice_index, option_map, is_some, true, false};
 ghost use Rattle.std.specs.List.{prefix_len};
 ghost use Rattle.std.specs.Char.{is_ascii_alphabetic};
 ghost use Rattle.souper_graph.specs.Names.{is_name_char};

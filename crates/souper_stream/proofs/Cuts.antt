@@ -6,12 +6,12 @@ use Rattle.souper_graph.specs.Syntax.Spelling.{kinds, ItemType, item_spells, lis
 use Rattle.souper_lexer.specs.TokenReading.{found, ends, next_of}
 use Rattle.souper_lexer.proofs.TokenComplete.{next_found, next_gap, next_ends}
 use Rattle.souper_lexer.proofs.TokenLaws.{one_reading}
-use Rattle.souper_ir.specs.Joining.{moved}
+use Rattle.souper_ir.specs.Joining.{IsLines, moved}
 use Rattle.souper_ir.specs.Laws.Steps.{kinds-append}
 use Rattle.souper_ir.proofs.Items.Joining.{begins_more, kinds_moved, items_join}
 use Rattle.souper_ir.proofs.Items.Parting.{Within, Beyond, parted_twice, tokens_part}
 use Rattle.souper_stream.specs.Lines.{end_word, defines, starts_line, NoStart}
-use Rattle.souper_stream.specs.Seams.{StartsLine, IsSeam, SeamsPart}
+use Rattle.souper_stream.specs.Seams.{EndsItem, StartsLine, SeamsPart}
 use Rattle.souper_stream.proofs.EndLines.{item_ends, one_end, list_starts, quiet_no_end}
 
 -- ---- tokens
@@ -196,12 +196,13 @@ starts_more b more h =
       more = omega arith;
     }
 
-part : (k : ItemType) (a b : List ℕ) (ws : List Item) → IsSeam k a b → TextSpells k (a ++ b) ws → (xs : List Item) × (ys : List Item) × (ws ≡ xs ++ ys) × TextSpells k a xs × TextSpells k b ys
-part k a b ws seam h =
-    let both = tokens_part a b h.0 seam.lines h.1 in
+-- a text is parted after lines that an item ends with, where a line starts
+pub part_by : (k : ItemType) (a b : List ℕ) (ws : List Item) → IsLines a → EndsItem k a → ((vs : List (ℕ × Lexeme)) → IsTextOf b vs → starts_line (kinds vs) ≡ true) → TextSpells k (a ++ b) ws
+    → (xs : List Item) × (ys : List Item) × (ws ≡ xs ++ ys) × TextSpells k a xs × TextSpells k b ys
+part_by k a b ws l end starts h =
+    let both = tokens_part a b h.0 l h.1 in
     let ts = both.0 in
     let vs = both.1 in
-    let end = seam.ends in
     let a_text : IsTextOf (end.before ++ end.last) ts = subst (λ (x : List ℕ). IsTextOf x ts) end.whole both.2 in
     let lines = tokens_part end.before end.last ts end.lines a_text in
     let same : lines.1 ≡ end.is_end.tokens = one_reading end.last lines.1 end.is_end.tokens lines.3 end.is_end.is_text in
@@ -209,17 +210,19 @@ part k a b ws seam h =
     let others = end.is_end.others in
     let last_kinds : kinds (moved (length end.before) lines.1) ≡ ident word ∷ others = kinds_moved (length end.before) lines.1 ∙ ap kinds same ∙ end.is_end.kinds_are in
     let a_kinds : kinds ts ≡ kinds lines.0 ++ ident word ∷ others = ap kinds lines.4 ∙ kinds-append lines.0 (moved (length end.before) lines.1) ∙ ap (λ (x : List Lexeme). kinds lines.0 ++ x) last_kinds in
-    let start = seam.starts in
-    let firsts = first_tokens start.tokens vs 0 b start.rest both.3.0 start.begins both.3.1 both.3.2 in
-    let b_starts : starts_line (kinds vs) ≡ true =
-    subst (λ (x : List Lexeme). starts_line x ≡ true) (sym (ap kinds firsts.1 ∙ kinds-append start.tokens firsts.0)) (starts_longer (kinds start.tokens) (kinds firsts.0) start.starts) in
     let whole : kinds h.0 ≡ kinds lines.0 ++ ident word ∷ (others ++ kinds vs) =
     ap kinds both.4 ∙ kinds-append ts (moved (length a) vs) ∙ (λ i. a_kinds i ++ kinds_moved (length a) vs i) ∙ append_assoc (kinds lines.0) (ident word ∷ others) (kinds vs) in
-    let r = items_part k ws (kinds lines.0) others (kinds vs) word end.is_end.ends end.is_end.no_start b_starts (subst (λ (x : List Lexeme). list_spells k ws x) whole h.2) in
+    let r = items_part k ws (kinds lines.0) others (kinds vs) word end.is_end.ends end.is_end.no_start (starts vs both.3) (subst (λ (x : List Lexeme). list_spells k ws x) whole h.2) in
     (r.xs, r.ys, r.whole, (ts, both.2, subst (λ (x : List Lexeme). list_spells k r.xs x) (sym a_kinds) r.first), (vs, both.3, r.second))
+
+-- the tokens of a text in which a line starts begin with those of the line
+line_starts : (b : List ℕ) (vs : List (ℕ × Lexeme)) → StartsLine b → IsTextOf b vs → starts_line (kinds vs) ≡ true
+line_starts b vs start h =
+    let firsts = first_tokens start.tokens vs 0 b start.rest h.0 start.begins h.1 h.2 in
+    subst (λ (x : List Lexeme). starts_line x ≡ true) (sym (ap kinds firsts.1 ∙ kinds-append start.tokens firsts.0)) (starts_longer (kinds start.tokens) (kinds firsts.0) start.starts)
 
 pub seams_part : SeamsPart
 seams_part k a b ws seam = (
-  λ h. part k a b ws seam h,
+  λ h. part_by k a b ws seam.lines seam.ends (λ vs t. line_starts b vs seam.starts t) h,
   λ h. subst (λ (x : List Item). TextSpells k (a ++ b) x) (sym h.2) (items_join k a b h.0 h.1 seam.lines h.3 h.4),
 )

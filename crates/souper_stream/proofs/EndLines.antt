@@ -11,7 +11,7 @@ use Rattle.souper_stream.proofs.Nodes.{or_left, or_right, or_none, is_not, all_a
 
 -- ---- words that end an item
 
-end_is_last : (k : ItemType) (w : List ℕ) → end_word k w ≡ true → last_word w ≡ true
+pub end_is_last : (k : ItemType) (w : List ℕ) → end_word k w ≡ true → last_word w ≡ true
 end_is_last left_hand_side w h = or_left (bytes_eq w (codes "infer")) _ h
 end_is_last right_hand_side w h = or_right (bytes_eq w (codes "infer")) _ (or_left (bytes_eq w (codes "result")) _ h)
 end_is_last replacement w h = or_right (bytes_eq w (codes "infer")) _ h

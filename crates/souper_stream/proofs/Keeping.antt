@@ -1,70 +1,38 @@
 -- What is held of a stream, beside what was read of it and the items that were passed to sinks.
-use Rattle.std.proofs.Common.{◌≡◌, ◌⊎◌, inl, inr, ℕ, ◌+◌, ◌-◌, ◌^◌, ◌<◌, ◌≤◌, Bool, true, false, cond, List, [], ◌++◌, length, take, drop, Option, Some, None, refl, sym, ap, ◌∙◌, subst, arith, append_assoc, append-nil, length-append}
-use Rattle.std.specs.Prelude.{IfSome, ◌==◌}
-use Rattle.std.proofs.lemmas.List.{take_all, take-append-drop, take-append-le, drop-append-le, length-drop, length-take}
-use Rattle.std.proofs.lemmas.List.Sums.{sum_by-append, count_by-le-length}
+use Rattle.std.proofs.Common.{◌≡◌, inl, inr, ℕ, ◌+◌, ◌≤◌, Bool, true, false, List, [], ◌++◌, length, take, drop, Option, Some, None, refl, sym, ap, ◌∙◌, subst, arith, append_assoc, append-nil, length-append}
+use Rattle.std.specs.Prelude.{IfSome}
+use Rattle.std.proofs.lemmas.List.{take_all, take-append-drop, length-drop}
 use Rattle.souper_graph.specs.Values.{Item}
 use Rattle.souper_graph.specs.Syntax.Spelling.{ItemType, TextSpells, SpellsNone}
-use Rattle.souper_ir.specs.declared.parse.error.Before.{Before}
 use Rattle.souper_ir.specs.declared.parse.error.ParseError.{ParseError}
-use Rattle.souper_ir.specs.declared.parse.error.ParseErrorKind.TheVariants.{Parse, Memory}
+use Rattle.souper_ir.specs.declared.parse.error.ParseErrorKind.TheVariants.{Parse}
 use Rattle.souper_ir.specs.declared.parse.error.Cause.{Cause}
 use Rattle.souper_ir.specs.declared.parse.error.Cause.TheVariants.{Io as IoCause, Parse as ParseCause, Memory as MemoryCause}
-use Rattle.souper_ir.specs.Places.{newlines}
 use Rattle.souper_ir.specs.Joining.{IsLines}
-use Rattle.souper_ir.specs.Errors.{kind_of, kind_of_cause, offset_of, offset_of_cause, IsBefore, IsPlacedAfter, IsLocatedAfter, IsRefusalAt}
+use Rattle.souper_ir.specs.Errors.{kind_of, kind_of_cause, offset_of, offset_of_cause, IsPlacedAfter, IsLocatedAfter}
 use Rattle.souper_ir.specs.Answers.{IsStrError}
 use Rattle.souper_ir.specs.Sinks.{PrefixSpells}
 use Rattle.souper_ir.proofs.Items.Lists.{text_alone}
 use Rattle.souper_stream.specs.declared.held.Held.{Held}
 use Rattle.souper_stream.specs.Seams.{IsSeam}
-use Rattle.souper_stream.specs.Holding.{done, fresh, IsOpen, IsHeld, Forgets}
+use Rattle.souper_stream.specs.Holding.{fresh, IsOpen, IsHeld, Forgets}
 use Rattle.souper_stream.specs.Reading.{IsComplete, IsRefusedPart, NeverSpells, IsRefused}
-use Rattle.souper_stream.proofs.Slices.{take_parts, drop_parts}
+use Rattle.souper_stream.proofs.Forgetting.{after_none, parts_read, fresh_more, after_more, after_forgot, after_placed}
 use Rattle.souper_stream.proofs.Cuts.{starts_more}
-use Rattle.std.proofs.Math.Seq.{drop-append_seam}
-use Rattle.souper_stream.proofs.Progress.{lines_append, open_lines, open_more, seam_later, none_spelled, spelled_more, none_after, none_at_end, prefix_after, prefix_longer, none_before}
+use Rattle.souper_stream.proofs.Progress.{open_lines, open_more, seam_later, none_spelled, spelled_more, none_after, none_at_end, prefix_after, prefix_longer, none_before}
 
 -- nothing was read
 pub held_none : (k : ItemType) (h : Held) → h.bytes.items ≡ [] → h.skipped ≡ 0 → h.before.bytes ≡ 0 → h.before.lines ≡ 0 → IsHeld k [] [] h
-held_none k h none zero_is b l =
-    let nothing : take h.skipped h.bytes.items ≡ [] = (λ i. take (zero_is i) (none i)) in
-    record {
-      gone = [];
-      whole = sym none;
-      lines = inl refl;
-      counted = λ s. record { lines = inl refl; bytes_are = sym b; lines_are = sym l };
-      within = omega (arith, zero_is);
-      spelled = subst (λ (x : List ℕ). TextSpells k x []) (sym nothing) (none_spelled k);
-      opened = inl nothing;
-      placed = inr refl;
-    }
-
--- what was passed to sinks, and the rest, are all that was read
-pub parts_read : (k : ItemType) (read : List ℕ) (items : List Item) (h : Held) (p : IsHeld k read items h) → read ≡ done p.gone h ++ fresh h
-parts_read k read items h p =
-    p.whole ∙ ap (λ (x : List ℕ). p.gone ++ x) (sym (take-append-drop h.skipped h.bytes.items)) ∙ sym (append_assoc p.gone (take h.skipped h.bytes.items) (fresh h))
+held_none k h none zero_is b l = record { done = []; after = after_none h none zero_is b l; spelled = none_spelled k; opened = inl refl }
 
 -- more was read
 pub held_more : (k : ItemType) (read more : List ℕ) (items : List Item) (old new : Held) → IsHeld k read items old → new.bytes.items ≡ old.bytes.items ++ more → new.skipped ≡ old.skipped → new.before ≡ old.before → IsHeld k (read ++ more) items new
-held_more k read more items old new p bytes skipped before =
-    let longer = length-append old.bytes.items more in
-    let all = length-append read more in
-    let within = p.within in
-    let long = ap length bytes in
-    let front : take new.skipped new.bytes.items ≡ take old.skipped old.bytes.items = (λ i. take (skipped i) (bytes i)) ∙ take-append-le old.skipped old.bytes.items more p.within in
-    let back : fresh new ≡ fresh old ++ more = (λ i. drop (skipped i) (bytes i)) ∙ drop-append-le old.skipped old.bytes.items more p.within in
-    let same : done p.gone new ≡ done p.gone old = ap (λ (x : List ℕ). p.gone ++ x) front in
-    record {
-      gone = p.gone;
-      whole = ap (λ (x : List ℕ). x ++ more) p.whole ∙ append_assoc p.gone old.bytes.items more ∙ ap (λ (x : List ℕ). p.gone ++ x) (sym bytes);
-      lines = p.lines;
-      counted = λ small. subst (λ (b : Before). IsBefore b p.gone) (sym before) (p.counted (omega arith));
-      within = omega (arith, skipped);
-      spelled = subst (λ (x : List ℕ). TextSpells k x items) (sym same) p.spelled;
-      opened = subst (λ (x : List ℕ). IsOpen k x (fresh new)) (sym same) (subst (λ (x : List ℕ). IsOpen k (done p.gone old) x) (sym back) (open_more k (done p.gone old) (fresh old) more p.opened));
-      placed = subst (λ (m : ℕ). (0 < m) ⊎ (p.gone ≡ [])) (sym skipped) p.placed;
-    }
+held_more k read more items old new p bytes skipped before = record {
+  done = p.done;
+  after = after_more read more p.done old new p.after bytes skipped before;
+  spelled = p.spelled;
+  opened = subst (λ (x : List ℕ). IsOpen k p.done x) (sym (fresh_more read more p.done old new p.after bytes skipped)) (open_more k p.done (fresh old) more p.opened);
+}
 
 -- no items are complete
 pub held_idle : (k : ItemType) (read : List ℕ) (items xs : List Item) (h : Held) (n : ℕ) → IsHeld k read items h → n ≡ 0 → TextSpells k (take n (fresh h)) xs → IsHeld k read (items ++ xs) h
@@ -73,65 +41,24 @@ held_idle k read items xs h n p none t =
     let same : xs ≡ [] = text_alone k [] xs [] nothing (none_spelled k) in
     subst (λ (x : List Item). IsHeld k read x h) (sym (ap (λ (x : List Item). items ++ x) same ∙ append-nil items)) p
 
-newlines-append : (xs ys : List ℕ) → newlines (xs ++ ys) ≡ newlines xs + newlines ys
-newlines-append xs ys = sum_by-append (λ b. cond (b == 10) 1 0) xs ys
-
 -- items were passed to sinks, and lines before the last of them forgotten
 pub held_forgot : (k : ItemType) (read : List ℕ) (items xs : List Item) (old new : Held) (n : ℕ) → IsHeld k read items old → n ≤ length (fresh old) → IsSeam k (take n (fresh old)) (drop n (fresh old)) → TextSpells k (take n (fresh old)) xs
     → Forgets old new n → IsHeld k read (items ++ xs) new
 held_forgot k read items xs old new n p fits seam t f =
-    let bytes = old.bytes.items in
-    let start = f.start in
-    let within = p.within in
-    let starts = f.within in
-    let skipped = f.skipped_is in
-    let some = f.some in
-    let rest_long = length-drop old.skipped bytes in
-    let end : ℕ = old.skipped + n in
-    let end_fits : end ≤ length bytes = omega arith in
-    let gone : List ℕ = p.gone ++ take start bytes in
-    -- the text that was passed to sinks
-    let past : end - old.skipped ≡ n = omega arith in
-    let left : end - start ≡ new.skipped = omega arith in
-    let front : take end bytes ≡ take old.skipped bytes ++ take n (fresh old) = take_parts bytes old.skipped end (omega arith) within ∙ ap (λ (m : ℕ). take old.skipped bytes ++ take m (fresh old)) past in
-    let cut : take end bytes ≡ take start bytes ++ take new.skipped (drop start bytes) = take_parts bytes start end starts (omega arith) ∙ ap (λ (m : ℕ). take start bytes ++ take m (drop start bytes)) left in
-    let here : take new.skipped new.bytes.items ≡ take new.skipped (drop start bytes) = ap (λ (x : List ℕ). take new.skipped x) f.bytes_are in
-    let now : done gone new ≡ done p.gone old ++ take n (fresh old) =
-    ap (λ (x : List ℕ). gone ++ x) here ∙ append_assoc p.gone (take start bytes) (take new.skipped (drop start bytes)) ∙ ap (λ (x : List ℕ). p.gone ++ x) (sym cut ∙ front) ∙ sym (append_assoc p.gone (take old.skipped bytes) (take n (fresh old))) in
-    -- the text after it
-    let back : drop start bytes ≡ take new.skipped (drop start bytes) ++ drop end bytes = drop_parts bytes start end starts (omega arith) ∙ ap (λ (m : ℕ). take m (drop start bytes) ++ drop end bytes) left in
-    let rest : fresh old ≡ take n (fresh old) ++ drop end bytes = drop_parts bytes old.skipped end (omega arith) within ∙ ap (λ (m : ℕ). take m (fresh old) ++ drop end bytes) past in
-    let later : fresh new ≡ drop n (fresh old) = ap (λ (x : List ℕ). drop new.skipped x) f.bytes_are ∙ drop_after new.skipped (drop start bytes) (drop end bytes) back (omega (arith, length-drop start bytes)) ∙ sym (drop_after n (fresh old) (drop end bytes) rest fits) in
-    let ahead : IsOpen k (done p.gone old) (take n (fresh old) ++ drop n (fresh old)) = subst (λ (x : List ℕ). IsOpen k (done p.gone old) x) (sym (take-append-drop n (fresh old))) p.opened in
-    let counts = newlines-append p.gone (take start bytes) in
-    let longer = length-append p.gone (take start bytes) in
-    let front_long = length-take start bytes in
-    let whole_long = ap length p.whole ∙ length-append p.gone bytes in
-    let lines_before = f.lines_before in
-    let bytes_before = f.bytes_before in
-    let few = count_by-le-length (λ b. b == 10) p.gone in
-    let few_more = count_by-le-length (λ b. b == 10) (take start bytes) in
+    let part = take n (fresh old) in
+    let now = after_forgot read p.done old new n p.after fits f in
     record {
-      gone = gone;
-      whole = p.whole ∙ ap (λ (x : List ℕ). p.gone ++ x) (sym (take-append-drop start bytes)) ∙ sym (append_assoc p.gone (take start bytes) (drop start bytes)) ∙ ap (λ (x : List ℕ). gone ++ x) (sym f.bytes_are);
-      lines = lines_append p.gone (take start bytes) p.lines f.lines;
-      counted = λ small. let b = p.counted small in let b_bytes = b.bytes_are in let b_lines = b.lines_are in record { lines = lines_append p.gone (take start bytes) p.lines f.lines; bytes_are = omega arith; lines_are = omega arith };
-      within = omega (arith, ap length f.bytes_are ∙ length-drop start bytes);
-      spelled = subst (λ (x : List ℕ). TextSpells k x (items ++ xs)) (sym now) (spelled_more k (done p.gone old) (fresh old) (take n (fresh old)) items xs p.opened p.spelled t);
-      opened = inr (subst (λ (x : List ℕ). IsSeam k x (fresh new)) (sym now) (subst (λ (x : List ℕ). IsSeam k (done p.gone old ++ take n (fresh old)) x) (sym later) (seam_later k (done p.gone old) (take n (fresh old)) (drop n (fresh old)) (open_lines k (done p.gone old) (fresh old) p.opened) seam)));
-      placed = inl f.some;
+      done = p.done ++ part;
+      after = now.0;
+      spelled = spelled_more k p.done (fresh old) part items xs p.opened p.spelled t;
+      opened = inr (subst (λ (x : List ℕ). IsSeam k (p.done ++ part) x) (sym now.1) (seam_later k p.done part (drop n (fresh old)) (open_lines k p.done (fresh old) p.opened) seam));
     }
-  where
-    drop_after : (m : ℕ) (xs b : List ℕ) → xs ≡ take m xs ++ b → m ≤ length xs → drop m xs ≡ b
-    drop_after m xs b e l =
-        let at : length (take m xs) ≡ m = omega (arith, length-take m xs) in
-        (λ i. drop (sym at i) (e i)) ∙ drop-append_seam (take m xs) b
 
 -- all was passed to sinks
 pub held_all : (k : ItemType) (read : List ℕ) (items xs : List Item) (h : Held) (n : ℕ) → IsHeld k read items h → n ≡ length (fresh h) → TextSpells k (take n (fresh h)) xs → TextSpells k read (items ++ xs)
 held_all k read items xs h n p all t =
     let part : TextSpells k (fresh h) xs = subst (λ (x : List ℕ). TextSpells k x xs) (take_all n (fresh h) (omega (arith, all))) t in
-    subst (λ (x : List ℕ). TextSpells k x (items ++ xs)) (sym (parts_read k read items h p)) (spelled_more k (done p.gone h) (fresh h) (fresh h) items xs p.opened p.spelled part)
+    subst (λ (x : List ℕ). TextSpells k x (items ++ xs)) (sym (parts_read read p.done h p.after)) (spelled_more k (p.done) (fresh h) (fresh h) items xs p.opened p.spelled part)
 
 -- ---- refusals
 
@@ -145,20 +72,20 @@ whole_none k false text n (inr seam) none = subst (λ (x : List ℕ). SpellsNone
 refused_never : (k : ItemType) (ended : Bool) (all : Type 0) (read : List ℕ) (items : List Item) (h : Held) (n : ℕ) → IsHeld k read items h → IsComplete k ended (fresh h) n → SpellsNone k (take n (fresh h)) → (ended ≡ true → all) → NeverSpells k all read
 refused_never k true all read items h n p long none at_end =
     let part : take n (fresh h) ≡ fresh h = take_all n (fresh h) (omega (arith, long)) in
-    inr (at_end refl, subst (λ (x : List ℕ). SpellsNone k x) (sym (parts_read k read items h p)) (none_at_end k (done p.gone h) (fresh h) p.opened (subst (λ (x : List ℕ). SpellsNone k x) part none)))
+    inr (at_end refl, subst (λ (x : List ℕ). SpellsNone k x) (sym (parts_read read p.done h p.after)) (none_at_end k (p.done) (fresh h) p.opened (subst (λ (x : List ℕ). SpellsNone k x) part none)))
 refused_never k false all read items h n p (inl zero_is) none at_end = absurd (none [] (subst (λ (m : ℕ). TextSpells k (take m (fresh h)) []) (sym zero_is) (none_spelled k)))
 refused_never k false all read items h n p (inr seam) none at_end = inl (λ more.
     let part = take n (fresh h) in
     let rest : List ℕ = drop n (fresh h) ++ more in
     let split : fresh h ++ more ≡ part ++ rest = ap (λ (x : List ℕ). x ++ more) (sym (take-append-drop n (fresh h))) ∙ append_assoc part (drop n (fresh h)) more in
-    let whole : read ++ more ≡ done p.gone h ++ (part ++ rest) = ap (λ (x : List ℕ). x ++ more) (parts_read k read items h p) ∙ append_assoc (done p.gone h) (fresh h) more ∙ ap (λ (x : List ℕ). done p.gone h ++ x) split in
-    let ahead : IsOpen k (done p.gone h) (part ++ rest) = subst (λ (x : List ℕ). IsOpen k (done p.gone h) x) split (open_more k (done p.gone h) (fresh h) more p.opened) in
+    let whole : read ++ more ≡ p.done ++ (part ++ rest) = ap (λ (x : List ℕ). x ++ more) (parts_read read p.done h p.after) ∙ append_assoc (p.done) (fresh h) more ∙ ap (λ (x : List ℕ). p.done ++ x) split in
+    let ahead : IsOpen k (p.done) (part ++ rest) = subst (λ (x : List ℕ). IsOpen k (p.done) x) split (open_more k (p.done) (fresh h) more p.opened) in
     let cut : IsSeam k part rest = record { lines = seam.lines; ends = seam.ends; starts = starts_more (drop n (fresh h)) more seam.starts } in
-    subst (λ (x : List ℕ). SpellsNone k x) (sym whole) (none_after k (done p.gone h) part rest ahead cut none))
+    subst (λ (x : List ℕ). SpellsNone k x) (sym whole) (none_after k (p.done) part rest ahead cut none))
 
 refused_prefix : (k : ItemType) (ended : Bool) (read : List ℕ) (items ys : List Item) (h : Held) (n : ℕ) → IsHeld k read items h → IsComplete k ended (fresh h) n → PrefixSpells k (take n (fresh h)) ys → PrefixSpells k read (items ++ ys)
 refused_prefix k ended read items ys h n p complete b =
-    subst (λ (x : List ℕ). PrefixSpells k x (items ++ ys)) (sym (parts_read k read items h p)) (prefix_after k (done p.gone h) (fresh h) items ys (open_lines k (done p.gone h) (fresh h) p.opened) p.spelled (longer ended complete))
+    subst (λ (x : List ℕ). PrefixSpells k x (items ++ ys)) (sym (parts_read read p.done h p.after)) (prefix_after k (p.done) (fresh h) items ys (open_lines k (p.done) (fresh h) p.opened) p.spelled (longer ended complete))
   where
     after : IsLines (take n (fresh h)) → PrefixSpells k (fresh h) ys
     after l = subst (λ (x : List ℕ). PrefixSpells k x ys) (take-append-drop n (fresh h)) (prefix_longer k (take n (fresh h)) (drop n (fresh h)) ys l b)
@@ -171,8 +98,8 @@ refused_prefix k ended read items ys h n p complete b =
 -- what was read begins with the items that were passed to sinks
 pub held_begun : (k : ItemType) (read : List ℕ) (items : List Item) (h : Held) → IsHeld k read items h → PrefixSpells k read items
 held_begun k read items h p =
-    let b = prefix_after k (done p.gone h) (fresh h) items [] (open_lines k (done p.gone h) (fresh h) p.opened) p.spelled ([], fresh h, refl, refl) in
-    subst (λ (x : List ℕ). PrefixSpells k x items) (sym (parts_read k read items h p)) (subst (λ (x : List Item). PrefixSpells k (done p.gone h ++ fresh h) x) (append-nil items) b)
+    let b = prefix_after k (p.done) (fresh h) items [] (open_lines k (p.done) (fresh h) p.opened) p.spelled ([], fresh h, refl, refl) in
+    subst (λ (x : List ℕ). PrefixSpells k x items) (sym (parts_read read p.done h p.after)) (subst (λ (x : List Item). PrefixSpells k (p.done ++ fresh h) x) (append-nil items) b)
 
 -- the offset of a refusal is in the text that was refused
 pub str_offset : (k : ItemType) (file : Option (List ℕ)) (source : List ℕ) (e : ParseError) → kind_of e ≡ Parse → IsStrError k file source e → (o : ℕ) × (offset_of e ≡ Some o) × (o ≤ length source) × SpellsNone k source
@@ -207,23 +134,10 @@ part_refused k file ended all holds old new read items h e shown p at_end part k
     let ys = part.before.0 in
     let offset : ℕ = h.skipped + s.0 in
     let placed_after : IsPlacedAfter file h.before h.bytes.items offset shown = (let l = rw kind at located in rw s.1 at l) in
-    let long = length-drop h.skipped h.bytes.items in
-    let inside = s.2 in
-    let within = p.within in
-    let whole_long = ap length p.whole ∙ length-append p.gone h.bytes.items in
     record {
       taken = ys;
       over = part.before.2;
       begun = refused_prefix k ended read items ys h part.len p part.taken.1 part.before.1;
       never = refused_never k ended all read items h part.len p part.taken.1 part.none at_end;
-      placed = λ small. (length p.gone + offset, omega arith, placed s.0 placed_after small);
+      placed = λ small. (length p.done + s.0, (let whole = ap length (parts_read read p.done h p.after) ∙ length-append p.done (fresh h) in let inside = s.2 in omega arith), after_placed file read p.done h s.0 shown p.after shown_kind placed_after small);
     }
-  where
-    some : (o : ℕ) → (0 < h.skipped) ⊎ (p.gone ≡ []) → (0 < h.skipped + o) ⊎ (p.gone ≡ [])
-    some o (inl k) = inl (omega arith)
-    some o (inr k) = inr k
-
-    placed : (o : ℕ) → IsPlacedAfter file h.before h.bytes.items (h.skipped + o) shown → length read + 1 < 2 ^ 64 → IsRefusalAt file read (length p.gone + (h.skipped + o)) shown
-    placed o (inl memory) small = let bad : Memory ≡ Parse = sym memory ∙ shown_kind in absurd cc
-    placed o (inr at) small =
-        subst (λ (x : List ℕ). IsRefusalAt file x (length p.gone + (h.skipped + o)) shown) (sym p.whole) (at p.gone (p.counted small) (some o p.placed) (subst (λ (x : List ℕ). length x + 1 < 2 ^ 64) p.whole small))

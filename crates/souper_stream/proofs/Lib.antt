@@ -5,5 +5,9 @@ mod Scan
 mod Slices
 mod Progress
 pub mod Bytes
+mod Forgetting
 mod Keeping
+mod Lined
 pub mod Turns
+mod PieceTurns
+pub mod PieceLaws

@@ -1,5 +1,5 @@
 -- Lines of a text by their lengths.
-use Rattle.std.proofs.Common.{◌≡◌, ◌⊎◌, inl, inr, ℕ, ◌+◌, ◌-◌, ◌<◌, ◌≤◌, Bool, true, List, [], ◌∷◌, ◌++◌, length, take, drop, get_or, IsUtf8, refl, sym, ap, ◌∙◌, subst, arith, append_assoc, length-append}
+use Rattle.std.proofs.Common.{◌≡◌, ◌⊎◌, inl, inr, ℕ, ◌+◌, ◌-◌, ◌<◌, ◌≤◌, Bool, true, List, [], ◌∷◌, ◌++◌, length, take, drop, get_or, IsUtf8, refl, sym, ap, ◌∙◌, subst, arith, append_assoc, append-nil, length-append}
 use Rattle.std.specs.Str.{IsCharBoundary}
 use Rattle.std.proofs.Math.Seq.{take-append-add, drop-append-add}
 use Rattle.std.proofs.lemmas.List.{take-append-drop, length-take, take_more, get_or_at}
@@ -10,7 +10,10 @@ use Rattle.souper_graph.specs.Syntax.Tokens.{Lexeme, Begins, AreTokensOf}
 use Rattle.souper_graph.specs.Syntax.Spelling.{kinds, ItemType}
 use Rattle.souper_ir.proofs.Items.Texts.{begins_prefix}
 use Rattle.souper_ir.proofs.Items.Joining.{left_of_lines}
+use Rattle.souper_lexer.specs.TokenReading.{lexed_of}
+use Rattle.souper_lexer.proofs.TokenLaws.{tokens_law}
 use Rattle.souper_stream.specs.Lines.{starts_line}
+use Rattle.souper_stream.specs.Pieces.{tokens_of}
 use Rattle.souper_stream.specs.Seams.{IsEndLine, StartsLine, IsSeam}
 use Rattle.souper_stream.proofs.Cuts.{starts_more}
 
@@ -64,6 +67,10 @@ line_begun line all first others fault l are e h =
     some : (n : List ℕ) → (first ≡ []) ⊎ (0 < length n) → 0 < length n
     some n (inl none) = let bad : starts_line (kinds []) ≡ true = subst (λ (x : List (ℕ × Lexeme)). starts_line (kinds x) ≡ true) none h in absurd cc
     some n (inr k) = k
+
+-- a line starts with its own tokens
+pub line_shown : (line : List ℕ) → IsUtf8 line → IsLines line → starts_line (tokens_of line) ≡ true → StartsLine line
+line_shown line utf8 lines h = let all = (lexed_of 0 line).tokens in line_begun line all all [] (lexed_of 0 line).fault lines (tokens_law line utf8) (sym (append-nil all)) h
 
 -- at n, no earlier than end, a line starts that is after whole lines
 pub record IsStart (text : List ℕ) (end n : ℕ) : Type 0 where

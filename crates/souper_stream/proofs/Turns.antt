@@ -80,7 +80,7 @@ turn_ended k read items mid after holds old new h0 h1 p more n r m taken t = rec
 }
 
 -- only a refusal is given a place
-located_kind : (file : Option (List ℕ)) (before : Before) (source : List ℕ) (skipped : ℕ) (e new : ParseError) → IsLocatedAfter file before source skipped e new → kind_of new ≡ Parse → kind_of e ≡ Parse
+pub located_kind : (file : Option (List ℕ)) (before : Before) (source : List ℕ) (skipped : ℕ) (e new : ParseError) → IsLocatedAfter file before source skipped e new → kind_of new ≡ Parse → kind_of e ≡ Parse
 located_kind file before source skipped e new l kind = under (kind_of e) refl l
   where
     under : (x : ParseErrorKind) → kind_of e ≡ x → OnKind x (new ≡ e) (IfSome (offset_of e) (λ offset. IsPlacedAfter file before source (skipped + offset) new)) (new ≡ e) → kind_of e ≡ Parse

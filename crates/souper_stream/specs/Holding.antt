@@ -8,11 +8,7 @@ use Rattle.souper_ir.specs.Joining.{IsLines}
 use Rattle.souper_stream.specs.declared.held.Held.{Held}
 use Rattle.souper_stream.specs.Seams.{IsSeam}
 
--- the text whose items were passed to sinks
-abbrev pub done : List ℕ → Held → List ℕ
-done gone h = gone ++ take h.skipped h.bytes.items
-
--- the text after it
+-- the text after what was passed to sinks
 abbrev pub fresh : Held → List ℕ
 fresh h = drop h.skipped h.bytes.items
 
@@ -20,16 +16,22 @@ fresh h = drop h.skipped h.bytes.items
 abbrev pub IsOpen : ItemType → List ℕ → List ℕ → Type 0
 IsOpen k done fresh = (done ≡ []) ⊎ IsSeam k done fresh
 
--- Of what was read, lines are gone and counted, and the rest is held. The items of what is done were passed to sinks.
-pub record IsHeld (k : ItemType) (read : List ℕ) (items : List Item) (h : Held) : Type 0 where
+-- Of what was read, lines are gone and counted, and the rest is held: after what is done, which was passed to sinks.
+pub record HoldsAfter (read done : List ℕ) (h : Held) : Type 0 where
   pub gone : List ℕ
   pub whole : read ≡ gone ++ h.bytes.items
   pub lines : IsLines gone
   pub counted : length read + 1 < 2 ^ 64 → IsBefore h.before gone
   pub within : h.skipped ≤ length h.bytes.items
-  pub spelled : TextSpells k (done gone h) items
-  pub opened : IsOpen k (done gone h) (fresh h)
+  pub done_is : done ≡ gone ++ take h.skipped h.bytes.items
   pub placed : (0 < h.skipped) ⊎ (gone ≡ [])
+
+-- what is done spells the items that were passed to sinks
+pub record IsHeld (k : ItemType) (read : List ℕ) (items : List Item) (h : Held) : Type 0 where
+  pub done : List ℕ
+  pub after : HoldsAfter read done h
+  pub spelled : TextSpells k done items
+  pub opened : IsOpen k done (fresh h)
 
 -- Whole lines were forgotten, and counted; so many bytes more than before are those of the line that was passed to sinks.
 pub record Forgets (old new : Held) (len : ℕ) : Type 0 where

@@ -1,4 +1,5 @@
 //! Laws of the definitions that the contracts of this crate cite. No function here does anything.
+ghost use Rattle.souper_stream.specs.Pieces.{SpellsByPieces};
 ghost use Rattle.souper_stream.specs.Seams.{SeamsPart};
 
 /// The items that a text spells are those that the part before a seam spells, and those that the part after it spells.
@@ -8,4 +9,12 @@ ghost use Rattle.souper_stream.specs.Seams.{SeamsPart};
 /// that attributes are on a line of their own, or that several items are on one line plays no part: tokens decide.
 pub fn law_of_seams()
     ensures { SeamsPart }
+{}
+
+/// The items that a text spells are those that its pieces spell, in order: if each piece spells items, [`PieceReader`] passes the
+/// items of the whole text to the sinks, and if the whole text spells items, no piece is refused.
+///
+/// [`PieceReader`]: crate::PieceReader
+pub fn law_of_pieces()
+    ensures { SpellsByPieces }
 {}

@@ -12,8 +12,10 @@ mod held;
 pub mod laws;
 mod lines;
 mod parts;
+mod pieces;
 mod read;
 
 pub use ends::StreamItem;
 pub use parts::PartReader;
+pub use pieces::PieceReader;
 pub use read::{read_chunks_into, read_into};

@@ -1,12 +1,14 @@
 //! Where lines begin in a text, and where items end.
-ghost use Rattle.std.specs.Prelude.{◌≡◌, ◌≤◌, ◌<◌, ◌∷◌, [], length, map, take, drop, true, false, IsCharBoundary};
+ghost use Rattle.std.specs.Prelude.{◌≡◌, ◌↔◌, ◌≤◌, ◌<◌, ◌∷◌, ℕ, [], length, take, drop, true, false, IsCharBoundary};
+ghost use Rattle.souper_graph.specs.Syntax.Tokens.{Lexeme};
 ghost use Rattle.souper_graph.specs.Syntax.Spelling.{kinds};
 ghost use Rattle.souper_lexer.specs.TokenView.{lexeme_of, Yields};
 ghost use Rattle.souper_ir.specs.NodeReadings.{is_name};
 ghost use Rattle.souper_ir.specs.Joining.{IsLines};
-ghost use Rattle.souper_stream.specs.Lines.{last_word, line_word, shows_line, defines, NoStart};
+ghost use Rattle.souper_stream.specs.Lines.{last_word, line_word, shows_line, defines, starts_line, NoStart};
+ghost use Rattle.souper_stream.specs.Pieces.{tokens_of, ends_first, QuietAfter};
 ghost use Rattle.souper_stream.specs.Reading.{IsTaken};
-ghost use Rattle.souper_stream.specs.Seams.{IsEndLine, StartsLine, IsSeam};
+ghost use Rattle.souper_stream.specs.Seams.{IsEndLine, IsSeam};
 
 use crate::ends::StreamItem;
 use souper_lexer::{Fault, Lexer, Token};
@@ -54,17 +56,17 @@ fn next_token<'a>(lexer: &mut Lexer<'a>) -> Result<Option<(usize, Token<'a>)>, F
     Ok(ahead)
 }
 
-// Whether neither a statement nor one of an item's last lines begins in the remaining tokens, and no fault follows them.
-fn is_quiet(lexer: &mut Lexer<'_>) -> bool
-    ensures tokens { result ≡ true → NoStart (kinds lexer.old.tokens) }
-    ensures sound { result ≡ true → lexer.old.fault ≡ false }
+// Whether neither a statement nor one of an item's last lines begins in the remaining tokens, up to a fault.
+fn starts_none(lexer: &mut Lexer<'_>) -> bool
+    ensures none { (result ≡ true) ↔ NoStart (kinds lexer.old.tokens) }
+    ensures fault { lexer.new.fault ≡ lexer.old.fault }
 {
     let mut named = false;
     'tokens: loop {
         let token = match next_token(lexer) {
             Ok(Some((_, token))) => token,
             Ok(None) => return true,
-            Err(_) => return false,
+            Err(_) => return true,
         };
         if shows_line(named, token) {
             return false;
@@ -73,15 +75,51 @@ fn is_quiet(lexer: &mut Lexer<'_>) -> bool
     }
 }
 
+// The same, and no fault follows.
+fn is_quiet(lexer: &mut Lexer<'_>) -> bool
+    ensures tokens { result ≡ true → NoStart (kinds lexer.old.tokens) }
+    ensures sound { result ≡ true → lexer.old.fault ≡ false }
+{
+    starts_none(lexer)
+        && match next_token(lexer) {
+            Ok(None) => true,
+            _ => false,
+        }
+}
+
+// Whether the next token is a word that an item ends with.
+fn takes_end_word<T: StreamItem>(lexer: &mut Lexer<'_>) -> bool
+    ensures word { result ≡ ends_first T.item_type (kinds lexer.old.tokens) }
+    ensures taken { result ≡ true → (token : ℕ × Lexeme) × (lexer.old.tokens ≡ token ∷ lexer.new.tokens) }
+    ensures fault { lexer.new.fault ≡ lexer.old.fault }
+{
+    match next_token(lexer) {
+        Ok(Some((_, Token::Ident(word)))) => T::ends_with(word),
+        _ => false,
+    }
+}
+
 // Whether the lines have the tokens of the line that an item ends with.
 fn is_end_line<T: StreamItem>(lines: &str) -> bool
     ensures { result ≡ true → IsEndLine T.item_type lines.now }
 {
     let mut lexer = Lexer::new(lines);
-    match next_token(&mut lexer) {
-        Ok(Some((_, Token::Ident(word)))) => T::ends_with(word) && is_quiet(&mut lexer),
-        _ => false,
-    }
+    takes_end_word::<T>(&mut lexer) && is_quiet(&mut lexer)
+}
+
+// Whether a word that an item ends with begins the lines.
+pub(crate) fn begins_end_line<T: StreamItem>(lines: &str) -> bool
+    ensures { result ≡ ends_first T.item_type (tokens_of lines.now) }
+{
+    takes_end_word::<T>(&mut Lexer::new(lines))
+}
+
+// Whether a word that an item ends with begins the lines, and no other line starts after it, up to a fault.
+pub(crate) fn shows_end_line<T: StreamItem>(lines: &str) -> bool
+    ensures { (result ≡ true) ↔ ((ends_first T.item_type (tokens_of lines.now) ≡ true) × QuietAfter (tokens_of lines.now)) }
+{
+    let mut lexer = Lexer::new(lines);
+    takes_end_word::<T>(&mut lexer) && starts_none(&mut lexer)
 }
 
 // Whether the token, after a name, says that the name is defined.
@@ -96,9 +134,8 @@ fn defines(token: Token<'_>) -> bool
 }
 
 // Whether the line begins with a statement, or is one of an item's last lines.
-fn starts_line(line: &str) -> bool
-    requires { IsLines line.now }
-    ensures { result ≡ true → StartsLine line.now }
+pub(crate) fn starts_line(line: &str) -> bool
+    ensures { result ≡ starts_line (tokens_of line.now) }
 {
     let mut lexer = Lexer::new(line);
     let first = match next_token(&mut lexer) {

@@ -102,7 +102,7 @@ fn take_items<T: StreamItem + Drop, S: Sink<T>>(
 }
 
 // The error of a read.
-fn read_error(fault: io::Error) -> ParseError
+pub(crate) fn read_error(fault: io::Error) -> ParseError
     ensures { kind_of result ≡ ParseErrorKind.Parse → ⊥ }
 {
     if fault.kind() == ErrorKind::OutOfMemory {
@@ -113,7 +113,12 @@ fn read_error(fault: io::Error) -> ParseError
 }
 
 // Gives an error of what is held its place in the stream.
-fn place(alloc: Global, held: &Held, error: ParseError, filename: Option<&str>) -> ParseError
+pub(crate) fn place(
+    alloc: Global,
+    held: &Held,
+    error: ParseError,
+    filename: Option<&str>,
+) -> ParseError
     requires { IfSome (offset_of error) (λ offset. held.now.skipped + offset ≤ length held.now.bytes.items) }
     ensures { kind_of result ≡ ParseErrorKind.Parse → IsLocatedAfter (option_copied filename.entry) held.now.before held.now.bytes.items held.now.skipped error result }
 {

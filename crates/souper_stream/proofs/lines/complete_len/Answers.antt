@@ -1,8 +1,8 @@
-use Rattle.std.proofs.Common.{ℕ, List, take, sym, subst, arith}
+use Rattle.std.proofs.Common.{ℕ, List, take, sym, ◌∙◌, subst, arith}
 use Rattle.std.proofs.lemmas.Str.{IsCharBoundary-start}
 use Rattle.souper_ir.specs.Joining.{IsLines}
 use Rattle.souper_stream.specs.Seams.{IsEndLine, StartsLine}
-use Rattle.souper_stream.proofs.Slices.{lines_boundary, lines_between, start_at, seam_at}
+use Rattle.souper_stream.proofs.Slices.{lines_boundary, lines_between, line_shown, start_at, seam_at}
 use Rattle.souper_stream.proofs.lines.complete_len.Goals as goal
 
 pub range-line-requires-clause-start_boundary : goal.range-line-requires-clause-start_boundary
@@ -43,12 +43,6 @@ returns-in-loop-end-clause-seam g c = λ some.
 pub returns-clause-boundary : goal.returns-clause-boundary
 returns-clause-boundary g c = IsCharBoundary-start c.args.text.now c.utf8.text
 
-pub starts_line-requires : goal.starts_line-requires
-starts_line-requires g c =
-    let below = c.lines_len-start.ensures.bound in
-    subst (λ (x : List ℕ). IsLines x) (sym c.range-line.ensures.value)
-    (lines_between c.args.text.now c.lines_len-start.result c.loop-end.end (omega arith) c.loop-end.invariant.bound c.loop-end.invariant.lines)
-
 pub loop-end-preserved-then-starts_line : goal.loop-end-preserved-then-starts_line
 loop-end-preserved-then-starts_line g c =
     let bound = c.loop-end.invariant.bound in
@@ -57,6 +51,7 @@ loop-end-preserved-then-starts_line g c =
     record {
       bound = omega arith;
       lines = lines;
-      next = start_at c.args.text.now c.lines_len-start.result c.loop-end.end (omega arith) bound lines
-          (subst (λ (x : List ℕ). StartsLine x) c.range-line.ensures.value (c.starts_line.ensures c.if-starts_line.true));
+      next = start_at c.args.text.now c.lines_len-start.result c.loop-end.end (omega arith) bound lines (subst (λ (x : List ℕ). StartsLine x) c.range-line.ensures.value
+          (line_shown c.range-line.result.now c.range-line.utf8 (subst (λ (x : List ℕ). IsLines x) (sym c.range-line.ensures.value) (lines_between c.args.text.now c.lines_len-start.result c.loop-end.end (omega arith) bound c.loop-end.invariant.lines))
+          (sym c.starts_line.ensures ∙ c.if-starts_line.true)));
     }

@@ -1,0 +1,367 @@
+-- One turn of the reading of a stream piece by piece: a line is read, and the piece goes on or ends.
+use Rattle.std.proofs.Common.{◌≡◌, inl, inr, ℕ, ◌+◌, ◌-◌, ◌<◌, ◌≤◌, Bool, true, false, List, [], ◌∷◌, ◌++◌, length, take, drop, Option, Some, None, refl, sym, ap, ◌∙◌, subst, arith, append_assoc, append-nil, length-append}
+use Rattle.std.specs.Prelude.{IfSome, vec_len}
+use Rattle.std.specs.List.{AllByRecursion}
+use Rattle.std.specs.Io.KnownBytes.{Consumes}
+use Rattle.std.proofs.lemmas.List.{take_all, length-drop, drop-append-le}
+use Rattle.std.proofs.Math.Seq.{take-append_seam, drop-append_seam}
+use Rattle.std.proofs.KnownBytes.{Consumes-nil, Consumes-trans}
+use Rattle.souper_graph.specs.Values.{Item}
+use Rattle.souper_graph.specs.Syntax.Spelling.{ItemType, SpellsNone}
+use Rattle.souper_ir.specs.declared.parse.error.ParseError.{ParseError}
+use Rattle.souper_ir.specs.declared.parse.error.ParseErrorKind.TheVariants.{Parse}
+use Rattle.souper_ir.specs.Answers.{IsStrError}
+use Rattle.souper_ir.specs.Errors.{kind_of, IsPlacedAfter, IsLocatedAfter}
+use Rattle.souper_ir.specs.Sinks.{TakesText, TakesPrefix}
+use Rattle.souper_stream.specs.declared.held.Held.{Held}
+use Rattle.souper_stream.specs.declared.pieces.PieceReader.{PieceReader}
+use Rattle.souper_stream.specs.Holding.{fresh, HoldsAfter, Forgets}
+use Rattle.souper_stream.specs.Pieces.{Line, concat, IsLine, IsLastLine, AreLines, EndsPiece, StartsPiece, IsUncut, AreCut, all_lines}
+use Rattle.souper_stream.specs.PieceReading.{ReadsLine, HasLines, Passes, and_next, HasBegun, HasPieces, HasAll, holding, IsReady, IsNext, RefusesBytes, IsPlacedIn, TakesPiece, RefusesPiece}
+use Rattle.souper_stream.specs.Reading.{AreAll}
+use Rattle.souper_stream.proofs.Nodes.{all_append}
+use Rattle.souper_stream.proofs.Bytes.{all_after}
+use Rattle.souper_stream.proofs.Forgetting.{after_none, parts_read, fresh_more, after_more, after_forgot, after_placed}
+use Rattle.souper_stream.proofs.Keeping.{str_offset}
+use Rattle.souper_stream.proofs.Turns.{located_kind}
+use Rattle.souper_stream.proofs.Lined.{concat-append, all_back, no_lines, ends_some, end_within}
+
+-- ---- lists of lines and of pieces
+
+all_lines_snoc : (ps : List (List Line)) (p : List Line) → all_lines (ps ++ p ∷ []) ≡ all_lines ps ++ p
+all_lines_snoc [] p = append-nil p
+all_lines_snoc (q ∷ ps) p = ap (λ (x : List Line). q ++ x) (all_lines_snoc ps p) ∙ sym (append_assoc q (all_lines ps) p)
+
+pub done_more : (ps : List (List Line)) (p : List Line) → concat (all_lines (ps ++ p ∷ [])) ≡ concat (all_lines ps) ++ concat p
+done_more ps p = ap concat (all_lines_snoc ps p) ∙ concat-append (all_lines ps) p
+
+are_lines_more : (ls : List Line) (l : Line) → AllByRecursion IsLine ls → IsLastLine l → AreLines (ls ++ l ∷ [])
+are_lines_more [] l h last = last
+are_lines_more (x ∷ []) l h last = (h.0, last)
+are_lines_more (x ∷ (y ∷ ls)) l h last = (h.0, are_lines_more (y ∷ ls) l h.1 last)
+
+line_some : (l : Line) → IsLastLine l → 0 < length l
+line_some l (inl h) = let e = ap length h.2 in let n = length-append h.0 (10 ∷ []) in omega arith
+line_some l (inr h) = h.1
+
+first_some : (l : Line) (ls : List Line) → AreLines (l ∷ ls) → 0 < length l
+first_some l [] h = line_some l h
+first_some l (m ∷ ls) h = line_some l (inl h.0)
+
+pub lines_back : (xs ys : List Line) → AreLines (xs ++ ys) → AreLines ys
+lines_back [] ys h = h
+lines_back (x ∷ []) [] h = tt
+lines_back (x ∷ []) (y ∷ ys) h = h.1
+lines_back (x ∷ (z ∷ xs)) ys h = lines_back (z ∷ xs) ys h.1
+
+-- lines are no bytes only if there are none
+no_bytes : (xs ls : List Line) → AreLines (xs ++ ls) → length (concat ls) ≡ 0 → ls ≡ []
+no_bytes xs [] h e = refl
+no_bytes xs (l ∷ ls) h e = let some = first_some l ls (lines_back xs (l ∷ ls) h) in let n = length-append l (concat ls) in absurd (omega arith)
+
+starts_longer : (ls more : List Line) → StartsPiece ls → StartsPiece (ls ++ more)
+starts_longer [] more h = absurd h
+starts_longer (l ∷ ls) more h = h
+
+cut_longer : (k : ItemType) (ps : List (List Line)) (l : Line) (ls more : List Line) → AreCut k (ps ++ (l ∷ ls) ∷ []) → AreCut k (ps ++ (l ∷ (ls ++ more)) ∷ [])
+cut_longer k [] l ls more h = tt
+cut_longer k (p ∷ []) l ls more h = (h.0, h.1, tt)
+cut_longer k (p ∷ (q ∷ ps)) l ls more h = (h.0, h.1, cut_longer k (q ∷ ps) l ls more h.2)
+
+cut_more : (k : ItemType) (ps : List (List Line)) (p q : List Line) → AreCut k (ps ++ p ∷ []) → EndsPiece k p → StartsPiece q → AreCut k ((ps ++ p ∷ []) ++ q ∷ [])
+cut_more k [] p q h e s = (e, s, tt)
+cut_more k (r ∷ []) p q h e s = (h.0, h.1, (e, s, tt))
+cut_more k (r ∷ (t ∷ ps)) p q h e s = (h.0, h.1, cut_more k (t ∷ ps) p q h.2 e s)
+
+-- the next piece with more lines
+next_longer : (k : ItemType) (ps : List (List Line)) (ls : List Line) (l : Line) → (ls ≡ [] → ps ≡ []) → AreCut k (and_next ps ls) → AreCut k (and_next ps (ls ++ l ∷ []))
+next_longer k ps [] l none h = rw (none refl) tt
+next_longer k ps (x ∷ ls) l none h = cut_longer k ps x ls (l ∷ []) h
+
+next_piece : (k : ItemType) (ps : List (List Line)) (ls : List Line) → AreCut k (and_next ps ls) → (ls ≡ [] → ⊥) → AreCut k (ps ++ ls ∷ [])
+next_piece k ps [] h some = absurd (some refl)
+next_piece k ps (l ∷ ls) h some = h
+
+nonempty : (ls : List Line) (l : Line) → ls ++ l ∷ [] ≡ [] → ⊥
+nonempty [] l e = cc
+nonempty (x ∷ ls) l e = cc
+
+-- ---- one turn
+
+-- nothing was read
+pub begun_none : (k : ItemType) (start : Option (List ℕ)) (p : PieceReader) → p.held.bytes.items ≡ [] → p.held.skipped ≡ 0 → p.held.before.bytes ≡ 0 → p.held.before.lines ≡ 0 → p.end ≡ None → p.ended ≡ false → HasPieces k start start [] p
+begun_none k start p none zero_is b l end ended = (
+  [],
+  record {
+    read = [];
+    consumed = Consumes-nil start;
+    held = after_none p.held none zero_is b l;
+    next = subst (λ (x : List ℕ). HasLines k x p.end []) (sym (λ i. drop (zero_is i) (none i))) (subst (λ (x : Option ℕ). HasLines k [] x []) (sym end) (no_lines k));
+    lines = tt;
+    cut = tt;
+    uncut = tt;
+    whole = λ e. tt;
+    none = λ e f. refl;
+    all_read = λ e. absurd cc;
+  },
+)
+
+-- a line was read into what is held, and the fields of the reader are these
+pub record Turn (mid after : Option (List ℕ)) (p q : PieceReader) (line : Line) : Type 0 where
+  pub reads : ReadsLine mid after p.held.bytes.items q.held.bytes.items q.ended line
+  pub skipped : q.held.skipped ≡ p.held.skipped
+  pub counted : q.held.before ≡ p.held.before
+  pub going : p.ended ≡ false
+
+module _ (k : ItemType) (start mid after : Option (List ℕ)) (ps : List (List Line)) (ls : List Line) (p q : PieceReader) (line : Line) (h : HasBegun k start mid ps ls p) (t : Turn mid after p q line) where
+  fresh_now : fresh q.held ≡ fresh p.held ++ line
+  fresh_now = fresh_more h.read line (concat (all_lines ps)) p.held q.held h.held t.reads.held t.skipped
+
+  held_now : HoldsAfter (h.read ++ line) (concat (all_lines ps)) q.held
+  held_now = after_more h.read line (concat (all_lines ps)) p.held q.held h.held t.reads.held t.skipped t.counted
+
+  consumed_now : Consumes start after (h.read ++ line)
+  consumed_now = Consumes-trans start mid after h.read line h.consumed t.reads.consumed
+
+  all_now : q.ended ≡ true → AreAll start (h.read ++ line)
+  all_now e = all_after start mid h.read line h.consumed (t.reads.all_read e)
+
+  last_line : 0 < length line → IsLastLine line
+  last_line some = under q.ended refl
+    where
+      under : (b : Bool) → q.ended ≡ b → IsLastLine line
+      under false e = inl (t.reads.whole e)
+      under true e = inr (t.reads.part e, some)
+
+  -- nothing was left to read
+  pub turn_end : line ≡ [] → q.end ≡ p.end → (e : q.ended ≡ true) → HasPieces k start after ps q
+  turn_end none end e = (
+    ls,
+    record {
+      read = h.read ++ line;
+      consumed = consumed_now;
+      held = held_now;
+      next = subst (λ (x : Option ℕ). HasLines k (fresh q.held) x ls) (sym end) (subst (λ (x : List ℕ). HasLines k x p.end ls) (sym (fresh_now ∙ ap (λ (x : List ℕ). fresh p.held ++ x) none ∙ append-nil (fresh p.held))) h.next);
+      lines = h.lines;
+      cut = h.cut;
+      uncut = h.uncut;
+      whole = λ f. absurd cc;
+      none = λ f. absurd cc;
+      all_read = all_now;
+    },
+  )
+
+  -- the piece goes on
+  pub turn_more : 0 < length line → HasLines k (fresh p.held ++ line) q.end (ls ++ line ∷ []) → HasPieces k start after ps q
+  turn_more some next = (
+    ls ++ line ∷ [],
+    record {
+      read = h.read ++ line;
+      consumed = consumed_now;
+      held = held_now;
+      next = subst (λ (x : List ℕ). HasLines k x q.end (ls ++ line ∷ [])) (sym fresh_now) next;
+      lines = subst (λ (x : List Line). AreLines x) (append_assoc (all_lines ps) ls (line ∷ [])) (are_lines_more (all_lines ps ++ ls) line (h.whole t.going) (last_line some));
+      cut = next_longer k ps ls line (h.none t.going) h.cut;
+      uncut = h.uncut;
+      whole = λ e. subst (λ (x : List Line). AllByRecursion IsLine x) (append_assoc (all_lines ps) ls (line ∷ [])) (all_append IsLine (all_lines ps ++ ls) (line ∷ []) (h.whole t.going) (t.reads.whole e, tt));
+      none = λ e f. absurd (nonempty ls line f);
+      all_read = all_now;
+    },
+  )
+
+  -- the piece has ended before the line
+  pub turn_cut : 0 < length line → EndsPiece k ls → StartsPiece (line ∷ []) → HasLines k line q.end (line ∷ []) → IsNext k start after ps q (length (fresh p.held))
+  turn_cut some ends starts next = (
+    λ e. absurd (some_piece ls ends (no_bytes (all_lines ps) ls h.lines (sym (ap length h.next.whole) ∙ e))),
+    λ e. (
+      ls,
+      record {
+        read = h.read ++ line;
+        consumed = consumed_now;
+        held = held_now;
+        within = let n = length-append (fresh p.held) line in let m = ap length fresh_now in omega arith;
+        part = part ∙ h.next.whole;
+        then = λ held after_is rest. (
+          line ∷ [],
+          record {
+            read = h.read ++ line;
+            consumed = consumed_now;
+            held = subst (λ (x : List ℕ). HoldsAfter (h.read ++ line) x held) (ap (λ (x : List ℕ). concat (all_lines ps) ++ x) (part ∙ h.next.whole) ∙ sym (done_more ps ls)) after_is;
+            next = subst (λ (x : List ℕ). HasLines k x q.end (line ∷ [])) (sym (rest ∙ left)) next;
+            lines = subst (λ (x : List Line). AreLines (x ++ line ∷ [])) (sym (all_lines_snoc ps ls)) (are_lines_more (all_lines ps ++ ls) line (h.whole t.going) (last_line some));
+            cut = cut_more k ps ls (line ∷ []) (next_piece k ps ls h.cut (some_piece ls ends)) ends starts;
+            uncut = all_append (IsUncut k) ps (ls ∷ []) h.uncut (h.next.uncut, tt);
+            whole = λ e. subst (λ (x : List Line). AllByRecursion IsLine (x ++ line ∷ [])) (sym (all_lines_snoc ps ls)) (all_append IsLine (all_lines ps ++ ls) (line ∷ []) (h.whole t.going) (t.reads.whole e, tt));
+            none = λ e f. absurd cc;
+            all_read = all_now;
+          },
+        );
+      },
+    ),
+  )
+    where
+      some_piece : (xs : List Line) → EndsPiece k xs → xs ≡ [] → ⊥
+      some_piece xs e none = ends_some k (subst (λ (x : List Line). EndsPiece k x) none e)
+
+      part : take (length (fresh p.held)) (fresh q.held) ≡ fresh p.held
+      part = ap (λ (x : List ℕ). take (length (fresh p.held)) x) fresh_now ∙ take-append_seam (fresh p.held) line
+
+      left : drop (length (fresh p.held)) (fresh q.held) ≡ line
+      left = ap (λ (x : List ℕ). drop (length (fresh p.held)) x) fresh_now ∙ drop-append_seam (fresh p.held) line
+
+-- the stream has ended: what is left is the last piece
+pub turn_last : (k : ItemType) (start now : Option (List ℕ)) (ps : List (List Line)) (ls : List Line) (p q : PieceReader) → HasBegun k start now ps ls p → p.ended ≡ true → q.held ≡ p.held → q.end ≡ None → q.ended ≡ true → IsNext k start now ps q (length (fresh p.held))
+turn_last k start now ps ls p q h ended held_is end ended_now = (
+  λ e. all (no_bytes (all_lines ps) ls h.lines (sym (ap length h.next.whole) ∙ e)) e,
+  λ some. (
+    ls,
+    record {
+      read = h.read;
+      consumed = h.consumed;
+      held = subst (λ (x : Held). HoldsAfter h.read (concat (all_lines ps)) x) (sym held_is) h.held;
+      within = let n = ap (λ (x : Held). length (fresh x)) held_is in omega arith;
+      part = part ∙ h.next.whole;
+      then = λ held after_is rest. (
+        [],
+        record {
+          read = h.read;
+          consumed = h.consumed;
+          held = subst (λ (x : List ℕ). HoldsAfter h.read x held) (ap (λ (x : List ℕ). concat (all_lines ps) ++ x) (part ∙ h.next.whole) ∙ sym (done_more ps ls)) after_is;
+          next = subst (λ (x : List ℕ). HasLines k x q.end []) (sym (rest ∙ left)) (subst (λ (x : Option ℕ). HasLines k [] x []) (sym end) (no_lines k));
+          lines = subst (λ (x : List Line). AreLines x) (sym (append-nil (all_lines (ps ++ ls ∷ [])) ∙ all_lines_snoc ps ls)) h.lines;
+          cut = next_piece k ps ls h.cut (λ none. let e = ap length (h.next.whole ∙ ap concat none) in absurd (omega arith));
+          uncut = all_append (IsUncut k) ps (ls ∷ []) h.uncut (h.next.uncut, tt);
+          whole = λ e. absurd cc;
+          none = λ e. absurd cc;
+          all_read = λ e. h.all_read ended;
+        },
+      );
+    },
+  ),
+)
+  where
+    part : take (length (fresh p.held)) (fresh q.held) ≡ fresh p.held
+    part = ap (λ (x : Held). take (length (fresh p.held)) (fresh x)) held_is ∙ take_all (length (fresh p.held)) (fresh p.held) (omega arith)
+
+    left : drop (length (fresh p.held)) (fresh q.held) ≡ []
+    left = ap (λ (x : Held). drop (length (fresh p.held)) (fresh x)) held_is ∙ ap (λ (x : List ℕ). drop (length (fresh p.held)) x) (sym (append-nil (fresh p.held))) ∙ drop-append_seam (fresh p.held) []
+
+    no_length : (xs : List ℕ) → length xs ≡ 0 → xs ≡ []
+    no_length [] e = refl
+    no_length (x ∷ xs) e = absurd (omega arith)
+
+    all : ls ≡ [] → length (fresh p.held) ≡ 0 → HasAll k start now ps
+    all none e = (
+      h.read,
+      h.consumed,
+      h.all_read ended,
+      record {
+        whole = parts_read h.read (concat (all_lines ps)) p.held h.held ∙ ap (λ (x : List ℕ). concat (all_lines ps) ++ x) (no_length (fresh p.held) e) ∙ append-nil (concat (all_lines ps));
+        lines = subst (λ (x : List Line). AreLines x) (append-nil (all_lines ps)) (subst (λ (x : List Line). AreLines (all_lines ps ++ x)) none h.lines);
+        cut = subst (λ (x : List Line). AreCut k (and_next ps x)) none h.cut;
+        uncut = h.uncut;
+      },
+    )
+
+-- ---- what was read, by slices
+
+-- the lengths of what is held
+pub fresh_len : (h : Held) (n : ℕ) → n ≡ vec_len h.bytes → length (fresh h) ≡ n - h.skipped
+fresh_len h n e = length-drop h.skipped h.bytes.items ∙ ap (λ (m : ℕ). m - h.skipped) (omega (arith, e, h.bytes.ok))
+
+-- the part of the bytes that is the piece, and the part that is the line
+pub two_slices : (old deref line : List ℕ) (skipped len : ℕ) → deref ≡ old ++ line → len ≡ length old → skipped ≤ length old
+    → (take (len - skipped) (take (length deref - skipped) (drop skipped deref)) ≡ drop skipped old)
+    × (take (length (take (length deref - skipped) (drop skipped deref)) - (len - skipped)) (drop (len - skipped) (take (length deref - skipped) (drop skipped deref))) ≡ line)
+    × (length (take (length deref - skipped) (drop skipped deref)) ≡ (len - skipped) + length line)
+two_slices old deref line skipped len e at within = (
+  (λ i. take (from i) (parts i)) ∙ take-append_seam (drop skipped old) line,
+  (λ i. take (length (parts i) - from i) (drop (from i) (parts i))) ∙ (λ i. take (rest i) (drop-append_seam (drop skipped old) line i)) ∙ take_all (length line) line (omega arith),
+  ap length parts ∙ length-append (drop skipped old) line ∙ ap (λ (n : ℕ). n + length line) (sym from),
+)
+  where
+    parts : take (length deref - skipped) (drop skipped deref) ≡ drop skipped old ++ line
+    parts = take_all (length deref - skipped) (drop skipped deref) (omega (arith, length-drop skipped deref)) ∙ ap (λ (x : List ℕ). drop skipped x) e ∙ drop-append-le skipped old line within
+
+    from : len - skipped ≡ length (drop skipped old)
+    from = ap (λ (n : ℕ). n - skipped) at ∙ sym (length-drop skipped old)
+
+    rest : length (drop skipped old ++ line) - length (drop skipped old) ≡ length line
+    rest = omega (arith, length-append (drop skipped old) line)
+
+module _ (k : ItemType) (start mid after : Option (List ℕ)) (ps : List (List Line)) (p q : PieceReader) (line piece part : List ℕ) (t : Turn mid after p q line) (piece_is : piece ≡ fresh p.held) (part_is : part ≡ line) (some : 0 < length line) (cut : Bool)
+    (passes : (ls : List Line) → HasLines k piece p.end ls → AllByRecursion IsLine ls → Passes k piece ls part cut q.end) where
+  passes_now : (ls : List Line) → HasBegun k start mid ps ls p → Passes k (fresh p.held) ls line cut q.end
+  passes_now ls h =
+      subst (λ (x : List ℕ). Passes k (fresh p.held) ls x cut q.end) part_is (subst (λ (x : List ℕ). Passes k x ls part cut q.end) piece_is
+      (passes ls (subst (λ (x : List ℕ). HasLines k x p.end ls) (sym piece_is) h.next) (all_back IsLine (all_lines ps) ls (h.whole t.going))))
+
+  pub passed_cut : cut ≡ true → HasPieces k start mid ps p → IsNext k start after ps q (length (fresh p.held))
+  passed_cut e (ls, h) = let c = (passes_now ls h).1 e in turn_cut k start mid after ps ls p q line h t some c.0 c.1 c.2
+
+  pub passed_more : cut ≡ false → HasPieces k start mid ps p → HasPieces k start after ps q
+  passed_more e (ls, h) = turn_more k start mid after ps ls p q line h t some ((passes_now ls h).0 e)
+
+-- where `end` is
+pub begun_end : (k : ItemType) (start now : Option (List ℕ)) (ps : List (List Line)) (p : PieceReader) → HasPieces k start now ps p → IfSome p.end (λ e. e + p.held.skipped ≤ vec_len p.held.bytes)
+begun_end k start now ps p (ls, h) = under p.end h.next
+  where
+    under : (e : Option ℕ) → HasLines k (fresh p.held) e ls → IfSome e (λ e. e + p.held.skipped ≤ vec_len p.held.bytes)
+    under None x = tt
+    under (Some e) x = omega (arith, end_within k (fresh p.held) e ls x, length-drop p.held.skipped p.held.bytes.items, h.held.within, p.held.bytes.ok)
+
+pub end_in : (end : Option ℕ) (n s m : ℕ) → n + s ≤ m → IfSome end (λ e. e ≤ n) → IfSome end (λ e. e + s ≤ m)
+end_in None n s m fits h = tt
+end_in (Some e) n s m fits h = omega arith
+
+pub end_longer : (end : Option ℕ) (s n m : ℕ) → n ≤ m → IfSome end (λ e. e + s ≤ n) → IfSome end (λ e. e + s ≤ m)
+end_longer None s n m fits h = tt
+end_longer (Some e) s n m fits h = omega arith
+
+-- if nothing was read, the input has ended
+no_line : (line : Line) → length line ≡ 0 → line ≡ []
+no_line [] e = refl
+no_line (c ∷ line) e = absurd (omega arith)
+
+pub empty_ended : (before after : Option (List ℕ)) (old new : List ℕ) (ended : Bool) (line : Line) → ReadsLine before after old new ended line → length line ≡ 0 → (line ≡ []) × (ended ≡ true)
+empty_ended before after old new true line r e = (no_line line e, refl)
+empty_ended before after old new false line r e = let some = line_some line (inl (r.whole refl)) in absurd (omega arith)
+
+-- ---- the piece that was parsed
+
+-- its refusal
+pub piece_refused : {S : Type 0} (k : ItemType) (file : Option (List ℕ)) (h : Held) (len : ℕ) (holds : S → List Item → Type 0) (old new : S) (text : List ℕ) (e shown : ParseError) → text ≡ take len (fresh h) → len ≤ length (fresh h)
+    → (kind_of e ≡ Parse → TakesPrefix holds k text old new) → IsStrError k None text e → kind_of shown ≡ Parse → IsLocatedAfter file h.before h.bytes.items h.skipped e shown → RefusesBytes k file h len holds old new shown
+piece_refused k file h len holds old new text e shown is within begun error shown_kind located =
+    let kind = located_kind file h.before h.bytes.items h.skipped e shown located shown_kind in
+    let s = str_offset k None text e kind error in
+    let placed_after : IsPlacedAfter file h.before h.bytes.items (h.skipped + s.0) shown = (let l = rw kind at located in rw s.1 at l) in
+    record {
+      none = subst (λ (x : List ℕ). SpellsNone k x) is s.3;
+      begun = subst (λ (x : List ℕ). TakesPrefix holds k x old new) is (begun kind);
+      placed = λ read done held small. (length done + s.0, omega arith, omega (arith, s.2, ap length is, length-append done (take len (fresh h))), after_placed file read done h s.0 shown held shown_kind placed_after small);
+    }
+
+-- the piece was forgotten
+pub piece_done : (k : ItemType) (start now : Option (List ℕ)) (ps : List (List Line)) (p q : PieceReader) (len : ℕ) (piece : List Line) → IsReady k start now ps p len piece → Forgets p.held q.held len → q.end ≡ p.end → q.ended ≡ p.ended → HasPieces k start now (ps ++ piece ∷ []) q
+piece_done k start now ps p q len piece r f end ended =
+    let a = after_forgot r.read (concat (all_lines ps)) p.held q.held len r.held r.within f in
+    let same : holding p q.held ≡ q = (λ i. record { held = q.held; end = sym end i; ended = sym ended i }) in
+    subst (λ (x : PieceReader). HasPieces k start now (ps ++ piece ∷ []) x) same (r.then q.held a.0 a.1)
+
+pub piece_refuses : {S : Type 0} (k : ItemType) (file start now : Option (List ℕ)) (ps : List (List Line)) (p q : PieceReader) (len : ℕ) (piece : List Line) (holds : S → List Item → Type 0) (old new : S) (e : ParseError)
+    → IsReady k start now ps p len piece → Forgets p.held q.held len → q.end ≡ p.end → q.ended ≡ p.ended → RefusesBytes k file p.held len holds old new e → RefusesPiece k file start now ps holds old new q e
+piece_refuses k file start now ps p q len piece holds old new e r f end ended b = record {
+  piece = piece;
+  goes_on = piece_done k start now ps p q len piece r f end ended;
+  none = subst (λ (x : List ℕ). SpellsNone k x) r.part b.none;
+  begun = subst (λ (x : List ℕ). TakesPrefix holds k x old new) r.part b.begun;
+  read = r.read;
+  consumed = r.consumed;
+  placed = subst (λ (x : List ℕ). IsPlacedIn file r.read (concat (all_lines ps)) x e) r.part (b.placed r.read (concat (all_lines ps)) r.held);
+}
+
+pub piece_takes : {S : Type 0} (k : ItemType) (start now : Option (List ℕ)) (ps : List (List Line)) (p q : PieceReader) (len : ℕ) (piece : List Line) (holds : S → List Item → Type 0) (old new : S)
+    → IsReady k start now ps p len piece → Forgets p.held q.held len → q.end ≡ p.end → q.ended ≡ p.ended → TakesText holds k (take len (fresh p.held)) old new → TakesPiece k start now ps holds old new q
+piece_takes k start now ps p q len piece holds old new r f end ended t =
+    (piece, piece_done k start now ps p q len piece r f end ended, subst (λ (x : List ℕ). TakesText holds k x old new) r.part t)

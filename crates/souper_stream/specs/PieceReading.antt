@@ -1,0 +1,109 @@
+-- Definitions. The reading of a stream piece by piece.
+use Rattle.std.specs.Prelude.{◌≡◌, ℕ, ◌+◌, ◌^◌, ◌<◌, ◌≤◌, Bool, true, false, List, [], ◌∷◌, ◌++◌, length, take, drop, Option, Some, IfSome, IsUtf8}
+use Rattle.std.specs.List.{AllByRecursion}
+use Rattle.std.specs.Io.KnownBytes.{Consumes}
+use Rattle.souper_graph.specs.Syntax.Tokens.{IsOneLine}
+use Rattle.souper_graph.specs.Syntax.Spelling.{ItemType, SpellsNone}
+use Rattle.souper_graph.specs.Values.{Item}
+use Rattle.souper_ir.specs.declared.parse.error.ParseError.{ParseError}
+use Rattle.souper_ir.specs.Errors.{IsRefusalAt}
+use Rattle.souper_ir.specs.Sinks.{TakesText, TakesPrefix}
+use Rattle.souper_stream.specs.declared.held.Held.{Held}
+use Rattle.souper_stream.specs.declared.pieces.PieceReader.{PieceReader}
+use Rattle.souper_stream.specs.Holding.{fresh, HoldsAfter}
+use Rattle.souper_stream.specs.Pieces.{Line, concat, IsLine, AreLines, tokens_of, ends_first, AreEndLines, EndsPiece, StartsPiece, IsUncut, AreCut, all_lines, ArePieces}
+use Rattle.souper_stream.specs.Reading.{AreAll}
+
+-- a line was read; if the input has ended, it has no newline, or is empty
+pub record ReadsLine (before after : Option (List ℕ)) (old new : List ℕ) (ended : Bool) (line : Line) : Type 0 where
+  pub held : new ≡ old ++ line
+  pub consumed : Consumes before after line
+  pub whole : ended ≡ false → IsLine line
+  pub part : ended ≡ true → IsOneLine line
+  pub all_read : ended ≡ true → AreAll before line
+
+-- a word that an item ends with begins the first of these lines
+abbrev pub FirstEnds : ItemType → List Line → Type 0
+FirstEnds k [] = ⊥
+FirstEnds k (l ∷ ls) = ends_first k (tokens_of l) ≡ true
+
+-- The bytes are these lines of a piece. If an item ends with the last of them, the first of those it ends with is at `end`.
+pub record HasLines (k : ItemType) (bytes : List ℕ) (end : Option ℕ) (ls : List Line) : Type 0 where
+  pub whole : bytes ≡ concat ls
+  pub utf8 : AllByRecursion IsUtf8 ls
+  pub uncut : IsUncut k ls
+  pub found : (front back : List Line) → ls ≡ front ++ back → AreEndLines k back → end ≡ Some (length (concat front))
+  pub end_is : IfSome end (λ e. (front : List Line) × (back : List Line) × (ls ≡ front ++ back) × (e ≡ length (concat front)) × FirstEnds k back)
+
+-- the line is one more of the piece, or the first of the next
+abbrev pub Passes : ItemType → List ℕ → List Line → Line → Bool → Option ℕ → Type 0
+Passes k piece ls line cut end =
+    (cut ≡ false → HasLines k (piece ++ line) end (ls ++ line ∷ []))
+    × (cut ≡ true → EndsPiece k ls × StartsPiece (line ∷ []) × HasLines k line end (line ∷ []))
+
+-- the pieces, and the lines of the next, if there are any
+abbrev pub and_next : List (List Line) → List Line → List (List Line)
+and_next ps [] = ps
+and_next ps (l ∷ ls) = ps ++ (l ∷ ls) ∷ []
+
+-- These pieces of a stream were read and parsed, and these lines of the next were read.
+pub record HasBegun (k : ItemType) (start now : Option (List ℕ)) (ps : List (List Line)) (ls : List Line) (p : PieceReader) : Type 0 where
+  pub read : List ℕ
+  pub consumed : Consumes start now read
+  pub held : HoldsAfter read (concat (all_lines ps)) p.held
+  pub next : HasLines k (fresh p.held) p.end ls
+  pub lines : AreLines (all_lines ps ++ ls)
+  pub cut : AreCut k (and_next ps ls)
+  pub uncut : AllByRecursion (IsUncut k) ps
+  pub whole : p.ended ≡ false → AllByRecursion IsLine (all_lines ps ++ ls)
+  pub none : p.ended ≡ false → ls ≡ [] → ps ≡ []
+  pub all_read : p.ended ≡ true → AreAll start read
+
+-- these pieces of a stream were read and parsed
+abbrev pub HasPieces : ItemType → Option (List ℕ) → Option (List ℕ) → List (List Line) → PieceReader → Type 0
+HasPieces k start now ps p = (ls : List Line) × HasBegun k start now ps ls p
+
+-- the stream has ended, and these are its pieces
+abbrev pub HasAll : ItemType → Option (List ℕ) → Option (List ℕ) → List (List Line) → Type 0
+HasAll k start now ps = (read : List ℕ) × Consumes start now read × AreAll start read × ArePieces k read ps
+
+-- the reader with other bytes held
+abbrev pub holding : PieceReader → Held → PieceReader
+holding p h = record { held = h; end = p.end; ended = p.ended }
+
+-- the next piece has so many bytes: the reader will have read it too, once they are forgotten
+pub record IsReady (k : ItemType) (start now : Option (List ℕ)) (ps : List (List Line)) (p : PieceReader) (len : ℕ) (piece : List Line) : Type 0 where
+  pub read : List ℕ
+  pub consumed : Consumes start now read
+  pub held : HoldsAfter read (concat (all_lines ps)) p.held
+  pub within : len ≤ length (fresh p.held)
+  pub part : take len (fresh p.held) ≡ concat piece
+  pub then : (h : Held) → HoldsAfter read (concat (all_lines ps) ++ take len (fresh p.held)) h → fresh h ≡ drop len (fresh p.held) → HasPieces k start now (ps ++ piece ∷ []) (holding p h)
+
+-- the stream has ended, or the next piece was read
+abbrev pub IsNext : ItemType → Option (List ℕ) → Option (List ℕ) → List (List Line) → PieceReader → ℕ → Type 0
+IsNext k start now ps p len = (len ≡ 0 → HasAll k start now ps) × (0 < len → (piece : List Line) × IsReady k start now ps p len piece)
+
+-- the refusal of a piece, after what is done, has and shows its place in what was read
+abbrev pub IsPlacedIn : Option (List ℕ) → List ℕ → List ℕ → List ℕ → ParseError → Type 0
+IsPlacedIn file read done piece e = length read + 1 < 2 ^ 64 → (offset : ℕ) × (length done ≤ offset) × (offset ≤ length (done ++ piece)) × IsRefusalAt file read offset e
+
+-- the first bytes that are held, so many, spell no items
+pub record RefusesBytes {S : Type 0} (k : ItemType) (file : Option (List ℕ)) (h : Held) (len : ℕ) (holds : S → List Item → Type 0) (old new : S) (e : ParseError) : Type 0 where
+  pub none : SpellsNone k (take len (fresh h))
+  pub begun : TakesPrefix holds k (take len (fresh h)) old new
+  pub placed : (read done : List ℕ) → HoldsAfter read done h → IsPlacedIn file read done (take len (fresh h)) e
+
+-- the next piece spells items, and the sink took them
+abbrev pub TakesPiece : {S : Type 0} → ItemType → Option (List ℕ) → Option (List ℕ) → List (List Line) → (S → List Item → Type 0) → S → S → PieceReader → Type 0
+TakesPiece k start now ps holds old new p = (piece : List Line) × HasPieces k start now (ps ++ piece ∷ []) p × TakesText holds k (concat piece) old new
+
+-- The next piece spells no items. The sink took items that it begins with. The refusal has and shows its place in what was read.
+pub record RefusesPiece {S : Type 0} (k : ItemType) (file start now : Option (List ℕ)) (ps : List (List Line)) (holds : S → List Item → Type 0) (old new : S) (p : PieceReader) (e : ParseError) : Type 0 where
+  pub piece : List Line
+  pub goes_on : HasPieces k start now (ps ++ piece ∷ []) p
+  pub none : SpellsNone k (concat piece)
+  pub begun : TakesPrefix holds k (concat piece) old new
+  pub read : List ℕ
+  pub consumed : Consumes start now read
+  pub placed : IsPlacedIn file read (concat (all_lines ps)) (concat piece) e

@@ -1,0 +1,95 @@
+-- Definitions. The pieces of a text: lines, cut where an item ends and a line of the next begins, as far as tokens show it. What
+-- follows a fault in the line that an item ends with does not count, so that the next piece can be read though this one is
+-- refused.
+use Rattle.std.specs.Prelude.{◌≡◌, ◌⊎◌, ◌↔◌, ℕ, ◌<◌, true, List, [], ◌∷◌, ◌++◌, length, Bool, false}
+use Rattle.std.specs.List.{AllByRecursion}
+use Rattle.souper_graph.specs.Values.{Item}
+use Rattle.souper_graph.specs.Syntax.Tokens.{Lexeme, ident, IsOneLine}
+use Rattle.souper_graph.specs.Syntax.Spelling.{kinds, ItemType, TextSpells}
+use Rattle.souper_lexer.specs.TokenReading.{lexed_of}
+use Rattle.souper_stream.specs.Lines.{end_word, starts_line, NoStart}
+
+-- the bytes of a line, without a newline but at the end
+abbrev pub Line : Type 0
+Line = List ℕ
+
+-- the bytes of all lines
+abbrev pub concat : List Line → List ℕ
+concat [] = []
+concat (l ∷ ls) = l ++ concat ls
+
+-- a line with its newline
+abbrev pub IsLine : Line → Type 0
+IsLine l = (body : List ℕ) × IsOneLine body × (l ≡ body ++ 10 ∷ [])
+
+-- the last line of a text, which may have none
+abbrev pub IsLastLine : Line → Type 0
+IsLastLine l = IsLine l ⊎ (IsOneLine l × (0 < length l))
+
+-- the lines of a text
+abbrev pub AreLines : List Line → Type 0
+AreLines [] = Unit {0}
+AreLines (l ∷ []) = IsLastLine l
+AreLines (l ∷ (m ∷ ls)) = IsLine l × AreLines (m ∷ ls)
+
+-- the tokens of a text, up to a fault if it has one
+abbrev pub tokens_of : List ℕ → List Lexeme
+tokens_of bs = kinds (lexed_of 0 bs).tokens
+
+-- the first token is a word that an item of the type ends with
+abbrev pub ends_first : ItemType → List Lexeme → Bool
+ends_first k (ident w ∷ ts) = end_word k w
+ends_first k _ = false
+
+-- at none of the tokens after the first does a statement or one of an item's last lines begin
+abbrev pub QuietAfter : List Lexeme → Type 0
+QuietAfter [] = Unit {0}
+QuietAfter (t ∷ ts) = NoStart ts
+
+-- the lines are those that an item of the type ends with: a word of it begins the first, and after that no other line starts
+pub record AreEndLines (k : ItemType) (ls : List Line) : Type 0 where
+  pub first : Line
+  pub others : List Line
+  pub whole : ls ≡ first ∷ others
+  pub ends : ends_first k (tokens_of first) ≡ true
+  pub quiet : QuietAfter (tokens_of (concat ls))
+
+-- an item ends with the last of these lines
+abbrev pub EndsPiece : ItemType → List Line → Type 0
+EndsPiece k ls = (before : List Line) × (last : List Line) × (ls ≡ before ++ last) × AreEndLines k last
+
+-- the first of these lines begins with a statement, or is one of an item's last lines
+abbrev pub StartsPiece : List Line → Type 0
+StartsPiece [] = ⊥
+StartsPiece (l ∷ ls) = starts_line (tokens_of l) ≡ true
+
+-- between none of the lines an item ends and the next begins
+abbrev pub IsUncut : ItemType → List Line → Type 0
+IsUncut k ls = (front back : List Line) → ls ≡ front ++ back → EndsPiece k front → StartsPiece back → ⊥
+
+-- an item ends with each piece but the last, and a line starts with each but the first
+abbrev pub AreCut : ItemType → List (List Line) → Type 0
+AreCut k [] = Unit {0}
+AreCut k (p ∷ []) = Unit {0}
+AreCut k (p ∷ (q ∷ ps)) = EndsPiece k p × StartsPiece q × AreCut k (q ∷ ps)
+
+-- the lines of all pieces
+abbrev pub all_lines : List (List Line) → List Line
+all_lines [] = []
+all_lines (p ∷ ps) = p ++ all_lines ps
+
+-- the text is these pieces: it is cut at each place where it can be cut, and nowhere else
+pub record ArePieces (k : ItemType) (text : List ℕ) (ps : List (List Line)) : Type 0 where
+  pub whole : text ≡ concat (all_lines ps)
+  pub lines : AreLines (all_lines ps)
+  pub cut : AreCut k ps
+  pub uncut : AllByRecursion (IsUncut k) ps
+
+-- each piece spells its items, and the items are those of all
+abbrev pub PiecesSpell : ItemType → List (List Line) → List Item → Type 0
+PiecesSpell k [] ws = ws ≡ []
+PiecesSpell k (p ∷ ps) ws = (xs : List Item) × (ys : List Item) × (ws ≡ xs ++ ys) × TextSpells k (concat p) xs × PiecesSpell k ps ys
+
+-- a text spells what its pieces spell
+abbrev pub SpellsByPieces : Type 0
+SpellsByPieces = (k : ItemType) (text : List ℕ) (ps : List (List Line)) (ws : List Item) → ArePieces k text ps → TextSpells k text ws ↔ PiecesSpell k ps ws

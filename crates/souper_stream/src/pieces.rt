@@ -1,0 +1,207 @@
+//! The pieces of a stream: each is parsed by itself, so that reading can go on after one that is refused.
+ghost use Rattle.std.specs.Prelude.{◌≡◌, ◌↔◌, ◌⊎◌, ◌<◌, ◌≤◌, ◌∷◌, ◌++◌, ◌+◌, ℕ, List, [], length, take, drop, true, false, Option, IsOk, IfOk, IfErr, IfSome, IsErrAnd, OnOk, vec_len, option_copied, IsUtf8};
+ghost use Rattle.std.specs.List.{AllByRecursion};
+ghost use Rattle.souper_graph.specs.Syntax.Spelling.{ItemType, SpellsNone};
+ghost use Rattle.souper_ir.specs.Errors.{kind_of};
+ghost use Rattle.souper_ir.specs.Sinks.{TakesText, TakesPrefix};
+ghost use Rattle.souper_stream.specs.Holding.{fresh, Forgets};
+ghost use Rattle.souper_stream.specs.Pieces.{Line, IsLine, EndsPiece, StartsPiece};
+ghost use Rattle.souper_stream.specs.PieceReading.{HasLines, Passes, ReadsLine, HasPieces, IsNext, RefusesBytes, TakesPiece, RefusesPiece, HasAll};
+
+use crate::ends::StreamItem;
+use crate::held::Held;
+use crate::lines::{begins_end_line, shows_end_line, starts_line};
+use crate::parts::{place, read_error};
+use souper_ir::parse::{ParseError, ParseErrorKind, Result, Sink, parse_into};
+use std::alloc::Global;
+use std::io::{BufRead, ErrorKind};
+use std::{io, str};
+
+fn utf8(bytes: &[u8]) -> io::Result<&str>
+    ensures same { IfOk result (λ text. text.now ≡ bytes.now) }
+    ensures utf8 { IfOk result (λ text. IsUtf8 text.now) }
+{
+    match str::from_utf8(bytes) {
+        Ok(text) => Ok(text),
+        Err(_) => Err(io::Error::from(ErrorKind::InvalidData)),
+    }
+}
+
+// Reads a line, and returns whether the input has ended: it is then empty, or has no newline.
+fn read_line<R: BufRead>(reader: &mut R, bytes: &mut Vec<u8>) -> io::Result<bool>
+    ensures { IfOk result (λ ended. (line : Line) × ReadsLine (R.remaining reader.old) (R.remaining reader.new) bytes.old.items bytes.new.items ended line) }
+{
+    let len = reader.read_until(b'\n', bytes)?;
+    Ok(len == 0 || bytes[bytes.len() - 1] != b'\n')
+}
+
+// Whether an item ends with the lines of a piece. `end` is where the last of them that starts begins, if it begins with a word
+// that an item ends with.
+fn ends_piece<T: StreamItem>(piece: &[u8], end: Option<usize>) -> io::Result<bool>
+    requires { IfSome end (λ e. e ≤ length piece.now) }
+    ensures { IfOk result (λ ends. (ls : List Line) → HasLines T.item_type piece.now end ls → AllByRecursion IsLine ls → (ends ≡ true) ↔ EndsPiece T.item_type ls) }
+{
+    match end {
+        Some(end) => {
+            let last = utf8(&piece[end..])?;
+            Ok(shows_end_line::<T>(last))
+        }
+        None => Ok(false),
+    }
+}
+
+// Whether the piece ends before the line, and `end` after the line: in the next piece, if it does.
+fn pass_line<T: StreamItem>(
+    piece: &[u8],
+    line: &[u8],
+    end: Option<usize>,
+) -> io::Result<(bool, Option<usize>)>
+    requires { IfSome end (λ e. e ≤ length piece.now) }
+    ensures passed { IfOk result (λ r. (ls : List Line) → HasLines T.item_type piece.now end ls → AllByRecursion IsLine ls
+        → Passes T.item_type piece.now ls line.now r.0 r.1) }
+    ensures within { IfOk result (λ r. IfSome r.1 (λ e. e ≤ length piece.now)) }
+{
+    let line = utf8(line)?;
+    if !starts_line(line) {
+        return Ok((false, end));
+    }
+    let is_cut = ends_piece::<T>(piece, end)?;
+    let start = if is_cut { 0 } else { piece.len() };
+    if begins_end_line::<T>(line) {
+        Ok((is_cut, Some(start)))
+    } else {
+        Ok((is_cut, None))
+    }
+}
+
+// Passes the items of the next piece to the sink. It has so many bytes of what is held.
+fn parse_piece<T: StreamItem + Drop, S: Sink<T>>(
+    alloc: Global,
+    held: &Held,
+    len: usize,
+    filename: Option<&str>,
+    sink: &mut S,
+) -> Result<()>
+    requires skipped { held.now.skipped ≤ vec_len held.now.bytes }
+    requires within { len ≤ length (fresh held.now) }
+    ensures taken { OnOk result (TakesText S.holds T.item_type (take len (fresh held.now)) sink.old sink.new) }
+    ensures refused { IfErr result (λ e. kind_of e ≡ ParseErrorKind.Parse → RefusesBytes T.item_type (option_copied filename.entry) held.now len S.holds sink.old sink.new e) }
+{
+    let fresh = &held.bytes[held.skipped..];
+    let text = utf8(&fresh[..len])?;
+    match parse_into::<T, S>(alloc, text, None, sink) {
+        Ok(()) => Ok(()),
+        Err(error) => Err(place(alloc, held, error, filename)),
+    }
+}
+
+/// Reads a stream piece by piece.
+///
+/// Pieces are whole lines: the stream is cut before each line that begins with a statement, or is one of an item's last lines, if
+/// of the piece the last such line begins with the word that an item of the type ends with, and no other statement or last line
+/// begins in it. What follows a fault in that line does not count.
+#[derive(Drop)]
+pub struct PieceReader {
+    held: Held,
+
+    // Where in the piece the last line that starts begins, if it begins with a word that an item ends with.
+    end: Option<usize>,
+
+    // Whether the input has ended.
+    ended: bool,
+}
+
+impl PieceReader {
+    /// A reader for a stream of which nothing was read.
+    pub fn new(alloc: Global) -> PieceReader
+        ensures { (k : ItemType) (start : Option (List ℕ)) → HasPieces k start start [] result }
+    {
+        PieceReader {
+            held: Held::new(alloc),
+            end: None,
+            ended: false,
+        }
+    }
+
+    // Reads up to the end of the next piece, and returns its length in bytes, which is 0 if the stream has ended.
+    fn next_len<T: StreamItem, R: BufRead>(&mut self, reader: &mut R) -> io::Result<usize>
+        requires within { self.old.held.skipped ≤ vec_len self.old.held.bytes }
+        requires end { IfSome self.old.end (λ e. e + self.old.held.skipped ≤ vec_len self.old.held.bytes) }
+        ensures { IfOk result (λ len. (start : Option (List ℕ)) (ps : List (List Line)) → HasPieces T.item_type start (R.remaining reader.old) ps self.old
+            → IsNext T.item_type start (R.remaining reader.new) ps self.new len) }
+    {
+        for _turn in 0..u64::MAX {
+            let start = self.held.bytes.len() - self.held.skipped;
+            if self.ended {
+                self.end = None;
+                return Ok(start);
+            }
+            self.ended = read_line(reader, &mut self.held.bytes)?;
+            let fresh = &self.held.bytes[self.held.skipped..];
+            if fresh.len() == start {
+                continue;
+            }
+            let (is_cut, end) = pass_line::<T>(&fresh[..start], &fresh[start..], self.end)?;
+            self.end = end;
+            if is_cut {
+                return Ok(start);
+            }
+        }
+        Err(io::Error::from(ErrorKind::Other))
+    }
+    // Passes the items of the next piece, which has so many bytes, to the sink, and forgets the piece.
+    fn take_piece<T: StreamItem + Drop, S: Sink<T>>(
+        &mut self,
+        alloc: Global,
+        len: usize,
+        filename: Option<&str>,
+        sink: &mut S,
+    ) -> Result<()>
+        requires some { 0 < len }
+        requires skipped { self.old.held.skipped ≤ vec_len self.old.held.bytes }
+        requires within { len ≤ length (fresh self.old.held) }
+        ensures kept { (self.new.end ≡ self.old.end) × (self.new.ended ≡ self.old.ended) }
+        ensures forgotten { (IsOk result ⊎ IsErrAnd result (λ e. kind_of e ≡ ParseErrorKind.Parse)) → Forgets self.old.held self.new.held len }
+        ensures taken { OnOk result (TakesText S.holds T.item_type (take len (fresh self.old.held)) sink.old sink.new) }
+        ensures refused { IfErr result (λ e. kind_of e ≡ ParseErrorKind.Parse → RefusesBytes T.item_type (option_copied filename.entry) self.old.held len S.holds sink.old sink.new e) }
+    {
+        let parsed = parse_piece::<T, S>(alloc, &self.held, len, filename, sink);
+        self.held.forget(alloc, len)?;
+        parsed
+    }
+
+    /// Reads the next piece of the stream, and passes its items to the sink, in order. Returns false if the stream has ended, and
+    /// nothing was left of it.
+    ///
+    /// Each call of one stream is given the same reader and type of items, and the sink may be another each time.
+    ///
+    /// - `Parse`: the piece spells no items. The sink has taken items that it begins with. The error has and shows its place in the
+    ///   stream. The next call reads the next piece.
+    /// - `Io`: a read failed, or what was read is not UTF-8.
+    /// - `Memory`: memory ran out, or the sink returned so.
+    ///
+    /// After `Io` or `Memory` the stream cannot be read on, and the sink may have taken items.
+    pub fn read_piece<T: StreamItem + Drop, R: BufRead, S: Sink<T>>(
+        &mut self,
+        alloc: Global,
+        reader: &mut R,
+        filename: Option<&str>,
+        sink: &mut S,
+    ) -> Result<bool>
+        requires { (start : Option (List ℕ)) × (ps : List (List Line)) × HasPieces T.item_type start (R.remaining reader.old) ps self.old }
+        ensures read { IfOk result (λ more. more ≡ true → (start : Option (List ℕ)) (ps : List (List Line)) → HasPieces T.item_type start (R.remaining reader.old) ps self.old
+            → TakesPiece T.item_type start (R.remaining reader.new) ps S.holds sink.old sink.new self.new) }
+        ensures ended { IfOk result (λ more. more ≡ false → (start : Option (List ℕ)) (ps : List (List Line)) → HasPieces T.item_type start (R.remaining reader.old) ps self.old
+            → HasAll T.item_type start (R.remaining reader.new) ps × (sink.new ≡ sink.old)) }
+        ensures refused { IfErr result (λ e. kind_of e ≡ ParseErrorKind.Parse → (start : Option (List ℕ)) (ps : List (List Line)) → HasPieces T.item_type start (R.remaining reader.old) ps self.old
+            → RefusesPiece T.item_type (option_copied filename.entry) start (R.remaining reader.new) ps S.holds sink.old sink.new self.new e) }
+    {
+        let len = match self.next_len::<T, R>(reader) {
+            Ok(0) => return Ok(false),
+            Ok(len) => len,
+            Err(fault) => return Err(read_error(fault)),
+        };
+        self.take_piece::<T, S>(alloc, len, filename, sink)?;
+        Ok(true)
+    }
+}
