@@ -4,3 +4,4 @@ mod Firsts
 mod Tallies
 mod Counting
 mod Seeing
+mod Outcomes

@@ -1,6 +1,7 @@
 pub mod Records
 pub mod Eaches
 pub mod Reports
+pub mod Outcomes
 pub mod Runs
 pub mod Canonical
 pub mod Firsts

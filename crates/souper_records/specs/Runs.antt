@@ -1,5 +1,6 @@
 -- Definitions. What each status of a run over a stream says of the stream and of the writers.
-use Rattle.std.specs.Prelude.{◌≡◌, ◌⊎◌, ℕ, zero, suc, List, Option, Some, codes}
+use Rattle.std.specs.Prelude.{◌≡◌, ◌⊎◌, ℕ, zero, suc, true, List, Option, Some, codes}
+use Rattle.std.specs.Io.KnownBytes.{Appends}
 use Rattle.souper_graph.specs.Values.{Item}
 use Rattle.souper_graph.specs.Syntax.Spelling.{ItemType}
 use Rattle.souper_ir.specs.declared.parse.ParseError.{ParseError}
@@ -11,6 +12,8 @@ use Rattle.souper_records.specs.declared.each.Stop.{Stop}
 use Rattle.souper_records.specs.declared.each.Stop.TheVariants.{Input, Output}
 use Rattle.souper_records.specs.declared.seen.Seen.{Seen}
 use Rattle.souper_records.specs.Uniques.{WritesFirsts, WritesFirstsUpTo, counted_records}
+use Rattle.souper_records.specs.Records.{records_of}
+use Rattle.souper_records.specs.Outcomes.{Outcome, items_of, refusals_of, AreReportedThen, WritesPieces, ReadsPieces}
 use Rattle.souper_records.specs.Reports.{ReportedFault, ReportedError}
 
 -- a fact for each status, of which there are three
@@ -41,6 +44,15 @@ IsEachRun k l name before after out err status = OnStatus status
     (WritesEach k l before after out.before out.after × IsGivenNothing err)
     ((e : ParseError) × WritesUpTo k l (Some name) before after out.before out.after e × ReportedLine err e)
     ((WritesBegun k l before out.before out.after × ReportedFault name err) ⊎ ReportedFault output_name err)
+
+-- What the status of writing the record of each item, and going on after refusals, says: 0, the stream spells items, their records were
+-- written, and nothing was reported; 1, pieces are refused; 2, the input or the output failed, and that was reported, after some pieces.
+abbrev pub IsGoingOnRun : ItemType → Layout → List ℕ → Option (List ℕ) → Option (List ℕ) → Stream → Stream → ℕ → Type 0
+IsGoingOnRun k l name before after out err status = OnStatus status
+    (WritesEach k l before after out.before out.after × IsGivenNothing err)
+    (WritesPieces k l (Some name) before after out.before out.after err true)
+    ((os : List Outcome) × ReadsPieces k (Some name) before os
+    × ((Appends out.before out.after (records_of l (items_of os)) × AreReportedThen err (refusals_of os) name) ⊎ AreReportedThen err (refusals_of os) output_name))
 
 -- the same of writing the records of the first items, after earlier ones
 abbrev pub IsUniqRun : ItemType → Layout → List Item → List ℕ → Option (List ℕ) → Option (List ℕ) → Stream → Seen → Stream → ℕ → Type 0

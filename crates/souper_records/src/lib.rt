@@ -7,6 +7,7 @@ pub mod check;
 pub mod counts;
 pub mod each;
 mod fixed;
+pub mod going_on;
 pub mod layout;
 pub mod records;
 pub mod report;

@@ -1,7 +1,8 @@
 //! The lines that report an error, each to a stream that may fail.
-ghost use Rattle.std.specs.Prelude.{◌≡◌, string_bytes, IfOk};
+ghost use Rattle.std.specs.Prelude.{◌≡◌, true, false, string_bytes, IfOk};
 ghost use Rattle.souper_format.specs.Reporting.{IsErrorLine};
-ghost use Rattle.souper_format.specs.Streams.{stream};
+ghost use Rattle.souper_format.specs.Streams.{stream, IsGiven};
+ghost use Rattle.souper_format.specs.Watching.{has_failed};
 ghost use Rattle.souper_records.specs.Reports.{named_line, ReportedMemory, Reported, ReportedFault, ReportedError};
 
 use souper_format::watched::Watched;
@@ -12,7 +13,8 @@ use std::io::Write;
 
 /// Reports out of memory, without allocating.
 pub fn report_memory<E: Write>(err: &mut Watched<E>)
-    ensures { ReportedMemory (stream E.contents err.old err.new) }
+    ensures reported { ReportedMemory (stream E.contents err.old err.new) }
+    ensures stays { has_failed err.old ≡ true → has_failed err.new ≡ true }
 {
     let _ = err.write_all(b"souper_items: out of memory\n");
 }
@@ -32,19 +34,19 @@ pub(crate) fn line(alloc: Global, name: &str, says: &str) -> Result<String, Allo
 
 // Reports something of the stream of this name.
 fn report<E: Write>(alloc: Global, name: &str, says: &str, err: &mut Watched<E>)
-    ensures { Reported name.now says.now (stream E.contents err.old err.new) }
+    ensures reported { Reported name.now says.now (stream E.contents err.old err.new) }
+    ensures stays { has_failed err.old ≡ true → has_failed err.new ≡ true }
 {
     match line(alloc, name, says) {
-        Ok(line) => {
-            let _ = err.write_all(line.as_bytes());
-        }
+        Ok(line) => report_line(&line, err),
         Err(_) => report_memory(err),
     }
 }
 
 /// Reports a fault of the stream of this name.
 pub fn report_fault<E: Write>(alloc: Global, name: &str, fault: &io::Error, err: &mut Watched<E>)
-    ensures { ReportedFault name.now (stream E.contents err.old err.new) }
+    ensures reported { ReportedFault name.now (stream E.contents err.old err.new) }
+    ensures stays { has_failed err.old ≡ true → has_failed err.new ≡ true }
 {
     match fault.to_string(alloc) {
         Ok(says) => report(alloc, name, says.as_str(), err),
@@ -52,12 +54,20 @@ pub fn report_fault<E: Write>(alloc: Global, name: &str, fault: &io::Error, err:
     }
 }
 
-fn line_of_error(alloc: Global, error: &ParseError) -> Result<String, AllocError>
+pub(crate) fn line_of_error(alloc: Global, error: &ParseError) -> Result<String, AllocError>
     ensures { IfOk result (λ line. IsErrorLine error.now (string_bytes line)) }
 {
     let mut line = error.to_string(alloc)?;
     line.push('\n')?;
     Ok(line)
+}
+
+/// Writes the line.
+pub(crate) fn report_line<E: Write>(line: &String, err: &mut Watched<E>)
+    ensures given { has_failed err.new ≡ false → IsGiven (stream E.contents err.old err.new) (string_bytes line.now) }
+    ensures stays { has_failed err.old ≡ true → has_failed err.new ≡ true }
+{
+    let _ = err.write_all(line.as_bytes());
 }
 
 /// Reports an error of the stream of this name, and returns the status of the program: 1 if the stream is refused, else 2.
@@ -67,7 +77,8 @@ pub(crate) fn report_error<E: Write>(
     error: &ParseError,
     err: &mut Watched<E>,
 ) -> u8
-    ensures { ReportedError name.now (stream E.contents err.old err.new) result error.now }
+    ensures reported { ReportedError name.now (stream E.contents err.old err.new) result error.now }
+    ensures stays { has_failed err.old ≡ true → has_failed err.new ≡ true }
 {
     if let Some(fault) = error.io_error() {
         report_fault(alloc, name, fault, err);
@@ -76,7 +87,7 @@ pub(crate) fn report_error<E: Write>(
     if error.kind() == ParseErrorKind::Parse
         && let Ok(line) = line_of_error(alloc, error)
     {
-        let _ = err.write_all(line.as_bytes());
+        report_line(&line, err);
         return 1;
     }
     report_memory(err);

@@ -1,13 +1,15 @@
 //! Runs over one stream, by their statuses.
-ghost use Rattle.std.specs.Prelude.{List};
+ghost use Rattle.std.specs.Prelude.{◌≡◌, true, List};
 ghost use Rattle.souper_graph.specs.Syntax.Spelling.{ItemType};
 ghost use Rattle.souper_graph.specs.Values.{Item};
 ghost use Rattle.souper_format.specs.Streams.{stream};
+ghost use Rattle.souper_format.specs.Watching.{has_failed};
 ghost use Rattle.souper_records.specs.Uniques.{HasSeen};
-ghost use Rattle.souper_records.specs.Runs.{IsEnd, IsStop, IsEachRun, IsUniqRun, IsCountRun};
+ghost use Rattle.souper_records.specs.Runs.{IsEnd, IsStop, IsEachRun, IsGoingOnRun, IsUniqRun, IsCountRun};
 
 use crate::counts::write_counts;
 use crate::each::{Stop, each};
+use crate::going_on::each_going_on;
 use crate::layout::Layout;
 use crate::report::{report_error, report_fault, report_memory};
 use crate::seen::Seen;
@@ -19,7 +21,8 @@ use std::io::{BufRead, Write};
 
 // Flushes the output after all was written to it, and returns the status.
 fn end<W: Write, E: Write>(alloc: Global, out: &mut Watched<W>, err: &mut Watched<E>) -> u8
-    ensures { IsEnd (stream W.contents out.old out.new) (stream E.contents err.old err.new) result }
+    ensures end { IsEnd (stream W.contents out.old out.new) (stream E.contents err.old err.new) result }
+    ensures stays { has_failed err.old ≡ true → has_failed err.new ≡ true }
 {
     match out.flush() {
         Ok(()) => 0,
@@ -32,7 +35,8 @@ fn end<W: Write, E: Write>(alloc: Global, out: &mut Watched<W>, err: &mut Watche
 
 // Reports why not all was written, and returns the status.
 fn report_stop<E: Write>(alloc: Global, name: &str, stop: &Stop, err: &mut Watched<E>) -> u8
-    ensures { IsStop name.now stop.now (stream E.contents err.old err.new) result }
+    ensures stop { IsStop name.now stop.now (stream E.contents err.old err.new) result }
+    ensures stays { has_failed err.old ≡ true → has_failed err.new ≡ true }
 {
     match stop {
         Stop::Input(error) => report_error(alloc, name, error, err),
@@ -65,6 +69,32 @@ pub fn each_run<T: StreamItem + Drop, R: BufRead, W: Write, E: Write>(
 {
     match each::<T, R, Watched<W>>(alloc, layout, reader, name, out) {
         Ok(()) => end(alloc, out, err),
+        Err(stop) => report_stop(alloc, name, &stop, err),
+    }
+}
+
+/// Writes the record of each item of the stream to `out`, and goes on after a refusal ([`each_going_on`]). Returns the status of the
+/// program.
+///
+/// - 0: done, no piece was refused, and nothing was written to `err`.
+/// - 1: done, and some pieces were refused. Each refusal was written to `err`, in order, with a newline.
+/// - 2: a read or `out` failed, what was read is not UTF-8, or memory ran out, and a line that says so was written to `err`, after the
+///   refusals so far. Unless `out` failed, the records of the pieces so far were written.
+///
+/// If a write to `err` fails, the status is the same.
+pub fn each_going_on_run<T: StreamItem + Drop, R: BufRead, W: Write, E: Write>(
+    alloc: Global,
+    layout: Layout,
+    reader: &mut R,
+    name: &str,
+    out: &mut Watched<W>,
+    err: &mut Watched<E>,
+) -> u8
+    ensures { IsGoingOnRun T.item_type layout name.now (R.remaining reader.old) (R.remaining reader.new)
+        (stream W.contents out.old out.new) (stream E.contents err.old err.new) result }
+{
+    match each_going_on::<T, R, Watched<W>, E>(alloc, layout, reader, name, out, err) {
+        Ok(refused) => end(alloc, out, err).max(u8::from(refused)),
         Err(stop) => report_stop(alloc, name, &stop, err),
     }
 }

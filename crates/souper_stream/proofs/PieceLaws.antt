@@ -1,6 +1,7 @@
 -- What a text spells is what its pieces spell.
-use Rattle.std.proofs.Common.{◌≡◌, inl, inr, ℕ, true, List, [], ◌∷◌, ◌++◌, length, refl, sym, ap, ◌∙◌, subst, append-nil}
+use Rattle.std.proofs.Common.{◌≡◌, inl, inr, ℕ, true, List, [], ◌∷◌, ◌++◌, length, refl, sym, ap, ◌∙◌, subst, append-nil, Option}
 use Rattle.std.specs.List.{AllByRecursion}
+use Rattle.std.specs.Io.KnownBytes.{Consumes}
 use Rattle.souper_graph.specs.Values.{Item}
 use Rattle.souper_graph.specs.Syntax.Tokens.{Lexeme, ident, val_name, known_bits, int, comma, colon, equals, open_paren, close_paren, open_bracket, IsTextOf}
 use Rattle.souper_graph.specs.Syntax.Spelling.{kinds, ItemType, TextSpells}
@@ -12,6 +13,10 @@ use Rattle.souper_ir.proofs.Items.Joining.{items_join}
 use Rattle.souper_ir.proofs.Items.Parting.{tokens_part}
 use Rattle.souper_stream.specs.Lines.{starts_line}
 use Rattle.souper_stream.specs.Seams.{IsEndLine, EndsItem}
+use Rattle.souper_stream.specs.declared.pieces.PieceReader.{PieceReader}
+use Rattle.souper_stream.specs.Holding.{fresh}
+use Rattle.souper_stream.specs.PieceReading.{HasPieces}
+use Rattle.souper_stream.proofs.Forgetting.{parts_read}
 use Rattle.souper_stream.specs.Pieces.{Line, concat, IsLine, AreLines, tokens_of, ends_first, QuietAfter, AreEndLines, EndsPiece, StartsPiece, AreCut, all_lines, PiecesSpell, SpellsByPieces}
 use Rattle.souper_stream.proofs.Cuts.{starts_longer, part_by}
 use Rattle.souper_stream.proofs.Progress.{none_spelled}
@@ -124,3 +129,7 @@ spells_by_pieces k text ps ws a = (
   λ h. whole_parts k ps ws a.lines a.cut (subst (λ (x : List ℕ). TextSpells k x ws) a.whole h),
   λ h. subst (λ (x : List ℕ). TextSpells k x ws) (sym a.whole) (parts_whole k ps ws a.lines a.cut h),
 )
+
+-- a stream begins with the pieces that were read of it
+pub pieces_begin : (k : ItemType) (start now : Option (List ℕ)) (ps : List (List Line)) (p : PieceReader) → HasPieces k start now ps p → (read : List ℕ) × (rest : List ℕ) × Consumes start now read × (read ≡ concat (all_lines ps) ++ rest)
+pieces_begin k start now ps p (ls, h) = (h.read, fresh p.held, h.consumed, parts_read h.read (concat (all_lines ps)) p.held h.held)

@@ -36,4 +36,4 @@ returns g c =
     let text : c.in-Ok.source.now ≡ c.read_to_end.new.buf.items = c.in-Ok.ensures.cases.0 ∙ c.deref.ensures.value in
     check_refused g.T.Item.item_type c.args.name.now (rem c.args.reader.now) (rem c.read_to_end.new.self) c.in-Ok.source.now (stream g.E.Write.contents c.args.err.now c.report_error.new.err) c.in-Err-is_canonical.error c.report_error.result
     (whole_from (rem c.args.reader.now) (rem c.read_to_end.new.self) c.new-bytes.result.items c.read_to_end.new.buf.items c.in-Ok.source.now c.new-bytes.ensures.items c.in_default.ensures.none_lost c.in_default.ensures.end text)
-    c.in-Err-is_canonical.ensures.refused c.report_error.ensures
+    c.in-Err-is_canonical.ensures.refused c.report_error.ensures.reported

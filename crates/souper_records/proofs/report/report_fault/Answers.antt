@@ -10,5 +10,5 @@ fault_from name says err h works = elim (h works) [
   | inr memory ↦ inr memory
 ]
 
-pub returns-in-Ok : goal.returns-in-Ok
-returns-in-Ok g c = fault_from c.args.name.now c.as_str.result.now (stream g.E.Write.contents c.args.err.now c.report.new.err) c.report.ensures
+pub returns-in-Ok-clause-reported : goal.returns-in-Ok-clause-reported
+returns-in-Ok-clause-reported g c = fault_from c.args.name.now c.as_str.result.now (stream g.E.Write.contents c.args.err.now c.report.new.err) c.report.ensures.reported

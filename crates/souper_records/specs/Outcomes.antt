@@ -1,0 +1,122 @@
+-- Definitions. What became of the pieces of a stream that is read on after a refusal: what was written of them and reported.
+use Rattle.std.specs.Prelude.{◌≡◌, ◌⊎◌, ℕ, Bool, false, List, [], ◌∷◌, ◌++◌, map, flat_map, filter_map, is_some, codes, Option, None, Some}
+use Rattle.std.specs.List.{list_any}
+use Rattle.std.specs.Io.KnownBytes.{Consumes, Appends}
+use Rattle.souper_graph.specs.Values.{Item}
+use Rattle.souper_graph.specs.Syntax.Spelling.{ItemType, TextSpells, SpellsNone}
+use Rattle.souper_ir.specs.declared.parse.error.ParseError.{ParseError}
+use Rattle.souper_ir.specs.declared.parse.error.ParseErrorKind.TheVariants.{Parse}
+use Rattle.souper_ir.specs.Errors.{kind_of}
+use Rattle.souper_ir.specs.Sinks.{PrefixSpells}
+use Rattle.souper_stream.specs.Pieces.{Line, concat, all_lines, ArePieces}
+use Rattle.souper_stream.specs.declared.pieces.PieceReader.{PieceReader}
+use Rattle.souper_stream.specs.PieceReading.{IsPlacedIn, HasPieces}
+use Rattle.souper_stream.specs.Reading.{AreAll}
+use Rattle.souper_format.specs.Streams.{Stream, IsGiven, IsGivenNothing}
+use Rattle.souper_format.specs.Reporting.{IsErrorLine, ReportedLine}
+use Rattle.souper_records.specs.declared.layout.Layout.{Layout}
+use Rattle.souper_records.specs.declared.each.Stop.{Stop}
+use Rattle.souper_records.specs.declared.each.Stop.TheVariants.{Input, Output}
+use Rattle.souper_records.specs.Records.{records_of}
+use Rattle.souper_records.specs.Reports.{program_line, named_line}
+
+-- what became of a piece: its items, or those that it begins with, and its refusal, if it is refused
+pub record Outcome : Type 0 where
+  pub piece : List Line
+  pub items : List Item
+  pub refusal : Option ParseError
+
+-- a piece that was refused, after what is done; the refusal has and shows its place in what was read of the stream
+pub record IsRefusedPiece (k : ItemType) (file start : Option (List ℕ)) (done piece : List ℕ) (items : List Item) (e : ParseError) : Type 0 where
+  pub kind : kind_of e ≡ Parse
+  pub none : SpellsNone k piece
+  pub begun : PrefixSpells k piece items
+  pub now : Option (List ℕ)
+  pub read : List ℕ
+  pub consumed : Consumes start now read
+  pub placed : IsPlacedIn file read done piece e
+
+-- the items are those of the piece, or it was refused
+abbrev pub IsOutcome : ItemType → Option (List ℕ) → Option (List ℕ) → List ℕ → List ℕ → List Item → Option ParseError → Type 0
+IsOutcome k file start done piece items None = TextSpells k piece items
+IsOutcome k file start done piece items (Some e) = IsRefusedPiece k file start done piece items e
+
+-- that holds of each piece, after those before it
+abbrev pub AreOutcomes : ItemType → Option (List ℕ) → Option (List ℕ) → List (List Line) → List Outcome → Type 0
+AreOutcomes k file start before [] = Unit {0}
+AreOutcomes k file start before (o ∷ os) = IsOutcome k file start (concat (all_lines before)) (concat o.piece) o.items o.refusal × AreOutcomes k file start (before ++ o.piece ∷ []) os
+
+abbrev pub pieces_of : List Outcome → List (List Line)
+pieces_of os = map (λ (o : Outcome). o.piece) os
+
+abbrev pub items_of : List Outcome → List Item
+items_of os = flat_map (λ (o : Outcome). o.items) os
+
+abbrev pub refusals_of : List Outcome → List ParseError
+refusals_of os = filter_map (λ (o : Outcome). o.refusal) os
+
+abbrev pub any_refused : List Outcome → Bool
+any_refused os = list_any (λ (o : Outcome). is_some o.refusal) os
+
+-- the text is the lines of the errors
+abbrev pub AreErrorLines : List ParseError → List ℕ → Type 0
+AreErrorLines [] text = text ≡ []
+AreErrorLines (e ∷ es) text = (line : List ℕ) × (rest : List ℕ) × (text ≡ line ++ rest) × IsErrorLine e line × AreErrorLines es rest
+
+-- unless the writer has failed, the lines of the errors were written to it; without errors, nothing was
+abbrev pub AreReported : Stream → List ParseError → Type 0
+AreReported err [] = IsGivenNothing err
+AreReported err (e ∷ es) = err.failed ≡ false → (text : List ℕ) × AreErrorLines (e ∷ es) text × IsGiven err text
+
+-- the line of a fault of the stream, or that for out of memory
+abbrev pub IsFaultLine : List ℕ → List ℕ → Type 0
+IsFaultLine name line = ((shown : List ℕ) × (line ≡ named_line name shown)) ⊎ (line ≡ program_line (codes "out of memory"))
+
+-- unless the writer has failed, the lines of the errors were written to it, and then that of a fault
+abbrev pub AreReportedThen : Stream → List ParseError → List ℕ → Type 0
+AreReportedThen err es name = err.failed ≡ false → (text : List ℕ) × (line : List ℕ) × AreErrorLines es text × IsFaultLine name line × IsGiven err (text ++ line)
+
+-- what was reported of one piece
+abbrev pub ReportsPiece : Stream → Option ParseError → Type 0
+ReportsPiece err None = IsGivenNothing err
+ReportsPiece err (Some e) = ReportedLine err e
+
+-- the next piece was read, the records of its items were written, and its refusal was reported, if it was refused
+pub record WritesPiece (k : ItemType) (l : Layout) (file start now : Option (List ℕ)) (ps : List (List Line)) (old new : Option (List ℕ)) (err : Stream) (refused : Bool) (p : PieceReader) : Type 0 where
+  pub outcome : Outcome
+  pub had : HasPieces k start now (ps ++ outcome.piece ∷ []) p
+  pub is : IsOutcome k file start (concat (all_lines ps)) (concat outcome.piece) outcome.items outcome.refusal
+  pub any : refused ≡ is_some outcome.refusal
+  pub written : Appends old new (records_of l outcome.items)
+  pub reported : ReportsPiece err outcome.refusal
+
+-- all of the stream was read: the records of the items of all pieces were written, also of those that pieces begin with that were
+-- refused, and each refusal was reported, in order
+pub record WritesPieces (k : ItemType) (l : Layout) (file before after old new : Option (List ℕ)) (err : Stream) (refused : Bool) : Type 0 where
+  pub read : List ℕ
+  pub outcomes : List Outcome
+  pub consumed : Consumes before after read
+  pub all_read : AreAll before read
+  pub pieces : ArePieces k read (pieces_of outcomes)
+  pub are : AreOutcomes k file before [] outcomes
+  pub written : Appends old new (records_of l (items_of outcomes))
+  pub reported : AreReported err (refusals_of outcomes)
+  pub any : refused ≡ any_refused outcomes
+
+-- The stream begins with these pieces, and each of their refusals was reported, in order.
+pub record ReadsPieces (k : ItemType) (file before : Option (List ℕ)) (outcomes : List Outcome) : Type 0 where
+  pub read : List ℕ
+  pub rest : List ℕ
+  pub now : Option (List ℕ)
+  pub consumed : Consumes before now read
+  pub whole : read ≡ concat (all_lines (pieces_of outcomes)) ++ rest
+  pub are : AreOutcomes k file before [] outcomes
+
+-- what is known of the output if reading or writing stopped: if reading did, the records of these items were written
+abbrev pub WrittenAt : Stop → Layout → List Item → Option (List ℕ) → Option (List ℕ) → Type 0
+WrittenAt (Input e) l items old new = Appends old new (records_of l items)
+WrittenAt (Output fault) l items old new = Unit {0}
+
+-- reading or writing stopped after these pieces
+abbrev pub StopsAfter : ItemType → Layout → Option (List ℕ) → Option (List ℕ) → Option (List ℕ) → Option (List ℕ) → Stream → Stop → Type 0
+StopsAfter k l file before old new err stop = (os : List Outcome) × ReadsPieces k file before os × AreReported err (refusals_of os) × WrittenAt stop l (items_of os) old new
