@@ -13,7 +13,7 @@ use souper_ir::ast::{LeftHandSide, Replacement, RightHandSide};
 use souper_records::check::check_run;
 use souper_records::layout::Layout;
 use souper_records::report::{report_fault, report_memory};
-use souper_records::run::{count_run, each_run, uniq_run};
+use souper_records::run::{count_run, each_going_on_run, each_run, uniq_going_on_run, uniq_run};
 use souper_records::seen::Seen;
 use souper_stream::StreamItem;
 use std::alloc::Global;
@@ -30,16 +30,21 @@ const CAPACITY: usize = 1 << 16;
 // Does the task over one stream of items of the type, and returns the status.
 fn run_items<T: StreamItem + Drop, R: BufRead, W: Write, E: Write>(
     alloc: Global,
-    action: Action,
+    task: &Task<'_, '_>,
     seen: &mut Seen,
     reader: &mut R,
     name: &str,
     out: &mut Watched<W>,
     err: &mut Watched<E>,
 ) -> u8 {
-    match action {
+    match task.action {
+        Action::Each(layout) if task.keep_going => {
+            each_going_on_run::<T, R, W, E>(alloc, layout, reader, name, out, err)
+        }
         Action::Each(layout) => each_run::<T, R, W, E>(alloc, layout, reader, name, out, err),
-        Action::Uniq(layout) => uniq_run::<T, R, W, E>(alloc, layout, seen, reader, name, out, err),
+        Action::Uniq(layout) => {
+            run_uniq::<T, R, W, E>(alloc, task, layout, seen, reader, name, out, err)
+        }
         Action::Count(layout) => {
             // The records come at the end.
             let layout = Layout {
@@ -47,9 +52,27 @@ fn run_items<T: StreamItem + Drop, R: BufRead, W: Write, E: Write>(
                 ..layout
             };
             let mut sink = Watched::new(io::sink());
-            uniq_run::<T, R, io::Sink, E>(alloc, layout, seen, reader, name, &mut sink, err)
+            run_uniq::<T, R, io::Sink, E>(alloc, task, layout, seen, reader, name, &mut sink, err)
         }
         Action::Check => check_run::<T, R, E>(alloc, reader, name, err),
+    }
+}
+
+// Writes the record of the first item of each graph, and returns the status.
+fn run_uniq<T: StreamItem + Drop, R: BufRead, W: Write, E: Write>(
+    alloc: Global,
+    task: &Task<'_, '_>,
+    layout: Layout,
+    seen: &mut Seen,
+    reader: &mut R,
+    name: &str,
+    out: &mut Watched<W>,
+    err: &mut Watched<E>,
+) -> u8 {
+    if task.keep_going {
+        uniq_going_on_run::<T, R, W, E>(alloc, layout, seen, reader, name, out, err)
+    } else {
+        uniq_run::<T, R, W, E>(alloc, layout, seen, reader, name, out, err)
     }
 }
 
@@ -63,17 +86,10 @@ fn run_stream<R: BufRead, W: Write, E: Write>(
     out: &mut Watched<W>,
     err: &mut Watched<E>,
 ) -> u8 {
-    let action = task.action;
     match task.kind {
-        Kind::Lhs => {
-            run_items::<LeftHandSide, R, W, E>(alloc, action, seen, reader, name, out, err)
-        }
-        Kind::Rhs => {
-            run_items::<RightHandSide, R, W, E>(alloc, action, seen, reader, name, out, err)
-        }
-        Kind::Rep => {
-            run_items::<Replacement, R, W, E>(alloc, action, seen, reader, name, out, err)
-        }
+        Kind::Lhs => run_items::<LeftHandSide, R, W, E>(alloc, task, seen, reader, name, out, err),
+        Kind::Rhs => run_items::<RightHandSide, R, W, E>(alloc, task, seen, reader, name, out, err),
+        Kind::Rep => run_items::<Replacement, R, W, E>(alloc, task, seen, reader, name, out, err),
     }
 }
 

@@ -36,6 +36,9 @@ pub(crate) struct Task<'m, 'a> {
     pub(crate) kind: Kind,
     pub(crate) action: Action,
 
+    /// Whether reading goes on after a refusal.
+    pub(crate) keep_going: bool,
+
     /// The paths, of which `-` is standard input. If there are none, standard input is read.
     pub(crate) files: &'m [&'a str],
 }
@@ -81,6 +84,12 @@ fn writer<'a>(alloc: Global, name: &'a str, about: &'a str) -> Result<Command<'a
             "rename",
             "Name the values %0, %1, .. in printed order",
         ))?
+        .arg(flag(
+            alloc,
+            "keep-going",
+            "Go on after an item that is refused, at the next line that begins an item; the status is then 1",
+        )
+        .short('k'))?
         .arg(kind_arg(alloc))?
         .arg(files_arg(alloc))
 }
@@ -165,9 +174,11 @@ fn read_action(name: &str, options: &ArgMatches<'_>) -> Option<Action> {
 /// What the matches ask for.
 pub(crate) fn read_task<'m, 'a>(matches: &'m ArgMatches<'a>) -> Option<Task<'m, 'a>> {
     let (name, options) = matches.subcommand()?;
+    let action = read_action(name, options)?;
     Some(Task {
         kind: read_kind(options.get_str("KIND")?)?,
-        action: read_action(name, options)?,
+        action,
+        keep_going: !matches!(action, Action::Check) && options.get_flag("keep-going"),
         files: options.get_strs("FILE").unwrap_or_default(),
     })
 }

@@ -1,13 +1,13 @@
 -- Piece after piece: what was read of a stream that is read on after a refusal, what was written of it and reported.
 use Rattle.std.proofs.Common.{◌≡◌, ◌⊎◌, inl, inr, ℕ, ◌≤◌, arith, Bool, true, false, ◌||◌, List, [], ◌∷◌, ◌++◌, is_some, Option, Some, None, refl, sym, ap, ◌∙◌, subst, append_assoc, append-nil}
-use Rattle.std.specs.Prelude.{codes}
+use Rattle.std.specs.Prelude.{codes, Result, Ok, Err, IfOk}
 use Rattle.std.specs.List.{cons_option}
 use Rattle.std.specs.Io.KnownBytes.{Appends, Keeps}
-use Rattle.std.proofs.KnownBytes.{Appends-nil, Appends-trans, Keeps-trans}
+use Rattle.std.proofs.KnownBytes.{Appends-trans, Keeps-trans}
 use Rattle.std.proofs.lemmas.Grind.{flat_map-append}
 use Rattle.std.proofs.lemmas.List.{map-append}
 use Rattle.souper_graph.specs.Values.{Item}
-use Rattle.souper_graph.specs.Syntax.Spelling.{ItemType}
+use Rattle.souper_graph.specs.Syntax.Spelling.{ItemType, TextSpells}
 use Rattle.souper_ir.specs.declared.parse.error.ParseError.{ParseError}
 use Rattle.souper_ir.specs.declared.parse.error.ParseErrorKind.TheVariants.{Parse}
 use Rattle.souper_ir.specs.Errors.{kind_of}
@@ -22,9 +22,11 @@ use Rattle.souper_records.specs.declared.each.Stop.{Stop}
 use Rattle.souper_records.specs.declared.each.Stop.TheVariants.{Input, Output}
 use Rattle.souper_records.specs.Records.{record_of, records_of}
 use Rattle.souper_records.specs.Eaches.{WritesEach, IfInput}
-use Rattle.souper_records.specs.Runs.{output_name, IsStop, IsGoingOnRun}
+use Rattle.souper_records.specs.Runs.{output_name, IsStop, IsGoingOnRun, IsUniqGoingOnRun}
+use Rattle.souper_records.specs.declared.seen.Seen.{Seen}
+use Rattle.souper_records.specs.Uniques.{WritesFirsts, WritesFirstRecords, AnyWritten}
 use Rattle.souper_records.specs.Reports.{program_line, named_line, ReportedFault}
-use Rattle.souper_records.specs.Outcomes.{Outcome, IsOutcome, AreOutcomes, pieces_of, items_of, refusals_of, any_refused, AreErrorLines, AreReported, AreReportedThen, IsFaultLine, ReportsPiece, WritesPiece, WritesPieces, ReadsPieces, WrittenAt, StopsAfter}
+use Rattle.souper_records.specs.Outcomes.{Outcome, IsOutcome, AreOutcomes, pieces_of, items_of, refusals_of, any_refused, AreErrorLines, AreReported, AreReportedThen, IsFaultLine, ReportsPiece, WritesPiece, WritesPieces, ReadsPieces, IfReading, StopsAfter, WritesRecords}
 
 -- ---- lists of outcomes
 
@@ -148,60 +150,78 @@ module _ (a b c : Stream) (p : Parts a b c) where
 
 -- ---- piece after piece
 
-pub record Reached (k : ItemType) (l : Layout) (file start mid old now : Option (List ℕ)) (err : Stream) (any : Bool) (p : PieceReader) : Type 0 where
+-- what was written of the items of the pieces so far
+pub record Reached (k : ItemType) (file start mid : Option (List ℕ)) (written : List Item → Type 0) (err : Stream) (any : Bool) (p : PieceReader) : Type 0 where
   pub outcomes : List Outcome
   pub had : HasPieces k start mid (pieces_of outcomes) p
   pub are : AreOutcomes k file start [] outcomes
-  pub written : Appends old now (records_of l (items_of outcomes))
+  pub are_written : written (items_of outcomes)
   pub reported : AreReported err (refusals_of outcomes)
   pub any_is : any ≡ any_refused outcomes
 
-pub reached_none : (k : ItemType) (l : Layout) (file start old : Option (List ℕ)) (err : Stream) (p : PieceReader) → HasPieces k start start [] p → IsGivenNothing err → Reached k l file start start old old err false p
-reached_none k l file start old err p h quiet = record { outcomes = []; had = h; are = tt; written = Appends-nil old; reported = quiet; any_is = refl }
+pub reached_none : (k : ItemType) (file start : Option (List ℕ)) (written : List Item → Type 0) (err : Stream) (p : PieceReader) → HasPieces k start start [] p → written [] → IsGivenNothing err → Reached k file start start written err false p
+reached_none k file start written err p h w quiet = record { outcomes = []; had = h; are = tt; are_written = w; reported = quiet; any_is = refl }
 
 -- what was reported of the pieces so far, and of the next one
 reported_more : (a b c : Stream) → Parts a b c → (os : List Outcome) (o : Outcome) → AreReported a (refusals_of os) → (r : Option ParseError) → o.refusal ≡ r → ReportsPiece b r → AreReported c (refusals_of (os ++ o ∷ []))
 reported_more a b c p os o reported None is h = subst (λ (x : List ParseError). AreReported c x) (sym (refusals_none os o is)) (reported_none a b c p (refusals_of os) reported h)
 reported_more a b c p os o reported (Some e) is h = subst (λ (x : List ParseError). AreReported c x) (sym (refusals_one os o e is)) (reported_one a b c p (refusals_of os) e reported h)
 
-pub reached_more : (k : ItemType) (l : Layout) (file start mid after old now new : Option (List ℕ)) (a b c : Stream) (any refused : Bool) (p q : PieceReader) → Parts a b c → (r : Reached k l file start mid old now a any p) → WritesPiece k l file start after (pieces_of r.outcomes) now new b refused q
-    → Reached k l file start after old new c (any || refused) q
-reached_more k l file start mid after old now new a b c any refused p q parts r w =
+pub reached_more : (k : ItemType) (file start mid after : Option (List ℕ)) (so_far next both : List Item → Type 0) → ((xs ys : List Item) → so_far xs → next ys → both (xs ++ ys)) → (a b c : Stream) (any refused : Bool) (p q : PieceReader) → Parts a b c
+    → (r : Reached k file start mid so_far a any p) → WritesPiece k file start after (pieces_of r.outcomes) next b refused q → Reached k file start after both c (any || refused) q
+reached_more k file start mid after so_far next both join a b c any refused p q parts r w =
     let o = w.outcome in
     let os = r.outcomes in
     record {
       outcomes = os ++ o ∷ [];
       had = subst (λ (x : List (List Line)). HasPieces k start after x q) (sym (pieces_more os o)) w.had;
       are = outcomes_more k file start [] os o r.are w.is;
-      written = subst (λ (xs : List Item). Appends old new (records_of l xs)) (sym (items_more os o)) (subst (λ (x : List ℕ). Appends old new x) (sym (flat_map-append (record_of l) (items_of os) o.items)) (Appends-trans old now new (records_of l (items_of os)) (records_of l o.items) r.written w.written));
+      are_written = subst both (sym (items_more os o)) (join (items_of os) o.items r.are_written w.are_written);
       reported = reported_more a b c parts os o r.reported o.refusal refl w.reported;
       any_is = (λ i. r.any_is i || w.any i) ∙ sym (any_more os o);
     }
 
+-- records after records
+pub records_both : (l : Layout) (old now new : Option (List ℕ)) (xs ys : List Item) → WritesRecords l old now xs → WritesRecords l now new ys → WritesRecords l old new (xs ++ ys)
+records_both l old now new xs ys a b = subst (λ (x : List ℕ). Appends old new x) (sym (flat_map-append (record_of l) xs ys)) (Appends-trans old now new (records_of l xs) (records_of l ys) a b)
+
 -- the stream has ended
-pub reached_end : (k : ItemType) (l : Layout) (file start mid after old now : Option (List ℕ)) (err : Stream) (any : Bool) (p : PieceReader) (r : Reached k l file start mid old now err any p) → HasAll k start after (pieces_of r.outcomes) → WritesPieces k l file start after old now err any
-reached_end k l file start mid after old now err any p r (read, consumed, all, pieces) = record {
+pub reached_end : (k : ItemType) (file start mid after : Option (List ℕ)) (written : List Item → Type 0) (err : Stream) (any : Bool) (p : PieceReader) (r : Reached k file start mid written err any p) → HasAll k start after (pieces_of r.outcomes) → WritesPieces k file start after written err any
+reached_end k file start mid after written err any p r (read, consumed, all, pieces) = record {
   read = read;
   outcomes = r.outcomes;
   consumed = consumed;
   all_read = all;
   pieces = pieces;
   are = r.are;
-  written = r.written;
+  are_written = r.are_written;
   reported = r.reported;
   any = r.any_is;
 }
 
-pub reached_reads : (k : ItemType) (l : Layout) (file start mid old now : Option (List ℕ)) (err : Stream) (any : Bool) (p : PieceReader) (r : Reached k l file start mid old now err any p) → ReadsPieces k file start r.outcomes
-reached_reads k l file start mid old now err any p r =
+reached_reads : (k : ItemType) (file start mid : Option (List ℕ)) (written : List Item → Type 0) (err : Stream) (any : Bool) (p : PieceReader) (r : Reached k file start mid written err any p) → ReadsPieces k file start r.outcomes
+reached_reads k file start mid written err any p r =
     let b = pieces_begin k start mid (pieces_of r.outcomes) p r.had in
     record { read = b.0; rest = b.1; now = mid; consumed = b.2; whole = b.3; are = r.are }
+
+-- reading or writing stopped
+pub stopped_after : (k : ItemType) (file start mid : Option (List ℕ)) (so_far written : List Item → Type 0) (err : Stream) (any : Bool) (p : PieceReader) (stop : Stop) → Reached k file start mid so_far err any p → IfReading stop ((xs : List Item) → so_far xs → written xs) → StopsAfter k file start written err stop
+stopped_after k file start mid so_far written err any p stop r same = (r.outcomes, reached_reads k file start mid so_far err any p r, r.reported, known stop same)
+  where
+    known : (stop : Stop) → IfReading stop ((xs : List Item) → so_far xs → written xs) → IfReading stop (written (items_of r.outcomes))
+    known (Input e) h = h (items_of r.outcomes) r.are_written
+    known (Output fault) h = tt
+
+-- nothing was written since
+pub reading_kept : {W : Type 0} (l : Layout) (old : Option (List ℕ)) (con : W → Option (List ℕ)) (a b : W) (stop : Stop) → IfInput stop (λ e. b ≡ a) → IfReading stop ((xs : List Item) → WritesRecords l old (con a) xs → WritesRecords l old (con b) xs)
+reading_kept {W = W} l old con a b (Input e) h = λ xs x. subst (λ (y : W). WritesRecords l old (con y) xs) (sym h) x
+reading_kept l old con a b (Output fault) h = tt
 
 -- ---- runs
 
 -- all pieces were read
-pub all_reads : (k : ItemType) (l : Layout) (file before after old new : Option (List ℕ)) (err : Stream) (refused : Bool) (w : WritesPieces k l file before after old new err refused) → ReadsPieces k file before w.outcomes
-all_reads k l file before after old new err refused w = record { read = w.read; rest = []; now = after; consumed = w.consumed; whole = w.pieces.whole ∙ sym (append-nil (concat (all_lines (pieces_of w.outcomes)))); are = w.are }
+all_reads : (k : ItemType) (file before after : Option (List ℕ)) (written : List Item → Type 0) (err : Stream) (refused : Bool) (w : WritesPieces k file before after written err refused) → ReadsPieces k file before w.outcomes
+all_reads k file before after written err refused w = record { read = w.read; rest = []; now = after; consumed = w.consumed; whole = w.pieces.whole ∙ sym (append-nil (concat (all_lines (pieces_of w.outcomes)))); are = w.are }
 
 -- no piece was refused
 none_refused : (k : ItemType) (file start : Option (List ℕ)) (before : List (List Line)) (os : List Outcome) → AreOutcomes k file start before os → any_refused os ≡ false → (refusals_of os ≡ []) × PiecesSpell k (pieces_of os) (items_of os)
@@ -213,60 +233,111 @@ none_refused k file start before (o ∷ os) h none = under o.refusal h.0 none (�
     under (Some e) is bad more = absurd cc
     under None is rest more = let m = more rest in (m.0, (o.items, items_of os, refl, is, m.1))
 
-pub writes_each : (k : ItemType) (l : Layout) (file before after old new : Option (List ℕ)) (err : Stream) (w : WritesPieces k l file before after old new err false) → WritesEach k l before after old new × IsGivenNothing err
+-- then the stream spells the items, and nothing was reported
+pub none_reported : (k : ItemType) (file before after : Option (List ℕ)) (written : List Item → Type 0) (err : Stream) (w : WritesPieces k file before after written err false) → TextSpells k w.read (items_of w.outcomes) × IsGivenNothing err
+none_reported k file before after written err w =
+    let none = none_refused k file before [] w.outcomes w.are (sym w.any) in
+    ((spells_by_pieces k w.read (pieces_of w.outcomes) (items_of w.outcomes) w.pieces).1 none.1, subst (λ (x : List ParseError). AreReported err x) none.0 w.reported)
+
+writes_each : (k : ItemType) (l : Layout) (file before after old new : Option (List ℕ)) (err : Stream) → WritesPieces k file before after (WritesRecords l old new) err false → WritesEach k l before after old new × IsGivenNothing err
 writes_each k l file before after old new err w =
-    let none = none_refused k file before [] w.outcomes w.are (sym w.any) in (
-      record {
-        read = w.read;
-        items = items_of w.outcomes;
-        consumed = w.consumed;
-        all_read = w.all_read;
-        spelled = (spells_by_pieces k w.read (pieces_of w.outcomes) (items_of w.outcomes) w.pieces).1 none.1;
-        written = w.written;
-      },
-      subst (λ (x : List ParseError). AreReported err x) none.0 w.reported,
-    )
+    let none = none_reported k file before after (WritesRecords l old new) err w in
+    (record { read = w.read; items = items_of w.outcomes; consumed = w.consumed; all_read = w.all_read; spelled = none.0; written = w.are_written }, none.1)
 
--- reading or writing stopped
-pub stopped_after : {W : Type 0} (k : ItemType) (l : Layout) (file start mid old : Option (List ℕ)) (con : W → Option (List ℕ)) (a b : W) (err : Stream) (any : Bool) (p : PieceReader) (stop : Stop) → Reached k l file start mid old (con a) err any p → IfInput stop (λ e. b ≡ a) → StopsAfter k l file start old (con b) err stop
-stopped_after {W = W} k l file start mid old con a b err any p stop r same = (r.outcomes, reached_reads k l file start mid old (con a) err any p r, r.reported, written stop same)
-  where
-    written : (stop : Stop) → IfInput stop (λ e. b ≡ a) → WrittenAt stop l (items_of r.outcomes) old (con b)
-    written (Input e) h = subst (λ (x : W). Appends old (con x) (records_of l (items_of r.outcomes))) (sym h) r.written
-    written (Output fault) h = tt
-
-module _ (k : ItemType) (l : Layout) (name : List ℕ) (before after : Option (List ℕ)) (out a b c : Stream) (p : Parts a b c) (mid : Option (List ℕ)) where
-  -- nothing more was written or reported
-  kept_pieces : (refused : Bool) → WritesPieces k l (Some name) before after out.before mid a refused → Keeps mid out.after → IsGivenNothing b → WritesPieces k l (Some name) before after out.before out.after c refused
-  kept_pieces refused w kept quiet = record {
+module _ (k : ItemType) (name : List ℕ) (before after : Option (List ℕ)) (a b c : Stream) (p : Parts a b c) where
+  -- nothing more was reported, and what was written is known after all
+  pub kept_pieces : (so_far written : List Item → Type 0) → ((xs : List Item) → so_far xs → written xs) → (refused : Bool) → WritesPieces k (Some name) before after so_far a refused → IsGivenNothing b → WritesPieces k (Some name) before after written c refused
+  kept_pieces so_far written kept refused w quiet = record {
     read = w.read;
     outcomes = w.outcomes;
     consumed = w.consumed;
     all_read = w.all_read;
     pieces = w.pieces;
     are = w.are;
-    written = appends_kept out.before mid out.after (records_of l (items_of w.outcomes)) w.written kept;
+    are_written = kept (items_of w.outcomes) w.are_written;
     reported = reported_none a b c p (refusals_of w.outcomes) w.reported quiet;
     any = w.any;
   }
 
-  pub run_done : (refused : Bool) (status : ℕ) → WritesPieces k l (Some name) before after out.before mid a refused → Keeps mid out.after → IsGivenNothing b → (refused ≡ false → status ≡ 0) → (refused ≡ true → status ≡ 1) → IsGoingOnRun k l name before after out c status
-  run_done false status w kept quiet zero_is one_is = subst (λ (n : ℕ). IsGoingOnRun k l name before after out c n) (sym (zero_is refl)) (writes_each k l (Some name) before after out.before out.after c (kept_pieces false w kept quiet))
-  run_done true status w kept quiet zero_is one_is = subst (λ (n : ℕ). IsGoingOnRun k l name before after out c n) (sym (one_is refl)) (kept_pieces true w kept quiet)
+  -- the output failed after all
+  pub fault_after : (written : List Item → Type 0) (refused : Bool) → WritesPieces k (Some name) before after written a refused → ReportedFault output_name b → (os : List Outcome) × ReadsPieces k (Some name) before os × AreReportedThen c (refusals_of os) output_name
+  fault_after written refused w fault = (w.outcomes, all_reads k (Some name) before after written a refused w, reported_then a b c p (refusals_of w.outcomes) output_name w.reported fault)
 
-  pub run_unflushed : (refused : Bool) (status : ℕ) → WritesPieces k l (Some name) before after out.before mid a refused → status ≡ 2 → ReportedFault output_name b → IsGoingOnRun k l name before after out c status
-  run_unflushed refused status w two fault =
-      subst (λ (n : ℕ). IsGoingOnRun k l name before after out c n) (sym two)
-      (w.outcomes, all_reads k l (Some name) before after out.before mid a refused w, inr (reported_then a b c p (refusals_of w.outcomes) output_name w.reported fault))
+  module _ (l : Layout) (out : Stream) (mid : Option (List ℕ)) where
+    pub run_done : (refused : Bool) (status : ℕ) → WritesPieces k (Some name) before after (WritesRecords l out.before mid) a refused → Keeps mid out.after → IsGivenNothing b → (refused ≡ false → status ≡ 0) → (refused ≡ true → status ≡ 1) → IsGoingOnRun k l name before after out c status
+    run_done refused status w kept quiet zero_is one_is = under refused (kept_pieces (WritesRecords l out.before mid) (WritesRecords l out.before out.after) (λ xs x. appends_kept out.before mid out.after (records_of l xs) x kept) refused w quiet) zero_is one_is
+      where
+        under : (refused : Bool) → WritesPieces k (Some name) before after (WritesRecords l out.before out.after) c refused → (refused ≡ false → status ≡ 0) → (refused ≡ true → status ≡ 1) → IsGoingOnRun k l name before after out c status
+        under false w zero_is one_is = subst (λ (n : ℕ). IsGoingOnRun k l name before after out c n) (sym (zero_is refl)) (writes_each k l (Some name) before after out.before out.after c w)
+        under true w zero_is one_is = subst (λ (n : ℕ). IsGoingOnRun k l name before after out c n) (sym (one_is refl)) w
 
-  pub run_stopped : (stop : Stop) (status : ℕ) → StopsAfter k l (Some name) before out.before out.after a stop → IfInput stop (λ e. kind_of e ≡ Parse → ⊥) → IsStop name stop b status → IsGoingOnRun k l name before after out c status
-  run_stopped (Input e) status s no_refusal (inl (one, kind, line)) = absurd (no_refusal kind)
-  run_stopped (Input e) status (os, reads, reported, written) no_refusal (inr (two, fault)) =
-      subst (λ (n : ℕ). IsGoingOnRun k l name before after out c n) (sym two) (os, reads, inl (written, reported_then a b c p (refusals_of os) name reported fault))
-  run_stopped (Output f) status (os, reads, reported, written) no_refusal (two, fault) =
-      subst (λ (n : ℕ). IsGoingOnRun k l name before after out c n) (sym two) (os, reads, inr (reported_then a b c p (refusals_of os) output_name reported fault))
+    pub run_unflushed : (refused : Bool) (status : ℕ) → WritesPieces k (Some name) before after (WritesRecords l out.before mid) a refused → status ≡ 2 → ReportedFault output_name b → IsGoingOnRun k l name before after out c status
+    run_unflushed refused status w two fault =
+        let f = fault_after (WritesRecords l out.before mid) refused w fault in
+        subst (λ (n : ℕ). IsGoingOnRun k l name before after out c n) (sym two) (f.0, f.1, inr f.2)
+
+    pub run_stopped : (stop : Stop) (status : ℕ) → StopsAfter k (Some name) before (WritesRecords l out.before out.after) a stop → IfInput stop (λ e. kind_of e ≡ Parse → ⊥) → IsStop name stop b status → IsGoingOnRun k l name before after out c status
+    run_stopped (Input e) status s no_refusal (inl (one, kind, line)) = absurd (no_refusal kind)
+    run_stopped (Input e) status (os, reads, reported, written) no_refusal (inr (two, fault)) =
+        subst (λ (n : ℕ). IsGoingOnRun k l name before after out c n) (sym two) (os, reads, inl (written, reported_then a b c p (refusals_of os) name reported fault))
+    run_stopped (Output f) status (os, reads, reported, written) no_refusal (two, fault) =
+        subst (λ (n : ℕ). IsGoingOnRun k l name before after out c n) (sym two) (os, reads, inr (reported_then a b c p (refusals_of os) output_name reported fault))
+
+  module _ (l : Layout) (earlier : List Item) (out : Stream) (mid : Option (List ℕ)) (seen : Seen) where
+    firsts_kept : (xs : List Item) → Keeps mid out.after → WritesFirstRecords k l earlier out.before mid seen xs → WritesFirstRecords k l earlier out.before out.after seen xs
+    firsts_kept xs kept (first, are, written, now) = (first, are, appends_kept out.before mid out.after (records_of l first) written kept, now)
+
+    writes_firsts : WritesPieces k (Some name) before after (WritesFirstRecords k l earlier out.before out.after seen) c false → WritesFirsts k l earlier before after out.before out.after seen × IsGivenNothing c
+    writes_firsts w =
+        let none = none_reported k (Some name) before after (WritesFirstRecords k l earlier out.before out.after seen) c w in
+        let (first, are, written, now) = w.are_written in
+        (record { read = w.read; items = items_of w.outcomes; first = first; consumed = w.consumed; all_read = w.all_read; spelled = none.0; are_firsts = are; written = written; seen_now = now }, none.1)
+
+    pub uniq_done : (refused : Bool) (status : ℕ) → WritesPieces k (Some name) before after (WritesFirstRecords k l earlier out.before mid seen) a refused → Keeps mid out.after → IsGivenNothing b → (refused ≡ false → status ≡ 0) → (refused ≡ true → status ≡ 1)
+        → IsUniqGoingOnRun k l earlier name before after out seen c status
+    uniq_done refused status w kept quiet zero_is one_is =
+        under refused (kept_pieces (WritesFirstRecords k l earlier out.before mid seen) (WritesFirstRecords k l earlier out.before out.after seen) (λ xs x. firsts_kept xs kept x) refused w quiet) zero_is one_is
+      where
+        under : (refused : Bool) → WritesPieces k (Some name) before after (WritesFirstRecords k l earlier out.before out.after seen) c refused → (refused ≡ false → status ≡ 0) → (refused ≡ true → status ≡ 1) → IsUniqGoingOnRun k l earlier name before after out seen c status
+        under false w zero_is one_is = subst (λ (n : ℕ). IsUniqGoingOnRun k l earlier name before after out seen c n) (sym (zero_is refl)) (writes_firsts w)
+        under true w zero_is one_is = subst (λ (n : ℕ). IsUniqGoingOnRun k l earlier name before after out seen c n) (sym (one_is refl)) w
+
+    pub uniq_unflushed : (refused : Bool) (status : ℕ) → WritesPieces k (Some name) before after (WritesFirstRecords k l earlier out.before mid seen) a refused → status ≡ 2 → ReportedFault output_name b → IsUniqGoingOnRun k l earlier name before after out seen c status
+    uniq_unflushed refused status w two fault =
+        let f = fault_after (WritesFirstRecords k l earlier out.before mid seen) refused w fault in
+        subst (λ (n : ℕ). IsUniqGoingOnRun k l earlier name before after out seen c n) (sym two) (f.0, f.1, inr f.2)
+
+    pub uniq_stopped : (stop : Stop) (status : ℕ) → StopsAfter k (Some name) before AnyWritten a stop → IfInput stop (λ e. kind_of e ≡ Parse → ⊥) → IsStop name stop b status → IsUniqGoingOnRun k l earlier name before after out seen c status
+    uniq_stopped (Input e) status s no_refusal (inl (one, kind, line)) = absurd (no_refusal kind)
+    uniq_stopped (Input e) status (os, reads, reported, written) no_refusal (inr (two, fault)) =
+        subst (λ (n : ℕ). IsUniqGoingOnRun k l earlier name before after out seen c n) (sym two) (os, reads, inl (reported_then a b c p (refusals_of os) name reported fault))
+    uniq_stopped (Output f) status (os, reads, reported, written) no_refusal (two, fault) =
+        subst (λ (n : ℕ). IsUniqGoingOnRun k l earlier name before after out seen c n) (sym two) (os, reads, inr (reported_then a b c p (refusals_of os) output_name reported fault))
+
+-- nothing is claimed
+pub any_written : (stop : Stop) (written : List Item → Type 0) → IfReading stop ((xs : List Item) → written xs → AnyWritten xs)
+any_written (Input e) written = λ xs x. tt
+any_written (Output fault) written = tt
+
+-- of all pieces, what is written is known in other words
+pub pieces_mapped : (k : ItemType) (file before after : Option (List ℕ)) (one other : List Item → Type 0) (err : Stream) (refused : Bool) → ((xs : List Item) → one xs → other xs) → WritesPieces k file before after one err refused → WritesPieces k file before after other err refused
+pieces_mapped k file before after one other err refused f w = record {
+  read = w.read;
+  outcomes = w.outcomes;
+  consumed = w.consumed;
+  all_read = w.all_read;
+  pieces = w.pieces;
+  are = w.are;
+  are_written = f (items_of w.outcomes) w.are_written;
+  reported = w.reported;
+  any = w.any;
+}
 
 -- a number that says whether
 pub few : (b : Bool) (n : ℕ) → (b ≡ false → n ≡ 0) → (b ≡ true → n ≡ 1) → n ≤ 1
 few false n zero_is one_is = let e = zero_is refl in omega arith
 few true n zero_is one_is = let e = one_is refl in omega arith
+
+pub ok_mapped : {E : Type 0} (r : Result Bool E) (P Q : Bool → Type 0) → ((b : Bool) → P b → Q b) → IfOk r P → IfOk r Q
+ok_mapped (Ok b) P Q f h = f b h
+ok_mapped (Err e) P Q f h = tt

@@ -24,7 +24,7 @@ use Rattle.souper_stream.proofs.Turns.{never_after}
 use Rattle.souper_records.specs.declared.layout.Layout.{Layout}
 use Rattle.souper_records.specs.declared.seen.Seen.{Seen}
 use Rattle.souper_records.specs.Records.{record_of_text, record_of, records_of}
-use Rattle.souper_records.specs.Uniques.{text_by, firsts, AreSame, AreFirsts, HasText, HasSeen, WritesFirsts, WritesFirstsUpTo}
+use Rattle.souper_records.specs.Uniques.{text_by, firsts, AreSame, AreFirsts, HasText, HasSeen, WritesFirsts, WritesFirstsUpTo, WritesFirstRecords, WritesNewFirsts}
 use Rattle.souper_records.specs.Firsts.{firsts_by}
 use Rattle.souper_records.specs.Counts.{count_of, counts_by, IsCounted}
 use Rattle.souper_records.proofs.Tallies.{index, counts-again, counts-new}
@@ -121,15 +121,8 @@ records_of_new : (k : ItemType) (l : Layout) (before taken : List Item) (s t : S
 records_of_new k l before taken s t h j =
     ap (flat_map (record_of_text l)) (new_texts k l.rename before taken s t h j) ∙ flat_map-map (record_of_text l) (text_by l.rename) (firsts l.rename before taken)
 
--- the items were seen, and their records written
-abbrev pub Keeps : ItemType → Layout → Option (List ℕ) → Option (List ℕ) → Seen → Seen → List Item → Type 0
-Keeps k l old now s t items = (earlier : List Item) → HasSeen k l.rename earlier s → HasSeen k l.rename (earlier ++ items) t × Appends old now (records_of l (firsts l.rename earlier items))
-
 abbrev pub Reached : ItemType → Layout → Option (List ℕ) → Option (List ℕ) → Option (List ℕ) → Option (List ℕ) → Seen → Seen → PartReader → Type 0
-Reached k l before mid old now s t p = (read : List ℕ) × (items : List Item) × HasRead k read items p × Consumes before mid read × Keeps k l old now s t items
-
-pub reached_none : (k : ItemType) (l : Layout) (before old : Option (List ℕ)) (s : Seen) (p : PartReader) → HasRead k [] [] p → Reached k l before before old old s s p
-reached_none k l before old s p h = ([], [], h, Consumes-nil before, λ earlier seen. (subst (λ (x : List Item). HasSeen k l.rename x s) (sym (append-nil earlier)) seen, Appends-nil old))
+Reached k l before mid old now s t p = (read : List ℕ) × (items : List Item) × HasRead k read items p × Consumes before mid read × WritesNewFirsts k l old now s t items
 
 -- what was seen in one part
 abbrev pub SeesMore : ItemType → Bool → List Item → Seen → Seen → Type 0
@@ -139,17 +132,32 @@ SeesMore k rename taken s t = (items : List Item) → HasSeen k rename items s �
 abbrev pub WritesNew : Layout → Option (List ℕ) → Option (List ℕ) → Seen → Seen → Type 0
 WritesNew l now new s t = Appends now new (flat_map (record_of_text l) (map string_bytes (drop (length s.texts.keys) t.texts.keys)))
 
-keeps_both : (k : ItemType) (l : Layout) (old now new : Option (List ℕ)) (s t u : Seen) (xs ys : List Item) → Keeps k l old now s t xs → SeesMore k l.rename ys t u → WritesNew l now new t u → Keeps k l old new s u (xs ++ ys)
-keeps_both k l old now new s t u xs ys a more w = λ earlier seen.
+-- of one part
+pub keeps_one : (k : ItemType) (l : Layout) (now new : Option (List ℕ)) (t u : Seen) (ys : List Item) → SeesMore k l.rename ys t u → WritesNew l now new t u → WritesNewFirsts k l now new t u ys
+keeps_one k l now new t u ys more w = λ earlier seen.
+    let later = more earlier seen in
+    (later, subst (Appends now new) (records_of_new k l earlier ys t u seen later) w)
+
+-- of one part after another
+pub keeps_join : (k : ItemType) (l : Layout) (old now new : Option (List ℕ)) (s t u : Seen) (xs ys : List Item) → WritesNewFirsts k l old now s t xs → WritesNewFirsts k l now new t u ys → WritesNewFirsts k l old new s u (xs ++ ys)
+keeps_join k l old now new s t u xs ys a b = λ earlier seen.
     let so_far = a earlier seen in
-    let later = more (earlier ++ xs) so_far.0 in
-    let part = records_of_new k l (earlier ++ xs) ys t u so_far.0 later in
+    let part = b (earlier ++ xs) so_far.0 in
     let both = firsts-append (text_by l.rename) earlier xs ys in (
-      subst (λ (x : List Item). HasSeen k l.rename x u) (append_assoc earlier xs ys) later,
+      subst (λ (x : List Item). HasSeen k l.rename x u) (append_assoc earlier xs ys) part.0,
       subst (λ (x : List Item). Appends old new (records_of l x)) (sym both)
           (subst (Appends old new) (sym (flat_map-append (record_of l) (firsts l.rename earlier xs) (firsts l.rename (earlier ++ xs) ys)))
-          (Appends-trans old now new (records_of l (firsts l.rename earlier xs)) (records_of l (firsts l.rename (earlier ++ xs) ys)) so_far.1 (subst (Appends now new) part w))),
+          (Appends-trans old now new (records_of l (firsts l.rename earlier xs)) (records_of l (firsts l.rename (earlier ++ xs) ys)) so_far.1 part.1)),
     )
+
+keeps_both : (k : ItemType) (l : Layout) (old now new : Option (List ℕ)) (s t u : Seen) (xs ys : List Item) → WritesNewFirsts k l old now s t xs → SeesMore k l.rename ys t u → WritesNew l now new t u → WritesNewFirsts k l old new s u (xs ++ ys)
+keeps_both k l old now new s t u xs ys a more w = keeps_join k l old now new s t u xs ys a (keeps_one k l now new t u ys more w)
+
+pub keeps_none : (k : ItemType) (l : Layout) (old : Option (List ℕ)) (s : Seen) → WritesNewFirsts k l old old s s []
+keeps_none k l old s earlier seen = (subst (λ (x : List Item). HasSeen k l.rename x s) (sym (append-nil earlier)) seen, Appends-nil old)
+
+pub reached_none : (k : ItemType) (l : Layout) (before old : Option (List ℕ)) (s : Seen) (p : PartReader) → HasRead k [] [] p → Reached k l before before old old s s p
+reached_none k l before old s p h = ([], [], h, Consumes-nil before, keeps_none k l old s)
 
 all_parts : (P : Item → Type 0) (xs ys : List Item) → AllByRecursion P (xs ++ ys) → AllByRecursion P ys
 all_parts P [] ys h = h
@@ -200,3 +208,9 @@ module _ {S : Type 0} (k : ItemType) (l : Layout) (before mid after old now new 
         seen_now = both.0;
         placed = part.placed;
       }
+
+-- the first items of what was seen
+pub first_records : (k : ItemType) (l : Layout) (old new : Option (List ℕ)) (s t : Seen) (earlier items : List Item) → HasSeen k l.rename earlier s → WritesNewFirsts k l old new s t items → WritesFirstRecords k l earlier old new t items
+first_records k l old new s t earlier items seen w =
+    let both = w earlier seen in
+    (firsts l.rename earlier items, are_firsts k l.rename earlier items seen.0 (all_parts (HasText k l.rename) earlier items both.0.0), both.1, both.0)

@@ -81,29 +81,29 @@ abbrev pub ReportsPiece : Stream → Option ParseError → Type 0
 ReportsPiece err None = IsGivenNothing err
 ReportsPiece err (Some e) = ReportedLine err e
 
--- the next piece was read, the records of its items were written, and its refusal was reported, if it was refused
-pub record WritesPiece (k : ItemType) (l : Layout) (file start now : Option (List ℕ)) (ps : List (List Line)) (old new : Option (List ℕ)) (err : Stream) (refused : Bool) (p : PieceReader) : Type 0 where
+-- the next piece was read, its items were written, and its refusal was reported, if it was refused
+pub record WritesPiece (k : ItemType) (file start now : Option (List ℕ)) (ps : List (List Line)) (written : List Item → Type 0) (err : Stream) (refused : Bool) (p : PieceReader) : Type 0 where
   pub outcome : Outcome
   pub had : HasPieces k start now (ps ++ outcome.piece ∷ []) p
   pub is : IsOutcome k file start (concat (all_lines ps)) (concat outcome.piece) outcome.items outcome.refusal
   pub any : refused ≡ is_some outcome.refusal
-  pub written : Appends old new (records_of l outcome.items)
+  pub are_written : written outcome.items
   pub reported : ReportsPiece err outcome.refusal
 
--- all of the stream was read: the records of the items of all pieces were written, also of those that pieces begin with that were
--- refused, and each refusal was reported, in order
-pub record WritesPieces (k : ItemType) (l : Layout) (file before after old new : Option (List ℕ)) (err : Stream) (refused : Bool) : Type 0 where
+-- all of the stream was read: the items of all pieces were written, also those that refused pieces begin with, and each refusal was
+-- reported, in order
+pub record WritesPieces (k : ItemType) (file before after : Option (List ℕ)) (written : List Item → Type 0) (err : Stream) (refused : Bool) : Type 0 where
   pub read : List ℕ
   pub outcomes : List Outcome
   pub consumed : Consumes before after read
   pub all_read : AreAll before read
   pub pieces : ArePieces k read (pieces_of outcomes)
   pub are : AreOutcomes k file before [] outcomes
-  pub written : Appends old new (records_of l (items_of outcomes))
+  pub are_written : written (items_of outcomes)
   pub reported : AreReported err (refusals_of outcomes)
   pub any : refused ≡ any_refused outcomes
 
--- The stream begins with these pieces, and each of their refusals was reported, in order.
+-- the stream begins with these pieces
 pub record ReadsPieces (k : ItemType) (file before : Option (List ℕ)) (outcomes : List Outcome) : Type 0 where
   pub read : List ℕ
   pub rest : List ℕ
@@ -112,11 +112,14 @@ pub record ReadsPieces (k : ItemType) (file before : Option (List ℕ)) (outcome
   pub whole : read ≡ concat (all_lines (pieces_of outcomes)) ++ rest
   pub are : AreOutcomes k file before [] outcomes
 
--- what is known of the output if reading or writing stopped: if reading did, the records of these items were written
-abbrev pub WrittenAt : Stop → Layout → List Item → Option (List ℕ) → Option (List ℕ) → Type 0
-WrittenAt (Input e) l items old new = Appends old new (records_of l items)
-WrittenAt (Output fault) l items old new = Unit {0}
+-- reading or writing stopped after these pieces; if reading did, their items were written
+abbrev pub IfReading : Stop → Type 0 → Type 0
+IfReading (Input e) P = P
+IfReading (Output fault) P = Unit {0}
 
--- reading or writing stopped after these pieces
-abbrev pub StopsAfter : ItemType → Layout → Option (List ℕ) → Option (List ℕ) → Option (List ℕ) → Option (List ℕ) → Stream → Stop → Type 0
-StopsAfter k l file before old new err stop = (os : List Outcome) × ReadsPieces k file before os × AreReported err (refusals_of os) × WrittenAt stop l (items_of os) old new
+abbrev pub StopsAfter : ItemType → Option (List ℕ) → Option (List ℕ) → (List Item → Type 0) → Stream → Stop → Type 0
+StopsAfter k file before written err stop = (os : List Outcome) × ReadsPieces k file before os × AreReported err (refusals_of os) × IfReading stop (written (items_of os))
+
+-- how items are written: their records, and nothing else
+abbrev pub WritesRecords : Layout → Option (List ℕ) → Option (List ℕ) → List Item → Type 0
+WritesRecords l old new items = Appends old new (records_of l items)

@@ -1,6 +1,5 @@
 -- Definitions. What each status of a run over a stream says of the stream and of the writers.
 use Rattle.std.specs.Prelude.{◌≡◌, ◌⊎◌, ℕ, zero, suc, true, List, Option, Some, codes}
-use Rattle.std.specs.Io.KnownBytes.{Appends}
 use Rattle.souper_graph.specs.Values.{Item}
 use Rattle.souper_graph.specs.Syntax.Spelling.{ItemType}
 use Rattle.souper_ir.specs.declared.parse.ParseError.{ParseError}
@@ -11,9 +10,8 @@ use Rattle.souper_records.specs.Eaches.{WritesEach, WritesUpTo, WritesBegun}
 use Rattle.souper_records.specs.declared.each.Stop.{Stop}
 use Rattle.souper_records.specs.declared.each.Stop.TheVariants.{Input, Output}
 use Rattle.souper_records.specs.declared.seen.Seen.{Seen}
-use Rattle.souper_records.specs.Uniques.{WritesFirsts, WritesFirstsUpTo, counted_records}
-use Rattle.souper_records.specs.Records.{records_of}
-use Rattle.souper_records.specs.Outcomes.{Outcome, items_of, refusals_of, AreReportedThen, WritesPieces, ReadsPieces}
+use Rattle.souper_records.specs.Uniques.{WritesFirsts, WritesFirstsUpTo, WritesFirstRecords, counted_records}
+use Rattle.souper_records.specs.Outcomes.{Outcome, items_of, refusals_of, AreReportedThen, WritesPieces, ReadsPieces, WritesRecords}
 use Rattle.souper_records.specs.Reports.{ReportedFault, ReportedError}
 
 -- a fact for each status, of which there are three
@@ -50,9 +48,9 @@ IsEachRun k l name before after out err status = OnStatus status
 abbrev pub IsGoingOnRun : ItemType → Layout → List ℕ → Option (List ℕ) → Option (List ℕ) → Stream → Stream → ℕ → Type 0
 IsGoingOnRun k l name before after out err status = OnStatus status
     (WritesEach k l before after out.before out.after × IsGivenNothing err)
-    (WritesPieces k l (Some name) before after out.before out.after err true)
+    (WritesPieces k (Some name) before after (WritesRecords l out.before out.after) err true)
     ((os : List Outcome) × ReadsPieces k (Some name) before os
-    × ((Appends out.before out.after (records_of l (items_of os)) × AreReportedThen err (refusals_of os) name) ⊎ AreReportedThen err (refusals_of os) output_name))
+    × ((WritesRecords l out.before out.after (items_of os) × AreReportedThen err (refusals_of os) name) ⊎ AreReportedThen err (refusals_of os) output_name))
 
 -- the same of writing the records of the first items, after earlier ones
 abbrev pub IsUniqRun : ItemType → Layout → List Item → List ℕ → Option (List ℕ) → Option (List ℕ) → Stream → Seen → Stream → ℕ → Type 0
@@ -60,6 +58,13 @@ IsUniqRun k l earlier name before after out seen err status = OnStatus status
     (WritesFirsts k l earlier before after out.before out.after seen × IsGivenNothing err)
     ((e : ParseError) × WritesFirstsUpTo k l earlier (Some name) before after out.before out.after seen e × ReportedLine err e)
     (ReportedFault name err ⊎ ReportedFault output_name err)
+
+-- the same, going on after refusals
+abbrev pub IsUniqGoingOnRun : ItemType → Layout → List Item → List ℕ → Option (List ℕ) → Option (List ℕ) → Stream → Seen → Stream → ℕ → Type 0
+IsUniqGoingOnRun k l earlier name before after out seen err status = OnStatus status
+    (WritesFirsts k l earlier before after out.before out.after seen × IsGivenNothing err)
+    (WritesPieces k (Some name) before after (WritesFirstRecords k l earlier out.before out.after seen) err true)
+    ((os : List Outcome) × ReadsPieces k (Some name) before os × (AreReportedThen err (refusals_of os) name ⊎ AreReportedThen err (refusals_of os) output_name))
 
 -- the records of items with counts were written, and nothing was reported; or something failed, and that was reported
 abbrev pub IsCountRun : Layout → List Item → Stream → Stream → ℕ → Type 0

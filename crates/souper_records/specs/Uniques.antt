@@ -76,6 +76,18 @@ pub record WritesFirstsUpTo (k : ItemType) (l : Layout) (earlier : List Item) (f
   pub seen_now : HasSeen k l.rename (earlier ++ items) seen
   pub placed : length read + 1 < 2 ^ 64 → (offset : ℕ) × (offset ≤ length read) × IsRefusalAt file read offset e
 
+-- of these items, after earlier ones, the first of each graph had their records written, and nothing else; and all were seen
+abbrev pub WritesFirstRecords : ItemType → Layout → List Item → Option (List ℕ) → Option (List ℕ) → Seen → List Item → Type 0
+WritesFirstRecords k l earlier old new seen items = (first : List Item) × AreFirsts l.rename earlier items first × Appends old new (records_of l first) × HasSeen k l.rename (earlier ++ items) seen
+
+-- the same, whatever items were seen before
+abbrev pub WritesNewFirsts : ItemType → Layout → Option (List ℕ) → Option (List ℕ) → Seen → Seen → List Item → Type 0
+WritesNewFirsts k l old new before after items = (earlier : List Item) → HasSeen k l.rename earlier before → HasSeen k l.rename (earlier ++ items) after × Appends old new (records_of l (firsts l.rename earlier items))
+
+-- nothing is known of what was written
+abbrev pub AnyWritten : List Item → Type 0
+AnyWritten items = Unit {0}
+
 -- a comment line with a number
 abbrev pub count_line : ℕ → List ℕ
 count_line n = codes "; count " ++ (decimal n ++ codes "\n")

@@ -6,7 +6,7 @@ ghost use Rattle.souper_stream.specs.PieceReading.{HasPieces, HasAll};
 ghost use Rattle.souper_format.specs.Streams.{stream};
 ghost use Rattle.souper_format.specs.Watching.{has_failed};
 ghost use Rattle.souper_records.specs.Eaches.{IfInput};
-ghost use Rattle.souper_records.specs.Outcomes.{WritesPiece, WritesPieces, StopsAfter};
+ghost use Rattle.souper_records.specs.Outcomes.{WritesPiece, WritesPieces, StopsAfter, WritesRecords};
 
 use crate::each::{Job, Stop, write_text};
 use crate::fixed::Fixed;
@@ -34,7 +34,7 @@ fn each_turn<L: Fixed, T: StreamItem + Drop, R: BufRead, W: Write, E: Write>(
     requires layout { job.layout ≡ L.layout }
     requires pieces { (start : Option (List ℕ)) × (ps : List (List Line)) × HasPieces T.item_type start (R.remaining reader.old) ps pieces.old }
     ensures piece { IfOk result (λ more. IfSome more (λ refused. (start : Option (List ℕ)) (ps : List (List Line)) → HasPieces T.item_type start (R.remaining reader.old) ps pieces.old
-        → WritesPiece T.item_type job.entry.layout (Some job.entry.name.now) start (R.remaining reader.new) ps (W.contents out.old) (W.contents out.new) (stream E.contents err.old err.new) refused pieces.new)) }
+        → WritesPiece T.item_type (Some job.entry.name.now) start (R.remaining reader.new) ps (WritesRecords job.entry.layout (W.contents out.old) (W.contents out.new)) (stream E.contents err.old err.new) refused pieces.new)) }
     ensures ended { IfOk result (λ more. IfNone more ((start : Option (List ℕ)) (ps : List (List Line)) → HasPieces T.item_type start (R.remaining reader.old) ps pieces.old
         → HasAll T.item_type start (R.remaining reader.new) ps)) }
     ensures quiet { IfOk result (λ more. IfNone more ((out.new ≡ out.old) × (err.new ≡ err.old))) }
@@ -72,10 +72,10 @@ fn each_pieces<L: Fixed, T: StreamItem + Drop, R: BufRead, W: Write, E: Write>(
     err: &mut Watched<E>,
 ) -> Result<bool, Stop>
     requires { job.layout ≡ L.layout }
-    ensures written { IfOk result (λ refused. WritesPieces T.item_type job.entry.layout (Some job.entry.name.now) (R.remaining reader.old) (R.remaining reader.new)
-        (W.contents out.old) (W.contents out.new) (stream E.contents err.old err.new) refused) }
-    ensures stopped { IfErr result (λ stop. StopsAfter T.item_type job.entry.layout (Some job.entry.name.now) (R.remaining reader.old)
-        (W.contents out.old) (W.contents out.new) (stream E.contents err.old err.new) stop) }
+    ensures written { IfOk result (λ refused. WritesPieces T.item_type (Some job.entry.name.now) (R.remaining reader.old) (R.remaining reader.new)
+        (WritesRecords job.entry.layout (W.contents out.old) (W.contents out.new)) (stream E.contents err.old err.new) refused) }
+    ensures stopped { IfErr result (λ stop. StopsAfter T.item_type (Some job.entry.name.now) (R.remaining reader.old)
+        (WritesRecords job.entry.layout (W.contents out.old) (W.contents out.new)) (stream E.contents err.old err.new) stop) }
     ensures fault { IfErr result (λ stop. IfInput stop (λ e. kind_of e ≡ ParseErrorKind.Parse → ⊥)) }
     ensures stays { has_failed err.old ≡ true → has_failed err.new ≡ true }
 {
@@ -105,10 +105,10 @@ pub fn each_going_on<T: StreamItem + Drop, R: BufRead, W: Write, E: Write>(
     out: &mut W,
     err: &mut Watched<E>,
 ) -> Result<bool, Stop>
-    ensures written { IfOk result (λ refused. WritesPieces T.item_type layout (Some name.now) (R.remaining reader.old) (R.remaining reader.new)
-        (W.contents out.old) (W.contents out.new) (stream E.contents err.old err.new) refused) }
-    ensures stopped { IfErr result (λ stop. StopsAfter T.item_type layout (Some name.now) (R.remaining reader.old)
-        (W.contents out.old) (W.contents out.new) (stream E.contents err.old err.new) stop) }
+    ensures written { IfOk result (λ refused. WritesPieces T.item_type (Some name.now) (R.remaining reader.old) (R.remaining reader.new)
+        (WritesRecords layout (W.contents out.old) (W.contents out.new)) (stream E.contents err.old err.new) refused) }
+    ensures stopped { IfErr result (λ stop. StopsAfter T.item_type (Some name.now) (R.remaining reader.old)
+        (WritesRecords layout (W.contents out.old) (W.contents out.new)) (stream E.contents err.old err.new) stop) }
     ensures fault { IfErr result (λ stop. IfInput stop (λ e. kind_of e ≡ ParseErrorKind.Parse → ⊥)) }
     ensures stays { has_failed err.old ≡ true → has_failed err.new ≡ true }
 {

@@ -15,3 +15,4 @@ pub mod run;
 pub mod seen;
 mod sink;
 pub mod uniq;
+pub mod uniq_going_on;

@@ -5,7 +5,7 @@ ghost use Rattle.souper_graph.specs.Values.{Item};
 ghost use Rattle.souper_format.specs.Streams.{stream};
 ghost use Rattle.souper_format.specs.Watching.{has_failed};
 ghost use Rattle.souper_records.specs.Uniques.{HasSeen};
-ghost use Rattle.souper_records.specs.Runs.{IsEnd, IsStop, IsEachRun, IsGoingOnRun, IsUniqRun, IsCountRun};
+ghost use Rattle.souper_records.specs.Runs.{IsEnd, IsStop, IsEachRun, IsGoingOnRun, IsUniqRun, IsUniqGoingOnRun, IsCountRun};
 
 use crate::counts::write_counts;
 use crate::each::{Stop, each};
@@ -14,6 +14,7 @@ use crate::layout::Layout;
 use crate::report::{report_error, report_fault, report_memory};
 use crate::seen::Seen;
 use crate::uniq::uniq;
+use crate::uniq_going_on::uniq_going_on;
 use souper_format::watched::Watched;
 use souper_stream::StreamItem;
 use std::alloc::Global;
@@ -117,6 +118,28 @@ pub fn uniq_run<T: StreamItem + Drop, R: BufRead, W: Write, E: Write>(
 {
     match uniq::<T, R, Watched<W>>(alloc, layout, seen, reader, name, out) {
         Ok(()) => end(alloc, out, err),
+        Err(stop) => report_stop(alloc, name, &stop, err),
+    }
+}
+
+/// Writes the record of each item of the stream that is the same graph as no earlier one to `out`, and goes on after a refusal
+/// ([`uniq_going_on`]). Returns the status of the program, as [`each_going_on_run`] does. After status 2 nothing is known of what was
+/// written nor of `seen`, which is not to be used again.
+pub fn uniq_going_on_run<T: StreamItem + Drop, R: BufRead, W: Write, E: Write>(
+    alloc: Global,
+    layout: Layout,
+    seen: &mut Seen,
+    reader: &mut R,
+    name: &str,
+    out: &mut Watched<W>,
+    err: &mut Watched<E>,
+) -> u8
+    ensures { (earlier : List Item) → HasSeen T.item_type layout.rename earlier seen.old
+        → IsUniqGoingOnRun T.item_type layout earlier name.now (R.remaining reader.old) (R.remaining reader.new)
+        (stream W.contents out.old out.new) seen.new (stream E.contents err.old err.new) result }
+{
+    match uniq_going_on::<T, R, Watched<W>, E>(alloc, layout, seen, reader, name, out, err) {
+        Ok(refused) => end(alloc, out, err).max(u8::from(refused)),
         Err(stop) => report_stop(alloc, name, &stop, err),
     }
 }

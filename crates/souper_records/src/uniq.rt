@@ -23,15 +23,30 @@ use std::{io, mem};
 
 // A sink that keeps the text of the first item of each graph.
 #[derive(Drop)]
-struct Firsts<L: Fixed> {
+pub(crate) struct Firsts<L: Fixed> {
     alloc: Global,
     layout: Layout,
 
     // For the text of one item.
     text: String,
-    seen: Seen,
+    pub(crate) seen: Seen,
     fixed: PhantomData<L>,
     ghost stays: { layout ≡ L.layout } by { Coded-set layout-code layout L.layout },
+}
+
+impl<L: Fixed> Firsts<L> {
+    pub(crate) fn new(alloc: Global, layout: Layout, seen: Seen) -> Self
+        requires { layout ≡ L.layout }
+        ensures { result.seen ≡ seen }
+    {
+        Firsts {
+            alloc,
+            layout,
+            text: String::new(alloc),
+            seen,
+            fixed: PhantomData::<L>,
+        }
+    }
 }
 
 impl<L: Fixed, T: WholeItem + Drop> Sink<T> for Firsts<L> {
@@ -49,7 +64,7 @@ impl<L: Fixed, T: WholeItem + Drop> Sink<T> for Firsts<L> {
 }
 
 // Writes the records of the texts from the index `start` on.
-fn write_texts<W: Write>(
+pub(crate) fn write_texts<W: Write>(
     alloc: Global,
     layout: Layout,
     texts: &[String],
@@ -117,13 +132,8 @@ fn uniq_fixed<L: Fixed, T: StreamItem + Drop, R: BufRead, W: Write>(
         → (earlier : List Item) → HasSeen T.item_type job.entry.layout.rename earlier seen.old
         → WritesFirstsUpTo T.item_type job.entry.layout earlier (Some job.entry.name.now) (R.remaining reader.old) (R.remaining reader.new) (W.contents out.old) (W.contents out.new) seen.new e)) }
 {
-    let mut firsts = Firsts {
-        alloc,
-        layout: job.layout,
-        text: String::new(alloc),
-        seen: mem::replace(seen, Seen::new(alloc)),
-        fixed: PhantomData::<L>,
-    };
+    let taken = mem::replace(seen, Seen::new(alloc));
+    let mut firsts = Firsts::<L>::new(alloc, job.layout, taken);
     let result = uniq_parts::<L, T, R, W>(alloc, job, &mut firsts, reader, out);
     *seen = firsts.seen;
     result

@@ -19,7 +19,7 @@ returns-in-Ok-true-clause-piece g c = λ start ps had.
       had = t.1;
       is = t.2.1;
       any = refl;
-      written = subst (λ (x : List ℕ). Appends (con c.args.out.now) (con c.write_text.new.out) x) is c.in_ok-write_text-in-Ok-true.ensures.written;
+      are_written = subst (λ (x : List ℕ). Appends (con c.args.out.now) (con c.write_text.new.out) x) is c.in_ok-write_text-in-Ok-true.ensures.written;
       reported = Keeps-refl _;
     }
 
@@ -38,6 +38,6 @@ returns-in-Err-clause-piece g c = λ start ps had.
       had = t.goes_on;
       is = record { kind = kind; none = t.none; begun = t.begun.1; now = g.R.Read.remaining c.read_piece.new.reader; read = t.read; consumed = t.consumed; placed = t.placed };
       any = refl;
-      written = subst (λ (x : List ℕ). Appends (con c.args.out.now) (con c.write_text-in-Err.new.out) x) is c.in_ok-write_text-in-Err.ensures.written;
+      are_written = subst (λ (x : List ℕ). Appends (con c.args.out.now) (con c.write_text-in-Err.new.out) x) is c.in_ok-write_text-in-Err.ensures.written;
       reported = λ works. (string_bytes c.in-Ok.line, c.in-Ok.ensures, c.report_line.ensures.given works);
     }

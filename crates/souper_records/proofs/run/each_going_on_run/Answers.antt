@@ -12,15 +12,16 @@ returns-in-Ok g c =
     let b = stream g.E.Write.contents c.each_going_on.new.err c.end.new.err in
     let both = stream g.E.Write.contents c.args.err.now c.end.new.err in
     elim c.end.ensures.end [
-      | inl done ↦ run_done k c.args.layout c.args.name.now (g.R.Read.remaining c.args.reader.now) (g.R.Read.remaining c.each_going_on.new.reader) out a b both
-          (record { from = refl; between = refl; to = refl; last = refl; stays = c.end.ensures.stays }) mid c.in-Ok.refused c.max.result c.in-Ok.ensures.written done.1 done.2
+      | inl done ↦ run_done k c.args.name.now (g.R.Read.remaining c.args.reader.now) (g.R.Read.remaining c.each_going_on.new.reader) a b both
+          (record { from = refl; between = refl; to = refl; last = refl; stays = c.end.ensures.stays }) c.args.layout out mid c.in-Ok.refused c.max.result c.in-Ok.ensures.written done.1 done.2
           (λ e. let byte = rw e at c.from.ensures in omega (arith, c.max.ensures, done.0, byte)) (λ e. let byte = rw e at c.from.ensures in omega (arith, c.max.ensures, done.0, byte))
-      | inr fault ↦ run_unflushed k c.args.layout c.args.name.now (g.R.Read.remaining c.args.reader.now) (g.R.Read.remaining c.each_going_on.new.reader) out a b both
-          (record { from = refl; between = refl; to = refl; last = refl; stays = c.end.ensures.stays }) mid c.in-Ok.refused c.max.result c.in-Ok.ensures.written (omega (arith, c.max.ensures, fault.0, few c.in-Ok.refused c.from.result (λ e. rw e at c.from.ensures) (λ e. rw e at c.from.ensures))) fault.1
+      | inr fault ↦ run_unflushed k c.args.name.now (g.R.Read.remaining c.args.reader.now) (g.R.Read.remaining c.each_going_on.new.reader) a b both
+          (record { from = refl; between = refl; to = refl; last = refl; stays = c.end.ensures.stays }) c.args.layout out mid c.in-Ok.refused c.max.result c.in-Ok.ensures.written (omega (arith, c.max.ensures, fault.0, few c.in-Ok.refused c.from.result (λ e. rw e at c.from.ensures) (λ e. rw e at c.from.ensures))) fault.1
     ]
 
 pub returns-in-Err : goal.returns-in-Err
 returns-in-Err g c =
-    run_stopped g.T.Item.item_type c.args.layout c.args.name.now (g.R.Read.remaining c.args.reader.now) (g.R.Read.remaining c.each_going_on.new.reader)
-    (stream g.W.Write.contents c.args.out.now c.each_going_on.new.out) (stream g.E.Write.contents c.args.err.now c.each_going_on.new.err) (stream g.E.Write.contents c.each_going_on.new.err c.report_stop.new.err) (stream g.E.Write.contents c.args.err.now c.report_stop.new.err)
-    (record { from = refl; between = refl; to = refl; last = refl; stays = c.report_stop.ensures.stays }) (stream g.W.Write.contents c.args.out.now c.each_going_on.new.out).after c.in-Err.stop c.report_stop.result c.in-Err.ensures.stopped c.in-Err.ensures.fault c.report_stop.ensures.stop
+    run_stopped g.T.Item.item_type c.args.name.now (g.R.Read.remaining c.args.reader.now) (g.R.Read.remaining c.each_going_on.new.reader)
+    (stream g.E.Write.contents c.args.err.now c.each_going_on.new.err) (stream g.E.Write.contents c.each_going_on.new.err c.report_stop.new.err) (stream g.E.Write.contents c.args.err.now c.report_stop.new.err)
+    (record { from = refl; between = refl; to = refl; last = refl; stays = c.report_stop.ensures.stays }) c.args.layout (stream g.W.Write.contents c.args.out.now c.each_going_on.new.out) (stream g.W.Write.contents c.args.out.now c.each_going_on.new.out).after
+    c.in-Err.stop c.report_stop.result c.in-Err.ensures.stopped c.in-Err.ensures.fault c.report_stop.ensures.stop

@@ -1,0 +1,15 @@
+-- The pieces that were read, what was written of them, and what was reported.
+use Rattle.std.proofs.Common.{◌≡◌, true}
+use Rattle.std.specs.Prelude.{Some}
+use Rattle.souper_format.specs.Streams.{stream}
+use Rattle.souper_format.specs.Watching.{has_failed}
+use Rattle.souper_records.specs.Uniques.{WritesNewFirsts}
+use Rattle.souper_records.proofs.Outcomes.{Reached}
+use Rattle.souper_records.proofs.uniq_going_on.uniq_pieces.Given as goal
+
+abbrev pub invariant-loop-turn : goal.invariant-loop-turn
+invariant-loop-turn g l = record {
+  reached : Reached g.T.Item.item_type (Some l.fn.job.name.now) (g.R.Read.remaining l.fn.reader) (g.R.Read.remaining l.reader)
+      (WritesNewFirsts g.T.Item.item_type l.fn.job.layout (g.W.Write.contents l.fn.out) (g.W.Write.contents l.out) l.fn.firsts.seen l.firsts.seen) (stream g.E.Write.contents l.fn.err l.err) l.any l.pieces;
+  stays : has_failed l.fn.err ≡ true → has_failed l.err ≡ true;
+}
