@@ -6,6 +6,8 @@ mod checks;
 #[cfg(test)]
 mod faults;
 #[cfg(test)]
+mod going_on;
+#[cfg(test)]
 mod layouts;
 #[cfg(test)]
 mod streams;
