@@ -171,7 +171,7 @@ fn keeps_the_others(rt: &impl Abort, alloc: Global, bad: usize) -> Result<(), Fa
     let source = one_refused(alloc, bad, 5)?;
     let mut reader = BufReader::with_capacity(alloc, 3, source.as_bytes())?;
     let run = each_over::<LeftHandSide, BufReader<&[u8]>>(alloc, &mut reader);
-    let line = 3 * bad + 1;
+    let line = bad.saturating_mul(3).saturating_add(1);
     let report = format!(in alloc;
         "a.opt:{line}:6: no value named '%a' in scope\n     |\n{line:>4} | infer %a\n     |      ^\n"
     )?;
