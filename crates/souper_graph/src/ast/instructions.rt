@@ -1,15 +1,21 @@
 //! The instructions, their words and their operands.
 
-ghost use Rattle.std.specs.Prelude.{◌≡◌};
+ghost use Rattle.std.specs.Prelude.{◌≡◌, nat_eq};
+ghost use Rattle.std.specs.Cmp.{partial_equiv_from_equiv, and_per, and_equiv, on_per, on_equiv};
+ghost use Rattle.std.specs.Cmp.Lexicographic.{pointwise, lists_per, lists_equiv, on_texts_equal};
+ghost use Rattle.std.specs.Ordering.{eq_of_both, on};
+ghost use Rattle.souper_graph.specs.contracts.ast.operands.OperandPartialEq.TheImpl.Laws.{laws-law as operands_per};
+ghost use Rattle.souper_graph.specs.contracts.ast.operands.OperandEq.TheImpl.Laws.{laws-law as operands_equiv};
 ghost use Rattle.souper_graph.specs.Instructions.{word_of, operands_of};
 ghost use Rattle.souper_graph.specs.Operands.{operands_seen};
 
 use crate::ast::operands::Operand;
 use arrayvec::ArrayVec;
+use std::fmt;
 
 /// An operation on operands. What it computes is described by the LLVM Language Reference, whose poison is called
 /// undefined behaviour here; no contract states it.
-#[derive(Clone, Copy, Debug, PartialEq, Eq)]
+#[derive(Clone, Copy)]
 pub enum Instruction {
     /// The sum, which wraps around.
     Add { a: Operand, b: Operand },
@@ -355,5 +361,29 @@ impl Instruction {
             Instruction::Hole => "hole",
             Instruction::Freeze { .. } => "freeze",
         }
+    }
+}
+
+/// Two instructions are equal if they have the same word and equal operands.
+impl PartialEq for Instruction {
+    ghost eq = { eq_of_both (on word_of (pointwise nat_eq)) (on operands_of (pointwise ⟦<Operand as PartialEq>⟧.eq)) };
+
+    ghost laws = { and_per (partial_equiv_from_equiv (on_texts_equal word_of)) (on_per operands_of (lists_per operands_per)) };
+
+    fn eq(&self, other: &Self) -> bool {
+        self.instruction_name() == other.instruction_name() && self.operands() == other.operands()
+    }
+}
+
+impl Eq for Instruction {
+    ghost laws = { and_equiv (on_texts_equal word_of) (on_equiv operands_of (lists_equiv operands_equiv)) };
+}
+
+/// Shows the word, and the operands as a list.
+impl fmt::Debug for Instruction {
+    fn fmt<W: fmt::Write>(&self, f: &mut fmt::Formatter<W>) -> fmt::Result {
+        f.write_str(self.instruction_name())?;
+        f.write_str(" ")?;
+        fmt::Debug::fmt(&self.operands(), f)
     }
 }
