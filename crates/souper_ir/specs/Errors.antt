@@ -42,6 +42,15 @@ offset_of_cause _ = None
 abbrev pub offset_of : ParseError → Option ℕ
 offset_of e = offset_of_cause e.cause
 
+-- what a refusal says is wrong
+abbrev pub message_of_cause : Cause → Option (List ℕ)
+message_of_cause (ParseCause refusal) = Some (string_bytes refusal.value.message)
+message_of_cause _ = None
+
+-- `e.message()`
+abbrev pub message_of : ParseError → Option (List ℕ)
+message_of e = message_of_cause e.cause
+
 -- the error of a read
 abbrev pub fault_of_cause : Cause → Option Error
 fault_of_cause (IoCause fault) = Some fault
@@ -101,7 +110,7 @@ abbrev pub IsPlaceIn : Option (List ℕ) → List ℕ → ℕ → Place → Type
 IsPlaceIn file source offset place =
     (option_map string_bytes place.file ≡ file) × IsPlace source offset place.line place.column (string_bytes place.text)
 
--- the error has the line and the column of that offset of the source, and shows them
+-- the error has the line and the column of that offset of the source, and a message, and shows them
 pub record ShowsPlace (file : Option (List ℕ)) (source : List ℕ) (offset : ℕ) (e : ParseError) : Type 0 where
   pub message : List ℕ
   pub line : ℕ
@@ -110,6 +119,7 @@ pub record ShowsPlace (file : Option (List ℕ)) (source : List ℕ) (offset : �
   pub is_place : IsPlace source offset line column text
   pub line_is : line_of e ≡ Some line
   pub column_is : column_of e ≡ Some column
+  pub message_is : message_of e ≡ Some message
   pub shown_is : shown_error e ≡ Some (shown_refusal (file_or_unknown file) line column text message)
 
 -- a refusal at that offset of the source, which has and shows its place

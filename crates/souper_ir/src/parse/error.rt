@@ -2,7 +2,7 @@
 ghost use Rattle.std.specs.Prelude.{◌≡◌, ◌≢◌, ◌≤◌, ◌+◌, ◌⊎◌, ◌↔◌, length, string_bytes, option_copied, IfOk, IfErr, IfSome, IsSome, Some};
 ghost use Rattle.std.specs.Fmt.{DisplaysOnOk, DisplaysStyledOnOk};
 ghost use Rattle.souper_ir.specs.Places.{direct_text};
-ghost use Rattle.souper_ir.specs.Errors.{error_of, widened, kind_of, offset_of, place_of, line_of, column_of, fault_of, shown_error, shown_refusal_of, IsLocated, IsPlacedAfter, IsLocatedAfter, IsRefusalAt, ShowsFault};
+ghost use Rattle.souper_ir.specs.Errors.{error_of, widened, kind_of, offset_of, place_of, line_of, column_of, message_of, fault_of, shown_error, shown_refusal_of, IsLocated, IsPlacedAfter, IsLocatedAfter, IsRefusalAt, ShowsFault};
 
 use crate::parse::place::Place;
 use crate::parse::unstyled::write_unstyled;
@@ -150,7 +150,8 @@ impl ParseError {
         file: Option<&str>,
     ) -> ParseError
         requires { IfSome (offset_of self) (λ offset. skipped + offset ≤ length source.now) }
-        ensures { IsLocatedAfter (option_copied file.entry) before source.now skipped self result }
+        ensures located { IsLocatedAfter (option_copied file.entry) before source.now skipped self result }
+        ensures message { kind_of result ≡ ParseErrorKind.Parse → message_of result ≡ message_of self }
     {
         match self.cause {
             Cause::Parse(refusal) => locate_after(refusal, alloc, before, source, skipped, file),
@@ -198,6 +199,16 @@ impl ParseError {
         match self.place() {
             Some(place) => Some(place.column),
             None => None,
+        }
+    }
+
+    /// What a refusal says is wrong, as the first line that it shows has it: `Some` if and only if the kind is `Parse`.
+    pub fn message(&self) -> Option<&str>
+        ensures { option_copied result ≡ message_of self.now }
+    {
+        match &self.cause {
+            Cause::Parse(refusal) => Some(refusal.message.as_str()),
+            _ => None,
         }
     }
 
@@ -249,7 +260,8 @@ fn locate_after(
     file: Option<&str>,
 ) -> ParseError
     requires { skipped + refusal.value.offset ≤ length source.now }
-    ensures { IsPlacedAfter (option_copied file.entry) before source.now (skipped + refusal.value.offset) result }
+    ensures placed { IsPlacedAfter (option_copied file.entry) before source.now (skipped + refusal.value.offset) result }
+    ensures message { kind_of result ≡ ParseErrorKind.Parse → message_of result ≡ Some (string_bytes refusal.value.message) }
 {
     let offset = skipped + refusal.offset;
     match Place::new(alloc, source, offset, file) {

@@ -18,6 +18,7 @@ returns-in-Ok c =
         is_place = subst (λ (r : Refusal). IsPlace c.args.source.now r.offset place.line place.column (string_bytes place.text)) c.deref.ensures c.in-Ok.ensures.1;
         line_is = refl;
         column_is = refl;
+        message_is = refl;
         shown_is = ap (λ (file : Option (List ℕ)). Some (shown_refusal (file_or_unknown file) place.line place.column (string_bytes place.text) message)) c.in-Ok.ensures.0;
       },
     )

@@ -7,8 +7,8 @@ use Rattle.souper_ir.specs.Places.{newlines, IsPlace, shown_refusal, file_or_unk
 use Rattle.souper_ir.proofs.Shown.After.{place_after, line_fits}
 use Rattle.souper_ir.proofs.parse.error.locate_after.Goals as goal
 
-pub returns-in-Ok : goal.returns-in-Ok
-returns-in-Ok c = inr (λ text b some fits.
+pub returns-in-Ok-clause-placed : goal.returns-in-Ok-clause-placed
+returns-in-Ok-clause-placed c = inr (λ text b some fits.
     let source = c.args.source.now in
     let place = c.in-Ok.place in
     let o : ℕ = c.args.skipped + c.args.refusal.value.offset in
@@ -35,6 +35,7 @@ returns-in-Ok c = inr (λ text b some fits.
         is_place = after;
         line_is = ap (λ (p : Option Place). option_map (λ (q : Place). q.line) p) placed ∙ ap (λ (m : ℕ). Some m) line;
         column_is = ap (λ (p : Option Place). option_map (λ (q : Place). q.column) p) placed;
+        message_is = refl;
         shown_is = ap (λ (p : Option Place). Some (shown_by_place p c.saturating_add-in-Ok.result message)) placed
             ∙ (λ i. Some (shown_refusal (file_or_unknown (c.in-Ok.ensures.0 i)) (line i) place.column (string_bytes place.text) message));
       },
