@@ -16,8 +16,9 @@ use Rattle.souper_ir.specs.Sinks.{TakesText, TakesPrefix}
 use Rattle.souper_stream.specs.declared.held.Held.{Held}
 use Rattle.souper_stream.specs.declared.pieces.PieceReader.{PieceReader}
 use Rattle.souper_stream.specs.Holding.{fresh, HoldsAfter, Forgets}
+use Rattle.souper_stream.specs.Lines.{first_line}
 use Rattle.souper_stream.specs.Pieces.{Line, concat, IsLine, IsLastLine, AreLines, EndsPiece, StartsPiece, IsUncut, AreCut, all_lines}
-use Rattle.souper_stream.specs.PieceReading.{ReadsLine, HasLines, Passes, and_next, HasBegun, HasPieces, HasAll, holding, IsReady, IsNext, RefusesBytes, IsPlacedIn, TakesPiece, RefusesPiece}
+use Rattle.souper_stream.specs.PieceReading.{ReadsLine, HasLines, Passes, and_next, HasBegun, HasPieces, HasAll, holding, HasLine, IsOnLine, IsReady, IsNext, RefusesBytes, IsPlacedIn, TakesPiece, RefusesPiece}
 use Rattle.souper_stream.specs.Reading.{AreAll}
 use Rattle.souper_stream.proofs.Nodes.{all_append}
 use Rattle.souper_stream.proofs.Bytes.{all_after}
@@ -181,7 +182,7 @@ module _ (k : ItemType) (start mid after : Option (List ℕ)) (ps : List (List L
         held = held_now;
         within = let n = length-append (fresh p.held) line in let m = ap length fresh_now in omega arith;
         part = part ∙ h.next.whole;
-        then = λ held after_is rest. (
+        then = λ held line_is after_is rest. (
           line ∷ [],
           record {
             read = h.read ++ line;
@@ -221,7 +222,7 @@ turn_last k start now ps ls p q h ended held_is end ended_now = (
       held = subst (λ (x : Held). HoldsAfter h.read (concat (all_lines ps)) x) (sym held_is) h.held;
       within = let n = ap (λ (x : Held). length (fresh x)) held_is in omega arith;
       part = part ∙ h.next.whole;
-      then = λ held after_is rest. (
+      then = λ held line_is after_is rest. (
         [],
         record {
           read = h.read;
@@ -346,14 +347,23 @@ piece_refused k file h len holds old new text e shown is within begun error show
 pub piece_done : (k : ItemType) (start now : Option (List ℕ)) (ps : List (List Line)) (p q : PieceReader) (len : ℕ) (piece : List Line) → IsReady k start now ps p len piece → Forgets p.held q.held len → q.end ≡ p.end → q.ended ≡ p.ended → HasPieces k start now (ps ++ piece ∷ []) q
 piece_done k start now ps p q len piece r f end ended =
     let a = after_forgot r.read (concat (all_lines ps)) p.held q.held len r.held r.within f in
-    let same : holding p q.held ≡ q = (λ i. record { held = q.held; end = sym end i; ended = sym ended i }) in
-    subst (λ (x : PieceReader). HasPieces k start now (ps ++ piece ∷ []) x) same (r.then q.held a.0 a.1)
+    let same : holding p q.held q.line ≡ q = (λ i. record { held = q.held; end = sym end i; ended = sym ended i; line = q.line }) in
+    subst (λ (x : PieceReader). HasPieces k start now (ps ++ piece ∷ []) x) same (r.then q.held q.line a.0 a.1)
+
+-- its line is that in the stream
+on_line : (k : ItemType) (start now : Option (List ℕ)) (ps : List (List Line)) (p : PieceReader) (len line : ℕ) (piece : List Line) → IsReady k start now ps p len piece → HasLine p.held len line → IsOnLine start now (concat (all_lines ps)) (concat piece) line
+on_line k start now ps p len line piece r h = record {
+  read = r.read;
+  consumed = r.consumed;
+  line_is = λ small. h r.read (concat (all_lines ps)) r.held small ∙ ap (λ (x : List ℕ). first_line (concat (all_lines ps)) x) r.part;
+}
 
 pub piece_refuses : {S : Type 0} (k : ItemType) (file start now : Option (List ℕ)) (ps : List (List Line)) (p q : PieceReader) (len : ℕ) (piece : List Line) (holds : S → List Item → Type 0) (old new : S) (e : ParseError)
-    → IsReady k start now ps p len piece → Forgets p.held q.held len → q.end ≡ p.end → q.ended ≡ p.ended → RefusesBytes k file p.held len holds old new e → RefusesPiece k file start now ps holds old new q e
-piece_refuses k file start now ps p q len piece holds old new e r f end ended b = record {
+    → IsReady k start now ps p len piece → Forgets p.held q.held len → q.end ≡ p.end → q.ended ≡ p.ended → HasLine p.held len q.line → RefusesBytes k file p.held len holds old new e → RefusesPiece k file start now ps holds old new q e
+piece_refuses k file start now ps p q len piece holds old new e r f end ended line b = record {
   piece = piece;
   goes_on = piece_done k start now ps p q len piece r f end ended;
+  on_line = on_line k start now ps p len q.line piece r line;
   none = subst (λ (x : List ℕ). SpellsNone k x) r.part b.none;
   begun = subst (λ (x : List ℕ). TakesPrefix holds k x old new) r.part b.begun;
   read = r.read;
@@ -362,6 +372,10 @@ piece_refuses k file start now ps p q len piece holds old new e r f end ended b 
 }
 
 pub piece_takes : {S : Type 0} (k : ItemType) (start now : Option (List ℕ)) (ps : List (List Line)) (p q : PieceReader) (len : ℕ) (piece : List Line) (holds : S → List Item → Type 0) (old new : S)
-    → IsReady k start now ps p len piece → Forgets p.held q.held len → q.end ≡ p.end → q.ended ≡ p.ended → TakesText holds k (take len (fresh p.held)) old new → TakesPiece k start now ps holds old new q
-piece_takes k start now ps p q len piece holds old new r f end ended t =
-    (piece, piece_done k start now ps p q len piece r f end ended, subst (λ (x : List ℕ). TakesText holds k x old new) r.part t)
+    → IsReady k start now ps p len piece → Forgets p.held q.held len → q.end ≡ p.end → q.ended ≡ p.ended → HasLine p.held len q.line → TakesText holds k (take len (fresh p.held)) old new → TakesPiece k start now ps holds old new q
+piece_takes k start now ps p q len piece holds old new r f end ended line t = record {
+  piece = piece;
+  goes_on = piece_done k start now ps p q len piece r f end ended;
+  on_line = on_line k start now ps p len q.line piece r line;
+  taken = subst (λ (x : List ℕ). TakesText holds k x old new) r.part t;
+}

@@ -1,7 +1,9 @@
 -- Definitions. Which tokens begin a statement or one of an item's last lines.
-use Rattle.std.specs.Prelude.{◌≡◌, ◌||◌, Bool, true, false, ℕ, List, [], ◌∷◌, codes, bytes_eq}
+use Rattle.std.specs.Prelude.{◌≡◌, ◌||◌, Bool, true, false, ℕ, ◌+◌, List, [], ◌∷◌, ◌++◌, take, codes, bytes_eq}
 use Rattle.souper_graph.specs.Syntax.Tokens.{Lexeme, ident, val_name, equals, colon}
 use Rattle.souper_graph.specs.Syntax.Spelling.{ItemType, left_hand_side, right_hand_side, replacement}
+use Rattle.souper_lexer.specs.TokenReading.{lexed_of}
+use Rattle.souper_ir.specs.Places.{newlines}
 
 -- the word begins one of an item's last lines
 abbrev pub last_word : List ℕ → Bool
@@ -40,3 +42,12 @@ shows_line named (ident w) = line_word w
 shows_line named equals = named
 shows_line named colon = named
 shows_line named _ = false
+
+-- the offset of the first token, or 0 if there is none
+abbrev pub first_offset : List (ℕ × Lexeme) → ℕ
+first_offset [] = 0
+first_offset (t ∷ ts) = t.0
+
+-- the line, counted from 1, on which the first token of a piece is, after what is done
+abbrev pub first_line : List ℕ → List ℕ → ℕ
+first_line done piece = newlines (done ++ take (first_offset (lexed_of 0 piece).tokens) piece) + 1

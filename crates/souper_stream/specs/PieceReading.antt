@@ -11,6 +11,7 @@ use Rattle.souper_ir.specs.Sinks.{TakesText, TakesPrefix}
 use Rattle.souper_stream.specs.declared.held.Held.{Held}
 use Rattle.souper_stream.specs.declared.pieces.PieceReader.{PieceReader}
 use Rattle.souper_stream.specs.Holding.{fresh, HoldsAfter}
+use Rattle.souper_stream.specs.Lines.{first_line}
 use Rattle.souper_stream.specs.Pieces.{Line, concat, IsLine, AreLines, tokens_of, ends_first, AreEndLines, EndsPiece, StartsPiece, IsUncut, AreCut, all_lines, ArePieces}
 use Rattle.souper_stream.specs.Reading.{AreAll}
 
@@ -67,9 +68,9 @@ HasPieces k start now ps p = (ls : List Line) × HasBegun k start now ps ls p
 abbrev pub HasAll : ItemType → Option (List ℕ) → Option (List ℕ) → List (List Line) → Type 0
 HasAll k start now ps = (read : List ℕ) × Consumes start now read × AreAll start read × ArePieces k read ps
 
--- the reader with other bytes held
-abbrev pub holding : PieceReader → Held → PieceReader
-holding p h = record { held = h; end = p.end; ended = p.ended }
+-- the reader with other bytes held, and another line
+abbrev pub holding : PieceReader → Held → ℕ → PieceReader
+holding p h line = record { held = h; end = p.end; ended = p.ended; line = line }
 
 -- the next piece has so many bytes: the reader will have read it too, once they are forgotten
 pub record IsReady (k : ItemType) (start now : Option (List ℕ)) (ps : List (List Line)) (p : PieceReader) (len : ℕ) (piece : List Line) : Type 0 where
@@ -78,11 +79,25 @@ pub record IsReady (k : ItemType) (start now : Option (List ℕ)) (ps : List (Li
   pub held : HoldsAfter read (concat (all_lines ps)) p.held
   pub within : len ≤ length (fresh p.held)
   pub part : take len (fresh p.held) ≡ concat piece
-  pub then : (h : Held) → HoldsAfter read (concat (all_lines ps) ++ take len (fresh p.held)) h → fresh h ≡ drop len (fresh p.held) → HasPieces k start now (ps ++ piece ∷ []) (holding p h)
+  pub then : (h : Held) (line : ℕ) → HoldsAfter read (concat (all_lines ps) ++ take len (fresh p.held)) h → fresh h ≡ drop len (fresh p.held) → HasPieces k start now (ps ++ piece ∷ []) (holding p h line)
 
 -- the stream has ended, or the next piece was read
 abbrev pub IsNext : ItemType → Option (List ℕ) → Option (List ℕ) → List (List Line) → PieceReader → ℕ → Type 0
 IsNext k start now ps p len = (len ≡ 0 → HasAll k start now ps) × (0 < len → (piece : List Line) × IsReady k start now ps p len piece)
+
+-- the line of the first bytes that are held, so many
+abbrev pub HasLine : Held → ℕ → ℕ → Type 0
+HasLine h len line = (read done : List ℕ) → HoldsAfter read done h → length read + 1 < 2 ^ 64 → line ≡ first_line done (take len (fresh h))
+
+-- `p.line()`
+abbrev pub line_of : PieceReader → ℕ
+line_of p = p.line
+
+-- So much was read of a stream, of which a piece has this line, after what is done. Numbers of lines have 64 bits.
+pub record IsOnLine (start now : Option (List ℕ)) (done piece : List ℕ) (line : ℕ) : Type 0 where
+  pub read : List ℕ
+  pub consumed : Consumes start now read
+  pub line_is : length read + 1 < 2 ^ 64 → line ≡ first_line done piece
 
 -- the refusal of a piece, after what is done, has and shows its place in what was read
 abbrev pub IsPlacedIn : Option (List ℕ) → List ℕ → List ℕ → List ℕ → ParseError → Type 0
@@ -95,13 +110,17 @@ pub record RefusesBytes {S : Type 0} (k : ItemType) (file : Option (List ℕ)) (
   pub placed : (read done : List ℕ) → HoldsAfter read done h → IsPlacedIn file read done (take len (fresh h)) e
 
 -- the next piece spells items, and the sink took them
-abbrev pub TakesPiece : {S : Type 0} → ItemType → Option (List ℕ) → Option (List ℕ) → List (List Line) → (S → List Item → Type 0) → S → S → PieceReader → Type 0
-TakesPiece k start now ps holds old new p = (piece : List Line) × HasPieces k start now (ps ++ piece ∷ []) p × TakesText holds k (concat piece) old new
+pub record TakesPiece {S : Type 0} (k : ItemType) (start now : Option (List ℕ)) (ps : List (List Line)) (holds : S → List Item → Type 0) (old new : S) (p : PieceReader) : Type 0 where
+  pub piece : List Line
+  pub goes_on : HasPieces k start now (ps ++ piece ∷ []) p
+  pub on_line : IsOnLine start now (concat (all_lines ps)) (concat piece) (line_of p)
+  pub taken : TakesText holds k (concat piece) old new
 
 -- The next piece spells no items. The sink took items that it begins with. The refusal has and shows its place in what was read.
 pub record RefusesPiece {S : Type 0} (k : ItemType) (file start now : Option (List ℕ)) (ps : List (List Line)) (holds : S → List Item → Type 0) (old new : S) (p : PieceReader) (e : ParseError) : Type 0 where
   pub piece : List Line
   pub goes_on : HasPieces k start now (ps ++ piece ∷ []) p
+  pub on_line : IsOnLine start now (concat (all_lines ps)) (concat piece) (line_of p)
   pub none : SpellsNone k (concat piece)
   pub begun : TakesPrefix holds k (concat piece) old new
   pub read : List ℕ

@@ -37,8 +37,8 @@ fn newlines_of_chunk(bytes: &[u8]) -> u8
 // So many bytes at a time: 7 times 32, which is what the compiled loop takes in one turn.
 const CHUNK: usize = 224;
 
-// The newlines of the bytes. A counter of one byte lets the compiler compare and count 16 bytes at once.
-fn newline_count(bytes: &[u8]) -> usize
+/// The newlines of the bytes. A counter of one byte lets the compiler compare and count 16 bytes at once.
+pub(crate) fn newline_count(bytes: &[u8]) -> usize
     ensures { result ≡ newlines bytes.now }
 {
     let mut count = 0;

@@ -2,10 +2,11 @@
 ghost use Rattle.std.specs.Prelude.{◌≡◌, ◌↔◌, ◌≤◌, ◌<◌, ◌∷◌, ℕ, [], length, take, drop, true, false, IsCharBoundary};
 ghost use Rattle.souper_graph.specs.Syntax.Tokens.{Lexeme};
 ghost use Rattle.souper_graph.specs.Syntax.Spelling.{kinds};
+ghost use Rattle.souper_lexer.specs.TokenReading.{lexed_of};
 ghost use Rattle.souper_lexer.specs.TokenView.{lexeme_of, Yields};
 ghost use Rattle.souper_ir.specs.NodeReadings.{is_name};
 ghost use Rattle.souper_ir.specs.Joining.{IsLines};
-ghost use Rattle.souper_stream.specs.Lines.{last_word, line_word, shows_line, defines, starts_line, NoStart};
+ghost use Rattle.souper_stream.specs.Lines.{last_word, line_word, shows_line, defines, starts_line, first_offset, NoStart};
 ghost use Rattle.souper_stream.specs.Pieces.{tokens_of, ends_first, QuietAfter};
 ghost use Rattle.souper_stream.specs.Reading.{IsTaken};
 ghost use Rattle.souper_stream.specs.Seams.{IsEndLine, IsSeam};
@@ -54,6 +55,16 @@ fn next_token<'a>(lexer: &mut Lexer<'a>) -> Result<Option<(usize, Token<'a>)>, F
     let (mut ahead, mut offset) = (None, 0);
     lexer.lex(&mut ahead, &mut offset)?;
     Ok(ahead)
+}
+
+/// The offset of the first token of the text, in bytes; 0 if there is none.
+pub(crate) fn first_offset(text: &str) -> usize
+    ensures offset { result ≡ first_offset (lexed_of 0 text.now).tokens }
+    ensures within { result ≤ length text.now }
+{
+    let (mut ahead, mut offset) = (None, 0);
+    let _ = Lexer::new(text).lex(&mut ahead, &mut offset);
+    offset
 }
 
 // Whether neither a statement nor one of an item's last lines begins in the remaining tokens, up to a fault.

@@ -6,11 +6,11 @@ ghost use Rattle.souper_ir.specs.Errors.{kind_of};
 ghost use Rattle.souper_ir.specs.Sinks.{TakesText, TakesPrefix};
 ghost use Rattle.souper_stream.specs.Holding.{fresh, Forgets};
 ghost use Rattle.souper_stream.specs.Pieces.{Line, IsLine, EndsPiece, StartsPiece};
-ghost use Rattle.souper_stream.specs.PieceReading.{HasLines, Passes, ReadsLine, HasPieces, IsNext, RefusesBytes, TakesPiece, RefusesPiece, HasAll};
+ghost use Rattle.souper_stream.specs.PieceReading.{HasLines, Passes, ReadsLine, HasPieces, HasLine, line_of, IsNext, RefusesBytes, TakesPiece, RefusesPiece, HasAll};
 
 use crate::ends::StreamItem;
-use crate::held::Held;
-use crate::lines::{begins_end_line, shows_end_line, starts_line};
+use crate::held::{Held, newline_count};
+use crate::lines::{begins_end_line, first_offset, shows_end_line, starts_line};
 use crate::parts::{place, read_error};
 use souper_ir::parse::{ParseError, ParseErrorKind, Result, Sink, parse_into};
 use std::alloc::Global;
@@ -95,6 +95,19 @@ fn parse_piece<T: StreamItem + Drop, S: Sink<T>>(
     }
 }
 
+// The line of the stream on which the first token of the next piece is. The piece has so many bytes of what is held.
+fn first_line(held: &Held, len: usize) -> io::Result<usize>
+    requires skipped { held.now.skipped ≤ vec_len held.now.bytes }
+    requires within { len ≤ length (fresh held.now) }
+    ensures { IfOk result (HasLine held.now len) }
+{
+    let fresh = &held.bytes[held.skipped..];
+    let text = utf8(&fresh[..len])?;
+    let gap = &text.as_bytes()[..first_offset(text)];
+    let lines = newline_count(&held.bytes[..held.skipped]).saturating_add(newline_count(gap));
+    Ok(held.before.lines.saturating_add(lines).saturating_add(1))
+}
+
 /// Reads a stream piece by piece.
 ///
 /// Pieces are whole lines: the stream is cut before each line that begins with a statement, or is one of an item's last lines, if
@@ -109,6 +122,9 @@ pub struct PieceReader {
 
     // Whether the input has ended.
     ended: bool,
+
+    // The line of the first token of the last piece.
+    line: usize,
 }
 
 impl PieceReader {
@@ -120,7 +136,16 @@ impl PieceReader {
             held: Held::new(alloc),
             end: None,
             ended: false,
+            line: 1,
         }
+    }
+
+    /// The line of the stream, counted from 1, on which the first token is of the piece that was read last, whether it was refused
+    /// or not. If a piece has no token, it is the line on which the piece begins.
+    pub fn line(&self) -> usize
+        ensures { result ≡ line_of self.now }
+    {
+        self.line
     }
 
     // Reads up to the end of the next piece, and returns its length in bytes, which is 0 if the stream has ended.
@@ -149,6 +174,7 @@ impl PieceReader {
         }
         Err(io::Error::from(ErrorKind::Other))
     }
+
     // Passes the items of the next piece, which has so many bytes, to the sink, and forgets the piece.
     fn take_piece<T: StreamItem + Drop, S: Sink<T>>(
         &mut self,
@@ -162,9 +188,11 @@ impl PieceReader {
         requires within { len ≤ length (fresh self.old.held) }
         ensures kept { (self.new.end ≡ self.old.end) × (self.new.ended ≡ self.old.ended) }
         ensures forgotten { (IsOk result ⊎ IsErrAnd result (λ e. kind_of e ≡ ParseErrorKind.Parse)) → Forgets self.old.held self.new.held len }
+        ensures line { (IsOk result ⊎ IsErrAnd result (λ e. kind_of e ≡ ParseErrorKind.Parse)) → HasLine self.old.held len self.new.line }
         ensures taken { OnOk result (TakesText S.holds T.item_type (take len (fresh self.old.held)) sink.old sink.new) }
         ensures refused { IfErr result (λ e. kind_of e ≡ ParseErrorKind.Parse → RefusesBytes T.item_type (option_copied filename.entry) self.old.held len S.holds sink.old sink.new e) }
     {
+        self.line = first_line(&self.held, len)?;
         let parsed = parse_piece::<T, S>(alloc, &self.held, len, filename, sink);
         self.held.forget(alloc, len)?;
         parsed
@@ -173,7 +201,8 @@ impl PieceReader {
     /// Reads the next piece of the stream, and passes its items to the sink, in order. Returns false if the stream has ended, and
     /// nothing was left of it.
     ///
-    /// Each call of one stream is given the same reader and type of items, and the sink may be another each time.
+    /// Each call of one stream is given the same reader and type of items, and the sink may be another each time. After it
+    /// [`line`](PieceReader::line) says where the piece begins.
     ///
     /// - `Parse`: the piece spells no items. The sink has taken items that it begins with. The error has and shows its place in the
     ///   stream. The next call reads the next piece.

@@ -11,7 +11,7 @@ returns-then-self g c = λ start ps had.
     let k = g.T.Item.item_type in
     let now = g.R.Read.remaining c.loop-turn.reader in
     let p = c.loop-turn.self in
-    let q : PieceReader = record { held = p.held; end = None; ended = p.ended } in
+    let q : PieceReader = record { held = p.held; end = None; ended = p.ended; line = p.line } in
     let b = c.loop-turn.invariant.pieces start ps had in
     subst (λ (n : ℕ). IsNext k start now ps q n) (fresh_len p.held c.len.result c.len.ensures) (turn_last k start now ps b.0 p q b.1 c.if-self.true refl refl c.if-self.true)
 
@@ -20,7 +20,7 @@ returns-then-is_cut g c = λ start ps had.
     let k = g.T.Item.item_type in
     let rem = g.R.Read.remaining in
     let p = c.loop-turn.self in
-    let q : PieceReader = record { held = record { bytes = c.read_line.new.bytes; skipped = p.held.skipped; before = p.held.before }; end = c.in_ok-is_cut.end; ended = c.in_ok-self.field-0 } in
+    let q : PieceReader = record { held = record { bytes = c.read_line.new.bytes; skipped = p.held.skipped; before = p.held.before }; end = c.in_ok-is_cut.end; ended = c.in_ok-self.field-0; line = p.line } in
     let m = c.in_ok-self.ensures in
     let t : Turn (rem c.loop-turn.reader) (rem c.read_line.new.reader) p q m.0 = record { reads = m.1; skipped = refl; counted = refl; going = c.if-self.false } in
     let at : c.len.result ≡ length p.held.bytes.items = omega (arith, c.len.ensures, p.held.bytes.ok) in
@@ -33,7 +33,7 @@ pub loop-turn-preserved-then-fresh-start : goal.loop-turn-preserved-then-fresh-s
 loop-turn-preserved-then-fresh-start g c =
     let rem = g.R.Read.remaining in
     let p = c.loop-turn.self in
-    let q : PieceReader = record { held = record { bytes = c.read_line.new.bytes; skipped = p.held.skipped; before = p.held.before }; end = p.end; ended = c.in_ok-self.field-0 } in
+    let q : PieceReader = record { held = record { bytes = c.read_line.new.bytes; skipped = p.held.skipped; before = p.held.before }; end = p.end; ended = c.in_ok-self.field-0; line = p.line } in
     let m = c.in_ok-self.ensures in
     let t : Turn (rem c.loop-turn.reader) (rem c.read_line.new.reader) p q m.0 = record { reads = m.1; skipped = refl; counted = refl; going = c.if-self.false } in
     let at : c.len.result ≡ length p.held.bytes.items = omega (arith, c.len.ensures, p.held.bytes.ok) in
@@ -51,7 +51,7 @@ pub loop-turn-preserved : goal.loop-turn-preserved
 loop-turn-preserved g c =
     let rem = g.R.Read.remaining in
     let p = c.loop-turn.self in
-    let q : PieceReader = record { held = record { bytes = c.read_line.new.bytes; skipped = p.held.skipped; before = p.held.before }; end = c.in_ok-is_cut.end; ended = c.in_ok-self.field-0 } in
+    let q : PieceReader = record { held = record { bytes = c.read_line.new.bytes; skipped = p.held.skipped; before = p.held.before }; end = c.in_ok-is_cut.end; ended = c.in_ok-self.field-0; line = p.line } in
     let m = c.in_ok-self.ensures in
     let t : Turn (rem c.loop-turn.reader) (rem c.read_line.new.reader) p q m.0 = record { reads = m.1; skipped = refl; counted = refl; going = c.if-self.false } in
     let at : c.len.result ≡ length p.held.bytes.items = omega (arith, c.len.ensures, p.held.bytes.ok) in

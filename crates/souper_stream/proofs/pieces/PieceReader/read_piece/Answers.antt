@@ -29,7 +29,7 @@ returns-in_err-take_piece-clause-refused g c =
     let some : 0 < c.in-Ok.len = omega (arith, c.in-Ok.len-test) in
     let next = (c.in-Ok.ensures start ps had).1 some in
     piece_refuses g.T.Item.item_type (option_copied c.args.filename) start (g.R.Read.remaining c.next_len.new.reader) ps c.next_len.new.self c.take_piece.new.self c.in-Ok.len next.0 g.S.Sink.holds c.args.sink.now c.take_piece.new.sink _
-    next.1 (t.forgotten (inr kind)) t.kept.0 t.kept.1 (t.refused kind))
+    next.1 (t.forgotten (inr kind)) t.kept.0 t.kept.1 (t.line (inr kind)) (t.refused kind))
 
 pub returns-clause-read : goal.returns-clause-read
 returns-clause-read g c = λ e start ps had.
@@ -37,4 +37,4 @@ returns-clause-read g c = λ e start ps had.
     let next = (c.in-Ok.ensures start ps had).1 some in
     let t = c.in_ok-take_piece.ensures in
     piece_takes g.T.Item.item_type start (g.R.Read.remaining c.next_len.new.reader) ps c.next_len.new.self c.take_piece.new.self c.in-Ok.len next.0 g.S.Sink.holds c.args.sink.now c.take_piece.new.sink
-    next.1 (t.forgotten (inl refl)) t.kept.0 t.kept.1 t.taken
+    next.1 (t.forgotten (inl refl)) t.kept.0 t.kept.1 (t.line (inl refl)) t.taken
