@@ -1,9 +1,9 @@
 -- Piece after piece: what was read of a stream that is read on after a refusal, what was written of it and reported.
-use Rattle.std.proofs.Common.{◌≡◌, ◌⊎◌, inl, inr, ℕ, ◌≤◌, arith, Bool, true, false, ◌||◌, List, [], ◌∷◌, ◌++◌, is_some, Option, Some, None, refl, sym, ap, ◌∙◌, subst, append_assoc, append-nil}
-use Rattle.std.specs.Prelude.{codes, Result, Ok, Err, IfOk}
+use Rattle.std.proofs.Common.{◌≡◌, ◌⊎◌, inl, inr, ℕ, Bool, true, false, ◌||◌, List, [], ◌∷◌, ◌++◌, is_some, Option, Some, None, refl, sym, ap, ◌∙◌, subst, append_assoc, append-nil}
+use Rattle.std.specs.Prelude.{codes, flat_map, Result, Ok, Err, IfOk, IfErr}
 use Rattle.std.specs.List.{cons_option}
 use Rattle.std.specs.Io.KnownBytes.{Appends, Keeps}
-use Rattle.std.proofs.KnownBytes.{Appends-trans, Keeps-trans}
+use Rattle.std.proofs.KnownBytes.{Appends-nil, Appends-trans, Keeps-trans}
 use Rattle.std.proofs.lemmas.Grind.{flat_map-append}
 use Rattle.std.proofs.lemmas.List.{map-append}
 use Rattle.souper_graph.specs.Values.{Item}
@@ -22,24 +22,23 @@ use Rattle.souper_records.specs.declared.each.Stop.{Stop}
 use Rattle.souper_records.specs.declared.each.Stop.TheVariants.{Input, Output}
 use Rattle.souper_records.specs.Records.{record_of, records_of}
 use Rattle.souper_records.specs.Eaches.{WritesEach, IfInput}
-use Rattle.souper_records.specs.Runs.{output_name, IsStop, IsGoingOnRun, IsUniqGoingOnRun}
+use Rattle.souper_records.specs.Runs.{output_name, IsPiecesEnd, IsPiecesRun}
 use Rattle.souper_records.specs.declared.seen.Seen.{Seen}
-use Rattle.souper_records.specs.Uniques.{WritesFirsts, WritesFirstRecords, AnyWritten}
+use Rattle.souper_records.specs.Uniques.{WritesFirsts, WritesFirstRecords, WritesNewFirsts}
 use Rattle.souper_records.specs.Reports.{program_line, named_line, ReportedFault}
-use Rattle.souper_records.specs.Outcomes.{Outcome, IsOutcome, AreOutcomes, pieces_of, items_of, refusals_of, any_refused, AreErrorLines, AreReported, AreReportedThen, IsFaultLine, ReportsPiece, WritesPiece, WritesPieces, ReadsPieces, IfReading, StopsAfter, WritesRecords}
+use Rattle.souper_records.specs.Objects.{piece_lines, objects_of, WritesObjects, WritesAllObjects}
+use Rattle.souper_records.proofs.Seeing.{keeps_none, keeps_join}
+use Rattle.souper_records.specs.Outcomes.{Outcome, IsOutcome, IsOutcomeAfter, AreOutcomes, pieces_of, items_of, refusals_of, any_refused, AreErrorLines, AreReported, AreReportedThen, IsFaultLine, ReportsPiece, WritesPiece, WritesPieces, ReadsPieces, IfReading, StopsAfter, WroteEach, OfItems, WritesRecords}
 
 -- ---- lists of outcomes
 
-outcomes_more : (k : ItemType) (file start : Option (List ℕ)) (before : List (List Line)) (os : List Outcome) (o : Outcome) → AreOutcomes k file start before os → IsOutcome k file start (concat (all_lines (before ++ pieces_of os))) (concat o.piece) o.items o.refusal → AreOutcomes k file start before (os ++ o ∷ [])
-outcomes_more k file start before [] o h is = (subst (λ (x : List (List Line)). IsOutcome k file start (concat (all_lines x)) (concat o.piece) o.items o.refusal) (append-nil before) is, tt)
+outcomes_more : (k : ItemType) (file start : Option (List ℕ)) (before : List (List Line)) (os : List Outcome) (o : Outcome) → AreOutcomes k file start before os → IsOutcomeAfter k file start (concat (all_lines (before ++ pieces_of os))) o → AreOutcomes k file start before (os ++ o ∷ [])
+outcomes_more k file start before [] o h is = (subst (λ (x : List (List Line)). IsOutcomeAfter k file start (concat (all_lines x)) o) (append-nil before) is, tt)
 outcomes_more k file start before (p ∷ os) o h is =
-    (h.0, outcomes_more k file start (before ++ p.piece ∷ []) os o h.1 (subst (λ (x : List (List Line)). IsOutcome k file start (concat (all_lines x)) (concat o.piece) o.items o.refusal) (sym (append_assoc before (p.piece ∷ []) (pieces_of os))) is))
+    (h.0, outcomes_more k file start (before ++ p.piece ∷ []) os o h.1 (subst (λ (x : List (List Line)). IsOutcomeAfter k file start (concat (all_lines x)) o) (sym (append_assoc before (p.piece ∷ []) (pieces_of os))) is))
 
 pieces_more : (os : List Outcome) (o : Outcome) → pieces_of (os ++ o ∷ []) ≡ pieces_of os ++ o.piece ∷ []
 pieces_more os o = map-append (λ (x : Outcome). x.piece) os (o ∷ [])
-
-items_more : (os : List Outcome) (o : Outcome) → items_of (os ++ o ∷ []) ≡ items_of os ++ o.items
-items_more os o = flat_map-append (λ (x : Outcome). x.items) os (o ∷ []) ∙ ap (λ (xs : List Item). items_of os ++ xs) (append-nil o.items)
 
 -- of one outcome more: no refusal more, or one
 refusals_none : (os : List Outcome) (o : Outcome) → o.refusal ≡ None → refusals_of (os ++ o ∷ []) ≡ refusals_of os
@@ -150,16 +149,21 @@ module _ (a b c : Stream) (p : Parts a b c) where
 
 -- ---- piece after piece
 
--- what was written of the items of the pieces so far
-pub record Reached (k : ItemType) (file start mid : Option (List ℕ)) (written : List Item → Type 0) (err : Stream) (any : Bool) (p : PieceReader) : Type 0 where
+-- one more was written
+pub wrote_more : {S : Type 0} (wrote : S → Option (List ℕ) → S → Option (List ℕ) → Outcome → Type 0) (a b c : S) (x y z : Option (List ℕ)) (os : List Outcome) (o : Outcome) → WroteEach wrote a x b y os → wrote b y c z o → WroteEach wrote a x c z (os ++ o ∷ [])
+wrote_more wrote a b c x y z [] o h w = (c, z, subst (λ s. wrote s x c z o) h.0 (subst (λ (t : Option (List ℕ)). wrote b t c z o) h.1 w), (refl, refl))
+wrote_more wrote a b c x y z (p ∷ os) o (d, t, first, rest) w = (d, t, first, wrote_more wrote d b c t y z os o rest w)
+
+-- what was written of the pieces so far
+pub record Reached (k : ItemType) (file start mid : Option (List ℕ)) (written : List Outcome → Type 0) (err : Stream) (any : Bool) (p : PieceReader) : Type 0 where
   pub outcomes : List Outcome
   pub had : HasPieces k start mid (pieces_of outcomes) p
   pub are : AreOutcomes k file start [] outcomes
-  pub are_written : written (items_of outcomes)
+  pub are_written : written outcomes
   pub reported : AreReported err (refusals_of outcomes)
   pub any_is : any ≡ any_refused outcomes
 
-pub reached_none : (k : ItemType) (file start : Option (List ℕ)) (written : List Item → Type 0) (err : Stream) (p : PieceReader) → HasPieces k start start [] p → written [] → IsGivenNothing err → Reached k file start start written err false p
+pub reached_none : (k : ItemType) (file start : Option (List ℕ)) (written : List Outcome → Type 0) (err : Stream) (p : PieceReader) → HasPieces k start start [] p → written [] → IsGivenNothing err → Reached k file start start written err false p
 reached_none k file start written err p h w quiet = record { outcomes = []; had = h; are = tt; are_written = w; reported = quiet; any_is = refl }
 
 -- what was reported of the pieces so far, and of the next one
@@ -167,26 +171,22 @@ reported_more : (a b c : Stream) → Parts a b c → (os : List Outcome) (o : Ou
 reported_more a b c p os o reported None is h = subst (λ (x : List ParseError). AreReported c x) (sym (refusals_none os o is)) (reported_none a b c p (refusals_of os) reported h)
 reported_more a b c p os o reported (Some e) is h = subst (λ (x : List ParseError). AreReported c x) (sym (refusals_one os o e is)) (reported_one a b c p (refusals_of os) e reported h)
 
-pub reached_more : (k : ItemType) (file start mid after : Option (List ℕ)) (so_far next both : List Item → Type 0) → ((xs ys : List Item) → so_far xs → next ys → both (xs ++ ys)) → (a b c : Stream) (any refused : Bool) (p q : PieceReader) → Parts a b c
+pub reached_more : (k : ItemType) (file start mid after : Option (List ℕ)) (so_far both : List Outcome → Type 0) (next : Outcome → Type 0) → ((os : List Outcome) (o : Outcome) → so_far os → next o → both (os ++ o ∷ [])) → (a b c : Stream) (any refused : Bool) (p q : PieceReader) → Parts a b c
     → (r : Reached k file start mid so_far a any p) → WritesPiece k file start after (pieces_of r.outcomes) next b refused q → Reached k file start after both c (any || refused) q
-reached_more k file start mid after so_far next both join a b c any refused p q parts r w =
+reached_more k file start mid after so_far both next join a b c any refused p q parts r w =
     let o = w.outcome in
     let os = r.outcomes in
     record {
       outcomes = os ++ o ∷ [];
       had = subst (λ (x : List (List Line)). HasPieces k start after x q) (sym (pieces_more os o)) w.had;
       are = outcomes_more k file start [] os o r.are w.is;
-      are_written = subst both (sym (items_more os o)) (join (items_of os) o.items r.are_written w.are_written);
+      are_written = join os o r.are_written w.are_written;
       reported = reported_more a b c parts os o r.reported o.refusal refl w.reported;
       any_is = (λ i. r.any_is i || w.any i) ∙ sym (any_more os o);
     }
 
--- records after records
-pub records_both : (l : Layout) (old now new : Option (List ℕ)) (xs ys : List Item) → WritesRecords l old now xs → WritesRecords l now new ys → WritesRecords l old new (xs ++ ys)
-records_both l old now new xs ys a b = subst (λ (x : List ℕ). Appends old new x) (sym (flat_map-append (record_of l) xs ys)) (Appends-trans old now new (records_of l xs) (records_of l ys) a b)
-
 -- the stream has ended
-pub reached_end : (k : ItemType) (file start mid after : Option (List ℕ)) (written : List Item → Type 0) (err : Stream) (any : Bool) (p : PieceReader) (r : Reached k file start mid written err any p) → HasAll k start after (pieces_of r.outcomes) → WritesPieces k file start after written err any
+pub reached_end : (k : ItemType) (file start mid after : Option (List ℕ)) (written : List Outcome → Type 0) (err : Stream) (any : Bool) (p : PieceReader) (r : Reached k file start mid written err any p) → HasAll k start after (pieces_of r.outcomes) → WritesPieces k file start after written err any
 reached_end k file start mid after written err any p r (read, consumed, all, pieces) = record {
   read = read;
   outcomes = r.outcomes;
@@ -199,128 +199,60 @@ reached_end k file start mid after written err any p r (read, consumed, all, pie
   any = r.any_is;
 }
 
-reached_reads : (k : ItemType) (file start mid : Option (List ℕ)) (written : List Item → Type 0) (err : Stream) (any : Bool) (p : PieceReader) (r : Reached k file start mid written err any p) → ReadsPieces k file start r.outcomes
+reached_reads : (k : ItemType) (file start mid : Option (List ℕ)) (written : List Outcome → Type 0) (err : Stream) (any : Bool) (p : PieceReader) (r : Reached k file start mid written err any p) → ReadsPieces k file start r.outcomes
 reached_reads k file start mid written err any p r =
     let b = pieces_begin k start mid (pieces_of r.outcomes) p r.had in
     record { read = b.0; rest = b.1; now = mid; consumed = b.2; whole = b.3; are = r.are }
 
 -- reading or writing stopped
-pub stopped_after : (k : ItemType) (file start mid : Option (List ℕ)) (so_far written : List Item → Type 0) (err : Stream) (any : Bool) (p : PieceReader) (stop : Stop) → Reached k file start mid so_far err any p → IfReading stop ((xs : List Item) → so_far xs → written xs) → StopsAfter k file start written err stop
+pub stopped_after : (k : ItemType) (file start mid : Option (List ℕ)) (so_far written : List Outcome → Type 0) (err : Stream) (any : Bool) (p : PieceReader) (stop : Stop) → Reached k file start mid so_far err any p → IfReading stop ((os : List Outcome) → so_far os → written os) → StopsAfter k file start written err stop
 stopped_after k file start mid so_far written err any p stop r same = (r.outcomes, reached_reads k file start mid so_far err any p r, r.reported, known stop same)
   where
-    known : (stop : Stop) → IfReading stop ((xs : List Item) → so_far xs → written xs) → IfReading stop (written (items_of r.outcomes))
-    known (Input e) h = h (items_of r.outcomes) r.are_written
+    known : (stop : Stop) → IfReading stop ((os : List Outcome) → so_far os → written os) → IfReading stop (written r.outcomes)
+    known (Input e) h = h r.outcomes r.are_written
     known (Output fault) h = tt
 
 -- nothing was written since
-pub reading_kept : {W : Type 0} (l : Layout) (old : Option (List ℕ)) (con : W → Option (List ℕ)) (a b : W) (stop : Stop) → IfInput stop (λ e. b ≡ a) → IfReading stop ((xs : List Item) → WritesRecords l old (con a) xs → WritesRecords l old (con b) xs)
-reading_kept {W = W} l old con a b (Input e) h = λ xs x. subst (λ (y : W). WritesRecords l old (con y) xs) (sym h) x
-reading_kept l old con a b (Output fault) h = tt
+pub reading_kept : {W : Type 0} (known : W → List Outcome → Type 0) (so_far : List Outcome → Type 0) (a b : W) (stop : Stop) → ((os : List Outcome) → so_far os → known a os) → IfInput stop (λ e. b ≡ a) → IfReading stop ((os : List Outcome) → so_far os → known b os)
+reading_kept known so_far a b (Input e) f h = λ os x. subst (λ y. known y os) (sym h) (f os x)
+reading_kept known so_far a b (Output fault) f h = tt
 
--- ---- runs
+-- ---- what is written, in other words
 
--- all pieces were read
-all_reads : (k : ItemType) (file before after : Option (List ℕ)) (written : List Item → Type 0) (err : Stream) (refused : Bool) (w : WritesPieces k file before after written err refused) → ReadsPieces k file before w.outcomes
-all_reads k file before after written err refused w = record { read = w.read; rest = []; now = after; consumed = w.consumed; whole = w.pieces.whole ∙ sym (append-nil (concat (all_lines (pieces_of w.outcomes)))); are = w.are }
+-- from that of each outcome to that of all
+of_all : {S : Type 0} (wrote : S → Option (List ℕ) → S → Option (List ℕ) → Outcome → Type 0) (P : S → Option (List ℕ) → S → Option (List ℕ) → List Outcome → Type 0) → ((a : S) (x : Option (List ℕ)) → P a x a x [])
+    → ((a b c : S) (x y z : Option (List ℕ)) (o : Outcome) (os : List Outcome) → wrote a x b y o → P b y c z os → P a x c z (o ∷ os)) → (a b : S) (x y : Option (List ℕ)) (os : List Outcome) → WroteEach wrote a x b y os → P a x b y os
+of_all wrote P none more a b x y [] h = subst (λ s. P a x s y []) (sym h.0) (subst (λ (t : Option (List ℕ)). P a x a t []) (sym h.1) (none a x))
+of_all wrote P none more a b x y (o ∷ os) (c, z, first, rest) = more a c b x z y o os first (of_all wrote P none more c b z y os rest)
 
--- no piece was refused
-none_refused : (k : ItemType) (file start : Option (List ℕ)) (before : List (List Line)) (os : List Outcome) → AreOutcomes k file start before os → any_refused os ≡ false → (refusals_of os ≡ []) × PiecesSpell k (pieces_of os) (items_of os)
-none_refused k file start before [] h none = (refl, refl)
-none_refused k file start before (o ∷ os) h none = under o.refusal h.0 none (λ rest. none_refused k file start (before ++ o.piece ∷ []) os h.1 rest)
+-- text after text, from a sink that keeps nothing from piece to piece
+module _ {S : Type 0} (idle : S → Type 0) (wrote : S → Option (List ℕ) → S → Option (List ℕ) → Outcome → Type 0) (text : Outcome → List ℕ) (one : (a b : S) (x y : Option (List ℕ)) (o : Outcome) → wrote a x b y o → idle a → idle b × Appends x y (text o)) where
+  texts_wrote : (a b : S) (x y : Option (List ℕ)) (os : List Outcome) → WroteEach wrote a x b y os → idle a → idle b × Appends x y (flat_map text os)
+  texts_wrote = of_all wrote (λ a x b y os. idle a → idle b × Appends x y (flat_map text os)) (λ a x e. (e, Appends-nil x))
+      (λ a b c x y z o os w rest e. let first = one a b x y o w e in let more = rest first.0 in (more.0, Appends-trans x y z (text o) (flat_map text os) first.1 more.1))
+
+-- the records of the items
+pub records_wrote : {S : Type 0} (l : Layout) (idle : S → Type 0) (wrote : S → Option (List ℕ) → S → Option (List ℕ) → Outcome → Type 0) → ((a b : S) (x y : Option (List ℕ)) (o : Outcome) → wrote a x b y o → idle a → idle b × WritesRecords l x y o.items)
+    → (a b : S) (x y : Option (List ℕ)) (os : List Outcome) → idle a → WroteEach wrote a x b y os → OfItems (WritesRecords l x y) os
+records_wrote l idle wrote one a b x y os e w =
+    subst (λ (text : List ℕ). Appends x y text) (sym (all os)) (texts_wrote idle wrote (λ (o : Outcome). records_of l o.items) one a b x y os w e).1
   where
-    under : (r : Option ParseError) → IsOutcome k file start (concat (all_lines before)) (concat o.piece) o.items r → (is_some r || any_refused os) ≡ false → (any_refused os ≡ false → (refusals_of os ≡ []) × PiecesSpell k (pieces_of os) (items_of os))
-        → (cons_option r (refusals_of os) ≡ []) × PiecesSpell k (o.piece ∷ pieces_of os) (o.items ++ items_of os)
-    under (Some e) is bad more = absurd cc
-    under None is rest more = let m = more rest in (m.0, (o.items, items_of os, refl, is, m.1))
+    all : (os : List Outcome) → records_of l (items_of os) ≡ flat_map (λ (o : Outcome). records_of l o.items) os
+    all [] = refl
+    all (o ∷ os) = flat_map-append (record_of l) o.items (items_of os) ∙ ap (λ (text : List ℕ). records_of l o.items ++ text) (all os)
 
--- then the stream spells the items, and nothing was reported
-pub none_reported : (k : ItemType) (file before after : Option (List ℕ)) (written : List Item → Type 0) (err : Stream) (w : WritesPieces k file before after written err false) → TextSpells k w.read (items_of w.outcomes) × IsGivenNothing err
-none_reported k file before after written err w =
-    let none = none_refused k file before [] w.outcomes w.are (sym w.any) in
-    ((spells_by_pieces k w.read (pieces_of w.outcomes) (items_of w.outcomes) w.pieces).1 none.1, subst (λ (x : List ParseError). AreReported err x) none.0 w.reported)
+-- the lines of the pieces
+pub objects_wrote : {S : Type 0} (rename : Bool) (name : List ℕ) (idle : S → Type 0) (wrote : S → Option (List ℕ) → S → Option (List ℕ) → Outcome → Type 0) → ((a b : S) (x y : Option (List ℕ)) (o : Outcome) → wrote a x b y o → idle a → idle b × Appends x y (piece_lines rename name o))
+    → (a b : S) (x y : Option (List ℕ)) (os : List Outcome) → idle a → WroteEach wrote a x b y os → WritesObjects rename name x y os
+objects_wrote rename name idle wrote one a b x y os e w = (texts_wrote idle wrote (piece_lines rename name) one a b x y os w e).1
 
-writes_each : (k : ItemType) (l : Layout) (file before after old new : Option (List ℕ)) (err : Stream) → WritesPieces k file before after (WritesRecords l old new) err false → WritesEach k l before after old new × IsGivenNothing err
-writes_each k l file before after old new err w =
-    let none = none_reported k file before after (WritesRecords l old new) err w in
-    (record { read = w.read; items = items_of w.outcomes; consumed = w.consumed; all_read = w.all_read; spelled = none.0; written = w.are_written }, none.1)
+-- the records of first items
+pub firsts_wrote : {S : Type 0} (k : ItemType) (l : Layout) (seen : S → Seen) (wrote : S → Option (List ℕ) → S → Option (List ℕ) → Outcome → Type 0) → ((a b : S) (x y : Option (List ℕ)) (o : Outcome) → wrote a x b y o → WritesNewFirsts k l x y (seen a) (seen b) o.items)
+    → (a b : S) (x y : Option (List ℕ)) (os : List Outcome) → WroteEach wrote a x b y os → OfItems (WritesNewFirsts k l x y (seen a) (seen b)) os
+firsts_wrote k l seen wrote one = of_all wrote (λ a x b y os. WritesNewFirsts k l x y (seen a) (seen b) (items_of os)) (λ a x. keeps_none k l x (seen a))
+    (λ a b c x y z o os w rest. keeps_join k l x y z (seen a) (seen b) (seen c) o.items (items_of os) (one a b x y o w) rest)
 
-module _ (k : ItemType) (name : List ℕ) (before after : Option (List ℕ)) (a b c : Stream) (p : Parts a b c) where
-  -- nothing more was reported, and what was written is known after all
-  pub kept_pieces : (so_far written : List Item → Type 0) → ((xs : List Item) → so_far xs → written xs) → (refused : Bool) → WritesPieces k (Some name) before after so_far a refused → IsGivenNothing b → WritesPieces k (Some name) before after written c refused
-  kept_pieces so_far written kept refused w quiet = record {
-    read = w.read;
-    outcomes = w.outcomes;
-    consumed = w.consumed;
-    all_read = w.all_read;
-    pieces = w.pieces;
-    are = w.are;
-    are_written = kept (items_of w.outcomes) w.are_written;
-    reported = reported_none a b c p (refusals_of w.outcomes) w.reported quiet;
-    any = w.any;
-  }
-
-  -- the output failed after all
-  pub fault_after : (written : List Item → Type 0) (refused : Bool) → WritesPieces k (Some name) before after written a refused → ReportedFault output_name b → (os : List Outcome) × ReadsPieces k (Some name) before os × AreReportedThen c (refusals_of os) output_name
-  fault_after written refused w fault = (w.outcomes, all_reads k (Some name) before after written a refused w, reported_then a b c p (refusals_of w.outcomes) output_name w.reported fault)
-
-  module _ (l : Layout) (out : Stream) (mid : Option (List ℕ)) where
-    pub run_done : (refused : Bool) (status : ℕ) → WritesPieces k (Some name) before after (WritesRecords l out.before mid) a refused → Keeps mid out.after → IsGivenNothing b → (refused ≡ false → status ≡ 0) → (refused ≡ true → status ≡ 1) → IsGoingOnRun k l name before after out c status
-    run_done refused status w kept quiet zero_is one_is = under refused (kept_pieces (WritesRecords l out.before mid) (WritesRecords l out.before out.after) (λ xs x. appends_kept out.before mid out.after (records_of l xs) x kept) refused w quiet) zero_is one_is
-      where
-        under : (refused : Bool) → WritesPieces k (Some name) before after (WritesRecords l out.before out.after) c refused → (refused ≡ false → status ≡ 0) → (refused ≡ true → status ≡ 1) → IsGoingOnRun k l name before after out c status
-        under false w zero_is one_is = subst (λ (n : ℕ). IsGoingOnRun k l name before after out c n) (sym (zero_is refl)) (writes_each k l (Some name) before after out.before out.after c w)
-        under true w zero_is one_is = subst (λ (n : ℕ). IsGoingOnRun k l name before after out c n) (sym (one_is refl)) w
-
-    pub run_unflushed : (refused : Bool) (status : ℕ) → WritesPieces k (Some name) before after (WritesRecords l out.before mid) a refused → status ≡ 2 → ReportedFault output_name b → IsGoingOnRun k l name before after out c status
-    run_unflushed refused status w two fault =
-        let f = fault_after (WritesRecords l out.before mid) refused w fault in
-        subst (λ (n : ℕ). IsGoingOnRun k l name before after out c n) (sym two) (f.0, f.1, inr f.2)
-
-    pub run_stopped : (stop : Stop) (status : ℕ) → StopsAfter k (Some name) before (WritesRecords l out.before out.after) a stop → IfInput stop (λ e. kind_of e ≡ Parse → ⊥) → IsStop name stop b status → IsGoingOnRun k l name before after out c status
-    run_stopped (Input e) status s no_refusal (inl (one, kind, line)) = absurd (no_refusal kind)
-    run_stopped (Input e) status (os, reads, reported, written) no_refusal (inr (two, fault)) =
-        subst (λ (n : ℕ). IsGoingOnRun k l name before after out c n) (sym two) (os, reads, inl (written, reported_then a b c p (refusals_of os) name reported fault))
-    run_stopped (Output f) status (os, reads, reported, written) no_refusal (two, fault) =
-        subst (λ (n : ℕ). IsGoingOnRun k l name before after out c n) (sym two) (os, reads, inr (reported_then a b c p (refusals_of os) output_name reported fault))
-
-  module _ (l : Layout) (earlier : List Item) (out : Stream) (mid : Option (List ℕ)) (seen : Seen) where
-    firsts_kept : (xs : List Item) → Keeps mid out.after → WritesFirstRecords k l earlier out.before mid seen xs → WritesFirstRecords k l earlier out.before out.after seen xs
-    firsts_kept xs kept (first, are, written, now) = (first, are, appends_kept out.before mid out.after (records_of l first) written kept, now)
-
-    writes_firsts : WritesPieces k (Some name) before after (WritesFirstRecords k l earlier out.before out.after seen) c false → WritesFirsts k l earlier before after out.before out.after seen × IsGivenNothing c
-    writes_firsts w =
-        let none = none_reported k (Some name) before after (WritesFirstRecords k l earlier out.before out.after seen) c w in
-        let (first, are, written, now) = w.are_written in
-        (record { read = w.read; items = items_of w.outcomes; first = first; consumed = w.consumed; all_read = w.all_read; spelled = none.0; are_firsts = are; written = written; seen_now = now }, none.1)
-
-    pub uniq_done : (refused : Bool) (status : ℕ) → WritesPieces k (Some name) before after (WritesFirstRecords k l earlier out.before mid seen) a refused → Keeps mid out.after → IsGivenNothing b → (refused ≡ false → status ≡ 0) → (refused ≡ true → status ≡ 1)
-        → IsUniqGoingOnRun k l earlier name before after out seen c status
-    uniq_done refused status w kept quiet zero_is one_is =
-        under refused (kept_pieces (WritesFirstRecords k l earlier out.before mid seen) (WritesFirstRecords k l earlier out.before out.after seen) (λ xs x. firsts_kept xs kept x) refused w quiet) zero_is one_is
-      where
-        under : (refused : Bool) → WritesPieces k (Some name) before after (WritesFirstRecords k l earlier out.before out.after seen) c refused → (refused ≡ false → status ≡ 0) → (refused ≡ true → status ≡ 1) → IsUniqGoingOnRun k l earlier name before after out seen c status
-        under false w zero_is one_is = subst (λ (n : ℕ). IsUniqGoingOnRun k l earlier name before after out seen c n) (sym (zero_is refl)) (writes_firsts w)
-        under true w zero_is one_is = subst (λ (n : ℕ). IsUniqGoingOnRun k l earlier name before after out seen c n) (sym (one_is refl)) w
-
-    pub uniq_unflushed : (refused : Bool) (status : ℕ) → WritesPieces k (Some name) before after (WritesFirstRecords k l earlier out.before mid seen) a refused → status ≡ 2 → ReportedFault output_name b → IsUniqGoingOnRun k l earlier name before after out seen c status
-    uniq_unflushed refused status w two fault =
-        let f = fault_after (WritesFirstRecords k l earlier out.before mid seen) refused w fault in
-        subst (λ (n : ℕ). IsUniqGoingOnRun k l earlier name before after out seen c n) (sym two) (f.0, f.1, inr f.2)
-
-    pub uniq_stopped : (stop : Stop) (status : ℕ) → StopsAfter k (Some name) before AnyWritten a stop → IfInput stop (λ e. kind_of e ≡ Parse → ⊥) → IsStop name stop b status → IsUniqGoingOnRun k l earlier name before after out seen c status
-    uniq_stopped (Input e) status s no_refusal (inl (one, kind, line)) = absurd (no_refusal kind)
-    uniq_stopped (Input e) status (os, reads, reported, written) no_refusal (inr (two, fault)) =
-        subst (λ (n : ℕ). IsUniqGoingOnRun k l earlier name before after out seen c n) (sym two) (os, reads, inl (reported_then a b c p (refusals_of os) name reported fault))
-    uniq_stopped (Output f) status (os, reads, reported, written) no_refusal (two, fault) =
-        subst (λ (n : ℕ). IsUniqGoingOnRun k l earlier name before after out seen c n) (sym two) (os, reads, inr (reported_then a b c p (refusals_of os) output_name reported fault))
-
--- nothing is claimed
-pub any_written : (stop : Stop) (written : List Item → Type 0) → IfReading stop ((xs : List Item) → written xs → AnyWritten xs)
-any_written (Input e) written = λ xs x. tt
-any_written (Output fault) written = tt
-
--- of all pieces, what is written is known in other words
-pub pieces_mapped : (k : ItemType) (file before after : Option (List ℕ)) (one other : List Item → Type 0) (err : Stream) (refused : Bool) → ((xs : List Item) → one xs → other xs) → WritesPieces k file before after one err refused → WritesPieces k file before after other err refused
+pub pieces_mapped : (k : ItemType) (file before after : Option (List ℕ)) (one other : List Outcome → Type 0) (err : Stream) (refused : Bool) → ((os : List Outcome) → one os → other os) → WritesPieces k file before after one err refused → WritesPieces k file before after other err refused
 pieces_mapped k file before after one other err refused f w = record {
   read = w.read;
   outcomes = w.outcomes;
@@ -328,16 +260,102 @@ pieces_mapped k file before after one other err refused f w = record {
   all_read = w.all_read;
   pieces = w.pieces;
   are = w.are;
-  are_written = f (items_of w.outcomes) w.are_written;
+  are_written = f w.outcomes w.are_written;
   reported = w.reported;
   any = w.any;
 }
 
--- a number that says whether
-pub few : (b : Bool) (n : ℕ) → (b ≡ false → n ≡ 0) → (b ≡ true → n ≡ 1) → n ≤ 1
-few false n zero_is one_is = let e = zero_is refl in omega arith
-few true n zero_is one_is = let e = one_is refl in omega arith
+pub stops_mapped : (k : ItemType) (file before : Option (List ℕ)) (one other : List Outcome → Type 0) (err : Stream) (stop : Stop) → ((os : List Outcome) → one os → other os) → StopsAfter k file before one err stop → StopsAfter k file before other err stop
+stops_mapped k file before one other err (Input e) f (os, reads, reported, written) = (os, reads, reported, f os written)
+stops_mapped k file before one other err (Output fault) f (os, reads, reported, written) = (os, reads, reported, tt)
 
 pub ok_mapped : {E : Type 0} (r : Result Bool E) (P Q : Bool → Type 0) → ((b : Bool) → P b → Q b) → IfOk r P → IfOk r Q
 ok_mapped (Ok b) P Q f h = f b h
 ok_mapped (Err e) P Q f h = tt
+
+pub err_mapped : {X E : Type 0} (r : Result X E) (P Q : E → Type 0) → ((e : E) → P e → Q e) → IfErr r P → IfErr r Q
+err_mapped (Ok x) P Q f h = tt
+err_mapped (Err e) P Q f h = f e h
+
+-- ---- runs
+
+-- all pieces were read
+all_reads : (k : ItemType) (file before after : Option (List ℕ)) (written : List Outcome → Type 0) (err : Stream) (refused : Bool) (w : WritesPieces k file before after written err refused) → ReadsPieces k file before w.outcomes
+all_reads k file before after written err refused w = record { read = w.read; rest = []; now = after; consumed = w.consumed; whole = w.pieces.whole ∙ sym (append-nil (concat (all_lines (pieces_of w.outcomes)))); are = w.are }
+
+-- no piece was refused
+none_refused : (k : ItemType) (file start : Option (List ℕ)) (before : List (List Line)) (os : List Outcome) → AreOutcomes k file start before os → any_refused os ≡ false → (refusals_of os ≡ []) × PiecesSpell k (pieces_of os) (items_of os)
+none_refused k file start before [] h none = (refl, refl)
+none_refused k file start before (o ∷ os) h none = under o.refusal h.0.is none (λ rest. none_refused k file start (before ++ o.piece ∷ []) os h.1 rest)
+  where
+    under : (r : Option ParseError) → IsOutcome k file start (concat (all_lines before)) (concat o.piece) o.items r → (is_some r || any_refused os) ≡ false → (any_refused os ≡ false → (refusals_of os ≡ []) × PiecesSpell k (pieces_of os) (items_of os))
+        → (cons_option r (refusals_of os) ≡ []) × PiecesSpell k (o.piece ∷ pieces_of os) (o.items ++ items_of os)
+    under (Some e) is bad more = absurd cc
+    under None is rest more = let m = more rest in (m.0, (o.items, items_of os, refl, is, m.1))
+
+-- then the stream spells the items, and nothing was reported
+pub none_reported : (k : ItemType) (file before after : Option (List ℕ)) (written : List Outcome → Type 0) (err : Stream) (w : WritesPieces k file before after written err false) → TextSpells k w.read (items_of w.outcomes) × IsGivenNothing err
+none_reported k file before after written err w =
+    let none = none_refused k file before [] w.outcomes w.are (sym w.any) in
+    ((spells_by_pieces k w.read (pieces_of w.outcomes) (items_of w.outcomes) w.pieces).1 none.1, subst (λ (x : List ParseError). AreReported err x) none.0 w.reported)
+
+-- the pieces that were written, after a stream to which nothing more was reported
+kept_pieces : (k : ItemType) (name : List ℕ) (before after : Option (List ℕ)) (a b c : Stream) → Parts a b c → (so_far written : List Outcome → Type 0) (refused : Bool) → ((os : List Outcome) → so_far os → written os)
+    → WritesPieces k (Some name) before after so_far a refused → IsGivenNothing b → WritesPieces k (Some name) before after written c refused
+kept_pieces k name before after a b c p so_far written refused mapped w quiet = record {
+  read = w.read;
+  outcomes = w.outcomes;
+  consumed = w.consumed;
+  all_read = w.all_read;
+  pieces = w.pieces;
+  are = w.are;
+  are_written = mapped w.outcomes w.are_written;
+  reported = reported_none a b c p (refusals_of w.outcomes) w.reported quiet;
+  any = w.any;
+}
+
+-- a run over pieces has ended
+module _ (k : ItemType) (name : List ℕ) (before after : Option (List ℕ)) (out a b c : Stream) (p : Parts a b c) (done : Type 0) (so_far written known_so_far known : List Outcome → Type 0) (mapped : IsGivenNothing out → (os : List Outcome) → so_far os → written os)
+    (known_mapped : IsGivenNothing out → (os : List Outcome) → known_so_far os → known os) (all : WritesPieces k (Some name) before after written c false → done × IsGivenNothing c) where
+  abbrev run : ℕ → Type 0
+  run status = IsPiecesRun k name before after done written known c status
+
+  pub run_ends : (pieces : Result Bool Stop) (status : ℕ) → IfOk pieces (λ refused. WritesPieces k (Some name) before after so_far a refused) → IfErr pieces (λ stop. StopsAfter k (Some name) before known_so_far a stop)
+      → IfErr pieces (λ stop. IfInput stop (λ e. kind_of e ≡ Parse → ⊥)) → IsPiecesEnd name pieces out b status → IsPiecesRun k name before after done written known c status
+  run_ends (Ok false) status w stops no_refusal (inl (zero_is, kept, quiet)) = subst run (sym zero_is) (all (kept_pieces k name before after a b c p so_far written false (mapped kept) w quiet))
+  run_ends (Ok true) status w stops no_refusal (inl (one_is, kept, quiet)) = subst run (sym one_is) (kept_pieces k name before after a b c p so_far written true (mapped kept) w quiet)
+  run_ends (Ok refused) status w stops no_refusal (inr (two, fault)) =
+      subst run (sym two) (w.outcomes, all_reads k (Some name) before after so_far a refused w, inr (reported_then a b c p (refusals_of w.outcomes) output_name w.reported fault))
+  run_ends (Err (Input e)) status w stops no_refusal (kept, inl (one, kind, line)) = absurd (no_refusal kind)
+  run_ends (Err (Input e)) status w (os, reads, reported, so) no_refusal (kept, inr (two, fault)) =
+      subst run (sym two) (os, reads, inl (known_mapped kept os so, reported_then a b c p (refusals_of os) name reported fault))
+  run_ends (Err (Output f)) status w (os, reads, reported, so) no_refusal (kept, (two, fault)) =
+      subst run (sym two) (os, reads, inr (reported_then a b c p (refusals_of os) output_name reported fault))
+
+-- of records
+pub records_kept : (l : Layout) (old mid new : Option (List ℕ)) → Keeps mid new → (os : List Outcome) → OfItems (WritesRecords l old mid) os → OfItems (WritesRecords l old new) os
+records_kept l old mid new kept os w = appends_kept old mid new (records_of l (items_of os)) w kept
+
+pub writes_each : (k : ItemType) (l : Layout) (file before after old new : Option (List ℕ)) (err : Stream) → WritesPieces k file before after (OfItems (WritesRecords l old new)) err false → WritesEach k l before after old new × IsGivenNothing err
+writes_each k l file before after old new err w =
+    let none = none_reported k file before after (OfItems (WritesRecords l old new)) err w in
+    (record { read = w.read; items = items_of w.outcomes; consumed = w.consumed; all_read = w.all_read; spelled = none.0; written = w.are_written }, none.1)
+
+-- of the records of first items
+pub firsts_kept : (k : ItemType) (l : Layout) (earlier : List Item) (old mid new : Option (List ℕ)) (seen : Seen) → Keeps mid new → (os : List Outcome) → OfItems (WritesFirstRecords k l earlier old mid seen) os → OfItems (WritesFirstRecords k l earlier old new seen) os
+firsts_kept k l earlier old mid new seen kept os (first, are, written, now) = (first, are, appends_kept old mid new (records_of l first) written kept, now)
+
+pub writes_firsts : (k : ItemType) (l : Layout) (earlier : List Item) (file before after old new : Option (List ℕ)) (seen : Seen) (err : Stream) → WritesPieces k file before after (OfItems (WritesFirstRecords k l earlier old new seen)) err false → WritesFirsts k l earlier before after old new seen × IsGivenNothing err
+writes_firsts k l earlier file before after old new seen err w =
+    let none = none_reported k file before after (OfItems (WritesFirstRecords k l earlier old new seen)) err w in
+    let (first, are, written, now) = w.are_written in
+    (record { read = w.read; items = items_of w.outcomes; first = first; consumed = w.consumed; all_read = w.all_read; spelled = none.0; are_firsts = are; written = written; seen_now = now }, none.1)
+
+-- of objects
+pub objects_kept : (rename : Bool) (name : List ℕ) (old mid new : Option (List ℕ)) → Keeps mid new → (os : List Outcome) → WritesObjects rename name old mid os → WritesObjects rename name old new os
+objects_kept rename name old mid new kept os w = appends_kept old mid new (objects_of rename name os) w kept
+
+pub writes_all_objects : (k : ItemType) (rename : Bool) (name : List ℕ) (before after old new : Option (List ℕ)) (err : Stream) → WritesPieces k (Some name) before after (WritesObjects rename name old new) err false → WritesAllObjects k rename name before after old new × IsGivenNothing err
+writes_all_objects k rename name before after old new err w =
+    let none = none_reported k (Some name) before after (WritesObjects rename name old new) err w in
+    (record { read = w.read; outcomes = w.outcomes; consumed = w.consumed; all_read = w.all_read; pieces = w.pieces; are = w.are; none = sym w.any; spelled = none.0; written = w.are_written }, none.1)

@@ -1,6 +1,6 @@
 -- Items that were seen: their texts, and part after part of a stream.
 use Rattle.std.proofs.Common.{◌≡◌, ◌⊎◌, inl, inr, ℕ, ◌+◌, ◌-◌, ◌^◌, ◌<◌, ◌≤◌, Bool, true, false, not, List, [], ◌∷◌, ◌++◌, map, length, drop, Option, refl, sym, ap, ◌∙◌, subst, arith, append_assoc, append-nil, slice_set, slice_index_or}
-use Rattle.std.specs.Prelude.{String, flat_map, min, bytes_eq, ◌||◌, if◌then◌else◌}
+use Rattle.std.specs.Prelude.{String, Result, Ok, Err, OnOk, flat_map, min, bytes_eq, ◌||◌, if◌then◌else◌}
 use Rattle.std.specs.List.{list_any, position_or_len, AllByRecursion}
 use Rattle.std.specs.Io.KnownBytes.{Consumes, Appends}
 use Rattle.std.specs.String.{string_bytes, string_eq}
@@ -214,3 +214,8 @@ pub first_records : (k : ItemType) (l : Layout) (old new : Option (List ℕ)) (s
 first_records k l old new s t earlier items seen w =
     let both = w earlier seen in
     (firsts l.rename earlier items, are_firsts k l.rename earlier items seen.0 (all_parts (HasText k l.rename) earlier items both.0.0), both.1, both.0)
+
+-- what holds if a result is Ok
+pub on_ok : {X E : Type 0} (r : Result X E) {P Q : Type 0} → (P → Q) → OnOk r P → OnOk r Q
+on_ok (Ok x) f h = f h
+on_ok (Err e) f h = tt

@@ -2,6 +2,7 @@ pub mod Records
 pub mod Eaches
 pub mod Reports
 pub mod Outcomes
+pub mod Objects
 pub mod Runs
 pub mod Canonical
 pub mod Firsts

@@ -10,7 +10,7 @@ use Rattle.souper_ir.specs.Errors.{kind_of}
 use Rattle.souper_ir.specs.Sinks.{PrefixSpells}
 use Rattle.souper_stream.specs.Pieces.{Line, concat, all_lines, ArePieces}
 use Rattle.souper_stream.specs.declared.pieces.PieceReader.{PieceReader}
-use Rattle.souper_stream.specs.PieceReading.{IsPlacedIn, HasPieces}
+use Rattle.souper_stream.specs.PieceReading.{IsPlacedIn, IsOnLine, HasPieces}
 use Rattle.souper_stream.specs.Reading.{AreAll}
 use Rattle.souper_format.specs.Streams.{Stream, IsGiven, IsGivenNothing}
 use Rattle.souper_format.specs.Reporting.{IsErrorLine, ReportedLine}
@@ -20,9 +20,10 @@ use Rattle.souper_records.specs.declared.each.Stop.TheVariants.{Input, Output}
 use Rattle.souper_records.specs.Records.{records_of}
 use Rattle.souper_records.specs.Reports.{program_line, named_line}
 
--- what became of a piece: its items, or those that it begins with, and its refusal, if it is refused
+-- what became of a piece: the line of its first token, its items, or those that it begins with, and its refusal, if it is refused
 pub record Outcome : Type 0 where
   pub piece : List Line
+  pub line : ℕ
   pub items : List Item
   pub refusal : Option ParseError
 
@@ -41,10 +42,16 @@ abbrev pub IsOutcome : ItemType → Option (List ℕ) → Option (List ℕ) → 
 IsOutcome k file start done piece items None = TextSpells k piece items
 IsOutcome k file start done piece items (Some e) = IsRefusedPiece k file start done piece items e
 
+-- that is what became of a piece, after what is done
+pub record IsOutcomeAfter (k : ItemType) (file start : Option (List ℕ)) (done : List ℕ) (o : Outcome) : Type 0 where
+  pub now : Option (List ℕ)
+  pub on_line : IsOnLine start now done (concat o.piece) o.line
+  pub is : IsOutcome k file start done (concat o.piece) o.items o.refusal
+
 -- that holds of each piece, after those before it
 abbrev pub AreOutcomes : ItemType → Option (List ℕ) → Option (List ℕ) → List (List Line) → List Outcome → Type 0
 AreOutcomes k file start before [] = Unit {0}
-AreOutcomes k file start before (o ∷ os) = IsOutcome k file start (concat (all_lines before)) (concat o.piece) o.items o.refusal × AreOutcomes k file start (before ++ o.piece ∷ []) os
+AreOutcomes k file start before (o ∷ os) = IsOutcomeAfter k file start (concat (all_lines before)) o × AreOutcomes k file start (before ++ o.piece ∷ []) os
 
 abbrev pub pieces_of : List Outcome → List (List Line)
 pieces_of os = map (λ (o : Outcome). o.piece) os
@@ -81,25 +88,24 @@ abbrev pub ReportsPiece : Stream → Option ParseError → Type 0
 ReportsPiece err None = IsGivenNothing err
 ReportsPiece err (Some e) = ReportedLine err e
 
--- the next piece was read, its items were written, and its refusal was reported, if it was refused
-pub record WritesPiece (k : ItemType) (file start now : Option (List ℕ)) (ps : List (List Line)) (written : List Item → Type 0) (err : Stream) (refused : Bool) (p : PieceReader) : Type 0 where
+-- the next piece was read, its outcome was written, and its refusal was reported, if it was refused
+pub record WritesPiece (k : ItemType) (file start now : Option (List ℕ)) (ps : List (List Line)) (written : Outcome → Type 0) (err : Stream) (refused : Bool) (p : PieceReader) : Type 0 where
   pub outcome : Outcome
   pub had : HasPieces k start now (ps ++ outcome.piece ∷ []) p
-  pub is : IsOutcome k file start (concat (all_lines ps)) (concat outcome.piece) outcome.items outcome.refusal
+  pub is : IsOutcomeAfter k file start (concat (all_lines ps)) outcome
   pub any : refused ≡ is_some outcome.refusal
-  pub are_written : written outcome.items
+  pub are_written : written outcome
   pub reported : ReportsPiece err outcome.refusal
 
--- all of the stream was read: the items of all pieces were written, also those that refused pieces begin with, and each refusal was
--- reported, in order
-pub record WritesPieces (k : ItemType) (file before after : Option (List ℕ)) (written : List Item → Type 0) (err : Stream) (refused : Bool) : Type 0 where
+-- all of the stream was read: the outcome of each piece was written, and each refusal was reported, in order
+pub record WritesPieces (k : ItemType) (file before after : Option (List ℕ)) (written : List Outcome → Type 0) (err : Stream) (refused : Bool) : Type 0 where
   pub read : List ℕ
   pub outcomes : List Outcome
   pub consumed : Consumes before after read
   pub all_read : AreAll before read
   pub pieces : ArePieces k read (pieces_of outcomes)
   pub are : AreOutcomes k file before [] outcomes
-  pub are_written : written (items_of outcomes)
+  pub are_written : written outcomes
   pub reported : AreReported err (refusals_of outcomes)
   pub any : refused ≡ any_refused outcomes
 
@@ -112,14 +118,27 @@ pub record ReadsPieces (k : ItemType) (file before : Option (List ℕ)) (outcome
   pub whole : read ≡ concat (all_lines (pieces_of outcomes)) ++ rest
   pub are : AreOutcomes k file before [] outcomes
 
--- reading or writing stopped after these pieces; if reading did, their items were written
+-- reading or writing stopped after these pieces; if reading did, their outcomes were written
 abbrev pub IfReading : Stop → Type 0 → Type 0
 IfReading (Input e) P = P
 IfReading (Output fault) P = Unit {0}
 
-abbrev pub StopsAfter : ItemType → Option (List ℕ) → Option (List ℕ) → (List Item → Type 0) → Stream → Stop → Type 0
-StopsAfter k file before written err stop = (os : List Outcome) × ReadsPieces k file before os × AreReported err (refusals_of os) × IfReading stop (written (items_of os))
+abbrev pub StopsAfter : ItemType → Option (List ℕ) → Option (List ℕ) → (List Outcome → Type 0) → Stream → Stop → Type 0
+StopsAfter k file before written err stop = (os : List Outcome) × ReadsPieces k file before os × AreReported err (refusals_of os) × IfReading stop (written os)
+
+-- one outcome after the other was written: a state and what the output had, at first and after each
+abbrev pub WroteEach : {S : Type 0} → (S → Option (List ℕ) → S → Option (List ℕ) → Outcome → Type 0) → S → Option (List ℕ) → S → Option (List ℕ) → List Outcome → Type 0
+WroteEach wrote a x b y [] = (b ≡ a) × (y ≡ x)
+WroteEach {S = S} wrote a x b y (o ∷ os) = (c : S) × (z : Option (List ℕ)) × wrote a x c z o × WroteEach wrote c z b y os
+
+-- the items of the outcomes were written, also those that refused pieces begin with
+abbrev pub OfItems : (List Item → Type 0) → List Outcome → Type 0
+OfItems written os = written (items_of os)
 
 -- how items are written: their records, and nothing else
 abbrev pub WritesRecords : Layout → Option (List ℕ) → Option (List ℕ) → List Item → Type 0
 WritesRecords l old new items = Appends old new (records_of l items)
+
+-- nothing is known of what was written
+abbrev pub AnyWritten : List Outcome → Type 0
+AnyWritten os = Unit {0}

@@ -1,5 +1,5 @@
 -- Definitions. What each status of a run over a stream says of the stream and of the writers.
-use Rattle.std.specs.Prelude.{◌≡◌, ◌⊎◌, ℕ, zero, suc, true, List, Option, Some, codes}
+use Rattle.std.specs.Prelude.{◌≡◌, ◌⊎◌, ℕ, zero, suc, Bool, true, if◌then◌else◌, List, Option, Some, Result, Ok, Err, codes}
 use Rattle.souper_graph.specs.Values.{Item}
 use Rattle.souper_graph.specs.Syntax.Spelling.{ItemType}
 use Rattle.souper_ir.specs.declared.parse.ParseError.{ParseError}
@@ -11,7 +11,8 @@ use Rattle.souper_records.specs.declared.each.Stop.{Stop}
 use Rattle.souper_records.specs.declared.each.Stop.TheVariants.{Input, Output}
 use Rattle.souper_records.specs.declared.seen.Seen.{Seen}
 use Rattle.souper_records.specs.Uniques.{WritesFirsts, WritesFirstsUpTo, WritesFirstRecords, counted_records}
-use Rattle.souper_records.specs.Outcomes.{Outcome, items_of, refusals_of, AreReportedThen, WritesPieces, ReadsPieces, WritesRecords}
+use Rattle.souper_records.specs.Objects.{WritesObjects, WritesAllObjects}
+use Rattle.souper_records.specs.Outcomes.{Outcome, refusals_of, AreReportedThen, WritesPieces, ReadsPieces, OfItems, WritesRecords, AnyWritten}
 use Rattle.souper_records.specs.Reports.{ReportedFault, ReportedError}
 
 -- a fact for each status, of which there are three
@@ -34,6 +35,11 @@ abbrev pub IsStop : List ℕ → Stop → Stream → ℕ → Type 0
 IsStop name (Input e) err status = ReportedError name err status e
 IsStop name (Output fault) err status = (status ≡ 2) × ReportedFault output_name err
 
+-- all pieces were written, and perhaps some were refused, or why not all were was reported
+abbrev pub IsPiecesEnd : List ℕ → Result Bool Stop → Stream → Stream → ℕ → Type 0
+IsPiecesEnd name (Ok refused) out err status = ((status ≡ (if refused then 1 else 0)) × IsGivenNothing out × IsGivenNothing err) ⊎ ((status ≡ 2) × ReportedFault output_name err)
+IsPiecesEnd name (Err stop) out err status = IsGivenNothing out × IsStop name stop err status
+
 -- What the status of writing the record of each item says: 0, all were written, and nothing was reported; 1, the stream is
 -- refused, and that was reported; 2, the input failed, after records of items that the stream begins with were written, or the
 -- output failed, and that was reported.
@@ -43,16 +49,30 @@ IsEachRun k l name before after out err status = OnStatus status
     ((e : ParseError) × WritesUpTo k l (Some name) before after out.before out.after e × ReportedLine err e)
     ((WritesBegun k l before out.before out.after × ReportedFault name err) ⊎ ReportedFault output_name err)
 
--- What the status of writing the record of each item, and going on after refusals, says: 0, the stream spells items, their records were
--- written, and nothing was reported; 1, pieces are refused; 2, the input or the output failed, and that was reported, after some pieces.
-abbrev pub IsGoingOnRun : ItemType → Layout → List ℕ → Option (List ℕ) → Option (List ℕ) → Stream → Stream → ℕ → Type 0
-IsGoingOnRun k l name before after out err status = OnStatus status
-    (WritesEach k l before after out.before out.after × IsGivenNothing err)
-    (WritesPieces k (Some name) before after (WritesRecords l out.before out.after) err true)
+-- What the status of a run that goes on after refusals says: 0, no piece is refused, and nothing was reported; 1, pieces are refused; 2,
+-- the input or the output failed, and that was reported, after some pieces, of which is known what was written if the input failed.
+abbrev pub IsPiecesRun : ItemType → List ℕ → Option (List ℕ) → Option (List ℕ) → Type 0 → (List Outcome → Type 0) → (List Outcome → Type 0) → Stream → ℕ → Type 0
+IsPiecesRun k name before after done written known err status = OnStatus status
+    (done × IsGivenNothing err)
+    (WritesPieces k (Some name) before after written err true)
     ((os : List Outcome) × ReadsPieces k (Some name) before os
-    × ((WritesRecords l out.before out.after (items_of os) × AreReportedThen err (refusals_of os) name) ⊎ AreReportedThen err (refusals_of os) output_name))
+    × ((known os × AreReportedThen err (refusals_of os) name) ⊎ AreReportedThen err (refusals_of os) output_name))
 
--- the same of writing the records of the first items, after earlier ones
+-- writing the record of each item; with status 0 the stream spells the items
+abbrev pub IsGoingOnRun : ItemType → Layout → List ℕ → Option (List ℕ) → Option (List ℕ) → Stream → Stream → ℕ → Type 0
+IsGoingOnRun k l name before after out err status = IsPiecesRun k name before after
+    (WritesEach k l before after out.before out.after)
+    (OfItems (WritesRecords l out.before out.after))
+    (OfItems (WritesRecords l out.before out.after)) err status
+
+-- writing the object of each item and of each refusal; with status 0 the stream spells the items
+abbrev pub IsObjectsRun : ItemType → Bool → List ℕ → Option (List ℕ) → Option (List ℕ) → Stream → Stream → ℕ → Type 0
+IsObjectsRun k rename name before after out err status = IsPiecesRun k name before after
+    (WritesAllObjects k rename name before after out.before out.after)
+    (WritesObjects rename name out.before out.after)
+    (WritesObjects rename name out.before out.after) err status
+
+-- writing the records of the first items, after earlier ones
 abbrev pub IsUniqRun : ItemType → Layout → List Item → List ℕ → Option (List ℕ) → Option (List ℕ) → Stream → Seen → Stream → ℕ → Type 0
 IsUniqRun k l earlier name before after out seen err status = OnStatus status
     (WritesFirsts k l earlier before after out.before out.after seen × IsGivenNothing err)
@@ -61,10 +81,10 @@ IsUniqRun k l earlier name before after out seen err status = OnStatus status
 
 -- the same, going on after refusals
 abbrev pub IsUniqGoingOnRun : ItemType → Layout → List Item → List ℕ → Option (List ℕ) → Option (List ℕ) → Stream → Seen → Stream → ℕ → Type 0
-IsUniqGoingOnRun k l earlier name before after out seen err status = OnStatus status
-    (WritesFirsts k l earlier before after out.before out.after seen × IsGivenNothing err)
-    (WritesPieces k (Some name) before after (WritesFirstRecords k l earlier out.before out.after seen) err true)
-    ((os : List Outcome) × ReadsPieces k (Some name) before os × (AreReportedThen err (refusals_of os) name ⊎ AreReportedThen err (refusals_of os) output_name))
+IsUniqGoingOnRun k l earlier name before after out seen err status = IsPiecesRun k name before after
+    (WritesFirsts k l earlier before after out.before out.after seen)
+    (OfItems (WritesFirstRecords k l earlier out.before out.after seen))
+    AnyWritten err status
 
 -- the records of items with counts were written, and nothing was reported; or something failed, and that was reported
 abbrev pub IsCountRun : Layout → List Item → Stream → Stream → ℕ → Type 0

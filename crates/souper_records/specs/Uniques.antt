@@ -84,10 +84,6 @@ WritesFirstRecords k l earlier old new seen items = (first : List Item) × AreFi
 abbrev pub WritesNewFirsts : ItemType → Layout → Option (List ℕ) → Option (List ℕ) → Seen → Seen → List Item → Type 0
 WritesNewFirsts k l old new before after items = (earlier : List Item) → HasSeen k l.rename earlier before → HasSeen k l.rename (earlier ++ items) after × Appends old new (records_of l (firsts l.rename earlier items))
 
--- nothing is known of what was written
-abbrev pub AnyWritten : List Item → Type 0
-AnyWritten items = Unit {0}
-
 -- a comment line with a number
 abbrev pub count_line : ℕ → List ℕ
 count_line n = codes "; count " ++ (decimal n ++ codes "\n")

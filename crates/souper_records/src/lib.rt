@@ -1,6 +1,6 @@
 //! Records of items: what a store of optimizations keeps and compares, made from streams that need not fit in memory.
 //!
-//! The program `souper_items` calls [`run::each_run`], [`run::uniq_run`], [`run::count_run`] and [`check::check_run`].
+//! The program `souper_items` calls the functions of [`run`] and [`check::check_run`].
 #![tactic(auto)]
 
 pub mod check;
@@ -9,6 +9,8 @@ pub mod each;
 mod fixed;
 pub mod going_on;
 pub mod layout;
+pub mod objects;
+mod pieces;
 pub mod records;
 pub mod report;
 pub mod run;

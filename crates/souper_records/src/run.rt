@@ -5,12 +5,13 @@ ghost use Rattle.souper_graph.specs.Values.{Item};
 ghost use Rattle.souper_format.specs.Streams.{stream};
 ghost use Rattle.souper_format.specs.Watching.{has_failed};
 ghost use Rattle.souper_records.specs.Uniques.{HasSeen};
-ghost use Rattle.souper_records.specs.Runs.{IsEnd, IsStop, IsEachRun, IsGoingOnRun, IsUniqRun, IsUniqGoingOnRun, IsCountRun};
+ghost use Rattle.souper_records.specs.Runs.{IsEnd, IsStop, IsPiecesEnd, IsEachRun, IsGoingOnRun, IsObjectsRun, IsUniqRun, IsUniqGoingOnRun, IsCountRun};
 
 use crate::counts::write_counts;
 use crate::each::{Stop, each};
 use crate::going_on::each_going_on;
 use crate::layout::Layout;
+use crate::objects::write_objects;
 use crate::report::{report_error, report_fault, report_memory};
 use crate::seen::Seen;
 use crate::uniq::uniq;
@@ -45,6 +46,23 @@ fn report_stop<E: Write>(alloc: Global, name: &str, stop: &Stop, err: &mut Watch
             report_fault(alloc, "write error", fault, err);
             2
         }
+    }
+}
+
+// Flushes the output after all pieces were written to it, or reports why not all were, and returns the status: 1 if pieces were refused.
+fn end_pieces<W: Write, E: Write>(
+    alloc: Global,
+    name: &str,
+    pieces: Result<bool, Stop>,
+    out: &mut Watched<W>,
+    err: &mut Watched<E>,
+) -> u8
+    ensures end { IsPiecesEnd name.now pieces (stream W.contents out.old out.new) (stream E.contents err.old err.new) result }
+    ensures stays { has_failed err.old ≡ true → has_failed err.new ≡ true }
+{
+    match pieces {
+        Ok(refused) => end(alloc, out, err).max(u8::from(refused)),
+        Err(stop) => report_stop(alloc, name, &stop, err),
     }
 }
 
@@ -94,10 +112,25 @@ pub fn each_going_on_run<T: StreamItem + Drop, R: BufRead, W: Write, E: Write>(
     ensures { IsGoingOnRun T.item_type layout name.now (R.remaining reader.old) (R.remaining reader.new)
         (stream W.contents out.old out.new) (stream E.contents err.old err.new) result }
 {
-    match each_going_on::<T, R, Watched<W>, E>(alloc, layout, reader, name, out, err) {
-        Ok(refused) => end(alloc, out, err).max(u8::from(refused)),
-        Err(stop) => report_stop(alloc, name, &stop, err),
-    }
+    let pieces = each_going_on::<T, R, Watched<W>, E>(alloc, layout, reader, name, out, err);
+    end_pieces(alloc, name, pieces, out, err)
+}
+
+/// Writes a JSON object for each item of the stream and each refusal to `out`, and goes on after a refusal ([`write_objects`]). Returns
+/// the status of the program, as [`each_going_on_run`] does.
+pub fn objects_run<T: StreamItem + Drop, R: BufRead, W: Write, E: Write>(
+    alloc: Global,
+    rename: bool,
+    reader: &mut R,
+    name: &str,
+    out: &mut Watched<W>,
+    err: &mut Watched<E>,
+) -> u8
+    ensures { IsObjectsRun T.item_type rename name.now (R.remaining reader.old) (R.remaining reader.new)
+        (stream W.contents out.old out.new) (stream E.contents err.old err.new) result }
+{
+    let pieces = write_objects::<T, R, Watched<W>, E>(alloc, rename, reader, name, out, err);
+    end_pieces(alloc, name, pieces, out, err)
 }
 
 /// Writes the record of each item of the stream that is the same graph as no earlier one to `out` ([`uniq`]), and returns the
@@ -138,10 +171,8 @@ pub fn uniq_going_on_run<T: StreamItem + Drop, R: BufRead, W: Write, E: Write>(
         → IsUniqGoingOnRun T.item_type layout earlier name.now (R.remaining reader.old) (R.remaining reader.new)
         (stream W.contents out.old out.new) seen.new (stream E.contents err.old err.new) result }
 {
-    match uniq_going_on::<T, R, Watched<W>, E>(alloc, layout, seen, reader, name, out, err) {
-        Ok(refused) => end(alloc, out, err).max(u8::from(refused)),
-        Err(stop) => report_stop(alloc, name, &stop, err),
-    }
+    let pieces = uniq_going_on::<T, R, Watched<W>, E>(alloc, layout, seen, reader, name, out, err);
+    end_pieces(alloc, name, pieces, out, err)
 }
 
 /// Writes the records of the items that were seen to `out`, with counts ([`write_counts`]), and returns the status of the program: 0,

@@ -2,13 +2,18 @@
 ghost use Rattle.std.specs.Prelude.{◌≡◌, []};
 ghost use Rattle.std.specs.Coded.{Coded-set};
 ghost use Rattle.std.specs.String.{string_bytes};
+ghost use Rattle.souper_records.specs.Outcomes.{WritesRecords};
 ghost use Rattle.souper_records.specs.Records.{records_of};
 
+use crate::each::{Stop, write_text};
 use crate::fixed::Fixed;
 use crate::layout::Layout;
+use crate::pieces::{PieceSink, Place};
 use crate::records::append_record;
-use souper_ir::parse::{Sink, WholeItem};
+use souper_ir::parse::{ParseError, Sink, WholeItem};
+use souper_stream::StreamItem;
 use std::alloc::{AllocError, Global};
+use std::io::Write;
 use std::marker::PhantomData;
 
 /// The records of the items that were taken.
@@ -52,5 +57,29 @@ impl<L: Fixed, T: WholeItem + Drop> Sink<T> for Records<L> {
             &mut self.text,
             &mut self.out,
         )
+    }
+}
+
+// Of each piece the records are written, and forgotten.
+impl<L: Fixed, T: StreamItem + Drop> PieceSink<T> for Records<L> {
+    ghost marks = { λ records. 0 };
+
+    ghost wrote = { λ name a x b y o. string_bytes a.out ≡ [] → (string_bytes b.out ≡ []) × WritesRecords L.layout x y o.items };
+
+    fn mark(&self) -> usize {
+        0
+    }
+
+    fn write_piece<W: Write>(
+        &mut self,
+        _alloc: Global,
+        _mark: usize,
+        _place: Place<'_>,
+        _refusal: Option<&ParseError>,
+        out: &mut W,
+    ) -> Result<(), Stop> {
+        write_text(&self.out, out)?;
+        self.out.clear();
+        Ok(())
     }
 }

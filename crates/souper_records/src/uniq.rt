@@ -1,5 +1,5 @@
 //! The record of the first item of each graph in streams.
-ghost use Rattle.std.specs.Prelude.{◌≡◌, List, map, flat_map, drop, Some, OnOk, IfErr};
+ghost use Rattle.std.specs.Prelude.{◌≡◌, List, map, flat_map, drop, length, Some, OnOk, IfErr};
 ghost use Rattle.std.specs.Coded.{Coded-set};
 ghost use Rattle.std.specs.Io.KnownBytes.{Appends};
 ghost use Rattle.std.specs.String.{string_bytes};
@@ -7,11 +7,12 @@ ghost use Rattle.souper_graph.specs.Values.{Item};
 ghost use Rattle.souper_ir.specs.Errors.{kind_of};
 ghost use Rattle.souper_records.specs.Eaches.{IfInput};
 ghost use Rattle.souper_records.specs.Records.{record_of_text};
-ghost use Rattle.souper_records.specs.Uniques.{HasSeen, WritesFirsts, WritesFirstsUpTo};
+ghost use Rattle.souper_records.specs.Uniques.{HasSeen, WritesFirsts, WritesFirstsUpTo, WritesNewFirsts};
 
 use crate::each::{CHUNK, Job, Stop, write_text};
 use crate::fixed::Fixed;
 use crate::layout::Layout;
+use crate::pieces::{PieceSink, Place};
 use crate::records::{append_text, records_of_texts};
 use crate::seen::Seen;
 use souper_ir::parse::{ParseError, ParseErrorKind, Sink, WholeItem};
@@ -63,8 +64,30 @@ impl<L: Fixed, T: WholeItem + Drop> Sink<T> for Firsts<L> {
     }
 }
 
+// Of each piece the records of the first items are written, which come after the mark.
+impl<L: Fixed, T: StreamItem + Drop> PieceSink<T> for Firsts<L> {
+    ghost marks = { λ firsts. length firsts.seen.texts.keys };
+
+    ghost wrote = { λ name a x b y o. WritesNewFirsts T.item_type L.layout x y a.seen b.seen o.items };
+
+    fn mark(&self) -> usize {
+        self.seen.texts.len()
+    }
+
+    fn write_piece<W: Write>(
+        &mut self,
+        alloc: Global,
+        mark: usize,
+        _place: Place<'_>,
+        _refusal: Option<&ParseError>,
+        out: &mut W,
+    ) -> Result<(), Stop> {
+        write_texts(alloc, self.layout, self.seen.texts.as_slice(), mark, out)
+    }
+}
+
 // Writes the records of the texts from the index `start` on.
-pub(crate) fn write_texts<W: Write>(
+fn write_texts<W: Write>(
     alloc: Global,
     layout: Layout,
     texts: &[String],
@@ -73,6 +96,7 @@ pub(crate) fn write_texts<W: Write>(
 ) -> Result<(), Stop>
     ensures written { OnOk result (Appends (W.contents out.old) (W.contents out.new) (flat_map (record_of_text layout) (map string_bytes (drop start texts.now)))) }
     ensures fault { IfErr result (λ stop. IfInput stop (λ e. kind_of e ≡ ParseErrorKind.Parse → ⊥)) }
+    ensures unwritten { IfErr result (λ stop. IfInput stop (λ e. out.new ≡ out.old)) }
 {
     let texts = &texts[start.min(texts.len())..];
     match records_of_texts(alloc, layout, texts) {

@@ -1,27 +1,25 @@
-use Rattle.std.proofs.Common.{inl, inr, refl, arith}
+use Rattle.std.proofs.Common.{Some, refl}
 use Rattle.souper_format.specs.Streams.{stream}
-use Rattle.souper_records.proofs.Outcomes.{run_done, run_unflushed, run_stopped, few}
+use Rattle.souper_records.specs.Eaches.{WritesEach}
+use Rattle.souper_records.specs.Outcomes.{OfItems, WritesRecords}
+use Rattle.souper_records.proofs.Outcomes.{run_ends, records_kept, writes_each}
 use Rattle.souper_records.proofs.run.each_going_on_run.Goals as goal
 
-pub returns-in-Ok : goal.returns-in-Ok
-returns-in-Ok g c =
+pub returns : goal.returns
+returns g c =
     let k = g.T.Item.item_type in
-    let out = stream g.W.Write.contents c.args.out.now c.end.new.out in
-    let mid = (stream g.W.Write.contents c.args.out.now c.each_going_on.new.out).after in
-    let a = stream g.E.Write.contents c.args.err.now c.each_going_on.new.err in
-    let b = stream g.E.Write.contents c.each_going_on.new.err c.end.new.err in
-    let both = stream g.E.Write.contents c.args.err.now c.end.new.err in
-    elim c.end.ensures.end [
-      | inl done ↦ run_done k c.args.name.now (g.R.Read.remaining c.args.reader.now) (g.R.Read.remaining c.each_going_on.new.reader) a b both
-          (record { from = refl; between = refl; to = refl; last = refl; stays = c.end.ensures.stays }) c.args.layout out mid c.in-Ok.refused c.max.result c.in-Ok.ensures.written done.1 done.2
-          (λ e. let byte = rw e at c.from.ensures in omega (arith, c.max.ensures, done.0, byte)) (λ e. let byte = rw e at c.from.ensures in omega (arith, c.max.ensures, done.0, byte))
-      | inr fault ↦ run_unflushed k c.args.name.now (g.R.Read.remaining c.args.reader.now) (g.R.Read.remaining c.each_going_on.new.reader) a b both
-          (record { from = refl; between = refl; to = refl; last = refl; stays = c.end.ensures.stays }) c.args.layout out mid c.in-Ok.refused c.max.result c.in-Ok.ensures.written (omega (arith, c.max.ensures, fault.0, few c.in-Ok.refused c.from.result (λ e. rw e at c.from.ensures) (λ e. rw e at c.from.ensures))) fault.1
-    ]
-
-pub returns-in-Err : goal.returns-in-Err
-returns-in-Err g c =
-    run_stopped g.T.Item.item_type c.args.name.now (g.R.Read.remaining c.args.reader.now) (g.R.Read.remaining c.each_going_on.new.reader)
-    (stream g.E.Write.contents c.args.err.now c.each_going_on.new.err) (stream g.E.Write.contents c.each_going_on.new.err c.report_stop.new.err) (stream g.E.Write.contents c.args.err.now c.report_stop.new.err)
-    (record { from = refl; between = refl; to = refl; last = refl; stays = c.report_stop.ensures.stays }) c.args.layout (stream g.W.Write.contents c.args.out.now c.each_going_on.new.out) (stream g.W.Write.contents c.args.out.now c.each_going_on.new.out).after
-    c.in-Err.stop c.report_stop.result c.in-Err.ensures.stopped c.in-Err.ensures.fault c.report_stop.ensures.stop
+    let l = c.args.layout in
+    let name = c.args.name.now in
+    let before = g.R.Read.remaining c.args.reader.now in
+    let after = g.R.Read.remaining c.each_going_on-pieces.new.reader in
+    let old = (stream g.W.Write.contents c.args.out.now c.end_pieces.new.out).before in
+    let new = (stream g.W.Write.contents c.args.out.now c.end_pieces.new.out).after in
+    let out = stream g.W.Write.contents c.each_going_on-pieces.new.out c.end_pieces.new.out in
+    let a = stream g.E.Write.contents c.args.err.now c.each_going_on-pieces.new.err in
+    let b = stream g.E.Write.contents c.each_going_on-pieces.new.err c.end_pieces.new.err in
+    let both = stream g.E.Write.contents c.args.err.now c.end_pieces.new.err in
+    let mid = out.before in
+    run_ends k name before after out a b both (record { from = refl; between = refl; to = refl; last = refl; stays = c.end_pieces.ensures.stays })
+    (WritesEach k l before after old new) (OfItems (WritesRecords l old mid)) (OfItems (WritesRecords l old new)) (OfItems (WritesRecords l old mid)) (OfItems (WritesRecords l old new))
+    (records_kept l old mid new) (records_kept l old mid new) (writes_each k l (Some name) before after old new both) c.each_going_on-pieces.result c.end_pieces.result
+    c.each_going_on-pieces.ensures.written c.each_going_on-pieces.ensures.stopped c.each_going_on-pieces.ensures.fault c.end_pieces.ensures.end

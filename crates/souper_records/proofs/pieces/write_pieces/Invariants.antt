@@ -3,12 +3,13 @@ use Rattle.std.proofs.Common.{◌≡◌, true}
 use Rattle.std.specs.Prelude.{Some}
 use Rattle.souper_format.specs.Streams.{stream}
 use Rattle.souper_format.specs.Watching.{has_failed}
-use Rattle.souper_records.specs.Outcomes.{WritesRecords}
+use Rattle.souper_records.specs.Outcomes.{WroteEach}
 use Rattle.souper_records.proofs.Outcomes.{Reached}
-use Rattle.souper_records.proofs.going_on.each_pieces.Given as goal
+use Rattle.souper_records.proofs.pieces.write_pieces.Given as goal
 
 abbrev pub invariant-loop-turn : goal.invariant-loop-turn
 invariant-loop-turn g l = record {
-  reached : Reached g.T.Item.item_type (Some l.fn.job.name.now) (g.R.Read.remaining l.fn.reader) (g.R.Read.remaining l.reader) (WritesRecords l.fn.job.layout (g.W.Write.contents l.fn.out) (g.W.Write.contents l.out)) (stream g.E.Write.contents l.fn.err l.err) l.any l.pieces;
+  reached : Reached g.T.Item.item_type (Some l.fn.name) (g.R.Read.remaining l.fn.reader) (g.R.Read.remaining l.reader)
+      (WroteEach (g.S.PieceSink.wrote l.fn.name) l.fn.sink (g.W.Write.contents l.fn.out) l.sink (g.W.Write.contents l.out)) (stream g.E.Write.contents l.fn.err l.err) l.any l.pieces;
   stays : has_failed l.fn.err ≡ true → has_failed l.err ≡ true;
 }

@@ -1,0 +1,76 @@
+-- Definitions. The JSON objects of items and of refusals.
+use Rattle.std.specs.Prelude.{◌≡◌, Bool, false, ℕ, List, [], ◌++◌, flat_map, codes, Option, None, Some}
+use Rattle.std.specs.Io.KnownBytes.{Consumes, Appends}
+use Rattle.serde_json.specs.Data.{Data, null, number, unsigned, string, object, member, no_members}
+use Rattle.serde_json.specs.Written.{compact_text}
+use Rattle.souper_graph.specs.Values.{Item}
+use Rattle.souper_graph.specs.Syntax.Spelling.{ItemType, TextSpells}
+use Rattle.souper_ir.specs.declared.parse.error.ParseError.{ParseError}
+use Rattle.souper_ir.specs.Errors.{offset_of, line_of, column_of, message_of}
+use Rattle.souper_stream.specs.Pieces.{ArePieces}
+use Rattle.souper_stream.specs.Reading.{AreAll}
+use Rattle.souper_records.specs.Records.{key_of}
+use Rattle.souper_records.specs.Uniques.{text_by}
+use Rattle.souper_records.specs.Outcomes.{Outcome, AreOutcomes, pieces_of, items_of, any_refused}
+
+-- the object of an item that has this text, in the stream of this name, on this line
+abbrev pub item_object : List ℕ → ℕ → List ℕ → Data
+item_object name line text =
+    object (member (codes "file") (string name) (member (codes "key") (string (key_of text)) (member (codes "line") (number (unsigned line)) (member (codes "text") (string text) no_members))))
+
+-- a number that may be missing
+abbrev pub optional_number : Option ℕ → Data
+optional_number None = null
+optional_number (Some n) = number (unsigned n)
+
+-- a text that may be missing
+abbrev pub optional_string : Option (List ℕ) → Data
+optional_string None = null
+optional_string (Some text) = string text
+
+-- the object of a refusal of the stream of this name
+abbrev pub refusal_object : List ℕ → ParseError → Data
+refusal_object name e =
+    object (member (codes "column") (optional_number (column_of e)) (member (codes "file") (string name) (member (codes "line") (optional_number (line_of e))
+    (member (codes "message") (optional_string (message_of e)) (member (codes "offset") (optional_number (offset_of e)) no_members)))))
+
+-- the text of an object, with no space in it, and a newline
+abbrev pub object_line : Data → List ℕ
+object_line d = compact_text d ++ codes "\n"
+
+-- the line of an item that has this text
+abbrev pub text_line : List ℕ → ℕ → List ℕ → List ℕ
+text_line name line text = object_line (item_object name line text)
+
+-- the line of an item, or of the item with names by its printed order
+abbrev pub item_line : Bool → List ℕ → ℕ → Item → List ℕ
+item_line rename name line item = text_line name line (text_by rename item)
+
+-- the line of a refusal, if there is one
+abbrev pub refusal_line : List ℕ → Option ParseError → List ℕ
+refusal_line name None = []
+refusal_line name (Some e) = object_line (refusal_object name e)
+
+-- the lines of a piece: of its items, or of those that it begins with, and of its refusal, if it is refused
+abbrev pub piece_lines : Bool → List ℕ → Outcome → List ℕ
+piece_lines rename name o = flat_map (item_line rename name o.line) o.items ++ refusal_line name o.refusal
+
+-- the lines of all pieces
+abbrev pub objects_of : Bool → List ℕ → List Outcome → List ℕ
+objects_of rename name os = flat_map (piece_lines rename name) os
+
+-- the lines of the pieces were written, and nothing else
+abbrev pub WritesObjects : Bool → List ℕ → Option (List ℕ) → Option (List ℕ) → List Outcome → Type 0
+WritesObjects rename name old new os = Appends old new (objects_of rename name os)
+
+-- all of the stream was read, it spells items, and their lines were written, and nothing else
+pub record WritesAllObjects (k : ItemType) (rename : Bool) (name : List ℕ) (before after old new : Option (List ℕ)) : Type 0 where
+  pub read : List ℕ
+  pub outcomes : List Outcome
+  pub consumed : Consumes before after read
+  pub all_read : AreAll before read
+  pub pieces : ArePieces k read (pieces_of outcomes)
+  pub are : AreOutcomes k (Some name) before [] outcomes
+  pub none : any_refused outcomes ≡ false
+  pub spelled : TextSpells k read (items_of outcomes)
+  pub written : WritesObjects rename name old new outcomes

@@ -1,0 +1,224 @@
+//! A JSON object for each item and each refusal of a stream, each on a line of its own.
+ghost use Rattle.std.specs.Prelude.{◌≡◌, ◌++◌, [], true, false, map, flat_map, Option, Some, IfOk, IfErr, OnOk, option_copied};
+ghost use Rattle.std.specs.Coded.{Coded-set};
+ghost use Rattle.std.specs.Io.KnownBytes.{Appends};
+ghost use Rattle.std.specs.String.{string_bytes};
+ghost use Rattle.souper_ir.specs.Errors.{kind_of};
+ghost use Rattle.souper_format.specs.Streams.{stream};
+ghost use Rattle.souper_format.specs.Watching.{has_failed};
+ghost use Rattle.souper_records.specs.Eaches.{IfInput};
+ghost use Rattle.souper_records.specs.Objects.{item_object, refusal_object, refusal_line, object_line, text_line, piece_lines, optional_number, optional_string, WritesObjects};
+ghost use Rattle.souper_records.specs.Outcomes.{WritesPieces, StopsAfter};
+ghost use Rattle.souper_records.specs.Uniques.{text_by};
+ghost use Rattle.serde_json.specs.View.{view};
+ghost use Rattle.serde_json.specs.Written.{has_float};
+
+use crate::each::{Job, Stop, write_text};
+use crate::fixed::Fixed;
+use crate::layout::{Layout, PLAIN};
+use crate::pieces::{PieceSink, Place, write_pieces};
+use crate::records::{append_text, key_of};
+use serde_json::{Value, json};
+use souper_format::watched::Watched;
+use souper_ir::parse::{ParseError, ParseErrorKind, Sink, WholeItem};
+use souper_stream::StreamItem;
+use std::alloc::{AllocError, Global};
+use std::io::{BufRead, Write};
+use std::marker::{Brand, PhantomData};
+
+// A number that may be missing.
+fn number(n: Option<usize>) -> Value
+    ensures { view result ≡ optional_number n }
+{
+    match n {
+        Some(n) => Value::from(n),
+        None => Value::Null,
+    }
+}
+
+// A text that may be missing.
+fn string(alloc: Global, text: Option<&str>) -> Result<Value, AllocError>
+    ensures { IfOk result (λ value. view value ≡ optional_string (option_copied text.entry)) }
+{
+    match text {
+        Some(text) => Value::try_from_str(alloc, text),
+        None => Ok(Value::Null),
+    }
+}
+
+// The object of the item of a piece that has this text.
+fn item_object(alloc: Global, name: &str, line: usize, text: &str) -> Result<Value, AllocError>
+    ensures { IfOk result (λ value. view value ≡ item_object name.now line text.now) }
+{
+    let key = key_of(alloc, text)?;
+    json!(in alloc; {"file": name, "key": key.as_str(), "line": line, "text": text})
+}
+
+// The object of the refusal.
+fn refusal_object(alloc: Global, name: &str, error: &ParseError) -> Result<Value, AllocError>
+    ensures { IfOk result (λ value. view value ≡ refusal_object name.now error.now) }
+{
+    let message = string(alloc, error.message())?;
+    json!(in alloc; {
+        "column": number(error.column()),
+        "file": name,
+        "line": number(error.line()),
+        "message": message,
+        "offset": number(error.offset())
+    })
+}
+
+// Appends the line of an object.
+fn append_line(alloc: Global, object: &Value, out: &mut String) -> Result<(), AllocError>
+    requires { has_float (view object.now) ≡ false }
+    ensures { OnOk result (string_bytes out.new ≡ string_bytes out.old ++ object_line (view object.now)) }
+{
+    let line = object.to_string(alloc)?;
+    out.push_str(line.as_str())?;
+    out.push_str("\n")
+}
+
+// The lines of items of a piece that have these texts.
+fn item_lines(alloc: Global, place: Place<'_>, texts: &[String]) -> Result<String, AllocError>
+    ensures { IfOk result (λ out. string_bytes out ≡ flat_map (text_line place.entry.name.now place.entry.line) (map string_bytes texts.now)) }
+{
+    let mut out = String::new(alloc);
+    for text in texts {
+        let object = item_object(alloc, place.name, place.line, text.as_str())?;
+        append_line(alloc, &object, &mut out)?;
+    }
+    Ok(out)
+}
+
+// The lines of a piece whose items, or those that it begins with, have these texts.
+fn piece_lines(
+    alloc: Global,
+    place: Place<'_>,
+    refusal: Option<&ParseError>,
+    texts: &[String],
+) -> Result<String, AllocError>
+    ensures { IfOk result (λ out. string_bytes out ≡ flat_map (text_line place.entry.name.now place.entry.line) (map string_bytes texts.now)
+        ++ refusal_line place.entry.name.now (option_copied refusal.entry)) }
+{
+    let mut out = item_lines(alloc, place, texts)?;
+    if let Some(error) = refusal {
+        let object = refusal_object(alloc, place.name, error)?;
+        append_line(alloc, &object, &mut out)?;
+    }
+    Ok(out)
+}
+
+// A sink that keeps the texts of a piece's items, for their objects.
+#[derive(Drop)]
+struct Objects<L: Fixed> {
+    alloc: Global,
+    layout: Layout,
+    texts: Vec<String>,
+    fixed: PhantomData<L>,
+    ghost stays: { layout ≡ L.layout } by { Coded-set layout-code layout L.layout },
+}
+
+impl<L: Fixed> Objects<L> {
+    fn new(alloc: Global, layout: Layout) -> Self
+        requires { layout ≡ L.layout }
+        ensures { result.texts.items ≡ [] }
+    {
+        Objects {
+            alloc,
+            layout,
+            texts: Vec::new(alloc),
+            fixed: PhantomData::<L>,
+        }
+    }
+}
+
+impl<L: Fixed, T: WholeItem + Drop> Sink<T> for Objects<L> {
+    ghost holds = { λ objects items. map string_bytes objects.texts.items ≡ map (text_by L.layout.rename) items };
+
+    fn take(&mut self, item: T) -> Result<(), AllocError> {
+        let mut text = String::new(self.alloc);
+        append_text(self.layout.rename, &item, &mut text)?;
+        match self.texts.push(text) {
+            Ok(()) => Ok(()),
+            Err(_) => Err(AllocError),
+        }
+    }
+}
+
+// Of each piece the objects are written, and the texts forgotten.
+impl<L: Fixed, T: StreamItem + Drop> PieceSink<T> for Objects<L> {
+    ghost marks = { λ objects. 0 };
+
+    ghost wrote = { λ name a x b y o. a.texts.items ≡ [] → (b.texts.items ≡ []) × Appends x y (piece_lines L.layout.rename name o) };
+
+    fn mark(&self) -> usize {
+        0
+    }
+
+    fn write_piece<W: Write>(
+        &mut self,
+        alloc: Global,
+        _mark: usize,
+        place: Place<'_>,
+        refusal: Option<&ParseError>,
+        out: &mut W,
+    ) -> Result<(), Stop> {
+        let lines = match piece_lines(alloc, place, refusal, self.texts.as_slice()) {
+            Ok(lines) => lines,
+            Err(fault) => return Err(Stop::Input(ParseError::from(fault))),
+        };
+        write_text(&lines, out)?;
+        self.texts.clear();
+        Ok(())
+    }
+}
+
+// Writes the objects of items in the layout `L.layout`.
+fn write_fixed<L: Fixed, T: StreamItem + Drop, R: BufRead, W: Write, E: Write>(
+    alloc: Global,
+    job: Job<'_>,
+    reader: &mut R,
+    out: &mut W,
+    err: &mut Watched<E>,
+) -> Result<bool, Stop>
+    requires { job.layout ≡ L.layout }
+    ensures written { IfOk result (λ refused. WritesPieces T.item_type (Some job.entry.name.now) (R.remaining reader.old) (R.remaining reader.new)
+        (WritesObjects job.entry.layout.rename job.entry.name.now (W.contents out.old) (W.contents out.new)) (stream E.contents err.old err.new) refused) }
+    ensures stopped { IfErr result (λ stop. StopsAfter T.item_type (Some job.entry.name.now) (R.remaining reader.old)
+        (WritesObjects job.entry.layout.rename job.entry.name.now (W.contents out.old) (W.contents out.new)) (stream E.contents err.old err.new) stop) }
+    ensures fault { IfErr result (λ stop. IfInput stop (λ e. kind_of e ≡ ParseErrorKind.Parse → ⊥)) }
+    ensures stays { has_failed err.old ≡ true → has_failed err.new ≡ true }
+{
+    let mut objects = Objects::<L>::new(alloc, job.layout);
+    write_pieces::<T, Objects<L>, R, W, E>(alloc, job.name, &mut objects, reader, out, err)
+}
+
+/// Writes a JSON object for each item of the stream and each refusal, in order, each on a line of its own, and goes on after a refusal
+/// ([`PieceReader`](souper_stream::PieceReader)). Returns whether a piece was refused.
+///
+/// The object of an item has its canonical `text`, the `key` of that ([`key_of`](crate::records::key_of)), the name of the stream as
+/// `file`, and the `line` on which its piece begins, counted from 1. With `rename` the text is that of the item with names by its
+/// printed order. The object of a refusal has `file`, `offset`, `line`, `column` and `message`; it comes after those of the items that
+/// its piece begins with, and the refusal is also written to `err`, with a newline.
+///
+/// No error is a refusal. After an error of the input, this was done with pieces that the stream begins with. After one of the output
+/// nothing is known of what was written to `out`.
+pub fn write_objects<T: StreamItem + Drop, R: BufRead, W: Write, E: Write>(
+    alloc: Global,
+    rename: bool,
+    reader: &mut R,
+    name: &str,
+    out: &mut W,
+    err: &mut Watched<E>,
+) -> Result<bool, Stop>
+    ensures written { IfOk result (λ refused. WritesPieces T.item_type (Some name.now) (R.remaining reader.old) (R.remaining reader.new)
+        (WritesObjects rename name.now (W.contents out.old) (W.contents out.new)) (stream E.contents err.old err.new) refused) }
+    ensures stopped { IfErr result (λ stop. StopsAfter T.item_type (Some name.now) (R.remaining reader.old)
+        (WritesObjects rename name.now (W.contents out.old) (W.contents out.new)) (stream E.contents err.old err.new) stop) }
+    ensures fault { IfErr result (λ stop. IfInput stop (λ e. kind_of e ≡ ParseErrorKind.Parse → ⊥)) }
+    ensures stays { has_failed err.old ≡ true → has_failed err.new ≡ true }
+{
+    let layout = Layout { rename, ..PLAIN };
+    let job = Job { layout, name };
+    write_fixed::<Brand, T, R, W, E>(alloc, job, reader, out, err)
+}

@@ -1,0 +1,131 @@
+//! What is written of the pieces of a stream that is read on after a refusal.
+ghost use Rattle.std.specs.Prelude.{◌≡◌, ℕ, List, true, Option, Some, IfOk, IfErr, IfSome, IfNone, OnOk, option_copied};
+ghost use Rattle.souper_ir.specs.Errors.{kind_of};
+ghost use Rattle.souper_ir.specs.Sinks.{TakesOver};
+ghost use Rattle.souper_stream.specs.Pieces.{Line};
+ghost use Rattle.souper_stream.specs.PieceReading.{HasPieces, HasAll};
+ghost use Rattle.souper_format.specs.Streams.{stream};
+ghost use Rattle.souper_format.specs.Watching.{has_failed};
+ghost use Rattle.souper_records.specs.Eaches.{IfInput};
+ghost use Rattle.souper_records.specs.Outcomes.{Outcome, WritesPiece, WritesPieces, StopsAfter, WroteEach};
+
+use crate::each::Stop;
+use crate::report::{line_of_error, report_line};
+use souper_format::watched::Watched;
+use souper_ir::parse::{ParseError, ParseErrorKind, Sink};
+use souper_stream::{PieceReader, StreamItem};
+use std::alloc::Global;
+use std::io;
+use std::io::{BufRead, ErrorKind, Write};
+
+/// Where a piece is.
+#[derive(Clone, Copy)]
+pub(crate) struct Place<'a> {
+    /// The name of the stream.
+    pub(crate) name: &'a str,
+
+    /// The line of the piece's first token, counted from 1.
+    pub(crate) line: usize,
+}
+
+/// A sink for the items of a stream's pieces, of each of which it writes something.
+pub(crate) trait PieceSink<T: StreamItem + Drop>: Sink<T> {
+    // How much the sink has written: the mark that it is given back after a piece.
+    ghost marks: { Self → ℕ };
+
+    // The stream has this name. What became of a piece was written: the sink was the first and is the second, and what the output had
+    // was the first list and is the second.
+    ghost wrote: { List ℕ → Self → Option (List ℕ) → Self → Option (List ℕ) → Outcome → Type 0 };
+
+    /// A mark for [`write_piece`](PieceSink::write_piece).
+    fn mark(&self) -> usize
+        ensures { result ≡ marks self.now };
+
+    /// Writes what is wanted of a piece, after its items were taken, or those that it begins with if it was refused. `mark` is that of
+    /// before.
+    fn write_piece<W: Write>(
+        &mut self,
+        alloc: Global,
+        mark: usize,
+        place: Place<'_>,
+        refusal: Option<&ParseError>,
+        out: &mut W,
+    ) -> Result<(), Stop>
+        ensures written { OnOk result ((before : Self) (o : Outcome) → mark ≡ marks before → TakesOver Self.holds o.items before self.old
+            → o.line ≡ place.entry.line → o.refusal ≡ option_copied refusal.entry → wrote place.entry.name.now before (W.contents out.old) self.new (W.contents out.new) o) }
+        ensures fault { IfErr result (λ stop. IfInput stop (λ e. kind_of e ≡ ParseErrorKind.Parse → ⊥)) }
+        ensures unwritten { IfErr result (λ stop. IfInput stop (λ e. out.new ≡ out.old)) };
+}
+
+// Writes what the sink writes of the next piece, and reports its refusal, if it is refused, which is returned. Returns none at the
+// end of the stream.
+fn write_next<T: StreamItem + Drop, S: PieceSink<T>, R: BufRead, W: Write, E: Write>(
+    alloc: Global,
+    name: &str,
+    sink: &mut S,
+    pieces: &mut PieceReader,
+    reader: &mut R,
+    out: &mut W,
+    err: &mut Watched<E>,
+) -> Result<Option<bool>, Stop>
+    requires { (start : Option (List ℕ)) × (ps : List (List Line)) × HasPieces T.item_type start (R.remaining reader.old) ps pieces.old }
+    ensures piece { IfOk result (λ more. IfSome more (λ refused. (start : Option (List ℕ)) (ps : List (List Line)) → HasPieces T.item_type start (R.remaining reader.old) ps pieces.old
+        → WritesPiece T.item_type (Some name.now) start (R.remaining reader.new) ps (S.wrote name.now sink.old (W.contents out.old) sink.new (W.contents out.new)) (stream E.contents err.old err.new) refused pieces.new)) }
+    ensures ended { IfOk result (λ more. IfNone more ((start : Option (List ℕ)) (ps : List (List Line)) → HasPieces T.item_type start (R.remaining reader.old) ps pieces.old
+        → HasAll T.item_type start (R.remaining reader.new) ps)) }
+    ensures quiet { IfOk result (λ more. IfNone more ((out.new ≡ out.old) × (err.new ≡ err.old) × (sink.new ≡ sink.old))) }
+    ensures stays { has_failed err.old ≡ true → has_failed err.new ≡ true }
+    ensures stopped { IfErr result (λ stop. err.new ≡ err.old) }
+    ensures unwritten { IfErr result (λ stop. IfInput stop (λ e. out.new ≡ out.old)) }
+    ensures fault { IfErr result (λ stop. IfInput stop (λ e. kind_of e ≡ ParseErrorKind.Parse → ⊥)) }
+{
+    let mark = sink.mark();
+    match pieces.read_piece::<T, R, S>(alloc, reader, Some(name), sink) {
+        Ok(true) => {
+            let line = pieces.line();
+            sink.write_piece(alloc, mark, Place { name, line }, None, out)?;
+            Ok(Some(false))
+        }
+        Ok(false) => Ok(None),
+        Err(error) if error.kind() == ParseErrorKind::Parse => {
+            let shown = match line_of_error(alloc, &error) {
+                Ok(shown) => shown,
+                Err(fault) => return Err(Stop::Input(ParseError::from(fault))),
+            };
+            let line = pieces.line();
+            sink.write_piece(alloc, mark, Place { name, line }, Some(&error), out)?;
+            report_line(&shown, err);
+            Ok(Some(true))
+        }
+        Err(error) => Err(Stop::Input(error)),
+    }
+}
+
+/// Writes what the sink writes of each piece of the stream, in order, and reports each refusal. Returns whether a piece was refused.
+pub(crate) fn write_pieces<T: StreamItem + Drop, S: PieceSink<T>, R: BufRead, W: Write, E: Write>(
+    alloc: Global,
+    name: &str,
+    sink: &mut S,
+    reader: &mut R,
+    out: &mut W,
+    err: &mut Watched<E>,
+) -> Result<bool, Stop>
+    ensures written { IfOk result (λ refused. WritesPieces T.item_type (Some name.now) (R.remaining reader.old) (R.remaining reader.new)
+        (WroteEach (S.wrote name.now) sink.old (W.contents out.old) sink.new (W.contents out.new)) (stream E.contents err.old err.new) refused) }
+    ensures stopped { IfErr result (λ stop. StopsAfter T.item_type (Some name.now) (R.remaining reader.old)
+        (λ os. (s : S) × WroteEach (S.wrote name.now) sink.old (W.contents out.old) s (W.contents out.new) os) (stream E.contents err.old err.new) stop) }
+    ensures fault { IfErr result (λ stop. IfInput stop (λ e. kind_of e ≡ ParseErrorKind.Parse → ⊥)) }
+    ensures stays { has_failed err.old ≡ true → has_failed err.new ≡ true }
+{
+    let mut pieces = PieceReader::new(alloc);
+    let mut any = false;
+    for _turn in 0..u64::MAX {
+        match write_next::<T, S, R, W, E>(alloc, name, sink, &mut pieces, reader, out, err) {
+            Ok(Some(refused)) => any = any || refused,
+            Ok(None) => return Ok(any),
+            Err(stop) => return Err(stop),
+        }
+    }
+    let fault = io::Error::from(ErrorKind::Other);
+    Err(Stop::Input(ParseError::from(fault)))
+}
