@@ -10,6 +10,8 @@ mod going_on;
 #[cfg(test)]
 mod layouts;
 #[cfg(test)]
+mod objects;
+#[cfg(test)]
 mod streams;
 #[cfg(test)]
 mod support;

@@ -13,7 +13,9 @@ use souper_ir::ast::{LeftHandSide, Replacement, RightHandSide};
 use souper_records::check::check_run;
 use souper_records::layout::Layout;
 use souper_records::report::{report_fault, report_memory};
-use souper_records::run::{count_run, each_going_on_run, each_run, uniq_going_on_run, uniq_run};
+use souper_records::run::{
+    count_run, each_going_on_run, each_run, objects_run, uniq_going_on_run, uniq_run,
+};
 use souper_records::seen::Seen;
 use souper_stream::StreamItem;
 use std::alloc::Global;
@@ -42,6 +44,9 @@ fn run_items<T: StreamItem + Drop, R: BufRead, W: Write, E: Write>(
             each_going_on_run::<T, R, W, E>(alloc, layout, reader, name, out, err)
         }
         Action::Each(layout) => each_run::<T, R, W, E>(alloc, layout, reader, name, out, err),
+        Action::Objects { rename } => {
+            objects_run::<T, R, W, E>(alloc, rename, reader, name, out, err)
+        }
         Action::Uniq(layout) => {
             run_uniq::<T, R, W, E>(alloc, task, layout, seen, reader, name, out, err)
         }

@@ -13,6 +13,9 @@ pub(crate) enum Action {
     /// The record of each is written.
     Each(Layout),
 
+    /// The object of each is written, and of each refusal; of an item with names by its printed order, or as they are.
+    Objects { rename: bool },
+
     /// The record of the first of each graph is written.
     Uniq(Layout),
 
@@ -99,7 +102,13 @@ fn each<'a>(alloc: Global) -> Result<Command<'a>, AllocError> {
         alloc,
         "each",
         "Writes the record of each item: its canonical text and an empty line",
+    )?
+    .arg(flag(
+        alloc,
+        "jsonl",
+        "Write a JSON object on a line of its own for each item (text, key, file, line) and each refusal (file, offset, line, column, message), and keep going",
     )
+    .conflicts_with("null")?)
 }
 
 fn uniq<'a>(alloc: Global) -> Result<Command<'a>, AllocError> {
@@ -163,6 +172,9 @@ fn read_layout(options: &ArgMatches<'_>) -> Layout {
 
 fn read_action(name: &str, options: &ArgMatches<'_>) -> Option<Action> {
     match name {
+        "each" if options.get_flag("jsonl") => Some(Action::Objects {
+            rename: options.get_flag("rename"),
+        }),
         "each" => Some(Action::Each(read_layout(options))),
         "uniq" if options.get_flag("count") => Some(Action::Count(read_layout(options))),
         "uniq" => Some(Action::Uniq(read_layout(options))),

@@ -1,0 +1,136 @@
+//! JSON objects of items and of refusals.
+use crate::support::{Run, equal};
+use program_vectors::checks::{Ran, text};
+use program_vectors::streams::FaultyWriter;
+use souper_format::watched::Watched;
+use souper_ir::ast::{LeftHandSide, RightHandSide};
+use souper_records::run::objects_run;
+use souper_stream::StreamItem;
+use std::alloc::Global;
+use std::io::{BufRead, BufReader};
+use std::process::Abort;
+use std::test::Fail;
+
+const NAME: &str = r#"a "b"\c.opt"#;
+
+fn objects_over<T: StreamItem + Drop, R: BufRead>(
+    alloc: Global,
+    rename: bool,
+    reader: &mut R,
+) -> Run {
+    let mut written = Vec::new(alloc);
+    let mut reported = Vec::new(alloc);
+    let mut out = Watched::new(&mut written);
+    let mut err = Watched::new(&mut reported);
+    let status = objects_run::<T, R, &mut Vec<u8>, &mut Vec<u8>>(
+        alloc, rename, reader, NAME, &mut out, &mut err,
+    );
+    Run {
+        status,
+        out: written,
+        err: reported,
+    }
+}
+
+// What a run over the text does, with so many bytes a read. All of what it reports is compared.
+fn objects_do<T: StreamItem + Drop>(
+    rt: &impl Abort,
+    alloc: Global,
+    rename: bool,
+    (source, capacity): (&str, usize),
+    want: Ran<'_>,
+) -> Result<(), Fail> {
+    let mut reader = BufReader::with_capacity(alloc, capacity, source.as_bytes())?;
+    let run = objects_over::<T, BufReader<&[u8]>>(alloc, rename, &mut reader);
+    let found = (run.status, text(&run.out), text(&run.err));
+    equal(rt, found, want);
+    Ok(())
+}
+
+const SOURCE: &str = "; a comment at the head
+
+%0:i32 = var
+infer %0
+; another, with infer %0
+%1:i32 = foo %0
+infer %1
+
+
+%a = var
+%b = addnw %a, 1:i8
+pc %b 0
+infer %b (harvestedfromuse)
+";
+
+const OBJECTS: &str = r#"{"file":"a \"b\"\\c.opt","key":"9ab2c4fc084674aeb23a5e4d7efe9e8c77a57da1de4e8c3c53440204b97cc386","line":3,"text":"%0:i32 = var\ninfer %0\n"}
+{"column":9,"file":"a \"b\"\\c.opt","line":6,"message":"expected a constant, var, block, phi, or instruction","offset":81}
+{"file":"a \"b\"\\c.opt","key":"c79c8f2394ffb03a0203b114ca3b960852c57eee695be0e9c03687cd777ac222","line":10,"text":"%a = var\n%b = addnw %a, 1:i8\npc %b 0\ninfer %b (harvestedfromuse)\n"}
+"#;
+
+const RENAMED: &str = r#"{"file":"a \"b\"\\c.opt","key":"9ab2c4fc084674aeb23a5e4d7efe9e8c77a57da1de4e8c3c53440204b97cc386","line":3,"text":"%0:i32 = var\ninfer %0\n"}
+{"column":9,"file":"a \"b\"\\c.opt","line":6,"message":"expected a constant, var, block, phi, or instruction","offset":81}
+{"file":"a \"b\"\\c.opt","key":"fd5639790d31d7fb840e45a5c45e42a568dc26b18003557084eb8d0faea439d3","line":10,"text":"%0 = var\n%1 = addnw %0, 1:i8\npc %1 0\ninfer %1 (harvestedfromuse)\n"}
+"#;
+
+const REPORTED: &str = r#"a "b"\c.opt:6:9: expected a constant, var, block, phi, or instruction
+     |
+   6 | %1:i32 = foo %0
+     |         ^
+"#;
+
+// The keys are those of sha256sum, the lines were counted by hand.
+#[test]
+fn objects_have_text_key_file_and_line(rt: HostRuntime) -> Result<(), Fail> {
+    let alloc = rt.alloc();
+    let want = (1, OBJECTS, REPORTED);
+    objects_do::<LeftHandSide>(&rt, alloc, false, (SOURCE, 1), want)?;
+    objects_do::<LeftHandSide>(&rt, alloc, false, (SOURCE, 4096), want)?;
+    objects_do::<LeftHandSide>(&rt, alloc, true, (SOURCE, 7), (1, RENAMED, REPORTED))?;
+    objects_do::<LeftHandSide>(&rt, alloc, true, ("; nothing\n", 7), (0, "", ""))
+}
+
+const LINE: &str = r#"{"file":"a \"b\"\\c.opt","key":"400a936d0ac7637324413df9aaf2067ff68468e602a5446af1e454878b5bad1e","line":1,"text":"result 1"}
+{"file":"a \"b\"\\c.opt","key":"096e929abe31157e5a522fecfe1333bb96b3252e9ee74923b6e9027206c4d068","line":1,"text":"result 2"}
+{"column":25,"file":"a \"b\"\\c.opt","line":1,"message":"expected an integer literal","offset":25}
+{"file":"a \"b\"\\c.opt","key":"cbc48443813dad8f0918dcb489d7cf560db31473b8b1e5fa932b9394d7f7b278","line":3,"text":"result 4"}
+"#;
+
+const LINE_REPORTED: &str = r#"a "b"\c.opt:1:25: expected an integer literal
+     |
+   1 | result 1 result 2 result result
+     |                         ^
+"#;
+
+// A refusal comes after the items that its piece begins with, which have the line of the first of them.
+#[test]
+fn items_of_a_piece_have_its_line(rt: HostRuntime) -> Result<(), Fail> {
+    let source = "result 1 result 2 result result\nresult 3\nresult 4";
+    let want = (1, LINE, LINE_REPORTED);
+    objects_do::<RightHandSide>(&rt, rt.alloc(), false, (source, 3), want)
+}
+
+// The status of a run whose output fails after so many calls, and whether it failed.
+fn failed_output(alloc: Global, after: usize) -> Result<(u8, bool), Fail> {
+    let mut reader = BufReader::new(alloc, SOURCE.as_bytes())?;
+    let mut reported = Vec::new(alloc);
+    let mut out = Watched::new(FaultyWriter::new(50, after));
+    let mut err = Watched::new(&mut reported);
+    let status = objects_run::<LeftHandSide, BufReader<&[u8]>, FaultyWriter, &mut Vec<u8>>(
+        alloc,
+        false,
+        &mut reader,
+        NAME,
+        &mut out,
+        &mut err,
+    );
+    Ok((status, out.failed()))
+}
+
+#[test]
+fn failed_output_has_status_2(rt: HostRuntime) -> Result<(), Fail> {
+    for after in 0..6 {
+        let found = failed_output(rt.alloc(), after)?;
+        equal(&rt, (after, found), (after, (2, true)));
+    }
+    Ok(())
+}
