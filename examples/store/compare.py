@@ -11,11 +11,13 @@ RECORDS is what one process writes without keys: souper_items each -z [--rename]
     compare.py unique RECORDS FILE            FILE has the records with their keys, each once, in the order of the keys
     compare.py firsts RECORDS FILE            FILE has the first record of each text, in order
     compare.py counted RECORDS FILE           the same, each after a comment line that says how often its text is there
+    compare.py objects RECORDS FILE FOLDER    FILE has an object for each text, in order, with its key, and where it begins in FOLDER
     compare.py redis RECORDS PREFIX PORT      the server has exactly these keys under PREFIX, with these texts and counts
     compare.py sqlite RECORDS STORE           the table has exactly these keys, texts and counts
 """
 import collections
 import hashlib
+import json
 import pathlib
 import re
 import socket
@@ -56,6 +58,19 @@ def are_answered(texts, path, columns):
     yield "the number of items", len(texts) == len(answers)
     for text, answer in zip(texts, map(tuple, answers)):
         yield text, text_of.setdefault(answer, text) == text and answer_of.setdefault(text, answer) == answer
+
+
+def are_objects(texts, path, folder):
+    """Whether the objects have the texts, and the line of each is one of its file that has a token."""
+    objects = [json.loads(line) for line in pathlib.Path(path).read_text().splitlines()]
+    yield "the number of objects", len(texts) == len(objects)
+    lines = {}
+    for text, it in zip(texts, objects):
+        file = it["file"]
+        if file not in lines:
+            lines[file] = (pathlib.Path(folder) / file).read_text().split("\n")
+        begins = lines[file][it["line"] - 1].split(";")[0].strip()
+        yield it, begins and it["text"].encode() == text and it["key"].encode() == key_of(text)
 
 
 def are_stored(texts, stored):
@@ -126,6 +141,8 @@ def cases(task, records, *words):
         return same_as((b"; count %d\n%s\0" % (count, text) for text, count in collections.Counter(texts).items()), *words)
     if task == "unkeyed":
         return same_as((text.removesuffix(b"\n") + b"\n\n" for text in texts), *words)
+    if task == "objects":
+        return are_objects(texts, *words)
     if task == "unique":
         return same_as(sorted(set(map(keyed, texts))), *words)
     if task == "redis":
