@@ -11,7 +11,7 @@ RECORDS is what one process writes without keys: souper_items each -z [--rename]
     compare.py unique RECORDS FILE            FILE has the records with their keys, each once, in the order of the keys
     compare.py firsts RECORDS FILE            FILE has the first record of each text, in order
     compare.py counted RECORDS FILE           the same, each after a comment line that says how often its text is there
-    compare.py objects RECORDS FILE FOLDER    FILE has an object for each text, in order, with its key, and where it begins in FOLDER
+    compare.py objects RECORDS FILE FOLDER    FILE has an object for each text, in order, with its key, and a line of its file that has a token
     compare.py redis RECORDS PREFIX PORT      the server has exactly these keys under PREFIX, with these texts and counts
     compare.py sqlite RECORDS STORE           the table has exactly these keys, texts and counts
 """

@@ -42,14 +42,8 @@ fn attributes<R: Files + AllocGlobal + Abort>(rt: &R, alloc: Global) -> Result<M
 }
 
 #[test]
-fn reading_left_hand_sides_completes(rt: HostRuntime) -> Result<(), Fail> {
-    strictly(attributes(&rt, rt.alloc())?)
-}
-
-#[test]
 fn reading_left_hand_sides(rt: HostRuntime) -> Result<(), Fail> {
-    attributes(&rt, rt.alloc())?;
-    Ok(())
+    strictly(attributes(&rt, rt.alloc())?)
 }
 
 // Reads two results.
@@ -75,14 +69,8 @@ fn are_results(rt: &impl Abort, alloc: Global, items: &[RightHandSide]) -> Resul
 }
 
 #[test]
-fn reading_right_hand_sides_completes(rt: HostRuntime) -> Result<(), Fail> {
-    strictly(results(&rt, rt.alloc())?)
-}
-
-#[test]
 fn reading_right_hand_sides(rt: HostRuntime) -> Result<(), Fail> {
-    results(&rt, rt.alloc())?;
-    Ok(())
+    strictly(results(&rt, rt.alloc())?)
 }
 
 // Reads the two items.
@@ -97,14 +85,8 @@ fn two_items<R: Files + AllocGlobal + Abort>(rt: &R, alloc: Global) -> Result<Me
 }
 
 #[test]
-fn reading_replacements_completes(rt: HostRuntime) -> Result<(), Fail> {
-    strictly(two_items(&rt, rt.alloc())?)
-}
-
-#[test]
 fn reading_replacements(rt: HostRuntime) -> Result<(), Fail> {
-    two_items(&rt, rt.alloc())?;
-    Ok(())
+    strictly(two_items(&rt, rt.alloc())?)
 }
 
 const REFUSED: &str = "infer %x";
@@ -132,14 +114,8 @@ fn is_unknown_name(rt: &impl Abort, alloc: Global, error: &ParseError) -> Result
 }
 
 #[test]
-fn refusing_a_file_completes(rt: HostRuntime) -> Result<(), Fail> {
-    strictly(refusal(&rt, rt.alloc())?)
-}
-
-#[test]
 fn refusing_a_file(rt: HostRuntime) -> Result<(), Fail> {
-    refusal(&rt, rt.alloc())?;
-    Ok(())
+    strictly(refusal(&rt, rt.alloc())?)
 }
 
 const FIRST: &str = "%b = var\n%a = var\n%c = add %a, %b\ninfer %c";
@@ -190,14 +166,8 @@ fn comparison<R: Files + AllocGlobal + Abort>(rt: &R, alloc: Global) -> Result<M
 }
 
 #[test]
-fn comparing_files_completes(rt: HostRuntime) -> Result<(), Fail> {
-    strictly(comparison(&rt, rt.alloc())?)
-}
-
-#[test]
 fn comparing_files(rt: HostRuntime) -> Result<(), Fail> {
-    comparison(&rt, rt.alloc())?;
-    Ok(())
+    strictly(comparison(&rt, rt.alloc())?)
 }
 
 // Files of which the second is refused.
@@ -212,12 +182,6 @@ fn refused_comparison<R: Files + AllocGlobal + Abort>(rt: &R, alloc: Global) -> 
 }
 
 #[test]
-fn reporting_a_refused_file_completes(rt: HostRuntime) -> Result<(), Fail> {
-    strictly(refused_comparison(&rt, rt.alloc())?)
-}
-
-#[test]
 fn reporting_a_refused_file(rt: HostRuntime) -> Result<(), Fail> {
-    refused_comparison(&rt, rt.alloc())?;
-    Ok(())
+    strictly(refused_comparison(&rt, rt.alloc())?)
 }

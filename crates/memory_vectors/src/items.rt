@@ -66,14 +66,8 @@ fn write_texts(rt: &impl Abort, alloc: Global, items: &[Replacement]) -> Result<
 }
 
 #[test]
-fn writing_texts_completes(rt: HostRuntime) -> Result<(), Fail> {
-    strictly(texts(&rt, rt.alloc())?)
-}
-
-#[test]
 fn writing_texts(rt: HostRuntime) -> Result<(), Fail> {
-    texts(&rt, rt.alloc())?;
-    Ok(())
+    strictly(texts(&rt, rt.alloc())?)
 }
 
 // Appends the text of an item to another text.
@@ -110,14 +104,8 @@ fn is_appended(rt: &impl Abort, appended: Result<(), TextError>, out: &str) -> b
 }
 
 #[test]
-fn appending_a_text_completes(rt: HostRuntime) -> Result<(), Fail> {
-    strictly(appended(&rt, rt.alloc())?)
-}
-
-#[test]
 fn appending_a_text(rt: HostRuntime) -> Result<(), Fail> {
-    appended(&rt, rt.alloc())?;
-    Ok(())
+    strictly(appended(&rt, rt.alloc())?)
 }
 
 // Orders the statements of the items.
@@ -161,14 +149,8 @@ fn indices(ids: &[Id<Statement>]) -> Option<[usize; 4]> {
 }
 
 #[test]
-fn ordering_completes(rt: HostRuntime) -> Result<(), Fail> {
-    strictly(orders(&rt, rt.alloc())?)
-}
-
-#[test]
 fn ordering(rt: HostRuntime) -> Result<(), Fail> {
-    orders(&rt, rt.alloc())?;
-    Ok(())
+    strictly(orders(&rt, rt.alloc())?)
 }
 
 // Checks whether the items are well formed.
@@ -188,14 +170,8 @@ fn judge_items(rt: &impl Abort, alloc: Global, items: &[Replacement]) -> Result<
 }
 
 #[test]
-fn judging_completes(rt: HostRuntime) -> Result<(), Fail> {
-    strictly(judgements(&rt, rt.alloc())?)
-}
-
-#[test]
 fn judging(rt: HostRuntime) -> Result<(), Fail> {
-    judgements(&rt, rt.alloc())?;
-    Ok(())
+    strictly(judgements(&rt, rt.alloc())?)
 }
 
 // Copies the items.
@@ -217,14 +193,8 @@ fn copy_items(rt: &impl Abort, alloc: Global, items: &[Replacement]) -> Result<M
 }
 
 #[test]
-fn copying_completes(rt: HostRuntime) -> Result<(), Fail> {
-    strictly(copies(&rt, rt.alloc())?)
-}
-
-#[test]
 fn copying(rt: HostRuntime) -> Result<(), Fail> {
-    copies(&rt, rt.alloc())?;
-    Ok(())
+    strictly(copies(&rt, rt.alloc())?)
 }
 
 // Writes the text of the item with attributes.
@@ -245,14 +215,8 @@ fn write_attributes(
 }
 
 #[test]
-fn writing_attributes_completes(rt: HostRuntime) -> Result<(), Fail> {
-    strictly(attributes_text(&rt, rt.alloc())?)
-}
-
-#[test]
 fn writing_attributes(rt: HostRuntime) -> Result<(), Fail> {
-    attributes_text(&rt, rt.alloc())?;
-    Ok(())
+    strictly(attributes_text(&rt, rt.alloc())?)
 }
 
 // Copies the item with attributes.
@@ -275,14 +239,8 @@ fn copy_attributes(
 }
 
 #[test]
-fn copying_attributes_completes(rt: HostRuntime) -> Result<(), Fail> {
-    strictly(attributes_copy(&rt, rt.alloc())?)
-}
-
-#[test]
 fn copying_attributes(rt: HostRuntime) -> Result<(), Fail> {
-    attributes_copy(&rt, rt.alloc())?;
-    Ok(())
+    strictly(attributes_copy(&rt, rt.alloc())?)
 }
 
 // Writes the lines of the statements of one item, each after a text that is there.
@@ -353,14 +311,8 @@ fn first_lines(rt: &impl Abort, alloc: Global) -> Result<Met, Fail> {
 }
 
 #[test]
-fn writing_lines_completes(rt: HostRuntime) -> Result<(), Fail> {
-    strictly(first_lines(&rt, rt.alloc())?)
-}
-
-#[test]
 fn writing_lines(rt: HostRuntime) -> Result<(), Fail> {
-    first_lines(&rt, rt.alloc())?;
-    Ok(())
+    strictly(first_lines(&rt, rt.alloc())?)
 }
 
 // The second item, which has a block and phis.
@@ -375,14 +327,8 @@ fn second_lines(rt: &impl Abort, alloc: Global) -> Result<Met, Fail> {
 }
 
 #[test]
-fn writing_lines_of_phis_completes(rt: HostRuntime) -> Result<(), Fail> {
-    strictly(second_lines(&rt, rt.alloc())?)
-}
-
-#[test]
 fn writing_lines_of_phis(rt: HostRuntime) -> Result<(), Fail> {
-    second_lines(&rt, rt.alloc())?;
-    Ok(())
+    strictly(second_lines(&rt, rt.alloc())?)
 }
 
 // Compares two texts that differ in the order of their definitions.
@@ -400,12 +346,6 @@ fn comparison(rt: &impl Abort, alloc: Global) -> Result<Met, Fail> {
 }
 
 #[test]
-fn comparing_completes(rt: HostRuntime) -> Result<(), Fail> {
-    strictly(comparison(&rt, rt.alloc())?)
-}
-
-#[test]
 fn comparing(rt: HostRuntime) -> Result<(), Fail> {
-    comparison(&rt, rt.alloc())?;
-    Ok(())
+    strictly(comparison(&rt, rt.alloc())?)
 }

@@ -4,7 +4,7 @@ use crate::runs::{holds, wrote};
 use souper_format::watched::Watched;
 use souper_ir::ast::LeftHandSide;
 use souper_records::layout::{Delimiter, Layout, PLAIN};
-use souper_records::run::{each_run, uniq_run};
+use souper_records::run::{each_run, objects_run, uniq_run};
 use souper_records::seen::Seen;
 use std::alloc::Global;
 use std::process::Abort;
@@ -90,14 +90,8 @@ fn plain_records(rt: &impl Abort, alloc: Global) -> Met {
 }
 
 #[test]
-fn writing_records_completes(rt: HostRuntime) -> Result<(), Fail> {
-    strictly(plain_records(&rt, rt.alloc()))
-}
-
-#[test]
 fn writing_records(rt: HostRuntime) -> Result<(), Fail> {
-    plain_records(&rt, rt.alloc());
-    Ok(())
+    strictly(plain_records(&rt, rt.alloc()))
 }
 
 fn keyed_records(rt: &impl Abort, alloc: Global) -> Met {
@@ -110,14 +104,8 @@ fn keyed_records(rt: &impl Abort, alloc: Global) -> Met {
 }
 
 #[test]
-fn writing_records_with_keys_completes(rt: HostRuntime) -> Result<(), Fail> {
-    strictly(keyed_records(&rt, rt.alloc()))
-}
-
-#[test]
 fn writing_records_with_keys(rt: HostRuntime) -> Result<(), Fail> {
-    keyed_records(&rt, rt.alloc());
-    Ok(())
+    strictly(keyed_records(&rt, rt.alloc()))
 }
 
 fn refused_stream(rt: &impl Abort, alloc: Global) -> Met {
@@ -130,14 +118,8 @@ fn refused_stream(rt: &impl Abort, alloc: Global) -> Met {
 }
 
 #[test]
-fn reporting_a_refused_stream_completes(rt: HostRuntime) -> Result<(), Fail> {
-    strictly(refused_stream(&rt, rt.alloc()))
-}
-
-#[test]
 fn reporting_a_refused_stream(rt: HostRuntime) -> Result<(), Fail> {
-    refused_stream(&rt, rt.alloc());
-    Ok(())
+    strictly(refused_stream(&rt, rt.alloc()))
 }
 
 fn first_items(rt: &impl Abort, alloc: Global) -> Met {
@@ -150,12 +132,53 @@ fn first_items(rt: &impl Abort, alloc: Global) -> Met {
 }
 
 #[test]
-fn writing_first_items_completes(rt: HostRuntime) -> Result<(), Fail> {
+fn writing_first_items(rt: HostRuntime) -> Result<(), Fail> {
     strictly(first_items(&rt, rt.alloc()))
 }
 
+// Writes the object of each item of the source, and of each refusal.
+fn objects(rt: &impl Abort, alloc: Global, mut source: &[u8], want: Want<'_>) -> Met {
+    let mut written = [0u8; 200];
+    let mut reported = [0u8; 200];
+    let mut out = Watched::new(written.as_mut_slice());
+    let mut err = Watched::new(reported.as_mut_slice());
+    let status = objects_run::<LeftHandSide, &[u8], &mut [u8], &mut [u8]>(
+        alloc,
+        false,
+        &mut source,
+        "a.opt",
+        &mut out,
+        &mut err,
+    );
+    let met = completed_if(alloc, status == want.status);
+    did(rt, status, &written, &reported, want);
+    met
+}
+
+fn item_object(rt: &impl Abort, alloc: Global) -> Met {
+    let want = Want {
+        status: 0,
+        records: b"{\"file\":\"a.opt\",\"key\":\"5c403662fcd26736aeae00bdfcb2bbb44ba7e2d5ecd0c212fa872ef39b72a9c8\",\"line\":1,\"text\":\"%b = var\\ninfer %b\\n\"}\n",
+        line: b"",
+    };
+    objects(rt, alloc, b"%b = var infer %b", want)
+}
+
 #[test]
-fn writing_first_items(rt: HostRuntime) -> Result<(), Fail> {
-    first_items(&rt, rt.alloc());
-    Ok(())
+fn writing_an_object(rt: HostRuntime) -> Result<(), Fail> {
+    strictly(item_object(&rt, rt.alloc()))
+}
+
+fn refusal_object(rt: &impl Abort, alloc: Global) -> Met {
+    let want = Want {
+        status: 1,
+        records: b"{\"column\":6,\"file\":\"a.opt\",\"line\":1,\"message\":\"no value named '%x' in scope\",\"offset\":6}\n",
+        line: b"a.opt:1:6: no value named '%x' in scope\n     |\n   1 | infer %x\n     |      ^\n",
+    };
+    objects(rt, alloc, b"infer %x\n", want)
+}
+
+#[test]
+fn writing_the_object_of_a_refusal(rt: HostRuntime) -> Result<(), Fail> {
+    strictly(refusal_object(&rt, rt.alloc()))
 }

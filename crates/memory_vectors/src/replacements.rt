@@ -90,67 +90,31 @@ fn appended(rt: &impl Abort, alloc: Global, call: Call) -> Result<Met, Fail> {
 }
 
 #[test]
-fn putting_a_named_assignment_completes(rt: HostRuntime) -> Result<(), Fail> {
+fn putting_a_named_assignment(rt: HostRuntime) -> Result<(), Fail> {
     strictly(appended(&rt, rt.alloc(), Call::NamedAssignment)?)
 }
 
 #[test]
-fn putting_a_named_assignment(rt: HostRuntime) -> Result<(), Fail> {
-    appended(&rt, rt.alloc(), Call::NamedAssignment)?;
-    Ok(())
-}
-
-#[test]
-fn putting_an_unnamed_assignment_completes(rt: HostRuntime) -> Result<(), Fail> {
+fn putting_an_unnamed_assignment(rt: HostRuntime) -> Result<(), Fail> {
     strictly(appended(&rt, rt.alloc(), Call::UnnamedAssignment)?)
 }
 
 #[test]
-fn putting_an_unnamed_assignment(rt: HostRuntime) -> Result<(), Fail> {
-    appended(&rt, rt.alloc(), Call::UnnamedAssignment)?;
-    Ok(())
-}
-
-#[test]
-fn putting_a_named_block_completes(rt: HostRuntime) -> Result<(), Fail> {
+fn putting_a_named_block(rt: HostRuntime) -> Result<(), Fail> {
     strictly(appended(&rt, rt.alloc(), Call::NamedBlock)?)
 }
 
 #[test]
-fn putting_a_named_block(rt: HostRuntime) -> Result<(), Fail> {
-    appended(&rt, rt.alloc(), Call::NamedBlock)?;
-    Ok(())
-}
-
-#[test]
-fn putting_an_unnamed_block_completes(rt: HostRuntime) -> Result<(), Fail> {
+fn putting_an_unnamed_block(rt: HostRuntime) -> Result<(), Fail> {
     strictly(appended(&rt, rt.alloc(), Call::UnnamedBlock)?)
 }
 
 #[test]
-fn putting_an_unnamed_block(rt: HostRuntime) -> Result<(), Fail> {
-    appended(&rt, rt.alloc(), Call::UnnamedBlock)?;
-    Ok(())
-}
-
-#[test]
-fn putting_a_condition_completes(rt: HostRuntime) -> Result<(), Fail> {
+fn putting_a_condition(rt: HostRuntime) -> Result<(), Fail> {
     strictly(appended(&rt, rt.alloc(), Call::Condition)?)
 }
 
 #[test]
-fn putting_a_condition(rt: HostRuntime) -> Result<(), Fail> {
-    appended(&rt, rt.alloc(), Call::Condition)?;
-    Ok(())
-}
-
-#[test]
-fn putting_a_condition_on_a_predecessor_completes(rt: HostRuntime) -> Result<(), Fail> {
-    strictly(appended(&rt, rt.alloc(), Call::ConditionOnPredecessor)?)
-}
-
-#[test]
 fn putting_a_condition_on_a_predecessor(rt: HostRuntime) -> Result<(), Fail> {
-    appended(&rt, rt.alloc(), Call::ConditionOnPredecessor)?;
-    Ok(())
+    strictly(appended(&rt, rt.alloc(), Call::ConditionOnPredecessor)?)
 }

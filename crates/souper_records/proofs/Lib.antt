@@ -5,3 +5,4 @@ mod Tallies
 mod Counting
 mod Seeing
 mod Outcomes
+mod ObjectLines

@@ -44,8 +44,7 @@ IsOutcome k file start done piece items (Some e) = IsRefusedPiece k file start d
 
 -- that is what became of a piece, after what is done
 pub record IsOutcomeAfter (k : ItemType) (file start : Option (List ℕ)) (done : List ℕ) (o : Outcome) : Type 0 where
-  pub now : Option (List ℕ)
-  pub on_line : IsOnLine start now done (concat o.piece) o.line
+  pub on_line : IsOnLine done (concat o.piece) o.line
   pub is : IsOutcome k file start done (concat o.piece) o.items o.refusal
 
 -- that holds of each piece, after those before it

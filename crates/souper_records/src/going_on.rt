@@ -19,7 +19,7 @@ use std::io::{BufRead, Write};
 use std::marker::Brand;
 
 // Does the job in the layout `L.layout`.
-fn each_pieces<L: Fixed, T: StreamItem + Drop, R: BufRead, W: Write, E: Write>(
+fn each_fixed<L: Fixed, T: StreamItem + Drop, R: BufRead, W: Write, E: Write>(
     alloc: Global,
     job: Job<'_>,
     reader: &mut R,
@@ -59,5 +59,5 @@ pub fn each_going_on<T: StreamItem + Drop, R: BufRead, W: Write, E: Write>(
     ensures stays { has_failed err.old ≡ true → has_failed err.new ≡ true }
 {
     let job = Job { layout, name };
-    each_pieces::<Brand, T, R, W, E>(alloc, job, reader, out, err)
+    each_fixed::<Brand, T, R, W, E>(alloc, job, reader, out, err)
 }

@@ -8,6 +8,7 @@ pub mod counts;
 pub mod each;
 mod fixed;
 pub mod going_on;
+pub mod laws;
 pub mod layout;
 pub mod objects;
 mod pieces;

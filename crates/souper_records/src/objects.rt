@@ -197,9 +197,10 @@ fn write_fixed<L: Fixed, T: StreamItem + Drop, R: BufRead, W: Write, E: Write>(
 /// ([`PieceReader`](souper_stream::PieceReader)). Returns whether a piece was refused.
 ///
 /// The object of an item has its canonical `text`, the `key` of that ([`key_of`](crate::records::key_of)), the name of the stream as
-/// `file`, and the `line` on which its piece begins, counted from 1. With `rename` the text is that of the item with names by its
-/// printed order. The object of a refusal has `file`, `offset`, `line`, `column` and `message`; it comes after those of the items that
-/// its piece begins with, and the refusal is also written to `err`, with a newline.
+/// `file`, and the `line` of the first token of its piece, counted from 1. With `rename` the text is that of the item with names by its
+/// printed order. The object of a refusal has `file`, `offset`, `line`, `column` and `message`: the line and the column are those that
+/// the refusal shows, of the byte before the offset. It comes after those of the items that its piece begins with, and the refusal is
+/// also written to `err`, with a newline.
 ///
 /// No error is a refusal. After an error of the input, this was done with pieces that the stream begins with. After one of the output
 /// nothing is known of what was written to `out`.

@@ -30,19 +30,19 @@ pub(crate) struct Place<'a> {
 
 /// A sink for the items of a stream's pieces, of each of which it writes something.
 pub(crate) trait PieceSink<T: StreamItem + Drop>: Sink<T> {
-    // How much the sink has written: the mark that it is given back after a piece.
+    // What the sink is to know of itself before a piece, to write the piece.
     ghost marks: { Self → ℕ };
 
-    // The stream has this name. What became of a piece was written: the sink was the first and is the second, and what the output had
-    // was the first list and is the second.
+    // What it is that this outcome of a piece was written, given the name of the stream, the sink and the bytes of the output before, and
+    // both after.
     ghost wrote: { List ℕ → Self → Option (List ℕ) → Self → Option (List ℕ) → Outcome → Type 0 };
 
     /// A mark for [`write_piece`](PieceSink::write_piece).
     fn mark(&self) -> usize
         ensures { result ≡ marks self.now };
 
-    /// Writes what is wanted of a piece, after its items were taken, or those that it begins with if it was refused. `mark` is that of
-    /// before.
+    /// Writes what is wanted of a piece, after its items were taken, or those that it begins with if it was refused. `mark` is what
+    /// [`mark`](PieceSink::mark) returned before they were taken.
     fn write_piece<W: Write>(
         &mut self,
         alloc: Global,

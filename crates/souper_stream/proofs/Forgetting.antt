@@ -45,7 +45,7 @@ after_more read more done old new p bytes skipped before =
       gone = p.gone;
       whole = ap (λ (x : List ℕ). x ++ more) p.whole ∙ append_assoc p.gone old.bytes.items more ∙ ap (λ (x : List ℕ). p.gone ++ x) (sym bytes);
       lines = p.lines;
-      counted = λ small. subst (λ (b : Before). IsBefore b p.gone) (sym before) (p.counted (omega arith));
+      counted = λ small. subst (λ (b : Before). IsBefore b p.gone) (sym before) (p.counted small);
       within = omega (arith, skipped);
       done_is = p.done_is ∙ ap (λ (x : List ℕ). p.gone ++ x) (sym ((λ i. take (skipped i) (bytes i)) ∙ take-append-le old.skipped old.bytes.items more p.within));
       placed = subst (λ (m : ℕ). (0 < m) ⊎ (p.gone ≡ [])) (sym skipped) p.placed;
@@ -98,7 +98,7 @@ after_forgot read done old new n p fits f =
         gone = gone;
         whole = p.whole ∙ ap (λ (x : List ℕ). p.gone ++ x) (sym (take-append-drop start bytes)) ∙ sym (append_assoc p.gone (take start bytes) (drop start bytes)) ∙ ap (λ (x : List ℕ). gone ++ x) (sym f.bytes_are);
         lines = lines;
-        counted = λ small. let b = p.counted small in let b_bytes = b.bytes_are in let b_lines = b.lines_are in record { lines = lines; bytes_are = omega arith; lines_are = omega arith };
+        counted = λ small. let b = p.counted (omega arith) in let b_bytes = b.bytes_are in let b_lines = b.lines_are in record { lines = lines; bytes_are = omega arith; lines_are = omega arith };
         within = omega (arith, ap length f.bytes_are ∙ length-drop start bytes);
         done_is = sym now;
         placed = inl f.some;
@@ -122,4 +122,4 @@ after_placed file read done h o shown p kind located small = placed located
     placed (inl memory) = let bad : Memory ≡ Parse = sym memory ∙ kind in absurd cc
     placed (inr at) =
         subst (λ (n : ℕ). IsRefusalAt file read n shown) offset
-        (subst (λ (x : List ℕ). IsRefusalAt file x (length p.gone + (h.skipped + o)) shown) (sym p.whole) (at p.gone (p.counted small) (some p.placed) (subst (λ (x : List ℕ). length x + 1 < 2 ^ 64) p.whole small)))
+        (subst (λ (x : List ℕ). IsRefusalAt file x (length p.gone + (h.skipped + o)) shown) (sym p.whole) (at p.gone (p.counted (omega (arith, ap length p.whole ∙ length-append p.gone h.bytes.items, small))) (some p.placed) (subst (λ (x : List ℕ). length x + 1 < 2 ^ 64) p.whole small)))

@@ -16,7 +16,6 @@ use Rattle.souper_ir.specs.Sinks.{TakesText, TakesPrefix}
 use Rattle.souper_stream.specs.declared.held.Held.{Held}
 use Rattle.souper_stream.specs.declared.pieces.PieceReader.{PieceReader}
 use Rattle.souper_stream.specs.Holding.{fresh, HoldsAfter, Forgets}
-use Rattle.souper_stream.specs.Lines.{first_line}
 use Rattle.souper_stream.specs.Pieces.{Line, concat, IsLine, IsLastLine, AreLines, EndsPiece, StartsPiece, IsUncut, AreCut, all_lines}
 use Rattle.souper_stream.specs.PieceReading.{ReadsLine, HasLines, Passes, and_next, HasBegun, HasPieces, HasAll, holding, HasLine, IsOnLine, IsReady, IsNext, RefusesBytes, IsPlacedIn, TakesPiece, RefusesPiece}
 use Rattle.souper_stream.specs.Reading.{AreAll}
@@ -351,12 +350,8 @@ piece_done k start now ps p q len piece r f end ended =
     subst (λ (x : PieceReader). HasPieces k start now (ps ++ piece ∷ []) x) same (r.then q.held q.line a.0 a.1)
 
 -- its line is that in the stream
-on_line : (k : ItemType) (start now : Option (List ℕ)) (ps : List (List Line)) (p : PieceReader) (len line : ℕ) (piece : List Line) → IsReady k start now ps p len piece → HasLine p.held len line → IsOnLine start now (concat (all_lines ps)) (concat piece) line
-on_line k start now ps p len line piece r h = record {
-  read = r.read;
-  consumed = r.consumed;
-  line_is = λ small. h r.read (concat (all_lines ps)) r.held small ∙ ap (λ (x : List ℕ). first_line (concat (all_lines ps)) x) r.part;
-}
+on_line : (k : ItemType) (start now : Option (List ℕ)) (ps : List (List Line)) (p : PieceReader) (len line : ℕ) (piece : List Line) → IsReady k start now ps p len piece → HasLine p.held len line → IsOnLine (concat (all_lines ps)) (concat piece) line
+on_line k start now ps p len line piece r h = subst (λ (x : List ℕ). IsOnLine (concat (all_lines ps)) x line) r.part (h r.read (concat (all_lines ps)) r.held)
 
 pub piece_refuses : {S : Type 0} (k : ItemType) (file start now : Option (List ℕ)) (ps : List (List Line)) (p q : PieceReader) (len : ℕ) (piece : List Line) (holds : S → List Item → Type 0) (old new : S) (e : ParseError)
     → IsReady k start now ps p len piece → Forgets p.held q.held len → q.end ≡ p.end → q.ended ≡ p.ended → HasLine p.held len q.line → RefusesBytes k file p.held len holds old new e → RefusesPiece k file start now ps holds old new q e

@@ -21,7 +21,7 @@ pub record HoldsAfter (read done : List ℕ) (h : Held) : Type 0 where
   pub gone : List ℕ
   pub whole : read ≡ gone ++ h.bytes.items
   pub lines : IsLines gone
-  pub counted : length read + 1 < 2 ^ 64 → IsBefore h.before gone
+  pub counted : length gone + 1 < 2 ^ 64 → IsBefore h.before gone
   pub within : h.skipped ≤ length h.bytes.items
   pub done_is : done ≡ gone ++ take h.skipped h.bytes.items
   pub placed : (0 < h.skipped) ⊎ (gone ≡ [])

@@ -85,19 +85,17 @@ pub record IsReady (k : ItemType) (start now : Option (List ℕ)) (ps : List (Li
 abbrev pub IsNext : ItemType → Option (List ℕ) → Option (List ℕ) → List (List Line) → PieceReader → ℕ → Type 0
 IsNext k start now ps p len = (len ≡ 0 → HasAll k start now ps) × (0 < len → (piece : List Line) × IsReady k start now ps p len piece)
 
+-- The line of a piece, after what is done. Numbers have 64 bits.
+abbrev pub IsOnLine : List ℕ → List ℕ → ℕ → Type 0
+IsOnLine done piece line = length (done ++ piece) + 1 < 2 ^ 64 → line ≡ first_line done piece
+
 -- the line of the first bytes that are held, so many
 abbrev pub HasLine : Held → ℕ → ℕ → Type 0
-HasLine h len line = (read done : List ℕ) → HoldsAfter read done h → length read + 1 < 2 ^ 64 → line ≡ first_line done (take len (fresh h))
+HasLine h len line = (read done : List ℕ) → HoldsAfter read done h → IsOnLine done (take len (fresh h)) line
 
 -- `p.line()`
 abbrev pub line_of : PieceReader → ℕ
 line_of p = p.line
-
--- So much was read of a stream, of which a piece has this line, after what is done. Numbers of lines have 64 bits.
-pub record IsOnLine (start now : Option (List ℕ)) (done piece : List ℕ) (line : ℕ) : Type 0 where
-  pub read : List ℕ
-  pub consumed : Consumes start now read
-  pub line_is : length read + 1 < 2 ^ 64 → line ≡ first_line done piece
 
 -- the refusal of a piece, after what is done, has and shows its place in what was read
 abbrev pub IsPlacedIn : Option (List ℕ) → List ℕ → List ℕ → List ℕ → ParseError → Type 0
@@ -113,14 +111,14 @@ pub record RefusesBytes {S : Type 0} (k : ItemType) (file : Option (List ℕ)) (
 pub record TakesPiece {S : Type 0} (k : ItemType) (start now : Option (List ℕ)) (ps : List (List Line)) (holds : S → List Item → Type 0) (old new : S) (p : PieceReader) : Type 0 where
   pub piece : List Line
   pub goes_on : HasPieces k start now (ps ++ piece ∷ []) p
-  pub on_line : IsOnLine start now (concat (all_lines ps)) (concat piece) (line_of p)
+  pub on_line : IsOnLine (concat (all_lines ps)) (concat piece) (line_of p)
   pub taken : TakesText holds k (concat piece) old new
 
 -- The next piece spells no items. The sink took items that it begins with. The refusal has and shows its place in what was read.
 pub record RefusesPiece {S : Type 0} (k : ItemType) (file start now : Option (List ℕ)) (ps : List (List Line)) (holds : S → List Item → Type 0) (old new : S) (p : PieceReader) (e : ParseError) : Type 0 where
   pub piece : List Line
   pub goes_on : HasPieces k start now (ps ++ piece ∷ []) p
-  pub on_line : IsOnLine start now (concat (all_lines ps)) (concat piece) (line_of p)
+  pub on_line : IsOnLine (concat (all_lines ps)) (concat piece) (line_of p)
   pub none : SpellsNone k (concat piece)
   pub begun : TakesPrefix holds k (concat piece) old new
   pub read : List ℕ

@@ -141,7 +141,7 @@ impl PieceReader {
     }
 
     /// The line of the stream, counted from 1, on which the first token is of the piece that was read last, whether it was refused
-    /// or not. If a piece has no token, it is the line on which the piece begins.
+    /// or not. If no token is found, since there is none or a fault comes first, it is the line on which the piece begins.
     pub fn line(&self) -> usize
         ensures { result ≡ line_of self.now }
     {
@@ -202,7 +202,7 @@ impl PieceReader {
     /// nothing was left of it.
     ///
     /// Each call of one stream is given the same reader and type of items, and the sink may be another each time. After it
-    /// [`line`](PieceReader::line) says where the piece begins.
+    /// [`line`](PieceReader::line) says on which line the piece's first token is.
     ///
     /// - `Parse`: the piece spells no items. The sink has taken items that it begins with. The error has and shows its place in the
     ///   stream. The next call reads the next piece.

@@ -10,13 +10,12 @@ use Rattle.souper_records.proofs.pieces.write_next.Goals as goal
 
 pub returns-in_ok-write_piece-in-Ok-true-clause-piece : goal.returns-in_ok-write_piece-in-Ok-true-clause-piece
 returns-in_ok-write_piece-in-Ok-true-clause-piece g c = λ start ps had.
-    let now = g.R.Read.remaining c.read_piece.new.reader in
     let t = (rw c.in-Ok-true.is at c.read_piece.ensures.read) c.in-Ok-true.field-0-test start ps had in
     let o : Outcome = record { piece = t.piece; line = c.line-line.result; items = t.taken.0; refusal = None } in
     record {
       outcome = o;
       had = t.goes_on;
-      is = record { now = now; on_line = subst (λ (n : ℕ). IsOnLine start now (concat (all_lines ps)) (concat t.piece) n) (sym c.line-line.ensures) t.on_line; is = t.taken.1 };
+      is = record { on_line = subst (λ (n : ℕ). IsOnLine (concat (all_lines ps)) (concat t.piece) n) (sym c.line-line.ensures) t.on_line; is = t.taken.1 };
       any = refl;
       are_written = c.in_ok-write_piece-in-Ok-true.ensures.written c.args.sink.now o c.mark-mark.ensures t.taken.2 refl refl;
       reported = Keeps-refl _;
@@ -40,8 +39,7 @@ returns-in_ok-write_piece-in-Err-clause-piece g c = λ start ps had.
       outcome = o;
       had = t.goes_on;
       is = record {
-        now = now;
-        on_line = subst (λ (n : ℕ). IsOnLine start now (concat (all_lines ps)) (concat t.piece) n) (sym c.line-line-in-Err.ensures) t.on_line;
+        on_line = subst (λ (n : ℕ). IsOnLine (concat (all_lines ps)) (concat t.piece) n) (sym c.line-line-in-Err.ensures) t.on_line;
         is = record { kind = kind; none = t.none; begun = t.begun.1; now = now; read = t.read; consumed = t.consumed; placed = t.placed };
       };
       any = refl;

@@ -3,7 +3,7 @@ use Rattle.std.specs.String.{string_bytes}
 use Rattle.souper_format.specs.Streams.{stream}
 use Rattle.souper_records.specs.Outcomes.{WritesPieces, StopsAfter, OfItems, WritesRecords}
 use Rattle.souper_records.proofs.Outcomes.{pieces_mapped, stops_mapped, ok_mapped, err_mapped, records_wrote}
-use Rattle.souper_records.proofs.going_on.each_pieces.Goals as goal
+use Rattle.souper_records.proofs.going_on.each_fixed.Goals as goal
 
 pub returns-clause-written : goal.returns-clause-written
 returns-clause-written g c =
