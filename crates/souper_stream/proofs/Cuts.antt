@@ -10,7 +10,7 @@ use Rattle.souper_ir.specs.Joining.{IsLines, moved}
 use Rattle.souper_ir.specs.Laws.Steps.{kinds-append}
 use Rattle.souper_ir.proofs.Items.Joining.{begins_more, kinds_moved, items_join}
 use Rattle.souper_ir.proofs.Items.Parting.{Within, Beyond, parted_twice, tokens_part}
-use Rattle.souper_stream.specs.Lines.{end_word, defines, starts_line, NoStart}
+use Rattle.souper_stream.specs.Lines.{end_word, defines, starts_line, NoStart, LastEnds}
 use Rattle.souper_stream.specs.Seams.{EndsItem, StartsLine, SeamsPart}
 use Rattle.souper_stream.proofs.EndLines.{item_ends, one_end, list_starts, quiet_no_end}
 
@@ -196,24 +196,36 @@ starts_more b more h =
       more = omega arith;
     }
 
--- a text is parted after lines that an item ends with, where a line starts
-pub part_by : (k : ItemType) (a b : List ℕ) (ws : List Item) → IsLines a → EndsItem k a → ((vs : List (ℕ × Lexeme)) → IsTextOf b vs → starts_line (kinds vs) ≡ true) → TextSpells k (a ++ b) ws
+-- a text is parted after lines whose last statement or last line ends an item, where a line starts
+pub part_by : (k : ItemType) (a b : List ℕ) (ws : List Item) → IsLines a → ((ts : List (ℕ × Lexeme)) → IsTextOf a ts → LastEnds k (kinds ts)) → ((vs : List (ℕ × Lexeme)) → IsTextOf b vs → starts_line (kinds vs) ≡ true) → TextSpells k (a ++ b) ws
     → (xs : List Item) × (ys : List Item) × (ws ≡ xs ++ ys) × TextSpells k a xs × TextSpells k b ys
-part_by k a b ws l end starts h =
+part_by k a b ws l last starts h =
     let both = tokens_part a b h.0 l h.1 in
     let ts = both.0 in
     let vs = both.1 in
-    let a_text : IsTextOf (end.before ++ end.last) ts = subst (λ (x : List ℕ). IsTextOf x ts) end.whole both.2 in
-    let lines = tokens_part end.before end.last ts end.lines a_text in
-    let same : lines.1 ≡ end.is_end.tokens = one_reading end.last lines.1 end.is_end.tokens lines.3 end.is_end.is_text in
-    let word = end.is_end.word in
-    let others = end.is_end.others in
-    let last_kinds : kinds (moved (length end.before) lines.1) ≡ ident word ∷ others = kinds_moved (length end.before) lines.1 ∙ ap kinds same ∙ end.is_end.kinds_are in
-    let a_kinds : kinds ts ≡ kinds lines.0 ++ ident word ∷ others = ap kinds lines.4 ∙ kinds-append lines.0 (moved (length end.before) lines.1) ∙ ap (λ (x : List Lexeme). kinds lines.0 ++ x) last_kinds in
-    let whole : kinds h.0 ≡ kinds lines.0 ++ ident word ∷ (others ++ kinds vs) =
-    ap kinds both.4 ∙ kinds-append ts (moved (length a) vs) ∙ (λ i. a_kinds i ++ kinds_moved (length a) vs i) ∙ append_assoc (kinds lines.0) (ident word ∷ others) (kinds vs) in
-    let r = items_part k ws (kinds lines.0) others (kinds vs) word end.is_end.ends end.is_end.no_start (starts vs both.3) (subst (λ (x : List Lexeme). list_spells k ws x) whole h.2) in
-    (r.xs, r.ys, r.whole, (ts, both.2, subst (λ (x : List Lexeme). list_spells k r.xs x) (sym a_kinds) r.first), (vs, both.3, r.second))
+    let e = last ts both.2 in
+    let whole : kinds h.0 ≡ e.before ++ ident e.word ∷ (e.after ++ kinds vs) =
+    ap kinds both.4 ∙ kinds-append ts (moved (length a) vs) ∙ (λ i. e.whole i ++ kinds_moved (length a) vs i) ∙ append_assoc e.before (ident e.word ∷ e.after) (kinds vs) in
+    let r = items_part k ws e.before e.after (kinds vs) e.word e.ends e.quiet (starts vs both.3) (subst (λ (x : List Lexeme). list_spells k ws x) whole h.2) in
+    (r.xs, r.ys, r.whole, (ts, both.2, subst (λ (x : List Lexeme). list_spells k r.xs x) (sym e.whole) r.first), (vs, both.3, r.second))
+
+-- the tokens of lines have what those of the last of them have
+pub last_ends : (k : ItemType) (a b : List ℕ) (ts : List (ℕ × Lexeme)) → IsLines a → IsTextOf (a ++ b) ts → ((us : List (ℕ × Lexeme)) → IsTextOf b us → LastEnds k (kinds us)) → LastEnds k (kinds ts)
+last_ends k a b ts l h last =
+    let both = tokens_part a b ts l h in
+    let e = last both.1 both.3 in
+    record {
+      before = kinds both.0 ++ e.before;
+      word = e.word;
+      after = e.after;
+      whole = ap kinds both.4 ∙ kinds-append both.0 (moved (length a) both.1) ∙ ap (λ (x : List Lexeme). kinds both.0 ++ x) (kinds_moved (length a) both.1 ∙ e.whole) ∙ sym (append_assoc (kinds both.0) e.before (ident e.word ∷ e.after));
+      ends = e.ends;
+      quiet = e.quiet;
+    }
+
+item_ends_last : (k : ItemType) (a : List ℕ) (ts : List (ℕ × Lexeme)) → EndsItem k a → IsTextOf a ts → LastEnds k (kinds ts)
+item_ends_last k a ts end h = last_ends k end.before end.last ts end.lines (subst (λ (x : List ℕ). IsTextOf x ts) end.whole h)
+    (λ us u. (let line = end.is_end in record { before = []; word = line.word; after = line.others; whole = ap kinds (one_reading end.last us line.tokens u line.is_text) ∙ line.kinds_are; ends = line.ends; quiet = line.no_start }))
 
 -- the tokens of a text in which a line starts begin with those of the line
 line_starts : (b : List ℕ) (vs : List (ℕ × Lexeme)) → StartsLine b → IsTextOf b vs → starts_line (kinds vs) ≡ true
@@ -223,6 +235,6 @@ line_starts b vs start h =
 
 pub seams_part : SeamsPart
 seams_part k a b ws seam = (
-  λ h. part_by k a b ws seam.lines seam.ends (λ vs t. line_starts b vs seam.starts t) h,
+  λ h. part_by k a b ws seam.lines (λ ts t. item_ends_last k a ts seam.ends t) (λ vs t. line_starts b vs seam.starts t) h,
   λ h. subst (λ (x : List Item). TextSpells k (a ++ b) x) (sym h.2) (items_join k a b h.0 h.1 seam.lines h.3 h.4),
 )

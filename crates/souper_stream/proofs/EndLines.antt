@@ -1,12 +1,12 @@
 -- An item has one line of those that end it, and it is the last.
-use Rattle.std.proofs.Common.{◌≡◌, ℕ, Bool, true, false, ◌⊎◌, inl, inr, List, [], ◌∷◌, ◌++◌, refl, sym, ap, ◌∙◌, subst, append_assoc, append-nil}
+use Rattle.std.proofs.Common.{◌≡◌, ℕ, true, false, ◌⊎◌, inl, inr, List, [], ◌∷◌, ◌++◌, refl, sym, ap, ◌∙◌, subst, append_assoc, append-nil}
 use Rattle.std.specs.Prelude.{codes, bytes_eq}
 use Rattle.std.specs.List.{AllByRecursion}
 use Rattle.souper_graph.specs.declared.ast.operands.Operand.{Operand}
 use Rattle.souper_graph.specs.Values.{PlainStatement, PlainInfer, PlainCand, inferred, resulting, replaced, candidate, Item}
 use Rattle.souper_graph.specs.Syntax.Tokens.{Lexeme, ident, val_name, known_bits, int, comma, colon, equals, open_paren, close_paren, open_bracket}
 use Rattle.souper_graph.specs.Syntax.Spelling.{Scope, infer_spells, cand_spells, result_spells, IsOptionalComma, Statements, ItemType, left_hand_side, right_hand_side, replacement, Tail, tail_spells, item_spells, list_spells}
-use Rattle.souper_stream.specs.Lines.{last_word, end_word, starts_line, NoStart}
+use Rattle.souper_stream.specs.Lines.{last_word, end_word, is_end_word, starts_line, NoStart}
 use Rattle.souper_stream.proofs.Nodes.{or_left, or_right, or_none, is_not, all_append, is_last, NoLast, plain_no_last, operand_quiet, operand_not_defines, root_attributes_plain, root_attributes_not_define, plain_quiet, statement_no_last, statement_starts}
 
 -- ---- words that end an item
@@ -16,15 +16,10 @@ end_is_last left_hand_side w h = or_left (bytes_eq w (codes "infer")) _ h
 end_is_last right_hand_side w h = or_right (bytes_eq w (codes "infer")) _ (or_left (bytes_eq w (codes "result")) _ h)
 end_is_last replacement w h = or_right (bytes_eq w (codes "infer")) _ h
 
--- the token is a word that ends an item of the type
-abbrev pub is_end : ItemType → Lexeme → Bool
-is_end k (ident w) = end_word k w
-is_end k _ = false
-
 abbrev pub NoEnd : ItemType → List Lexeme → Type 0
-NoEnd k ts = AllByRecursion (λ t. is_end k t ≡ false) ts
+NoEnd k ts = AllByRecursion (λ t. is_end_word k t ≡ false) ts
 
-last_no_end : (k : ItemType) (t : Lexeme) → is_last t ≡ false → is_end k t ≡ false
+last_no_end : (k : ItemType) (t : Lexeme) → is_last t ≡ false → is_end_word k t ≡ false
 last_no_end k (ident w) h = is_not (end_word k w) (λ e. let bad : last_word w ≡ true = end_is_last k w e in cc)
 last_no_end k (val_name n) h = refl
 last_no_end k (known_bits w) h = refl
@@ -57,7 +52,7 @@ quiet_no_end k [] h = tt
 quiet_no_end k (t ∷ ts) h = (last_no_end k t (start_no_last t ts h.0), quiet_no_end k ts h.1)
 
 end_append : (k : ItemType) (xs ys : List Lexeme) → NoEnd k xs → NoEnd k ys → NoEnd k (xs ++ ys)
-end_append k xs ys a b = all_append (λ t. is_end k t ≡ false) xs ys a b
+end_append k xs ys a b = all_append (λ t. is_end_word k t ≡ false) xs ys a b
 
 -- ---- last lines
 
@@ -144,9 +139,9 @@ one_end k [] (x ∷ pre) others more v w a b h e = absurd (no_end_in others pre 
     no_end_in : (others pre more : List Lexeme) (w : List ℕ) → NoEnd k others → end_word k w ≡ true → others ≡ pre ++ ident w ∷ more → ⊥
     no_end_in [] [] more w b h e = cc
     no_end_in [] (x ∷ pre) more w b h e = cc
-    no_end_in (y ∷ others) [] more w b h e = let same : y ≡ ident w = cc in let bad : end_word k w ≡ false = ap (λ (z : Lexeme). is_end k z) (sym same) ∙ b.0 in cc
+    no_end_in (y ∷ others) [] more w b h e = let same : y ≡ ident w = cc in let bad : end_word k w ≡ false = ap (λ (z : Lexeme). is_end_word k z) (sym same) ∙ b.0 in cc
     no_end_in (y ∷ others) (x ∷ pre) more w b h e = let tails : others ≡ pre ++ ident w ∷ more = cc in no_end_in others pre more w b.1 h tails
-one_end k (y ∷ head) [] others more v w a b h e = let same : y ≡ ident w = cc in let bad : end_word k w ≡ false = ap (λ (z : Lexeme). is_end k z) (sym same) ∙ a.0 in cc
+one_end k (y ∷ head) [] others more v w a b h e = let same : y ≡ ident w = cc in let bad : end_word k w ≡ false = ap (λ (z : Lexeme). is_end_word k z) (sym same) ∙ a.0 in cc
 one_end k (y ∷ head) (x ∷ pre) others more v w a b h e = let tails : head ++ ident v ∷ others ≡ pre ++ ident w ∷ more = cc in one_end k head pre others more v w a.1 b h tails
 
 -- ---- where an item begins

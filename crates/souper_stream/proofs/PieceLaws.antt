@@ -1,9 +1,9 @@
 -- What a text spells is what its pieces spell.
-use Rattle.std.proofs.Common.{◌≡◌, inl, inr, ℕ, true, List, [], ◌∷◌, ◌++◌, length, refl, sym, ap, ◌∙◌, subst, append-nil, Option}
+use Rattle.std.proofs.Common.{◌≡◌, inr, ℕ, true, List, [], ◌∷◌, ◌++◌, length, refl, sym, ap, ◌∙◌, subst, append-nil, Option}
 use Rattle.std.specs.List.{AllByRecursion}
 use Rattle.std.specs.Io.KnownBytes.{Consumes}
 use Rattle.souper_graph.specs.Values.{Item}
-use Rattle.souper_graph.specs.Syntax.Tokens.{Lexeme, ident, val_name, known_bits, int, comma, colon, equals, open_paren, close_paren, open_bracket, IsTextOf}
+use Rattle.souper_graph.specs.Syntax.Tokens.{Lexeme, IsTextOf}
 use Rattle.souper_graph.specs.Syntax.Spelling.{kinds, ItemType, TextSpells}
 use Rattle.souper_lexer.proofs.TokenLaws.{text_tokens}
 use Rattle.souper_ir.specs.Joining.{moved}
@@ -11,16 +11,15 @@ use Rattle.souper_ir.specs.Laws.Steps.{kinds-append}
 use Rattle.souper_ir.proofs.Items.Lists.{text_alone}
 use Rattle.souper_ir.proofs.Items.Joining.{items_join}
 use Rattle.souper_ir.proofs.Items.Parting.{tokens_part}
-use Rattle.souper_stream.specs.Lines.{starts_line}
-use Rattle.souper_stream.specs.Seams.{IsEndLine, EndsItem}
+use Rattle.souper_stream.specs.Lines.{starts_line, LastEnds}
 use Rattle.souper_stream.specs.declared.pieces.PieceReader.{PieceReader}
 use Rattle.souper_stream.specs.Holding.{fresh}
 use Rattle.souper_stream.specs.PieceReading.{HasPieces}
 use Rattle.souper_stream.proofs.Forgetting.{parts_read}
-use Rattle.souper_stream.specs.Pieces.{Line, concat, IsLine, AreLines, tokens_of, ends_first, QuietAfter, AreEndLines, EndsPiece, StartsPiece, AreCut, all_lines, PiecesSpell, SpellsByPieces}
-use Rattle.souper_stream.proofs.Cuts.{starts_longer, part_by}
+use Rattle.souper_stream.specs.Pieces.{Line, concat, IsLine, AreLines, tokens_of, EndsPiece, StartsPiece, AreCut, all_lines, PiecesSpell, SpellsByPieces}
+use Rattle.souper_stream.proofs.Cuts.{starts_longer, part_by, last_ends}
 use Rattle.souper_stream.proofs.Progress.{none_spelled}
-use Rattle.souper_stream.proofs.Lined.{concat-append, lines_of, all_front, all_back, ends_longer}
+use Rattle.souper_stream.proofs.Lined.{concat-append, lines_of, all_front}
 use Rattle.souper_stream.proofs.PieceTurns.{lines_back}
 
 -- ---- lines
@@ -53,46 +52,12 @@ piece_starts (l ∷ q) more ts lines s h =
     let t = first_line l (q ++ more) ts lines h in
     subst (λ (x : List Lexeme). starts_line x ≡ true) (sym t.1) (starts_longer (tokens_of l) t.0 s)
 
-end_line : (k : ItemType) (bs : List ℕ) (ts : List (ℕ × Lexeme)) (us : List Lexeme) → IsTextOf bs ts → kinds ts ≡ us → ends_first k us ≡ true → QuietAfter us → IsEndLine k bs
-end_line k bs ts [] h e f q = absurd cc
-end_line k bs ts (ident w ∷ us) h e f q = record { tokens = ts; word = w; others = us; is_text = h; kinds_are = e; ends = f; no_start = q }
-end_line k bs ts (val_name n ∷ us) h e f q = absurd cc
-end_line k bs ts (known_bits w ∷ us) h e f q = absurd cc
-end_line k bs ts (int w ∷ us) h e f q = absurd cc
-end_line k bs ts (comma ∷ us) h e f q = absurd cc
-end_line k bs ts (colon ∷ us) h e f q = absurd cc
-end_line k bs ts (equals ∷ us) h e f q = absurd cc
-end_line k bs ts (open_paren ∷ us) h e f q = absurd cc
-end_line k bs ts (close_paren ∷ us) h e f q = absurd cc
-end_line k bs ts (open_bracket ∷ us) h e f q = absurd cc
-
-all_are_lines : (ls : List Line) → AllByRecursion IsLine ls → AreLines ls
-all_are_lines [] h = tt
-all_are_lines (l ∷ []) h = inl h.0
-all_are_lines (l ∷ (m ∷ ls)) h = (h.0, all_are_lines (m ∷ ls) h.1)
-
-end_lines : (k : ItemType) (ls : List Line) (ts : List (ℕ × Lexeme)) → AllByRecursion IsLine ls → AreEndLines k ls → IsTextOf (concat ls) ts → IsEndLine k (concat ls)
-end_lines k ls ts lines a h =
-    let t = first_line a.first a.others ts (subst (λ (x : List Line). AreLines x) a.whole (all_are_lines ls lines)) (subst (λ (x : List Line). IsTextOf (concat x) ts) a.whole h) in
-    end_line k (concat ls) ts (kinds ts) h refl (subst (λ (x : List Lexeme). ends_first k x ≡ true) (sym t.1) (ends_longer k (tokens_of a.first) t.0 a.ends))
-    (subst (λ (x : List Lexeme). QuietAfter x) (text_kinds (concat ls) ts h) a.quiet)
-
--- an item ends with the lines, if they have no fault
-piece_item : (k : ItemType) (p : List Line) (ts : List (ℕ × Lexeme)) → AllByRecursion IsLine p → EndsPiece k p → IsTextOf (concat p) ts → EndsItem k (concat p)
-piece_item k p ts lines (front, back, is, a) h =
-    let both = subst (λ (x : List Line). AllByRecursion IsLine x) is lines in
-    let front_lines = all_front IsLine front back both in
-    let back_lines = all_back IsLine front back both in
-    let whole : concat p ≡ concat front ++ concat back = ap concat is ∙ concat-append front back in
-    let t = tokens_part (concat front) (concat back) ts (lines_of front front_lines) (subst (λ (x : List ℕ). IsTextOf x ts) whole h) in
-    record {
-      before = concat front;
-      last = concat back;
-      whole = whole;
-      lines = lines_of front front_lines;
-      last_lines = lines_of back back_lines;
-      is_end = end_lines k back t.1 back_lines a t.3;
-    }
+-- the last statement or last line in a piece without a fault ends an item
+piece_ends : (k : ItemType) (p : List Line) (ts : List (ℕ × Lexeme)) → AllByRecursion IsLine p → EndsPiece k p → IsTextOf (concat p) ts → LastEnds k (kinds ts)
+piece_ends k p ts lines (front, back, is, first, ends) h =
+    last_ends k (concat front) (concat back) ts (lines_of front (all_front IsLine front back (subst (λ (x : List Line). AllByRecursion IsLine x) is lines)))
+    (subst (λ (x : List ℕ). IsTextOf x ts) (ap concat is ∙ concat-append front back) h)
+    (λ us u. subst (λ (x : List Lexeme). LastEnds k x) (text_kinds (concat back) us u) ends)
 
 -- ---- pieces
 
@@ -107,9 +72,8 @@ whole_parts k (p ∷ (q ∷ ps)) ws lines cut h =
     let some = starts_some q more cut.1 in
     let p_lines = lines_front p (q ++ more) some lines in
     let text = subst (λ (x : List ℕ). TextSpells k x ws) (two_pieces k p q ps) h in
-    let t = tokens_part (concat p) (concat (q ++ more)) text.0 (lines_of p p_lines) text.1 in
     let rest_lines = lines_back p (q ++ more) lines in
-    let r = part_by k (concat p) (concat (q ++ more)) ws (lines_of p p_lines) (piece_item k p t.0 p_lines cut.0 t.2) (λ vs u. piece_starts q more vs rest_lines cut.1 u) text in
+    let r = part_by k (concat p) (concat (q ++ more)) ws (lines_of p p_lines) (λ ts v. piece_ends k p ts p_lines cut.0 v) (λ vs u. piece_starts q more vs rest_lines cut.1 u) text in
     (r.0, r.1, r.2, r.3, whole_parts k (q ∷ ps) r.1 rest_lines cut.2 r.4)
 
 parts_whole : (k : ItemType) (ps : List (List Line)) (ws : List Item) → AreLines (all_lines ps) → AreCut k ps → PiecesSpell k ps ws → TextSpells k (concat (all_lines ps)) ws

@@ -19,6 +19,16 @@ end_word left_hand_side w = bytes_eq w (codes "infer")
 end_word right_hand_side w = bytes_eq w (codes "result")
 end_word replacement w = bytes_eq w (codes "result") || bytes_eq w (codes "cand")
 
+-- the token is a word that begins the line that an item of the type ends with
+abbrev pub is_end_word : ItemType → Lexeme → Bool
+is_end_word k (ident w) = end_word k w
+is_end_word k _ = false
+
+-- the first token is such a word
+abbrev pub ends_first : ItemType → List Lexeme → Bool
+ends_first k (ident w ∷ ts) = end_word k w
+ends_first k _ = false
+
 -- what follows a name that is defined: its type, or the equals sign
 abbrev pub defines : List Lexeme → Bool
 defines (equals ∷ ts) = true
@@ -35,6 +45,15 @@ starts_line _ = false
 abbrev pub NoStart : List Lexeme → Type 0
 NoStart [] = Unit {0}
 NoStart (t ∷ ts) = (starts_line (t ∷ ts) ≡ false) × NoStart ts
+
+-- of the statements and last lines that begin in the tokens, the last is a line that an item of the type ends with
+pub record LastEnds (k : ItemType) (ts : List Lexeme) : Type 0 where
+  pub before : List Lexeme
+  pub word : List ℕ
+  pub after : List Lexeme
+  pub whole : ts ≡ before ++ ident word ∷ after
+  pub ends : end_word k word ≡ true
+  pub quiet : NoStart after
 
 -- the token shows that a line begins: it is the word of one, or it defines the name before it, if there is one
 abbrev pub shows_line : Bool → Lexeme → Bool

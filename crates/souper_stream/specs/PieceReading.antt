@@ -1,5 +1,5 @@
 -- Definitions. The reading of a stream piece by piece.
-use Rattle.std.specs.Prelude.{◌≡◌, ℕ, ◌+◌, ◌^◌, ◌<◌, ◌≤◌, Bool, true, false, List, [], ◌∷◌, ◌++◌, length, take, drop, Option, Some, IfSome, IsUtf8}
+use Rattle.std.specs.Prelude.{◌≡◌, ℕ, ◌+◌, ◌^◌, ◌<◌, ◌≤◌, Bool, true, false, List, [], ◌∷◌, ◌++◌, length, take, drop, Option, Some, None, IsUtf8}
 use Rattle.std.specs.List.{AllByRecursion}
 use Rattle.std.specs.Io.KnownBytes.{Consumes}
 use Rattle.souper_graph.specs.Syntax.Tokens.{IsOneLine}
@@ -12,7 +12,7 @@ use Rattle.souper_stream.specs.declared.held.Held.{Held}
 use Rattle.souper_stream.specs.declared.pieces.PieceReader.{PieceReader}
 use Rattle.souper_stream.specs.Holding.{fresh, HoldsAfter}
 use Rattle.souper_stream.specs.Lines.{first_line}
-use Rattle.souper_stream.specs.Pieces.{Line, concat, IsLine, AreLines, tokens_of, ends_first, AreEndLines, EndsPiece, StartsPiece, IsUncut, AreCut, all_lines, ArePieces}
+use Rattle.souper_stream.specs.Pieces.{Line, concat, IsLine, AreLines, NoneStarts, FirstStarts, EndsPiece, StartsPiece, IsUncut, AreCut, all_lines, ArePieces}
 use Rattle.souper_stream.specs.Reading.{AreAll}
 
 -- a line was read; if the input has ended, it has no newline, or is empty
@@ -23,18 +23,17 @@ pub record ReadsLine (before after : Option (List ℕ)) (old new : List ℕ) (en
   pub part : ended ≡ true → IsOneLine line
   pub all_read : ended ≡ true → AreAll before line
 
--- a word that an item ends with begins the first of these lines
-abbrev pub FirstEnds : ItemType → List Line → Type 0
-FirstEnds k [] = ⊥
-FirstEnds k (l ∷ ls) = ends_first k (tokens_of l) ≡ true
+-- the byte at which the last starting line begins, if a line starts
+abbrev pub LastStart : Option ℕ → List Line → Type 0
+LastStart None ls = NoneStarts ls
+LastStart (Some e) ls = (front : List Line) × (back : List Line) × (ls ≡ front ++ back) × (e ≡ length (concat front)) × FirstStarts back
 
--- The bytes are these lines of a piece. If an item ends with the last of them, the first of those it ends with is at `end`.
+-- the bytes are these lines of a piece, and the last starting line begins at `end`
 pub record HasLines (k : ItemType) (bytes : List ℕ) (end : Option ℕ) (ls : List Line) : Type 0 where
   pub whole : bytes ≡ concat ls
   pub utf8 : AllByRecursion IsUtf8 ls
   pub uncut : IsUncut k ls
-  pub found : (front back : List Line) → ls ≡ front ++ back → AreEndLines k back → end ≡ Some (length (concat front))
-  pub end_is : IfSome end (λ e. (front : List Line) × (back : List Line) × (ls ≡ front ++ back) × (e ≡ length (concat front)) × FirstEnds k back)
+  pub last : LastStart end ls
 
 -- the line is one more of the piece, or the first of the next
 abbrev pub Passes : ItemType → List ℕ → List Line → Line → Bool → Option ℕ → Type 0

@@ -1,13 +1,13 @@
--- Definitions. The pieces of a text: lines, cut where an item ends and a line of the next begins, as far as tokens show it. What
--- follows a fault in the line that an item ends with does not count, so that the next piece can be read though this one is
--- refused.
-use Rattle.std.specs.Prelude.{◌≡◌, ◌⊎◌, ◌↔◌, ℕ, ◌<◌, true, List, [], ◌∷◌, ◌++◌, length, Bool, false}
+-- Definitions. The pieces of a text: lines, cut where an item ends and a line of the next begins, as far as tokens show it. A line
+-- starts if it begins with a statement, or with one of an item's last lines. Tokens behind a fault are not seen up to the next line
+-- that starts; so the next piece can be read though this one is refused.
+use Rattle.std.specs.Prelude.{◌≡◌, ◌⊎◌, ◌↔◌, ℕ, ◌<◌, true, List, [], ◌∷◌, ◌++◌, length, false}
 use Rattle.std.specs.List.{AllByRecursion}
 use Rattle.souper_graph.specs.Values.{Item}
-use Rattle.souper_graph.specs.Syntax.Tokens.{Lexeme, ident, IsOneLine}
+use Rattle.souper_graph.specs.Syntax.Tokens.{Lexeme, IsOneLine}
 use Rattle.souper_graph.specs.Syntax.Spelling.{kinds, ItemType, TextSpells}
 use Rattle.souper_lexer.specs.TokenReading.{lexed_of}
-use Rattle.souper_stream.specs.Lines.{end_word, starts_line, NoStart}
+use Rattle.souper_stream.specs.Lines.{starts_line, LastEnds}
 
 -- the bytes of a line, without a newline but at the end
 abbrev pub Line : Type 0
@@ -36,29 +36,24 @@ AreLines (l ∷ (m ∷ ls)) = IsLine l × AreLines (m ∷ ls)
 abbrev pub tokens_of : List ℕ → List Lexeme
 tokens_of bs = kinds (lexed_of 0 bs).tokens
 
--- the first token is a word that an item of the type ends with
-abbrev pub ends_first : ItemType → List Lexeme → Bool
-ends_first k (ident w ∷ ts) = end_word k w
-ends_first k _ = false
+-- none of the lines starts
+abbrev pub NoneStarts : List Line → Type 0
+NoneStarts ls = AllByRecursion (λ l. starts_line (tokens_of l) ≡ false) ls
 
--- at none of the tokens after the first does a statement or one of an item's last lines begin
-abbrev pub QuietAfter : List Lexeme → Type 0
-QuietAfter [] = Unit {0}
-QuietAfter (t ∷ ts) = NoStart ts
-
--- the lines are those that an item of the type ends with: a word of it begins the first, and after that no other line starts
-pub record AreEndLines (k : ItemType) (ls : List Line) : Type 0 where
+-- the first of the lines starts, and no other does
+pub record FirstStarts (ls : List Line) : Type 0 where
   pub first : Line
   pub others : List Line
   pub whole : ls ≡ first ∷ others
-  pub ends : ends_first k (tokens_of first) ≡ true
-  pub quiet : QuietAfter (tokens_of (concat ls))
+  pub starts : starts_line (tokens_of first) ≡ true
+  pub alone : NoneStarts others
 
--- an item ends with the last of these lines
+-- an item ends with these lines: of the statements and last lines that begin from the last starting line on, up to a fault, the last
+-- is one that an item of the type ends with
 abbrev pub EndsPiece : ItemType → List Line → Type 0
-EndsPiece k ls = (before : List Line) × (last : List Line) × (ls ≡ before ++ last) × AreEndLines k last
+EndsPiece k ls = (before : List Line) × (last : List Line) × (ls ≡ before ++ last) × FirstStarts last × LastEnds k (tokens_of (concat last))
 
--- the first of these lines begins with a statement, or is one of an item's last lines
+-- the first of these lines starts
 abbrev pub StartsPiece : List Line → Type 0
 StartsPiece [] = ⊥
 StartsPiece (l ∷ ls) = starts_line (tokens_of l) ≡ true

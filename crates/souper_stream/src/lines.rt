@@ -6,8 +6,8 @@ ghost use Rattle.souper_lexer.specs.TokenReading.{lexed_of};
 ghost use Rattle.souper_lexer.specs.TokenView.{lexeme_of, Yields};
 ghost use Rattle.souper_ir.specs.NodeReadings.{is_name};
 ghost use Rattle.souper_ir.specs.Joining.{IsLines};
-ghost use Rattle.souper_stream.specs.Lines.{last_word, line_word, shows_line, defines, starts_line, first_offset, NoStart};
-ghost use Rattle.souper_stream.specs.Pieces.{tokens_of, ends_first, QuietAfter};
+ghost use Rattle.souper_stream.specs.Lines.{last_word, line_word, is_end_word, ends_first, shows_line, defines, starts_line, first_offset, NoStart, LastEnds};
+ghost use Rattle.souper_stream.specs.Pieces.{tokens_of};
 ghost use Rattle.souper_stream.specs.Reading.{IsTaken};
 ghost use Rattle.souper_stream.specs.Seams.{IsEndLine, IsSeam};
 
@@ -118,19 +118,40 @@ fn is_end_line<T: StreamItem>(lines: &str) -> bool
     takes_end_word::<T>(&mut lexer) && is_quiet(&mut lexer)
 }
 
-// Whether a word that an item ends with begins the lines.
-pub(crate) fn begins_end_line<T: StreamItem>(lines: &str) -> bool
-    ensures { result ≡ ends_first T.item_type (tokens_of lines.now) }
+// Whether the token is a word that an item ends with.
+fn is_end_word<T: StreamItem>(token: Token<'_>) -> bool
+    ensures { result ≡ is_end_word T.item_type (lexeme_of token.entry) }
 {
-    takes_end_word::<T>(&mut Lexer::new(lines))
+    match token {
+        Token::Ident(word) => T::ends_with(word),
+        _ => false,
+    }
 }
 
-// Whether a word that an item ends with begins the lines, and no other line starts after it, up to a fault.
-pub(crate) fn shows_end_line<T: StreamItem>(lines: &str) -> bool
-    ensures { (result ≡ true) ↔ ((ends_first T.item_type (tokens_of lines.now) ≡ true) × QuietAfter (tokens_of lines.now)) }
+// Whether, of the statements and last lines that begin in the remaining tokens, up to a fault, the last begins with a word that
+// an item ends with. False if none begins.
+fn last_ends<T: StreamItem>(lexer: &mut Lexer<'_>) -> bool
+    ensures { (result ≡ true) ↔ LastEnds T.item_type (kinds lexer.old.tokens) }
 {
-    let mut lexer = Lexer::new(lines);
-    takes_end_word::<T>(&mut lexer) && starts_none(&mut lexer)
+    let mut named = false;
+    let mut ends = false;
+    'tokens: loop {
+        let token = match next_token(lexer) {
+            Ok(Some((_, token))) => token,
+            _ => return ends,
+        };
+        if shows_line(named, token) {
+            ends = is_end_word::<T>(token);
+        }
+        named = is_name(token);
+    }
+}
+
+// The same of a text.
+pub(crate) fn ends_item<T: StreamItem>(lines: &str) -> bool
+    ensures { (result ≡ true) ↔ LastEnds T.item_type (tokens_of lines.now) }
+{
+    last_ends::<T>(&mut Lexer::new(lines))
 }
 
 // Whether the token, after a name, says that the name is defined.

@@ -1,16 +1,16 @@
 //! The pieces of a stream: each is parsed by itself, so that reading can go on after one that is refused.
-ghost use Rattle.std.specs.Prelude.{◌≡◌, ◌↔◌, ◌⊎◌, ◌<◌, ◌≤◌, ◌∷◌, ◌++◌, ◌+◌, ℕ, List, [], length, take, drop, true, false, Option, IsOk, IfOk, IfErr, IfSome, IsErrAnd, OnOk, vec_len, option_copied, IsUtf8};
+ghost use Rattle.std.specs.Prelude.{◌≡◌, ◌↔◌, ◌⊎◌, ◌<◌, ◌≤◌, ◌+◌, ℕ, List, [], length, take, true, false, Option, IsOk, IfOk, IfErr, IfSome, IsErrAnd, OnOk, vec_len, option_copied, IsUtf8};
 ghost use Rattle.std.specs.List.{AllByRecursion};
-ghost use Rattle.souper_graph.specs.Syntax.Spelling.{ItemType, SpellsNone};
+ghost use Rattle.souper_graph.specs.Syntax.Spelling.{ItemType};
 ghost use Rattle.souper_ir.specs.Errors.{kind_of};
-ghost use Rattle.souper_ir.specs.Sinks.{TakesText, TakesPrefix};
+ghost use Rattle.souper_ir.specs.Sinks.{TakesText};
 ghost use Rattle.souper_stream.specs.Holding.{fresh, Forgets};
-ghost use Rattle.souper_stream.specs.Pieces.{Line, IsLine, EndsPiece, StartsPiece};
+ghost use Rattle.souper_stream.specs.Pieces.{Line, IsLine, EndsPiece};
 ghost use Rattle.souper_stream.specs.PieceReading.{HasLines, Passes, ReadsLine, HasPieces, HasLine, line_of, IsNext, RefusesBytes, TakesPiece, RefusesPiece, HasAll};
 
 use crate::ends::StreamItem;
 use crate::held::{Held, newline_count};
-use crate::lines::{begins_end_line, first_offset, shows_end_line, starts_line};
+use crate::lines::{ends_item, first_offset, starts_line};
 use crate::parts::{place, read_error};
 use souper_ir::parse::{ParseError, ParseErrorKind, Result, Sink, parse_into};
 use std::alloc::Global;
@@ -35,8 +35,7 @@ fn read_line<R: BufRead>(reader: &mut R, bytes: &mut Vec<u8>) -> io::Result<bool
     Ok(len == 0 || bytes[bytes.len() - 1] != b'\n')
 }
 
-// Whether an item ends with the lines of a piece. `end` is where the last of them that starts begins, if it begins with a word
-// that an item ends with.
+// Whether an item ends with the lines of a piece. `end` is where the last of them that starts begins.
 fn ends_piece<T: StreamItem>(piece: &[u8], end: Option<usize>) -> io::Result<bool>
     requires { IfSome end (λ e. e ≤ length piece.now) }
     ensures { IfOk result (λ ends. (ls : List Line) → HasLines T.item_type piece.now end ls → AllByRecursion IsLine ls → (ends ≡ true) ↔ EndsPiece T.item_type ls) }
@@ -44,7 +43,7 @@ fn ends_piece<T: StreamItem>(piece: &[u8], end: Option<usize>) -> io::Result<boo
     match end {
         Some(end) => {
             let last = utf8(&piece[end..])?;
-            Ok(shows_end_line::<T>(last))
+            Ok(ends_item::<T>(last))
         }
         None => Ok(false),
     }
@@ -67,11 +66,7 @@ fn pass_line<T: StreamItem>(
     }
     let is_cut = ends_piece::<T>(piece, end)?;
     let start = if is_cut { 0 } else { piece.len() };
-    if begins_end_line::<T>(line) {
-        Ok((is_cut, Some(start)))
-    } else {
-        Ok((is_cut, None))
-    }
+    Ok((is_cut, Some(start)))
 }
 
 // Passes the items of the next piece to the sink. It has so many bytes of what is held.
@@ -110,14 +105,14 @@ fn first_line(held: &Held, len: usize) -> io::Result<usize>
 
 /// Reads a stream piece by piece.
 ///
-/// Pieces are whole lines: the stream is cut before each line that begins with a statement, or is one of an item's last lines, if
-/// of the piece the last such line begins with the word that an item of the type ends with, and no other statement or last line
-/// begins in it. What follows a fault in that line does not count.
+/// Pieces are whole lines: the stream is cut before each line that begins with a statement (a name and `=` or `:`, `pc`, `blockpc`)
+/// or last line (`infer`, `result`, `cand`), if of those that begin in the piece the last is one that an item of the type ends with.
+/// Tokens behind a character that begins none are not seen, up to the next line that begins with a statement or last line.
 #[derive(Drop)]
 pub struct PieceReader {
     held: Held,
 
-    // Where in the piece the last line that starts begins, if it begins with a word that an item ends with.
+    // Where in the piece the last line that starts begins, if one starts.
     end: Option<usize>,
 
     // Whether the input has ended.
