@@ -8,7 +8,6 @@ use souper_graph::stringify::Order;
 use std::alloc::{AllocError, Global};
 use std::fmt::{Debug, Display};
 use std::process::Abort;
-use std::test::Fail;
 
 // An arena that grows statement by statement.
 #[derive(Drop)]
@@ -29,83 +28,95 @@ impl Graph {
     // Appends an assignment of any right side, and returns its id. The other calls that return an id append one of these too.
     pub fn assign(
         &mut self,
+        rt: &impl Abort,
         name: &str,
         ty: Option<Type>,
         value: AssignmentRhs,
         attributes: Vec<Attribute>,
-    ) -> Result<ValueId, AllocError> {
-        let name = String::from_str(self.alloc, name)?;
+    ) -> ValueId {
+        let name = String::from_str(self.alloc, name).expect(rt, "memory");
         let assignment = Assignment {
             name,
             ty,
             value,
             attributes,
         };
-        let id = self.statements.alloc(assignment.into())?;
-        Ok(id.into())
+        let id = self
+            .statements
+            .alloc(assignment.into())
+            .expect(rt, "memory");
+        id.into()
     }
 
     // An assignment without a type and without attributes.
-    pub fn rhs(&mut self, name: &str, value: AssignmentRhs) -> Result<ValueId, AllocError> {
+    pub fn rhs(&mut self, rt: &impl Abort, name: &str, value: AssignmentRhs) -> ValueId {
         let attributes = Vec::new(self.alloc);
-        self.assign(name, None, value, attributes)
+        self.assign(rt, name, None, value, attributes)
     }
 
     // A variable without a type.
-    pub fn var(&mut self, name: &str) -> Result<ValueId, AllocError> {
-        self.rhs(name, AssignmentRhs::Var)
+    pub fn var(&mut self, rt: &impl Abort, name: &str) -> ValueId {
+        self.rhs(rt, name, AssignmentRhs::Var)
     }
 
     // A variable of a width in bits.
-    pub fn typed_var(&mut self, name: &str, width: u16) -> Result<ValueId, AllocError> {
+    pub fn typed_var(&mut self, rt: &impl Abort, name: &str, width: u16) -> ValueId {
         let attributes = Vec::new(self.alloc);
-        self.assign(name, Some(Type { width }), AssignmentRhs::Var, attributes)
+        self.assign(
+            rt,
+            name,
+            Some(Type { width }),
+            AssignmentRhs::Var,
+            attributes,
+        )
     }
 
     // A block with this number of predecessors.
-    pub fn block(&mut self, name: &str, predecessors: u32) -> Result<BlockId, AllocError> {
-        let id = self.rhs(name, Block { predecessors }.into())?;
-        Ok(Id::from(id).into())
+    pub fn block(&mut self, rt: &impl Abort, name: &str, predecessors: u32) -> BlockId {
+        let id = self.rhs(rt, name, Block { predecessors }.into());
+        Id::from(id).into()
     }
 
     // A phi over the block, with these values in order.
     pub fn phi(
         &mut self,
+        rt: &impl Abort,
         name: &str,
         block: BlockId,
         values: &[Operand],
-    ) -> Result<ValueId, AllocError> {
-        let values = Vec::from_slice(self.alloc, values)?;
-        self.rhs(name, Phi { block, values }.into())
+    ) -> ValueId {
+        let values = Vec::from_slice(self.alloc, values).expect(rt, "memory");
+        self.rhs(rt, name, Phi { block, values }.into())
     }
 
     // The sum of the operands.
-    pub fn add(&mut self, name: &str, a: Operand, b: Operand) -> Result<ValueId, AllocError> {
-        self.rhs(name, Instruction::Add { a, b }.into())
+    pub fn add(&mut self, rt: &impl Abort, name: &str, a: Operand, b: Operand) -> ValueId {
+        self.rhs(rt, name, Instruction::Add { a, b }.into())
     }
 
     // Appends a path condition.
-    pub fn pc(&mut self, x: Operand, y: Operand) -> Result<(), AllocError> {
-        self.statements.alloc(Pc { x, y }.into())?;
-        Ok(())
+    pub fn pc(&mut self, rt: &impl Abort, x: Operand, y: Operand) {
+        self.statements
+            .alloc(Pc { x, y }.into())
+            .expect(rt, "memory");
     }
 
     // Appends a path condition on a predecessor of the block, counted from 0.
     pub fn block_pc(
         &mut self,
+        rt: &impl Abort,
         block: BlockId,
         predecessor: u32,
         x: Operand,
         y: Operand,
-    ) -> Result<(), AllocError> {
+    ) {
         let block_pc = BlockPc {
             block,
             predecessor,
             x,
             y,
         };
-        self.statements.alloc(block_pc.into())?;
-        Ok(())
+        self.statements.alloc(block_pc.into()).expect(rt, "memory");
     }
 
     // The left-hand side of the statements, with this root.
@@ -161,13 +172,13 @@ pub fn typed(value: i128, width: u16) -> Operand {
 }
 
 // The id of the position, from an arena that is dropped.
-pub fn foreign_id(alloc: Global, index: usize) -> Result<ValueId, AllocError> {
+pub fn foreign_id(rt: &impl Abort, alloc: Global, index: usize) -> ValueId {
     let mut other = Graph::new(alloc);
-    let mut id = other.var("%0")?;
+    let mut id = other.var(rt, "%0");
     for _ in 0..index {
-        id = other.var("%0")?;
+        id = other.var(rt, "%0");
     }
-    Ok(id)
+    id
 }
 
 pub fn equal<T: Copy + PartialEq + Debug>(rt: &impl Abort, found: T, want: T) {
@@ -179,49 +190,52 @@ pub fn is_text(rt: &impl Abort, text: String, want: &str) {
 }
 
 // The text of the item, appended to a line.
-fn appended<I: Item>(alloc: Global, item: &I) -> Result<String, Fail> {
-    let mut text = String::from_str(alloc, "before\n")?;
-    item.append_text(&mut text)?;
-    Ok(text)
+fn appended<I: Item>(rt: &impl Abort, alloc: Global, item: &I) -> String {
+    let mut text = String::from_str(alloc, "before\n").expect(rt, "memory");
+    item.append_text(&mut text).expect(rt, "memory");
+    text
 }
 
 // An item that has a copy.
 pub trait Copied: Item {
     // The text of the copy.
-    fn text_of_copy(&self) -> Result<String, Fail>;
+    fn text_of_copy(&self, rt: &impl Abort) -> String;
 }
 
 impl Copied for LeftHandSide {
-    fn text_of_copy(&self) -> Result<String, Fail> {
-        Ok(self.clone()?.to_text()?)
+    fn text_of_copy(&self, rt: &impl Abort) -> String {
+        self.clone()
+            .expect(rt, "memory")
+            .to_text()
+            .expect(rt, "memory")
     }
 }
 
 impl Copied for RightHandSide {
-    fn text_of_copy(&self) -> Result<String, Fail> {
-        Ok(self.clone()?.to_text()?)
+    fn text_of_copy(&self, rt: &impl Abort) -> String {
+        self.clone()
+            .expect(rt, "memory")
+            .to_text()
+            .expect(rt, "memory")
     }
 }
 
 impl Copied for Replacement {
-    fn text_of_copy(&self) -> Result<String, Fail> {
-        Ok(self.clone()?.to_text()?)
+    fn text_of_copy(&self, rt: &impl Abort) -> String {
+        self.clone()
+            .expect(rt, "memory")
+            .to_text()
+            .expect(rt, "memory")
     }
 }
 
 // The item has this text, by each call that writes it.
-fn is_written<I: Copied + Display>(
-    rt: &impl Abort,
-    alloc: Global,
-    item: &I,
-    want: &str,
-) -> Result<(), Fail> {
-    is_text(rt, item.to_text()?, want);
-    is_text(rt, item.to_string(alloc)?, want);
-    is_text(rt, item.text_of_copy()?, want);
-    let whole = format!(in alloc; "before\n{want}")?;
-    is_text(rt, appended(alloc, item)?, whole.as_str());
-    Ok(())
+fn is_written<I: Copied + Display>(rt: &impl Abort, alloc: Global, item: &I, want: &str) {
+    is_text(rt, item.to_text().expect(rt, "memory"), want);
+    is_text(rt, item.to_string(alloc).expect(rt, "memory"), want);
+    is_text(rt, item.text_of_copy(rt), want);
+    let whole = format!(in alloc; "before\n{want}").expect(rt, "memory");
+    is_text(rt, appended(rt, alloc, item), whole.as_str());
 }
 
 // The item has this text, and is well formed or not.
@@ -231,9 +245,9 @@ pub fn item_is<I: Copied + Display + Drop>(
     item: I,
     want: &str,
     well_formed: bool,
-) -> Result<(), Fail> {
-    equal(rt, item.is_well_formed()?, well_formed);
-    is_written(rt, alloc, &item, want)
+) {
+    equal(rt, item.is_well_formed().expect(rt, "memory"), well_formed);
+    is_written(rt, alloc, &item, want);
 }
 
 // The number of statements in printed order, those before an infer line, and the turns.

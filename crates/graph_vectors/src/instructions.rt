@@ -2,7 +2,6 @@
 use crate::fixtures::number;
 use souper_graph::ast::Instruction;
 use std::process::Abort;
-use std::test::Fail;
 
 macro_rules! one {
     ($variant:ident) => {
@@ -35,7 +34,7 @@ fn word_is(rt: &impl Abort, instruction: Instruction, word: &str, operands: usiz
 }
 
 #[test]
-fn sums_and_products_have_their_words(rt: HostRuntime) -> Result<(), Fail> {
+fn sums_and_products_have_their_words(rt: HostRuntime) {
     word_is(&rt, two!(Add), "add", 2);
     word_is(&rt, two!(AddNsw), "addnsw", 2);
     word_is(&rt, two!(AddNuw), "addnuw", 2);
@@ -48,11 +47,10 @@ fn sums_and_products_have_their_words(rt: HostRuntime) -> Result<(), Fail> {
     word_is(&rt, two!(MulNsw), "mulnsw", 2);
     word_is(&rt, two!(MulNuw), "mulnuw", 2);
     word_is(&rt, two!(MulNw), "mulnw", 2);
-    Ok(())
 }
 
 #[test]
-fn quotients_and_bits_have_their_words(rt: HostRuntime) -> Result<(), Fail> {
+fn quotients_and_bits_have_their_words(rt: HostRuntime) {
     word_is(&rt, two!(Udiv), "udiv", 2);
     word_is(&rt, two!(Sdiv), "sdiv", 2);
     word_is(&rt, two!(UdivExact), "udivexact", 2);
@@ -62,11 +60,10 @@ fn quotients_and_bits_have_their_words(rt: HostRuntime) -> Result<(), Fail> {
     word_is(&rt, two!(And), "and", 2);
     word_is(&rt, two!(Or), "or", 2);
     word_is(&rt, two!(Xor), "xor", 2);
-    Ok(())
 }
 
 #[test]
-fn shifts_have_their_words(rt: HostRuntime) -> Result<(), Fail> {
+fn shifts_have_their_words(rt: HostRuntime) {
     word_is(&rt, two!(Shl), "shl", 2);
     word_is(&rt, two!(ShlNsw), "shlnsw", 2);
     word_is(&rt, two!(ShlNuw), "shlnuw", 2);
@@ -75,22 +72,20 @@ fn shifts_have_their_words(rt: HostRuntime) -> Result<(), Fail> {
     word_is(&rt, two!(LshrExact), "lshrexact", 2);
     word_is(&rt, two!(Ashr), "ashr", 2);
     word_is(&rt, two!(AshrExact), "ashrexact", 2);
-    Ok(())
 }
 
 #[test]
-fn comparisons_have_their_words(rt: HostRuntime) -> Result<(), Fail> {
+fn comparisons_have_their_words(rt: HostRuntime) {
     word_is(&rt, two!(Eq), "eq", 2);
     word_is(&rt, two!(Ne), "ne", 2);
     word_is(&rt, two!(Ult), "ult", 2);
     word_is(&rt, two!(Slt), "slt", 2);
     word_is(&rt, two!(Ule), "ule", 2);
     word_is(&rt, two!(Sle), "sle", 2);
-    Ok(())
 }
 
 #[test]
-fn overflowing_operations_have_their_words(rt: HostRuntime) -> Result<(), Fail> {
+fn overflowing_operations_have_their_words(rt: HostRuntime) {
     word_is(&rt, two!(SaddWithOverflow), "sadd.with.overflow", 2);
     word_is(&rt, two!(UaddWithOverflow), "uadd.with.overflow", 2);
     word_is(&rt, two!(SsubWithOverflow), "ssub.with.overflow", 2);
@@ -102,11 +97,10 @@ fn overflowing_operations_have_their_words(rt: HostRuntime) -> Result<(), Fail> 
     word_is(&rt, two!(SsubSat), "ssub.sat", 2);
     word_is(&rt, two!(UsubSat), "usub.sat", 2);
     word_is(&rt, two!(ExtractValue), "extractvalue", 2);
-    Ok(())
 }
 
 #[test]
-fn other_instructions_have_their_words(rt: HostRuntime) -> Result<(), Fail> {
+fn other_instructions_have_their_words(rt: HostRuntime) {
     word_is(&rt, Instruction::Hole, "hole", 0);
     word_is(&rt, one!(Zext), "zext", 1);
     word_is(&rt, one!(Sext), "sext", 1);
@@ -120,5 +114,4 @@ fn other_instructions_have_their_words(rt: HostRuntime) -> Result<(), Fail> {
     word_is(&rt, three!(Select), "select", 3);
     word_is(&rt, three!(Fshl), "fshl", 3);
     word_is(&rt, three!(Fshr), "fshr", 3);
-    Ok(())
 }

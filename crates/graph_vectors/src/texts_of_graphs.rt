@@ -5,46 +5,46 @@ use souper_graph::ast::{AssignmentRhs, Attribute, BlockId, Id, LeftHandSide, Sta
 use souper_graph::stringify::TextError;
 use std::alloc::{AllocError, Global};
 use std::process::Abort;
-use std::test::Fail;
 
 // A condition on a predecessor of a block with two or three predecessors.
 fn on_a_predecessor(
+    rt: &impl Abort,
     alloc: Global,
     predecessors: u32,
     predecessor: u32,
-) -> Result<LeftHandSide, AllocError> {
+) -> LeftHandSide {
     let mut graph = Graph::new(alloc);
-    let block = graph.block("%bb", predecessors)?;
-    let x = graph.typed_var("%x", 8)?;
-    graph.block_pc(block, predecessor, x.into(), number(1))?;
-    Ok(graph.infer(x))
+    let block = graph.block(rt, "%bb", predecessors);
+    let x = graph.typed_var(rt, "%x", 8);
+    graph.block_pc(rt, block, predecessor, x.into(), number(1));
+    graph.infer(x)
 }
 
 #[test]
-fn predecessor_past_the_last_is_not_well_formed(rt: HostRuntime) -> Result<(), Fail> {
-    let item = on_a_predecessor(rt.alloc(), 2, 2)?;
+fn predecessor_past_the_last_is_not_well_formed(rt: HostRuntime) {
+    let item = on_a_predecessor(&rt, rt.alloc(), 2, 2);
     let text = "%x:i8 = var\n%bb = block 2\nblockpc %bb 2 %x 1\ninfer %x\n";
-    item_is(&rt, rt.alloc(), item, text, false)
+    item_is(&rt, rt.alloc(), item, text, false);
 }
 
 // The condition is changed in the item itself, through a mutable look-up.
 #[test]
-fn changed_condition_is_printed(rt: HostRuntime) -> Result<(), Fail> {
-    let mut item = on_a_predecessor(rt.alloc(), 3, 0)?;
-    let condition = foreign_id(rt.alloc(), 2)?;
+fn changed_condition_is_printed(rt: HostRuntime) {
+    let mut item = on_a_predecessor(&rt, rt.alloc(), 3, 0);
+    let condition = foreign_id(&rt, rt.alloc(), 2);
     match item.statements.get_mut(condition.into()) {
         Some(Statement::BlockPc(block_pc)) => block_pc.predecessor = 2,
-        _ => return Err(Fail::new("no condition")),
+        _ => rt.abort(),
     }
     let text = "%x:i8 = var\n%bb = block 3\nblockpc %bb 2 %x 1\ninfer %x\n";
-    item_is(&rt, rt.alloc(), item, text, true)
+    item_is(&rt, rt.alloc(), item, text, true);
 }
 
 #[test]
-fn same_names_are_not_well_formed(rt: HostRuntime) -> Result<(), Fail> {
+fn same_names_are_not_well_formed(rt: HostRuntime) {
     let mut graph = Graph::new(rt.alloc());
-    let first = graph.var("%1")?;
-    let second = graph.add("%1", first.into(), number(1))?;
+    let first = graph.var(&rt, "%1");
+    let second = graph.add(&rt, "%1", first.into(), number(1));
     let item = graph.infer(second);
     item_is(
         &rt,
@@ -52,15 +52,17 @@ fn same_names_are_not_well_formed(rt: HostRuntime) -> Result<(), Fail> {
         item,
         "%1 = var\n%1 = add %1, 1\ninfer %1\n",
         false,
-    )
+    );
 }
 
 #[test]
-fn empty_bit_lists_are_not_well_formed(rt: HostRuntime) -> Result<(), Fail> {
+fn empty_bit_lists_are_not_well_formed(rt: HostRuntime) {
     let mut graph = Graph::new(rt.alloc());
     let mut attributes = Vec::new(rt.alloc());
-    attributes.push(Attribute::KnownBits(Vec::new(rt.alloc())))?;
-    let x = graph.assign("%x", None, AssignmentRhs::Var, attributes)?;
+    attributes
+        .push(Attribute::KnownBits(Vec::new(rt.alloc())))
+        .expect(&rt, "memory");
+    let x = graph.assign(&rt, "%x", None, AssignmentRhs::Var, attributes);
     let item = graph.infer(x);
     item_is(
         &rt,
@@ -68,154 +70,165 @@ fn empty_bit_lists_are_not_well_formed(rt: HostRuntime) -> Result<(), Fail> {
         item,
         "%x = var (knownBits=)\ninfer %x\n",
         false,
-    )
+    );
 }
 
 #[test]
-fn phi_without_a_value_of_each_predecessor_is_not_well_formed(rt: HostRuntime) -> Result<(), Fail> {
+fn phi_without_a_value_of_each_predecessor_is_not_well_formed(rt: HostRuntime) {
     let mut graph = Graph::new(rt.alloc());
-    let block = graph.block("%b", 2)?;
-    let phi = graph.phi("%p", block, &[])?;
+    let block = graph.block(&rt, "%b", 2);
+    let phi = graph.phi(&rt, "%p", block, &[]);
     let text = "%b = block 2\n%p = phi %b\ninfer %p\n";
-    item_is(&rt, rt.alloc(), graph.infer(phi), text, false)
+    item_is(&rt, rt.alloc(), graph.infer(phi), text, false);
 }
 
 #[test]
-fn widths_of_constant_roots_are_judged(rt: HostRuntime) -> Result<(), Fail> {
+fn widths_of_constant_roots_are_judged(rt: HostRuntime) {
     let item = Graph::new(rt.alloc()).result(typed(1, 0));
-    item_is(&rt, rt.alloc(), item, "result 1:i0", false)?;
+    item_is(&rt, rt.alloc(), item, "result 1:i0", false);
     let item = Graph::new(rt.alloc()).cand(number(1), typed(2, 65535));
-    item_is(&rt, rt.alloc(), item, "cand 1 2:i65535\n", true)
+    item_is(&rt, rt.alloc(), item, "cand 1 2:i65535\n", true);
 }
 
 #[test]
-fn unneeded_statements_are_neither_printed_nor_judged(rt: HostRuntime) -> Result<(), Fail> {
-    let foreign = foreign_id(rt.alloc(), 9)?;
+fn unneeded_statements_are_neither_printed_nor_judged(rt: HostRuntime) {
+    let foreign = foreign_id(&rt, rt.alloc(), 9);
     let mut graph = Graph::new(rt.alloc());
-    let x = graph.var("%x")?;
-    graph.var("% y")?;
-    graph.add("%x", foreign.into(), number(1))?;
+    let x = graph.var(&rt, "%x");
+    graph.var(&rt, "% y");
+    graph.add(&rt, "%x", foreign.into(), number(1));
     let item = graph.infer(x);
-    equal(&rt, item.clone()?.statements.len(), 3);
-    item_is(&rt, rt.alloc(), item, "%x = var\ninfer %x\n", true)
+    equal(&rt, item.clone().expect(&rt, "memory").statements.len(), 3);
+    item_is(&rt, rt.alloc(), item, "%x = var\ninfer %x\n", true);
 }
 
 // What a refused call leaves of the text that it appends to, and its error.
-fn refused_append(alloc: Global, item: &LeftHandSide) -> Result<(String, Option<TextError>), Fail> {
-    let mut text = String::from_str(alloc, "before")?;
-    let error = item.append_text(&mut text).err();
-    Ok((text, error))
-}
-
-// The error of an item, by each of its texts.
-fn refused(
+fn refused_append(
     rt: &impl Abort,
     alloc: Global,
     item: &LeftHandSide,
-    want: TextError,
-) -> Result<(), Fail> {
-    equal(rt, item.to_text().err(), Some(want));
-    equal(rt, item.print_order().err(), Some(want));
+) -> (String, Option<TextError>) {
+    let mut text = String::from_str(alloc, "before").expect(rt, "memory");
+    let error = item.append_text(&mut text).err();
+    (text, error)
+}
+
+// The error of an item, by each of its texts.
+fn refused(rt: &impl Abort, alloc: Global, item: &LeftHandSide, want: TextError) {
+    has_no_text(rt, item, &want);
+    has_no_order(rt, item, &want);
     equal(rt, item.to_string(alloc).is_err(), true);
-    equal(rt, item.is_well_formed()?, false);
-    let (text, error) = refused_append(alloc, item)?;
-    equal(rt, error, Some(want));
+    equal(rt, item.is_well_formed().expect(rt, "memory"), false);
+    is_not_appended(rt, alloc, item, &want);
+}
+
+fn has_no_text(rt: &impl Abort, item: &LeftHandSide, want: &TextError) {
+    equal(rt, item.to_text().err(), Some(*want));
+}
+
+fn has_no_order(rt: &impl Abort, item: &LeftHandSide, want: &TextError) {
+    equal(rt, item.print_order().err(), Some(*want));
+}
+
+fn is_not_appended(rt: &impl Abort, alloc: Global, item: &LeftHandSide, want: &TextError) {
+    let (text, error) = refused_append(rt, alloc, item);
+    equal(rt, error, Some(*want));
     is_text(rt, text, "before");
-    Ok(())
 }
 
 #[test]
-fn root_out_of_range_is_reported(rt: HostRuntime) -> Result<(), Fail> {
-    let root = foreign_id(rt.alloc(), 2)?;
+fn root_out_of_range_is_reported(rt: HostRuntime) {
+    let root = foreign_id(&rt, rt.alloc(), 2);
     let mut graph = Graph::new(rt.alloc());
-    graph.var("%0")?;
+    graph.var(&rt, "%0");
     let item = graph.infer(root);
-    refused(&rt, rt.alloc(), &item, TextError::OutOfRange(root.into()))
+    refused(&rt, rt.alloc(), &item, TextError::OutOfRange(root.into()));
 }
 
 #[test]
-fn root_that_is_a_condition_is_reported(rt: HostRuntime) -> Result<(), Fail> {
-    let root = foreign_id(rt.alloc(), 1)?;
+fn root_that_is_a_condition_is_reported(rt: HostRuntime) {
+    let root = foreign_id(&rt, rt.alloc(), 1);
     let mut graph = Graph::new(rt.alloc());
-    let x = graph.var("%0")?;
-    graph.pc(x.into(), number(1))?;
+    let x = graph.var(&rt, "%0");
+    graph.pc(&rt, x.into(), number(1));
     let item = graph.infer(root);
     refused(
         &rt,
         rt.alloc(),
         &item,
         TextError::NotAnAssignment(root.into()),
-    )
+    );
 }
 
 #[test]
-fn phi_over_no_block_is_reported(rt: HostRuntime) -> Result<(), Fail> {
-    let first = foreign_id(rt.alloc(), 0)?;
+fn phi_over_no_block_is_reported(rt: HostRuntime) {
+    let first = foreign_id(&rt, rt.alloc(), 0);
     let mut graph = Graph::new(rt.alloc());
-    graph.var("%0")?;
-    let phi = graph.phi("%1", BlockId::from(Id::from(first)), &[])?;
+    graph.var(&rt, "%0");
+    let phi = graph.phi(&rt, "%1", BlockId::from(Id::from(first)), &[]);
     let item = graph.infer(phi);
-    refused(&rt, rt.alloc(), &item, TextError::NotABlock(first.into()))
+    refused(&rt, rt.alloc(), &item, TextError::NotABlock(first.into()));
 }
 
 #[test]
-fn condition_over_a_bad_id_is_reported(rt: HostRuntime) -> Result<(), Fail> {
-    let foreign = foreign_id(rt.alloc(), 9)?;
+fn condition_over_a_bad_id_is_reported(rt: HostRuntime) {
+    let foreign = foreign_id(&rt, rt.alloc(), 9);
     let mut graph = Graph::new(rt.alloc());
-    let x = graph.var("%0")?;
-    graph.pc(foreign.into(), number(1))?;
+    let x = graph.var(&rt, "%0");
+    graph.pc(&rt, foreign.into(), number(1));
     let item = graph.infer(x);
     refused(
         &rt,
         rt.alloc(),
         &item,
         TextError::OutOfRange(foreign.into()),
-    )
+    );
 }
 
 #[test]
-fn one_of_two_bad_ids_is_reported(rt: HostRuntime) -> Result<(), Fail> {
-    let foreign = foreign_id(rt.alloc(), 9)?;
-    let root = foreign_id(rt.alloc(), 1)?;
+fn one_of_two_bad_ids_is_reported(rt: HostRuntime) {
+    let foreign = foreign_id(&rt, rt.alloc(), 9);
+    let root = foreign_id(&rt, rt.alloc(), 1);
     let mut graph = Graph::new(rt.alloc());
-    graph.var("%0")?;
-    graph.pc(foreign.into(), number(1))?;
+    graph.var(&rt, "%0");
+    graph.pc(&rt, foreign.into(), number(1));
     let item = graph.infer(root);
     let error = item.to_text().err();
     let known = error == Some(TextError::OutOfRange(foreign.into()))
         || error == Some(TextError::NotAnAssignment(root.into()));
     equal(&rt, known, true);
-    Ok(())
 }
 
 #[test]
-fn statement_that_uses_itself_has_a_text(rt: HostRuntime) -> Result<(), Fail> {
-    let first = foreign_id(rt.alloc(), 0)?;
+fn statement_that_uses_itself_has_a_text(rt: HostRuntime) {
+    let first = foreign_id(&rt, rt.alloc(), 0);
     let mut graph = Graph::new(rt.alloc());
-    let own = graph.add("%0", first.into(), number(1))?;
+    let own = graph.add(&rt, "%0", first.into(), number(1));
     let item = graph.infer(own);
-    has_counts(&rt, item.print_order()?, (1, 1, 3));
-    item_is(&rt, rt.alloc(), item, "%0 = add %0, 1\ninfer %0\n", false)
+    has_counts(&rt, item.print_order().expect(&rt, "memory"), (1, 1, 3));
+    item_is(&rt, rt.alloc(), item, "%0 = add %0, 1\ninfer %0\n", false);
 }
 
 // The item is not well formed, has a text that ends so, and so many needed statements.
-fn ends_with(
-    rt: &impl Abort,
-    item: &LeftHandSide,
-    end: &str,
-    statements: usize,
-) -> Result<(), Fail> {
-    equal(rt, item.is_well_formed()?, false);
-    equal(rt, item.to_text()?.as_str().ends_with(end), true);
-    equal(rt, item.print_order()?.ids.len(), statements);
-    Ok(())
+fn ends_with(rt: &impl Abort, item: &LeftHandSide, end: &str, statements: usize) {
+    equal(rt, item.is_well_formed().expect(rt, "memory"), false);
+    equal(
+        rt,
+        item.to_text().expect(rt, "memory").as_str().ends_with(end),
+        true,
+    );
+    equal(
+        rt,
+        item.print_order().expect(rt, "memory").ids.len(),
+        statements,
+    );
 }
 
 #[test]
-fn statements_that_use_each_other_have_a_text(rt: HostRuntime) -> Result<(), Fail> {
-    let second = foreign_id(rt.alloc(), 1)?;
+fn statements_that_use_each_other_have_a_text(rt: HostRuntime) {
+    let second = foreign_id(&rt, rt.alloc(), 1);
     let mut graph = Graph::new(rt.alloc());
-    let a = graph.add("%a", second.into(), number(1))?;
-    let b = graph.add("%b", a.into(), number(1))?;
-    ends_with(&rt, &graph.infer(b), "infer %b\n", 2)
+    let a = graph.add(&rt, "%a", second.into(), number(1));
+    let b = graph.add(&rt, "%b", a.into(), number(1));
+    ends_with(&rt, &graph.infer(b), "infer %b\n", 2);
 }

@@ -3,7 +3,6 @@ use souper_ir::parse::{Parse, ParseError, ParseErrorKind, Parser, Peek};
 use std::alloc::Global;
 use std::fmt::Debug;
 use std::process::Abort;
-use std::test::Fail;
 
 pub fn equal<T: Copy + PartialEq + Debug>(rt: &impl Abort, found: T, want: T) {
     assert_eq!(rt; found, want);
@@ -20,8 +19,8 @@ pub fn reports(
     error: Option<ParseError>,
     offset: usize,
     message: &str,
-) -> Result<(), Fail> {
-    let error = error.ok_or("no refusal")?;
+) {
+    let error = error.expect(rt, "no refusal");
     equal(
         rt,
         (error.kind(), error.offset()),
@@ -29,10 +28,17 @@ pub fn reports(
     );
     let want = format!(in alloc;
         "unknown:1:1: {message}\n     |\n   1 | byte offset {offset}\n     | ^"
-    )?;
-    is_text(rt, error.to_string(alloc)?, want.as_str());
-    is_text(rt, format!(in alloc; "{error:?}")?, want.as_str());
-    Ok(())
+    ).expect(rt, "memory");
+    is_text(
+        rt,
+        error.to_string(alloc).expect(rt, "memory"),
+        want.as_str(),
+    );
+    is_text(
+        rt,
+        format!(in alloc; "{error:?}").expect(rt, "memory"),
+        want.as_str(),
+    );
 }
 
 // The source begins with no value: the parser refuses it so.
@@ -42,8 +48,8 @@ pub fn refuses<P: Parse + Drop>(
     source: &str,
     offset: usize,
     message: &str,
-) -> Result<(), Fail> {
-    refuses_next::<P>(rt, alloc, &mut Parser::new(alloc, source), offset, message)
+) {
+    refuses_next::<P>(rt, alloc, &mut Parser::new(alloc, source), offset, message);
 }
 
 // The parser refuses what comes next so, and then stays failed at the same offset.
@@ -53,9 +59,9 @@ pub fn refuses_next<P: Parse + Drop>(
     parser: &mut Parser<'_>,
     offset: usize,
     message: &str,
-) -> Result<(), Fail> {
-    reports(rt, alloc, P::parse(parser).err(), offset, message)?;
-    has_failed::<P>(rt, alloc, parser, offset)
+) {
+    reports(rt, alloc, P::parse(parser).err(), offset, message);
+    has_failed::<P>(rt, alloc, parser, offset);
 }
 
 // The parser has failed at the offset.
@@ -64,9 +70,9 @@ pub fn has_failed<P: Parse + Drop>(
     alloc: Global,
     parser: &mut Parser<'_>,
     offset: usize,
-) -> Result<(), Fail> {
+) {
     let message = "the parser has already failed";
-    reports(rt, alloc, P::parse(parser).err(), offset, message)
+    reports(rt, alloc, P::parse(parser).err(), offset, message);
 }
 
 // A look ahead is refused so.
@@ -76,6 +82,6 @@ pub fn refuses_to_peek<P: Peek>(
     parser: &mut Parser<'_>,
     offset: usize,
     message: &str,
-) -> Result<(), Fail> {
-    reports(rt, alloc, P::peek(parser).err(), offset, message)
+) {
+    reports(rt, alloc, P::peek(parser).err(), offset, message);
 }

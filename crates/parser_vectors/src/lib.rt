@@ -1,4 +1,4 @@
-//! Tests of the lexer and of parsers that are used directly, and types of a user of the parser.
+//! Tests of the lexer and of parsers that are used directly, types of a user of the parser, and a caller that counts.
 //!
 //! The values of the tests were worked out by hand from the rules of the language.
 #![tactic(auto)]
@@ -7,6 +7,7 @@
 mod attributes;
 #[cfg(test)]
 mod checks;
+pub mod counting;
 pub mod pairs;
 #[cfg(test)]
 mod parsers;

@@ -1,18 +1,23 @@
-//! Tests from text to text, and the texts that these and other tests read.
+//! Tests from text to text: items that are read and printed, refusals, streams, and the runs of both programs.
 //!
 //! The values of the tests were worked out by hand from the rules of the language.
 #![tactic(auto)]
 
 #[cfg(test)]
-mod kept;
+mod checks;
 #[cfg(test)]
-mod orders;
+mod comparison;
 #[cfg(test)]
-mod renaming;
+mod faulty;
 #[cfg(test)]
-mod rows;
-pub mod sources;
+mod program;
 #[cfg(test)]
-mod table;
+mod records;
+#[cfg(test)]
+mod refusals;
+#[cfg(test)]
+mod sources;
+#[cfg(test)]
+mod streams;
 #[cfg(test)]
 mod texts;

@@ -1,0 +1,9 @@
+//! The functions of the program for stores: the records of items.
+mod checks;
+mod faults;
+mod going_on;
+mod layouts;
+mod objects;
+mod streams;
+mod support;
+mod uniques;

@@ -1,0 +1,52 @@
+//! Whether streams are canonical.
+use crate::checks::equal;
+use crate::records::support::headed;
+use souper_format::watched::Watched;
+use souper_ir::ast::{LeftHandSide, RightHandSide};
+use souper_records::check::check_run;
+use souper_stream::StreamItem;
+use std::alloc::Global;
+use std::io::BufReader;
+use std::process::Abort;
+
+// A check of the text has this status, and reports lines with this head.
+fn is_told<T: StreamItem + Drop>(rt: &impl Abort, alloc: Global, source: &[u8], want: (u8, &str)) {
+    let mut reader = BufReader::new(alloc, source).expect(rt, "memory");
+    let mut reported = Vec::new(alloc);
+    let mut err = Watched::new(&mut reported);
+    let status = check_run::<T, BufReader<&[u8]>, &mut Vec<u8>>(
+        alloc,
+        &mut reader,
+        "a.opt",
+        &mut err,
+    );
+    let found = (status, headed(&reported, want.1));
+    equal(rt, (source, found), (source, want));
+}
+
+fn is_lhs_told(rt: &impl Abort, alloc: Global, source: &[u8], want: (u8, &str)) {
+    is_told::<LeftHandSide>(rt, alloc, source, want);
+}
+
+#[test]
+fn records_are_canonical(rt: HostRuntime) {
+    is_lhs_told(&rt, rt.alloc(), b"", (0, ""));
+    let source = b"%x = var\ninfer %x\n\n%y = var\ninfer %y\n\n";
+    is_lhs_told(&rt, rt.alloc(), source, (0, ""));
+    let source = b"result 1:i8\n\nresult 2:i8\n\n";
+    is_told::<RightHandSide>(&rt, rt.alloc(), source, (0, ""));
+}
+
+#[test]
+fn other_texts_are_told(rt: HostRuntime) {
+    let alloc = rt.alloc();
+    let want = (1, "souper_items: a.opt: not canonical\n");
+    is_lhs_told(&rt, alloc, b"%x = var\ninfer %x\n", want);
+    is_lhs_told(&rt, alloc, b"%x = var\ninfer %x\n\n\n", want);
+    is_lhs_told(&rt, alloc, b"%x = var\ninfer %x\n\n; end\n", want);
+    is_lhs_told(&rt, alloc, b"%x = var\n%y = var\ninfer %x\n\n", want);
+    is_lhs_told(&rt, alloc, b"\n", want);
+    is_told::<RightHandSide>(&rt, alloc, b"result 1:i8\n", want);
+    is_lhs_told(&rt, alloc, b"%x = var\ninfer %y\n", (1, "a.opt:2:6: "));
+    is_lhs_told(&rt, alloc, b"\xff", (2, "souper_items: a.opt: "));
+}

@@ -1,0 +1,123 @@
+//! Reads and writes that fail.
+use crate::checks::equal;
+use crate::faulty::{FaultyReader, FaultyWriter};
+use crate::records::support::{did, headed, run_over};
+use souper_format::watched::Watched;
+use souper_ir::ast::LeftHandSide;
+use souper_records::layout::PLAIN;
+use souper_records::run::each_run;
+use std::alloc::Global;
+use std::io;
+use std::io::{BufReader, ErrorKind, Read};
+use std::process::Abort;
+
+// How the line of a failed read begins.
+const READ_ERROR: &str = "souper_items: a.opt: ";
+
+// How the line of a failed write begins.
+const WRITE_ERROR: &str = "souper_items: write error: ";
+
+// A reader whose reads fail for good after these bytes.
+#[derive(Drop)]
+struct BrokenReader<'a> {
+    rest: &'a [u8],
+}
+
+impl Read for BrokenReader<'_> {
+    fn read(&mut self, buf: &mut [u8]) -> io::Result<usize> {
+        if self.rest.is_empty() {
+            return Err(io::Error::from(ErrorKind::BrokenPipe));
+        }
+        self.rest.read(buf)
+    }
+}
+
+#[test]
+fn failed_read_is_reported(rt: HostRuntime) {
+    let source = BrokenReader {
+        rest: b"%x = var\ninfer %x\n%y = var\n",
+    };
+    let mut reader = BufReader::with_capacity(rt.alloc(), 3, source).expect(&rt, "memory");
+    let run = run_over::<LeftHandSide, BufReader<BrokenReader<'_>>>(rt.alloc(), PLAIN, &mut reader);
+    did(&rt, run, (2, "", READ_ERROR));
+}
+
+// The status of a run that is refused and whose report fails after so many calls, and whether the report failed.
+fn failed_report(rt: &impl Abort, alloc: Global, after: usize) -> (u8, bool) {
+    let mut reader = BufReader::new(alloc, b"infer %x\n".as_slice()).expect(rt, "memory");
+    let mut written = Vec::new(alloc);
+    let mut out = Watched::new(&mut written);
+    let mut err = Watched::new(FaultyWriter::new(5, after));
+    let status = each_run::<LeftHandSide, BufReader<&[u8]>, &mut Vec<u8>, FaultyWriter>(
+        alloc,
+        PLAIN,
+        &mut reader,
+        "a.opt",
+        &mut out,
+        &mut err,
+    );
+    (status, err.failed())
+}
+
+// If the report cannot be written, the status is that of the refusal.
+#[test]
+fn failed_report_leaves_the_status(rt: HostRuntime) {
+    for after in 0..4 {
+        let found = failed_report(&rt, rt.alloc(), after);
+        equal(&rt, (after, found), (after, (1, true)));
+    }
+}
+
+#[test]
+fn bytes_that_are_no_text_are_reported(rt: HostRuntime) {
+    let source = b"%x = var\ninfer %x\n\xff".as_slice();
+    let mut reader = BufReader::new(rt.alloc(), source).expect(&rt, "memory");
+    let run = run_over::<LeftHandSide, BufReader<&[u8]>>(rt.alloc(), PLAIN, &mut reader);
+    let found = (run.status, headed(&run.err, READ_ERROR));
+    equal(&rt, found, (2, READ_ERROR));
+}
+
+// A run in which one read is interrupted.
+fn is_tried_again(rt: &impl Abort, alloc: Global, after: usize) {
+    let source = FaultyReader::new(b"%x = var\ninfer %x\n", 5, after);
+    let mut reader = BufReader::with_capacity(alloc, 3, source).expect(rt, "memory");
+    let run = run_over::<LeftHandSide, BufReader<FaultyReader<'_>>>(alloc, PLAIN, &mut reader);
+    did(rt, run, (0, "%x = var\ninfer %x\n\n", ""));
+}
+
+// An interrupted read is tried again.
+#[test]
+fn interrupted_read_is_tried_again(rt: HostRuntime) {
+    for after in 0..8 {
+        is_tried_again(&rt, rt.alloc(), after);
+    }
+}
+
+// A run has this status, and reports a line with this head. A call of the writer fails or not.
+fn writes(rt: &impl Abort, alloc: Global, after: usize, fails: bool, want: (u8, &str)) {
+    let source = b"%x = var\ninfer %x\n".as_slice();
+    let mut reader = BufReader::new(alloc, source).expect(rt, "memory");
+    let mut reported = Vec::new(alloc);
+    let mut err = Watched::new(&mut reported);
+    let mut out = Watched::new(FaultyWriter::new(5, after));
+    let status = each_run::<LeftHandSide, BufReader<&[u8]>, FaultyWriter, &mut Vec<u8>>(
+        alloc,
+        PLAIN,
+        &mut reader,
+        "a.opt",
+        &mut out,
+        &mut err,
+    );
+    let failed = out.failed();
+    let found = (status, headed(&reported, want.1));
+    equal(rt, (after, failed, found), (after, fails, want));
+}
+
+// The 19 bytes go in four writes, and a fifth call flushes.
+#[test]
+fn failed_write_is_reported(rt: HostRuntime) {
+    for after in 0..5 {
+        writes(&rt, rt.alloc(), after, true, (2, WRITE_ERROR));
+    }
+    writes(&rt, rt.alloc(), 5, false, (0, ""));
+}

@@ -1,0 +1,138 @@
+//! JSON objects of items and of refusals.
+use crate::checks::{Ran, equal, text};
+use crate::faulty::FaultyWriter;
+use crate::records::support::Run;
+use souper_format::watched::Watched;
+use souper_ir::ast::{LeftHandSide, RightHandSide};
+use souper_records::run::objects_run;
+use souper_stream::StreamItem;
+use std::alloc::Global;
+use std::io::{BufRead, BufReader};
+use std::process::Abort;
+
+const NAME: &str = r#"a "b"\c.opt"#;
+
+fn objects_over<T: StreamItem + Drop, R: BufRead>(
+    alloc: Global,
+    rename: bool,
+    reader: &mut R,
+) -> Run {
+    let mut written = Vec::new(alloc);
+    let mut reported = Vec::new(alloc);
+    let mut out = Watched::new(&mut written);
+    let mut err = Watched::new(&mut reported);
+    let status = objects_run::<T, R, &mut Vec<u8>, &mut Vec<u8>>(
+        alloc, rename, reader, NAME, &mut out, &mut err,
+    );
+    Run {
+        status,
+        out: written,
+        err: reported,
+    }
+}
+
+// What a run over the text does, with so many bytes a read. All of what it reports is compared.
+fn objects_do<T: StreamItem + Drop>(
+    rt: &impl Abort,
+    alloc: Global,
+    rename: bool,
+    (source, capacity): (&str, usize),
+    want: Ran<'_>,
+) {
+    let bytes = source.as_bytes();
+    let mut reader = BufReader::with_capacity(alloc, capacity, bytes).expect(rt, source);
+    let run = objects_over::<T, BufReader<&[u8]>>(alloc, rename, &mut reader);
+    let found = (run.status, text(&run.out), text(&run.err));
+    equal(rt, found, want);
+}
+
+const SOURCE: &str = "; a comment at the head
+
+%0:i32 = var
+infer %0
+; another, with infer %0
+%1:i32 = foo %0
+infer %1
+
+
+%a = var
+%b = addnw %a, 1:i8
+pc %b 0
+infer %b (harvestedFromUse)
+";
+
+const OBJECTS: &str =
+    r#"{"file":"a \"b\"\\c.opt","key":"9ab2c4fc084674aeb23a5e4d7efe9e8c77a57da1de4e8c3c53440204b97cc386","line":3,"text":"%0:i32 = var\ninfer %0\n"}
+{"column":9,"file":"a \"b\"\\c.opt","line":6,"message":"expected a constant, var, block, phi, or instruction","offset":81}
+{"file":"a \"b\"\\c.opt","key":"743f1d3c80c8d473ae08780d477c237548e5bf612101b71798227faa2f68c740","line":10,"text":"%a = var\n%b = addnw %a, 1:i8\npc %b 0\ninfer %b (harvestedFromUse)\n"}
+"#;
+
+const RENAMED: &str =
+    r#"{"file":"a \"b\"\\c.opt","key":"9ab2c4fc084674aeb23a5e4d7efe9e8c77a57da1de4e8c3c53440204b97cc386","line":3,"text":"%0:i32 = var\ninfer %0\n"}
+{"column":9,"file":"a \"b\"\\c.opt","line":6,"message":"expected a constant, var, block, phi, or instruction","offset":81}
+{"file":"a \"b\"\\c.opt","key":"ca1cc899a40cb193c8d4e5dfb3c248150826fd53a0988123537a897226b0fadf","line":10,"text":"%0 = var\n%1 = addnw %0, 1:i8\npc %1 0\ninfer %1 (harvestedFromUse)\n"}
+"#;
+
+const REPORTED: &str = r#"a "b"\c.opt:6:9: expected a constant, var, block, phi, or instruction
+     |
+   6 | %1:i32 = foo %0
+     |         ^
+"#;
+
+// The keys are those of sha256sum, the lines were counted by hand.
+#[test]
+fn objects_have_text_key_file_and_line(rt: HostRuntime) {
+    let alloc = rt.alloc();
+    let want = (1, OBJECTS, REPORTED);
+    objects_do::<LeftHandSide>(&rt, alloc, false, (SOURCE, 1), want);
+    objects_do::<LeftHandSide>(&rt, alloc, false, (SOURCE, 4096), want);
+    objects_do::<LeftHandSide>(&rt, alloc, true, (SOURCE, 7), (1, RENAMED, REPORTED));
+    objects_do::<LeftHandSide>(&rt, alloc, true, ("; nothing\n", 7), (0, "", ""));
+}
+
+const LINE: &str =
+    r#"{"file":"a \"b\"\\c.opt","key":"400a936d0ac7637324413df9aaf2067ff68468e602a5446af1e454878b5bad1e","line":1,"text":"result 1"}
+{"file":"a \"b\"\\c.opt","key":"096e929abe31157e5a522fecfe1333bb96b3252e9ee74923b6e9027206c4d068","line":1,"text":"result 2"}
+{"column":25,"file":"a \"b\"\\c.opt","line":1,"message":"expected an integer literal","offset":25}
+{"file":"a \"b\"\\c.opt","key":"8820375044723d31ea806186b0a729943dfbc2f1a594579823d2f6d9e07749c0","line":2,"text":"result 3"}
+{"file":"a \"b\"\\c.opt","key":"cbc48443813dad8f0918dcb489d7cf560db31473b8b1e5fa932b9394d7f7b278","line":3,"text":"result 4"}
+"#;
+
+const LINE_REPORTED: &str = r#"a "b"\c.opt:1:25: expected an integer literal
+     |
+   1 | result 1 result 2 result result
+     |                         ^
+"#;
+
+// A refusal comes after the items that its piece begins with, which have the line of the first of them.
+#[test]
+fn items_of_a_piece_have_its_line(rt: HostRuntime) {
+    let source = "result 1 result 2 result result\nresult 3\nresult 4";
+    let want = (1, LINE, LINE_REPORTED);
+    objects_do::<RightHandSide>(&rt, rt.alloc(), false, (source, 3), want);
+}
+
+// The status of a run whose output fails after so many calls, and whether it failed.
+fn failed_output(rt: &impl Abort, alloc: Global, after: usize) -> (u8, bool) {
+    let mut reader = BufReader::new(alloc, SOURCE.as_bytes()).expect(rt, SOURCE);
+    let mut reported = Vec::new(alloc);
+    let mut out = Watched::new(FaultyWriter::new(50, after));
+    let mut err = Watched::new(&mut reported);
+    let status = objects_run::<LeftHandSide, BufReader<&[u8]>, FaultyWriter, &mut Vec<u8>>(
+        alloc,
+        false,
+        &mut reader,
+        NAME,
+        &mut out,
+        &mut err,
+    );
+    (status, out.failed())
+}
+
+#[test]
+fn failed_output_has_status_2(rt: HostRuntime) {
+    for after in 0..6 {
+        let found = failed_output(&rt, rt.alloc(), after);
+        equal(&rt, (after, found), (after, (2, true)));
+    }
+}

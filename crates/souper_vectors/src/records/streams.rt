@@ -1,0 +1,87 @@
+//! The records of a stream are those of its items, whatever the reads give.
+use crate::checks::{equal, text};
+use crate::records::support::{Run, headed, run_over, runs};
+use crate::sources::{ATTRIBUTES, BLOCKS, GAPS, PAIRS, RESULTS, VALUES};
+use souper_format::command::Kind;
+use souper_format::items::format_text;
+use souper_ir::ast::{LeftHandSide, Replacement};
+use souper_records::layout::PLAIN;
+use souper_stream::StreamItem;
+use std::alloc::Global;
+use std::io::BufReader;
+use std::process::Abort;
+
+// The texts, each on lines of its own.
+fn joined(rt: &impl Abort, alloc: Global, sources: &[&str]) -> String {
+    let mut all = String::new(alloc);
+    for source in sources {
+        all.push_str(source).expect(rt, source);
+        all.push('\n').expect(rt, source);
+    }
+    all
+}
+
+// The records of these texts one after the other are what the formatter writes.
+fn is_formatted<T: StreamItem + Drop>(
+    rt: &impl Abort,
+    alloc: Global,
+    kind: Kind,
+    sources: &[&str],
+) {
+    let all = joined(rt, alloc, sources);
+    let text = format_text(alloc, kind, all.as_str(), None).expect(rt, all.as_str());
+    for capacity in [1, 7, 4096] {
+        let want = (0, text.as_str(), "");
+        runs::<T>(rt, alloc, PLAIN, (all.as_str(), capacity), want);
+    }
+}
+
+#[test]
+fn records_are_what_the_formatter_writes(rt: HostRuntime) {
+    is_formatted::<LeftHandSide>(&rt, rt.alloc(), Kind::Lhs, GAPS.as_slice());
+    is_formatted::<LeftHandSide>(&rt, rt.alloc(), Kind::Lhs, VALUES.as_slice());
+    is_formatted::<LeftHandSide>(&rt, rt.alloc(), Kind::Lhs, BLOCKS.as_slice());
+    is_formatted::<LeftHandSide>(&rt, rt.alloc(), Kind::Lhs, ATTRIBUTES.as_slice());
+    is_formatted::<Replacement>(&rt, rt.alloc(), Kind::Rep, PAIRS.as_slice());
+    is_formatted::<Replacement>(&rt, rt.alloc(), Kind::Rep, RESULTS.as_slice());
+}
+
+// So many left-hand sides, as they are written.
+fn good_ones(rt: &impl Abort, alloc: Global, count: usize) -> String {
+    let mut source = String::new(alloc);
+    for _ in 0..count {
+        source
+            .push_str("%a = var\ninfer %a\n\n")
+            .expect(rt, "memory");
+    }
+    source
+}
+
+// The text, and then an item that is refused and one that would not be.
+fn with_refused(rt: &impl Abort, alloc: Global, good: &str) -> String {
+    format!(in alloc; "{good}%b = foo\ninfer %b\n\n%c = var\ninfer %c\n").expect(rt, good)
+}
+
+// The run wrote what is good, and told of the refusal at this place.
+fn is_refused(rt: &impl Abort, run: Run, good: &str, place: &str) {
+    let shows = text(&run.err).contains("%b = foo\n");
+    let found = (run.status, text(&run.out), headed(&run.err, place));
+    equal(rt, (found, shows), ((1, good, place), true));
+}
+
+// So many items are written before the refusal at this place.
+fn writes_before(rt: &impl Abort, alloc: Global, count: usize, place: &str) {
+    let good = good_ones(rt, alloc, count);
+    let source = with_refused(rt, alloc, good.as_str());
+    let mut reader = BufReader::with_capacity(alloc, 4096, source.as_bytes()).expect(rt, place);
+    let run = run_over::<LeftHandSide, BufReader<&[u8]>>(alloc, PLAIN, &mut reader);
+    is_refused(rt, run, good.as_str(), place);
+}
+
+#[test]
+fn items_before_a_refusal_are_written(rt: HostRuntime) {
+    writes_before(&rt, rt.alloc(), 0, "a.opt:1:5: ");
+    writes_before(&rt, rt.alloc(), 1, "a.opt:4:5: ");
+    writes_before(&rt, rt.alloc(), 2, "a.opt:7:5: ");
+    writes_before(&rt, rt.alloc(), 5000, "a.opt:15001:5: ");
+}

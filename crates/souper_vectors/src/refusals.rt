@@ -1,0 +1,6 @@
+//! Texts that are refused.
+mod changed;
+mod cuts;
+mod places;
+mod reports;
+mod table;

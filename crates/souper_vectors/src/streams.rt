@@ -1,0 +1,3 @@
+//! Items that are read from streams.
+mod items;
+mod refusals;

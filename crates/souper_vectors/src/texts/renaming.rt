@@ -1,0 +1,68 @@
+//! Items that are named by their printed order.
+use crate::checks::{equal, is_text};
+use crate::texts::rows::read_row;
+use crate::texts::table::RENAMED;
+use souper_format::command::Kind;
+use souper_format::items::{Items, read_items};
+use souper_ir::ast::{Item, Statement};
+use souper_ir::parse::parse_left_hand_sides_str;
+use std::alloc::Global;
+use std::process::Abort;
+
+fn renamed<I: Item + Drop>(rt: &impl Abort, item: &I) -> I {
+    item.renamed().expect(rt, "a renamed item")
+}
+
+fn text_of<I: Item + Drop>(rt: &impl Abort, item: &I) -> String {
+    item.to_text().expect(rt, "a text")
+}
+
+// The text of the renamed first item, which is well formed, and renamed to itself.
+fn text_of_first<I: Item + Drop>(rt: &impl Abort, items: &[I]) -> String {
+    let copy = renamed(rt, items.first().expect(rt, "an item"));
+    equal(rt, copy.is_well_formed().expect(rt, "memory"), true);
+    let text = text_of(rt, &copy);
+    let again = renamed(rt, &copy);
+    is_text(rt, text_of(rt, &again), text.as_str());
+    text
+}
+
+// The text of the renamed first item of the source.
+fn text_of_renamed(rt: &impl Abort, alloc: Global, kind: Kind, source: &str) -> String {
+    match read_items(alloc, kind, source, None).expect(rt, source) {
+        Items::Lhs(items) => text_of_first(rt, &items),
+        Items::Rhs(items) => text_of_first(rt, &items),
+        Items::Rep(items) => text_of_first(rt, &items),
+    }
+}
+
+#[test]
+fn items_are_renamed(rt: HostRuntime) {
+    for lines in RENAMED.split("----\n") {
+        let row = read_row(lines).expect(&rt, lines);
+        let text = text_of_renamed(&rt, rt.alloc(), row.kind, row.source);
+        // The text of a right-hand side does not end in a newline.
+        let end = if row.kind == Kind::Rhs { "\n" } else { "" };
+        equal(&rt, row.want.strip_suffix(end), Some(text.as_str()));
+    }
+}
+
+fn name_of(statement: &Statement) -> Option<&str> {
+    match statement {
+        Statement::Assignment(assignment) => Some(assignment.name.as_str()),
+        _ => None,
+    }
+}
+
+// A statement that is not needed keeps its name and its position.
+#[test]
+fn unneeded_statements_stay(rt: HostRuntime) {
+    let source = "%0 = var\n%used = var\ninfer %used";
+    let items = parse_left_hand_sides_str(rt.alloc(), source, None).expect(&rt, source);
+    let copy = renamed(&rt, items.first().expect(&rt, "an item"));
+    is_text(&rt, text_of(&rt, &copy), "%0 = var\ninfer %0\n");
+    equal(&rt, copy.statements.len(), 2);
+    for (_, statement) in copy.statements.iter() {
+        equal(&rt, name_of(statement), Some("%0"));
+    }
+}
