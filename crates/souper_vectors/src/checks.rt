@@ -1,4 +1,11 @@
-//! The comparison of plain values, and what a run did as one plain value.
+//! Items of a text, the comparison of plain values, and what a run did as one plain value.
+ghost use Rattle.std.specs.List.{AllByRecursion};
+ghost use Rattle.souper_graph.specs.WellFormed.{WellFormed};
+ghost use Rattle.souper_format.specs.Kinds.{view_items};
+
+use souper_format::command::Kind;
+use souper_format::items::{Items, read_items};
+use std::alloc::Global;
 use std::fmt::Debug;
 use std::process::Abort;
 
@@ -21,6 +28,13 @@ pub fn told(bytes: &[u8]) -> &str {
     } else {
         line
     }
+}
+
+/// The items of the text. That they are well formed is for calls that require it.
+pub fn items(rt: &impl Abort, alloc: Global, kind: Kind, source: &str) -> Items
+    ensures { AllByRecursion WellFormed (view_items result) }
+{
+    read_items(alloc, kind, source, None).expect(rt, source)
 }
 
 pub fn equal<T: Copy + PartialEq + Debug>(rt: &impl Abort, found: T, want: T) {

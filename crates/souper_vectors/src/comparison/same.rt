@@ -1,9 +1,8 @@
 //! Lists with pairwise the same graphs, and lists without.
-use crate::checks::equal;
+use crate::checks::{equal, items};
 use crate::comparison::table::{OTHER, SAME};
 use crate::texts::rows::read_row;
 use souper_format::command::Kind;
-use souper_format::items::{Items, read_items};
 use souper_format::same::same;
 use std::alloc::Global;
 use std::process::Abort;
@@ -11,13 +10,11 @@ use std::process::Abort;
 // A list of items: their kind and their text.
 type Source<'a> = (Kind, &'a str);
 
-fn items(rt: &impl Abort, alloc: Global, (kind, text): Source<'_>) -> Items {
-    read_items(alloc, kind, text, None).expect(rt, text)
-}
-
 // The lists are the same or not.
 fn compares(rt: &impl Abort, alloc: Global, a: Source<'_>, b: Source<'_>, want: bool) {
-    let found = same(alloc, &items(rt, alloc, a), &items(rt, alloc, b)).expect(rt, "memory");
+    let first = items(rt, alloc, a.0, a.1);
+    let second = items(rt, alloc, b.0, b.1);
+    let found = same(alloc, &first, &second).expect(rt, "memory");
     equal(rt, (a, b, found), (a, b, want));
 }
 

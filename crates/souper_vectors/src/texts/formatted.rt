@@ -1,5 +1,5 @@
 //! Texts of the three kinds that are read, and the texts of their items.
-use crate::checks::equal;
+use crate::checks::{equal, items};
 use crate::sources::{
     ATTRIBUTES, BLOCKS, GAPS, PAIRS, PRINTED_PAIRS, RESULTS, RIGHT_HAND_SIDES, VALUES, WORDS,
     applied, chain, thousand, word_and_count,
@@ -87,7 +87,7 @@ fn chains_of_doublings_print_themselves(rt: HostRuntime) {
 }
 
 fn has_debug_text(rt: &impl Abort, alloc: Global, kind: Kind, source: &str) {
-    let items = read_items(alloc, kind, source, None).expect(rt, source);
+    let items = items(rt, alloc, kind, source);
     let shown = format!(in alloc; "{items:?}").expect(rt, "memory");
     equal(rt, shown.is_empty(), false);
 }

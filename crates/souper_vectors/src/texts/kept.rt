@@ -1,7 +1,7 @@
 //! What holds of each item that is read, and of its text.
-use crate::checks::{equal, is_text};
+use crate::checks::{equal, is_text, items};
 use souper_format::command::Kind;
-use souper_format::items::{Items, format_text, read_items};
+use souper_format::items::{Items, format_text};
 use souper_ir::ast::Item;
 use std::alloc::Global;
 use std::fmt::Display;
@@ -61,7 +61,7 @@ fn formatted(rt: &impl Abort, alloc: Global, kind: Kind, source: &str) -> String
 
 /// The source is read as items with these texts, a newline after each, and the texts are formatted as themselves.
 pub fn formats(rt: &impl Abort, alloc: Global, kind: Kind, source: &str, want: &str) {
-    let items = read_items(alloc, kind, source, None).expect(rt, source);
+    let items = items(rt, alloc, kind, source);
     is_text(rt, texts_of(rt, alloc, &items), want);
     is_text(rt, formatted(rt, alloc, kind, source), want);
     is_text(rt, formatted(rt, alloc, kind, want), want);

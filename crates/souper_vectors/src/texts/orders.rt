@@ -1,10 +1,10 @@
 //! Printed orders of items that are read.
-use crate::checks::{equal, is_text};
+use crate::checks::{equal, is_text, items};
 use crate::sources::chain;
 use crate::texts::rows::read_row;
 use crate::texts::table::ORDERS;
 use souper_format::command::Kind;
-use souper_format::items::{Items, read_items};
+use souper_format::items::Items;
 use souper_format::same::same;
 use souper_ir::ast::Item;
 use std::alloc::Global;
@@ -26,15 +26,11 @@ fn counts_of(rt: &impl Abort, alloc: Global, items: &Items) -> String {
     }
 }
 
-fn read(rt: &impl Abort, alloc: Global, kind: Kind, source: &str) -> Items {
-    read_items(alloc, kind, source, None).expect(rt, source)
-}
-
 #[test]
 fn orders_are_counted(rt: HostRuntime) {
     for lines in ORDERS.split("----\n") {
         let row = read_row(lines).expect(&rt, lines);
-        let items = read(&rt, rt.alloc(), row.kind, row.source);
+        let items = items(&rt, rt.alloc(), row.kind, row.source);
         is_text(&rt, counts_of(&rt, rt.alloc(), &items), row.want);
     }
 }
@@ -43,7 +39,7 @@ fn orders_are_counted(rt: HostRuntime) {
 fn chain_is(rt: &impl Abort, alloc: Global, doublings: u32, counts: &str) {
     let source = chain(rt, alloc, doublings);
     equal(rt, source.as_str().lines().count(), doublings as usize + 2);
-    let items = read(rt, alloc, Kind::Lhs, source.as_str());
+    let items = items(rt, alloc, Kind::Lhs, source.as_str());
     is_text(rt, counts_of(rt, alloc, &items), counts);
     equal(rt, same(alloc, &items, &items).expect(rt, "memory"), true);
 }

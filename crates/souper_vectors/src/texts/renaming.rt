@@ -1,9 +1,9 @@
 //! Items that are named by their printed order.
-use crate::checks::{equal, is_text};
+use crate::checks::{equal, is_text, items};
 use crate::texts::rows::read_row;
 use crate::texts::table::RENAMED;
 use souper_format::command::Kind;
-use souper_format::items::{Items, read_items};
+use souper_format::items::Items;
 use souper_ir::ast::{Item, Statement};
 use souper_ir::parse::parse_left_hand_sides_str;
 use std::alloc::Global;
@@ -29,7 +29,7 @@ fn text_of_first<I: Item + Drop>(rt: &impl Abort, items: &[I]) -> String {
 
 // The text of the renamed first item of the source.
 fn text_of_renamed(rt: &impl Abort, alloc: Global, kind: Kind, source: &str) -> String {
-    match read_items(alloc, kind, source, None).expect(rt, source) {
+    match items(rt, alloc, kind, source) {
         Items::Lhs(items) => text_of_first(rt, &items),
         Items::Rhs(items) => text_of_first(rt, &items),
         Items::Rep(items) => text_of_first(rt, &items),
