@@ -1,6 +1,7 @@
 mod Nodes
 mod EndLines
 mod Cuts
+mod Parted
 mod Scan
 mod Slices
 mod Progress

@@ -5,21 +5,21 @@ use Rattle.std.specs.Io.KnownBytes.{Consumes}
 use Rattle.souper_graph.specs.Values.{Item}
 use Rattle.souper_graph.specs.Syntax.Tokens.{Lexeme, IsTextOf}
 use Rattle.souper_graph.specs.Syntax.Spelling.{kinds, ItemType, TextSpells}
-use Rattle.souper_lexer.proofs.TokenLaws.{text_tokens}
+use Rattle.souper_lexer.proofs.TokenLaws.{text_tokens, one_reading}
 use Rattle.souper_ir.specs.Joining.{moved}
 use Rattle.souper_ir.specs.Laws.Steps.{kinds-append}
 use Rattle.souper_ir.proofs.Items.Lists.{text_alone}
-use Rattle.souper_ir.proofs.Items.Joining.{items_join}
+use Rattle.souper_ir.proofs.Items.Joining.{kinds_moved, items_join}
 use Rattle.souper_ir.proofs.Items.Parting.{tokens_part}
 use Rattle.souper_stream.specs.Lines.{starts_line, LastEnds}
 use Rattle.souper_stream.specs.declared.pieces.PieceReader.{PieceReader}
 use Rattle.souper_stream.specs.Holding.{fresh}
 use Rattle.souper_stream.specs.PieceReading.{HasPieces}
 use Rattle.souper_stream.proofs.Forgetting.{parts_read}
-use Rattle.souper_stream.specs.Pieces.{Line, concat, IsLine, AreLines, tokens_of, EndsPiece, StartsPiece, AreCut, all_lines, PiecesSpell, SpellsByPieces}
-use Rattle.souper_stream.proofs.Cuts.{starts_longer, part_by, last_ends}
-use Rattle.souper_stream.proofs.Progress.{none_spelled}
-use Rattle.souper_stream.proofs.Lined.{concat-append, lines_of, all_front}
+use Rattle.souper_stream.specs.Pieces.{Line, concat, IsLine, AreLines, tokens_of, tokens_of_lines, EndsPiece, StartsPiece, AreCut, all_lines, PiecesSpell, SpellsByPieces}
+use Rattle.souper_stream.proofs.Cuts.{starts_longer, part_by}
+use Rattle.souper_stream.proofs.Progress.{no_text, none_spelled}
+use Rattle.souper_stream.proofs.Lined.{concat-append, lines_of}
 use Rattle.souper_stream.proofs.PieceTurns.{lines_back}
 
 -- ---- lines
@@ -52,12 +52,15 @@ piece_starts (l ∷ q) more ts lines s h =
     let t = first_line l (q ++ more) ts lines h in
     subst (λ (x : List Lexeme). starts_line x ≡ true) (sym t.1) (starts_longer (tokens_of l) t.0 s)
 
--- the last statement or last line in a piece without a fault ends an item
+-- the tokens of lines without a fault are those of all their bytes
+kinds_of_lines : (p : List Line) (ts : List (ℕ × Lexeme)) → AllByRecursion IsLine p → IsTextOf (concat p) ts → kinds ts ≡ tokens_of_lines p
+kinds_of_lines [] ts lines h = ap kinds (one_reading [] ts [] h no_text)
+kinds_of_lines (l ∷ p) ts lines h =
+    let t = tokens_part l (concat p) ts (inr (lines.0.0, lines.0.2)) h in
+    ap kinds t.4 ∙ kinds-append t.0 (moved (length l) t.1) ∙ (λ i. sym (text_kinds l t.0 t.2) i ++ (kinds_moved (length l) t.1 ∙ kinds_of_lines p t.1 lines.1 t.3) i)
+
 piece_ends : (k : ItemType) (p : List Line) (ts : List (ℕ × Lexeme)) → AllByRecursion IsLine p → EndsPiece k p → IsTextOf (concat p) ts → LastEnds k (kinds ts)
-piece_ends k p ts lines (front, back, is, first, ends) h =
-    last_ends k (concat front) (concat back) ts (lines_of front (all_front IsLine front back (subst (λ (x : List Line). AllByRecursion IsLine x) is lines)))
-    (subst (λ (x : List ℕ). IsTextOf x ts) (ap concat is ∙ concat-append front back) h)
-    (λ us u. subst (λ (x : List Lexeme). LastEnds k x) (text_kinds (concat back) us u) ends)
+piece_ends k p ts lines ends h = subst (λ (x : List Lexeme). LastEnds k x) (sym (kinds_of_lines p ts lines h)) ends
 
 -- ---- pieces
 

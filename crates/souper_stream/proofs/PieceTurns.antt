@@ -1,6 +1,6 @@
 -- One turn of the reading of a stream piece by piece: a line is read, and the piece goes on or ends.
-use Rattle.std.proofs.Common.{◌≡◌, inl, inr, ℕ, ◌+◌, ◌-◌, ◌<◌, ◌≤◌, Bool, true, false, List, [], ◌∷◌, ◌++◌, length, take, drop, Option, Some, None, refl, sym, ap, ◌∙◌, subst, arith, append_assoc, append-nil, length-append}
-use Rattle.std.specs.Prelude.{IfSome, vec_len}
+use Rattle.std.proofs.Common.{◌≡◌, inl, inr, ℕ, ◌+◌, ◌-◌, ◌<◌, ◌≤◌, Bool, true, false, List, [], ◌∷◌, ◌++◌, length, take, drop, Option, None, refl, sym, ap, ◌∙◌, subst, arith, append_assoc, append-nil, length-append}
+use Rattle.std.specs.Prelude.{vec_len}
 use Rattle.std.specs.List.{AllByRecursion}
 use Rattle.std.specs.Io.KnownBytes.{Consumes}
 use Rattle.std.proofs.lemmas.List.{take_all, length-drop, drop-append-le}
@@ -14,8 +14,10 @@ use Rattle.souper_ir.specs.Answers.{IsStrError}
 use Rattle.souper_ir.specs.Errors.{kind_of, IsPlacedAfter, IsLocatedAfter}
 use Rattle.souper_ir.specs.Sinks.{TakesText, TakesPrefix}
 use Rattle.souper_stream.specs.declared.held.Held.{Held}
+use Rattle.souper_stream.specs.declared.lines.ScanState.{ScanState}
 use Rattle.souper_stream.specs.declared.pieces.PieceReader.{PieceReader}
 use Rattle.souper_stream.specs.Holding.{fresh, HoldsAfter, Forgets}
+use Rattle.souper_stream.specs.Lines.{IsStateAfter}
 use Rattle.souper_stream.specs.Pieces.{Line, concat, IsLine, IsLastLine, AreLines, EndsPiece, StartsPiece, IsUncut, AreCut, all_lines}
 use Rattle.souper_stream.specs.PieceReading.{ReadsLine, HasLines, Passes, and_next, HasBegun, HasPieces, HasAll, holding, HasLine, IsOnLine, IsReady, IsNext, RefusesBytes, IsPlacedIn, TakesPiece, RefusesPiece}
 use Rattle.souper_stream.specs.Reading.{AreAll}
@@ -24,7 +26,7 @@ use Rattle.souper_stream.proofs.Bytes.{all_after}
 use Rattle.souper_stream.proofs.Forgetting.{after_none, parts_read, fresh_more, after_more, after_forgot, after_placed}
 use Rattle.souper_stream.proofs.Keeping.{str_offset}
 use Rattle.souper_stream.proofs.Turns.{located_kind}
-use Rattle.souper_stream.proofs.Lined.{concat-append, all_back, no_lines, ends_some, end_within}
+use Rattle.souper_stream.proofs.Lined.{concat-append, no_lines, ends_some}
 
 -- ---- lists of lines and of pieces
 
@@ -64,18 +66,22 @@ starts_longer [] more h = absurd h
 starts_longer (l ∷ ls) more h = h
 
 cut_longer : (k : ItemType) (ps : List (List Line)) (l : Line) (ls more : List Line) → AreCut k (ps ++ (l ∷ ls) ∷ []) → AreCut k (ps ++ (l ∷ (ls ++ more)) ∷ [])
-cut_longer k [] l ls more h = tt
-cut_longer k (p ∷ []) l ls more h = (h.0, h.1, tt)
+cut_longer k [] l ls more h = λ e. cc
+cut_longer k (p ∷ []) l ls more h = (h.0, h.1, λ e. cc)
 cut_longer k (p ∷ (q ∷ ps)) l ls more h = (h.0, h.1, cut_longer k (q ∷ ps) l ls more h.2)
 
+starts_some : (q : List Line) → StartsPiece q → q ≡ [] → ⊥
+starts_some [] s e = s
+starts_some (l ∷ q) s e = cc
+
 cut_more : (k : ItemType) (ps : List (List Line)) (p q : List Line) → AreCut k (ps ++ p ∷ []) → EndsPiece k p → StartsPiece q → AreCut k ((ps ++ p ∷ []) ++ q ∷ [])
-cut_more k [] p q h e s = (e, s, tt)
-cut_more k (r ∷ []) p q h e s = (h.0, h.1, (e, s, tt))
+cut_more k [] p q h e s = (e, s, starts_some q s)
+cut_more k (r ∷ []) p q h e s = (h.0, h.1, (e, s, starts_some q s))
 cut_more k (r ∷ (t ∷ ps)) p q h e s = (h.0, h.1, cut_more k (t ∷ ps) p q h.2 e s)
 
 -- the next piece with more lines
 next_longer : (k : ItemType) (ps : List (List Line)) (ls : List Line) (l : Line) → (ls ≡ [] → ps ≡ []) → AreCut k (and_next ps ls) → AreCut k (and_next ps (ls ++ l ∷ []))
-next_longer k ps [] l none h = rw (none refl) tt
+next_longer k ps [] l none h = rw (none refl) (λ e. cc)
 next_longer k ps (x ∷ ls) l none h = cut_longer k ps x ls (l ∷ []) h
 
 next_piece : (k : ItemType) (ps : List (List Line)) (ls : List Line) → AreCut k (and_next ps ls) → (ls ≡ [] → ⊥) → AreCut k (ps ++ ls ∷ [])
@@ -89,14 +95,14 @@ nonempty (x ∷ ls) l e = cc
 -- ---- one turn
 
 -- nothing was read
-pub begun_none : (k : ItemType) (start : Option (List ℕ)) (p : PieceReader) → p.held.bytes.items ≡ [] → p.held.skipped ≡ 0 → p.held.before.bytes ≡ 0 → p.held.before.lines ≡ 0 → p.end ≡ None → p.ended ≡ false → HasPieces k start start [] p
-begun_none k start p none zero_is b l end ended = (
+pub begun_none : (k : ItemType) (start : Option (List ℕ)) (p : PieceReader) → p.held.bytes.items ≡ [] → p.held.skipped ≡ 0 → p.held.before.bytes ≡ 0 → p.held.before.lines ≡ 0 → IsStateAfter k [] p.scanned → p.ended ≡ false → HasPieces k start start [] p
+begun_none k start p none zero_is b l nothing ended = (
   [],
   record {
     read = [];
     consumed = Consumes-nil start;
     held = after_none p.held none zero_is b l;
-    next = subst (λ (x : List ℕ). HasLines k x p.end []) (sym (λ i. drop (zero_is i) (none i))) (subst (λ (x : Option ℕ). HasLines k [] x []) (sym end) (no_lines k));
+    next = subst (λ (x : List ℕ). HasLines k x p.scanned []) (sym (λ i. drop (zero_is i) (none i))) (no_lines k p.scanned nothing);
     lines = tt;
     cut = tt;
     uncut = tt;
@@ -134,14 +140,14 @@ module _ (k : ItemType) (start mid after : Option (List ℕ)) (ps : List (List L
       under true e = inr (t.reads.part e, some)
 
   -- nothing was left to read
-  pub turn_end : line ≡ [] → q.end ≡ p.end → (e : q.ended ≡ true) → HasPieces k start after ps q
-  turn_end none end e = (
+  pub turn_end : line ≡ [] → q.scanned ≡ p.scanned → (e : q.ended ≡ true) → HasPieces k start after ps q
+  turn_end none same e = (
     ls,
     record {
       read = h.read ++ line;
       consumed = consumed_now;
       held = held_now;
-      next = subst (λ (x : Option ℕ). HasLines k (fresh q.held) x ls) (sym end) (subst (λ (x : List ℕ). HasLines k x p.end ls) (sym (fresh_now ∙ ap (λ (x : List ℕ). fresh p.held ++ x) none ∙ append-nil (fresh p.held))) h.next);
+      next = subst (λ (x : ScanState). HasLines k (fresh q.held) x ls) (sym same) (subst (λ (x : List ℕ). HasLines k x p.scanned ls) (sym (fresh_now ∙ ap (λ (x : List ℕ). fresh p.held ++ x) none ∙ append-nil (fresh p.held))) h.next);
       lines = h.lines;
       cut = h.cut;
       uncut = h.uncut;
@@ -152,14 +158,14 @@ module _ (k : ItemType) (start mid after : Option (List ℕ)) (ps : List (List L
   )
 
   -- the piece goes on
-  pub turn_more : 0 < length line → HasLines k (fresh p.held ++ line) q.end (ls ++ line ∷ []) → HasPieces k start after ps q
+  pub turn_more : 0 < length line → HasLines k (fresh p.held ++ line) q.scanned (ls ++ line ∷ []) → HasPieces k start after ps q
   turn_more some next = (
     ls ++ line ∷ [],
     record {
       read = h.read ++ line;
       consumed = consumed_now;
       held = held_now;
-      next = subst (λ (x : List ℕ). HasLines k x q.end (ls ++ line ∷ [])) (sym fresh_now) next;
+      next = subst (λ (x : List ℕ). HasLines k x q.scanned (ls ++ line ∷ [])) (sym fresh_now) next;
       lines = subst (λ (x : List Line). AreLines x) (append_assoc (all_lines ps) ls (line ∷ [])) (are_lines_more (all_lines ps ++ ls) line (h.whole t.going) (last_line some));
       cut = next_longer k ps ls line (h.none t.going) h.cut;
       uncut = h.uncut;
@@ -170,7 +176,7 @@ module _ (k : ItemType) (start mid after : Option (List ℕ)) (ps : List (List L
   )
 
   -- the piece has ended before the line
-  pub turn_cut : 0 < length line → EndsPiece k ls → StartsPiece (line ∷ []) → HasLines k line q.end (line ∷ []) → IsNext k start after ps q (length (fresh p.held))
+  pub turn_cut : 0 < length line → EndsPiece k ls → StartsPiece (line ∷ []) → HasLines k line q.scanned (line ∷ []) → IsNext k start after ps q (length (fresh p.held))
   turn_cut some ends starts next = (
     λ e. absurd (some_piece ls ends (no_bytes (all_lines ps) ls h.lines (sym (ap length h.next.whole) ∙ e))),
     λ e. (
@@ -187,7 +193,7 @@ module _ (k : ItemType) (start mid after : Option (List ℕ)) (ps : List (List L
             read = h.read ++ line;
             consumed = consumed_now;
             held = subst (λ (x : List ℕ). HoldsAfter (h.read ++ line) x held) (ap (λ (x : List ℕ). concat (all_lines ps) ++ x) (part ∙ h.next.whole) ∙ sym (done_more ps ls)) after_is;
-            next = subst (λ (x : List ℕ). HasLines k x q.end (line ∷ [])) (sym (rest ∙ left)) next;
+            next = subst (λ (x : List ℕ). HasLines k x q.scanned (line ∷ [])) (sym (rest ∙ left)) next;
             lines = subst (λ (x : List Line). AreLines (x ++ line ∷ [])) (sym (all_lines_snoc ps ls)) (are_lines_more (all_lines ps ++ ls) line (h.whole t.going) (last_line some));
             cut = cut_more k ps ls (line ∷ []) (next_piece k ps ls h.cut (some_piece ls ends)) ends starts;
             uncut = all_append (IsUncut k) ps (ls ∷ []) h.uncut (h.next.uncut, tt);
@@ -210,8 +216,8 @@ module _ (k : ItemType) (start mid after : Option (List ℕ)) (ps : List (List L
       left = ap (λ (x : List ℕ). drop (length (fresh p.held)) x) fresh_now ∙ drop-append_seam (fresh p.held) line
 
 -- the stream has ended: what is left is the last piece
-pub turn_last : (k : ItemType) (start now : Option (List ℕ)) (ps : List (List Line)) (ls : List Line) (p q : PieceReader) → HasBegun k start now ps ls p → p.ended ≡ true → q.held ≡ p.held → q.end ≡ None → q.ended ≡ true → IsNext k start now ps q (length (fresh p.held))
-turn_last k start now ps ls p q h ended held_is end ended_now = (
+pub turn_last : (k : ItemType) (start now : Option (List ℕ)) (ps : List (List Line)) (ls : List Line) (p q : PieceReader) → HasBegun k start now ps ls p → p.ended ≡ true → q.held ≡ p.held → IsStateAfter k [] q.scanned → q.ended ≡ true → IsNext k start now ps q (length (fresh p.held))
+turn_last k start now ps ls p q h ended held_is nothing ended_now = (
   λ e. all (no_bytes (all_lines ps) ls h.lines (sym (ap length h.next.whole) ∙ e)) e,
   λ some. (
     ls,
@@ -227,7 +233,7 @@ turn_last k start now ps ls p q h ended held_is end ended_now = (
           read = h.read;
           consumed = h.consumed;
           held = subst (λ (x : List ℕ). HoldsAfter h.read x held) (ap (λ (x : List ℕ). concat (all_lines ps) ++ x) (part ∙ h.next.whole) ∙ sym (done_more ps ls)) after_is;
-          next = subst (λ (x : List ℕ). HasLines k x q.end []) (sym (rest ∙ left)) (subst (λ (x : Option ℕ). HasLines k [] x []) (sym end) (no_lines k));
+          next = subst (λ (x : List ℕ). HasLines k x q.scanned []) (sym (rest ∙ left)) (no_lines k q.scanned nothing);
           lines = subst (λ (x : List Line). AreLines x) (sym (append-nil (all_lines (ps ++ ls ∷ [])) ∙ all_lines_snoc ps ls)) h.lines;
           cut = next_piece k ps ls h.cut (λ none. let e = ap length (h.next.whole ∙ ap concat none) in absurd (omega arith));
           uncut = all_append (IsUncut k) ps (ls ∷ []) h.uncut (h.next.uncut, tt);
@@ -269,13 +275,11 @@ turn_last k start now ps ls p q h ended held_is end ended_now = (
 pub fresh_len : (h : Held) (n : ℕ) → n ≡ vec_len h.bytes → length (fresh h) ≡ n - h.skipped
 fresh_len h n e = length-drop h.skipped h.bytes.items ∙ ap (λ (m : ℕ). m - h.skipped) (omega (arith, e, h.bytes.ok))
 
--- the part of the bytes that is the piece, and the part that is the line
-pub two_slices : (old deref line : List ℕ) (skipped len : ℕ) → deref ≡ old ++ line → len ≡ length old → skipped ≤ length old
-    → (take (len - skipped) (take (length deref - skipped) (drop skipped deref)) ≡ drop skipped old)
-    × (take (length (take (length deref - skipped) (drop skipped deref)) - (len - skipped)) (drop (len - skipped) (take (length deref - skipped) (drop skipped deref))) ≡ line)
+-- the part of the bytes that is the line, and the length of all
+pub line_slice : (old deref line : List ℕ) (skipped len : ℕ) → deref ≡ old ++ line → len ≡ length old → skipped ≤ length old
+    → (take (length (take (length deref - skipped) (drop skipped deref)) - (len - skipped)) (drop (len - skipped) (take (length deref - skipped) (drop skipped deref))) ≡ line)
     × (length (take (length deref - skipped) (drop skipped deref)) ≡ (len - skipped) + length line)
-two_slices old deref line skipped len e at within = (
-  (λ i. take (from i) (parts i)) ∙ take-append_seam (drop skipped old) line,
+line_slice old deref line skipped len e at within = (
   (λ i. take (length (parts i) - from i) (drop (from i) (parts i))) ∙ (λ i. take (rest i) (drop-append_seam (drop skipped old) line i)) ∙ take_all (length line) line (omega arith),
   ap length parts ∙ length-append (drop skipped old) line ∙ ap (λ (n : ℕ). n + length line) (sym from),
 )
@@ -289,34 +293,16 @@ two_slices old deref line skipped len e at within = (
     rest : length (drop skipped old ++ line) - length (drop skipped old) ≡ length line
     rest = omega (arith, length-append (drop skipped old) line)
 
-module _ (k : ItemType) (start mid after : Option (List ℕ)) (ps : List (List Line)) (p q : PieceReader) (line piece part : List ℕ) (t : Turn mid after p q line) (piece_is : piece ≡ fresh p.held) (part_is : part ≡ line) (some : 0 < length line) (cut : Bool)
-    (passes : (ls : List Line) → HasLines k piece p.end ls → AllByRecursion IsLine ls → Passes k piece ls part cut q.end) where
-  passes_now : (ls : List Line) → HasBegun k start mid ps ls p → Passes k (fresh p.held) ls line cut q.end
-  passes_now ls h =
-      subst (λ (x : List ℕ). Passes k (fresh p.held) ls x cut q.end) part_is (subst (λ (x : List ℕ). Passes k x ls part cut q.end) piece_is
-      (passes ls (subst (λ (x : List ℕ). HasLines k x p.end ls) (sym piece_is) h.next) (all_back IsLine (all_lines ps) ls (h.whole t.going))))
+module _ (k : ItemType) (start mid after : Option (List ℕ)) (ps : List (List Line)) (p q : PieceReader) (line part : List ℕ) (t : Turn mid after p q line) (part_is : part ≡ line) (some : 0 < length line) (cut : Bool)
+    (passes : (piece : List ℕ) (ls : List Line) → HasLines k piece p.scanned ls → Passes k piece ls part cut q.scanned) where
+  passes_now : (ls : List Line) → HasBegun k start mid ps ls p → Passes k (fresh p.held) ls line cut q.scanned
+  passes_now ls h = subst (λ (x : List ℕ). Passes k (fresh p.held) ls x cut q.scanned) part_is (passes (fresh p.held) ls h.next)
 
   pub passed_cut : cut ≡ true → HasPieces k start mid ps p → IsNext k start after ps q (length (fresh p.held))
   passed_cut e (ls, h) = let c = (passes_now ls h).1 e in turn_cut k start mid after ps ls p q line h t some c.0 c.1 c.2
 
   pub passed_more : cut ≡ false → HasPieces k start mid ps p → HasPieces k start after ps q
   passed_more e (ls, h) = turn_more k start mid after ps ls p q line h t some ((passes_now ls h).0 e)
-
--- where `end` is
-pub begun_end : (k : ItemType) (start now : Option (List ℕ)) (ps : List (List Line)) (p : PieceReader) → HasPieces k start now ps p → IfSome p.end (λ e. e + p.held.skipped ≤ vec_len p.held.bytes)
-begun_end k start now ps p (ls, h) = under p.end h.next
-  where
-    under : (e : Option ℕ) → HasLines k (fresh p.held) e ls → IfSome e (λ e. e + p.held.skipped ≤ vec_len p.held.bytes)
-    under None x = tt
-    under (Some e) x = omega (arith, end_within k (fresh p.held) e ls x, length-drop p.held.skipped p.held.bytes.items, h.held.within, p.held.bytes.ok)
-
-pub end_in : (end : Option ℕ) (n s m : ℕ) → n + s ≤ m → IfSome end (λ e. e ≤ n) → IfSome end (λ e. e + s ≤ m)
-end_in None n s m fits h = tt
-end_in (Some e) n s m fits h = omega arith
-
-pub end_longer : (end : Option ℕ) (s n m : ℕ) → n ≤ m → IfSome end (λ e. e + s ≤ n) → IfSome end (λ e. e + s ≤ m)
-end_longer None s n m fits h = tt
-end_longer (Some e) s n m fits h = omega arith
 
 -- if nothing was read, the input has ended
 no_line : (line : Line) → length line ≡ 0 → line ≡ []
@@ -343,10 +329,10 @@ piece_refused k file h len holds old new text e shown is within begun error show
     }
 
 -- the piece was forgotten
-pub piece_done : (k : ItemType) (start now : Option (List ℕ)) (ps : List (List Line)) (p q : PieceReader) (len : ℕ) (piece : List Line) → IsReady k start now ps p len piece → Forgets p.held q.held len → q.end ≡ p.end → q.ended ≡ p.ended → HasPieces k start now (ps ++ piece ∷ []) q
-piece_done k start now ps p q len piece r f end ended =
+pub piece_done : (k : ItemType) (start now : Option (List ℕ)) (ps : List (List Line)) (p q : PieceReader) (len : ℕ) (piece : List Line) → IsReady k start now ps p len piece → Forgets p.held q.held len → q.scanned ≡ p.scanned → q.ended ≡ p.ended → HasPieces k start now (ps ++ piece ∷ []) q
+piece_done k start now ps p q len piece r f scanned ended =
     let a = after_forgot r.read (concat (all_lines ps)) p.held q.held len r.held r.within f in
-    let same : holding p q.held q.line ≡ q = (λ i. record { held = q.held; end = sym end i; ended = sym ended i; line = q.line }) in
+    let same : holding p q.held q.line ≡ q = (λ i. record { held = q.held; scanned = sym scanned i; ended = sym ended i; line = q.line }) in
     subst (λ (x : PieceReader). HasPieces k start now (ps ++ piece ∷ []) x) same (r.then q.held q.line a.0 a.1)
 
 -- its line is that in the stream
@@ -354,10 +340,10 @@ on_line : (k : ItemType) (start now : Option (List ℕ)) (ps : List (List Line))
 on_line k start now ps p len line piece r h = subst (λ (x : List ℕ). IsOnLine (concat (all_lines ps)) x line) r.part (h r.read (concat (all_lines ps)) r.held)
 
 pub piece_refuses : {S : Type 0} (k : ItemType) (file start now : Option (List ℕ)) (ps : List (List Line)) (p q : PieceReader) (len : ℕ) (piece : List Line) (holds : S → List Item → Type 0) (old new : S) (e : ParseError)
-    → IsReady k start now ps p len piece → Forgets p.held q.held len → q.end ≡ p.end → q.ended ≡ p.ended → HasLine p.held len q.line → RefusesBytes k file p.held len holds old new e → RefusesPiece k file start now ps holds old new q e
-piece_refuses k file start now ps p q len piece holds old new e r f end ended line b = record {
+    → IsReady k start now ps p len piece → Forgets p.held q.held len → q.scanned ≡ p.scanned → q.ended ≡ p.ended → HasLine p.held len q.line → RefusesBytes k file p.held len holds old new e → RefusesPiece k file start now ps holds old new q e
+piece_refuses k file start now ps p q len piece holds old new e r f scanned ended line b = record {
   piece = piece;
-  goes_on = piece_done k start now ps p q len piece r f end ended;
+  goes_on = piece_done k start now ps p q len piece r f scanned ended;
   on_line = on_line k start now ps p len q.line piece r line;
   none = subst (λ (x : List ℕ). SpellsNone k x) r.part b.none;
   begun = subst (λ (x : List ℕ). TakesPrefix holds k x old new) r.part b.begun;
@@ -367,10 +353,10 @@ piece_refuses k file start now ps p q len piece holds old new e r f end ended li
 }
 
 pub piece_takes : {S : Type 0} (k : ItemType) (start now : Option (List ℕ)) (ps : List (List Line)) (p q : PieceReader) (len : ℕ) (piece : List Line) (holds : S → List Item → Type 0) (old new : S)
-    → IsReady k start now ps p len piece → Forgets p.held q.held len → q.end ≡ p.end → q.ended ≡ p.ended → HasLine p.held len q.line → TakesText holds k (take len (fresh p.held)) old new → TakesPiece k start now ps holds old new q
-piece_takes k start now ps p q len piece holds old new r f end ended line t = record {
+    → IsReady k start now ps p len piece → Forgets p.held q.held len → q.scanned ≡ p.scanned → q.ended ≡ p.ended → HasLine p.held len q.line → TakesText holds k (take len (fresh p.held)) old new → TakesPiece k start now ps holds old new q
+piece_takes k start now ps p q len piece holds old new r f scanned ended line t = record {
   piece = piece;
-  goes_on = piece_done k start now ps p q len piece r f end ended;
+  goes_on = piece_done k start now ps p q len piece r f scanned ended;
   on_line = on_line k start now ps p len q.line piece r line;
   taken = subst (λ (x : List ℕ). TakesText holds k x old new) r.part t;
 }

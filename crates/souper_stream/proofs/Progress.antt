@@ -1,7 +1,7 @@
 -- What was read of a stream, and what was passed to sinks of it.
 use Rattle.std.proofs.Common.{◌≡◌, ◌⊎◌, inl, inr, ℕ, ◌+◌, ◌-◌, ◌<◌, List, [], ◌∷◌, ◌++◌, length, refl, sym, ap, ◌∙◌, subst, arith, append_assoc, append-nil, length-append}
 use Rattle.souper_graph.specs.Values.{Item}
-use Rattle.souper_graph.specs.Syntax.Tokens.{Lexeme, IsGap, Begins}
+use Rattle.souper_graph.specs.Syntax.Tokens.{Lexeme, IsGap, Begins, IsTextOf}
 use Rattle.souper_graph.specs.Syntax.Spelling.{kinds, ItemType, list_spells, TextSpells, SpellsNone}
 use Rattle.souper_lexer.proofs.TokenLaws.{begins_length, begins_append}
 use Rattle.souper_ir.specs.Joining.{IsLines, moved}
@@ -46,8 +46,11 @@ seam_later k done part rest l seam =
 
 -- ---- items
 
+pub no_text : IsTextOf [] []
+no_text = ([], refl, record { gap = []; last = []; is_gap = ([], tt, refl); is_last = tt; text = refl })
+
 pub none_spelled : (k : ItemType) → TextSpells k [] []
-none_spelled k = ([], ([], refl, record { gap = []; last = []; is_gap = ([], tt, refl); is_last = tt; text = refl }), refl)
+none_spelled k = ([], no_text, refl)
 
 -- the items of what was passed to sinks, and of the part after it
 pub spelled_more : (k : ItemType) (done fresh part : List ℕ) (xs ys : List Item) → IsOpen k done fresh → TextSpells k done xs → TextSpells k part ys → TextSpells k (done ++ part) (xs ++ ys)

@@ -1,12 +1,14 @@
 -- Tokens that are scanned for lines that begin in them.
-use Rattle.std.proofs.Common.{◌≡◌, ◌⊎◌, inl, inr, ℕ, Bool, true, false, List, [], ◌∷◌, ◌++◌, refl, sym, ap, ◌∙◌, subst}
+use Rattle.std.proofs.Common.{◌≡◌, ◌⊎◌, inl, inr, ℕ, Bool, true, false, List, [], ◌∷◌, ◌++◌, refl, sym, ap, ◌∙◌, subst, append_assoc, append-nil}
 use Rattle.std.specs.Prelude.{◌↔◌}
 use Rattle.souper_graph.specs.Syntax.Tokens.{Lexeme, ident, val_name, known_bits, int, comma, colon, equals, open_paren, close_paren, open_bracket}
 use Rattle.souper_graph.specs.Syntax.Spelling.{kinds, ItemType}
 use Rattle.souper_ir.specs.NodeReadings.{is_name}
-use Rattle.souper_stream.specs.Lines.{last_word, is_end_word, defines, shows_line, NoStart, LastEnds}
+use Rattle.souper_stream.specs.declared.lines.ScanState.{ScanState}
+use Rattle.souper_stream.specs.Lines.{last_word, is_end_word, defines, shows_line, last_is_name, NoStart, LastEnds, IsStateAfter}
 use Rattle.souper_stream.proofs.Nodes.{is_not, or_left}
 use Rattle.souper_stream.proofs.EndLines.{end_is_last}
+use Rattle.souper_stream.proofs.Parted.{Parted, snoc_parted}
 
 -- no token shows that a line begins; before the first is a name, or not
 abbrev pub Quiet : Bool → List Lexeme → Type 0
@@ -57,28 +59,27 @@ none_shows ts h = quiet_by false ts h (λ e. absurd cc)
 pub none_shown : (named : Bool) (o : ℕ) (t : Lexeme) (old new : List (ℕ × Lexeme)) → old ≡ (o, t) ∷ new → shows_line named t ≡ true → Quiet named (kinds old) → ⊥
 none_shown named o t old new e s q = let h = subst (λ (x : List (ℕ × Lexeme)). Quiet named (kinds x)) e q in let no-start = h.0 in cc
 
--- ---- the last line that begins
+-- ---- one token more at the end
 
--- Of the lines that begin in the tokens, the last ends an item; or none begins, and the last one before them does. Before the
--- first token is a name, or not.
-abbrev pub EndsFrom : ItemType → Bool → Bool → List Lexeme → Type 0
-EndsFrom k named ends ts = ((ends ≡ true) × Quiet named ts) ⊎ LastEnds k ts
+quiet_more : (named : Bool) (ts : List Lexeme) (t : Lexeme) → Quiet named ts → shows_line (last_is_name named ts) t ≡ false → Quiet named (ts ++ t ∷ [])
+quiet_more named [] t h s = (s, tt)
+quiet_more named (u ∷ ts) t h s = (h.0, quiet_more (is_name u) ts t h.1 s)
 
-later : (k : ItemType) (t : Lexeme) (ts : List Lexeme) → LastEnds k ts → LastEnds k (t ∷ ts)
-later k t ts h = record { before = t ∷ h.before; word = h.word; after = h.after; whole = ap (λ (x : List Lexeme). t ∷ x) h.whole; ends = h.ends; quiet = h.quiet }
+quiet_less : (named : Bool) (ts : List Lexeme) (t : Lexeme) → Quiet named (ts ++ t ∷ []) → Quiet named ts × (shows_line (last_is_name named ts) t ≡ false)
+quiet_less named [] t h = (tt, h.0)
+quiet_less named (u ∷ ts) t h = let r = quiet_less (is_name u) ts t h.1 in ((h.0, r.0), r.1)
 
--- the line begins with the first token, or it is in the others
-first_or_later : (k : ItemType) (t : Lexeme) (ts : List Lexeme) → LastEnds k (t ∷ ts) → ((is_end_word k t ≡ true) × Quiet (is_name t) ts) ⊎ LastEnds k ts
-first_or_later k t ts h = under h.before h.whole
-  where
-    under : (before : List Lexeme) → t ∷ ts ≡ before ++ ident h.word ∷ h.after → ((is_end_word k t ≡ true) × Quiet (is_name t) ts) ⊎ LastEnds k ts
-    under [] e =
-        let token : t ≡ ident h.word = cc in
-        let rest : ts ≡ h.after = cc in
-        inl (ap (λ (x : Lexeme). is_end_word k x) token ∙ h.ends, subst (λ (x : Lexeme). Quiet (is_name x) ts) (sym token) (none_shows ts (subst (λ (x : List Lexeme). NoStart x) (sym rest) h.quiet)))
-    under (x ∷ before) e =
-        let rest : ts ≡ before ++ ident h.word ∷ h.after = cc in
-        inr (record { before = before; word = h.word; after = h.after; whole = rest; ends = h.ends; quiet = h.quiet })
+names_more : (named : Bool) (ts : List Lexeme) (t : Lexeme) → last_is_name named (ts ++ t ∷ []) ≡ is_name t
+names_more named [] t = refl
+names_more named (u ∷ ts) t = names_more (is_name u) ts t
+
+names_append : (named : Bool) (xs ys : List Lexeme) → last_is_name named (xs ++ ys) ≡ last_is_name (last_is_name named xs) ys
+names_append named [] ys = refl
+names_append named (x ∷ xs) ys = names_append (is_name x) xs ys
+
+-- whether the last token is a name, from a word on
+names_after : (ts xs ys : List Lexeme) (w : List ℕ) → ts ≡ xs ++ ident w ∷ ys → last_is_name false ts ≡ last_is_name false ys
+names_after ts xs ys w e = ap (λ (x : List Lexeme). last_is_name false x) e ∙ names_append false xs (ident w ∷ ys)
 
 end_shows : (k : ItemType) (named : Bool) (t : Lexeme) → is_end_word k t ≡ true → shows_line named t ≡ true
 end_shows k named (ident w) h = or_left (last_word w) _ (end_is_last k w h)
@@ -92,79 +93,113 @@ end_shows k named open_paren h = absurd cc
 end_shows k named close_paren h = absurd cc
 end_shows k named open_bracket h = absurd cc
 
-first_ends : (k : ItemType) (t : Lexeme) (ts : List Lexeme) → is_end_word k t ≡ true → Quiet (is_name t) ts → LastEnds k (t ∷ ts)
-first_ends k (ident w) ts h q = record { before = []; word = w; after = ts; whole = refl; ends = h; quiet = no_start ts q }
-first_ends k (val_name n) ts h q = absurd cc
-first_ends k (known_bits w) ts h q = absurd cc
-first_ends k (int w) ts h q = absurd cc
-first_ends k comma ts h q = absurd cc
-first_ends k colon ts h q = absurd cc
-first_ends k equals ts h q = absurd cc
-first_ends k open_paren ts h q = absurd cc
-first_ends k close_paren ts h q = absurd cc
-first_ends k open_bracket ts h q = absurd cc
+last_token_ends : (k : ItemType) (ts : List Lexeme) (t : Lexeme) → is_end_word k t ≡ true → LastEnds k (ts ++ t ∷ [])
+last_token_ends k ts (ident w) h = record { before = ts; word = w; after = []; whole = refl; ends = h; quiet = tt }
+last_token_ends k ts (val_name n) h = absurd cc
+last_token_ends k ts (known_bits w) h = absurd cc
+last_token_ends k ts (int w) h = absurd cc
+last_token_ends k ts comma h = absurd cc
+last_token_ends k ts colon h = absurd cc
+last_token_ends k ts equals h = absurd cc
+last_token_ends k ts open_paren h = absurd cc
+last_token_ends k ts close_paren h = absurd cc
+last_token_ends k ts open_bracket h = absurd cc
 
--- a line begins with the first token, or with the name before it
-shown_step : (k : ItemType) (named ends : Bool) (t : Lexeme) (ts : List Lexeme) → shows_line named t ≡ true → EndsFrom k (is_name t) (is_end_word k t) ts ↔ EndsFrom k named ends (t ∷ ts)
-shown_step k named ends t ts s = (down, up)
+-- the word that ends an item is the last token, or is among the others
+record IsBefore (k : ItemType) (ts : List Lexeme) (t : Lexeme) : Type 0 where
+  pub ends : LastEnds k ts
+  pub other : shows_line (last_is_name false ts) t ≡ false
+
+last_or_before : (k : ItemType) (ts : List Lexeme) (t : Lexeme) → LastEnds k (ts ++ t ∷ []) → (is_end_word k t ≡ true) ⊎ IsBefore k ts t
+last_or_before k ts t h = under (snoc_parted h.before (ident h.word ∷ h.after) ts t h.whole)
   where
-    down : EndsFrom k (is_name t) (is_end_word k t) ts → EndsFrom k named ends (t ∷ ts)
-    down (inl h) = inr (first_ends k t ts h.0 h.1)
-    down (inr h) = inr (later k t ts h)
+    over : (mid : List Lexeme) → ident h.word ∷ h.after ≡ mid ++ t ∷ [] → ts ≡ h.before ++ mid → (is_end_word k t ≡ true) ⊎ IsBefore k ts t
+    over [] b r =
+        let token : ident h.word ≡ t = cc in
+        inl (ap (λ (x : Lexeme). is_end_word k x) (sym token) ∙ h.ends)
+    over (m ∷ mid) b r =
+        let word : ident h.word ≡ m = cc in
+        let after : h.after ≡ mid ++ t ∷ [] = cc in
+        let whole : ts ≡ h.before ++ ident h.word ∷ mid = r ∙ ap (λ (x : Lexeme). h.before ++ x ∷ mid) (sym word) in
+        let quiet = quiet_less false mid t (subst (λ (x : List Lexeme). Quiet false x) after (none_shows h.after h.quiet)) in
+        inr (record {
+          ends = record { before = h.before; word = h.word; after = mid; whole = whole; ends = h.ends; quiet = no_start mid quiet.0 };
+          other = ap (λ (b : Bool). shows_line b t) (names_after ts h.before mid h.word whole) ∙ quiet.1;
+        })
 
-    up : EndsFrom k named ends (t ∷ ts) → EndsFrom k (is_name t) (is_end_word k t) ts
-    up (inl h) = let no = h.1.0 in cc
-    up (inr h) = first_or_later k t ts h
+    under : (ident h.word ∷ h.after ≡ []) ⊎ Parted h.before (ident h.word ∷ h.after) ts t → (is_end_word k t ≡ true) ⊎ IsBefore k ts t
+    under (inl none) = absurd cc
+    under (inr p) = over p.mid p.back_is p.rest_is
 
-other_step : (k : ItemType) (named ends : Bool) (t : Lexeme) (ts : List Lexeme) → shows_line named t ≡ false → EndsFrom k (is_name t) ends ts ↔ EndsFrom k named ends (t ∷ ts)
-other_step k named ends t ts s = (down, up)
+-- the token shows that a line begins
+shown_more : (k : ItemType) (ts : List Lexeme) (t : Lexeme) → shows_line (last_is_name false ts) t ≡ true → (is_end_word k t ≡ true) ↔ LastEnds k (ts ++ t ∷ [])
+shown_more k ts t s = (last_token_ends k ts t, λ h. under (last_or_before k ts t h))
   where
-    down : EndsFrom k (is_name t) ends ts → EndsFrom k named ends (t ∷ ts)
-    down (inl h) = inl (h.0, (s, h.1))
-    down (inr h) = inr (later k t ts h)
+    under : (is_end_word k t ≡ true) ⊎ IsBefore k ts t → is_end_word k t ≡ true
+    under (inl e) = e
+    under (inr b) = let no = b.other in absurd cc
 
-    up : EndsFrom k named ends (t ∷ ts) → EndsFrom k (is_name t) ends ts
-    up (inl h) = inl (h.0, h.1.1)
-    up (inr h) = under (first_or_later k t ts h)
-      where
-        under : ((is_end_word k t ≡ true) × Quiet (is_name t) ts) ⊎ LastEnds k ts → EndsFrom k (is_name t) ends ts
-        under (inl x) = let shows = end_shows k named t x.0 in cc
-        under (inr x) = inr x
+-- it shows no line
+other_more : (k : ItemType) (ts : List Lexeme) (t : Lexeme) → shows_line (last_is_name false ts) t ≡ false → LastEnds k ts ↔ LastEnds k (ts ++ t ∷ [])
+other_more k ts t s = (down, λ h. under (last_or_before k ts t h))
+  where
+    down : LastEnds k ts → LastEnds k (ts ++ t ∷ [])
+    down h = record {
+      before = h.before;
+      word = h.word;
+      after = h.after ++ t ∷ [];
+      whole = ap (λ (x : List Lexeme). x ++ t ∷ []) h.whole ∙ append_assoc h.before (ident h.word ∷ h.after) (t ∷ []);
+      ends = h.ends;
+      quiet = no_start (h.after ++ t ∷ []) (quiet_more false h.after t (none_shows h.after h.quiet) (ap (λ (b : Bool). shows_line b t) (sym (names_after ts h.before h.after h.word h.whole)) ∙ s));
+    }
 
--- one token more was looked at
-pub shown_from : (k : ItemType) (named ends new_ends new_named : Bool) (o : ℕ) (t : Lexeme) (old new all : List (ℕ × Lexeme)) → old ≡ (o, t) ∷ new → shows_line named t ≡ true → new_ends ≡ is_end_word k t → new_named ≡ is_name t
-    → EndsFrom k named ends (kinds old) ↔ LastEnds k (kinds all) → EndsFrom k new_named new_ends (kinds new) ↔ LastEnds k (kinds all)
-shown_from k named ends new_ends new_named o t old new all e s a b h = rw (a, b) (
-  λ x. h.0 (subst (λ (y : List (ℕ × Lexeme)). EndsFrom k named ends (kinds y)) (sym e) ((shown_step k named ends t (kinds new) s).0 x)),
-  λ x. (shown_step k named ends t (kinds new) s).1 (subst (λ (y : List (ℕ × Lexeme)). EndsFrom k named ends (kinds y)) e (h.1 x)),
-)
+    under : (is_end_word k t ≡ true) ⊎ IsBefore k ts t → LastEnds k ts
+    under (inl e) = let shows = end_shows k (last_is_name false ts) t e in absurd cc
+    under (inr b) = b.ends
 
-pub other_from : (k : ItemType) (named ends new_ends new_named : Bool) (o : ℕ) (t : Lexeme) (old new all : List (ℕ × Lexeme)) → old ≡ (o, t) ∷ new → shows_line named t ≡ false → new_ends ≡ ends → new_named ≡ is_name t
-    → EndsFrom k named ends (kinds old) ↔ LastEnds k (kinds all) → EndsFrom k new_named new_ends (kinds new) ↔ LastEnds k (kinds all)
-other_from k named ends new_ends new_named o t old new all e s a b h = rw (a, b) (
-  λ x. h.0 (subst (λ (y : List (ℕ × Lexeme)). EndsFrom k named ends (kinds y)) (sym e) ((other_step k named ends t (kinds new) s).0 x)),
-  λ x. (other_step k named ends t (kinds new) s).1 (subst (λ (y : List (ℕ × Lexeme)). EndsFrom k named ends (kinds y)) e (h.1 x)),
-)
+-- ---- the state after tokens
 
-none_last : (k : ItemType) (ts : List Lexeme) → ts ≡ [] → LastEnds k ts → ⊥
-none_last k ts e h = under h.before (sym e ∙ h.whole)
+pub no_tokens : (k : ItemType) → LastEnds k [] → ⊥
+no_tokens k h = under h.before h.whole
   where
     under : (before : List Lexeme) → [] ≡ before ++ ident h.word ∷ h.after → ⊥
     under [] x = cc
     under (y ∷ before) x = cc
 
--- no token is left
-pub ends_at : (k : ItemType) (named ends : Bool) (old all : List (ℕ × Lexeme)) → old ≡ [] → EndsFrom k named ends (kinds old) ↔ LastEnds k (kinds all) → (ends ≡ true) ↔ LastEnds k (kinds all)
-ends_at k named ends old all e h = (λ x. h.0 (inl (x, none_left named old e)), λ x. under (h.1 x))
-  where
-    under : EndsFrom k named ends (kinds old) → ends ≡ true
-    under (inl x) = x.0
-    under (inr x) = absurd (none_last k (kinds old) (ap kinds e) x)
+pub new_state : (k : ItemType) (s : ScanState) → s.after_name ≡ false → s.ends_item ≡ false → IsStateAfter k [] s
+new_state k s n e = record { named = n; ends = (λ yes. absurd cc, λ h. absurd (no_tokens k h)) }
 
--- all tokens are left
-pub ends_from_all : (k : ItemType) (ts : List Lexeme) → EndsFrom k false false ts ↔ LastEnds k ts
-ends_from_all k ts = (down, λ x. inr x)
-  where
-    down : EndsFrom k false false ts → LastEnds k ts
-    down (inl x) = let bad = x.0 in cc
-    down (inr x) = x
+module _ (k : ItemType) (ts : List Lexeme) (s new : ScanState) (t : Lexeme) (h : IsStateAfter k ts s) (name : new.after_name ≡ is_name t) where
+  pub scanned_shown : shows_line s.after_name t ≡ true → new.ends_item ≡ is_end_word k t → IsStateAfter k (ts ++ t ∷ []) new
+  scanned_shown shows e =
+      let r = shown_more k ts t (ap (λ (b : Bool). shows_line b t) (sym h.named) ∙ shows) in
+      record { named = name ∙ sym (names_more false ts t); ends = (λ yes. r.0 (sym e ∙ yes), λ x. e ∙ r.1 x) }
+
+  pub scanned_other : shows_line s.after_name t ≡ false → new.ends_item ≡ s.ends_item → IsStateAfter k (ts ++ t ∷ []) new
+  scanned_other shows e =
+      let r = other_more k ts t (ap (λ (b : Bool). shows_line b t) (sym h.named) ∙ shows) in
+      record { named = name ∙ sym (names_more false ts t); ends = (λ yes. r.0 (h.ends.0 (sym e ∙ yes)), λ x. e ∙ h.ends.1 (r.1 x)) }
+
+-- the tokens before, and those that were looked at, and the state after them
+pub record ScannedSoFar (k : ItemType) (ts : List Lexeme) (all rest : List (ℕ × Lexeme)) (s : ScanState) : Type 0 where
+  pub looked_at : List Lexeme
+  pub whole : looked_at ++ kinds rest ≡ ts ++ kinds all
+  pub scanned : IsStateAfter k looked_at s
+
+pub scans_none : (k : ItemType) (ts : List Lexeme) (all : List (ℕ × Lexeme)) (s : ScanState) → IsStateAfter k ts s → ScannedSoFar k ts all all s
+scans_none k ts all s h = record { looked_at = ts; whole = refl; scanned = h }
+
+module _ (k : ItemType) (ts : List Lexeme) (all old new : List (ℕ × Lexeme)) (o : ℕ) (t : Lexeme) (s next : ScanState) (is : old ≡ (o, t) ∷ new) (name : next.after_name ≡ is_name t) (h : ScannedSoFar k ts all old s) where
+  whole_more : (h.looked_at ++ t ∷ []) ++ kinds new ≡ ts ++ kinds all
+  whole_more = append_assoc h.looked_at (t ∷ []) (kinds new) ∙ ap (λ (x : List (ℕ × Lexeme)). h.looked_at ++ kinds x) (sym is) ∙ h.whole
+
+  pub scans_shown : shows_line s.after_name t ≡ true → next.ends_item ≡ is_end_word k t → ScannedSoFar k ts all new next
+  scans_shown shows e = record { looked_at = h.looked_at ++ t ∷ []; whole = whole_more; scanned = scanned_shown k h.looked_at s next t h.scanned name shows e }
+
+  pub scans_other : shows_line s.after_name t ≡ false → next.ends_item ≡ s.ends_item → ScannedSoFar k ts all new next
+  scans_other shows e = record { looked_at = h.looked_at ++ t ∷ []; whole = whole_more; scanned = scanned_other k h.looked_at s next t h.scanned name shows e }
+
+-- no token is left
+pub scans_all : (k : ItemType) (ts : List Lexeme) (all rest : List (ℕ × Lexeme)) (s : ScanState) → rest ≡ [] → ScannedSoFar k ts all rest s → IsStateAfter k (ts ++ kinds all) s
+scans_all k ts all rest s none h =
+    subst (λ (x : List Lexeme). IsStateAfter k x s) (sym (append-nil h.looked_at) ∙ ap (λ (x : List (ℕ × Lexeme)). h.looked_at ++ kinds x) (sym none) ∙ h.whole) h.scanned

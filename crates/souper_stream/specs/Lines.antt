@@ -1,9 +1,11 @@
 -- Definitions. Which tokens begin a statement or one of an item's last lines.
-use Rattle.std.specs.Prelude.{◌≡◌, ◌||◌, Bool, true, false, ℕ, ◌+◌, List, [], ◌∷◌, ◌++◌, take, codes, bytes_eq}
+use Rattle.std.specs.Prelude.{◌≡◌, ◌↔◌, ◌||◌, Bool, true, false, ℕ, ◌+◌, List, [], ◌∷◌, ◌++◌, take, codes, bytes_eq}
 use Rattle.souper_graph.specs.Syntax.Tokens.{Lexeme, ident, val_name, equals, colon}
 use Rattle.souper_graph.specs.Syntax.Spelling.{ItemType, left_hand_side, right_hand_side, replacement}
 use Rattle.souper_lexer.specs.TokenReading.{lexed_of}
+use Rattle.souper_ir.specs.NodeReadings.{is_name}
 use Rattle.souper_ir.specs.Places.{newlines}
+use Rattle.souper_stream.specs.declared.lines.ScanState.{ScanState}
 
 -- the word begins one of an item's last lines
 abbrev pub last_word : List ℕ → Bool
@@ -61,6 +63,16 @@ shows_line named (ident w) = line_word w
 shows_line named equals = named
 shows_line named colon = named
 shows_line named _ = false
+
+-- the last token is a name; if there is none, the one before them is, or not
+abbrev pub last_is_name : Bool → List Lexeme → Bool
+last_is_name named [] = named
+last_is_name named (t ∷ ts) = last_is_name (is_name t) ts
+
+-- the state says of these tokens whether the last is a name, and whether the last statement or last line that begins in them ends an item
+pub record IsStateAfter (k : ItemType) (ts : List Lexeme) (s : ScanState) : Type 0 where
+  pub named : s.after_name ≡ last_is_name false ts
+  pub ends : (s.ends_item ≡ true) ↔ LastEnds k ts
 
 -- the offset of the first token, or 0 if there is none
 abbrev pub first_offset : List (ℕ × Lexeme) → ℕ

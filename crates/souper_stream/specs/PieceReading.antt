@@ -1,5 +1,5 @@
 -- Definitions. The reading of a stream piece by piece.
-use Rattle.std.specs.Prelude.{◌≡◌, ℕ, ◌+◌, ◌^◌, ◌<◌, ◌≤◌, Bool, true, false, List, [], ◌∷◌, ◌++◌, length, take, drop, Option, Some, None, IsUtf8}
+use Rattle.std.specs.Prelude.{◌≡◌, ℕ, ◌+◌, ◌^◌, ◌<◌, ◌≤◌, Bool, true, false, List, [], ◌∷◌, ◌++◌, length, take, drop, Option, IsUtf8}
 use Rattle.std.specs.List.{AllByRecursion}
 use Rattle.std.specs.Io.KnownBytes.{Consumes}
 use Rattle.souper_graph.specs.Syntax.Tokens.{IsOneLine}
@@ -9,10 +9,11 @@ use Rattle.souper_ir.specs.declared.parse.error.ParseError.{ParseError}
 use Rattle.souper_ir.specs.Errors.{IsRefusalAt}
 use Rattle.souper_ir.specs.Sinks.{TakesText, TakesPrefix}
 use Rattle.souper_stream.specs.declared.held.Held.{Held}
+use Rattle.souper_stream.specs.declared.lines.ScanState.{ScanState}
 use Rattle.souper_stream.specs.declared.pieces.PieceReader.{PieceReader}
 use Rattle.souper_stream.specs.Holding.{fresh, HoldsAfter}
-use Rattle.souper_stream.specs.Lines.{first_line}
-use Rattle.souper_stream.specs.Pieces.{Line, concat, IsLine, AreLines, NoneStarts, FirstStarts, EndsPiece, StartsPiece, IsUncut, AreCut, all_lines, ArePieces}
+use Rattle.souper_stream.specs.Lines.{IsStateAfter, first_line}
+use Rattle.souper_stream.specs.Pieces.{Line, concat, IsLine, AreLines, tokens_of_lines, EndsPiece, StartsPiece, IsUncut, AreCut, all_lines, ArePieces}
 use Rattle.souper_stream.specs.Reading.{AreAll}
 
 -- a line was read; if the input has ended, it has no newline, or is empty
@@ -23,23 +24,18 @@ pub record ReadsLine (before after : Option (List ℕ)) (old new : List ℕ) (en
   pub part : ended ≡ true → IsOneLine line
   pub all_read : ended ≡ true → AreAll before line
 
--- the byte at which the last starting line begins, if a line starts
-abbrev pub LastStart : Option ℕ → List Line → Type 0
-LastStart None ls = NoneStarts ls
-LastStart (Some e) ls = (front : List Line) × (back : List Line) × (ls ≡ front ++ back) × (e ≡ length (concat front)) × FirstStarts back
-
--- the bytes are these lines of a piece, and the last starting line begins at `end`
-pub record HasLines (k : ItemType) (bytes : List ℕ) (end : Option ℕ) (ls : List Line) : Type 0 where
+-- the bytes are these lines of a piece, and the state is that after their tokens
+pub record HasLines (k : ItemType) (bytes : List ℕ) (s : ScanState) (ls : List Line) : Type 0 where
   pub whole : bytes ≡ concat ls
   pub utf8 : AllByRecursion IsUtf8 ls
   pub uncut : IsUncut k ls
-  pub last : LastStart end ls
+  pub scanned : IsStateAfter k (tokens_of_lines ls) s
 
--- the line is one more of the piece, or the first of the next
-abbrev pub Passes : ItemType → List ℕ → List Line → Line → Bool → Option ℕ → Type 0
-Passes k piece ls line cut end =
-    (cut ≡ false → HasLines k (piece ++ line) end (ls ++ line ∷ []))
-    × (cut ≡ true → EndsPiece k ls × StartsPiece (line ∷ []) × HasLines k line end (line ∷ []))
+-- the line is one more of the piece, or the first of the next, and the state is that after its tokens
+abbrev pub Passes : ItemType → List ℕ → List Line → Line → Bool → ScanState → Type 0
+Passes k piece ls line cut s =
+    (cut ≡ false → HasLines k (piece ++ line) s (ls ++ line ∷ []))
+    × (cut ≡ true → EndsPiece k ls × StartsPiece (line ∷ []) × HasLines k line s (line ∷ []))
 
 -- the pieces, and the lines of the next, if there are any
 abbrev pub and_next : List (List Line) → List Line → List (List Line)
@@ -51,7 +47,7 @@ pub record HasBegun (k : ItemType) (start now : Option (List ℕ)) (ps : List (L
   pub read : List ℕ
   pub consumed : Consumes start now read
   pub held : HoldsAfter read (concat (all_lines ps)) p.held
-  pub next : HasLines k (fresh p.held) p.end ls
+  pub next : HasLines k (fresh p.held) p.scanned ls
   pub lines : AreLines (all_lines ps ++ ls)
   pub cut : AreCut k (and_next ps ls)
   pub uncut : AllByRecursion (IsUncut k) ps
@@ -69,7 +65,7 @@ HasAll k start now ps = (read : List ℕ) × Consumes start now read × AreAll s
 
 -- the reader with other bytes held, and another line
 abbrev pub holding : PieceReader → Held → ℕ → PieceReader
-holding p h line = record { held = h; end = p.end; ended = p.ended; line = line }
+holding p h line = record { held = h; scanned = p.scanned; ended = p.ended; line = line }
 
 -- the next piece has so many bytes: the reader will have read it too, once they are forgotten
 pub record IsReady (k : ItemType) (start now : Option (List ℕ)) (ps : List (List Line)) (p : PieceReader) (len : ℕ) (piece : List Line) : Type 0 where

@@ -1,7 +1,7 @@
 -- Definitions. The pieces of a text: lines, cut where an item ends and a line of the next begins, as far as tokens show it. A line
--- starts if it begins with a statement, or with one of an item's last lines. Tokens behind a fault are not seen up to the next line
--- that starts; so the next piece can be read though this one is refused.
-use Rattle.std.specs.Prelude.{◌≡◌, ◌⊎◌, ◌↔◌, ℕ, ◌<◌, true, List, [], ◌∷◌, ◌++◌, length, false}
+-- starts if it begins with a statement, or with one of an item's last lines. A fault hides the tokens after it on its line, and no
+-- others; so the next piece can be read though this one is refused.
+use Rattle.std.specs.Prelude.{◌≡◌, ◌⊎◌, ◌↔◌, ℕ, ◌<◌, true, List, [], ◌∷◌, ◌++◌, length}
 use Rattle.std.specs.List.{AllByRecursion}
 use Rattle.souper_graph.specs.Values.{Item}
 use Rattle.souper_graph.specs.Syntax.Tokens.{Lexeme, IsOneLine}
@@ -36,22 +36,14 @@ AreLines (l ∷ (m ∷ ls)) = IsLine l × AreLines (m ∷ ls)
 abbrev pub tokens_of : List ℕ → List Lexeme
 tokens_of bs = kinds (lexed_of 0 bs).tokens
 
--- none of the lines starts
-abbrev pub NoneStarts : List Line → Type 0
-NoneStarts ls = AllByRecursion (λ l. starts_line (tokens_of l) ≡ false) ls
+-- The tokens of lines, each up to a fault if it has one. No token goes on in the next line.
+abbrev pub tokens_of_lines : List Line → List Lexeme
+tokens_of_lines [] = []
+tokens_of_lines (l ∷ ls) = tokens_of l ++ tokens_of_lines ls
 
--- the first of the lines starts, and no other does
-pub record FirstStarts (ls : List Line) : Type 0 where
-  pub first : Line
-  pub others : List Line
-  pub whole : ls ≡ first ∷ others
-  pub starts : starts_line (tokens_of first) ≡ true
-  pub alone : NoneStarts others
-
--- an item ends with these lines: of the statements and last lines that begin from the last starting line on, up to a fault, the last
--- is one that an item of the type ends with
+-- an item ends with these lines: of the statements and last lines that begin in them, the last is one that an item of the type ends with
 abbrev pub EndsPiece : ItemType → List Line → Type 0
-EndsPiece k ls = (before : List Line) × (last : List Line) × (ls ≡ before ++ last) × FirstStarts last × LastEnds k (tokens_of (concat last))
+EndsPiece k ls = LastEnds k (tokens_of_lines ls)
 
 -- the first of these lines starts
 abbrev pub StartsPiece : List Line → Type 0
@@ -62,10 +54,10 @@ StartsPiece (l ∷ ls) = starts_line (tokens_of l) ≡ true
 abbrev pub IsUncut : ItemType → List Line → Type 0
 IsUncut k ls = (front back : List Line) → ls ≡ front ++ back → EndsPiece k front → StartsPiece back → ⊥
 
--- an item ends with each piece but the last, and a line starts with each but the first
+-- Each piece has lines. An item ends with each but the last, and a line starts with each but the first.
 abbrev pub AreCut : ItemType → List (List Line) → Type 0
 AreCut k [] = Unit {0}
-AreCut k (p ∷ []) = Unit {0}
+AreCut k (p ∷ []) = p ≡ [] → ⊥
 AreCut k (p ∷ (q ∷ ps)) = EndsPiece k p × StartsPiece q × AreCut k (q ∷ ps)
 
 -- the lines of all pieces

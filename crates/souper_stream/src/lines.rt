@@ -1,12 +1,12 @@
 //! Where lines begin in a text, and where items end.
-ghost use Rattle.std.specs.Prelude.{◌≡◌, ◌↔◌, ◌≤◌, ◌<◌, ◌∷◌, ℕ, [], length, take, drop, true, false, IsCharBoundary};
+ghost use Rattle.std.specs.Prelude.{◌≡◌, ◌↔◌, ◌≤◌, ◌<◌, ◌∷◌, ◌++◌, ℕ, List, [], length, take, drop, true, false, IsCharBoundary};
 ghost use Rattle.souper_graph.specs.Syntax.Tokens.{Lexeme};
-ghost use Rattle.souper_graph.specs.Syntax.Spelling.{kinds};
+ghost use Rattle.souper_graph.specs.Syntax.Spelling.{kinds, ItemType};
 ghost use Rattle.souper_lexer.specs.TokenReading.{lexed_of};
 ghost use Rattle.souper_lexer.specs.TokenView.{lexeme_of, Yields};
 ghost use Rattle.souper_ir.specs.NodeReadings.{is_name};
 ghost use Rattle.souper_ir.specs.Joining.{IsLines};
-ghost use Rattle.souper_stream.specs.Lines.{last_word, line_word, is_end_word, ends_first, shows_line, defines, starts_line, first_offset, NoStart, LastEnds};
+ghost use Rattle.souper_stream.specs.Lines.{last_word, line_word, is_end_word, ends_first, shows_line, defines, starts_line, first_offset, NoStart, IsStateAfter};
 ghost use Rattle.souper_stream.specs.Pieces.{tokens_of};
 ghost use Rattle.souper_stream.specs.Reading.{IsTaken};
 ghost use Rattle.souper_stream.specs.Seams.{IsEndLine, IsSeam};
@@ -128,30 +128,53 @@ fn is_end_word<T: StreamItem>(token: Token<'_>) -> bool
     }
 }
 
-// Whether, of the statements and last lines that begin in the remaining tokens, up to a fault, the last begins with a word that
-// an item ends with. False if none begins.
-fn last_ends<T: StreamItem>(lexer: &mut Lexer<'_>) -> bool
-    ensures { (result ≡ true) ↔ LastEnds T.item_type (kinds lexer.old.tokens) }
-{
-    let mut named = false;
-    let mut ends = false;
-    'tokens: loop {
-        let token = match next_token(lexer) {
-            Ok(Some((_, token))) => token,
-            _ => return ends,
-        };
-        if shows_line(named, token) {
-            ends = is_end_word::<T>(token);
+/// What is known of tokens that were scanned.
+#[derive(Clone, Copy)]
+pub(crate) struct ScanState {
+    /// Whether the last token is a name.
+    pub after_name: bool,
+
+    /// Whether, of the statements and last lines that begin in them, the last begins with a word that an item ends with.
+    pub ends_item: bool,
+}
+
+impl ScanState {
+    /// That of no tokens.
+    pub(crate) fn new() -> ScanState
+        ensures { (k : ItemType) → IsStateAfter k [] result }
+    {
+        ScanState {
+            after_name: false,
+            ends_item: false,
         }
-        named = is_name(token);
     }
 }
 
-// The same of a text.
-pub(crate) fn ends_item<T: StreamItem>(lines: &str) -> bool
-    ensures { (result ≡ true) ↔ LastEnds T.item_type (tokens_of lines.now) }
+// The state after the tokens before and the remaining ones, up to a fault.
+fn scan<T: StreamItem>(lexer: &mut Lexer<'_>, before: ScanState) -> ScanState
+    ensures { (ts : List Lexeme) → IsStateAfter T.item_type ts before → IsStateAfter T.item_type (ts ++ kinds lexer.old.tokens) result }
 {
-    last_ends::<T>(&mut Lexer::new(lines))
+    let (mut after_name, mut ends_item) = (before.after_name, before.ends_item);
+    'tokens: loop {
+        let token = match next_token(lexer) {
+            Ok(Some((_, token))) => token,
+            _ => return ScanState {
+                after_name,
+                ends_item,
+            },
+        };
+        if shows_line(after_name, token) {
+            ends_item = is_end_word::<T>(token);
+        }
+        after_name = is_name(token);
+    }
+}
+
+/// The state after the tokens before and those of the line, up to a fault.
+pub(crate) fn scan_line<T: StreamItem>(line: &str, before: ScanState) -> ScanState
+    ensures { (ts : List Lexeme) → IsStateAfter T.item_type ts before → IsStateAfter T.item_type (ts ++ tokens_of line.now) result }
+{
+    scan::<T>(&mut Lexer::new(line), before)
 }
 
 // Whether the token, after a name, says that the name is defined.

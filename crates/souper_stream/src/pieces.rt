@@ -1,16 +1,15 @@
 //! The pieces of a stream: each is parsed by itself, so that reading can go on after one that is refused.
-ghost use Rattle.std.specs.Prelude.{◌≡◌, ◌↔◌, ◌⊎◌, ◌<◌, ◌≤◌, ◌+◌, ℕ, List, [], length, take, true, false, Option, IsOk, IfOk, IfErr, IfSome, IsErrAnd, OnOk, vec_len, option_copied, IsUtf8};
-ghost use Rattle.std.specs.List.{AllByRecursion};
+ghost use Rattle.std.specs.Prelude.{◌≡◌, ◌⊎◌, ◌<◌, ◌≤◌, ℕ, List, [], length, take, true, false, Option, IsOk, IfOk, IfErr, IsErrAnd, OnOk, vec_len, option_copied, IsUtf8};
 ghost use Rattle.souper_graph.specs.Syntax.Spelling.{ItemType};
 ghost use Rattle.souper_ir.specs.Errors.{kind_of};
 ghost use Rattle.souper_ir.specs.Sinks.{TakesText};
 ghost use Rattle.souper_stream.specs.Holding.{fresh, Forgets};
-ghost use Rattle.souper_stream.specs.Pieces.{Line, IsLine, EndsPiece};
+ghost use Rattle.souper_stream.specs.Pieces.{Line};
 ghost use Rattle.souper_stream.specs.PieceReading.{HasLines, Passes, ReadsLine, HasPieces, HasLine, line_of, IsNext, RefusesBytes, TakesPiece, RefusesPiece, HasAll};
 
 use crate::ends::StreamItem;
 use crate::held::{Held, newline_count};
-use crate::lines::{ends_item, first_offset, starts_line};
+use crate::lines::{ScanState, first_offset, scan_line, starts_line};
 use crate::parts::{place, read_error};
 use souper_ir::parse::{ParseError, ParseErrorKind, Result, Sink, parse_into};
 use std::alloc::Global;
@@ -35,38 +34,16 @@ fn read_line<R: BufRead>(reader: &mut R, bytes: &mut Vec<u8>) -> io::Result<bool
     Ok(len == 0 || bytes[bytes.len() - 1] != b'\n')
 }
 
-// Whether an item ends with the lines of a piece. `end` is where the last of them that starts begins.
-fn ends_piece<T: StreamItem>(piece: &[u8], end: Option<usize>) -> io::Result<bool>
-    requires { IfSome end (λ e. e ≤ length piece.now) }
-    ensures { IfOk result (λ ends. (ls : List Line) → HasLines T.item_type piece.now end ls → AllByRecursion IsLine ls → (ends ≡ true) ↔ EndsPiece T.item_type ls) }
-{
-    match end {
-        Some(end) => {
-            let last = utf8(&piece[end..])?;
-            Ok(ends_item::<T>(last))
-        }
-        None => Ok(false),
-    }
-}
-
-// Whether the piece ends before the line, and `end` after the line: in the next piece, if it does.
-fn pass_line<T: StreamItem>(
-    piece: &[u8],
-    line: &[u8],
-    end: Option<usize>,
-) -> io::Result<(bool, Option<usize>)>
-    requires { IfSome end (λ e. e ≤ length piece.now) }
-    ensures passed { IfOk result (λ r. (ls : List Line) → HasLines T.item_type piece.now end ls → AllByRecursion IsLine ls
-        → Passes T.item_type piece.now ls line.now r.0 r.1) }
-    ensures within { IfOk result (λ r. IfSome r.1 (λ e. e ≤ length piece.now)) }
+// Whether the piece ends before the line, and the state after the line: that of the next piece, if it ends.
+fn pass_line<T: StreamItem>(line: &[u8], before: ScanState) -> io::Result<(bool, ScanState)>
+    ensures { IfOk result (λ r. (piece : List ℕ) (ls : List Line) → HasLines T.item_type piece before ls → Passes T.item_type piece ls line.now r.0 r.1) }
 {
     let line = utf8(line)?;
-    if !starts_line(line) {
-        return Ok((false, end));
+    if before.ends_item && starts_line(line) {
+        Ok((true, scan_line::<T>(line, ScanState::new())))
+    } else {
+        Ok((false, scan_line::<T>(line, before)))
     }
-    let is_cut = ends_piece::<T>(piece, end)?;
-    let start = if is_cut { 0 } else { piece.len() };
-    Ok((is_cut, Some(start)))
 }
 
 // Passes the items of the next piece to the sink. It has so many bytes of what is held.
@@ -107,13 +84,13 @@ fn first_line(held: &Held, len: usize) -> io::Result<usize>
 ///
 /// Pieces are whole lines: the stream is cut before each line that begins with a statement (a name and `=` or `:`, `pc`, `blockpc`)
 /// or last line (`infer`, `result`, `cand`), if of those that begin in the piece the last is one that an item of the type ends with.
-/// Tokens behind a character that begins none are not seen, up to the next line that begins with a statement or last line.
+/// A lexical fault hides the rest of its line.
 #[derive(Drop)]
 pub struct PieceReader {
     held: Held,
 
-    // Where in the piece the last line that starts begins, if one starts.
-    end: Option<usize>,
+    // The state after the tokens of the piece.
+    scanned: ScanState,
 
     // Whether the input has ended.
     ended: bool,
@@ -129,7 +106,7 @@ impl PieceReader {
     {
         PieceReader {
             held: Held::new(alloc),
-            end: None,
+            scanned: ScanState::new(),
             ended: false,
             line: 1,
         }
@@ -146,14 +123,13 @@ impl PieceReader {
     // Reads up to the end of the next piece, and returns its length in bytes, which is 0 if the stream has ended.
     fn next_len<T: StreamItem, R: BufRead>(&mut self, reader: &mut R) -> io::Result<usize>
         requires within { self.old.held.skipped ≤ vec_len self.old.held.bytes }
-        requires end { IfSome self.old.end (λ e. e + self.old.held.skipped ≤ vec_len self.old.held.bytes) }
         ensures { IfOk result (λ len. (start : Option (List ℕ)) (ps : List (List Line)) → HasPieces T.item_type start (R.remaining reader.old) ps self.old
             → IsNext T.item_type start (R.remaining reader.new) ps self.new len) }
     {
         for _turn in 0..u64::MAX {
             let start = self.held.bytes.len() - self.held.skipped;
             if self.ended {
-                self.end = None;
+                self.scanned = ScanState::new();
                 return Ok(start);
             }
             self.ended = read_line(reader, &mut self.held.bytes)?;
@@ -161,8 +137,8 @@ impl PieceReader {
             if fresh.len() == start {
                 continue;
             }
-            let (is_cut, end) = pass_line::<T>(&fresh[..start], &fresh[start..], self.end)?;
-            self.end = end;
+            let (is_cut, scanned) = pass_line::<T>(&fresh[start..], self.scanned)?;
+            self.scanned = scanned;
             if is_cut {
                 return Ok(start);
             }
@@ -181,7 +157,7 @@ impl PieceReader {
         requires some { 0 < len }
         requires skipped { self.old.held.skipped ≤ vec_len self.old.held.bytes }
         requires within { len ≤ length (fresh self.old.held) }
-        ensures kept { (self.new.end ≡ self.old.end) × (self.new.ended ≡ self.old.ended) }
+        ensures kept { (self.new.scanned ≡ self.old.scanned) × (self.new.ended ≡ self.old.ended) }
         ensures forgotten { (IsOk result ⊎ IsErrAnd result (λ e. kind_of e ≡ ParseErrorKind.Parse)) → Forgets self.old.held self.new.held len }
         ensures line { (IsOk result ⊎ IsErrAnd result (λ e. kind_of e ≡ ParseErrorKind.Parse)) → HasLine self.old.held len self.new.line }
         ensures taken { OnOk result (TakesText S.holds T.item_type (take len (fresh self.old.held)) sink.old sink.new) }

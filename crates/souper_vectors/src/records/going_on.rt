@@ -134,7 +134,7 @@ fn items_before_a_refused_one_of_the_line_are_written(rt: HostRuntime) {
     each_text::<RightHandSide>(&rt, rt.alloc(), source, (1, want, report));
 }
 
-// Items that share lines, with a token, an operation and a token that are wrong.
+// Items that share lines, with tokens and an operation that are wrong.
 const SHARED: &str = "%x = var infer %x $
 %y = var
 infer %y %z = foo infer %z
@@ -143,7 +143,11 @@ infer
 %a %b = $
 infer %a
 %c = var
-infer %c";
+infer %c
+%d = $
+(nonZero) infer %d
+%e = var
+infer %e";
 
 const KEPT_OF_SHARED: &str = "%y = var
 infer %y
@@ -153,6 +157,9 @@ infer %a
 
 %c = var
 infer %c
+
+%e = var
+infer %e
 
 ";
 
@@ -168,6 +175,10 @@ a.opt:6:8: unexpected '$'
      |
    6 | %a %b = $
      |        ^
+a.opt:10:5: unexpected '$'
+     |
+  10 | %d = $
+     |     ^
 ";
 
 // Behind a line with several items, or with the end of one, the item of the next line is read.
@@ -191,6 +202,8 @@ fn items_are_those_of_the_text(rt: HostRuntime) {
     each_text::<LeftHandSide>(&rt, alloc, "; nothing\n\n", (0, "", ""));
     let source = "%x\n= var infer\n%x %y = var\n\ninfer %y";
     let want = "%x = var\ninfer %x\n\n%y = var\ninfer %y\n\n";
+    each_text::<LeftHandSide>(&rt, alloc, source, (0, want, ""));
+    let source = "%x = var infer %x %y\n= var\ninfer %y";
     each_text::<LeftHandSide>(&rt, alloc, source, (0, want, ""));
     let source = "%x = var\ninfer %x\nresult\n1\ncand 1 2";
     let want = "%x = var\ninfer %x\nresult 1\n\ncand 1 2\n\n";

@@ -1,6 +1,6 @@
--- The pieces that were read are those that were read before; `end` is within the next.
-use Rattle.std.proofs.Common.{List, ◌+◌, ◌≤◌}
-use Rattle.std.specs.Prelude.{ℕ, Option, IfSome, vec_len}
+-- The pieces that were read are those that were read before.
+use Rattle.std.proofs.Common.{List, ◌≤◌}
+use Rattle.std.specs.Prelude.{ℕ, Option, vec_len}
 use Rattle.souper_stream.specs.Pieces.{Line}
 use Rattle.souper_stream.specs.PieceReading.{HasPieces}
 use Rattle.souper_stream.proofs.pieces.PieceReader.next_len.Given as goal
@@ -8,6 +8,5 @@ use Rattle.souper_stream.proofs.pieces.PieceReader.next_len.Given as goal
 abbrev pub invariant-loop-turn : goal.invariant-loop-turn
 invariant-loop-turn g l = record {
   within : l.self.held.skipped ≤ vec_len l.self.held.bytes;
-  end : IfSome l.self.end (λ e. e + l.self.held.skipped ≤ vec_len l.self.held.bytes);
   pieces : (start : Option (List ℕ)) (ps : List (List Line)) → HasPieces g.T.Item.item_type start (g.R.Read.remaining l.fn.reader) ps l.fn.self → HasPieces g.T.Item.item_type start (g.R.Read.remaining l.reader) ps l.self;
 }

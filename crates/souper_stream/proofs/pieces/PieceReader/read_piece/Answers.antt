@@ -1,11 +1,8 @@
 use Rattle.std.proofs.Common.{◌<◌, refl, inl, inr, arith}
 use Rattle.std.specs.Prelude.{option_copied}
 use Rattle.std.proofs.lemmas.Result.{err_from_is_err_and}
-use Rattle.souper_stream.proofs.PieceTurns.{begun_end, piece_refuses, piece_takes}
+use Rattle.souper_stream.proofs.PieceTurns.{piece_refuses, piece_takes}
 use Rattle.souper_stream.proofs.pieces.PieceReader.read_piece.Goals as goal
-
-pub next_len-requires-clause-end : goal.next_len-requires-clause-end
-next_len-requires-clause-end g c = begun_end g.T.Item.item_type c.requires.0 (g.R.Read.remaining c.args.reader.now) c.requires.1 c.args.self.now c.requires.2
 
 pub returns-in-Ok-eq0-clause-ended : goal.returns-in-Ok-eq0-clause-ended
 returns-in-Ok-eq0-clause-ended g c = λ e start ps had. ((c.in-Ok-eq0.ensures start ps had).0 c.in-Ok-eq0.field-0-test, refl)
