@@ -35,25 +35,40 @@ impl<'a> Names<'a> {
         self.entries.get(name).copied()
     }
 
-    /// Enters a name, and returns the entry that it had. The map is not searched if the same was entered last.
-    #[inline(always)]
-    pub(crate) fn enter(&mut self, name: &'a str, entry: Entry) -> Result<Option<Entry>, AllocError>
-        requires { IsLast self.old.last self.old.entries }
+    /// Enters a name, and returns the entry that it had.
+    pub(crate) fn insert(
+        &mut self,
+        name: &'a str,
+        entry: Entry,
+    ) -> Result<Option<Entry>, AllocError>
         ensures replaced { IfOk result (λ replaced. replaced ≡ entry_in self.old.entries name.now) }
         ensures entered { OnOk result (Adds self.old.entries self.new.entries name.now entry) }
         ensures last { OnOk result (IsLast self.new.last self.new.entries) }
     {
-        if let Some((last, known)) = self.last {
-            if last == name && known == entry {
-                return Ok(Some(entry));
-            }
-        }
         match self.entries.insert(name, entry) {
             Ok(replaced) => {
                 self.last = Some((name, entry));
                 Ok(replaced)
             }
             Err(_) => Err(AllocError),
+        }
+    }
+
+    /// Enters a name. The map is not searched if this is what was entered last.
+    #[inline(always)]
+    pub(crate) fn enter(&mut self, name: &'a str, entry: Entry) -> Result<(), AllocError>
+        requires { IsLast self.old.last self.old.entries }
+        ensures entered { OnOk result (Adds self.old.entries self.new.entries name.now entry) }
+        ensures last { OnOk result (IsLast self.new.last self.new.entries) }
+    {
+        if let Some((last, known)) = self.last {
+            if known == entry && last == name {
+                return Ok(());
+            }
+        }
+        match self.insert(name, entry) {
+            Ok(_) => Ok(()),
+            Err(error) => Err(error),
         }
     }
 

@@ -359,20 +359,22 @@ impl<'a> Parser<'a> {
         ensures { Gives (λ u. u) (widened result) (new_name_at name.now self.old) self.old self.new }
     {
         let next = self.statements.next_id().into();
-        let replaced = match self.names.enter(name, (next, None)) {
-            Ok(replaced) => replaced,
+        match self.names.insert(name, (next, None)) {
+            Ok(None) => Ok(()),
+            Ok(replaced) => {
+                if in_scope(&self.statements, replaced, name).is_some() {
+                    // The map lacks the earlier definition now, so the cause is set first.
+                    let offset = self.offset;
+                    self.failed = Some(Failure::Refused(offset));
+                    return Err(self.fail_at(offset, Message::CannotRedefine(name)));
+                }
+                Ok(())
+            }
             Err(_) => {
                 self.failed = Some(Failure::Memory);
-                return Err(ReadError::Memory);
+                Err(ReadError::Memory)
             }
-        };
-        if in_scope(&self.statements, replaced, name).is_some() {
-            // The map lacks the earlier definition now, so the cause is set first.
-            let offset = self.offset;
-            self.failed = Some(Failure::Refused(offset));
-            return Err(self.fail_at(offset, Message::CannotRedefine(name)));
         }
-        Ok(())
     }
 
     /// Adds the definition of a name to the statements.
