@@ -39,7 +39,8 @@ pub check_refused : (k : ItemType) (name : List ℕ) (before after : Option (Lis
 check_refused k name before after read err e status whole refused (inl (one, kind, line)) =
     subst (IsCheckRun k name before after err) (sym one)
     (read, whole, none_canonical k read (let r = rw kind at refused in r.3), inl (e, kind, refused, line))
-check_refused k name before after read err e status whole refused (inr (two, fault)) = subst (IsCheckRun k name before after err) (sym two) fault
+check_refused k name before after read err e status whole refused (inr (inl (two, kind, line))) = subst (IsCheckRun k name before after err) (sym two) (inl line)
+check_refused k name before after read err e status whole refused (inr (inr (two, line))) = subst (IsCheckRun k name before after err) (sym two) (inr line)
 
 -- what a call did, unless it has failed
 pub done_unless : {A E : Type 0} (r : Result A E) (failed : Bool) (P : Type 0) → OnOk r P → OnErr r (failed ≡ true) → failed ≡ false → P

@@ -11,7 +11,7 @@ use Rattle.souper_stream.specs.Reading.{AreAll}
 use Rattle.souper_format.specs.Streams.{Stream, IsGiven, IsGivenNothing}
 use Rattle.souper_format.specs.Reporting.{ReportedLine}
 use Rattle.souper_records.specs.Records.{records_of, plain}
-use Rattle.souper_records.specs.Reports.{named_line, ReportedFault}
+use Rattle.souper_records.specs.Reports.{named_line, ReportedMemory, ReportedFault}
 use Rattle.souper_records.specs.Runs.{OnStatus}
 
 -- the text is the plain records of the items that it spells
@@ -33,4 +33,5 @@ abbrev pub IsCheckRun : ItemType → List ℕ → Option (List ℕ) → Option (
 IsCheckRun k name before after err status = OnStatus status
     ((read : List ℕ) × IsWhole before after read × IsCanonical k read × IsGivenNothing err)
     ((read : List ℕ) × IsWhole before after read × (IsCanonical k read → ⊥) × ReportedOther k name read err)
-    (ReportedFault name err)
+    (ReportedFault name err ⊎ ReportedMemory err)
+    ⊥
