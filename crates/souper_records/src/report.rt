@@ -19,8 +19,8 @@ pub fn report_memory<E: Write>(err: &mut Watched<E>)
     let _ = err.write_all(b"souper_items: out of memory\n");
 }
 
-/// The line that says something of the stream of this name.
-pub(crate) fn line(alloc: Global, name: &str, says: &str) -> Result<String, AllocError>
+// The line that says something of the stream of this name.
+fn line(alloc: Global, name: &str, says: &str) -> Result<String, AllocError>
     ensures { IfOk result (λ line. string_bytes line ≡ named_line name.now says.now) }
 {
     let mut line = String::new(alloc);

@@ -25,8 +25,13 @@ use std::io::{BufRead, ErrorKind, Write};
 /// The status of a run whose output is a pipe that nobody reads: as a shell shows the end of a program by SIGPIPE, 128 and its number.
 pub const BROKEN_PIPE: u8 = 141;
 
-// Reports a fault of the output, unless it is a pipe that nobody reads, and returns the status.
-fn report_output<E: Write>(alloc: Global, fault: &io::Error, err: &mut Watched<E>) -> u8
+/// Reports a fault of the output, unless it is a pipe that nobody reads, and returns the status of the program.
+///
+/// - 2: the fault was written to `err`, in a line.
+/// - 141 ([`BROKEN_PIPE`]): the fault is a broken pipe. Nothing was written to `err`.
+///
+/// If a write to `err` fails, the status is the same.
+pub fn report_output<E: Write>(alloc: Global, fault: &io::Error, err: &mut Watched<E>) -> u8
     ensures fault { EndsWithFault fault.now (stream E.contents err.old err.new) result }
     ensures stays { has_failed err.old ≡ true → has_failed err.new ≡ true }
 {
