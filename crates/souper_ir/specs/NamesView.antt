@@ -1,53 +1,50 @@
--- Definitions. The names of a scope, as a parser keeps them.
-use Rattle.std.specs.Prelude.{◌≡◌, ◌⊎◌, ℕ, ◌+◌, ◌-◌, ◌*◌, ◌^◌, ◌%◌, List, [], ◌∷◌, Option, Some, None, bytes_eq, if◌then◌else◌}
+-- Definitions. The names of an item, as a parser keeps them.
+use Rattle.std.specs.Prelude.{◌≡◌, ℕ, Bool, false, List, Option, Some, None, bytes_eq, slice_get, if◌then◌else◌}
 use Rattle.std.specs.Borrow.{Bor}
 use Rattle.std.specs.BTreeMap.{BTreeMap, get_by}
-use Rattle.std.specs.Char.{is_ascii_digit}
 use Rattle.std.specs.Cmp.Lexicographic.{slice_cmp}
-use Rattle.std.specs.List.{slice_get}
 use Rattle.std.specs.Ordering.{nat_cmp}
-use Rattle.souper_graph.specs.Syntax.Spelling.{Scope, position_of}
+use Rattle.souper_graph.specs.Syntax.Optional.{◌>>=◌}
 use Rattle.souper_ir.specs.declared.parse.names.Names.{Names}
+use Rattle.souper_graph.specs.Values.{PlainAssignment, PlainStatement, assigned}
+use Rattle.souper_graph.specs.Syntax.Spelling.{Scope, predecessors_if_block}
 
--- with one more byte, modulo 2^32: 48 is `0`
-abbrev pub with_digit : ℕ → ℕ → ℕ
-with_digit n b = if is_ascii_digit b then (n * 10 % 2 ^ 32 + (b - 48)) % 2 ^ 32 else 0
+-- a position, and the number of predecessors of the block there
+abbrev pub NameEntry : Type 0
+NameEntry = ℕ × Option ℕ
 
--- from this number on
-abbrev pub number_from : ℕ → List ℕ → ℕ
-number_from n [] = n
-number_from n (b ∷ bs) = number_from (with_digit n b) bs
+abbrev pub NameMap : Type 0
+NameMap = BTreeMap (Bor (List ℕ)) NameEntry
 
--- the number that a name ends in
-abbrev pub trailing_number : List ℕ → ℕ
-trailing_number name = number_from 0 name
+-- the entry of a name
+abbrev pub entry_in : NameMap → List ℕ → Option NameEntry
+entry_in names n = get_by (λ (k : Bor (List ℕ)). slice_cmp nat_cmp n k.now) names
 
--- a name at a number, with its position
-abbrev pub Slot : Type 0
-Slot = Bor (List ℕ) × ℕ
+-- the name has this entry now, and the others have theirs
+abbrev pub Adds : NameMap → NameMap → List ℕ → NameEntry → Type 0
+Adds old new n e = (m : List ℕ) → entry_in new m ≡ (if bytes_eq n m then Some e else entry_in old m)
 
--- the element has this name and this position
-abbrev pub Holds : Option Slot → List ℕ → ℕ → Type 0
-Holds None n v = ⊥
-Holds (Some x) n v = (x.0.now ≡ n) × (x.1 ≡ v)
+-- the name that was entered last has this entry
+abbrev pub IsLast : Option (Bor (List ℕ) × NameEntry) → NameMap → Type 0
+IsLast None names = Unit {0}
+IsLast (Some x) names = entry_in names x.0.now ≡ Some x.1
 
--- the element at the number is unchanged, or was missing and has the name now
-abbrev pub Keeps : List Slot → List Slot → List ℕ → ℕ → ℕ → Type 0
-Keeps old new n v j = (slice_get new j ≡ slice_get old j) ⊎ ((slice_get old j ≡ None) × Holds (slice_get new j) n v)
+-- each assignment is entered under its name, with its position; so no two have one name
+abbrev pub AreEntered : NameMap → Scope → Type 0
+AreEntered names s = (i : ℕ) (a : PlainAssignment) → slice_get s i ≡ Some (assigned a) → entry_in names a.name ≡ Some (i, predecessors_if_block a.value)
 
--- what the map has for a name
-abbrev pub held : BTreeMap (Bor (List ℕ)) ℕ → List ℕ → Option ℕ
-held others n = get_by (λ (k : Bor (List ℕ)). slice_cmp nat_cmp n k.now) others
+pub record AreNames (names : Names) (s : Scope) : Type 0 where
+  pub entered : AreEntered names.entries s
+  pub last : IsLast names.last names.entries
 
--- the position of the name at the number, if it is this one, or else what the map has
-abbrev pub slot_or : Option Slot → Option ℕ → List ℕ → Option ℕ
-slot_or None o n = o
-slot_or (Some x) o n = if bytes_eq x.0.now n then Some x.1 else o
+abbrev pub defines : Option PlainStatement → List ℕ → Bool
+defines (Some (assigned a)) n = bytes_eq a.name n
+defines _ n = false
 
--- what the vector and the map have for a name
-abbrev pub found : List Slot → BTreeMap (Bor (List ℕ)) ℕ → List ℕ → Option ℕ
-found numbered others n = slot_or (slice_get numbered (trailing_number n)) (held others n) n
+-- whether the statement at the position is an assignment of the name
+abbrev pub is_named : Scope → ℕ → List ℕ → Bool
+is_named s i n = defines (slice_get s i) n
 
--- each name of the scope is found with its position, and no other
-abbrev pub AreNames : Names → Scope → Type 0
-AreNames names s = (n : List ℕ) → found names.numbered.items names.others n ≡ position_of s n
+-- the entry, if the statement at its position is an assignment of the name
+abbrev pub entry_in_scope : Scope → Option NameEntry → List ℕ → Option NameEntry
+entry_in_scope s o n = o >>= λ e. if is_named s e.0 n then Some e else None

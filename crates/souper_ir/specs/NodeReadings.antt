@@ -311,6 +311,12 @@ pub record Definition : Type 0 where
 abbrev pub fresh : Option ℕ → Option (Unit {0})
 fresh o = if is_some o then None else Some tt
 
+-- nothing, if the name is not in scope
+unfoldable pub new_name_at : List ℕ → Parsing → Option (Unit {0} × Parsing)
+new_name_at n p = do
+  f ← fresh (position_of p.scope n)
+  Some (f, p)
+
 -- a name that is not in scope, a type, and the equals sign
 unfoldable pub heading_at : Parsing → Option ((List ℕ × Option Ty) × Parsing)
 heading_at p = do

@@ -11,6 +11,7 @@ mod numbers;
 mod operands;
 mod parser;
 mod place;
+mod recent;
 mod rhs;
 mod sink;
 mod statements;

@@ -1,11 +1,11 @@
 //! What left-hand sides, right-hand sides and replacements have in common.
 
-ghost use Rattle.std.specs.Prelude.{◌≡◌, ◌↔◌, map, IfOk, IfErr, OnOk, IsTrue};
+ghost use Rattle.std.specs.Prelude.{◌≡◌, ◌↔◌, map, IfOk, IfErr, OnOk, OnErr, IsTrue};
 ghost use Rattle.std.specs.String.{string_bytes};
 ghost use Rattle.souper_graph.specs.Values.{Item as PlainItem};
 ghost use Rattle.souper_graph.specs.View.{view_statement, view_left_hand_side, view_right_hand_side, view_replacement};
 ghost use Rattle.souper_graph.specs.Uses.{root_operands};
-ghost use Rattle.souper_graph.specs.Faults.{HasBadId, IsFaultOf};
+ghost use Rattle.souper_graph.specs.Faults.{IsFaultOf};
 ghost use Rattle.souper_graph.specs.PrintOrder.{IsPrintOrder};
 ghost use Rattle.souper_graph.specs.ItemText.{IsItemText, AppendsItemText};
 ghost use Rattle.souper_graph.specs.Renaming.{IsRenamed};
@@ -47,7 +47,7 @@ pub trait Item {
     fn append_text(&self, out: &mut String) -> Result<(), TextError>
         ensures refused { IfErr result (λ error. IsFaultOf (view self.now) error) }
         ensures appended { OnOk result (AppendsItemText item_type (view self.now) (string_bytes out.old) (string_bytes out.new)) }
-        ensures kept { HasBadId (view self.now) → string_bytes out.new ≡ string_bytes out.old };
+        ensures kept { OnErr result (string_bytes out.new ≡ string_bytes out.old) };
 
     /// The canonical text, as [`LeftHandSide::to_text`] returns it.
     fn to_text(&self) -> Result<String, TextError>

@@ -1,6 +1,6 @@
 //! The canonical text of items.
 
-ghost use Rattle.std.specs.Prelude.{◌≡◌, ◌≤◌, ◌++◌, length, flat_map, IfOk, IfErr, OnOk};
+ghost use Rattle.std.specs.Prelude.{◌≡◌, ◌≤◌, ◌++◌, length, flat_map, IfOk, IfErr, OnOk, OnErr};
 ghost use Rattle.std.specs.Fmt.{DisplaysOnOk, DisplaysStyledOnOk};
 ghost use Rattle.souper_graph.specs.Shown.{ShowsLines};
 ghost use Rattle.std.specs.String.{string_bytes};
@@ -25,7 +25,7 @@ impl Parts<'_> {
         ensures ok { OnOk result (string_bytes out.new ≡ string_bytes out.old ++ text_in_order (view_parts self.now).statements (view_parts self.now).ending order.now.ids.items order.now.lead) }
         ensures refused { IfErr result (λ error. IsFaultAmong (view_parts self.now).statements (roots_of (view_parts self.now).ending ++ flat_map (uses_at (view_parts self.now).statements) order.now.ids.items) error) }
     {
-        // A line has about thirty bytes: 32 per line are reserved, and the text grows from there.
+        // A line has about thirty bytes: 32 a line are reserved, and the text grows from there.
         out.reserve(order.ids.len().saturating_mul(32))?;
         self.append_in_order(&order.ids, order.lead, out)?;
         Ok(())
@@ -34,18 +34,20 @@ impl Parts<'_> {
     fn append_text(&self, out: &mut String) -> Result<(), TextError>
         ensures refused { IfErr result (λ error. IsFaultOf (view_parts self.now) error) }
         ensures appended { (k : ItemType) (a : Item) → view_parts self.now ≡ a → IsEndingOf k a.ending → OnOk result (AppendsItemText k a (string_bytes out.old) (string_bytes out.new)) }
-        ensures kept { HasBadId (view_parts self.now) → string_bytes out.new ≡ string_bytes out.old }
+        ensures kept { OnErr result (string_bytes out.new ≡ string_bytes out.old) }
     {
-        let order = self.print_order()?;
-        self.append_by(&order, out)
+        let text = self.to_text()?;
+        out.push_str(&text)?;
+        Ok(())
     }
 
     fn to_text(&self) -> Result<String, TextError>
         ensures refused { IfErr result (λ error. IsFaultOf (view_parts self.now) error) }
         ensures printed { (k : ItemType) (a : Item) → view_parts self.now ≡ a → IsEndingOf k a.ending → IfOk result (λ text. IsItemText k a (string_bytes text)) }
     {
+        let order = self.print_order()?;
         let mut text = String::new(self.statements.allocator());
-        self.append_text(&mut text)?;
+        self.append_by(&order, &mut text)?;
         Ok(text)
     }
 }
@@ -53,12 +55,11 @@ impl Parts<'_> {
 impl LeftHandSide {
     /// Appends the canonical text, that of [`LeftHandSide::to_text`], to `out`.
     ///
-    /// The errors are those of `to_text`. If the item has a bad id, `out` is unchanged; if memory runs out, a part of the
-    /// text may be left in it.
+    /// The errors are those of `to_text`, and leave `out` unchanged.
     pub fn append_text(&self, out: &mut String) -> Result<(), TextError>
         ensures refused { IfErr result (λ error. IsFaultOf (view_left_hand_side self.now) error) }
         ensures appended { OnOk result (AppendsItemText left_hand_side (view_left_hand_side self.now) (string_bytes out.old) (string_bytes out.new)) }
-        ensures kept { HasBadId (view_left_hand_side self.now) → string_bytes out.new ≡ string_bytes out.old }
+        ensures kept { OnErr result (string_bytes out.new ≡ string_bytes out.old) }
     {
         self.parts().append_text(out)
     }
@@ -82,12 +83,11 @@ impl LeftHandSide {
 impl RightHandSide {
     /// Appends the canonical text, that of [`RightHandSide::to_text`], to `out`.
     ///
-    /// The errors are those of `to_text`. If the item has a bad id, `out` is unchanged; if memory runs out, a part of the
-    /// text may be left in it.
+    /// The errors are those of `to_text`, and leave `out` unchanged.
     pub fn append_text(&self, out: &mut String) -> Result<(), TextError>
         ensures refused { IfErr result (λ error. IsFaultOf (view_right_hand_side self.now) error) }
         ensures appended { OnOk result (AppendsItemText right_hand_side (view_right_hand_side self.now) (string_bytes out.old) (string_bytes out.new)) }
-        ensures kept { HasBadId (view_right_hand_side self.now) → string_bytes out.new ≡ string_bytes out.old }
+        ensures kept { OnErr result (string_bytes out.new ≡ string_bytes out.old) }
     {
         self.parts().append_text(out)
     }
@@ -107,12 +107,11 @@ impl RightHandSide {
 impl Replacement {
     /// Appends the canonical text, that of [`Replacement::to_text`], to `out`.
     ///
-    /// The errors are those of `to_text`. If the item has a bad id, `out` is unchanged; if memory runs out, a part of the
-    /// text may be left in it.
+    /// The errors are those of `to_text`, and leave `out` unchanged.
     pub fn append_text(&self, out: &mut String) -> Result<(), TextError>
         ensures refused { IfErr result (λ error. IsFaultOf (view_replacement self.now) error) }
         ensures appended { OnOk result (AppendsItemText replacement (view_replacement self.now) (string_bytes out.old) (string_bytes out.new)) }
-        ensures kept { HasBadId (view_replacement self.now) → string_bytes out.new ≡ string_bytes out.old }
+        ensures kept { OnErr result (string_bytes out.new ≡ string_bytes out.old) }
     {
         self.parts().append_text(out)
     }

@@ -1,5 +1,5 @@
 -- Items in sequence: at most one list of them is spelled, and none if the parser refuses.
-use Rattle.std.proofs.Common.{◌≡◌, ℕ, ◌<◌, Bool, true, false, List, [], ◌∷◌, ◌++◌, length, Option, Some, None, refl, sym, ◌∙◌, ap, subst, append_assoc, arith}
+use Rattle.std.proofs.Common.{◌≡◌, ℕ, ◌<◌, Bool, true, false, List, [], ◌∷◌, ◌++◌, length, Option, None, refl, sym, ◌∙◌, ap, subst, append_assoc, arith}
 use Rattle.std.proofs.lemmas.List.{append-nil, append_cancel_left, length-append}
 use Rattle.std.specs.List.{AllByRecursion}
 use Rattle.souper_graph.specs.WellFormed.{WellFormed}
@@ -8,7 +8,7 @@ use Rattle.souper_ir.specs.declared.parse.error.ParseError.{ParseError}
 use Rattle.souper_graph.specs.Syntax.Tokens.{Lexeme, IsLexeme}
 use Rattle.souper_graph.specs.Syntax.Spelling.{kinds, Scope, infer_spells, Statements, ItemType, left_hand_side, right_hand_side, replacement, Tail, tail_spells, item_spells, item_spells_after, list_spells, TextSpells}
 use Rattle.souper_ir.specs.Continuation.{ending_continues, item_continues}
-use Rattle.souper_ir.specs.Parsing.{Cause, refused, no_memory, Parsing}
+use Rattle.souper_ir.specs.Parsing.{Cause, Parsing}
 use Rattle.souper_ir.specs.Reading.{cause_of, IfRefused, if_refused, IsRead, Fails, fails_later}
 use Rattle.souper_ir.specs.Grammar.{Free, Stops, Starts, Took, NoFrontOf, LastGoesOn, Refusal, peek_at}
 use Rattle.souper_ir.specs.Laws.Unique.{Free-weaker}
@@ -20,6 +20,7 @@ use Rattle.souper_ir.specs.Laws.Items.{joined_last, joined_longer, starts_ahead,
 use Rattle.souper_ir.specs.ItemRuns.{ItemsTaken, SpellsAll, ListRefusal}
 use Rattle.souper_ir.specs.Sinks.{TakesOver, TakesFirst}
 use Rattle.souper_lexer.proofs.TokenLaws.{one_reading}
+use Rattle.souper_ir.proofs.Nodes.Failing.{refused_for}
 use Rattle.souper_ir.proofs.Items.WellFormed.{taken_well}
 
 -- what begins a line continues no item
@@ -261,11 +262,6 @@ pushed_some (w ∷ vs) v e = absurd cc
 
 -- ---- what a sink took before a refusal
 
-always : {P : Type 0} (f : Option Cause) → P → IfRefused f P
-always (Some (refused o)) h = h
-always (Some no_memory) h = tt
-always None h = tt
-
 pub taken_first : {S : Type 0} (holds : S → List Item → Type 0) (k : ItemType) (items : List Item) (f : Option Cause) (p q : Parsing) (old new : S) → ItemsTaken k items p q → TakesOver holds items old new
     → IfRefused f (TakesFirst holds k p old new)
-taken_first holds k items f p q old new so taken = always f (record { items = items; used = so.used; others = q.tokens; parts = so.parts; spelled = so.spelled; taken = taken })
+taken_first holds k items f p q old new so taken = refused_for f (record { items = items; used = so.used; others = q.tokens; parts = so.parts; spelled = so.spelled; taken = taken })

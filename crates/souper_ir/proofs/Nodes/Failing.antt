@@ -8,8 +8,8 @@ use Rattle.souper_graph.specs.Syntax.Tokens.{Lexeme}
 use Rattle.souper_graph.specs.Syntax.Spelling.{Scope}
 use Rattle.souper_ir.specs.Places.{IsDirectRefusalText}
 use Rattle.souper_ir.specs.Errors.{kind_of, offset_of, shown_error}
-use Rattle.souper_ir.specs.Parsing.{Cause, refused, Parsing}
-use Rattle.souper_ir.specs.Reading.{cause_by, cause_of, Fails}
+use Rattle.souper_ir.specs.Parsing.{Cause, refused, no_memory, Parsing}
+use Rattle.souper_ir.specs.Reading.{cause_by, cause_of, Fails, IfRefused}
 use Rattle.souper_ir.specs.Grammar.{Refusal}
 
 pub refused_fails : (e : ParseError) (p q : Parsing) (o : ℕ) → cause_of e ≡ Some (refused o) → IsSomeAnd (shown_error e) (IsDirectRefusalText o)
@@ -29,3 +29,19 @@ pub not_io : {X V : Type 0} (spells : Scope → V → List Lexeme → Type 0) (c
     → IfErr r (λ e. Refusal spells continues e p q) → IfErr r (λ e. kind_of e ≢ Io)
 not_io spells continues (Ok x) p q h = tt
 not_io spells continues (Err e) p q h = λ io. h.failed.caused (ap (λ (k : ParseErrorKind). cause_by k (offset_of e)) io)
+
+-- a refusal whose cause was set first
+pub fails_first : (e : ParseError) (p q r : Parsing) → p.failed ≡ None → q.len ≡ p.len → Fails e q r → Fails e p r
+fails_first e p q r live l h = record {
+  stays = h.stays;
+  caused = h.caused;
+  again = λ c x. let clash : ◌≡◌ {A = Option Cause} None (Some c) = sym live ∙ x in absurd cc;
+  within = h.within;
+  shown = h.shown;
+  len = h.len ∙ l;
+}
+
+pub refused_for : {P : Type 0} (f : Option Cause) → P → IfRefused f P
+refused_for (Some (refused o)) h = h
+refused_for (Some no_memory) h = tt
+refused_for None h = tt

@@ -7,58 +7,47 @@ use Rattle.souper_graph.specs.Uses.{Has, Use, value_use, block_use, position_of 
 use Rattle.souper_graph.specs.Faults.{IsAssigned, IsBlockRhs, IsBlock, IsMet, AreMet}
 use Rattle.souper_graph.specs.WellFormed.{predecessors_of_rhs, predecessors_of, AgreesRhs, AgreesWithBlock, Closed}
 use Rattle.souper_graph.specs.Syntax.Spelling.{Scope, predecessors_if_block, entry_from, entry_of, position_of}
-use Rattle.souper_graph.specs.declared.ast.statements.Statement.{Statement}
-use Rattle.souper_graph.specs.declared.ast.statements.Statement.TheVariants.{Assignment as assignment_variant, Pc as pc_variant, BlockPc as block_pc_variant}
-use Rattle.souper_graph.specs.declared.ast.statements.AssignmentRhs.{AssignmentRhs}
-use Rattle.souper_graph.specs.declared.ast.statements.AssignmentRhs.TheVariants.{Var, Block as block_variant, Phi, ReservedInst, ReservedConst, Instruction}
-use Rattle.souper_graph.specs.declared.ast.statements.Block.{Block}
-use Rattle.souper_graph.specs.Lookup.{block_of_rhs, block_of, block_at as block_in}
-use Rattle.souper_graph.specs.View.{view_rhs, view_statement}
-use Rattle.std.specs.Prelude.{map}
-use Rattle.std.proofs.lemmas.Option.{slice_get-map}
-use Rattle.souper_graph.specs.Syntax.Optional.{◌>>=◌}
-use Rattle.souper_ir.specs.NodeReadings.{predecessors_at, block_entry}
 use Rattle.souper_ir.specs.Laws.Peeks.{some_is}
 use Rattle.souper_ir.proofs.Scope.Names.{Entry, or_else, entry_push, entry_pass, no_entry}
 
 -- ---- names
 
--- the assignment at a position is of a block with this number of predecessors, or of no block
-abbrev pub StandsWith : Scope → ℕ → Option ℕ → Type 0
-StandsWith s i predecessors = (a : PlainAssignment) × (slice_get s i ≡ Some (assigned a)) × (predecessors_if_block a.value ≡ predecessors)
+-- the statement at a position is the assignment of the name, of a block with this number of predecessors, or of no block
+abbrev pub StandsWith : Scope → List ℕ → ℕ → Option ℕ → Type 0
+StandsWith s n i predecessors = (a : PlainAssignment) × (slice_get s i ≡ Some (assigned a)) × (predecessors_if_block a.value ≡ predecessors) × (a.name ≡ n)
 
-abbrev FoundFrom : ℕ → Scope → ℕ × Option ℕ → Type 0
-FoundFrom k s e = (j : ℕ) × (e.0 ≡ k + j) × StandsWith s j e.1
+abbrev FoundFrom : ℕ → Scope → List ℕ → ℕ × Option ℕ → Type 0
+FoundFrom k s n e = (j : ℕ) × (e.0 ≡ k + j) × StandsWith s n j e.1
 
-later : (k : ℕ) (x : PlainStatement) (s : Scope) (e : ℕ × Option ℕ) → FoundFrom (suc k) s e → FoundFrom k (x ∷ s) e
-later k x s e r = (suc r.0, (let l = r.1 in omega arith), r.2)
+later : (k : ℕ) (x : PlainStatement) (s : Scope) (n : List ℕ) (e : ℕ × Option ℕ) → FoundFrom (suc k) s n e → FoundFrom k (x ∷ s) n e
+later k x s n e r = (suc r.0, (let l = r.1 in omega arith), r.2)
 
-found_if : (b : Bool) (k : ℕ) (a : PlainAssignment) (s : Scope) (more : Option (ℕ × Option ℕ)) (e : ℕ × Option ℕ) → (more ≡ Some e → FoundFrom (suc k) s e)
-    → (if b then Some (k, predecessors_if_block a.value) else more) ≡ Some e → FoundFrom k (assigned a ∷ s) e
-found_if true k a s more e behind h =
+found_if : (b : Bool) (k : ℕ) (a : PlainAssignment) (s : Scope) (n : List ℕ) (more : Option (ℕ × Option ℕ)) (e : ℕ × Option ℕ) → bytes_eq a.name n ≡ b → (more ≡ Some e → FoundFrom (suc k) s n e)
+    → (if b then Some (k, predecessors_if_block a.value) else more) ≡ Some e → FoundFrom k (assigned a ∷ s) n e
+found_if true k a s n more e named behind h =
     let same : ◌≡◌ {A = ℕ × Option ℕ} (k, predecessors_if_block a.value) e = some_is h in
     let place : k ≡ e.0 = ap (λ (x : ℕ × Option ℕ). x.0) same in
-    (0, (omega arith), (a, refl, ap (λ (x : ℕ × Option ℕ). x.1) same))
-found_if false k a s more e behind h = later k (assigned a) s e (behind h)
+    (0, (omega arith), (a, refl, ap (λ (x : ℕ × Option ℕ). x.1) same, (bytes_eq-Decides a.name n).0 named))
+found_if false k a s n more e named behind h = later k (assigned a) s n e (behind h)
 
-found_from : (k : ℕ) (s : Scope) (n : List ℕ) (e : ℕ × Option ℕ) → entry_from k s n ≡ Some e → FoundFrom k s e
+found_from : (k : ℕ) (s : Scope) (n : List ℕ) (e : ℕ × Option ℕ) → entry_from k s n ≡ Some e → FoundFrom k s n e
 found_from k [] n e h = absurd cc
-found_from k (assigned a ∷ s) n e h = found_if (bytes_eq a.name n) k a s (entry_from (suc k) s n) e (found_from (suc k) s n e) h
-found_from k (condition p ∷ s) n e h = later k (condition p) s e (found_from (suc k) s n e h)
-found_from k (block_condition p ∷ s) n e h = later k (block_condition p) s e (found_from (suc k) s n e h)
+found_from k (assigned a ∷ s) n e h = found_if (bytes_eq a.name n) k a s n (entry_from (suc k) s n) e refl (found_from (suc k) s n e) h
+found_from k (condition p ∷ s) n e h = later k (condition p) s n e (found_from (suc k) s n e h)
+found_from k (block_condition p ∷ s) n e h = later k (block_condition p) s n e (found_from (suc k) s n e h)
 
 -- what is at the entry of a name
-entry_stands : (s : Scope) (n : List ℕ) (i : ℕ) (predecessors : Option ℕ) → entry_of s n ≡ Some (i, predecessors) → StandsWith s i predecessors
+pub entry_stands : (s : Scope) (n : List ℕ) (i : ℕ) (predecessors : Option ℕ) → entry_of s n ≡ Some (i, predecessors) → StandsWith s n i predecessors
 entry_stands s n i predecessors h =
     let r = found_from 0 s n (i, predecessors) h in
     let same : r.0 ≡ i = (let l = r.1 in omega arith) in
-    subst (λ (x : ℕ). StandsWith s x predecessors) same r.2
+    subst (λ (x : ℕ). StandsWith s n x predecessors) same r.2
 
 entry_at : (o : Option (ℕ × Option ℕ)) (i : ℕ) → option_map (λ (e : ℕ × Option ℕ). e.0) o ≡ Some i → (predecessors : Option ℕ) × (o ≡ Some (i, predecessors))
 entry_at None i h = absurd cc
 entry_at (Some e) i h = (e.1, ap (λ (x : ℕ). Some (x, e.1)) (let same : e.0 ≡ i = some_is h in same))
 
-position_stands : (s : Scope) (n : List ℕ) (i : ℕ) → position_of s n ≡ Some i → (predecessors : Option ℕ) × StandsWith s i predecessors
+position_stands : (s : Scope) (n : List ℕ) (i : ℕ) → position_of s n ≡ Some i → (predecessors : Option ℕ) × StandsWith s n i predecessors
 position_stands s n i h =
     let e = entry_at (entry_of s n) i h in
     (e.0, entry_stands s n i e.0 e.1)
@@ -151,44 +140,6 @@ block_reaches s n i predecessors e =
     let r = entry_stands s n i (Some predecessors) e in
     let k = predecessors_are r.0.value predecessors r.2 in
     ((get_in s i (assigned r.0) r.1, subst IsBlock (sym r.1) k.0), k.1 ∙ ap predecessors_of (sym r.1))
-
--- the block at a position, with its number of predecessors
-abbrev pub block_at : List Statement → Option ℕ → Option (ℕ × ℕ)
-block_at statements None = None
-block_at statements (Some i) = option_map view_statement (slice_get statements i) >>= λ x. (predecessors_at x >>= λ predecessors. Some (i, predecessors))
-
-block_found : (statements : List Statement) (n : List ℕ) → block_at statements (position_of (map view_statement statements) n) ≡ block_entry (entry_of (map view_statement statements) n)
-block_found statements n = by_entry (entry_of (map view_statement statements) n) refl
-  where
-    by_entry : (e : Option (ℕ × Option ℕ)) → entry_of (map view_statement statements) n ≡ e → block_at statements (option_map (λ (x : ℕ × Option ℕ). x.0) e) ≡ block_entry e
-    by_entry None is = refl
-    by_entry (Some e) is =
-        let there = entry_stands (map view_statement statements) n e.0 e.1 is in
-        rw (sym (slice_get-map view_statement statements e.0), there.1, there.2) refl
-
-pub block_named : (statements : List Statement) (scope : Scope) (n : List ℕ) (v : Option ℕ) → map view_statement statements ≡ scope → v ≡ position_of scope n → block_at statements v ≡ block_entry (entry_of scope n)
-block_named statements scope n v is e = rw e (subst (λ (s : Scope). block_at statements (position_of s n) ≡ block_entry (entry_of s n)) is (block_found statements n))
-
-abbrev pub counted : ℕ → Option Block → Option (ℕ × ℕ)
-counted i None = None
-counted i (Some b) = Some (i, b.predecessors)
-
-in_rhs : (i : ℕ) (r : AssignmentRhs) → (predecessors_if_block (view_rhs r) >>= λ n. counted i (Some (record { predecessors = n }))) ≡ counted i (block_of_rhs r)
-in_rhs i Var = refl
-in_rhs i (block_variant b) = refl
-in_rhs i (Phi p) = refl
-in_rhs i ReservedInst = refl
-in_rhs i ReservedConst = refl
-in_rhs i (Instruction x) = refl
-
-in_statement : (ss : List Statement) (i : ℕ) (o : Option Statement) → slice_get ss i ≡ o → block_at ss (Some i) ≡ counted i (o >>= block_of)
-in_statement ss i None e = rw e refl
-in_statement ss i (Some (assignment_variant a)) e = rw e (in_rhs i a.value)
-in_statement ss i (Some (pc_variant p)) e = rw e refl
-in_statement ss i (Some (block_pc_variant p)) e = rw e refl
-
-pub block_is : (statements : List Statement) (i : ℕ) (b : Option Block) → b ≡ block_in statements i → block_at statements (Some i) ≡ counted i b
-block_is statements i b e = rw e (in_statement statements i (slice_get statements i) refl)
 
 -- ---- as the scope grows
 

@@ -24,7 +24,7 @@ use crate::parse::last_lines::{cand, infer, result};
 use crate::parse::parser::{Parser, Read, Result};
 use crate::parse::rhs::rhs;
 use crate::parse::sink::Sink;
-use crate::parse::statements::{block_pc, heading, pc};
+use crate::parse::statements::{block_pc, entered_heading, pc};
 use crate::parse::tokens::{token_comes, word_comes};
 use crate::parse::traits::Parse;
 use souper_graph::ast::{Assignment, Attribute, Item, LeftHandSide, Replacement, RightHandSide};
@@ -81,7 +81,7 @@ fn enter_assignment(parser: &mut Parser<'_>) -> Read<()>
     ensures ok { OnOk result (Enters parser.old parser.new) }
     ensures err { IfErr result (λ e. Refusal statement_spells statement_continues (error_of e) parser.old parser.new) }
 {
-    let (name, ty) = heading(parser)?;
+    let (name, ty) = entered_heading(parser)?;
     // `?` would copy the value once more.
     let value = match rhs(parser) {
         Ok(value) => value,

@@ -1,98 +1,74 @@
-//! The names in scope.
-ghost use Rattle.std.specs.Prelude.{◌≡◌, ◌<◌, ◌^◌, ◌++◌, ◌∷◌, [], length, ℕ, None, OnOk};
-ghost use Rattle.souper_graph.specs.Values.{PlainAssignment, assigned};
-ghost use Rattle.souper_graph.specs.Syntax.Spelling.{Scope, position_of};
-ghost use Rattle.souper_ir.specs.NamesView.{trailing_number, Keeps};
+//! The names of an item.
 
-use souper_graph::ast::{Id, ValueId};
+use souper_graph::ast::ValueId;
 use std::alloc::{AllocError, Global};
 use std::collections::BTreeMap;
 
-/// Each name in scope with its value.
-///
-/// Souper numbers its values, so a name is looked up by the number that it ends in, and in a map if it is not there.
+/// A value and, if it is a block, its number of predecessors.
+pub(crate) type Entry = (ValueId, Option<u32>);
+
+/// Each name of an item with its entry.
 #[derive(Debug, Drop)]
 pub(crate) struct Names<'a> {
-    // At each number a name that ends in it, or one that ends in a higher number if this one was skipped.
-    numbered: Vec<(&'a str, ValueId)>,
-    // Each other name.
-    others: BTreeMap<&'a str, ValueId>,
+    entries: BTreeMap<&'a str, Entry>,
+    // The name that was entered last, with its entry.
+    last: Option<(&'a str, Entry)>,
 }
-
-// The number that a name ends in, modulo 2^32, or 0 if its last character is no digit.
-fn trailing_number(name: &str) -> usize
-    ensures number { result ≡ trailing_number name.now }
-    ensures below { result < 2 ^ 32 }
-{
-    let mut number: u32 = 0;
-    for byte in name.as_bytes() {
-        number = if byte.is_ascii_digit() {
-            number
-                .wrapping_mul(10)
-                .wrapping_add(u32::from(*byte - b'0'))
-        } else {
-            0
-        };
-    }
-    number as usize
-}
-
-// How far the number of a name in the vector may be beyond that of the statements before it. So the vector is hardly longer
-// than the statements.
-const REACH: usize = 16;
 
 impl<'a> Names<'a> {
-    ghost use Rattle.souper_ir.specs.NamesView.{AreNames};
+    ghost use Rattle.std.specs.Prelude.{◌≡◌, [], IfOk, OnOk};
+    ghost use Rattle.souper_ir.specs.NamesView.{AreNames, IsLast, entry_in, Adds};
 
     pub(crate) fn new(alloc: Global) -> Self
         ensures { AreNames result [] }
     {
         Names {
-            numbered: Vec::new(alloc),
-            others: BTreeMap::new(alloc),
+            entries: BTreeMap::new(alloc),
+            last: None,
         }
     }
 
-    /// The value of a name.
-    #[inline(always)]
-    pub(crate) fn get(&self, name: &str) -> Option<ValueId>
-        ensures { (s : Scope) → AreNames self.now s → result ≡ position_of s name.now }
+    /// The entry of a name.
+    pub(crate) fn get(&self, name: &str) -> Option<Entry>
+        ensures { result ≡ entry_in self.now.entries name.now }
     {
-        if let Some((other, value)) = self.numbered.get(trailing_number(name)) {
-            if *other == name {
-                return Some(*value);
+        self.entries.get(name).copied()
+    }
+
+    /// Enters a name, and returns the entry that it had.
+    pub(crate) fn insert(
+        &mut self,
+        name: &'a str,
+        entry: Entry,
+    ) -> Result<Option<Entry>, AllocError>
+        ensures replaced { IfOk result (λ replaced. replaced ≡ entry_in self.old.entries name.now) }
+        ensures entered { OnOk result (Adds self.old.entries self.new.entries name.now entry) }
+        ensures last { OnOk result (IsLast self.new.last self.new.entries) }
+    {
+        match self.entries.insert(name, entry) {
+            Ok(replaced) => {
+                self.last = Some((name, entry));
+                Ok(replaced)
             }
-        }
-        self.others.get(name).copied()
-    }
-
-    // Appends a name up to its number: skipped numbers get it, too.
-    fn append(&mut self, name: &'a str, value: ValueId, number: usize) -> Result<(), AllocError>
-        ensures others { self.new.others ≡ self.old.others }
-        ensures keeps { (j : ℕ) → Keeps self.old.numbered.items self.new.numbered.items name.now value j }
-        ensures reaches { OnOk result (number < length self.new.numbered.items) }
-    {
-        while self.numbered.len() <= number {
-            match self.numbered.push((name, value)) {
-                Ok(()) => {}
-                Err(_) => return Err(AllocError),
-            }
-        }
-        Ok(())
-    }
-
-    /// Enters a new name with its value.
-    pub(crate) fn define(&mut self, name: &'a str, value: ValueId) -> Result<(), AllocError>
-        ensures { OnOk result ((s : Scope) (a : PlainAssignment) → AreNames self.old s → position_of s name.now ≡ None → a.name ≡ name.now → value ≡ length s → AreNames self.new (s ++ assigned a ∷ [])) }
-    {
-        let number = trailing_number(name);
-        let in_reach = number.saturating_sub(REACH) <= Id::from(value).index();
-        if in_reach && self.numbered.len() <= number {
-            return self.append(name, value, number);
-        }
-        match self.others.insert(name, value) {
-            Ok(_) => Ok(()),
             Err(_) => Err(AllocError),
+        }
+    }
+
+    /// Enters a name. The map is not searched if this is what was entered last.
+    #[inline(always)]
+    pub(crate) fn enter(&mut self, name: &'a str, entry: Entry) -> Result<(), AllocError>
+        requires { IsLast self.old.last self.old.entries }
+        ensures entered { OnOk result (Adds self.old.entries self.new.entries name.now entry) }
+        ensures last { OnOk result (IsLast self.new.last self.new.entries) }
+    {
+        if let Some((last, known)) = self.last {
+            if known == entry && last == name {
+                return Ok(());
+            }
+        }
+        match self.insert(name, entry) {
+            Ok(_) => Ok(()),
+            Err(error) => Err(error),
         }
     }
 
@@ -100,7 +76,7 @@ impl<'a> Names<'a> {
     pub(crate) fn clear(&mut self)
         ensures { AreNames self.new [] }
     {
-        self.numbered.clear();
-        self.others.clear();
+        self.entries.clear();
+        self.last = None;
     }
 }

@@ -1,13 +1,14 @@
 //! A parser with one token of lookahead.
 ghost use Rattle.std.specs.Prelude.{◌≡◌, ◌≤◌, ◌++◌, ◌∷◌, [], length, map, ℕ, List, true, false, Some, None, IfOk, IfSome, IfNone, OnOk, OnErr, IfErr, OnErr, IsOk, IsSomeAnd, option_map, is_some, ◌≢◌};
 ghost use Rattle.std.specs.String.{string_bytes};
-ghost use Rattle.souper_graph.specs.View.{view_statement, view_assignment};
+ghost use Rattle.souper_graph.specs.View.{view_statement, view_assignment, view_rhs};
 ghost use Rattle.souper_graph.specs.Values.{assigned};
 ghost use Rattle.souper_graph.specs.Syntax.Tokens.{Lexeme, ident, AreTokensOf, IsTextOf};
 ghost use Rattle.souper_lexer.specs.TokenView.{lexeme_of};
 ghost use Rattle.souper_graph.specs.Uses.{is_condition};
-ghost use Rattle.souper_graph.specs.Syntax.Spelling.{entry_of, position_of};
-ghost use Rattle.souper_ir.specs.NodeReadings.{accept, block_entry, is_any, is_mark, is_name, mark_of, name_of};
+ghost use Rattle.souper_graph.specs.Syntax.Spelling.{entry_of, position_of, predecessors_if_block};
+ghost use Rattle.souper_ir.specs.NodeReadings.{accept, block_entry, is_any, is_mark, is_name, mark_of, name_of, new_name_at};
+ghost use Rattle.souper_ir.specs.NamesView.{is_named, entry_in_scope};
 ghost use Rattle.souper_ir.specs.Grammar.{peek_at};
 ghost use Rattle.souper_ir.specs.MarkView.{lexeme_of_mark};
 ghost use Rattle.souper_ir.specs.Parsing.{Cause, refused};
@@ -17,9 +18,10 @@ ghost use Rattle.souper_ir.specs.Reading.{Fails, FailsForMemory, Gives, IsRead, 
 
 use crate::parse::error::{ParseError, ReadError};
 use crate::parse::message::Message;
-use crate::parse::names::Names;
+use crate::parse::names::{Entry, Names};
+use crate::parse::recent::Recent;
 use crate::parse::tokens::{Mark, byte_of};
-use souper_graph::ast::{Arena, Assignment, BlockId, Id, Statement, ValueId};
+use souper_graph::ast::{Arena, Assignment, AssignmentRhs, BlockId, Id, Statement, ValueId};
 use souper_lexer::{Lexer, Token};
 use std::alloc::{AllocError, Global};
 use std::marker::Model;
@@ -53,6 +55,8 @@ pub struct Parser<'a> {
     statements: Arena<Statement>,
     // The names that they define.
     names: Names<'a>,
+    // Is asked before the map: most uses are of a value that was defined last.
+    recent: Recent,
     failed: Option<Failure>,
 }
 
@@ -84,6 +88,7 @@ impl<'a> Parser<'a> {
             offset: 0,
             statements: Arena::new(alloc),
             names: Names::new(alloc),
+            recent: Recent::new(),
             failed: None,
         }
     }
@@ -278,14 +283,63 @@ fn push(
     statements.alloc(statement)
 }
 
+// Whether the statement at the position is an assignment of the name.
+#[inline(always)]
+fn is_named(statements: &Arena<Statement>, value: ValueId, name: &str) -> bool
+    ensures { result ≡ is_named (map view_statement statements.now) value name.now }
+{
+    match statements.assignment(value) {
+        Some(assignment) => assignment.name.as_str() == name,
+        None => false,
+    }
+}
+
+// The entry, if the statement at its position is an assignment of the name.
+fn in_scope(statements: &Arena<Statement>, entry: Option<Entry>, name: &str) -> Option<Entry>
+    ensures { result ≡ entry_in_scope (map view_statement statements.now) entry name.now }
+{
+    let (value, predecessors) = entry?;
+    if is_named(statements, value, name) {
+        Some((value, predecessors))
+    } else {
+        None
+    }
+}
+
+// The number of predecessors of a block, or `None` for any other right side.
+fn predecessors_of(rhs: &AssignmentRhs) -> Option<u32>
+    ensures { result ≡ predecessors_if_block (view_rhs rhs.now) }
+{
+    match rhs {
+        AssignmentRhs::Block(block) => Some(block.predecessors),
+        _ => None,
+    }
+}
+
 impl<'a> Parser<'a> {
+    // The entry of a name in scope.
+    fn entry(&self, name: &str) -> Option<Entry>
+        requires { self.now.failed ≡ None }
+        ensures { result ≡ entry_of self.now.scope name.now }
+    {
+        in_scope(&self.statements, self.names.get(name), name)
+    }
+
     /// The value of a name.
     #[inline(always)]
     pub(crate) fn value_named(&self, name: &str) -> Option<ValueId>
         requires { self.now.failed ≡ None }
         ensures { result ≡ position_of self.now.scope name.now }
     {
-        self.names.get(name)
+        if let Some(value) = self.recent.get(name) {
+            if is_named(&self.statements, value, name) {
+                return Some(value);
+            }
+        }
+        match self.entry(name) {
+            Some((value, _)) => Some(value),
+            None => None,
+        }
     }
 
     /// The block of a name, and its number of predecessors.
@@ -293,10 +347,34 @@ impl<'a> Parser<'a> {
         requires { self.now.failed ≡ None }
         ensures { result ≡ block_entry (entry_of self.now.scope name.now) }
     {
-        let value = self.value_named(name)?;
-        let id = Id::from(value).into();
-        let block = self.statements.block(id)?;
-        Some((id, block.predecessors))
+        let (value, predecessors) = self.entry(name)?;
+        Some((Id::from(value).into(), predecessors?))
+    }
+
+    /// Begins the definition of a name, which has to be new: enters it with the position of the next statement.
+    #[inline(always)]
+    #[tactic(auto, unfolding(crate::specs::NodeReadings::new_name_at))]
+    pub(crate) fn begin(&mut self, name: &'a str) -> Read<()>
+        requires { self.old.failed ≡ None }
+        ensures { Gives (λ u. u) (widened result) (new_name_at name.now self.old) self.old self.new }
+    {
+        let next = self.statements.next_id().into();
+        match self.names.insert(name, (next, None)) {
+            Ok(None) => Ok(()),
+            Ok(replaced) => {
+                if in_scope(&self.statements, replaced, name).is_some() {
+                    // The map lacks the earlier definition now, so the cause is set first.
+                    let offset = self.offset;
+                    self.failed = Some(Failure::Refused(offset));
+                    return Err(self.fail_at(offset, Message::CannotRedefine(name)));
+                }
+                Ok(())
+            }
+            Err(_) => {
+                self.failed = Some(Failure::Memory);
+                Err(ReadError::Memory)
+            }
+        }
     }
 
     /// Adds the definition of a name to the statements.
@@ -308,13 +386,17 @@ impl<'a> Parser<'a> {
         ensures ok { OnOk result (self.new ≡ record self.old { scope = self.old.scope ++ assigned (view_assignment assignment) ∷ [] }) }
         ensures err { IfErr result (λ error. FailsForMemory (error_of error) self.old self.new) }
     {
-        let id = match push(&mut self.statements, assignment.into()) {
-            Ok(id) => id,
+        let predecessors = predecessors_of(&assignment.value);
+        let value = match push(&mut self.statements, assignment.into()) {
+            Ok(id) => id.into(),
             Err(_) => return Err(self.want_memory()),
         };
-        match self.names.define(name, id.into()) {
-            Ok(()) => Ok(()),
-            // The names may lack one of the statements now, so the cause is set first.
+        match self.names.enter(name, (value, predecessors)) {
+            Ok(_) => {
+                self.recent.put(name, value);
+                Ok(())
+            }
+            // The map lacks the definition, so the cause is set first.
             Err(_) => {
                 self.failed = Some(Failure::Memory);
                 Err(ReadError::Memory)

@@ -27,13 +27,25 @@ use souper_lexer::Token;
 
 /// The name of an assignment, which is new, and its type, up to the equals sign.
 #[tactic(auto, unfolding(crate::specs::NodeReadings::heading_at))]
-pub(crate) fn heading<'a>(parser: &mut Parser<'a>) -> Read<(&'a str, Option<Type>)>
+fn heading<'a>(parser: &mut Parser<'a>) -> Read<(&'a str, Option<Type>)>
     ensures { Gives (λ r. (r.0.now, r.1)) (widened result) (heading_at parser.old) parser.old parser.new }
 {
     let name = value_name(parser)?;
     if parser.value_named(name).is_some() {
         return Err(parser.refuse(Message::CannotRedefine(name)));
     }
+    let ty = optional_type(parser)?;
+    punctuation(parser, Mark::Equals)?;
+    Ok((name, ty))
+}
+
+/// The same, of an assignment that is entered: its definition begins.
+#[tactic(auto, unfolding(crate::specs::NodeReadings::heading_at, crate::specs::NodeReadings::new_name_at))]
+pub(crate) fn entered_heading<'a>(parser: &mut Parser<'a>) -> Read<(&'a str, Option<Type>)>
+    ensures { Gives (λ r. (r.0.now, r.1)) (widened result) (heading_at parser.old) parser.old parser.new }
+{
+    let name = value_name(parser)?;
+    parser.begin(name)?;
     let ty = optional_type(parser)?;
     punctuation(parser, Mark::Equals)?;
     Ok((name, ty))

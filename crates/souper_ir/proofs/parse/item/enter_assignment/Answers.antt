@@ -17,15 +17,15 @@ returns-in_err-name-clause-err c =
     let p = err_from_is_err_and c.from_residual.result c.from_residual.ensures.1 in
     let here = c.args.parser.now in
     let e = error_of c.in_err-name.field-0.0 in
-    rw (p.1, p.2) (assignment_refused e here here here c.heading.new.parser (no_pc_seen here here c.requires) (no_block_pc_seen here here c.requires)
-    (heading_refused e here c.heading.new.parser c.in_err-name.ensures))
+    rw (p.1, p.2) (assignment_refused e here here here c.entered_heading.new.parser (no_pc_seen here here c.requires) (no_block_pc_seen here here c.requires)
+    (heading_refused e here c.entered_heading.new.parser c.in_err-name.ensures))
 
 pub returns-in-Err-clause-err : goal.returns-in-Err-clause-err
 returns-in-Err-clause-err c =
     let here = c.args.parser.now in
     let e = error_of c.in-Err.error in
     assignment_refused e here here here c.rhs.new.parser (no_pc_seen here here c.requires) (no_block_pc_seen here here c.requires)
-    (value_refused e (c.in_ok-name.name.now, c.in_ok-name.ty) here c.heading.new.parser c.rhs.new.parser c.in_ok-name.ensures c.in-Err.ensures)
+    (value_refused e (c.in_ok-name.name.now, c.in_ok-name.ty) here c.entered_heading.new.parser c.rhs.new.parser c.in_ok-name.ensures c.in-Err.ensures)
 
 pub returns-in_err-attributes-clause-err : goal.returns-in_err-attributes-clause-err
 returns-in_err-attributes-clause-err c =
@@ -33,7 +33,7 @@ returns-in_err-attributes-clause-err c =
     let here = c.args.parser.now in
     let e = error_of c.in_err-attributes.field-0.0 in
     rw (p.1, p.2) (assignment_refused e here here here c.parse.new.parser (no_pc_seen here here c.requires) (no_block_pc_seen here here c.requires)
-    (attributes_refused e (record { name = c.in_ok-name.name.now; ty = c.in_ok-name.ty; value = view_rhs c.in-Ok.value }) here c.heading.new.parser c.rhs.new.parser c.parse.new.parser
+    (attributes_refused e (record { name = c.in_ok-name.name.now; ty = c.in_ok-name.ty; value = view_rhs c.in-Ok.value }) here c.entered_heading.new.parser c.rhs.new.parser c.parse.new.parser
     c.in_ok-name.ensures c.in-Ok.ensures (rw (sym c.in_err-attributes.ensures) at c.parse.ensures.err)))
 
 pub narrow-requires : goal.narrow-requires
@@ -42,14 +42,14 @@ narrow-requires c = not_io _ _ c.parse.result c.rhs.new.parser c.parse.new.parse
 pub define-requires-clause-fresh : goal.define-requires-clause-fresh
 define-requires-clause-fresh c =
     let a : PlainAssignment = record { name = c.in_ok-name.name.now; ty = c.in_ok-name.ty; value = view_rhs c.in-Ok.value; attributes = map view_attribute c.in_ok-attributes.attributes.items } in
-    let t = parts_taken a c.args.parser.now c.heading.new.parser c.rhs.new.parser c.parse.new.parser c.in_ok-name.ensures c.in-Ok.ensures (rw (sym c.in_ok-attributes.ensures) at c.parse.ensures.ok) in
+    let t = parts_taken a c.args.parser.now c.entered_heading.new.parser c.rhs.new.parser c.parse.new.parser c.in_ok-name.ensures c.in-Ok.ensures (rw (sym c.in_ok-attributes.ensures) at c.parse.ensures.ok) in
     subst (λ (p : Parsing). position_of p.scope c.in_ok-name.name.now ≡ None) (sym t.state) t.spelled.name_is_new
 
 pub returns-in-Ok-from_str-clause-ok : goal.returns-in-Ok-from_str-clause-ok
 returns-in-Ok-from_str-clause-ok c =
     let here = c.args.parser.now in
     let a : PlainAssignment = record { name = c.in_ok-name.name.now; ty = c.in_ok-name.ty; value = view_rhs c.in-Ok.value; attributes = map view_attribute c.in_ok-attributes.attributes.items } in
-    let t = parts_taken a here c.heading.new.parser c.rhs.new.parser c.parse.new.parser c.in_ok-name.ensures c.in-Ok.ensures (rw (sym c.in_ok-attributes.ensures) at c.parse.ensures.ok) in
+    let t = parts_taken a here c.entered_heading.new.parser c.rhs.new.parser c.parse.new.parser c.in_ok-name.ensures c.in-Ok.ensures (rw (sym c.in_ok-attributes.ensures) at c.parse.ensures.ok) in
     on_ok_weaker c.define.result
     (entered (assigned a) here c.parse.new.parser c.define.new.self
     (assignment_taken a here here here c.parse.new.parser (no_pc_seen here here c.requires) (no_block_pc_seen here here c.requires) t))

@@ -1,12 +1,15 @@
-use Rattle.std.proofs.Common.{map, ◌∙◌}
+use Rattle.std.proofs.Common.{map}
 use Rattle.std.proofs.lemmas.List.{map-append}
 use Rattle.souper_graph.specs.View.{view_statement}
-use Rattle.souper_ir.proofs.Scope.Names.{position_pass}
+use Rattle.souper_ir.proofs.Scope.Entered.{names_pass}
 use Rattle.souper_ir.proofs.parse.parser.Parser.add.Goals as goal
 
 pub invariant_of-self : goal.invariant_of-self
 invariant_of-self c = record {
   offset = c.self.invariant.offset;
   failed = c.self.invariant.failed;
-  names = λ live n. rw (c.in-Ok.ensures.grows, map-append) (c.self.invariant.names live n ∙ position_pass (map view_statement c.self.inside.statements) (view_statement c.args.condition) n c.requires.unnamed);
+  names = λ live. let are = c.self.invariant.names live in record {
+    entered = rw (c.in-Ok.ensures.grows, map-append) (names_pass c.self.inside.names.entries (map view_statement c.self.inside.statements) (view_statement c.args.condition) are.entered c.requires.unnamed);
+    last = are.last;
+  };
 }
