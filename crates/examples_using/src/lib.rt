@@ -1,4 +1,4 @@
-//! The examples of `docs/USING.md`: texts that are read, walked, built, changed, compared and printed.
+//! The examples of `docs/GUIDE.md`: texts that are read, walked, built, changed, compared and printed.
 #![tactic(auto)]
 
 pub mod building;

@@ -2,7 +2,7 @@
 //!
 //! Each case makes its call and asserts that the result is one of those that are allowed: the result with ample memory,
 //! which is written out, or out of memory with all as before. Its test passes only for the result with ample memory, and else
-//! says which of the two it was. `.ci/refused-memory` runs the tests with each allocation failing in turn.
+//! says which of the two it was. `tools/refused-memory` runs the tests with each allocation failing in turn.
 #![tactic(auto)]
 
 #[cfg(test)]

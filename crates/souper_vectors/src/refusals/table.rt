@@ -12,7 +12,7 @@
 //! `---` and the one before `===` are not part of them. Escapes are those of a string literal; a space at the end of a line
 //! is written `\u{20}`.
 //!
-//! The examples of `docs/GRAMMAR.md` are among the records, which `.ci/grammar-examples` checks.
+//! The examples of `docs/GRAMMAR.md` are among the records, which `tools/grammar-examples` checks.
 
 /// The records, from end to end.
 pub const TABLE: &str = "
