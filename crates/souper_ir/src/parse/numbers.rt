@@ -1,6 +1,6 @@
 //! The numbers, widths and bit lists that words spell.
 
-ghost use Rattle.std.specs.Prelude.{◌≡◌, ◌^◌, Some, None, MatchResult, IfOk, option_map};
+ghost use Rattle.std.specs.Prelude.{◌≡◌, ◌^◌, Some, None, MatchResult, IfOk, IfSome, option_map};
 ghost use Rattle.std.specs.Char.{is_ascii_digit};
 ghost use Rattle.std.specs.List.{list_all};
 ghost use Rattle.souper_graph.specs.Syntax.Numbers.{number_of, count_of, width_of, bit_of, known_bit_of, bits_of, known_bits_of};
@@ -55,10 +55,28 @@ fn are_digits(text: &str) -> bool
     text.bytes().all(|byte| byte.is_ascii_digit())
 }
 
+// The width of the words that most types are.
+fn usual_width(word: &str) -> Option<u16>
+    ensures { IfSome result (λ width. width_of word.now ≡ Some width) }
+{
+    match word.as_bytes() {
+        b"i1" => Some(1),
+        b"i8" => Some(8),
+        b"i16" => Some(16),
+        b"i32" => Some(32),
+        b"i64" => Some(64),
+        b"i128" => Some(128),
+        _ => None,
+    }
+}
+
 /// The width that a word spells: `i` and digits of 1 to 65535.
 pub(crate) fn width(word: &str) -> Option<u16>
     ensures { result ≡ width_of word.now }
 {
+    if let Some(width) = usual_width(word) {
+        return Some(width);
+    }
     let digits = word.strip_prefix('i')?;
     if !are_digits(digits) {
         return None;
