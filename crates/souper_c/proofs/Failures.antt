@@ -1,14 +1,13 @@
 -- What a failure says of a text that a parser refused.
-use Rattle.std.proofs.Common.{◌≡◌, ℕ, ◌≤◌, List, Option, Some, None, length, sym, ◌∙◌, subst, ap, refl, inl, inr, ◌<◌, arith}
+use Rattle.std.proofs.Common.{◌≡◌, ℕ, ◌≤◌, List, Some, None, length, sym, ◌∙◌, subst, ap, refl, inl, inr, ◌<◌, arith}
 use Rattle.std.specs.Prelude.{string_bytes, IsSomeAnd}
 use Rattle.std.proofs.lemmas.Bool.{cases_lt}
 use Rattle.souper_graph.specs.Syntax.Spelling.{ItemType, SpellsNone}
 use Rattle.souper_ir.specs.Laws.Peeks.{some_is}
 use Rattle.souper_ir.specs.Answers.{IsStrError}
-use Rattle.souper_ir.specs.Errors.{kind_of, offset_of, line_of, column_of, shown_error, ShowsPlace, OnKind}
+use Rattle.souper_ir.specs.Errors.{offset_of, line_of, column_of, shown_error, ShowsPlace, OnKind}
 use Rattle.souper_ir.specs.Places.{IsRefusalTextAt}
 use Rattle.souper_ir.specs.declared.parse.ParseError.{ParseError}
-use Rattle.souper_ir.specs.declared.parse.ParseErrorKind.TheVariants.{Parse}
 use Rattle.souper_c.specs.Kinds.{type_of_number}
 use Rattle.souper_c.specs.Outcomes.{IsShort, BeginsWith}
 use Rattle.souper_c.specs.Failures.{IsFailure, IsFailureOf, short_outcome}

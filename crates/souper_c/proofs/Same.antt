@@ -1,9 +1,10 @@
 -- Two sources that spell lists of one kind: the lists are pairwise the same graph if and only if `same` says so.
-use Rattle.std.proofs.Common.{◌≡◌, ℕ, List, Option, Some, None, refl, sym, ap, subst, ◌∙◌, inl, inr, arith}
-use Rattle.std.specs.Prelude.{IsSomeAnd}
+use Rattle.std.proofs.Common.{◌≡◌, ℕ, List, Option, Some, None, refl, sym, ap, subst, ◌∙◌, inr, arith}
+use Rattle.std.specs.Prelude.{IsSomeAnd, ◌≤◌, length, string_bytes}
+use Rattle.souper_ir.specs.Places.{IsRefusalTextAt}
 use Rattle.std.specs.Str.{IsUtf8}
 use Rattle.souper_graph.specs.Values.{Item}
-use Rattle.souper_graph.specs.Syntax.Spelling.{ItemType, left_hand_side, right_hand_side, replacement, TextSpells}
+use Rattle.souper_graph.specs.Syntax.Spelling.{ItemType, left_hand_side, right_hand_side, replacement, TextSpells, SpellsNone}
 use Rattle.souper_ir.specs.Laws.Peeks.{some_is}
 use Rattle.souper_format.specs.declared.command.Kind.{Kind}
 use Rattle.souper_format.specs.declared.command.Kind.TheVariants.{Lhs, Rhs, Rep}
@@ -11,7 +12,7 @@ use Rattle.souper_format.specs.declared.items.Items.{Items}
 use Rattle.souper_format.specs.Kinds.{item_type_of, kind_of_items, view_items}
 use Rattle.souper_format.specs.Same.{SameItems}
 use Rattle.souper_c.specs.Kinds.{type_of_number, OfType}
-use Rattle.souper_c.specs.Outcomes.{BothSpell, AreSame, AreNotSame, IsNoTextInput}
+use Rattle.souper_c.specs.Outcomes.{BothSpell, AreSame, AreNotSame, IsNoTextInput, SpellsSome}
 use Rattle.souper_c.specs.Failures.{IsFailure, outcome_of}
 use Rattle.souper_c.specs.declared.outcome.SouperOutcome.{SouperOutcome}
 use Rattle.souper_c.specs.declared.inputs.Failure.{Failure}
@@ -69,3 +70,19 @@ second_no_text n s t a OutOfMemory o first is is_o is_four =
     (let clash : 3 ≡ 4 = sym (ap (λ (o : SouperOutcome). o.status) is_o) ∙ is_four in absurd (omega (arith, clash)))
 second_no_text n s t a (Refused r) o first is is_o is_four =
     (let clash : 1 ≡ 4 = sym (ap (λ (o : SouperOutcome). o.status) is_o) ∙ is_four in absurd (omega (arith, clash)))
+
+none_and_some : (o : Option ItemType) (s : List ℕ) (A B : Type 0) → IsSomeAnd o (λ k. SpellsNone k s × A × B) → IsSomeAnd o (λ k. (xs : List Item) × TextSpells k s xs) → ⊥
+none_and_some None s A B none some = none
+none_and_some (Some k) s A B none some = none.0 some.0 some.1
+
+no_type : (o : Option ItemType) (s : List ℕ) → o ≡ None → IsSomeAnd o (λ k. (xs : List Item) × TextSpells k s xs) → ⊥
+no_type None s e some = some
+no_type (Some k) s e some = cc
+
+-- the first source spells items, and gives none
+pub first_fails : (n : ℕ) (s : List ℕ) (f : Failure) (o : SouperOutcome) → IsFailure n s f → o ≡ outcome_of f 0 → SpellsSome n s → IsUtf8 s → o.status ≡ 3
+first_fails n s NoKind o is is_o some text = absurd (no_type (type_of_number n) s is some)
+first_fails n s NotUtf8 o is is_o some text = absurd (of_some (type_of_number n) (¬ (IsUtf8 s)) is text)
+first_fails n s OutOfMemory o is is_o some text = ap (λ (o : SouperOutcome). o.status) is_o
+first_fails n s (Refused r) o is is_o some text =
+    absurd (none_and_some (type_of_number n) s (r.offset ≤ length s) (IsRefusalTextAt None s r.offset r.line r.column (string_bytes r.shown)) is some)

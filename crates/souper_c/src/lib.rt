@@ -13,7 +13,7 @@ ghost use Rattle.std.specs.Prelude.{◌≡◌, ◌≢◌, ◌<◌, ◌≤◌, �
 ghost use Rattle.std.specs.Str.{IsUtf8};
 ghost use Rattle.souper_graph.specs.Syntax.Tokens.{IsLastGap};
 ghost use Rattle.souper_c.specs.Kinds.{type_of_number, IsKind};
-ghost use Rattle.souper_c.specs.Outcomes.{HasNoPlace, BeginsWith, WritesTexts, WritesRefusal, IsShort, IsCanonical, IsNotCanonical, Refuses, BothSpell, AreSame, AreNotSame, RefusesInput, IsNoTextInput};
+ghost use Rattle.souper_c.specs.Outcomes.{HasNoPlace, BeginsWith, WritesTexts, WritesRefusal, IsShort, IsCanonical, IsNotCanonical, Refuses, BothSpell, AreSame, AreNotSame, RefusesInput, IsNoTextInput, SpellsSome};
 ghost use Rattle.souper_c.specs.Failures.{short_outcome};
 
 use crate::inputs::{Failure, canonical_text, items};
@@ -126,7 +126,8 @@ pub extern "C" fn souper_check(alloc: Global, kind: u32, text: &[u8]) -> SouperO
 ///   those of its refusal, and `length` is the number of bytes that [`souper_format`] would write for it.
 /// - 4: the text of number `input` is not UTF-8.
 ///
-/// The second text is looked at after the first was read.
+/// The second text is looked at after the first was read: if the first spells items and the second is not UTF-8, the status is
+/// 4 with `input` 1, or 3.
 #[unsafe(no_mangle)]
 pub extern "C" fn souper_same(alloc: Global, kind: u32, a: &[u8], b: &[u8]) -> SouperOutcome
     ensures known { (result.status ≤ 4) ⊎ (result.status ≡ 6) }
@@ -136,6 +137,7 @@ pub extern "C" fn souper_same(alloc: Global, kind: u32, a: &[u8], b: &[u8]) -> S
     ensures no_kind { (result.status ≡ 2) ↔ (type_of_number kind ≡ None) }
     ensures no_text { result.status ≡ 4 → IsNoTextInput kind a.now b.now result }
     ensures first_no_text { IsKind kind → ¬ (IsUtf8 a.now) → (result.status ≡ 4) × (result.input ≡ 0) }
+    ensures second_no_text { SpellsSome kind a.now → IsUtf8 a.now → ¬ (IsUtf8 b.now) → ((result.status ≡ 4) × (result.input ≡ 1)) ⊎ (result.status ≡ 3) }
     ensures texts { (result.status ≡ 0) ⊎ (result.status ≡ 6) → IsUtf8 a.now × IsUtf8 b.now }
     ensures no_place { (result.status ≡ 1) ⊎ HasNoPlace result }
     ensures no_length { (result.status ≡ 1) ⊎ (result.length ≡ 0) }

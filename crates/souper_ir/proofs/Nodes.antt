@@ -9,3 +9,4 @@ pub mod Limits
 pub mod Taken
 pub mod Statements
 pub mod NextStatements
+pub mod Ahead

@@ -2,3 +2,4 @@
 pub mod Lines
 pub mod Unstyled
 pub mod After
+pub mod OnePlace

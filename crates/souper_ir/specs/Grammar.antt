@@ -5,7 +5,7 @@ use Rattle.souper_ir.specs.Parsing.{Parsing}
 use Rattle.souper_graph.specs.Syntax.Tokens.{Lexeme}
 use Rattle.souper_graph.specs.Syntax.Spelling.{kinds, Scope}
 use Rattle.souper_graph.specs.Syntax.Optional.{◌>>=◌}
-use Rattle.souper_ir.specs.Reading.{cause_of, IfRefused, Fails, look_at}
+use Rattle.souper_ir.specs.Reading.{cause_of, IfRefused, Fails, IsRead, look_at}
 
 -- the next token does not go on, if there is one
 abbrev pub Free : (Lexeme → Type 0) → List Lexeme → Type 0
@@ -51,6 +51,10 @@ starts_next starts (Some t) = starts t
 
 unfoldable pub peek_at : (Lexeme → Bool) → Parsing → Option (Bool × Parsing)
 peek_at starts p = look_at p >>= λ t. Some (starts_next starts t.0, t.1)
+
+-- the next token is one of these
+abbrev pub Comes : (Lexeme → Type 0) → Parsing → Type 0
+Comes Is p = (t : Lexeme) × IsRead (look_at p) (Some t) p p × Is t
 
 -- ---- lists of values
 

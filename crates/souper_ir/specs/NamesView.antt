@@ -25,9 +25,9 @@ abbrev pub Adds : NameMap → NameMap → List ℕ → NameEntry → Type 0
 Adds old new n e = (m : List ℕ) → entry_in new m ≡ (if bytes_eq n m then Some e else entry_in old m)
 
 -- the name that was entered last has this entry
-abbrev pub IsLast : Option (Bor (List ℕ) × NameEntry) → NameMap → Type 0
+abbrev pub IsLast : Option (Bor (List ℕ) × ℕ × Option ℕ) → NameMap → Type 0
 IsLast None names = Unit {0}
-IsLast (Some x) names = entry_in names x.0.now ≡ Some x.1
+IsLast (Some x) names = entry_in names x.0.now ≡ Some (x.1, x.2)
 
 -- each assignment is entered under its name, with its position; so no two have one name
 abbrev pub AreEntered : NameMap → Scope → Type 0

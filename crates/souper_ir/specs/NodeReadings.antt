@@ -317,14 +317,20 @@ new_name_at n p = do
   f ← fresh (position_of p.scope n)
   Some (f, p)
 
+-- a type, if there is one, and the equals sign
+unfoldable pub type_and_equals_at : Parsing → Option (Option Ty × Parsing)
+type_and_equals_at p = do
+  t ← optional_type_at p
+  e ← accept (mark_of equals) t.1
+  Some (t.0, e.1)
+
 -- a name that is not in scope, a type, and the equals sign
 unfoldable pub heading_at : Parsing → Option ((List ℕ × Option Ty) × Parsing)
 heading_at p = do
   n ← accept name_of p
   f ← fresh (position_of n.1.scope n.0)
-  t ← optional_type_at n.1
-  e ← accept (mark_of equals) t.1
-  Some ((n.0, t.0), e.1)
+  t ← type_and_equals_at n.1
+  Some ((n.0, t.0), t.1)
 
 unfoldable pub definition_at : Parsing → Option (Definition × Parsing)
 definition_at p = do

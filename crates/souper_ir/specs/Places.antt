@@ -33,6 +33,10 @@ pub record IsPlace (source : List ℕ) (offset line column : ℕ) (text : List �
   pub line_is : line ≡ newlines front + 1
   pub column_is : column ≡ offset - 1 - length front + 1
 
+-- an offset has one place
+abbrev pub OnePlace : Type 0
+OnePlace = (source : List ℕ) (offset l c m d : ℕ) (s t : List ℕ) → IsPlace source offset l c s → IsPlace source offset m d t → (l ≡ m) × (c ≡ d) × (s ≡ t)
+
 -- the text after as many spaces as bring it to that width
 abbrev pub right_aligned : ℕ → List ℕ → List ℕ
 right_aligned width text = replicate (width - length text) 32 ++ text

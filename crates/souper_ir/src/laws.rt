@@ -3,21 +3,23 @@
 //! What a type's `parse` promises is said in the ghost members of its `Parse`, and what its `peek` returns in those of
 //! its `Peek`. The laws of the types say what these members are.
 
-ghost use Rattle.std.specs.Prelude.{◌≡◌, ◌↔◌, ℕ, List, [], Option, map, option_map, codes};
+ghost use Rattle.std.specs.Prelude.{◌≡◌, ◌↔◌, ℕ, true, List, [], Option, map, option_map, codes};
 ghost use Rattle.std.specs.List.{AllByRecursion};
 ghost use Rattle.souper_graph.specs.WellFormed.{EachClosed};
+ghost use Rattle.souper_graph.specs.Instructions.{word_of};
 ghost use Rattle.souper_graph.specs.Values.{PlainAttribute, PlainRootAttribute, PlainPhi, PlainRhs, PlainAssignment, PlainStatement, PlainInfer, PlainCand, Item};
 ghost use Rattle.souper_graph.specs.View.{view_attribute, view_root_attribute, view_phi, view_rhs, view_assignment, view_statement, view_infer, view_cand, view_left_hand_side, view_right_hand_side, view_replacement};
 ghost use Rattle.souper_graph.specs.Text.{text_of, texts_of};
 ghost use Rattle.souper_graph.specs.Sameness.{renumbered, SameGraph};
 ghost use Rattle.souper_graph.specs.Renaming.{SameUpToNames, IsRenamed};
 ghost use Rattle.souper_graph.specs.CanonicalText.{IsWellFormedOf, AreWellFormed, AllNeeded};
-ghost use Rattle.souper_graph.specs.Syntax.Tokens.{Lexeme, open_paren, OneReading, IsWhiteSpaceListed, EachInText, GapEndsToken, FrontsJoin};
+ghost use Rattle.souper_graph.specs.Syntax.Tokens.{Lexeme, ident, open_paren, OneReading, IsWhiteSpaceListed, EachInText, GapEndsToken, FrontsJoin};
 ghost use Rattle.souper_graph.specs.Syntax.Spelling.{Scope, OneList, type_spells, constant_spells, operand_spells, block_spells, phi_spells, instruction_spells, rhs_spells, attribute_spells, root_attribute_spells, assignment_spells, pc_spells, block_pc_spells, statement_spells, infer_spells, cand_spells, ItemType, left_hand_side, right_hand_side, replacement, item_spells_after, TextSpells};
 ghost use Rattle.souper_ir.specs.Continuation.{constant_continues, operand_continues, phi_continues, instruction_continues, rhs_continues, assignment_continues, pc_continues, block_pc_continues, statement_continues, infer_continues, cand_continues, item_continues};
 ghost use Rattle.souper_ir.specs.Joining.{TokensJoin, TokensPart, ItemsJoin};
+ghost use Rattle.souper_ir.specs.Places.{OnePlace};
 ghost use Rattle.souper_ir.specs.Grammar.{Members, ListGoesOn, OptionSpells, OptionGoesOn};
-ghost use Rattle.souper_ir.specs.NodeReadings.{is_name, is_int, is_mark, is_word, starts_instruction, starts_statement};
+ghost use Rattle.souper_ir.specs.NodeReadings.{is_name, is_int, is_mark, is_word, starts_statement};
 
 use crate::parse::{Parse, Peek};
 use souper_graph::ast::{
@@ -66,6 +68,11 @@ pub fn law_of_canonical_texts()
     ensures defined { (k : ItemType) (items others : List Item) → AreWellFormed k items → TextSpells k (texts_of items) others → AllByRecursion (λ b. EachClosed b × AllNeeded b) others }
     ensures one_text { (k : ItemType) (a b : Item) → IsWellFormedOf k a → IsWellFormedOf k b → (text_of a ≡ text_of b) ↔ SameGraph a b }
     ensures renamed { (k : ItemType) (a b x y : Item) → IsWellFormedOf k a → IsWellFormedOf k b → IsRenamed a x → IsRenamed b y → (text_of x ≡ text_of y) ↔ SameUpToNames a b }
+{}
+
+/// An offset in a source has one line, one column and one line text.
+pub fn law_of_places()
+    ensures { OnePlace }
 {}
 
 /// What parsing a type promises.
@@ -117,7 +124,7 @@ pub fn law_of_instruction()
     ensures spells { (s : Scope) (v : _) (ts : List Lexeme) → ⟦<Instruction as Parse>⟧.spells s v ts ↔ instruction_spells s v ts }
     ensures continues { (v : _) (t : Lexeme) → ⟦<Instruction as Parse>⟧.continues v t ↔ instruction_continues v t }
     ensures leaves { (s : Scope) → ⟦<Instruction as Parse>⟧.leaves s ≡ s }
-    ensures starts { (t : Lexeme) → ⟦<Instruction as Peek>⟧.starts t ≡ starts_instruction t }
+    ensures starts { (t : Lexeme) → (⟦<Instruction as Peek>⟧.starts t ≡ true) ↔ ((i : _) × (t ≡ ident (word_of i))) }
 {}
 
 /// What parsing a right side promises.

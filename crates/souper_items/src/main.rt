@@ -14,7 +14,7 @@ use souper_records::check::check_run;
 use souper_records::layout::Layout;
 use souper_records::report::{report_fault, report_memory};
 use souper_records::run::{
-    count_run, each_going_on_run, each_run, objects_run, uniq_going_on_run, uniq_run,
+    count_run, each_going_on_run, each_run, objects_run, report_output, uniq_going_on_run, uniq_run,
 };
 use souper_records::seen::Seen;
 use souper_stream::StreamItem;
@@ -196,8 +196,10 @@ fn run_words(rt: &HostRuntime) -> anyhow::Result<u8> {
     let matches = match command.try_get_matches_from(words.as_slice()) {
         Ok(matches) => matches,
         Err(error) => {
-            error.print(rt)?;
-            return Ok(error.exit_code() as u8);
+            return Ok(match error.print(rt) {
+                Ok(()) => error.exit_code() as u8,
+                Err(fault) => { report_output(rt.alloc(), &fault, &mut Watched::new(rt.stderr())) }
+            });
         }
     };
     Ok(run_matches(rt, &matches))

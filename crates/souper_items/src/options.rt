@@ -128,7 +128,7 @@ fn uniq<'a>(alloc: Global) -> Result<Command<'a>, AllocError> {
 fn check<'a>(alloc: Global) -> Result<Command<'a>, AllocError> {
     Command::new(alloc, "check")
         .about(
-            "Says which files are not what each writes of them without options; each file is held in memory",
+            "Says which files are not what each writes of them without options, and the first line that differs; each file is held in memory",
         )
         .arg(kind_arg(alloc))?
         .arg(files_arg(alloc))
@@ -140,7 +140,7 @@ pub(crate) fn grammar<'a>(alloc: Global) -> Result<Command<'a>, AllocError> {
         .version("1.0.0")
         .about("Records of Souper IR items for a store")
         .after_help(
-            "Status: 0, done; 1, a file is refused or not canonical; 2, usage, I/O or memory.",
+            "Status: 0, done; 1, a file is refused or not canonical; 2, usage, I/O or memory; 141, standard output is a pipe that nobody reads.",
         )
         .subcommand_required(true)
         .arg_required_else_help(true)

@@ -38,6 +38,10 @@ Reads (Err f) front = front ≡ faulty
 abbrev pub Takes : Lexed → ℕ → Lexeme → Lexed → Type 0
 Takes old o t new = (old.tokens ≡ (o, t) ∷ new.tokens) × (old.fault ≡ new.fault) × (old.len ≡ new.len) × (o < old.len)
 
+-- the next token is one of these
+abbrev pub BeginsWith : (Lexeme → Type 0) → Lexed → Type 0
+BeginsWith Is l = (o : ℕ) × (t : Lexeme) × (more : List (ℕ × Lexeme)) × (l.tokens ≡ (o, t) ∷ more) × Is t
+
 -- what a call of `next_token` on old returns: its first token, or that there is none, or that there is a fault
 abbrev pub Yields : Lexed → Result (Option (ℕ × Token)) Fault → Lexed → Type 0
 Yields old (Ok (Some x)) new = Takes old x.0 (lexeme_of x.1) new

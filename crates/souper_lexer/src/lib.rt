@@ -9,9 +9,9 @@ ghost use Rattle.std.specs.Prelude.{◌≡◌, ℕ, ◌+◌, ◌<◌, ◌≤◌,
 ghost use Rattle.std.specs.List.{prefix_len};
 ghost use Rattle.std.specs.Char.{is_ascii_alphabetic};
 ghost use Rattle.souper_graph.specs.Names.{is_name_char};
-ghost use Rattle.souper_graph.specs.Syntax.Tokens.{Lexeme, ident, val_name, begins_int, IsTextOf, AreTokensOf};
+ghost use Rattle.souper_graph.specs.Syntax.Tokens.{Lexeme, ident, val_name, int, comma, begins_int, IsTextOf, AreTokensOf};
 ghost use Rattle.souper_lexer.specs.TokenReading.{remark, space_len, after_from, after_gap, run_of, after_run, found, lexed_of, Lexed, bits_at, word_at, name_at, mark_of, longer_at, front_of};
-ghost use Rattle.souper_lexer.specs.TokenView.{lexeme_of, is_in, Reads, Takes, Yields, Lexes};
+ghost use Rattle.souper_lexer.specs.TokenView.{lexeme_of, is_in, Reads, Takes, BeginsWith, Yields, Lexes};
 
 use std::fmt;
 use std::marker::Model;
@@ -210,6 +210,20 @@ fn after_space(text: &str) -> &str
 {
     match text.as_bytes() {
         [b' ', ..] => after_first(text),
+        _ => text,
+    }
+}
+
+// What is left after one space or newline, if the text begins with one.
+#[inline(always)]
+#[tactic(auto, using(crate::proofs::TokenGap::gap_past_blank, crate::proofs::TokenGap::gap_past_control))]
+fn after_blank(text: &str) -> &str
+    ensures rest { after_gap result.now ≡ after_gap text.now }
+    ensures len { length result.now ≤ length text.now }
+{
+    match text.as_bytes() {
+        [b' ', ..] => after_first(text),
+        [b'\n', ..] => after_first(text),
         _ => text,
     }
 }
@@ -437,15 +451,15 @@ impl<'a> Lexer<'a> {
         Some(offset)
     }
 
-    /// Takes the next token, if it is a value name and one space at most comes before it, and returns the offset of its first
-    /// byte, and the name. A shortcut of [`Lexer::next_token`]: `None` leaves the lexer as it was, and says nothing of
-    /// what comes next.
+    /// Takes the next token, if it is a value name and one space or newline at most comes before it, and returns the offset of
+    /// its first byte, and the name. A shortcut of [`Lexer::next_token`]: `None` leaves the lexer as it was, and says nothing
+    /// of what comes next.
     #[inline(always)]
     pub fn take_name(&mut self) -> Option<(usize, &'a str)>
         ensures taken { IfSome result (λ name. Takes self.old name.0 (val_name name.1.now) self.new) }
         ensures kept { IfNone result (self.new ≡ self.old) }
     {
-        let text = after_space(self.rest);
+        let text = after_blank(self.rest);
         match text.as_bytes() {
             [b'%', ..] => {}
             _ => return None,
@@ -458,6 +472,56 @@ impl<'a> Lexer<'a> {
         self.offset = offset + (text.len() - rest.len());
         self.rest = rest;
         Some((offset, name))
+    }
+
+    /// Whether a newline and then a value name come next. `false` says nothing of what comes next.
+    #[inline(always)]
+    pub fn name_on_next_line(&self) -> bool
+        ensures { result ≡ true → BeginsWith (λ t. (n : List ℕ) × (t ≡ val_name n)) self.now }
+    {
+        match self.rest.as_bytes() {
+            [b'\n', b'%', b, ..] => is_name_char(*b),
+            _ => false,
+        }
+    }
+
+    /// Whether a comma comes next. `false` says nothing of what comes next.
+    #[inline(always)]
+    pub fn comma_comes(&self) -> bool
+        ensures { result ≡ true → BeginsWith (λ t. t ≡ comma) self.now }
+    {
+        matches!(self.rest.as_bytes(), [b',', ..])
+    }
+
+    /// Whether an integer comes next. `false` says nothing of what comes next.
+    #[inline(always)]
+    pub fn int_comes(&self) -> bool
+        ensures { result ≡ true → BeginsWith (λ t. (digits : List ℕ) × (t ≡ int digits)) self.now }
+    {
+        match after_space(self.rest).as_bytes() {
+            [b, ..] => begins_int(*b),
+            _ => false,
+        }
+    }
+
+    /// Takes the next token, if it is an integer and one space at most comes before it, and returns the offset of its first
+    /// byte, and the integer. A shortcut of [`Lexer::next_token`]: `None` leaves the lexer as it was, and says nothing of
+    /// what comes next.
+    #[inline(always)]
+    pub fn take_int(&mut self) -> Option<(usize, &'a str)>
+        ensures taken { IfSome result (λ digits. Takes self.old digits.0 (int digits.1.now) self.new) }
+        ensures kept { IfNone result (self.new ≡ self.old) }
+    {
+        let text = after_space(self.rest);
+        match text.as_bytes() {
+            [b, ..] if begins_int(*b) => {}
+            _ => return None,
+        }
+        let offset = self.offset + (self.rest.len() - text.len());
+        let (digits, rest) = split_run(text, Class::Digit);
+        self.offset = offset + (text.len() - rest.len());
+        self.rest = rest;
+        Some((offset, digits))
     }
 
     /// Takes the next token, if it is an identifier and one space at most comes before it, and returns the offset of its first

@@ -1,5 +1,5 @@
 -- The records of texts with counts, up to an index.
-use Rattle.std.proofs.Common.{◌≡◌, ℕ, zero, suc, ◌+◌, ◌<◌, ◌≤◌, Option, List, [], ◌∷◌, ◌++◌, map, length, take, refl, sym, ap, ◌∙◌, subst, arith, append_assoc, append-nil, slice_index_or}
+use Rattle.std.proofs.Common.{◌≡◌, ◌⊎◌, inl, inr, ℕ, zero, suc, ◌+◌, ◌<◌, ◌≤◌, Option, List, [], ◌∷◌, ◌++◌, map, length, take, refl, sym, ap, ◌∙◌, subst, arith, append_assoc, append-nil, slice_index_or}
 use Rattle.std.specs.Prelude.{String, flat_map}
 use Rattle.std.specs.String.{string_bytes}
 use Rattle.std.specs.Io.KnownBytes.{Appends}
@@ -7,11 +7,12 @@ use Rattle.std.proofs.KnownBytes.{Appends-nil, Appends-trans}
 use Rattle.std.proofs.lemmas.List.{take_all, length-map}
 use Rattle.souper_graph.specs.Values.{Item}
 use Rattle.souper_graph.specs.Syntax.Spelling.{ItemType}
+use Rattle.souper_format.specs.Streams.{Stream, IsGiven}
 use Rattle.souper_records.specs.declared.layout.Layout.{Layout}
 use Rattle.souper_records.specs.declared.seen.Seen.{Seen}
 use Rattle.souper_records.specs.Records.{record_of_text}
 use Rattle.souper_records.specs.Counts.{count_of}
-use Rattle.souper_records.specs.Uniques.{text_by, firsts, HasSeen, count_line, counted_record, counted_records}
+use Rattle.souper_records.specs.Uniques.{text_by, firsts, HasSeen, count_line, counted_record, counted_records, WritesCountsBegun}
 
 -- the record of a text, after its count
 abbrev pub line_of : Layout → List ℕ → ℕ → List ℕ
@@ -45,34 +46,47 @@ at_map [] i s less is = absurd (omega arith)
 at_map (k ∷ ks) zero s less is = ap string_bytes is
 at_map (k ∷ ks) (suc i) s less is = at_map ks i s (omega arith) is
 
--- the records up to an index were written, but for the last ones
+-- the records up to an index j were written, and those from there up to an index i are the last ones
 abbrev pub IsWritten : {M : Type 0} → Layout → Option (List ℕ) → Option (List ℕ) → List (String M) → List ℕ → ℕ → List ℕ → Type 0
-IsWritten l old now keys ns i last = (done : List ℕ) × Appends old now done × (done ++ last ≡ joined l (take i (map string_bytes keys)) ns)
+IsWritten l old now keys ns i last = let ts = map string_bytes keys in (j : ℕ) × Appends old now (joined l (take j ts) ns) × (joined l (take j ts) ns ++ last ≡ joined l (take i ts) ns)
 
--- one more record
+-- one more record, and then those that are not written yet were, or none was
 pub written_step : {M : Type 0} (l : Layout) (old now new : Option (List ℕ)) (keys texts : List (String M)) (ns : List ℕ) (i : ℕ) (s : String M) (t : List ℕ) (n : ℕ) (b0 b1 b2 : List ℕ)
     → texts ≡ keys → i < length texts → s ≡ slice_index_or texts i s → t ≡ string_bytes s → n ≡ slice_index_or ns i 0 → b1 ≡ b0 ++ line_of l t n
-    → IsWritten l old now keys ns i b0 → (text : List ℕ) × Appends now new text × (b1 ≡ text ++ b2) → IsWritten l old new keys ns (i + 1) b2
-written_step l old now new keys texts ns i s t n b0 b1 b2 same less is text count line w m =
+    → IsWritten l old now keys ns i b0 → (Appends now new b1 × (b2 ≡ [])) ⊎ ((new ≡ now) × (b2 ≡ b1)) → IsWritten l old new keys ns (i + 1) b2
+written_step l old now new keys texts ns i s t n b0 b1 b2 same less is text count line (j, a, w) m =
     let ts = map string_bytes keys in
     let long : length ts ≡ length texts = length-map keys string_bytes ∙ ap length (sym same) in
-    let here : t ≡ slice_index_or ts i t = text ∙ at_map texts i s less is ∙ (λ j. slice_index_or (map string_bytes (same j)) i (sym text j)) in
+    let here : t ≡ slice_index_or ts i t = text ∙ at_map texts i s less is ∙ (λ d. slice_index_or (map string_bytes (same d)) i (sym text d)) in
     let next : suc i ≡ i + 1 = omega arith in
+    let done = joined l (take j ts) ns in
     let more : joined l (take i ts) ns ++ line_of l t n ≡ joined l (take (i + 1) ts) ns =
-    ap (λ (x : ℕ). joined l (take i ts) ns ++ line_of l t x) count ∙ sym (joined_more l ts ns i t (omega (arith, long)) here) ∙ ap (λ (x : ℕ). joined l (take x ts) ns) next in (
-      w.0 ++ m.0,
-      Appends-trans old now new w.0 m.0 w.1 m.1,
-      append_assoc w.0 m.0 b2 ∙ ap (λ (x : List ℕ). w.0 ++ x) (sym m.2 ∙ line) ∙ sym (append_assoc w.0 b0 (line_of l t n)) ∙ ap (λ (x : List ℕ). x ++ line_of l t n) w.2 ∙ more,
-    )
+    ap (λ (x : ℕ). joined l (take i ts) ns ++ line_of l t x) count ∙ sym (joined_more l ts ns i t (omega (arith, long)) here) ∙ ap (λ (x : ℕ). joined l (take x ts) ns) next in
+    let all : done ++ b1 ≡ joined l (take (i + 1) ts) ns =
+    ap (λ (x : List ℕ). done ++ x) line ∙ sym (append_assoc done b0 (line_of l t n)) ∙ ap (λ (x : List ℕ). x ++ line_of l t n) w ∙ more in
+    elim m [
+      | inl (written, none) ↦ (i + 1, subst (Appends old new) all (Appends-trans old now new done b1 a written), ap (λ (x : List ℕ). joined l (take (i + 1) ts) ns ++ x) none ∙ append-nil (joined l (take (i + 1) ts) ns))
+      | inr (kept, is) ↦ (j, subst (λ (x : Option (List ℕ)). Appends old x done) (sym kept) a, ap (λ (x : List ℕ). done ++ x) is ∙ all)
+    ]
 
 -- nothing was written
 pub written_none : {M : Type 0} (l : Layout) (old : Option (List ℕ)) (keys : List (String M)) (ns : List ℕ) (b : List ℕ) → b ≡ [] → IsWritten l old old keys ns 0 b
-written_none l old keys ns b none = ([], Appends-nil old, none)
+written_none l old keys ns b none = (0, Appends-nil old, none)
 
 -- all were written, and the last ones too
-pub written_end : (k : ItemType) (l : Layout) (old now new : Option (List ℕ)) (s : Seen) (items : List Item) (i : ℕ) (last : List ℕ) → length s.texts.keys ≤ i → HasSeen k l.rename items s
-    → IsWritten l old now s.texts.keys s.counts.items i last → Appends now new last → Appends old new (counted_records l items)
-written_end k l old now new s items i last end h w a =
+pub written_end : (k : ItemType) (l : Layout) (now : Option (List ℕ)) (out : Stream) (s : Seen) (items : List Item) (i : ℕ) (last : List ℕ) → length s.texts.keys ≤ i → HasSeen k l.rename items s
+    → IsWritten l out.before now s.texts.keys s.counts.items i last → Appends now out.after last → IsGiven out (counted_records l items)
+written_end k l now out s items i last end h (j, b, w) a =
     let ts = map string_bytes s.texts.keys in
     let all : take i ts ≡ ts = take_all i ts (omega (arith, length-map s.texts.keys string_bytes)) in
-    subst (Appends old new) (w.2 ∙ ap (λ (x : List (List ℕ)). joined l x s.counts.items) all ∙ joined_all k l items s h) (Appends-trans old now new w.0 last w.1 a)
+    subst (IsGiven out) (w ∙ ap (λ (x : List (List ℕ)). joined l x s.counts.items) all ∙ joined_all k l items s h) (Appends-trans out.before now out.after (joined l (take j ts) s.counts.items) last b a)
+
+joined_begun : (l : Layout) (items fs : List Item) (n : ℕ) → joined l (take n (map (text_by l.rename) fs)) (map (count_of (text_by l.rename) items) fs) ≡ flat_map (counted_record l items) (take n fs)
+joined_begun l items [] zero = refl
+joined_begun l items [] (suc n) = refl
+joined_begun l items (a ∷ fs) zero = refl
+joined_begun l items (a ∷ fs) (suc n) = ap (λ (x : List ℕ). counted_record l items a ++ x) (joined_begun l items fs n)
+
+-- those of some first items were written
+pub written_begun : (k : ItemType) (l : Layout) (out : Stream) (s : Seen) (items : List Item) (i : ℕ) (last : List ℕ) → HasSeen k l.rename items s → IsWritten l out.before out.after s.texts.keys s.counts.items i last → WritesCountsBegun l items out
+written_begun k l out s items i last h (j, a, w) = (j, subst (IsGiven out) ((λ d. joined l (take j (h.1 d)) (h.2 d)) ∙ joined_begun l items (firsts l.rename [] items) j) a)

@@ -1,7 +1,8 @@
 -- Piece after piece: what was read of a stream that is read on after a refusal, what was written of it and reported.
-use Rattle.std.proofs.Common.{◌≡◌, ◌⊎◌, inl, inr, ℕ, Bool, true, false, ◌||◌, List, [], ◌∷◌, ◌++◌, is_some, Option, Some, None, refl, sym, ap, ◌∙◌, subst, append_assoc, append-nil}
-use Rattle.std.specs.Prelude.{codes, flat_map, Result, Ok, Err, IfOk, IfErr}
+use Rattle.std.proofs.Common.{◌≡◌, inl, inr, ℕ, Bool, true, false, ◌||◌, List, [], ◌∷◌, ◌++◌, is_some, Option, Some, None, refl, sym, ap, ◌∙◌, subst, append_assoc, append-nil}
+use Rattle.std.specs.Prelude.{flat_map, Result, Ok, Err, IfOk, IfErr}
 use Rattle.std.specs.List.{cons_option}
+use Rattle.std.specs.declared.io.Error.{Error}
 use Rattle.std.specs.Io.KnownBytes.{Appends, Keeps}
 use Rattle.std.proofs.KnownBytes.{Appends-nil, Appends-trans, Keeps-trans}
 use Rattle.std.proofs.lemmas.Grind.{flat_map-append}
@@ -9,7 +10,7 @@ use Rattle.std.proofs.lemmas.List.{map-append}
 use Rattle.souper_graph.specs.Values.{Item}
 use Rattle.souper_graph.specs.Syntax.Spelling.{ItemType, TextSpells}
 use Rattle.souper_ir.specs.declared.parse.error.ParseError.{ParseError}
-use Rattle.souper_ir.specs.declared.parse.error.ParseErrorKind.TheVariants.{Parse}
+use Rattle.souper_ir.specs.declared.parse.error.ParseErrorKind.TheVariants.{Io, Parse}
 use Rattle.souper_ir.specs.Errors.{kind_of}
 use Rattle.souper_stream.specs.declared.pieces.PieceReader.{PieceReader}
 use Rattle.souper_stream.specs.Pieces.{Line, concat, all_lines, PiecesSpell}
@@ -19,16 +20,17 @@ use Rattle.souper_format.specs.Streams.{Stream, IsGiven, IsGivenNothing}
 use Rattle.souper_format.specs.Reporting.{IsErrorLine, ReportedLine}
 use Rattle.souper_records.specs.declared.layout.Layout.{Layout}
 use Rattle.souper_records.specs.declared.each.Stop.{Stop}
-use Rattle.souper_records.specs.declared.each.Stop.TheVariants.{Input, Output}
+use Rattle.souper_records.specs.declared.each.Stop.TheVariants.{Input, Output, Memory}
 use Rattle.souper_records.specs.Records.{record_of, records_of}
-use Rattle.souper_records.specs.Eaches.{WritesEach, IfInput}
-use Rattle.souper_records.specs.Runs.{output_name, IsPiecesEnd, IsPiecesRun}
+use Rattle.souper_records.specs.Eaches.{WritesEach, IfInput, UnlessOutput}
+use Rattle.souper_records.specs.Runs.{output_name, EndsWithFault, IsPiecesEnd, IsPiecesRun}
 use Rattle.souper_records.specs.declared.seen.Seen.{Seen}
-use Rattle.souper_records.specs.Uniques.{WritesFirsts, WritesFirstRecords, WritesNewFirsts}
-use Rattle.souper_records.specs.Reports.{program_line, named_line, ReportedFault}
+use Rattle.souper_records.specs.Uniques.{WritesFirsts, WritesFirstRecords, WritesSeenFirsts, WritesNewFirsts}
+use Rattle.souper_records.specs.Reports.{IsMemoryLine, IsFaultLine, Reported}
 use Rattle.souper_records.specs.Objects.{piece_lines, objects_of, WritesObjects, WritesAllObjects}
 use Rattle.souper_records.proofs.Seeing.{keeps_none, keeps_join}
-use Rattle.souper_records.specs.Outcomes.{Outcome, IsOutcome, IsOutcomeAfter, AreOutcomes, pieces_of, items_of, refusals_of, any_refused, AreErrorLines, AreReported, AreReportedThen, IsFaultLine, ReportsPiece, WritesPiece, WritesPieces, ReadsPieces, IfReading, StopsAfter, WroteEach, OfItems, WritesRecords}
+use Rattle.souper_records.proofs.Stops.{known_mapped}
+use Rattle.souper_records.specs.Outcomes.{Outcome, IsOutcome, IsOutcomeAfter, AreOutcomes, pieces_of, items_of, refusals_of, any_refused, AreErrorLines, AreReported, AreReportedThen, ReportsPiece, WritesPiece, WritesPieces, ReadsPieces, StopsAfter, WroteEach, OfItems, WritesRecords}
 
 -- ---- lists of outcomes
 
@@ -134,18 +136,10 @@ module _ (a b c : Stream) (p : Parts a b c) where
   reported_one [] e r h = λ works. (let l = h (sym p.last ∙ works) in (l.0, (l.0, [], sym (append-nil l.0), l.1, refl), kept_given l.0 r l.2))
   reported_one (d ∷ es) e r h = λ works. (let t = r (worked a b c p works) in let l = h (sym p.last ∙ works) in (t.0 ++ l.0, lines_more (d ∷ es) e t.0 l.0 t.1 l.1, both_given t.0 l.0 t.2 l.2))
 
-  -- then a fault was
-  pub reported_then : (es : List ParseError) (name : List ℕ) → AreReported a es → ReportedFault name b → AreReportedThen c es name
-  reported_then [] name r h = λ works. (let l = fault_line (h (sym p.last ∙ works)) in ([], l.0, refl, l.1, kept_given l.0 r l.2))
-    where
-      fault_line : (((shown : List ℕ) × IsGiven b (named_line name shown)) ⊎ IsGiven b (program_line (codes "out of memory"))) → (line : List ℕ) × IsFaultLine name line × IsGiven b line
-      fault_line (inl (shown, g)) = (named_line name shown, inl (shown, refl), g)
-      fault_line (inr g) = (program_line (codes "out of memory"), inr refl, g)
-  reported_then (e ∷ es) name r h = λ works. (let t = r (worked a b c p works) in let l = fault_line (h (sym p.last ∙ works)) in (t.0, l.0, t.1, l.1, both_given t.0 l.0 t.2 l.2))
-    where
-      fault_line : (((shown : List ℕ) × IsGiven b (named_line name shown)) ⊎ IsGiven b (program_line (codes "out of memory"))) → (line : List ℕ) × IsFaultLine name line × IsGiven b line
-      fault_line (inl (shown, g)) = (named_line name shown, inl (shown, refl), g)
-      fault_line (inr g) = (program_line (codes "out of memory"), inr refl, g)
+  -- then a line of which P holds was
+  pub reported_then : (es : List ParseError) (P : List ℕ → Type 0) → AreReported a es → Reported b P → AreReportedThen c es P
+  reported_then [] P r h = λ works. (let l = h (sym p.last ∙ works) in ([], l.0, refl, l.1, kept_given l.0 r l.2))
+  reported_then (e ∷ es) P r h = λ works. (let t = r (worked a b c p works) in let l = h (sym p.last ∙ works) in (t.0, l.0, t.1, l.1, both_given t.0 l.0 t.2 l.2))
 
 -- ---- piece after piece
 
@@ -205,17 +199,18 @@ reached_reads k file start mid written err any p r =
     record { read = b.0; rest = b.1; now = mid; consumed = b.2; whole = b.3; are = r.are }
 
 -- reading or writing stopped
-pub stopped_after : (k : ItemType) (file start mid : Option (List ℕ)) (so_far written : List Outcome → Type 0) (err : Stream) (any : Bool) (p : PieceReader) (stop : Stop) → Reached k file start mid so_far err any p → IfReading stop ((os : List Outcome) → so_far os → written os) → StopsAfter k file start written err stop
-stopped_after k file start mid so_far written err any p stop r same = (r.outcomes, reached_reads k file start mid so_far err any p r, r.reported, known stop same)
-  where
-    known : (stop : Stop) → IfReading stop ((os : List Outcome) → so_far os → written os) → IfReading stop (written r.outcomes)
-    known (Input e) h = h r.outcomes r.are_written
-    known (Output fault) h = tt
+pub stopped_after : (k : ItemType) (file start mid : Option (List ℕ)) (so_far written : List Outcome → Type 0) (failed : Bool) (err : Stream) (any : Bool) (p : PieceReader) (stop : Stop) → Reached k file start mid so_far err any p
+    → UnlessOutput stop failed ((os : List Outcome) → so_far os → written os) → StopsAfter k file start written failed err stop
+stopped_after k file start mid so_far written failed err any p stop r same = (
+  r.outcomes,
+  reached_reads k file start mid so_far err any p r,
+  r.reported,
+  known_mapped stop failed _ (written r.outcomes) (λ f. f r.outcomes r.are_written) same,
+)
 
 -- nothing was written since
-pub reading_kept : {W : Type 0} (known : W → List Outcome → Type 0) (so_far : List Outcome → Type 0) (a b : W) (stop : Stop) → ((os : List Outcome) → so_far os → known a os) → IfInput stop (λ e. b ≡ a) → IfReading stop ((os : List Outcome) → so_far os → known b os)
-reading_kept known so_far a b (Input e) f h = λ os x. subst (λ y. known y os) (sym h) (f os x)
-reading_kept known so_far a b (Output fault) f h = tt
+pub reading_kept : {W : Type 0} (known : W → List Outcome → Type 0) (so_far : List Outcome → Type 0) (a b : W) (failed : Bool) (stop : Stop) → ((os : List Outcome) → so_far os → known a os) → UnlessOutput stop failed (b ≡ a) → UnlessOutput stop failed ((os : List Outcome) → so_far os → known b os)
+reading_kept known so_far a b failed stop f h = known_mapped stop failed (b ≡ a) _ (λ same os x. subst (λ y. known y os) (sym same) (f os x)) h
 
 -- ---- what is written, in other words
 
@@ -232,10 +227,10 @@ module _ {S : Type 0} (idle : S → Type 0) (wrote : S → Option (List ℕ) →
       (λ a b c x y z o os w rest e. let first = one a b x y o w e in let more = rest first.0 in (more.0, Appends-trans x y z (text o) (flat_map text os) first.1 more.1))
 
 -- the records of the items
-pub records_wrote : {S : Type 0} (l : Layout) (idle : S → Type 0) (wrote : S → Option (List ℕ) → S → Option (List ℕ) → Outcome → Type 0) → ((a b : S) (x y : Option (List ℕ)) (o : Outcome) → wrote a x b y o → idle a → idle b × WritesRecords l x y o.items)
-    → (a b : S) (x y : Option (List ℕ)) (os : List Outcome) → idle a → WroteEach wrote a x b y os → OfItems (WritesRecords l x y) os
-records_wrote l idle wrote one a b x y os e w =
-    subst (λ (text : List ℕ). Appends x y text) (sym (all os)) (texts_wrote idle wrote (λ (o : Outcome). records_of l o.items) one a b x y os w e).1
+pub records_wrote : {S : Type 0} (l : Layout) (idle : S → Type 0) (wrote : S → Option (List ℕ) → S → Option (List ℕ) → Outcome → Type 0) → ((a b : S) (x y : Option (List ℕ)) (o : Outcome) → wrote a x b y o → idle a → idle b × Appends x y (records_of l o.items))
+    → (a b : S) (out : Stream) (os : List Outcome) → idle a → WroteEach wrote a out.before b out.after os → OfItems (WritesRecords l out) os
+records_wrote l idle wrote one a b out os e w =
+    subst (λ (text : List ℕ). IsGiven out text) (sym (all os)) (texts_wrote idle wrote (λ (o : Outcome). records_of l o.items) one a b out.before out.after os w e).1
   where
     all : (os : List Outcome) → records_of l (items_of os) ≡ flat_map (λ (o : Outcome). records_of l o.items) os
     all [] = refl
@@ -243,8 +238,8 @@ records_wrote l idle wrote one a b x y os e w =
 
 -- the lines of the pieces
 pub objects_wrote : {S : Type 0} (rename : Bool) (name : List ℕ) (idle : S → Type 0) (wrote : S → Option (List ℕ) → S → Option (List ℕ) → Outcome → Type 0) → ((a b : S) (x y : Option (List ℕ)) (o : Outcome) → wrote a x b y o → idle a → idle b × Appends x y (piece_lines rename name o))
-    → (a b : S) (x y : Option (List ℕ)) (os : List Outcome) → idle a → WroteEach wrote a x b y os → WritesObjects rename name x y os
-objects_wrote rename name idle wrote one a b x y os e w = (texts_wrote idle wrote (piece_lines rename name) one a b x y os w e).1
+    → (a b : S) (out : Stream) (os : List Outcome) → idle a → WroteEach wrote a out.before b out.after os → WritesObjects rename name out os
+objects_wrote rename name idle wrote one a b out os e w = (texts_wrote idle wrote (piece_lines rename name) one a b out.before out.after os w e).1
 
 -- the records of first items
 pub firsts_wrote : {S : Type 0} (k : ItemType) (l : Layout) (seen : S → Seen) (wrote : S → Option (List ℕ) → S → Option (List ℕ) → Outcome → Type 0) → ((a b : S) (x y : Option (List ℕ)) (o : Outcome) → wrote a x b y o → WritesNewFirsts k l x y (seen a) (seen b) o.items)
@@ -265,9 +260,8 @@ pieces_mapped k file before after one other err refused f w = record {
   any = w.any;
 }
 
-pub stops_mapped : (k : ItemType) (file before : Option (List ℕ)) (one other : List Outcome → Type 0) (err : Stream) (stop : Stop) → ((os : List Outcome) → one os → other os) → StopsAfter k file before one err stop → StopsAfter k file before other err stop
-stops_mapped k file before one other err (Input e) f (os, reads, reported, written) = (os, reads, reported, f os written)
-stops_mapped k file before one other err (Output fault) f (os, reads, reported, written) = (os, reads, reported, tt)
+pub stops_mapped : (k : ItemType) (file before : Option (List ℕ)) (one other : List Outcome → Type 0) (failed : Bool) (err : Stream) (stop : Stop) → ((os : List Outcome) → one os → other os) → StopsAfter k file before one failed err stop → StopsAfter k file before other failed err stop
+stops_mapped k file before one other failed err stop f (os, reads, reported, written) = (os, reads, reported, known_mapped stop failed (one os) (other os) (f os) written)
 
 pub ok_mapped : {E : Type 0} (r : Result Bool E) (P Q : Bool → Type 0) → ((b : Bool) → P b → Q b) → IfOk r P → IfOk r Q
 ok_mapped (Ok b) P Q f h = f b h
@@ -314,48 +308,58 @@ kept_pieces k name before after a b c p so_far written refused mapped w quiet = 
   any = w.any;
 }
 
--- a run over pieces has ended
-module _ (k : ItemType) (name : List ℕ) (before after : Option (List ℕ)) (out a b c : Stream) (p : Parts a b c) (done : Type 0) (so_far written known_so_far known : List Outcome → Type 0) (mapped : IsGivenNothing out → (os : List Outcome) → so_far os → written os)
-    (known_mapped : IsGivenNothing out → (os : List Outcome) → known_so_far os → known os) (all : WritesPieces k (Some name) before after written c false → done × IsGivenNothing c) where
+-- A run over pieces has ended. The parts of the output are `first`, for the pieces, and `last`, at the end, those of the reports `a` and `b`.
+module _ (k : ItemType) (name : List ℕ) (before after : Option (List ℕ)) (first last out : Stream) (q : Parts first last out) (a b c : Stream) (p : Parts a b c) (done : Type 0) (so_far written known_so_far known : List Outcome → Type 0)
+    (mapped : IsGivenNothing last → (os : List Outcome) → so_far os → written os) (known_so : IsGivenNothing last → (os : List Outcome) → known_so_far os → known os) (all : WritesPieces k (Some name) before after written c false → done × IsGivenNothing c) where
   abbrev run : ℕ → Type 0
-  run status = IsPiecesRun k name before after done written known c status
+  run status = IsPiecesRun k name before after done written known out c status
 
-  pub run_ends : (pieces : Result Bool Stop) (status : ℕ) → IfOk pieces (λ refused. WritesPieces k (Some name) before after so_far a refused) → IfErr pieces (λ stop. StopsAfter k (Some name) before known_so_far a stop)
-      → IfErr pieces (λ stop. IfInput stop (λ e. kind_of e ≡ Parse → ⊥)) → IsPiecesEnd name pieces out b status → IsPiecesRun k name before after done written known c status
-  run_ends (Ok false) status w stops no_refusal (inl (zero_is, kept, quiet)) = subst run (sym zero_is) (all (kept_pieces k name before after a b c p so_far written false (mapped kept) w quiet))
-  run_ends (Ok true) status w stops no_refusal (inl (one_is, kept, quiet)) = subst run (sym one_is) (kept_pieces k name before after a b c p so_far written true (mapped kept) w quiet)
-  run_ends (Ok refused) status w stops no_refusal (inr (two, fault)) =
-      subst run (sym two) (w.outcomes, all_reads k (Some name) before after so_far a refused w, inr (reported_then a b c p (refusals_of w.outcomes) output_name w.reported fault))
-  run_ends (Err (Input e)) status w stops no_refusal (kept, inl (one, kind, line)) = absurd (no_refusal kind)
-  run_ends (Err (Input e)) status w (os, reads, reported, so) no_refusal (kept, inr (two, fault)) =
-      subst run (sym two) (os, reads, inl (known_mapped kept os so, reported_then a b c p (refusals_of os) name reported fault))
-  run_ends (Err (Output f)) status w (os, reads, reported, so) no_refusal (kept, (two, fault)) =
-      subst run (sym two) (os, reads, inr (reported_then a b c p (refusals_of os) output_name reported fault))
+  -- the output has failed
+  output_ends : (fault : Error) (status : ℕ) (os : List Outcome) → ReadsPieces k (Some name) before os → AreReported a (refusals_of os) → out.failed ≡ true → EndsWithFault fault b status → run status
+  output_ends fault status os reads reported bad (inl (kind, broken, quiet)) =
+      subst run (sym broken) (refl, (os, reads, bad, reported_none a b c p (refusals_of os) reported quiet))
+  output_ends fault status os reads reported bad (inr (kind, two, line)) =
+      subst run (sym two) (os, reads, inr (bad, reported_then a b c p (refusals_of os) (IsFaultLine output_name) reported line))
+
+  pub run_ends : (pieces : Result Bool Stop) (status : ℕ) → IfOk pieces (λ refused. WritesPieces k (Some name) before after so_far a refused) → IfErr pieces (λ stop. StopsAfter k (Some name) before known_so_far first.failed a stop)
+      → IfErr pieces (λ stop. IfInput stop (λ e. kind_of e ≡ Io)) → IsPiecesEnd name pieces last b status → IsPiecesRun k name before after done written known out c status
+  run_ends (Ok false) status w stops input (inl (zero_is, kept, quiet)) = subst run (sym zero_is) (all (kept_pieces k name before after a b c p so_far written false (mapped kept) w quiet))
+  run_ends (Ok true) status w stops input (inl (one_is, kept, quiet)) = subst run (sym one_is) (kept_pieces k name before after a b c p so_far written true (mapped kept) w quiet)
+  run_ends (Ok refused) status w stops input (inr (bad, (fault, ends))) =
+      output_ends fault status w.outcomes (all_reads k (Some name) before after so_far a refused w) w.reported (q.last ∙ bad) ends
+  run_ends (Err (Input e)) status w stops input (kept, inl (one, kind, line)) = absurd (let bad : Io ≡ Parse = sym input ∙ kind in cc)
+  run_ends (Err (Input e)) status w (os, reads, reported, so) input (kept, inr (inl (two, kind, line))) =
+      subst run (sym two) (os, reads, inl (known_so kept os so, inl (reported_then a b c p (refusals_of os) (IsFaultLine name) reported line)))
+  run_ends (Err (Input e)) status w (os, reads, reported, so) input (kept, inr (inr (two, line))) =
+      subst run (sym two) (os, reads, inl (known_so kept os so, inr (reported_then a b c p (refusals_of os) IsMemoryLine reported line)))
+  run_ends (Err (Output f)) status w (os, reads, reported, bad) input (kept, ends) = output_ends f status os reads reported (q.stays bad) ends
+  run_ends (Err Memory) status w (os, reads, reported, so) input (kept, (two, line)) =
+      subst run (sym two) (os, reads, inl (known_so kept os so, inr (reported_then a b c p (refusals_of os) IsMemoryLine reported line)))
 
 -- of records
-pub records_kept : (l : Layout) (old mid new : Option (List ℕ)) → Keeps mid new → (os : List Outcome) → OfItems (WritesRecords l old mid) os → OfItems (WritesRecords l old new) os
-records_kept l old mid new kept os w = appends_kept old mid new (records_of l (items_of os)) w kept
+pub records_kept : (l : Layout) (a b c : Stream) → Parts a b c → IsGivenNothing b → (os : List Outcome) → OfItems (WritesRecords l a) os → OfItems (WritesRecords l c) os
+records_kept l a b c p kept os w = given_kept a b c p (records_of l (items_of os)) w kept
 
-pub writes_each : (k : ItemType) (l : Layout) (file before after old new : Option (List ℕ)) (err : Stream) → WritesPieces k file before after (OfItems (WritesRecords l old new)) err false → WritesEach k l before after old new × IsGivenNothing err
-writes_each k l file before after old new err w =
-    let none = none_reported k file before after (OfItems (WritesRecords l old new)) err w in
+pub writes_each : (k : ItemType) (l : Layout) (file before after : Option (List ℕ)) (out err : Stream) → WritesPieces k file before after (OfItems (WritesRecords l out)) err false → WritesEach k l before after out × IsGivenNothing err
+writes_each k l file before after out err w =
+    let none = none_reported k file before after (OfItems (WritesRecords l out)) err w in
     (record { read = w.read; items = items_of w.outcomes; consumed = w.consumed; all_read = w.all_read; spelled = none.0; written = w.are_written }, none.1)
 
 -- of the records of first items
-pub firsts_kept : (k : ItemType) (l : Layout) (earlier : List Item) (old mid new : Option (List ℕ)) (seen : Seen) → Keeps mid new → (os : List Outcome) → OfItems (WritesFirstRecords k l earlier old mid seen) os → OfItems (WritesFirstRecords k l earlier old new seen) os
-firsts_kept k l earlier old mid new seen kept os (first, are, written, now) = (first, are, appends_kept old mid new (records_of l first) written kept, now)
+pub firsts_kept : (l : Layout) (earlier : List Item) (a b c : Stream) → Parts a b c → IsGivenNothing b → (os : List Outcome) → OfItems (WritesFirstRecords l earlier a) os → OfItems (WritesFirstRecords l earlier c) os
+firsts_kept l earlier a b c p kept os (first, are, written) = (first, are, given_kept a b c p (records_of l first) written kept)
 
-pub writes_firsts : (k : ItemType) (l : Layout) (earlier : List Item) (file before after old new : Option (List ℕ)) (seen : Seen) (err : Stream) → WritesPieces k file before after (OfItems (WritesFirstRecords k l earlier old new seen)) err false → WritesFirsts k l earlier before after old new seen × IsGivenNothing err
-writes_firsts k l earlier file before after old new seen err w =
-    let none = none_reported k file before after (OfItems (WritesFirstRecords k l earlier old new seen)) err w in
-    let (first, are, written, now) = w.are_written in
+pub writes_firsts : (k : ItemType) (l : Layout) (earlier : List Item) (file before after : Option (List ℕ)) (out : Stream) (seen : Seen) (err : Stream) → WritesPieces k file before after (OfItems (WritesSeenFirsts k l earlier out seen)) err false → WritesFirsts k l earlier before after out seen × IsGivenNothing err
+writes_firsts k l earlier file before after out seen err w =
+    let none = none_reported k file before after (OfItems (WritesSeenFirsts k l earlier out seen)) err w in
+    let ((first, are, written), now) = w.are_written in
     (record { read = w.read; items = items_of w.outcomes; first = first; consumed = w.consumed; all_read = w.all_read; spelled = none.0; are_firsts = are; written = written; seen_now = now }, none.1)
 
 -- of objects
-pub objects_kept : (rename : Bool) (name : List ℕ) (old mid new : Option (List ℕ)) → Keeps mid new → (os : List Outcome) → WritesObjects rename name old mid os → WritesObjects rename name old new os
-objects_kept rename name old mid new kept os w = appends_kept old mid new (objects_of rename name os) w kept
+pub objects_kept : (rename : Bool) (name : List ℕ) (a b c : Stream) → Parts a b c → IsGivenNothing b → (os : List Outcome) → WritesObjects rename name a os → WritesObjects rename name c os
+objects_kept rename name a b c p kept os w = given_kept a b c p (objects_of rename name os) w kept
 
-pub writes_all_objects : (k : ItemType) (rename : Bool) (name : List ℕ) (before after old new : Option (List ℕ)) (err : Stream) → WritesPieces k (Some name) before after (WritesObjects rename name old new) err false → WritesAllObjects k rename name before after old new × IsGivenNothing err
-writes_all_objects k rename name before after old new err w =
-    let none = none_reported k (Some name) before after (WritesObjects rename name old new) err w in
+pub writes_all_objects : (k : ItemType) (rename : Bool) (name : List ℕ) (before after : Option (List ℕ)) (out err : Stream) → WritesPieces k (Some name) before after (WritesObjects rename name out) err false → WritesAllObjects k rename name before after out × IsGivenNothing err
+writes_all_objects k rename name before after out err w =
+    let none = none_reported k (Some name) before after (WritesObjects rename name out) err w in
     (record { read = w.read; outcomes = w.outcomes; consumed = w.consumed; all_read = w.all_read; pieces = w.pieces; are = w.are; none = sym w.any; spelled = none.0; written = w.are_written }, none.1)

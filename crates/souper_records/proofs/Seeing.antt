@@ -20,11 +20,12 @@ use Rattle.souper_ir.proofs.Items.OneText.{one_text}
 use Rattle.souper_stream.specs.declared.parts.PartReader.{PartReader}
 use Rattle.souper_stream.specs.Parts.{HasRead, ReadsPart, RefusesPart}
 use Rattle.souper_stream.proofs.Bytes.{all_after}
-use Rattle.souper_stream.proofs.Turns.{never_after}
+use Rattle.souper_stream.proofs.Turns.{read_begun, never_after}
+use Rattle.souper_format.specs.Streams.{Stream}
 use Rattle.souper_records.specs.declared.layout.Layout.{Layout}
 use Rattle.souper_records.specs.declared.seen.Seen.{Seen}
 use Rattle.souper_records.specs.Records.{record_of_text, record_of, records_of}
-use Rattle.souper_records.specs.Uniques.{text_by, firsts, AreSame, AreFirsts, HasText, HasSeen, WritesFirsts, WritesFirstsUpTo, WritesFirstRecords, WritesNewFirsts}
+use Rattle.souper_records.specs.Uniques.{text_by, firsts, AreSame, AreFirsts, HasText, HasSeen, WritesFirsts, WritesFirstsUpTo, WritesFirstsBegun, WritesSeenFirsts, WritesNewFirsts}
 use Rattle.souper_records.specs.Firsts.{firsts_by}
 use Rattle.souper_records.specs.Counts.{count_of, counts_by, IsCounted}
 use Rattle.souper_records.proofs.Tallies.{index, counts-again, counts-new}
@@ -163,20 +164,40 @@ all_parts : (P : Item → Type 0) (xs ys : List Item) → AllByRecursion P (xs +
 all_parts P [] ys h = h
 all_parts P (x ∷ xs) ys h = all_parts P xs ys h.1
 
-module _ {S : Type 0} (k : ItemType) (l : Layout) (before mid after old now new : Option (List ℕ)) {holds : S → List Item → Type 0} {a b : S} (s t u : Seen) (p : PartReader) (r : Reached k l before mid old now s t p) where
-  pub reached_more : (q : PartReader) (ended : Bool) (m : ReadsPart k r.0 r.1 mid after holds a b q ended) → SeesMore k l.rename m.taken t u → WritesNew l now new t u → ended ≡ false → Reached k l before after old new s u q
+-- the records of the first ones among the items that were read so far, which the stream begins with
+pub reached_begun : (k : ItemType) (l : Layout) (before mid : Option (List ℕ)) (out : Stream) (s t : Seen) (p : PartReader) → Reached k l before mid out.before out.after s t p → (earlier : List Item) → HasSeen k l.rename earlier s → WritesFirstsBegun k l earlier before out
+reached_begun k l before mid out s t p r earlier seen =
+    let both = r.4 earlier seen in
+    record {
+      read = r.0;
+      after = mid;
+      items = r.1;
+      first = firsts l.rename earlier r.1;
+      consumed = r.3;
+      begun = read_begun k r.0 r.1 p r.2;
+      are_firsts = are_firsts k l.rename earlier r.1 seen.0 (all_parts (HasText k l.rename) earlier r.1 both.0.0);
+      written = both.1;
+    }
+
+-- so it is with those up to a refusal
+pub up_to_begun : (k : ItemType) (l : Layout) (earlier : List Item) (file : Option (List ℕ)) (before after : Option (List ℕ)) (out : Stream) (seen : Seen) (e : ParseError) → WritesFirstsUpTo k l earlier file before after out seen e → WritesFirstsBegun k l earlier before out
+up_to_begun k l earlier file before after out seen e w =
+    record { read = w.read; after = after; items = w.items; first = w.first; consumed = w.consumed; begun = w.begun; are_firsts = w.are_firsts; written = w.written }
+
+module _ {S : Type 0} (k : ItemType) (l : Layout) (before mid after now : Option (List ℕ)) (out : Stream) {holds : S → List Item → Type 0} {a b : S} (s t u : Seen) (p : PartReader) (r : Reached k l before mid out.before now s t p) where
+  pub reached_more : (q : PartReader) (ended : Bool) (m : ReadsPart k r.0 r.1 mid after holds a b q ended) → SeesMore k l.rename m.taken t u → WritesNew l now out.after t u → ended ≡ false → Reached k l before after out.before out.after s u q
   reached_more q ended m more w e = (
     r.0 ++ m.more,
     r.1 ++ m.taken,
     m.goes_on e,
     Consumes-trans before mid after r.0 m.more r.3 m.consumed,
-    keeps_both k l old now new s t u r.1 m.taken r.4 more w,
+    keeps_both k l out.before now out.after s t u r.1 m.taken r.4 more w,
   )
 
-  pub reached_end : (q : PartReader) (ended : Bool) (m : ReadsPart k r.0 r.1 mid after holds a b q ended) → SeesMore k l.rename m.taken t u → WritesNew l now new t u → ended ≡ true
-      → (earlier : List Item) → HasSeen k l.rename earlier s → WritesFirsts k l earlier before after old new u
+  pub reached_end : (q : PartReader) (ended : Bool) (m : ReadsPart k r.0 r.1 mid after holds a b q ended) → SeesMore k l.rename m.taken t u → WritesNew l now out.after t u → ended ≡ true
+      → (earlier : List Item) → HasSeen k l.rename earlier s → WritesFirsts k l earlier before after out u
   reached_end q ended m more w e earlier seen =
-      let both = keeps_both k l old now new s t u r.1 m.taken r.4 more w earlier seen in
+      let both = keeps_both k l out.before now out.after s t u r.1 m.taken r.4 more w earlier seen in
       let items = r.1 ++ m.taken in
       record {
         read = r.0 ++ m.more;
@@ -190,11 +211,11 @@ module _ {S : Type 0} (k : ItemType) (l : Layout) (before mid after old now new 
         seen_now = both.0;
       }
 
-  pub reached_refusal : (file : Option (List ℕ)) (e : ParseError) (m : RefusesPart k file r.0 r.1 mid after holds a b e) → SeesMore k l.rename m.2.taken t u → WritesNew l now new t u
-      → (earlier : List Item) → HasSeen k l.rename earlier s → WritesFirstsUpTo k l earlier file before after old new u e
+  pub reached_refusal : (file : Option (List ℕ)) (e : ParseError) (m : RefusesPart k file r.0 r.1 mid after holds a b e) → SeesMore k l.rename m.2.taken t u → WritesNew l now out.after t u
+      → (earlier : List Item) → HasSeen k l.rename earlier s → WritesFirstsUpTo k l earlier file before after out u e
   reached_refusal file e m more w earlier seen =
       let part = m.2 in
-      let both = keeps_both k l old now new s t u r.1 part.taken r.4 more w earlier seen in
+      let both = keeps_both k l out.before now out.after s t u r.1 part.taken r.4 more w earlier seen in
       let items = r.1 ++ part.taken in
       record {
         read = r.0 ++ m.0;
@@ -210,10 +231,10 @@ module _ {S : Type 0} (k : ItemType) (l : Layout) (before mid after old now new 
       }
 
 -- the first items of what was seen
-pub first_records : (k : ItemType) (l : Layout) (old new : Option (List ℕ)) (s t : Seen) (earlier items : List Item) → HasSeen k l.rename earlier s → WritesNewFirsts k l old new s t items → WritesFirstRecords k l earlier old new t items
-first_records k l old new s t earlier items seen w =
+pub first_records : (k : ItemType) (l : Layout) (out : Stream) (s t : Seen) (earlier items : List Item) → HasSeen k l.rename earlier s → WritesNewFirsts k l out.before out.after s t items → WritesSeenFirsts k l earlier out t items
+first_records k l out s t earlier items seen w =
     let both = w earlier seen in
-    (firsts l.rename earlier items, are_firsts k l.rename earlier items seen.0 (all_parts (HasText k l.rename) earlier items both.0.0), both.1, both.0)
+    ((firsts l.rename earlier items, are_firsts k l.rename earlier items seen.0 (all_parts (HasText k l.rename) earlier items both.0.0), both.1), both.0)
 
 -- what holds if a result is Ok
 pub on_ok : {X E : Type 0} (r : Result X E) {P Q : Type 0} → (P → Q) → OnOk r P → OnOk r Q

@@ -10,11 +10,10 @@ use Rattle.souper_stream.specs.declared.parts.PartReader.{PartReader}
 use Rattle.souper_stream.specs.Parts.{HasRead, ReadsPart, RefusesPart}
 use Rattle.souper_stream.proofs.Bytes.{all_after}
 use Rattle.souper_stream.proofs.Turns.{read_begun, never_after}
+use Rattle.souper_format.specs.Streams.{Stream}
 use Rattle.souper_records.specs.declared.layout.Layout.{Layout}
 use Rattle.souper_records.specs.Records.{record_of, records_of}
-use Rattle.souper_records.specs.declared.each.Stop.{Stop}
-use Rattle.souper_records.specs.declared.each.Stop.TheVariants.{Input, Output}
-use Rattle.souper_records.specs.Eaches.{WritesEach, WritesUpTo, WritesBegun, IfInput}
+use Rattle.souper_records.specs.Eaches.{WritesEach, WritesUpTo, WritesBegun}
 
 abbrev pub Reached : ItemType → Layout → Option (List ℕ) → Option (List ℕ) → Option (List ℕ) → Option (List ℕ) → PartReader → Type 0
 Reached k l before mid old now p = (read : List ℕ) × (items : List Item) × HasRead k read items p × Consumes before mid read × Appends old now (records_of l items)
@@ -27,8 +26,8 @@ written_both l old now new xs ys text a is b =
     subst (Appends old new) (sym (flat_map-append (record_of l) xs ys)) (Appends-trans old now new (records_of l xs) (records_of l ys) a (subst (Appends now new) is b))
 
 -- the records of the items that were read so far, which the stream begins with
-pub reached_begun : (k : ItemType) (l : Layout) (before mid old now : Option (List ℕ)) (p : PartReader) → Reached k l before mid old now p → WritesBegun k l before old now
-reached_begun k l before mid old now p r = record {
+pub reached_begun : (k : ItemType) (l : Layout) (before mid : Option (List ℕ)) (out : Stream) (p : PartReader) → Reached k l before mid out.before out.after p → WritesBegun k l before out
+reached_begun k l before mid out p r = record {
   read = r.0;
   after = mid;
   items = r.1;
@@ -37,27 +36,27 @@ reached_begun k l before mid old now p r = record {
   written = r.4;
 }
 
-module _ {S : Type 0} (k : ItemType) (l : Layout) (before mid after old now new : Option (List ℕ)) {holds : S → List Item → Type 0} {a b : S} (p : PartReader) (text : List ℕ) (r : Reached k l before mid old now p) where
-  pub reached_more : (q : PartReader) (ended : Bool) (m : ReadsPart k r.0 r.1 mid after holds a b q ended) → text ≡ records_of l m.taken → Appends now new text → ended ≡ false → Reached k l before after old new q
+module _ {S : Type 0} (k : ItemType) (l : Layout) (before mid after now : Option (List ℕ)) (out : Stream) {holds : S → List Item → Type 0} {a b : S} (p : PartReader) (text : List ℕ) (r : Reached k l before mid out.before now p) where
+  pub reached_more : (q : PartReader) (ended : Bool) (m : ReadsPart k r.0 r.1 mid after holds a b q ended) → text ≡ records_of l m.taken → Appends now out.after text → ended ≡ false → Reached k l before after out.before out.after q
   reached_more q ended m is w e = (
     r.0 ++ m.more,
     r.1 ++ m.taken,
     m.goes_on e,
     Consumes-trans before mid after r.0 m.more r.3 m.consumed,
-    written_both l old now new r.1 m.taken text r.4 is w,
+    written_both l out.before now out.after r.1 m.taken text r.4 is w,
   )
 
-  pub reached_end : (q : PartReader) (ended : Bool) (m : ReadsPart k r.0 r.1 mid after holds a b q ended) → text ≡ records_of l m.taken → Appends now new text → ended ≡ true → WritesEach k l before after old new
+  pub reached_end : (q : PartReader) (ended : Bool) (m : ReadsPart k r.0 r.1 mid after holds a b q ended) → text ≡ records_of l m.taken → Appends now out.after text → ended ≡ true → WritesEach k l before after out
   reached_end q ended m is w e = record {
     read = r.0 ++ m.more;
     items = r.1 ++ m.taken;
     consumed = Consumes-trans before mid after r.0 m.more r.3 m.consumed;
     all_read = all_after before mid r.0 m.more r.3 (m.all_read e).0;
     spelled = (m.all_read e).1;
-    written = written_both l old now new r.1 m.taken text r.4 is w;
+    written = written_both l out.before now out.after r.1 m.taken text r.4 is w;
   }
 
-  pub reached_refusal : (file : Option (List ℕ)) (e : ParseError) (m : RefusesPart k file r.0 r.1 mid after holds a b e) → text ≡ records_of l m.2.taken → Appends now new text → WritesUpTo k l file before after old new e
+  pub reached_refusal : (file : Option (List ℕ)) (e : ParseError) (m : RefusesPart k file r.0 r.1 mid after holds a b e) → text ≡ records_of l m.2.taken → Appends now out.after text → WritesUpTo k l file before after out e
   reached_refusal file e m is w =
       let part = m.2 in
       record {
@@ -66,15 +65,10 @@ module _ {S : Type 0} (k : ItemType) (l : Layout) (before mid after old now new 
         consumed = Consumes-trans before mid after r.0 m.0 r.3 m.1;
         never = never_after k before mid r.0 m.0 r.3 part.never;
         begun = part.begun;
-        written = written_both l old now new r.1 part.taken text r.4 is w;
+        written = written_both l out.before now out.after r.1 part.taken text r.4 is w;
         placed = part.placed;
       }
 
 -- what was written up to a refusal is the records of items that the stream begins with
-pub up_to_begun : (k : ItemType) (l : Layout) (file : Option (List ℕ)) (before after old new : Option (List ℕ)) (e : ParseError) → WritesUpTo k l file before after old new e → WritesBegun k l before old new
-up_to_begun k l file before after old new e w = record { read = w.read; after = after; items = w.items; consumed = w.consumed; begun = w.begun; written = w.written }
-
--- what holds of no error of the input
-pub no_input : (stop : Stop) (P : ParseError → Type 0) → IfInput stop (λ e. ⊥) → IfInput stop P
-no_input (Input e) P h = absurd h
-no_input (Output fault) P h = tt
+pub up_to_begun : (k : ItemType) (l : Layout) (file : Option (List ℕ)) (before after : Option (List ℕ)) (out : Stream) (e : ParseError) → WritesUpTo k l file before after out e → WritesBegun k l before out
+up_to_begun k l file before after out e w = record { read = w.read; after = after; items = w.items; consumed = w.consumed; begun = w.begun; written = w.written }

@@ -1,5 +1,5 @@
 -- Definitions. Canonical texts, and what each status of a run that looks for them says.
-use Rattle.std.specs.Prelude.{◌≡◌, ◌⊎◌, ℕ, List, Option, Some, false, codes}
+use Rattle.std.specs.Prelude.{◌≡◌, ◌⊎◌, ℕ, ◌+◌, List, [], ◌∷◌, ◌++◌, Option, Some, false, codes, decimal}
 use Rattle.std.specs.Io.KnownBytes.{Consumes}
 use Rattle.souper_graph.specs.Values.{Item}
 use Rattle.souper_graph.specs.Syntax.Spelling.{ItemType, TextSpells}
@@ -7,25 +7,50 @@ use Rattle.souper_ir.specs.Answers.{IsStrError}
 use Rattle.souper_ir.specs.declared.parse.ParseError.{ParseError}
 use Rattle.souper_ir.specs.declared.parse.ParseErrorKind.TheVariants.{Parse}
 use Rattle.souper_ir.specs.Errors.{kind_of}
+use Rattle.souper_ir.specs.Places.{newlines}
 use Rattle.souper_stream.specs.Reading.{AreAll}
 use Rattle.souper_format.specs.Streams.{Stream, IsGiven, IsGivenNothing}
 use Rattle.souper_format.specs.Reporting.{ReportedLine}
 use Rattle.souper_records.specs.Records.{records_of, plain}
-use Rattle.souper_records.specs.Reports.{named_line, ReportedFault}
+use Rattle.souper_records.specs.Reports.{ReportedMemory, ReportedFault}
 use Rattle.souper_records.specs.Runs.{OnStatus}
 
 -- the text is the plain records of the items that it spells
 abbrev pub IsCanonical : ItemType → List ℕ → Type 0
 IsCanonical k text = (items : List Item) × TextSpells k text items × (text ≡ records_of plain items)
 
+-- the first bytes of the texts differ, or one of the texts has no bytes
+abbrev pub BeginApart : List ℕ → List ℕ → Type 0
+BeginApart [] [] = ⊥
+BeginApart [] (b ∷ other) = Unit {0}
+BeginApart (a ∷ text) [] = Unit {0}
+BeginApart (a ∷ text) (b ∷ other) = ¬ (a ≡ b)
+
+-- the texts are the same up to a byte of this line, counted from 1, and differ there
+abbrev pub DifferOnLine : List ℕ → List ℕ → ℕ → Type 0
+DifferOnLine text other line = (same : List ℕ) × (rest : List ℕ) × (more : List ℕ)
+    × (text ≡ same ++ rest) × (other ≡ same ++ more) × BeginApart rest more × (line ≡ newlines same + 1)
+
+-- the text differs from the plain records of the items that it spells, on this line first
+abbrev pub IsOtherLine : ItemType → List ℕ → ℕ → Type 0
+IsOtherLine k text line = (items : List Item) × TextSpells k text items × DifferOnLine text (records_of plain items) line
+
+-- the line that says on which line a text is not canonical
+abbrev pub other_line : List ℕ → ℕ → List ℕ
+other_line name line = name ++ (codes ":" ++ (decimal line ++ codes ": not canonical\n"))
+
+-- the status is 1, and it was reported on which line the text of this name is not canonical; or it is 2, and out of memory was
+abbrev pub ReportedOtherLine : List ℕ → ℕ → Stream → ℕ → Type 0
+ReportedOtherLine name line err status = ((status ≡ 1) × (err.failed ≡ false → IsGiven err (other_line name line))) ⊎ ((status ≡ 2) × ReportedMemory err)
+
 -- these bytes are all of the stream
 abbrev pub IsWhole : Option (List ℕ) → Option (List ℕ) → List ℕ → Type 0
 IsWhole before after read = Consumes before after read × AreAll before read
 
--- the text is refused, and that was reported; or it spells items, and that it is not canonical was reported
+-- the text is refused, and that was reported; or it spells items, and on which line it is not canonical was reported
 abbrev pub ReportedOther : ItemType → List ℕ → List ℕ → Stream → Type 0
 ReportedOther k name read err = ((e : ParseError) × (kind_of e ≡ Parse) × IsStrError k (Some name) read e × ReportedLine err e)
-    ⊎ (((items : List Item) × TextSpells k read items) × (err.failed ≡ false → IsGiven err (named_line name (codes "not canonical"))))
+    ⊎ ((line : ℕ) × IsOtherLine k read line × (err.failed ≡ false → IsGiven err (other_line name line)))
 
 -- what the status says: 0, the whole stream is canonical, and nothing was reported; 1, it is not, and that was reported; 2,
 -- something failed, and that was reported
@@ -33,4 +58,5 @@ abbrev pub IsCheckRun : ItemType → List ℕ → Option (List ℕ) → Option (
 IsCheckRun k name before after err status = OnStatus status
     ((read : List ℕ) × IsWhole before after read × IsCanonical k read × IsGivenNothing err)
     ((read : List ℕ) × IsWhole before after read × (IsCanonical k read → ⊥) × ReportedOther k name read err)
-    (ReportedFault name err)
+    (ReportedFault name err ⊎ ReportedMemory err)
+    ⊥

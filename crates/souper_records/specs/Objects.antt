@@ -1,6 +1,6 @@
 -- Definitions. The JSON objects of items and of refusals.
 use Rattle.std.specs.Prelude.{◌≡◌, Bool, false, ℕ, List, [], ◌++◌, flat_map, codes, Option, None, Some}
-use Rattle.std.specs.Io.KnownBytes.{Consumes, Appends}
+use Rattle.std.specs.Io.KnownBytes.{Consumes}
 use Rattle.serde_json.specs.Data.{Data, null, number, unsigned, string, object, member, no_members}
 use Rattle.serde_json.specs.Written.{compact_text}
 use Rattle.souper_graph.specs.Values.{Item}
@@ -9,6 +9,7 @@ use Rattle.souper_ir.specs.declared.parse.error.ParseError.{ParseError}
 use Rattle.souper_ir.specs.Errors.{offset_of, line_of, column_of, message_of}
 use Rattle.souper_stream.specs.Pieces.{ArePieces}
 use Rattle.souper_stream.specs.Reading.{AreAll}
+use Rattle.souper_format.specs.Streams.{Stream, IsGiven}
 use Rattle.souper_records.specs.Records.{key_of}
 use Rattle.souper_records.specs.Uniques.{text_by}
 use Rattle.souper_records.specs.Outcomes.{Outcome, AreOutcomes, pieces_of, items_of, any_refused}
@@ -60,11 +61,11 @@ abbrev pub objects_of : Bool → List ℕ → List Outcome → List ℕ
 objects_of rename name os = flat_map (piece_lines rename name) os
 
 -- the lines of the pieces were written, and nothing else
-abbrev pub WritesObjects : Bool → List ℕ → Option (List ℕ) → Option (List ℕ) → List Outcome → Type 0
-WritesObjects rename name old new os = Appends old new (objects_of rename name os)
+abbrev pub WritesObjects : Bool → List ℕ → Stream → List Outcome → Type 0
+WritesObjects rename name out os = IsGiven out (objects_of rename name os)
 
 -- all of the stream was read, it spells items, and their lines were written, and nothing else
-pub record WritesAllObjects (k : ItemType) (rename : Bool) (name : List ℕ) (before after old new : Option (List ℕ)) : Type 0 where
+pub record WritesAllObjects (k : ItemType) (rename : Bool) (name : List ℕ) (before after : Option (List ℕ)) (out : Stream) : Type 0 where
   pub read : List ℕ
   pub outcomes : List Outcome
   pub consumed : Consumes before after read
@@ -73,4 +74,4 @@ pub record WritesAllObjects (k : ItemType) (rename : Bool) (name : List ℕ) (be
   pub are : AreOutcomes k (Some name) before [] outcomes
   pub none : any_refused outcomes ≡ false
   pub spelled : TextSpells k read (items_of outcomes)
-  pub written : WritesObjects rename name old new outcomes
+  pub written : WritesObjects rename name out outcomes

@@ -1,7 +1,7 @@
 -- Definitions. What became of the pieces of a stream that is read on after a refusal: what was written of them and reported.
-use Rattle.std.specs.Prelude.{◌≡◌, ◌⊎◌, ℕ, Bool, false, List, [], ◌∷◌, ◌++◌, map, flat_map, filter_map, is_some, codes, Option, None, Some}
+use Rattle.std.specs.Prelude.{◌≡◌, ℕ, Bool, false, List, [], ◌∷◌, ◌++◌, map, flat_map, filter_map, is_some, Option, None, Some}
 use Rattle.std.specs.List.{list_any}
-use Rattle.std.specs.Io.KnownBytes.{Consumes, Appends}
+use Rattle.std.specs.Io.KnownBytes.{Consumes}
 use Rattle.souper_graph.specs.Values.{Item}
 use Rattle.souper_graph.specs.Syntax.Spelling.{ItemType, TextSpells, SpellsNone}
 use Rattle.souper_ir.specs.declared.parse.error.ParseError.{ParseError}
@@ -16,9 +16,8 @@ use Rattle.souper_format.specs.Streams.{Stream, IsGiven, IsGivenNothing}
 use Rattle.souper_format.specs.Reporting.{IsErrorLine, ReportedLine}
 use Rattle.souper_records.specs.declared.layout.Layout.{Layout}
 use Rattle.souper_records.specs.declared.each.Stop.{Stop}
-use Rattle.souper_records.specs.declared.each.Stop.TheVariants.{Input, Output}
+use Rattle.souper_records.specs.Eaches.{UnlessOutput}
 use Rattle.souper_records.specs.Records.{records_of}
-use Rattle.souper_records.specs.Reports.{program_line, named_line}
 
 -- what became of a piece: the line of its first token, its items, or those that it begins with, and its refusal, if it is refused
 pub record Outcome : Type 0 where
@@ -74,13 +73,9 @@ abbrev pub AreReported : Stream → List ParseError → Type 0
 AreReported err [] = IsGivenNothing err
 AreReported err (e ∷ es) = err.failed ≡ false → (text : List ℕ) × AreErrorLines (e ∷ es) text × IsGiven err text
 
--- the line of a fault of the stream, or that for out of memory
-abbrev pub IsFaultLine : List ℕ → List ℕ → Type 0
-IsFaultLine name line = ((shown : List ℕ) × (line ≡ named_line name shown)) ⊎ (line ≡ program_line (codes "out of memory"))
-
--- unless the writer has failed, the lines of the errors were written to it, and then that of a fault
-abbrev pub AreReportedThen : Stream → List ParseError → List ℕ → Type 0
-AreReportedThen err es name = err.failed ≡ false → (text : List ℕ) × (line : List ℕ) × AreErrorLines es text × IsFaultLine name line × IsGiven err (text ++ line)
+-- unless the writer has failed, the lines of the errors were written to it, and then a line of which P holds
+abbrev pub AreReportedThen : Stream → List ParseError → (List ℕ → Type 0) → Type 0
+AreReportedThen err es P = err.failed ≡ false → (text : List ℕ) × (line : List ℕ) × AreErrorLines es text × P line × IsGiven err (text ++ line)
 
 -- what was reported of one piece
 abbrev pub ReportsPiece : Stream → Option ParseError → Type 0
@@ -117,13 +112,10 @@ pub record ReadsPieces (k : ItemType) (file before : Option (List ℕ)) (outcome
   pub whole : read ≡ concat (all_lines (pieces_of outcomes)) ++ rest
   pub are : AreOutcomes k file before [] outcomes
 
--- reading or writing stopped after these pieces; if reading did, their outcomes were written
-abbrev pub IfReading : Stop → Type 0 → Type 0
-IfReading (Input e) P = P
-IfReading (Output fault) P = Unit {0}
-
-abbrev pub StopsAfter : ItemType → Option (List ℕ) → Option (List ℕ) → (List Outcome → Type 0) → Stream → Stop → Type 0
-StopsAfter k file before written err stop = (os : List Outcome) × ReadsPieces k file before os × AreReported err (refusals_of os) × IfReading stop (written os)
+-- reading or writing stopped after these pieces: their refusals were reported, and unless the output is the cause their outcomes were
+-- written; if it is, it has failed
+abbrev pub StopsAfter : ItemType → Option (List ℕ) → Option (List ℕ) → (List Outcome → Type 0) → Bool → Stream → Stop → Type 0
+StopsAfter k file before written failed err stop = (os : List Outcome) × ReadsPieces k file before os × AreReported err (refusals_of os) × UnlessOutput stop failed (written os)
 
 -- one outcome after the other was written: a state and what the output had, at first and after each
 abbrev pub WroteEach : {S : Type 0} → (S → Option (List ℕ) → S → Option (List ℕ) → Outcome → Type 0) → S → Option (List ℕ) → S → Option (List ℕ) → List Outcome → Type 0
@@ -135,9 +127,5 @@ abbrev pub OfItems : (List Item → Type 0) → List Outcome → Type 0
 OfItems written os = written (items_of os)
 
 -- how items are written: their records, and nothing else
-abbrev pub WritesRecords : Layout → Option (List ℕ) → Option (List ℕ) → List Item → Type 0
-WritesRecords l old new items = Appends old new (records_of l items)
-
--- nothing is known of what was written
-abbrev pub AnyWritten : List Outcome → Type 0
-AnyWritten os = Unit {0}
+abbrev pub WritesRecords : Layout → Stream → List Item → Type 0
+WritesRecords l out items = IsGiven out (records_of l items)

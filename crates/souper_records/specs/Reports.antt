@@ -2,7 +2,7 @@
 use Rattle.std.specs.Prelude.{◌≡◌, ◌⊎◌, ℕ, List, ◌++◌, false, codes}
 use Rattle.souper_ir.specs.Errors.{kind_of}
 use Rattle.souper_ir.specs.declared.parse.ParseError.{ParseError}
-use Rattle.souper_ir.specs.declared.parse.ParseErrorKind.TheVariants.{Parse}
+use Rattle.souper_ir.specs.declared.parse.ParseErrorKind.TheVariants.{Io, Parse}
 use Rattle.souper_format.specs.Streams.{Stream, IsGiven}
 use Rattle.souper_format.specs.Reporting.{ReportedLine}
 
@@ -14,18 +14,32 @@ program_line says = codes "souper_items: " ++ (says ++ codes "\n")
 abbrev pub named_line : List ℕ → List ℕ → List ℕ
 named_line name says = program_line (name ++ (codes ": " ++ says))
 
--- unless the writer has failed, the line for out of memory was written to it
-abbrev pub ReportedMemory : Stream → Type 0
-ReportedMemory err = err.failed ≡ false → IsGiven err (program_line (codes "out of memory"))
+-- the line for out of memory
+abbrev pub IsMemoryLine : List ℕ → Type 0
+IsMemoryLine line = line ≡ program_line (codes "out of memory")
 
--- unless the writer has failed, the line that says this of the stream, or that for out of memory, was written to it
-abbrev pub Reported : List ℕ → List ℕ → Stream → Type 0
-Reported name says err = err.failed ≡ false → IsGiven err (named_line name says) ⊎ IsGiven err (program_line (codes "out of memory"))
+-- the line that says this of the stream; if memory ran out for it, the line for that
+abbrev pub IsNamedLine : List ℕ → List ℕ → List ℕ → Type 0
+IsNamedLine name says line = (line ≡ named_line name says) ⊎ IsMemoryLine line
+
+-- the line of a fault of the stream; if memory ran out for it, the line for that
+abbrev pub IsFaultLine : List ℕ → List ℕ → Type 0
+IsFaultLine name line = ((shown : List ℕ) × (line ≡ named_line name shown)) ⊎ IsMemoryLine line
+
+-- unless the writer has failed, a line of which P holds was written to it
+abbrev pub Reported : Stream → (List ℕ → Type 0) → Type 0
+Reported err P = err.failed ≡ false → (line : List ℕ) × P line × IsGiven err line
+
+-- out of memory was reported
+abbrev pub ReportedMemory : Stream → Type 0
+ReportedMemory err = Reported err IsMemoryLine
 
 -- a fault of the stream was reported
 abbrev pub ReportedFault : List ℕ → Stream → Type 0
-ReportedFault name err = err.failed ≡ false → ((shown : List ℕ) × IsGiven err (named_line name shown)) ⊎ IsGiven err (program_line (codes "out of memory"))
+ReportedFault name err = Reported err (IsFaultLine name)
 
--- the status is 1 if the error is a refusal, and its line was written; else it is 2, and what went wrong was reported
+-- The status is 1 if the text was refused, and the line of the refusal was written. It is 2 if a read failed, and that was reported,
+-- or if memory ran out, for the items or for the line of a refusal, and that was reported.
 abbrev pub ReportedError : List ℕ → Stream → ℕ → ParseError → Type 0
-ReportedError name err status e = ((status ≡ 1) × (kind_of e ≡ Parse) × ReportedLine err e) ⊎ ((status ≡ 2) × ReportedFault name err)
+ReportedError name err status e = ((status ≡ 1) × (kind_of e ≡ Parse) × ReportedLine err e)
+    ⊎ (((status ≡ 2) × (kind_of e ≡ Io) × ReportedFault name err) ⊎ ((status ≡ 2) × ReportedMemory err))

@@ -1,5 +1,5 @@
 -- Definitions. The first item of each graph.
-use Rattle.std.specs.Prelude.{◌≡◌, ℕ, ◌+◌, ◌^◌, ◌<◌, ◌≤◌, Bool, true, false, List, [], ◌++◌, length, map, flat_map, codes, decimal, Option}
+use Rattle.std.specs.Prelude.{◌≡◌, ℕ, ◌+◌, ◌^◌, ◌<◌, ◌≤◌, Bool, true, false, List, [], ◌++◌, length, map, flat_map, take, codes, decimal, Option}
 use Rattle.std.specs.List.{AllByRecursion}
 use Rattle.std.specs.Io.KnownBytes.{Consumes, Appends}
 use Rattle.std.specs.String.{string_bytes}
@@ -14,6 +14,7 @@ use Rattle.souper_ir.specs.declared.parse.error.ParseError.{ParseError}
 use Rattle.souper_ir.specs.Errors.{IsRefusalAt}
 use Rattle.souper_ir.specs.Sinks.{PrefixSpells}
 use Rattle.souper_stream.specs.Reading.{AreAll, NeverSpells}
+use Rattle.souper_format.specs.Streams.{Stream, IsGiven}
 use Rattle.souper_records.specs.declared.layout.Layout.{Layout}
 use Rattle.souper_records.specs.declared.seen.Seen.{Seen}
 use Rattle.souper_records.specs.Records.{chosen, record_of, records_of}
@@ -51,7 +52,7 @@ HasSeen k rename items s = AllByRecursion (HasText k rename) items × (map strin
 
 -- All of the stream was read, and it spells items. Of these, those that are the same as no earlier one had their records
 -- written, and nothing else; and all were seen.
-pub record WritesFirsts (k : ItemType) (l : Layout) (earlier : List Item) (before after : Option (List ℕ)) (old new : Option (List ℕ)) (seen : Seen) : Type 0 where
+pub record WritesFirsts (k : ItemType) (l : Layout) (earlier : List Item) (before after : Option (List ℕ)) (out : Stream) (seen : Seen) : Type 0 where
   pub read : List ℕ
   pub items : List Item
   pub first : List Item
@@ -59,12 +60,12 @@ pub record WritesFirsts (k : ItemType) (l : Layout) (earlier : List Item) (befor
   pub all_read : AreAll before read
   pub spelled : TextSpells k read items
   pub are_firsts : AreFirsts l.rename earlier items first
-  pub written : Appends old new (records_of l first)
+  pub written : IsGiven out (records_of l first)
   pub seen_now : HasSeen k l.rename (earlier ++ items) seen
 
 -- The stream is refused: whatever follows what was read of it, the whole spells no items. The same holds of items that it begins
 -- with; the error has and shows its place in the stream.
-pub record WritesFirstsUpTo (k : ItemType) (l : Layout) (earlier : List Item) (file : Option (List ℕ)) (before after : Option (List ℕ)) (old new : Option (List ℕ)) (seen : Seen) (e : ParseError) : Type 0 where
+pub record WritesFirstsUpTo (k : ItemType) (l : Layout) (earlier : List Item) (file : Option (List ℕ)) (before after : Option (List ℕ)) (out : Stream) (seen : Seen) (e : ParseError) : Type 0 where
   pub read : List ℕ
   pub items : List Item
   pub first : List Item
@@ -72,13 +73,28 @@ pub record WritesFirstsUpTo (k : ItemType) (l : Layout) (earlier : List Item) (f
   pub never : NeverSpells k (AreAll before read) read
   pub begun : PrefixSpells k read items
   pub are_firsts : AreFirsts l.rename earlier items first
-  pub written : Appends old new (records_of l first)
+  pub written : IsGiven out (records_of l first)
   pub seen_now : HasSeen k l.rename (earlier ++ items) seen
   pub placed : length read + 1 < 2 ^ 64 → (offset : ℕ) × (offset ≤ length read) × IsRefusalAt file read offset e
 
--- of these items, after earlier ones, the first of each graph had their records written, and nothing else; and all were seen
-abbrev pub WritesFirstRecords : ItemType → Layout → List Item → Option (List ℕ) → Option (List ℕ) → Seen → List Item → Type 0
-WritesFirstRecords k l earlier old new seen items = (first : List Item) × AreFirsts l.rename earlier items first × Appends old new (records_of l first) × HasSeen k l.rename (earlier ++ items) seen
+-- the same holds of items that the stream begins with, but for what was seen
+pub record WritesFirstsBegun (k : ItemType) (l : Layout) (earlier : List Item) (before : Option (List ℕ)) (out : Stream) : Type 0 where
+  pub read : List ℕ
+  pub after : Option (List ℕ)
+  pub items : List Item
+  pub first : List Item
+  pub consumed : Consumes before after read
+  pub begun : PrefixSpells k read items
+  pub are_firsts : AreFirsts l.rename earlier items first
+  pub written : IsGiven out (records_of l first)
+
+-- of these items, after earlier ones, the first of each graph had their records written, and nothing else
+abbrev pub WritesFirstRecords : Layout → List Item → Stream → List Item → Type 0
+WritesFirstRecords l earlier out items = (first : List Item) × AreFirsts l.rename earlier items first × IsGiven out (records_of l first)
+
+-- and all were seen
+abbrev pub WritesSeenFirsts : ItemType → Layout → List Item → Stream → Seen → List Item → Type 0
+WritesSeenFirsts k l earlier out seen items = WritesFirstRecords l earlier out items × HasSeen k l.rename (earlier ++ items) seen
 
 -- the same, whatever items were seen before
 abbrev pub WritesNewFirsts : ItemType → Layout → Option (List ℕ) → Option (List ℕ) → Seen → Seen → List Item → Type 0
@@ -95,3 +111,7 @@ counted_record l items a = count_line (count_of (text_by l.rename) items a) ++ r
 -- those of all first items
 abbrev pub counted_records : Layout → List Item → List ℕ
 counted_records l items = flat_map (counted_record l items) (firsts l.rename [] items)
+
+-- those of some first items, in order from the first on, were written, and nothing else
+abbrev pub WritesCountsBegun : Layout → List Item → Stream → Type 0
+WritesCountsBegun l items out = (n : ℕ) × IsGiven out (flat_map (counted_record l items) (take n (firsts l.rename [] items)))

@@ -1,16 +1,12 @@
 //! Whether a text is canonical.
-ghost use Rattle.std.specs.Prelude.{◌≡◌, ◌↔◌, List, Some, IfOk, IfErr, IsTrue};
-ghost use Rattle.std.specs.String.{string_bytes};
-ghost use Rattle.souper_graph.specs.Values.{Item};
-ghost use Rattle.souper_graph.specs.Syntax.Spelling.{TextSpells};
+ghost use Rattle.std.specs.Prelude.{◌≡◌, ◌↔◌, Some, IfOk, IfErr, IfSome, IfNone, IsNone};
 ghost use Rattle.souper_ir.specs.Answers.{IsStrError};
 ghost use Rattle.souper_format.specs.Streams.{stream};
-ghost use Rattle.souper_records.specs.Records.{records_of, plain};
-ghost use Rattle.souper_records.specs.Canonical.{IsCanonical, IsCheckRun};
+ghost use Rattle.souper_records.specs.Canonical.{IsCanonical, DifferOnLine, IsOtherLine, ReportedOtherLine, IsCheckRun};
 
 use crate::fixed::Plain;
 use crate::layout::PLAIN;
-use crate::report::{line, report_error, report_fault, report_memory};
+use crate::report::{report_error, report_fault, report_line, report_memory};
 use crate::sink::Records;
 use souper_format::watched::Watched;
 use souper_ir::parse::{ParseError, WholeItem, parse_into};
@@ -18,30 +14,68 @@ use std::alloc::Global;
 use std::io::{BufRead, ErrorKind, Write};
 use std::{io, str};
 
-/// Whether the text is the records of the items that it spells, as [`each`](crate::each::each) writes them in the layout
-/// [`PLAIN`].
+// The line, counted from 1, on which the texts first differ, or none if they are the same.
+fn differing_line(text: &[u8], other: &[u8]) -> Option<usize>
+    ensures same { IfNone result (text.now ≡ other.now) }
+    ensures differs { IfSome result (DifferOnLine text.now other.now) }
+{
+    let mut line = 1;
+    for (index, byte) in text.iter().enumerate() {
+        if index == other.len() || other[index] != *byte {
+            return Some(line);
+        }
+        if *byte == b'\n' {
+            line += 1;
+        }
+    }
+    if text.len() == other.len() {
+        None
+    } else {
+        Some(line)
+    }
+}
+
+/// The line of the text, counted from 1, on which it first differs from its canonical text, which is the records of the items that it
+/// spells, as [`each`](crate::each::each) writes them in the layout [`PLAIN`]; none if it is canonical. If the text is a beginning of its
+/// canonical text, that is the line on which the rest would begin.
 ///
 /// The error is that of [`parse_into`]: the text spells no such items, or memory ran out. It shows `name` as that of the text.
-pub fn is_canonical<T: WholeItem + Drop>(
+pub fn first_other_line<T: WholeItem + Drop>(
     alloc: Global,
     source: &str,
     name: &str,
-) -> Result<bool, ParseError>
-    ensures spelled { IfOk result (λ answer. (items : List Item) × TextSpells T.item_type source.now items) }
-    ensures answer { IfOk result (λ answer. IsTrue answer ↔ IsCanonical T.item_type source.now) }
+) -> Result<Option<usize>, ParseError>
+    ensures canonical { IfOk result (λ line. IsNone line ↔ IsCanonical T.item_type source.now) }
+    ensures other { IfOk result (λ line. IfSome line (IsOtherLine T.item_type source.now)) }
     ensures refused { IfErr result (λ e. IsStrError T.item_type (Some name.now) source.now e) }
 {
     let mut records = Records::<Plain>::new(alloc, PLAIN);
     parse_into::<T, Records<Plain>>(alloc, source, Some(name), &mut records)?;
-    Ok(records.out.as_str() == source)
+    Ok(differing_line(source.as_bytes(), records.out.as_bytes()))
 }
 
-/// Reads the whole stream, and returns the status of the program: whether it is canonical ([`is_canonical`]). The stream and its
+// Reports on which line the text of this name is not canonical, and returns the status of the program.
+fn report_other_line<E: Write>(alloc: Global, name: &str, line: usize, err: &mut Watched<E>) -> u8
+    ensures { ReportedOtherLine name.now line (stream E.contents err.old err.new) result }
+{
+    match format!(in alloc; "{name}:{line}: not canonical\n") {
+        Ok(says) => {
+            report_line(&says, err);
+            1
+        }
+        Err(_) => {
+            report_memory(err);
+            2
+        }
+    }
+}
+
+/// Reads the whole stream, and returns the status of the program: whether it is canonical ([`first_other_line`]). The stream and its
 /// records are held in memory.
 ///
 /// - 0: it is, and nothing was written to `err`.
-/// - 1: it is not, and a line that says so was written to `err`; or it is refused, and the refusal was written, which shows the
-///   name, and a newline.
+/// - 1: it is not, and a line was written to `err` that says so, with the name and the number of the first line that differs:
+///   `NAME:LINE: not canonical`; or it is refused, and the refusal was written, which shows the name, and a newline.
 /// - 2: a read failed, what was read is not UTF-8, or memory ran out. A line that says so was written to `err`.
 ///
 /// If a write to `err` fails, the status is the same.
@@ -66,18 +100,9 @@ pub fn check_run<T: WholeItem + Drop, R: BufRead, E: Write>(
             return 2;
         }
     };
-    match is_canonical::<T>(alloc, source, name) {
-        Ok(true) => 0,
-        Ok(false) => match line(alloc, name, "not canonical") {
-            Ok(line) => {
-                let _ = err.write_all(line.as_bytes());
-                1
-            }
-            Err(_) => {
-                report_memory(err);
-                2
-            }
-        },
+    match first_other_line::<T>(alloc, source, name) {
+        Ok(None) => 0,
+        Ok(Some(line)) => report_other_line(alloc, name, line, err),
         Err(error) => report_error(alloc, name, &error, err),
     }
 }

@@ -23,15 +23,15 @@ fn each_fixed<L: Fixed, T: StreamItem + Drop, R: BufRead, W: Write, E: Write>(
     alloc: Global,
     job: Job<'_>,
     reader: &mut R,
-    out: &mut W,
+    out: &mut Watched<W>,
     err: &mut Watched<E>,
 ) -> Result<bool, Stop>
     requires { job.layout ≡ L.layout }
     ensures written { IfOk result (λ refused. WritesPieces T.item_type (Some job.entry.name.now) (R.remaining reader.old) (R.remaining reader.new)
-        (OfItems (WritesRecords job.entry.layout (W.contents out.old) (W.contents out.new))) (stream E.contents err.old err.new) refused) }
+        (OfItems (WritesRecords job.entry.layout (stream W.contents out.old out.new))) (stream E.contents err.old err.new) refused) }
     ensures stopped { IfErr result (λ stop. StopsAfter T.item_type (Some job.entry.name.now) (R.remaining reader.old)
-        (OfItems (WritesRecords job.entry.layout (W.contents out.old) (W.contents out.new))) (stream E.contents err.old err.new) stop) }
-    ensures fault { IfErr result (λ stop. IfInput stop (λ e. kind_of e ≡ ParseErrorKind.Parse → ⊥)) }
+        (OfItems (WritesRecords job.entry.layout (stream W.contents out.old out.new))) (has_failed out.new) (stream E.contents err.old err.new) stop) }
+    ensures input { IfErr result (λ stop. IfInput stop (λ e. kind_of e ≡ ParseErrorKind.Io)) }
     ensures stays { has_failed err.old ≡ true → has_failed err.new ≡ true }
 {
     let mut records = Records::<L>::new(alloc, job.layout);
@@ -41,21 +41,22 @@ fn each_fixed<L: Fixed, T: StreamItem + Drop, R: BufRead, W: Write, E: Write>(
 /// Writes the record of each item of the stream, in order, piece by piece ([`PieceReader`](souper_stream::PieceReader)), and returns whether a piece was refused.
 /// Of a refused piece the records of items that it begins with are written, and the refusal is written to `err`, with a newline.
 ///
-/// `name` is that of the stream, which a refusal shows. No error is a refusal. After an error of the input, this was done with pieces
-/// that the stream begins with. After one of the output nothing is known of what was written to `out`.
+/// `name` is that of the stream, which a refusal shows. No error is a refusal. After an error of the input, and if memory ran out, this
+/// was done with pieces that the stream begins with. After an error of the output `out` has failed, and nothing is known of what was
+/// written to it.
 pub fn each_going_on<T: StreamItem + Drop, R: BufRead, W: Write, E: Write>(
     alloc: Global,
     layout: Layout,
     reader: &mut R,
     name: &str,
-    out: &mut W,
+    out: &mut Watched<W>,
     err: &mut Watched<E>,
 ) -> Result<bool, Stop>
     ensures written { IfOk result (λ refused. WritesPieces T.item_type (Some name.now) (R.remaining reader.old) (R.remaining reader.new)
-        (OfItems (WritesRecords layout (W.contents out.old) (W.contents out.new))) (stream E.contents err.old err.new) refused) }
+        (OfItems (WritesRecords layout (stream W.contents out.old out.new))) (stream E.contents err.old err.new) refused) }
     ensures stopped { IfErr result (λ stop. StopsAfter T.item_type (Some name.now) (R.remaining reader.old)
-        (OfItems (WritesRecords layout (W.contents out.old) (W.contents out.new))) (stream E.contents err.old err.new) stop) }
-    ensures fault { IfErr result (λ stop. IfInput stop (λ e. kind_of e ≡ ParseErrorKind.Parse → ⊥)) }
+        (OfItems (WritesRecords layout (stream W.contents out.old out.new))) (has_failed out.new) (stream E.contents err.old err.new) stop) }
+    ensures input { IfErr result (λ stop. IfInput stop (λ e. kind_of e ≡ ParseErrorKind.Io)) }
     ensures stays { has_failed err.old ≡ true → has_failed err.new ≡ true }
 {
     let job = Job { layout, name };

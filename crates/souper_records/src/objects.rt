@@ -161,12 +161,9 @@ impl<L: Fixed, T: StreamItem + Drop> PieceSink<T> for Objects<L> {
         _mark: usize,
         place: Place<'_>,
         refusal: Option<&ParseError>,
-        out: &mut W,
+        out: &mut Watched<W>,
     ) -> Result<(), Stop> {
-        let lines = match piece_lines(alloc, place, refusal, self.texts.as_slice()) {
-            Ok(lines) => lines,
-            Err(fault) => return Err(Stop::Input(ParseError::from(fault))),
-        };
+        let lines = piece_lines(alloc, place, refusal, self.texts.as_slice())?;
         write_text(&lines, out)?;
         self.texts.clear();
         Ok(())
@@ -178,15 +175,15 @@ fn write_fixed<L: Fixed, T: StreamItem + Drop, R: BufRead, W: Write, E: Write>(
     alloc: Global,
     job: Job<'_>,
     reader: &mut R,
-    out: &mut W,
+    out: &mut Watched<W>,
     err: &mut Watched<E>,
 ) -> Result<bool, Stop>
     requires { job.layout ≡ L.layout }
     ensures written { IfOk result (λ refused. WritesPieces T.item_type (Some job.entry.name.now) (R.remaining reader.old) (R.remaining reader.new)
-        (WritesObjects job.entry.layout.rename job.entry.name.now (W.contents out.old) (W.contents out.new)) (stream E.contents err.old err.new) refused) }
+        (WritesObjects job.entry.layout.rename job.entry.name.now (stream W.contents out.old out.new)) (stream E.contents err.old err.new) refused) }
     ensures stopped { IfErr result (λ stop. StopsAfter T.item_type (Some job.entry.name.now) (R.remaining reader.old)
-        (WritesObjects job.entry.layout.rename job.entry.name.now (W.contents out.old) (W.contents out.new)) (stream E.contents err.old err.new) stop) }
-    ensures fault { IfErr result (λ stop. IfInput stop (λ e. kind_of e ≡ ParseErrorKind.Parse → ⊥)) }
+        (WritesObjects job.entry.layout.rename job.entry.name.now (stream W.contents out.old out.new)) (has_failed out.new) (stream E.contents err.old err.new) stop) }
+    ensures input { IfErr result (λ stop. IfInput stop (λ e. kind_of e ≡ ParseErrorKind.Io)) }
     ensures stays { has_failed err.old ≡ true → has_failed err.new ≡ true }
 {
     let mut objects = Objects::<L>::new(alloc, job.layout);
@@ -202,21 +199,21 @@ fn write_fixed<L: Fixed, T: StreamItem + Drop, R: BufRead, W: Write, E: Write>(
 /// the refusal shows, of the byte before the offset. It comes after those of the items that its piece begins with, and the refusal is
 /// also written to `err`, with a newline.
 ///
-/// No error is a refusal. After an error of the input, this was done with pieces that the stream begins with. After one of the output
-/// nothing is known of what was written to `out`.
+/// No error is a refusal. After an error of the input, and if memory ran out, this was done with pieces that the stream begins with.
+/// After an error of the output `out` has failed, and nothing is known of what was written to it.
 pub fn write_objects<T: StreamItem + Drop, R: BufRead, W: Write, E: Write>(
     alloc: Global,
     rename: bool,
     reader: &mut R,
     name: &str,
-    out: &mut W,
+    out: &mut Watched<W>,
     err: &mut Watched<E>,
 ) -> Result<bool, Stop>
     ensures written { IfOk result (λ refused. WritesPieces T.item_type (Some name.now) (R.remaining reader.old) (R.remaining reader.new)
-        (WritesObjects rename name.now (W.contents out.old) (W.contents out.new)) (stream E.contents err.old err.new) refused) }
+        (WritesObjects rename name.now (stream W.contents out.old out.new)) (stream E.contents err.old err.new) refused) }
     ensures stopped { IfErr result (λ stop. StopsAfter T.item_type (Some name.now) (R.remaining reader.old)
-        (WritesObjects rename name.now (W.contents out.old) (W.contents out.new)) (stream E.contents err.old err.new) stop) }
-    ensures fault { IfErr result (λ stop. IfInput stop (λ e. kind_of e ≡ ParseErrorKind.Parse → ⊥)) }
+        (WritesObjects rename name.now (stream W.contents out.old out.new)) (has_failed out.new) (stream E.contents err.old err.new) stop) }
+    ensures input { IfErr result (λ stop. IfInput stop (λ e. kind_of e ≡ ParseErrorKind.Io)) }
     ensures stays { has_failed err.old ≡ true → has_failed err.new ≡ true }
 {
     let layout = Layout { rename, ..PLAIN };

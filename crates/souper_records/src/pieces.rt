@@ -5,8 +5,8 @@ ghost use Rattle.souper_ir.specs.Sinks.{TakesOver};
 ghost use Rattle.souper_stream.specs.Pieces.{Line};
 ghost use Rattle.souper_stream.specs.PieceReading.{HasPieces, HasAll};
 ghost use Rattle.souper_format.specs.Streams.{stream};
-ghost use Rattle.souper_format.specs.Watching.{has_failed};
-ghost use Rattle.souper_records.specs.Eaches.{IfInput};
+ghost use Rattle.souper_format.specs.Watching.{watched_inner, has_failed};
+ghost use Rattle.souper_records.specs.Eaches.{IfInput, UnlessOutput};
 ghost use Rattle.souper_records.specs.Outcomes.{Outcome, WritesPiece, WritesPieces, StopsAfter, WroteEach};
 
 use crate::each::Stop;
@@ -49,12 +49,12 @@ pub(crate) trait PieceSink<T: StreamItem + Drop>: Sink<T> {
         mark: usize,
         place: Place<'_>,
         refusal: Option<&ParseError>,
-        out: &mut W,
+        out: &mut Watched<W>,
     ) -> Result<(), Stop>
         ensures written { OnOk result ((before : Self) (o : Outcome) → mark ≡ marks before → TakesOver Self.holds o.items before self.old
-            → o.line ≡ place.entry.line → o.refusal ≡ option_copied refusal.entry → wrote place.entry.name.now before (W.contents out.old) self.new (W.contents out.new) o) }
-        ensures fault { IfErr result (λ stop. IfInput stop (λ e. kind_of e ≡ ParseErrorKind.Parse → ⊥)) }
-        ensures unwritten { IfErr result (λ stop. IfInput stop (λ e. out.new ≡ out.old)) };
+            → o.line ≡ place.entry.line → o.refusal ≡ option_copied refusal.entry → wrote place.entry.name.now before (W.contents (watched_inner out.old)) self.new (W.contents (watched_inner out.new)) o) }
+        ensures input { IfErr result (λ stop. IfInput stop (λ e. ⊥)) }
+        ensures unwritten { IfErr result (λ stop. UnlessOutput stop (has_failed out.new) (out.new ≡ out.old)) };
 }
 
 // Writes what the sink writes of the next piece, and reports its refusal, if it is refused, which is returned. Returns none at the
@@ -65,19 +65,19 @@ fn write_next<T: StreamItem + Drop, S: PieceSink<T>, R: BufRead, W: Write, E: Wr
     sink: &mut S,
     pieces: &mut PieceReader,
     reader: &mut R,
-    out: &mut W,
+    out: &mut Watched<W>,
     err: &mut Watched<E>,
 ) -> Result<Option<bool>, Stop>
     requires { (start : Option (List ℕ)) × (ps : List (List Line)) × HasPieces T.item_type start (R.remaining reader.old) ps pieces.old }
     ensures piece { IfOk result (λ more. IfSome more (λ refused. (start : Option (List ℕ)) (ps : List (List Line)) → HasPieces T.item_type start (R.remaining reader.old) ps pieces.old
-        → WritesPiece T.item_type (Some name.now) start (R.remaining reader.new) ps (S.wrote name.now sink.old (W.contents out.old) sink.new (W.contents out.new)) (stream E.contents err.old err.new) refused pieces.new)) }
+        → WritesPiece T.item_type (Some name.now) start (R.remaining reader.new) ps (S.wrote name.now sink.old (W.contents (watched_inner out.old)) sink.new (W.contents (watched_inner out.new))) (stream E.contents err.old err.new) refused pieces.new)) }
     ensures ended { IfOk result (λ more. IfNone more ((start : Option (List ℕ)) (ps : List (List Line)) → HasPieces T.item_type start (R.remaining reader.old) ps pieces.old
         → HasAll T.item_type start (R.remaining reader.new) ps)) }
     ensures quiet { IfOk result (λ more. IfNone more ((out.new ≡ out.old) × (err.new ≡ err.old) × (sink.new ≡ sink.old))) }
     ensures stays { has_failed err.old ≡ true → has_failed err.new ≡ true }
     ensures stopped { IfErr result (λ stop. err.new ≡ err.old) }
-    ensures unwritten { IfErr result (λ stop. IfInput stop (λ e. out.new ≡ out.old)) }
-    ensures fault { IfErr result (λ stop. IfInput stop (λ e. kind_of e ≡ ParseErrorKind.Parse → ⊥)) }
+    ensures unwritten { IfErr result (λ stop. UnlessOutput stop (has_failed out.new) (out.new ≡ out.old)) }
+    ensures input { IfErr result (λ stop. IfInput stop (λ e. kind_of e ≡ ParseErrorKind.Io)) }
 {
     let mark = sink.mark();
     match pieces.read_piece::<T, R, S>(alloc, reader, Some(name), sink) {
@@ -88,16 +88,13 @@ fn write_next<T: StreamItem + Drop, S: PieceSink<T>, R: BufRead, W: Write, E: Wr
         }
         Ok(false) => Ok(None),
         Err(error) if error.kind() == ParseErrorKind::Parse => {
-            let shown = match line_of_error(alloc, &error) {
-                Ok(shown) => shown,
-                Err(fault) => return Err(Stop::Input(ParseError::from(fault))),
-            };
+            let shown = line_of_error(alloc, &error)?;
             let line = pieces.line();
             sink.write_piece(alloc, mark, Place { name, line }, Some(&error), out)?;
             report_line(&shown, err);
             Ok(Some(true))
         }
-        Err(error) => Err(Stop::Input(error)),
+        Err(error) => Err(Stop::from(error)),
     }
 }
 
@@ -107,14 +104,14 @@ pub(crate) fn write_pieces<T: StreamItem + Drop, S: PieceSink<T>, R: BufRead, W:
     name: &str,
     sink: &mut S,
     reader: &mut R,
-    out: &mut W,
+    out: &mut Watched<W>,
     err: &mut Watched<E>,
 ) -> Result<bool, Stop>
     ensures written { IfOk result (λ refused. WritesPieces T.item_type (Some name.now) (R.remaining reader.old) (R.remaining reader.new)
-        (WroteEach (S.wrote name.now) sink.old (W.contents out.old) sink.new (W.contents out.new)) (stream E.contents err.old err.new) refused) }
+        (WroteEach (S.wrote name.now) sink.old (W.contents (watched_inner out.old)) sink.new (W.contents (watched_inner out.new))) (stream E.contents err.old err.new) refused) }
     ensures stopped { IfErr result (λ stop. StopsAfter T.item_type (Some name.now) (R.remaining reader.old)
-        (λ os. (s : S) × WroteEach (S.wrote name.now) sink.old (W.contents out.old) s (W.contents out.new) os) (stream E.contents err.old err.new) stop) }
-    ensures fault { IfErr result (λ stop. IfInput stop (λ e. kind_of e ≡ ParseErrorKind.Parse → ⊥)) }
+        (λ os. (s : S) × WroteEach (S.wrote name.now) sink.old (W.contents (watched_inner out.old)) s (W.contents (watched_inner out.new)) os) (has_failed out.new) (stream E.contents err.old err.new) stop) }
+    ensures input { IfErr result (λ stop. IfInput stop (λ e. kind_of e ≡ ParseErrorKind.Io)) }
     ensures stays { has_failed err.old ≡ true → has_failed err.new ≡ true }
 {
     let mut pieces = PieceReader::new(alloc);

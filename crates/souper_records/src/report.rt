@@ -3,7 +3,7 @@ ghost use Rattle.std.specs.Prelude.{◌≡◌, true, false, string_bytes, IfOk};
 ghost use Rattle.souper_format.specs.Reporting.{IsErrorLine};
 ghost use Rattle.souper_format.specs.Streams.{stream, IsGiven};
 ghost use Rattle.souper_format.specs.Watching.{has_failed};
-ghost use Rattle.souper_records.specs.Reports.{named_line, ReportedMemory, Reported, ReportedFault, ReportedError};
+ghost use Rattle.souper_records.specs.Reports.{named_line, IsNamedLine, ReportedMemory, Reported, ReportedFault, ReportedError};
 
 use souper_format::watched::Watched;
 use souper_ir::parse::{ParseError, ParseErrorKind};
@@ -19,8 +19,8 @@ pub fn report_memory<E: Write>(err: &mut Watched<E>)
     let _ = err.write_all(b"souper_items: out of memory\n");
 }
 
-/// The line that says something of the stream of this name.
-pub(crate) fn line(alloc: Global, name: &str, says: &str) -> Result<String, AllocError>
+// The line that says something of the stream of this name.
+fn line(alloc: Global, name: &str, says: &str) -> Result<String, AllocError>
     ensures { IfOk result (λ line. string_bytes line ≡ named_line name.now says.now) }
 {
     let mut line = String::new(alloc);
@@ -34,7 +34,7 @@ pub(crate) fn line(alloc: Global, name: &str, says: &str) -> Result<String, Allo
 
 // Reports something of the stream of this name.
 fn report<E: Write>(alloc: Global, name: &str, says: &str, err: &mut Watched<E>)
-    ensures reported { Reported name.now says.now (stream E.contents err.old err.new) }
+    ensures reported { Reported (stream E.contents err.old err.new) (IsNamedLine name.now says.now) }
     ensures stays { has_failed err.old ≡ true → has_failed err.new ≡ true }
 {
     match line(alloc, name, says) {

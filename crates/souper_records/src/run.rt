@@ -5,7 +5,7 @@ ghost use Rattle.souper_graph.specs.Values.{Item};
 ghost use Rattle.souper_format.specs.Streams.{stream};
 ghost use Rattle.souper_format.specs.Watching.{has_failed};
 ghost use Rattle.souper_records.specs.Uniques.{HasSeen};
-ghost use Rattle.souper_records.specs.Runs.{IsEnd, IsStop, IsPiecesEnd, IsEachRun, IsGoingOnRun, IsObjectsRun, IsUniqRun, IsUniqGoingOnRun, IsCountRun};
+ghost use Rattle.souper_records.specs.Runs.{EndsWithFault, IsEnd, IsStop, IsPiecesEnd, IsEachRun, IsGoingOnRun, IsObjectsRun, IsUniqRun, IsUniqGoingOnRun, IsCountRun};
 
 use crate::counts::write_counts;
 use crate::each::{Stop, each};
@@ -19,19 +19,45 @@ use crate::uniq_going_on::uniq_going_on;
 use souper_format::watched::Watched;
 use souper_stream::StreamItem;
 use std::alloc::Global;
-use std::io::{BufRead, Write};
+use std::io;
+use std::io::{BufRead, ErrorKind, Write};
 
-// Flushes the output after all was written to it, and returns the status.
-fn end<W: Write, E: Write>(alloc: Global, out: &mut Watched<W>, err: &mut Watched<E>) -> u8
-    ensures end { IsEnd (stream W.contents out.old out.new) (stream E.contents err.old err.new) result }
+/// The status of a run whose output is a pipe that nobody reads: as a shell shows the end of a program by SIGPIPE, 128 and its number.
+pub const BROKEN_PIPE: u8 = 141;
+
+/// Reports a fault of the output, unless it is a pipe that nobody reads, and returns the status of the program.
+///
+/// - 2: the fault was written to `err`, in a line.
+/// - 141 ([`BROKEN_PIPE`]): the fault is a broken pipe. Nothing was written to `err`.
+///
+/// If a write to `err` fails, the status is the same.
+pub fn report_output<E: Write>(alloc: Global, fault: &io::Error, err: &mut Watched<E>) -> u8
+    ensures fault { EndsWithFault fault.now (stream E.contents err.old err.new) result }
+    ensures stays { has_failed err.old ≡ true → has_failed err.new ≡ true }
+{
+    match fault.kind() {
+        ErrorKind::BrokenPipe => BROKEN_PIPE,
+        _ => {
+            report_fault(alloc, "write error", fault, err);
+            2
+        }
+    }
+}
+
+// Flushes the output after all was written to it, and returns the status: the one that is passed, unless the output fails.
+fn end<W: Write, E: Write>(
+    alloc: Global,
+    done: u8,
+    out: &mut Watched<W>,
+    err: &mut Watched<E>,
+) -> u8
+    ensures end { IsEnd done (stream W.contents out.old out.new) (stream E.contents err.old err.new) result }
+    ensures out_stays { has_failed out.old ≡ true → has_failed out.new ≡ true }
     ensures stays { has_failed err.old ≡ true → has_failed err.new ≡ true }
 {
     match out.flush() {
-        Ok(()) => 0,
-        Err(fault) => {
-            report_fault(alloc, "write error", &fault, err);
-            2
-        }
+        Ok(()) => done,
+        Err(fault) => report_output(alloc, &fault, err),
     }
 }
 
@@ -42,8 +68,9 @@ fn report_stop<E: Write>(alloc: Global, name: &str, stop: &Stop, err: &mut Watch
 {
     match stop {
         Stop::Input(error) => report_error(alloc, name, error, err),
-        Stop::Output(fault) => {
-            report_fault(alloc, "write error", fault, err);
+        Stop::Output(fault) => report_output(alloc, fault, err),
+        Stop::Memory => {
+            report_memory(err);
             2
         }
     }
@@ -58,10 +85,11 @@ fn end_pieces<W: Write, E: Write>(
     err: &mut Watched<E>,
 ) -> u8
     ensures end { IsPiecesEnd name.now pieces (stream W.contents out.old out.new) (stream E.contents err.old err.new) result }
+    ensures out_stays { has_failed out.old ≡ true → has_failed out.new ≡ true }
     ensures stays { has_failed err.old ≡ true → has_failed err.new ≡ true }
 {
     match pieces {
-        Ok(refused) => end(alloc, out, err).max(u8::from(refused)),
+        Ok(refused) => end(alloc, u8::from(refused), out, err),
         Err(stop) => report_stop(alloc, name, &stop, err),
     }
 }
@@ -72,7 +100,8 @@ fn end_pieces<W: Write, E: Write>(
 /// - 1: the stream is refused. Records of items that it begins with were written, and to `err` the refusal, which shows the name,
 ///   and a newline.
 /// - 2: a read or `out` failed, what was read is not UTF-8, or memory ran out. A line that says so was written to `err`. Unless `out`
-///   failed, records of items that the stream begins with were written.
+///   failed, records of items that the stream begins with were written, and nothing else.
+/// - 141 ([`BROKEN_PIPE`]): `out` failed, since it is a pipe that nobody reads. Nothing was written to `err`.
 ///
 /// If a write to `err` fails, the status is the same.
 pub fn each_run<T: StreamItem + Drop, R: BufRead, W: Write, E: Write>(
@@ -86,8 +115,8 @@ pub fn each_run<T: StreamItem + Drop, R: BufRead, W: Write, E: Write>(
     ensures { IsEachRun T.item_type layout name.now (R.remaining reader.old) (R.remaining reader.new)
         (stream W.contents out.old out.new) (stream E.contents err.old err.new) result }
 {
-    match each::<T, R, Watched<W>>(alloc, layout, reader, name, out) {
-        Ok(()) => end(alloc, out, err),
+    match each::<T, R, W>(alloc, layout, reader, name, out) {
+        Ok(()) => end(alloc, 0, out, err),
         Err(stop) => report_stop(alloc, name, &stop, err),
     }
 }
@@ -98,7 +127,8 @@ pub fn each_run<T: StreamItem + Drop, R: BufRead, W: Write, E: Write>(
 /// - 0: done, no piece was refused, and nothing was written to `err`.
 /// - 1: done, and some pieces were refused. Each refusal was written to `err`, in order, with a newline.
 /// - 2: a read or `out` failed, what was read is not UTF-8, or memory ran out, and a line that says so was written to `err`, after the
-///   refusals so far. Unless `out` failed, the records of the pieces so far were written.
+///   refusals so far. Unless `out` failed, the records of the pieces so far were written, and nothing else.
+/// - 141 ([`BROKEN_PIPE`]): `out` failed, since it is a pipe that nobody reads. Only the refusals so far were written to `err`.
 ///
 /// If a write to `err` fails, the status is the same.
 pub fn each_going_on_run<T: StreamItem + Drop, R: BufRead, W: Write, E: Write>(
@@ -112,7 +142,7 @@ pub fn each_going_on_run<T: StreamItem + Drop, R: BufRead, W: Write, E: Write>(
     ensures { IsGoingOnRun T.item_type layout name.now (R.remaining reader.old) (R.remaining reader.new)
         (stream W.contents out.old out.new) (stream E.contents err.old err.new) result }
 {
-    let pieces = each_going_on::<T, R, Watched<W>, E>(alloc, layout, reader, name, out, err);
+    let pieces = each_going_on::<T, R, W, E>(alloc, layout, reader, name, out, err);
     end_pieces(alloc, name, pieces, out, err)
 }
 
@@ -129,13 +159,13 @@ pub fn objects_run<T: StreamItem + Drop, R: BufRead, W: Write, E: Write>(
     ensures { IsObjectsRun T.item_type rename name.now (R.remaining reader.old) (R.remaining reader.new)
         (stream W.contents out.old out.new) (stream E.contents err.old err.new) result }
 {
-    let pieces = write_objects::<T, R, Watched<W>, E>(alloc, rename, reader, name, out, err);
+    let pieces = write_objects::<T, R, W, E>(alloc, rename, reader, name, out, err);
     end_pieces(alloc, name, pieces, out, err)
 }
 
 /// Writes the record of each item of the stream that is the same graph as no earlier one to `out` ([`uniq`]), and returns the
-/// status of the program, as [`each_run`] does. After status 2 nothing is known of what was written nor of `seen`, which is not to be
-/// used again.
+/// status of the program, as [`each_run`] does, with the records of first items. After status 2 or 141 nothing is known of `seen`, which
+/// is not to be used again.
 pub fn uniq_run<T: StreamItem + Drop, R: BufRead, W: Write, E: Write>(
     alloc: Global,
     layout: Layout,
@@ -149,15 +179,15 @@ pub fn uniq_run<T: StreamItem + Drop, R: BufRead, W: Write, E: Write>(
         → IsUniqRun T.item_type layout earlier name.now (R.remaining reader.old) (R.remaining reader.new)
         (stream W.contents out.old out.new) seen.new (stream E.contents err.old err.new) result }
 {
-    match uniq::<T, R, Watched<W>>(alloc, layout, seen, reader, name, out) {
-        Ok(()) => end(alloc, out, err),
+    match uniq::<T, R, W>(alloc, layout, seen, reader, name, out) {
+        Ok(()) => end(alloc, 0, out, err),
         Err(stop) => report_stop(alloc, name, &stop, err),
     }
 }
 
 /// Writes the record of each item of the stream that is the same graph as no earlier one to `out`, and goes on after a refusal
-/// ([`uniq_going_on`]). Returns the status of the program, as [`each_going_on_run`] does. After status 2 nothing is known of what was
-/// written nor of `seen`, which is not to be used again.
+/// ([`uniq_going_on`]). Returns the status of the program, as [`each_going_on_run`] does, with the records of first items. After status 2
+/// or 141 nothing is known of `seen`, which is not to be used again.
 pub fn uniq_going_on_run<T: StreamItem + Drop, R: BufRead, W: Write, E: Write>(
     alloc: Global,
     layout: Layout,
@@ -171,12 +201,18 @@ pub fn uniq_going_on_run<T: StreamItem + Drop, R: BufRead, W: Write, E: Write>(
         → IsUniqGoingOnRun T.item_type layout earlier name.now (R.remaining reader.old) (R.remaining reader.new)
         (stream W.contents out.old out.new) seen.new (stream E.contents err.old err.new) result }
 {
-    let pieces = uniq_going_on::<T, R, Watched<W>, E>(alloc, layout, seen, reader, name, out, err);
+    let pieces = uniq_going_on::<T, R, W, E>(alloc, layout, seen, reader, name, out, err);
     end_pieces(alloc, name, pieces, out, err)
 }
 
-/// Writes the records of the items that were seen to `out`, with counts ([`write_counts`]), and returns the status of the program: 0,
-/// done, and nothing was written to `err`; 2, `out` failed or memory ran out, and a line that says so was written to `err`.
+/// Writes the records of the items that were seen to `out`, with counts ([`write_counts`]), and returns the status of the program.
+///
+/// - 0: done, and nothing was written to `err`.
+/// - 2: `out` failed or memory ran out, and a line that says so was written to `err`. Unless `out` failed, the records of the first ones
+///   were written, and nothing else.
+/// - 141 ([`BROKEN_PIPE`]): `out` failed, since it is a pipe that nobody reads. Nothing was written to `err`.
+///
+/// If a write to `err` fails, the status is the same.
 pub fn count_run<W: Write, E: Write>(
     alloc: Global,
     layout: Layout,
@@ -188,12 +224,10 @@ pub fn count_run<W: Write, E: Write>(
         → IsCountRun layout items (stream W.contents out.old out.new) (stream E.contents err.old err.new) result }
 {
     match write_counts(alloc, layout, seen, out) {
-        Ok(()) => end(alloc, out, err),
-        Err(Stop::Output(fault)) => {
-            report_fault(alloc, "write error", &fault, err);
-            2
-        }
-        Err(Stop::Input(_)) => {
+        Ok(()) => end(alloc, 0, out, err),
+        Err(Stop::Input(_)) => unreachable!(),
+        Err(Stop::Output(fault)) => report_output(alloc, &fault, err),
+        Err(Stop::Memory) => {
             report_memory(err);
             2
         }

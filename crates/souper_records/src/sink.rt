@@ -1,8 +1,8 @@
 //! A sink that makes the records of items.
 ghost use Rattle.std.specs.Prelude.{◌≡◌, []};
 ghost use Rattle.std.specs.Coded.{Coded-set};
+ghost use Rattle.std.specs.Io.KnownBytes.{Appends};
 ghost use Rattle.std.specs.String.{string_bytes};
-ghost use Rattle.souper_records.specs.Outcomes.{WritesRecords};
 ghost use Rattle.souper_records.specs.Records.{records_of};
 
 use crate::each::{Stop, write_text};
@@ -10,6 +10,7 @@ use crate::fixed::Fixed;
 use crate::layout::Layout;
 use crate::pieces::{PieceSink, Place};
 use crate::records::append_record;
+use souper_format::watched::Watched;
 use souper_ir::parse::{ParseError, Sink, WholeItem};
 use souper_stream::StreamItem;
 use std::alloc::{AllocError, Global};
@@ -64,7 +65,7 @@ impl<L: Fixed, T: WholeItem + Drop> Sink<T> for Records<L> {
 impl<L: Fixed, T: StreamItem + Drop> PieceSink<T> for Records<L> {
     ghost marks = { λ records. 0 };
 
-    ghost wrote = { λ name a x b y o. string_bytes a.out ≡ [] → (string_bytes b.out ≡ []) × WritesRecords L.layout x y o.items };
+    ghost wrote = { λ name a x b y o. string_bytes a.out ≡ [] → (string_bytes b.out ≡ []) × Appends x y (records_of L.layout o.items) };
 
     fn mark(&self) -> usize {
         0
@@ -76,7 +77,7 @@ impl<L: Fixed, T: StreamItem + Drop> PieceSink<T> for Records<L> {
         _mark: usize,
         _place: Place<'_>,
         _refusal: Option<&ParseError>,
-        out: &mut W,
+        out: &mut Watched<W>,
     ) -> Result<(), Stop> {
         write_text(&self.out, out)?;
         self.out.clear();

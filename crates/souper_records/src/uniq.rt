@@ -1,13 +1,14 @@
 //! The record of the first item of each graph in streams.
 ghost use Rattle.std.specs.Prelude.{◌≡◌, List, map, flat_map, drop, length, Some, OnOk, IfErr};
 ghost use Rattle.std.specs.Coded.{Coded-set};
-ghost use Rattle.std.specs.Io.KnownBytes.{Appends};
 ghost use Rattle.std.specs.String.{string_bytes};
 ghost use Rattle.souper_graph.specs.Values.{Item};
 ghost use Rattle.souper_ir.specs.Errors.{kind_of};
-ghost use Rattle.souper_records.specs.Eaches.{IfInput};
+ghost use Rattle.souper_format.specs.Streams.{stream, IsGiven};
+ghost use Rattle.souper_format.specs.Watching.{has_failed};
+ghost use Rattle.souper_records.specs.Eaches.{IfInput, UnlessOutput};
 ghost use Rattle.souper_records.specs.Records.{record_of_text};
-ghost use Rattle.souper_records.specs.Uniques.{HasSeen, WritesFirsts, WritesFirstsUpTo, WritesNewFirsts};
+ghost use Rattle.souper_records.specs.Uniques.{HasSeen, WritesFirsts, WritesFirstsUpTo, WritesFirstsBegun, WritesNewFirsts};
 
 use crate::each::{CHUNK, Job, Stop, write_text};
 use crate::fixed::Fixed;
@@ -15,6 +16,7 @@ use crate::layout::Layout;
 use crate::pieces::{PieceSink, Place};
 use crate::records::{append_text, records_of_texts};
 use crate::seen::Seen;
+use souper_format::watched::Watched;
 use souper_ir::parse::{ParseError, ParseErrorKind, Sink, WholeItem};
 use souper_stream::{PartReader, StreamItem};
 use std::alloc::{AllocError, Global};
@@ -80,7 +82,7 @@ impl<L: Fixed, T: StreamItem + Drop> PieceSink<T> for Firsts<L> {
         mark: usize,
         _place: Place<'_>,
         _refusal: Option<&ParseError>,
-        out: &mut W,
+        out: &mut Watched<W>,
     ) -> Result<(), Stop> {
         write_texts(alloc, self.layout, self.seen.texts.as_slice(), mark, out)
     }
@@ -92,17 +94,15 @@ fn write_texts<W: Write>(
     layout: Layout,
     texts: &[String],
     start: usize,
-    out: &mut W,
+    out: &mut Watched<W>,
 ) -> Result<(), Stop>
-    ensures written { OnOk result (Appends (W.contents out.old) (W.contents out.new) (flat_map (record_of_text layout) (map string_bytes (drop start texts.now)))) }
-    ensures fault { IfErr result (λ stop. IfInput stop (λ e. kind_of e ≡ ParseErrorKind.Parse → ⊥)) }
-    ensures unwritten { IfErr result (λ stop. IfInput stop (λ e. out.new ≡ out.old)) }
+    ensures written { OnOk result (IsGiven (stream W.contents out.old out.new) (flat_map (record_of_text layout) (map string_bytes (drop start texts.now)))) }
+    ensures input { IfErr result (λ stop. IfInput stop (λ e. ⊥)) }
+    ensures unwritten { IfErr result (λ stop. UnlessOutput stop (has_failed out.new) (out.new ≡ out.old)) }
 {
     let texts = &texts[start.min(texts.len())..];
-    match records_of_texts(alloc, layout, texts) {
-        Ok(text) => write_text(&text, out),
-        Err(fault) => Err(Stop::Input(ParseError::from(fault))),
-    }
+    let text = records_of_texts(alloc, layout, texts)?;
+    write_text(&text, out)
 }
 
 // Does the job with a sink.
@@ -111,14 +111,17 @@ fn uniq_parts<L: Fixed, T: StreamItem + Drop, R: BufRead, W: Write>(
     job: Job<'_>,
     firsts: &mut Firsts<L>,
     reader: &mut R,
-    out: &mut W,
+    out: &mut Watched<W>,
 ) -> Result<(), Stop>
     requires { job.layout ≡ L.layout }
     ensures written { OnOk result ((earlier : List Item) → HasSeen T.item_type job.entry.layout.rename earlier firsts.old.seen
-        → WritesFirsts T.item_type job.entry.layout earlier (R.remaining reader.old) (R.remaining reader.new) (W.contents out.old) (W.contents out.new) firsts.new.seen) }
+        → WritesFirsts T.item_type job.entry.layout earlier (R.remaining reader.old) (R.remaining reader.new) (stream W.contents out.old out.new) firsts.new.seen) }
     ensures refused { IfErr result (λ stop. IfInput stop (λ e. kind_of e ≡ ParseErrorKind.Parse
         → (earlier : List Item) → HasSeen T.item_type job.entry.layout.rename earlier firsts.old.seen
-        → WritesFirstsUpTo T.item_type job.entry.layout earlier (Some job.entry.name.now) (R.remaining reader.old) (R.remaining reader.new) (W.contents out.old) (W.contents out.new) firsts.new.seen e)) }
+        → WritesFirstsUpTo T.item_type job.entry.layout earlier (Some job.entry.name.now) (R.remaining reader.old) (R.remaining reader.new) (stream W.contents out.old out.new) firsts.new.seen e)) }
+    ensures input { IfErr result (λ stop. IfInput stop (λ e. kind_of e ≡ ParseErrorKind.Memory → ⊥)) }
+    ensures stopped { IfErr result (λ stop. UnlessOutput stop (has_failed out.new) ((earlier : List Item) → HasSeen T.item_type job.entry.layout.rename earlier firsts.old.seen
+        → WritesFirstsBegun T.item_type job.entry.layout earlier (R.remaining reader.old) (stream W.contents out.old out.new))) }
 {
     let mut parts = PartReader::new(alloc, CHUNK);
     for _turn in 0..u64::MAX {
@@ -134,7 +137,7 @@ fn uniq_parts<L: Fixed, T: StreamItem + Drop, R: BufRead, W: Write>(
                 write_texts(alloc, job.layout, firsts.seen.texts.as_slice(), start, out)?;
                 return Err(Stop::Input(error));
             }
-            Err(error) => return Err(Stop::Input(error)),
+            Err(error) => return Err(Stop::from(error)),
         }
     }
     let fault = io::Error::from(ErrorKind::Other);
@@ -147,14 +150,17 @@ fn uniq_fixed<L: Fixed, T: StreamItem + Drop, R: BufRead, W: Write>(
     job: Job<'_>,
     seen: &mut Seen,
     reader: &mut R,
-    out: &mut W,
+    out: &mut Watched<W>,
 ) -> Result<(), Stop>
     requires { job.layout ≡ L.layout }
     ensures written { OnOk result ((earlier : List Item) → HasSeen T.item_type job.entry.layout.rename earlier seen.old
-        → WritesFirsts T.item_type job.entry.layout earlier (R.remaining reader.old) (R.remaining reader.new) (W.contents out.old) (W.contents out.new) seen.new) }
+        → WritesFirsts T.item_type job.entry.layout earlier (R.remaining reader.old) (R.remaining reader.new) (stream W.contents out.old out.new) seen.new) }
     ensures refused { IfErr result (λ stop. IfInput stop (λ e. kind_of e ≡ ParseErrorKind.Parse
         → (earlier : List Item) → HasSeen T.item_type job.entry.layout.rename earlier seen.old
-        → WritesFirstsUpTo T.item_type job.entry.layout earlier (Some job.entry.name.now) (R.remaining reader.old) (R.remaining reader.new) (W.contents out.old) (W.contents out.new) seen.new e)) }
+        → WritesFirstsUpTo T.item_type job.entry.layout earlier (Some job.entry.name.now) (R.remaining reader.old) (R.remaining reader.new) (stream W.contents out.old out.new) seen.new e)) }
+    ensures input { IfErr result (λ stop. IfInput stop (λ e. kind_of e ≡ ParseErrorKind.Memory → ⊥)) }
+    ensures stopped { IfErr result (λ stop. UnlessOutput stop (has_failed out.new) ((earlier : List Item) → HasSeen T.item_type job.entry.layout.rename earlier seen.old
+        → WritesFirstsBegun T.item_type job.entry.layout earlier (R.remaining reader.old) (stream W.contents out.old out.new))) }
 {
     let taken = mem::replace(seen, Seen::new(alloc));
     let mut firsts = Firsts::<L>::new(alloc, job.layout, taken);
@@ -167,21 +173,25 @@ fn uniq_fixed<L: Fixed, T: StreamItem + Drop, R: BufRead, W: Write>(
 /// each graph the first item, in order. With a layout that renames, items that differ in names alone are the same.
 ///
 /// `seen` is passed from stream to stream of one type and one layout: it has the texts of the items so far, in memory. `name` is
-/// that of the stream, which a refusal shows. If the stream is refused, this was done with items that it begins with. After another
-/// error nothing is known of what was written nor of `seen`, which is not to be used again.
+/// that of the stream, which a refusal shows. After an error of the input, and if memory ran out, this was done with items that the
+/// stream begins with. After an error of the output `out` has failed, and nothing is known of what was written. After an error that is
+/// no refusal nothing is known of `seen`, which is not to be used again.
 pub fn uniq<T: StreamItem + Drop, R: BufRead, W: Write>(
     alloc: Global,
     layout: Layout,
     seen: &mut Seen,
     reader: &mut R,
     name: &str,
-    out: &mut W,
+    out: &mut Watched<W>,
 ) -> Result<(), Stop>
     ensures written { OnOk result ((earlier : List Item) → HasSeen T.item_type layout.rename earlier seen.old
-        → WritesFirsts T.item_type layout earlier (R.remaining reader.old) (R.remaining reader.new) (W.contents out.old) (W.contents out.new) seen.new) }
+        → WritesFirsts T.item_type layout earlier (R.remaining reader.old) (R.remaining reader.new) (stream W.contents out.old out.new) seen.new) }
     ensures refused { IfErr result (λ stop. IfInput stop (λ e. kind_of e ≡ ParseErrorKind.Parse
         → (earlier : List Item) → HasSeen T.item_type layout.rename earlier seen.old
-        → WritesFirstsUpTo T.item_type layout earlier (Some name.now) (R.remaining reader.old) (R.remaining reader.new) (W.contents out.old) (W.contents out.new) seen.new e)) }
+        → WritesFirstsUpTo T.item_type layout earlier (Some name.now) (R.remaining reader.old) (R.remaining reader.new) (stream W.contents out.old out.new) seen.new e)) }
+    ensures input { IfErr result (λ stop. IfInput stop (λ e. kind_of e ≡ ParseErrorKind.Memory → ⊥)) }
+    ensures stopped { IfErr result (λ stop. UnlessOutput stop (has_failed out.new) ((earlier : List Item) → HasSeen T.item_type layout.rename earlier seen.old
+        → WritesFirstsBegun T.item_type layout earlier (R.remaining reader.old) (stream W.contents out.old out.new))) }
 {
     let job = Job { layout, name };
     uniq_fixed::<Brand, T, R, W>(alloc, job, seen, reader, out)

@@ -5,8 +5,8 @@ ghost use Rattle.souper_ir.specs.Errors.{kind_of};
 ghost use Rattle.souper_format.specs.Streams.{stream};
 ghost use Rattle.souper_format.specs.Watching.{has_failed};
 ghost use Rattle.souper_records.specs.Eaches.{IfInput};
-ghost use Rattle.souper_records.specs.Outcomes.{WritesPieces, StopsAfter, OfItems, AnyWritten};
-ghost use Rattle.souper_records.specs.Uniques.{HasSeen, WritesFirstRecords, WritesNewFirsts};
+ghost use Rattle.souper_records.specs.Outcomes.{WritesPieces, StopsAfter, OfItems};
+ghost use Rattle.souper_records.specs.Uniques.{HasSeen, WritesFirstRecords, WritesSeenFirsts};
 
 use crate::each::{Job, Stop};
 use crate::fixed::Fixed;
@@ -28,15 +28,17 @@ fn uniq_fixed<L: Fixed, T: StreamItem + Drop, R: BufRead, W: Write, E: Write>(
     job: Job<'_>,
     seen: &mut Seen,
     reader: &mut R,
-    out: &mut W,
+    out: &mut Watched<W>,
     err: &mut Watched<E>,
 ) -> Result<bool, Stop>
     requires { job.layout ≡ L.layout }
-    ensures written { IfOk result (λ refused. WritesPieces T.item_type (Some job.entry.name.now) (R.remaining reader.old) (R.remaining reader.new)
-        (OfItems (WritesNewFirsts T.item_type job.entry.layout (W.contents out.old) (W.contents out.new) seen.old seen.new)) (stream E.contents err.old err.new) refused) }
-    ensures stopped { IfErr result (λ stop. StopsAfter T.item_type (Some job.entry.name.now) (R.remaining reader.old)
-        AnyWritten (stream E.contents err.old err.new) stop) }
-    ensures fault { IfErr result (λ stop. IfInput stop (λ e. kind_of e ≡ ParseErrorKind.Parse → ⊥)) }
+    ensures written { IfOk result (λ refused. (earlier : List Item) → HasSeen T.item_type job.entry.layout.rename earlier seen.old
+        → WritesPieces T.item_type (Some job.entry.name.now) (R.remaining reader.old) (R.remaining reader.new)
+        (OfItems (WritesSeenFirsts T.item_type job.entry.layout earlier (stream W.contents out.old out.new) seen.new)) (stream E.contents err.old err.new) refused) }
+    ensures stopped { IfErr result (λ stop. (earlier : List Item) → HasSeen T.item_type job.entry.layout.rename earlier seen.old
+        → StopsAfter T.item_type (Some job.entry.name.now) (R.remaining reader.old)
+        (OfItems (WritesFirstRecords job.entry.layout earlier (stream W.contents out.old out.new))) (has_failed out.new) (stream E.contents err.old err.new) stop) }
+    ensures input { IfErr result (λ stop. IfInput stop (λ e. kind_of e ≡ ParseErrorKind.Io)) }
     ensures stays { has_failed err.old ≡ true → has_failed err.new ≡ true }
 {
     let taken = mem::replace(seen, Seen::new(alloc));
@@ -58,22 +60,25 @@ fn uniq_fixed<L: Fixed, T: StreamItem + Drop, R: BufRead, W: Write, E: Write>(
 /// refusal is written to `err`, with a newline.
 ///
 /// `seen` is that of [`uniq`](crate::uniq::uniq). `name` is that of the stream, which a refusal shows. No error is a refusal. After an
-/// error nothing is known of what was written to `out` nor of `seen`, which is not to be used again.
+/// error of the input, and if memory ran out, this was done with pieces that the stream begins with. After an error of the output `out`
+/// has failed, and nothing is known of what was written to it. After any error nothing is known of `seen`, which is not to be used
+/// again.
 pub fn uniq_going_on<T: StreamItem + Drop, R: BufRead, W: Write, E: Write>(
     alloc: Global,
     layout: Layout,
     seen: &mut Seen,
     reader: &mut R,
     name: &str,
-    out: &mut W,
+    out: &mut Watched<W>,
     err: &mut Watched<E>,
 ) -> Result<bool, Stop>
     ensures written { IfOk result (λ refused. (earlier : List Item) → HasSeen T.item_type layout.rename earlier seen.old
         → WritesPieces T.item_type (Some name.now) (R.remaining reader.old) (R.remaining reader.new)
-        (OfItems (WritesFirstRecords T.item_type layout earlier (W.contents out.old) (W.contents out.new) seen.new)) (stream E.contents err.old err.new) refused) }
-    ensures stopped { IfErr result (λ stop. StopsAfter T.item_type (Some name.now) (R.remaining reader.old)
-        AnyWritten (stream E.contents err.old err.new) stop) }
-    ensures fault { IfErr result (λ stop. IfInput stop (λ e. kind_of e ≡ ParseErrorKind.Parse → ⊥)) }
+        (OfItems (WritesSeenFirsts T.item_type layout earlier (stream W.contents out.old out.new) seen.new)) (stream E.contents err.old err.new) refused) }
+    ensures stopped { IfErr result (λ stop. (earlier : List Item) → HasSeen T.item_type layout.rename earlier seen.old
+        → StopsAfter T.item_type (Some name.now) (R.remaining reader.old)
+        (OfItems (WritesFirstRecords layout earlier (stream W.contents out.old out.new))) (has_failed out.new) (stream E.contents err.old err.new) stop) }
+    ensures input { IfErr result (λ stop. IfInput stop (λ e. kind_of e ≡ ParseErrorKind.Io)) }
     ensures stays { has_failed err.old ≡ true → has_failed err.new ≡ true }
 {
     let job = Job { layout, name };

@@ -1,5 +1,6 @@
 //! The functions of the program for stores: the records of items.
 mod checks;
+mod closed;
 mod faults;
 mod going_on;
 mod layouts;

@@ -1,4 +1,4 @@
-use Rattle.std.proofs.Common.{◌≡◌, refl, sym, subst, ap, rules}
+use Rattle.std.proofs.Common.{rules}
 use Rattle.souper_c.proofs.Failures.{refusal_is_short}
 use Rattle.souper_c.proofs.souper_format.Goals as goal
 

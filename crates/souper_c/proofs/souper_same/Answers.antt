@@ -1,5 +1,5 @@
-use Rattle.std.proofs.Common.{rules}
-use Rattle.souper_c.proofs.Same.{spell_same, spell_others, second_no_text}
+use Rattle.std.proofs.Common.{rules, inr}
+use Rattle.souper_c.proofs.Same.{spell_same, spell_others, second_no_text, first_fails}
 use Rattle.souper_c.proofs.souper_same.Goals as goal
 
 -- src/lib.rt:139:1
@@ -19,3 +19,6 @@ pub returns-in-Err-items-clause-no_text : goal.returns-in-Err-items-clause-no_te
 returns-in-Err-items-clause-no_text c =
     second_no_text c.args.kind c.args.a.now c.args.b.now c.in-Ok.items c.in-Err-items.failure c.outcome-in-Err-items.result
     c.in-Ok.ensures.spelled c.in-Err-items.ensures.failed (search rules)
+
+pub returns-in-Err-clause-second_no_text : goal.returns-in-Err-clause-second_no_text
+returns-in-Err-clause-second_no_text c some text no_text = inr (first_fails c.args.kind c.args.a.now c.in-Err.failure c.outcome.result c.in-Err.ensures.failed c.outcome.ensures some text)

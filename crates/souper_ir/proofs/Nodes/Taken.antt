@@ -3,8 +3,10 @@ use Rattle.std.proofs.Common.{◌≡◌, ℕ, Bool, false, List, ◌∷◌, map,
 use Rattle.std.specs.Prelude.{is_some, option_map}
 use Rattle.souper_graph.specs.Syntax.Spelling.{Scope}
 use Rattle.souper_graph.specs.View.{view_statement}
-use Rattle.souper_lexer.specs.TokenView.{Takes}
+use Rattle.souper_lexer.specs.declared.Token.{Token}
+use Rattle.souper_lexer.specs.TokenView.{Takes, BeginsWith}
 use Rattle.souper_ir.specs.declared.parse.parser.Parser.TheInside.{Inside}
+use Rattle.souper_ir.specs.declared.parse.parser.Failure.{Failure}
 use Rattle.souper_ir.specs.FailureView.{cause_of_failure}
 use Rattle.souper_ir.specs.ParserView.{parsing_of, with_ahead}
 use Rattle.souper_graph.specs.Syntax.Tokens.{Lexeme}
@@ -13,7 +15,7 @@ use Rattle.souper_ir.specs.declared.parse.tokens.Mark.TheVariants.{Comma, Colon,
 use Rattle.souper_graph.specs.Syntax.Optional.{◌>>=◌}
 use Rattle.souper_ir.specs.Parsing.{Parsing}
 use Rattle.souper_ir.specs.Reading.{IsRead, look_at, take_at}
-use Rattle.souper_ir.specs.Grammar.{peek_at}
+use Rattle.souper_ir.specs.Grammar.{Comes, peek_at}
 use Rattle.souper_ir.specs.MarkView.{lexeme_of_mark}
 use Rattle.souper_ir.specs.NodeReadings.{accept, mark_of}
 use Rattle.souper_ir.proofs.Nodes.Options.{none_is}
@@ -44,6 +46,19 @@ module _ (o : ℕ) (t : Lexeme) (rest : List (ℕ × Lexeme)) (faulty : Bool) (l
   pub token_seen : (starts : Lexeme → Bool) (b : Bool) → starts t ≡ b → IsRead (peek_at starts before) b before before
   unfolding peek_at look_at
   token_seen starts b is = (ap (λ (x : Bool). Some (x, before)) is, refl, refl, refl)
+
+-- a parser that has not failed, and has looked at no token, before its lexer took a token
+pub comes : (Is : Lexeme → Type 0) (p : Inside) (v : Parsing) → parsing_of p ≡ v → false ≡ is_some p.failed → false ≡ is_some p.ahead → BeginsWith Is p.lexer → Comes Is v
+unfolding look_at
+comes Is p v is live none h =
+    let tokens : v.tokens ≡ (h.0, h.1) ∷ h.2 = sym (ap (λ (x : Parsing). x.tokens) is) ∙ ap (λ (a : Option (ℕ × Token)). with_ahead a p.lexer.tokens) (none_is p.ahead (sym none)) ∙ h.3 in
+    let failed : v.failed ≡ None = sym (ap (λ (x : Parsing). x.failed) is) ∙ ap (λ (f : Option Failure). option_map cause_of_failure f) (none_is p.failed (sym live)) in
+    (h.1, (rw (tokens, failed) refl, failed, failed, refl), h.4)
+
+-- any test of a token that comes
+pub tested : (starts : Lexeme → Bool) (t : Lexeme) (p : Parsing) → IsRead (look_at p) (Some t) p p → IsRead (peek_at starts p) (starts t) p p
+unfolding peek_at
+tested starts t p h = (rw (h.0) refl, h.1, h.2, h.3)
 
 -- a parser that has not failed, and has looked at no token, after its lexer took a token
 module _ (p q : Inside) (o : ℕ) (t : Lexeme) (v : Parsing) (is : parsing_of p ≡ v) (live : false ≡ is_some p.failed) (none : false ≡ is_some p.ahead)

@@ -1,6 +1,6 @@
 -- Lemmas. The rules of right sides: what is read is spelled so, and what is spelled so is read.
 use Rattle.std.proofs.Common.{◌≡◌, ℕ, ◌^◌, Bool, true, false, List, [], ◌∷◌, ◌++◌, length, Option, Some, None, refl, sym, ◌∙◌, ap, subst}
-use Rattle.std.specs.Prelude.{codes}
+use Rattle.std.specs.Prelude.{codes, is_some, ◌↔◌}
 use Rattle.std.proofs.lemmas.List.{append-nil}
 use Rattle.souper_graph.specs.declared.ast.operands.Operand.{Operand}
 use Rattle.souper_graph.specs.declared.ast.instructions.Instruction.{Instruction}
@@ -20,7 +20,7 @@ use Rattle.souper_ir.specs.Grammar.{Free, Starts}
 use Rattle.souper_ir.specs.NodeReadings.{is_word, is_any, ident_by, block_after_word_at, block_at, block_entry, block_name_at, phi_after_word_at, phi_at, instruction_of_at, instruction_at, starts_instruction, rhs_word_by, rhs_word_at, rhs_by, rhs_at}
 use Rattle.souper_ir.specs.Laws.Unique.{never}
 use Rattle.souper_ir.specs.Laws.Peeks.{some_is}
-use Rattle.souper_ir.specs.Laws.Words.{opcode_is, opcode_makes}
+use Rattle.souper_ir.specs.Laws.Words.{opcode_is, opcode_makes, opcode_names}
 use Rattle.souper_ir.specs.Laws.Tokens.{word_is, by_word, ident_means}
 use Rattle.souper_ir.specs.Laws.Combinators.{Ends, Form, Reading, Rule, Ruled, ruled, Node, To, From, respelled, Then, both, and_then, done, found, given, made, last, one, Just, word, after, Token, next_word, number, keyword, next_name, named, choice, fail}
 use Rattle.souper_ir.specs.Laws.Operands.{further_rule, operands_rule}
@@ -165,6 +165,18 @@ starts_it i = rw ((opcode_is i).1.0) refl
 
 pub instruction_first : (s : Scope) (i : Instruction) (ts : List Lexeme) → instruction_spells s i ts → Starts starts_instruction ts
 instruction_first s i ts h = subst (λ (x : List Lexeme). Starts starts_instruction x) (sym h.1) (starts_it i)
+
+-- the words that start an instruction
+worded : (w : List ℕ) (o : Option Opcode) → opcode_of w ≡ o → is_some o ≡ true → (i : Instruction) × (ident w ≡ ident (instruction_word i))
+worded w None e h = absurd cc
+worded w (Some o) e h = let r = opcode_names w o e in (r.0, ap ident r.1)
+
+starts_word : (t : Lexeme) → starts_instruction t ≡ true → (i : Instruction) × (t ≡ ident (instruction_word i))
+starts_word (ident w) h = worded w (opcode_of w) refl h
+starts_word _ h = absurd cc
+
+pub instruction_starts : (t : Lexeme) → (starts_instruction t ≡ true) ↔ ((i : Instruction) × (t ≡ ident (instruction_word i)))
+instruction_starts t = (starts_word t, λ r. subst (λ (x : Lexeme). starts_instruction x ≡ true) (sym r.1) (starts_it r.0))
 
 -- ---- words of right sides
 

@@ -15,7 +15,7 @@ use Rattle.souper_graph.specs.Syntax.Numbers.{count_of}
 use Rattle.souper_graph.specs.Syntax.Spelling.{Scope, position_of, optional_type_spells, operand_spells, rhs_spells, attribute_spells, root_attribute_spells, assignment_spells, pc_spells, block_pc_spells, statement_spells, infer_spells, IsOptionalComma, cand_spells, result_spells}
 use Rattle.souper_ir.specs.Continuation.{optional_type_continues, operand_continues, operands_continue, rhs_continues, attributes_continue, assignment_continues, pc_continues, block_pc_continues, statement_continues, infer_continues, cand_continues, result_continues}
 use Rattle.souper_ir.specs.Grammar.{Free, Stops, Starts}
-use Rattle.souper_ir.specs.NodeReadings.{is_name, is_mark, is_word, Definition, fresh, heading_at, definition_at, starts_statement, pc_at, predecessor_below, block_pc_at, root_at, comma_by, optional_comma_at, pair_at, result_at}
+use Rattle.souper_ir.specs.NodeReadings.{is_name, is_mark, is_word, Definition, fresh, type_and_equals_at, heading_at, definition_at, starts_statement, pc_at, predecessor_below, block_pc_at, root_at, comma_by, optional_comma_at, pair_at, result_at}
 use Rattle.souper_ir.specs.Laws.Unique.{Alone, never}
 use Rattle.souper_ir.specs.Laws.Peeks.{some_is}
 use Rattle.souper_ir.specs.Laws.Tokens.{is_word_means, word_is}
@@ -54,19 +54,25 @@ record Heading (ends : Ends) (s : Scope) (v : List ℕ × Option Ty) (ts rest : 
   name_is_new : position_of s v.0 ≡ None
   ty_spelled : optional_type_spells v.1 ty
 
+-- a type and the equals sign
+record Typed (ends : Ends) (s : Scope) (v : Option Ty) (ts rest : List Lexeme) : Type 0 where
+  ty : List Lexeme
+  whole : ts ≡ ty ++ equals ∷ []
+  ty_spelled : optional_type_spells v ty
+
+typed_rule : Rule Typed type_and_equals_at
+unfolding type_and_equals_at
+typed_rule = respelled (and_then optional_type_rule (λ t. after (mark equals refl) (done t)))
+    (λ s v ts rest h. let k = h.second in rw k.after.0 (record { ty = h.prefix; whole = rw (h.whole, k.whole, k.after.1) refl; ty_spelled = h.first.0 }))
+    (λ faulty s v ts rest h. rw h.whole (both v h.ty (equals ∷ []) (h.ty_spelled, optional_type_stops v equals (λ e. cc)) (next (refl, refl))))
+
 heading_rule : Rule Heading heading_at
 unfolding heading_at
-heading_rule = respelled (named (λ n. given (λ s. fresh (position_of s n)) (λ f. and_then optional_type_rule (λ t. after (mark equals refl) (done (n, t))))))
+heading_rule = respelled (named (λ n. given (λ s. fresh (position_of s n)) (λ f. last typed_rule (λ t. (n, t)))))
     (λ s v ts rest h.
-    let t = h.after.after in
-    let k = t.second in
-    rw k.after.0 (record {
-      ty = t.prefix;
-      whole = rw (h.whole, t.whole, k.whole, k.after.1) refl;
-      name_is_new = fresh_means (position_of s h.name) tt h.after.is;
-      ty_spelled = t.first.0;
-    }))
-    (λ faulty s v ts rest h. rw h.whole (next_name v.0 (found (fresh_is (position_of s v.0) h.name_is_new) (both v.1 h.ty (equals ∷ []) (h.ty_spelled, optional_type_stops v.1 equals (λ e. cc)) (next (refl, refl))))))
+    let l = h.after.after in
+    rw l.is (record { ty = l.last.ty; whole = rw (h.whole, l.last.whole) refl; name_is_new = fresh_means (position_of s h.name) tt h.after.is; ty_spelled = l.last.ty_spelled }))
+    (λ faulty s v ts rest h. rw h.whole (next_name v.0 (found (fresh_is (position_of s v.0) h.name_is_new) (made v.1 (record { ty = h.ty; whole = refl; ty_spelled = h.ty_spelled })))))
 
 pub definition_rule : Rule (Node definition_spells definition_continues) definition_at
 unfolding definition_at

@@ -2,6 +2,7 @@
 use Rattle.std.proofs.Common.{◌≡◌, ℕ, Bool, true, false, List, [], ◌∷◌, length, Option, Some, refl, subst}
 use Rattle.std.specs.Prelude.{codes, bytes_eq, nat_eq, if◌then◌else◌}
 use Rattle.souper_graph.specs.declared.ast.operands.Operand.{Operand}
+use Rattle.souper_graph.specs.declared.ast.operands.Operand.TheVariants.{Value}
 use Rattle.souper_graph.specs.declared.ast.instructions.Instruction.{Instruction}
 use Rattle.souper_graph.specs.declared.ast.instructions.Instruction.TheVariants.{Add, AddNsw, AddNuw, AddNw, Sub, SubNsw, SubNuw, SubNw, Mul, MulNsw, MulNuw, MulNw, Udiv, Sdiv, UdivExact, SdivExact, Urem, Srem, And, Or, Xor, Shl, ShlNsw, ShlNuw, ShlNw, Lshr, LshrExact, Ashr, AshrExact, Eq, Ne, Ult, Slt, Ule, Sle, SaddWithOverflow, UaddWithOverflow, SsubWithOverflow, UsubWithOverflow, SmulWithOverflow, UmulWithOverflow, SaddSat, UaddSat, SsubSat, UsubSat, ExtractValue, Zext, Sext, Trunc, Ctpop, Bswap, BitReverse, Cttz, Ctlz, Freeze, Select, Fshl, Fshr, Hole}
 use Rattle.souper_graph.specs.Instructions.{word_of, operands_of}
@@ -202,3 +203,14 @@ opcode_fits n w o e =
 
 pub opcode_makes : (w : List ℕ) (xs : List Operand) (o : Opcode) (i : Instruction) → opcode_of w ≡ Some o → instruction_by o xs ≡ Some i → Makes w xs i
 opcode_makes w xs o i e m = shape_makes (shape_of o) w xs i (opcode_fits (length w) w o e) m
+
+-- an instruction of the shape, with whatever operands
+shaped : (s : Shape) (w : List ℕ) → Names w s → (i : Instruction) × (w ≡ word_of i)
+shaped (no_operand i) w h = (i, h.0)
+shaped (one_operand f) w h = (f (Value 0), (h (Value 0)).0)
+shaped (two_operands f) w h = (f (Value 0) (Value 0), (h (Value 0) (Value 0)).0)
+shaped (three_operands f) w h = (f (Value 0) (Value 0) (Value 0), (h (Value 0) (Value 0) (Value 0)).0)
+
+-- an opcode's word is that of an instruction
+pub opcode_names : (w : List ℕ) (o : Opcode) → opcode_of w ≡ Some o → (i : Instruction) × (w ≡ word_of i)
+opcode_names w o e = shaped (shape_of o) w (opcode_fits (length w) w o e)

@@ -19,15 +19,15 @@ ghost use Rattle.souper_ir.specs.ItemRuns.{SpellsAll, ListRefusal};
 ghost use Rattle.souper_ir.specs.Answers.{IsStrError};
 ghost use Rattle.souper_ir.specs.Sinks.{TakesOver, TakesText, TakesPrefix, TakesFirst};
 
-use crate::parse::error::{ParseErrorKind, narrow};
+use crate::parse::error::ParseErrorKind;
 use crate::parse::last_lines::{cand, infer, result};
 use crate::parse::parser::{Parser, Read, Result};
 use crate::parse::rhs::rhs;
 use crate::parse::sink::Sink;
-use crate::parse::statements::{block_pc, entered_heading, pc};
+use crate::parse::statements::{attributes, block_pc, entered_heading, pc};
 use crate::parse::tokens::{token_comes, word_comes};
 use crate::parse::traits::Parse;
-use souper_graph::ast::{Assignment, Attribute, Item, LeftHandSide, Replacement, RightHandSide};
+use souper_graph::ast::{Assignment, Item, LeftHandSide, Replacement, RightHandSide};
 use souper_lexer::Token;
 use std::alloc::Global;
 
@@ -44,6 +44,9 @@ enum Next {
 fn next_kind(parser: &mut Parser<'_>) -> Read<Next>
     ensures { Gives (λ n. n) (widened result) (next_at parser.old) parser.old parser.new }
 {
+    if parser.name_on_next_line() {
+        return Ok(Next::Assignment);
+    }
     match parser.lookahead()? {
         Some(Token::ValName(_)) => Ok(Next::Assignment),
         Some(Token::Ident("pc")) => Ok(Next::Pc),
@@ -87,7 +90,7 @@ fn enter_assignment(parser: &mut Parser<'_>) -> Read<()>
         Ok(value) => value,
         Err(error) => return Err(error),
     };
-    let attributes = narrow(Vec::<Attribute>::parse(parser))?;
+    let attributes = attributes(parser)?;
     match String::from_str(parser.alloc(), name) {
         Ok(text) => {
             let assignment = Assignment {

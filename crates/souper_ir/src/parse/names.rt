@@ -12,7 +12,7 @@ pub(crate) type Entry = (ValueId, Option<u32>);
 pub(crate) struct Names<'a> {
     entries: BTreeMap<&'a str, Entry>,
     // The name that was entered last, with its entry.
-    last: Option<(&'a str, Entry)>,
+    last: Option<(&'a str, ValueId, Option<u32>)>,
 }
 
 impl<'a> Names<'a> {
@@ -39,15 +39,16 @@ impl<'a> Names<'a> {
     pub(crate) fn insert(
         &mut self,
         name: &'a str,
-        entry: Entry,
+        value: ValueId,
+        predecessors: Option<u32>,
     ) -> Result<Option<Entry>, AllocError>
         ensures replaced { IfOk result (λ replaced. replaced ≡ entry_in self.old.entries name.now) }
-        ensures entered { OnOk result (Adds self.old.entries self.new.entries name.now entry) }
+        ensures entered { OnOk result (Adds self.old.entries self.new.entries name.now (value, predecessors)) }
         ensures last { OnOk result (IsLast self.new.last self.new.entries) }
     {
-        match self.entries.insert(name, entry) {
+        match self.entries.insert(name, (value, predecessors)) {
             Ok(replaced) => {
-                self.last = Some((name, entry));
+                self.last = Some((name, value, predecessors));
                 Ok(replaced)
             }
             Err(_) => Err(AllocError),
@@ -56,17 +57,22 @@ impl<'a> Names<'a> {
 
     /// Enters a name. The map is not searched if this is what was entered last.
     #[inline(always)]
-    pub(crate) fn enter(&mut self, name: &'a str, entry: Entry) -> Result<(), AllocError>
+    pub(crate) fn enter(
+        &mut self,
+        name: &'a str,
+        value: ValueId,
+        predecessors: Option<u32>,
+    ) -> Result<(), AllocError>
         requires { IsLast self.old.last self.old.entries }
-        ensures entered { OnOk result (Adds self.old.entries self.new.entries name.now entry) }
+        ensures entered { OnOk result (Adds self.old.entries self.new.entries name.now (value, predecessors)) }
         ensures last { OnOk result (IsLast self.new.last self.new.entries) }
     {
-        if let Some((last, known)) = self.last {
-            if known == entry && last == name {
+        if let Some((last, of, count)) = self.last {
+            if of == value && count == predecessors && last == name {
                 return Ok(());
             }
         }
-        match self.insert(name, entry) {
+        match self.insert(name, value, predecessors) {
             Ok(_) => Ok(()),
             Err(error) => Err(error),
         }

@@ -1,11 +1,11 @@
 //! Types, constants and operands.
 
-ghost use Rattle.std.specs.Prelude.{◌≡◌, None, refl};
+ghost use Rattle.std.specs.Prelude.{◌≡◌, None, false, refl};
 ghost use Rattle.souper_ir.specs.Errors.{widened};
 ghost use Rattle.souper_ir.specs.Reading.{Gives};
 ghost use Rattle.souper_graph.specs.Syntax.Spelling.{type_spells, constant_spells, operand_spells};
 ghost use Rattle.souper_ir.specs.Continuation.{constant_continues, operand_continues};
-ghost use Rattle.souper_ir.specs.NodeReadings.{is_int, type_at, optional_type_at, constant_at, named_operand_at, operand_at, next_operand_at, further_at};
+ghost use Rattle.souper_ir.specs.NodeReadings.{is_int, type_at, optional_type_at, constant_at, named_operand_at, operand_by, operand_at, next_operand_at, further_at};
 ghost use Rattle.souper_ir.specs.Laws.FromReadings.{one_alone};
 ghost use Rattle.souper_ir.specs.Laws.Operands.{type_complete, constant_complete, constant_first, operand_complete};
 
@@ -44,6 +44,9 @@ pub(crate) fn optional_type(parser: &mut Parser<'_>) -> Read<Option<Type>>
     ensures { Gives (λ t. t) (widened result) (optional_type_at parser.old) parser.old parser.new }
 {
     if !parser.take_mark(Mark::Colon) {
+        if parser.comma_comes() {
+            return Ok(None);
+        }
         if !mark_comes(parser, Mark::Colon)? {
             return Ok(None);
         }
@@ -74,6 +77,12 @@ fn named_operand<'a>(parser: &mut Parser<'a>, name: &'a str) -> Read<Operand>
     }
 }
 
+fn constant_operand(parser: &mut Parser<'_>) -> Read<Operand>
+    ensures { Gives (λ x. x) (widened result) (operand_by false parser.old) parser.old parser.new }
+{
+    Ok(Operand::Constant(constant(parser)?))
+}
+
 #[tactic(auto, unfolding(crate::specs::NodeReadings::operand_at, crate::specs::NodeReadings::named_operand_at))]
 pub(crate) fn operand(parser: &mut Parser<'_>) -> Read<Operand>
     ensures { Gives (λ x. x) (widened result) (operand_at parser.old) parser.old parser.new }
@@ -81,11 +90,14 @@ pub(crate) fn operand(parser: &mut Parser<'_>) -> Read<Operand>
     if let Some(name) = parser.take_name() {
         return named_operand(parser, name);
     }
+    if parser.int_comes() {
+        return constant_operand(parser);
+    }
     if value_name_comes(parser)? {
         let name = value_name(parser)?;
         named_operand(parser, name)
     } else {
-        Ok(Operand::Constant(constant(parser)?))
+        constant_operand(parser)
     }
 }
 

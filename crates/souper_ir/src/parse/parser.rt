@@ -3,13 +3,13 @@ ghost use Rattle.std.specs.Prelude.{◌≡◌, ◌≤◌, ◌++◌, ◌∷◌, [
 ghost use Rattle.std.specs.String.{string_bytes};
 ghost use Rattle.souper_graph.specs.View.{view_statement, view_assignment, view_rhs};
 ghost use Rattle.souper_graph.specs.Values.{assigned};
-ghost use Rattle.souper_graph.specs.Syntax.Tokens.{Lexeme, ident, AreTokensOf, IsTextOf};
+ghost use Rattle.souper_graph.specs.Syntax.Tokens.{Lexeme, ident, val_name, int, comma, AreTokensOf, IsTextOf};
 ghost use Rattle.souper_lexer.specs.TokenView.{lexeme_of};
 ghost use Rattle.souper_graph.specs.Uses.{is_condition};
 ghost use Rattle.souper_graph.specs.Syntax.Spelling.{entry_of, position_of, predecessors_if_block};
 ghost use Rattle.souper_ir.specs.NodeReadings.{accept, block_entry, is_any, is_mark, is_name, mark_of, name_of, new_name_at};
 ghost use Rattle.souper_ir.specs.NamesView.{is_named, entry_in_scope};
-ghost use Rattle.souper_ir.specs.Grammar.{peek_at};
+ghost use Rattle.souper_ir.specs.Grammar.{Comes, peek_at};
 ghost use Rattle.souper_ir.specs.MarkView.{lexeme_of_mark};
 ghost use Rattle.souper_ir.specs.Parsing.{Cause, refused};
 ghost use Rattle.souper_ir.specs.Errors.{error_of, widened, shown_error};
@@ -231,8 +231,8 @@ impl<'a> Parser<'a> {
         }
     }
 
-    /// Takes the next token, if it is a value name and follows what was taken last with one space between them at most. It
-    /// may be a name even if it is not taken.
+    /// Takes the next token, if it is a value name and follows what was taken last with one space or newline between them at
+    /// most. It may be a name even if it is not taken.
     #[inline(always)]
     pub(crate) fn take_name(&mut self) -> Option<&'a str>
         ensures taken { IfSome result (λ name. IsRead (accept name_of self.old) name.now self.old self.new) }
@@ -261,6 +261,56 @@ impl<'a> Parser<'a> {
         let (offset, word) = self.lexer.take_word()?;
         self.offset = offset;
         Some(word)
+    }
+}
+
+impl<'a> Parser<'a> {
+    /// Whether a newline and then a value name come next. `false` says nothing of what comes next.
+    #[inline(always)]
+    pub(crate) fn name_on_next_line(&self) -> bool
+        ensures { result ≡ true → Comes (λ t. (n : List ℕ) × (t ≡ val_name n)) self.now }
+    {
+        if self.failed.is_some() || self.ahead.is_some() {
+            return false;
+        }
+        self.lexer.name_on_next_line()
+    }
+
+    /// Whether a comma comes next. `false` says nothing of what comes next.
+    #[inline(always)]
+    pub(crate) fn comma_comes(&self) -> bool
+        ensures { result ≡ true → Comes (λ t. t ≡ comma) self.now }
+    {
+        if self.failed.is_some() || self.ahead.is_some() {
+            return false;
+        }
+        self.lexer.comma_comes()
+    }
+
+    /// Whether an integer comes next. `false` says nothing of what comes next.
+    #[inline(always)]
+    pub(crate) fn int_comes(&self) -> bool
+        ensures { result ≡ true → Comes (λ t. (digits : List ℕ) × (t ≡ int digits)) self.now }
+    {
+        if self.failed.is_some() || self.ahead.is_some() {
+            return false;
+        }
+        self.lexer.int_comes()
+    }
+
+    /// Takes the next token, if it is an integer and follows what was taken last with one space between them at most. It may
+    /// be an integer even if it is not taken.
+    #[inline(always)]
+    pub(crate) fn take_int(&mut self) -> Option<&'a str>
+        ensures taken { IfSome result (λ digits. IsRead (take_at self.old) (int digits.now) self.old self.new) }
+        ensures kept { IfNone result (self.new ≡ self.old) }
+    {
+        if self.failed.is_some() || self.ahead.is_some() {
+            return None;
+        }
+        let (offset, digits) = self.lexer.take_int()?;
+        self.offset = offset;
+        Some(digits)
     }
 }
 
@@ -359,7 +409,7 @@ impl<'a> Parser<'a> {
         ensures { Gives (λ u. u) (widened result) (new_name_at name.now self.old) self.old self.new }
     {
         let next = self.statements.next_id().into();
-        match self.names.insert(name, (next, None)) {
+        match self.names.insert(name, next, None) {
             Ok(None) => Ok(()),
             Ok(replaced) => {
                 if in_scope(&self.statements, replaced, name).is_some() {
@@ -391,7 +441,7 @@ impl<'a> Parser<'a> {
             Ok(id) => id.into(),
             Err(_) => return Err(self.want_memory()),
         };
-        match self.names.enter(name, (value, predecessors)) {
+        match self.names.enter(name, value, predecessors) {
             Ok(_) => {
                 self.recent.put(name, value);
                 Ok(())

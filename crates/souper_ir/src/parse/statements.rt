@@ -1,16 +1,17 @@
 //! Statements: assignments and path conditions.
 
-ghost use Rattle.std.specs.Prelude.{codes, refl, IfOk, IfErr};
+ghost use Rattle.std.specs.Prelude.{codes, map, refl, IfOk, IfErr};
 ghost use Rattle.souper_graph.specs.declared.ast.statements.Pc.{Pc as pc_value};
 ghost use Rattle.souper_graph.specs.declared.ast.statements.BlockPc.{BlockPc as block_pc_value};
 ghost use Rattle.souper_graph.specs.Values.{PlainAssignment, PlainStatement};
-ghost use Rattle.souper_graph.specs.View.{view_assignment, view_statement};
-ghost use Rattle.souper_graph.specs.Syntax.Spelling.{assignment_spells, pc_spells, block_pc_spells, statement_spells};
+ghost use Rattle.souper_graph.specs.View.{view_assignment, view_attribute, view_statement};
+ghost use Rattle.souper_graph.specs.Syntax.Spelling.{attribute_spells, assignment_spells, pc_spells, block_pc_spells, statement_spells};
 ghost use Rattle.souper_ir.specs.Errors.{error_of, widened};
 ghost use Rattle.souper_ir.specs.Continuation.{assignment_continues, pc_continues, block_pc_continues, statement_continues};
 ghost use Rattle.souper_ir.specs.Reading.{Gives};
 ghost use Rattle.souper_ir.specs.Grammar.{Took, Refusal, peek_at};
-ghost use Rattle.souper_ir.specs.NodeReadings.{is_name, is_word, heading_at, pc_at, block_pc_at, starts_statement};
+ghost use Rattle.souper_ir.specs.NodeReadings.{is_name, is_word, type_and_equals_at, heading_at, pc_at, block_pc_at, starts_statement};
+ghost use Rattle.souper_ir.specs.Laws.Attributed.{Row, OneMore};
 ghost use Rattle.souper_ir.specs.Laws.Statements.{assignment_alone, assignment_first, pc_alone, pc_first, block_pc_alone, block_pc_first, statement_alone, statement_first};
 
 use crate::parse::error::{narrow, widen};
@@ -25,6 +26,20 @@ use crate::parse::traits::{Parse, Peek};
 use souper_graph::ast::{Assignment, AssignmentRhs, Attribute, BlockPc, Pc, Statement, Type};
 use souper_lexer::Token;
 
+// The type of an assignment, if there is one, and the equals sign.
+#[inline(always)]
+#[tactic(auto, unfolding(crate::specs::NodeReadings::type_and_equals_at))]
+fn type_and_equals(parser: &mut Parser<'_>) -> Read<Option<Type>>
+    ensures { Gives (λ t. t) (widened result) (type_and_equals_at parser.old) parser.old parser.new }
+{
+    if parser.take_mark(Mark::Equals) {
+        return Ok(None);
+    }
+    let ty = optional_type(parser)?;
+    punctuation(parser, Mark::Equals)?;
+    Ok(ty)
+}
+
 /// The name of an assignment, which is new, and its type, up to the equals sign.
 #[tactic(auto, unfolding(crate::specs::NodeReadings::heading_at))]
 fn heading<'a>(parser: &mut Parser<'a>) -> Read<(&'a str, Option<Type>)>
@@ -34,8 +49,7 @@ fn heading<'a>(parser: &mut Parser<'a>) -> Read<(&'a str, Option<Type>)>
     if parser.value_named(name).is_some() {
         return Err(parser.refuse(Message::CannotRedefine(name)));
     }
-    let ty = optional_type(parser)?;
-    punctuation(parser, Mark::Equals)?;
+    let ty = type_and_equals(parser)?;
     Ok((name, ty))
 }
 
@@ -46,9 +60,20 @@ pub(crate) fn entered_heading<'a>(parser: &mut Parser<'a>) -> Read<(&'a str, Opt
 {
     let name = value_name(parser)?;
     parser.begin(name)?;
-    let ty = optional_type(parser)?;
-    punctuation(parser, Mark::Equals)?;
+    let ty = type_and_equals(parser)?;
     Ok((name, ty))
+}
+
+/// The attributes of an assignment.
+#[inline(always)]
+pub(crate) fn attributes(parser: &mut Parser<'_>) -> Read<Vec<Attribute>>
+    ensures ok { IfOk result (λ xs. Took (Row attribute_spells) OneMore (λ s. s) (map view_attribute xs.items) parser.old parser.new) }
+    ensures err { IfErr result (λ e. Refusal (Row attribute_spells) OneMore (error_of e) parser.old parser.new) }
+{
+    if parser.name_on_next_line() {
+        return Ok(Vec::new(parser.alloc()));
+    }
+    narrow(Vec::<Attribute>::parse(parser))
 }
 
 /// An assignment, which is not entered into the scope.
@@ -58,7 +83,7 @@ fn assignment(parser: &mut Parser<'_>) -> Read<Assignment>
 {
     let (name, ty) = heading(parser)?;
     let value = rhs(parser)?;
-    let attributes = narrow(Vec::<Attribute>::parse(parser))?;
+    let attributes = attributes(parser)?;
     match String::from_str(parser.alloc(), name) {
         Ok(name) => Ok(Assignment {
             name,

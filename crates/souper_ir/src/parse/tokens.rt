@@ -108,6 +108,9 @@ pub(crate) fn mark_comes(parser: &mut Parser<'_>, mark: Mark) -> Read<bool>
 pub(crate) fn value_name<'a>(parser: &mut Parser<'a>) -> Read<&'a str>
     ensures { Gives (λ name. name.now) (widened result) (accept name_of parser.old) parser.old parser.new }
 {
+    if let Some(name) = parser.take_name() {
+        return Ok(name);
+    }
     match parser.token()? {
         Token::ValName(name) => Ok(name),
         _ => Err(parser.refuse(Message::ExpectedValueName)),
@@ -129,12 +132,16 @@ pub(crate) fn keyword(parser: &mut Parser<'_>, word: &'static str) -> Read<()>
 pub(crate) fn integer(parser: &mut Parser<'_>) -> Read<i128>
     ensures { Gives (λ n. n) (widened result) (accept (int_by number_of) parser.old) parser.old parser.new }
 {
-    match parser.token()? {
-        Token::Int(word) => match number(word) {
-            Ok(value) => Ok(value),
-            Err(fault) => Err(parser.refuse(Message::BadInteger(fault))),
+    let digits = match parser.take_int() {
+        Some(digits) => digits,
+        None => match parser.token()? {
+            Token::Int(digits) => digits,
+            _ => return Err(parser.refuse(Message::ExpectedInteger)),
         },
-        _ => Err(parser.refuse(Message::ExpectedInteger)),
+    };
+    match number(digits) {
+        Ok(value) => Ok(value),
+        Err(fault) => Err(parser.refuse(Message::BadInteger(fault))),
     }
 }
 

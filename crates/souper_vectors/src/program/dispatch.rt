@@ -11,13 +11,13 @@ use std::process::Abort;
 
 const USAGE: &str = "usage: souper_fmt lhs|rhs|rep\n       souper_fmt same lhs|rhs|rep PATH PATH\n";
 
-// The files, each with its text.
-#[derive(Clone, Copy)]
-struct TextsInMemory {
+// The files, each with its text. The test fails if `unread` is read.
+struct TextsInMemory<'a, R> {
+    rt: &'a R,
     alloc: Global,
 }
 
-impl TextFiles for TextsInMemory {
+impl<R: Abort> TextFiles for TextsInMemory<'_, R> {
     ghost gives = { λ files path read. Unit {0} };
 
     fn read_text(&self, path: &str) -> io::Result<String> {
@@ -28,6 +28,7 @@ impl TextFiles for TextsInMemory {
             "one" => "result 1",
             "two" => "result 2",
             "cand" => "cand 1 2",
+            "unread" => panic!(self.rt; "a file is read after another was refused"),
             _ => return Err(io::Error::from(ErrorKind::NotFound)),
         };
         Ok(String::from_str(self.alloc, text)?)
@@ -46,7 +47,7 @@ fn words(alloc: Global, line: &str) -> Result<Vec<String>, AllocError> {
 // The words do this over that input, which is read to its end or not.
 fn runs(rt: &impl Abort, alloc: Global, line: &str, source: &str, ends: bool, want: Ran<'_>) {
     let args = words(alloc, line).expect(rt, line);
-    let files = TextsInMemory { alloc };
+    let files = TextsInMemory { rt, alloc };
     let mut written = Vec::new(alloc);
     let mut reported = Vec::new(alloc);
     let mut input = Watched::new(source.as_bytes());
@@ -115,6 +116,14 @@ fn same_tells_the_file_that_is_refused(rt: HostRuntime) {
     runs(
         &rt,
         rt.alloc(),
+        "same lhs one unread",
+        "",
+        false,
+        (1, "", line),
+    );
+    runs(
+        &rt,
+        rt.alloc(),
         "same lhs one sum",
         "",
         false,
@@ -158,9 +167,13 @@ fn other_words_get_the_usage(rt: HostRuntime) {
 
 // A run without a command over an `err` that fails after so many calls: the status, whether `err` failed, and whether
 // nothing is written.
-fn usage_over_err(alloc: Global, after: usize) -> Result<(u8, bool, bool), AllocError> {
+fn usage_over_err(
+    rt: &impl Abort,
+    alloc: Global,
+    after: usize,
+) -> Result<(u8, bool, bool), AllocError> {
     let args = words(alloc, "same")?;
-    let files = TextsInMemory { alloc };
+    let files = TextsInMemory { rt, alloc };
     let mut written = Vec::new(alloc);
     let mut input = Watched::new(b"".as_slice());
     let mut out = Watched::new(&mut written);
@@ -173,7 +186,7 @@ fn usage_over_err(alloc: Global, after: usize) -> Result<(u8, bool, bool), Alloc
 #[test]
 fn failed_err_keeps_the_status_of_the_usage(rt: HostRuntime) {
     for after in 0..4 {
-        let ran = usage_over_err(rt.alloc(), after).expect(&rt, "memory");
+        let ran = usage_over_err(&rt, rt.alloc(), after).expect(&rt, "memory");
         equal(&rt, (after, ran), (after, (2, after < 3, true)));
     }
 }

@@ -37,16 +37,35 @@ fn records_are_canonical(rt: HostRuntime) {
     is_told::<RightHandSide>(&rt, rt.alloc(), source, (0, ""));
 }
 
+// The texts are not canonical, and first differ on these lines.
+static OTHERS: [(&str, &str); 8] = [
+    ("\n", "a.opt:1: not canonical\n"),
+    (" %x = var\ninfer %x\n\n", "a.opt:1: not canonical\n"),
+    ("%x = var ; input\ninfer %x\n\n", "a.opt:1: not canonical\n"),
+    (
+        "%x = var\n%y = var\ninfer %x\n\n",
+        "a.opt:2: not canonical\n",
+    ),
+    ("%x = var\ninfer %x", "a.opt:2: not canonical\n"),
+    ("%x = var\ninfer %x\n", "a.opt:3: not canonical\n"),
+    ("%x = var\ninfer %x\n\n\n", "a.opt:4: not canonical\n"),
+    (
+        "%x = var\ninfer %x\n\n%y = var\ninfer %y ; end\n\n",
+        "a.opt:5: not canonical\n",
+    ),
+];
+
 #[test]
-fn other_texts_are_told(rt: HostRuntime) {
-    let alloc = rt.alloc();
-    let want = (1, "souper_items: a.opt: not canonical\n");
-    is_lhs_told(&rt, alloc, b"%x = var\ninfer %x\n", want);
-    is_lhs_told(&rt, alloc, b"%x = var\ninfer %x\n\n\n", want);
-    is_lhs_told(&rt, alloc, b"%x = var\ninfer %x\n\n; end\n", want);
-    is_lhs_told(&rt, alloc, b"%x = var\n%y = var\ninfer %x\n\n", want);
-    is_lhs_told(&rt, alloc, b"\n", want);
-    is_told::<RightHandSide>(&rt, alloc, b"result 1:i8\n", want);
-    is_lhs_told(&rt, alloc, b"%x = var\ninfer %y\n", (1, "a.opt:2:6: "));
-    is_lhs_told(&rt, alloc, b"\xff", (2, "souper_items: a.opt: "));
+fn first_line_that_differs_is_told(rt: HostRuntime) {
+    for (source, line) in OTHERS {
+        is_lhs_told(&rt, rt.alloc(), source.as_bytes(), (1, line));
+    }
+    let want = (1, "a.opt:2: not canonical\n");
+    is_told::<RightHandSide>(&rt, rt.alloc(), b"result 1:i8\n", want);
+}
+
+#[test]
+fn refused_texts_are_told(rt: HostRuntime) {
+    is_lhs_told(&rt, rt.alloc(), b"%x = var\ninfer %y\n", (1, "a.opt:2:6: "));
+    is_lhs_told(&rt, rt.alloc(), b"\xff", (2, "souper_items: a.opt: "));
 }

@@ -199,6 +199,17 @@ infer %x
 
 ----
 rep
+%1 = var
+infer %1
+result 1
+
+=>
+%1 = var
+infer %1
+result 1
+
+----
+rep
 %x:i32 = var
 %2lx = slt 2, %x
 pc %2lx 1

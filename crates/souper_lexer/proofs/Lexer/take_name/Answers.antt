@@ -3,5 +3,5 @@ use Rattle.souper_lexer.proofs.TokenTakes.{takes_name}
 use Rattle.souper_lexer.proofs.Lexer.take_name.Goals as goal
 
 pub returns-clause-taken : goal.returns-clause-taken
-returns-clause-taken c = takes_name c.self.inside.offset c.self.inside.rest.now c.after_space-text.result.now c.args.self.now c.self.view_is c.after_space-text.ensures.rest (search rules)
+returns-clause-taken c = takes_name c.self.inside.offset c.self.inside.rest.now c.after_blank-text.result.now c.args.self.now c.self.view_is c.after_blank-text.ensures.rest (search rules)
     c.split_run.result.0.now c.split_run.result.1.now (search rules) c.split_run.ensures.run c.split_run.ensures.rest c.if-name-eq1.false

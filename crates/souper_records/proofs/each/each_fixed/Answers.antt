@@ -3,68 +3,67 @@ use Rattle.std.specs.Prelude.{Some}
 use Rattle.std.specs.String.{string_bytes}
 use Rattle.souper_ir.specs.declared.parse.error.ParseErrorKind.TheVariants.{Parse}
 use Rattle.souper_ir.specs.Errors.{kind_of}
+use Rattle.souper_format.specs.Streams.{stream}
 use Rattle.souper_records.specs.declared.layout.Layout.{Layout}
 use Rattle.souper_records.specs.Records.{records_of}
+use Rattle.souper_records.specs.Eaches.{WritesBegun}
+use Rattle.souper_records.proofs.Stops.{stop_known}
 use Rattle.souper_records.proofs.Turns.{reached_none, reached_begun, reached_more, reached_end, reached_refusal, up_to_begun}
+use Rattle.souper_records.proofs.Writers.{inner_bytes}
 use Rattle.souper_records.proofs.each.each_fixed.Goals as goal
 
 pub loop-turn-init : goal.loop-turn-init
-loop-turn-init g c = reached_none g.T.Item.item_type c.args.job.layout (g.R.Read.remaining c.args.reader.now) (g.W.Write.contents c.args.out.now) c.new-parts.result (c.new-parts.ensures.start g.T.Item.item_type)
+loop-turn-init g c = reached_none g.T.Item.item_type c.args.job.layout (g.R.Read.remaining c.args.reader.now) (inner_bytes g.W.Write.contents c.args.out.now) c.new-parts.result (c.new-parts.ensures.start g.T.Item.item_type)
 
 pub returns-then-ended-clause-written : goal.returns-then-ended-clause-written
 returns-then-ended-clause-written g c =
     let rem = g.R.Read.remaining in
-    let con = g.W.Write.contents in
+    let con = inner_bytes g.W.Write.contents in
     let r = c.loop-turn.invariant in
     let m = c.in-Ok.ensures.read r.0 r.1 r.2 in
     let text = string_bytes c.read_part.new.sink.out in
     let is : text ≡ records_of c.args.job.layout m.taken = m.over [] c.clear.ensures.bytes ∙ ap (λ (x : Layout). records_of x m.taken) (sym c.requires) in
-    reached_end g.T.Item.item_type c.args.job.layout (rem c.args.reader.now) (rem c.loop-turn.reader) (rem c.read_part.new.reader) (con c.args.out.now) (con c.loop-turn.out) (con c.write_text.new.out)
+    reached_end g.T.Item.item_type c.args.job.layout (rem c.args.reader.now) (rem c.loop-turn.reader) (rem c.read_part.new.reader) (con c.loop-turn.out) (stream g.W.Write.contents c.args.out.now c.write_text.new.out)
     c.loop-turn.parts text r c.read_part.new.self c.in-Ok.ended m is c.in_ok-write_text-in-Ok.ensures.written c.if-ended.true
 
 pub loop-turn-preserved : goal.loop-turn-preserved
 loop-turn-preserved g c =
     let rem = g.R.Read.remaining in
-    let con = g.W.Write.contents in
+    let con = inner_bytes g.W.Write.contents in
     let r = c.loop-turn.invariant in
     let m = c.in-Ok.ensures.read r.0 r.1 r.2 in
     let text = string_bytes c.read_part.new.sink.out in
     let is : text ≡ records_of c.args.job.layout m.taken = m.over [] c.clear.ensures.bytes ∙ ap (λ (x : Layout). records_of x m.taken) (sym c.requires) in
-    reached_more g.T.Item.item_type c.args.job.layout (rem c.args.reader.now) (rem c.loop-turn.reader) (rem c.read_part.new.reader) (con c.args.out.now) (con c.loop-turn.out) (con c.write_text.new.out)
+    reached_more g.T.Item.item_type c.args.job.layout (rem c.args.reader.now) (rem c.loop-turn.reader) (rem c.read_part.new.reader) (con c.loop-turn.out) (stream g.W.Write.contents c.args.out.now c.write_text.new.out)
     c.loop-turn.parts text r c.read_part.new.self c.in-Ok.ended m is c.in_ok-write_text-in-Ok.ensures.written c.if-ended.false
 
 pub returns-in-Err-clause-refused : goal.returns-in-Err-clause-refused
 returns-in-Err-clause-refused g c = λ kind.
     let rem = g.R.Read.remaining in
-    let con = g.W.Write.contents in
+    let con = inner_bytes g.W.Write.contents in
     let r = c.loop-turn.invariant in
     let m = c.in-Err.ensures.refused kind r.0 r.1 r.2 in
     let text = string_bytes c.read_part.new.sink.out in
     let is : text ≡ records_of c.args.job.layout m.2.taken = m.2.over [] c.clear.ensures.bytes ∙ ap (λ (x : Layout). records_of x m.2.taken) (sym c.requires) in
-    reached_refusal g.T.Item.item_type c.args.job.layout (rem c.args.reader.now) (rem c.loop-turn.reader) (rem c.read_part.new.reader) (con c.args.out.now) (con c.loop-turn.out) (con c.write_text-in-Err.new.out)
+    reached_refusal g.T.Item.item_type c.args.job.layout (rem c.args.reader.now) (rem c.loop-turn.reader) (rem c.read_part.new.reader) (con c.loop-turn.out) (stream g.W.Write.contents c.args.out.now c.write_text-in-Err.new.out)
     c.loop-turn.parts text r (Some c.args.job.name.now) c.in-Err.error m is c.in_ok-write_text-in-Err.ensures.written
 
-pub returns-in-Err-clause-begun : goal.returns-in-Err-clause-begun
-returns-in-Err-clause-begun g c =
+pub returns-in-Err-clause-stopped : goal.returns-in-Err-clause-stopped
+returns-in-Err-clause-stopped g c =
     let rem = g.R.Read.remaining in
-    let con = g.W.Write.contents in
-    let r = c.loop-turn.invariant in
     let kind : kind_of c.in-Err.error ≡ Parse = search rules in
-    let m = c.in-Err.ensures.refused kind r.0 r.1 r.2 in
-    let text = string_bytes c.read_part.new.sink.out in
-    let is : text ≡ records_of c.args.job.layout m.2.taken = m.2.over [] c.clear.ensures.bytes ∙ ap (λ (x : Layout). records_of x m.2.taken) (sym c.requires) in
-    up_to_begun g.T.Item.item_type c.args.job.layout (Some c.args.job.name.now) (rem c.args.reader.now) (rem c.read_part.new.reader) (con c.args.out.now) (con c.write_text-in-Err.new.out) c.in-Err.error
-    (reached_refusal g.T.Item.item_type c.args.job.layout (rem c.args.reader.now) (rem c.loop-turn.reader) (rem c.read_part.new.reader) (con c.args.out.now) (con c.loop-turn.out) (con c.write_text-in-Err.new.out)
-    c.loop-turn.parts text r (Some c.args.job.name.now) c.in-Err.error m is c.in_ok-write_text-in-Err.ensures.written)
+    up_to_begun g.T.Item.item_type c.args.job.layout (Some c.args.job.name.now) (rem c.args.reader.now) (rem c.read_part.new.reader) (stream g.W.Write.contents c.args.out.now c.write_text-in-Err.new.out) c.in-Err.error
+    (returns-in-Err-clause-refused g c kind)
 
-pub returns-in-Err-2-clause-begun : goal.returns-in-Err-2-clause-begun
-returns-in-Err-2-clause-begun g c =
+pub returns-in-Err-2-clause-stopped : goal.returns-in-Err-2-clause-stopped
+returns-in-Err-2-clause-stopped g c =
     let rem = g.R.Read.remaining in
-    let con = g.W.Write.contents in
-    reached_begun g.T.Item.item_type c.args.job.layout (rem c.args.reader.now) (rem c.loop-turn.reader) (con c.args.out.now) (con c.loop-turn.out) c.loop-turn.parts c.loop-turn.invariant
+    let out = stream g.W.Write.contents c.args.out.now c.loop-turn.out in
+    stop_known c.in-Err.error c.from.result out.failed (WritesBegun g.T.Item.item_type c.args.job.layout (rem c.args.reader.now) out) c.from.ensures
+    (reached_begun g.T.Item.item_type c.args.job.layout (rem c.args.reader.now) (rem c.loop-turn.reader) out c.loop-turn.parts c.loop-turn.invariant)
 
-pub returns-clause-begun : goal.returns-clause-begun
-returns-clause-begun g c =
+pub returns-clause-stopped : goal.returns-clause-stopped
+returns-clause-stopped g c =
     let rem = g.R.Read.remaining in
-    let con = g.W.Write.contents in
-    reached_begun g.T.Item.item_type c.args.job.layout (rem c.args.reader.now) (rem c.loop-turn.reader) (con c.args.out.now) (con c.loop-turn.out) c.loop-turn.parts c.loop-turn.invariant
+    let out = stream g.W.Write.contents c.args.out.now c.loop-turn.out in
+    reached_begun g.T.Item.item_type c.args.job.layout (rem c.args.reader.now) (rem c.loop-turn.reader) out c.loop-turn.parts c.loop-turn.invariant

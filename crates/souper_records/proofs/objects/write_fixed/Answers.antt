@@ -1,5 +1,6 @@
 use Rattle.std.proofs.Common.{◌≡◌, [], Some, sym, subst}
 use Rattle.souper_format.specs.Streams.{stream}
+use Rattle.souper_format.specs.Watching.{has_failed}
 use Rattle.souper_records.specs.Objects.{WritesObjects}
 use Rattle.souper_records.specs.Outcomes.{WritesPieces, StopsAfter}
 use Rattle.souper_records.proofs.Outcomes.{pieces_mapped, stops_mapped, ok_mapped, err_mapped, objects_wrote}
@@ -7,29 +8,26 @@ use Rattle.souper_records.proofs.objects.write_fixed.Goals as goal
 
 pub returns-clause-written : goal.returns-clause-written
 returns-clause-written g c =
-    let con = g.W.Write.contents in
     let k = g.T.Item.item_type in
     let l = c.args.job.layout in
-    let name = Some c.args.job.name.now in
+    let shown = c.args.job.name.now in
     let before = g.R.Read.remaining c.args.reader.now in
     let after = g.R.Read.remaining c.write_pieces.new.reader in
-    let old = con c.args.out.now in
-    let new = con c.write_pieces.new.out in
+    let out = stream g.W.Write.contents c.args.out.now c.write_pieces.new.out in
     let err = stream g.E.Write.contents c.args.err.now c.write_pieces.new.err in
-    ok_mapped c.write_pieces.result _ (λ refused. WritesPieces k name before after (WritesObjects l.rename (c.args.job.name.now) old new) err refused) (λ refused w.
-    pieces_mapped k name before after _ (WritesObjects l.rename (c.args.job.name.now) old new) err refused (λ os x. subst (λ y. WritesObjects y.rename (c.args.job.name.now) old new os) (sym c.requires)
-    (objects_wrote g.L.Fixed.layout.rename c.args.job.name.now (λ a. a.texts.items ≡ []) _ (λ a b x y o h. h) c.new-objects.result c.write_pieces.new.sink old new os c.new-objects.ensures x)) w) c.write_pieces.ensures.written
+    ok_mapped c.write_pieces.result _ (λ refused. WritesPieces k (Some shown) before after (WritesObjects l.rename shown out) err refused) (λ refused w.
+    pieces_mapped k (Some shown) before after _ (WritesObjects l.rename shown out) err refused (λ os x. subst (λ y. WritesObjects y.rename shown out os) (sym c.requires)
+    (objects_wrote g.L.Fixed.layout.rename shown (λ a. a.texts.items ≡ []) _ (λ a b x y o h. h) c.new-objects.result c.write_pieces.new.sink out os c.new-objects.ensures x)) w) c.write_pieces.ensures.written
 
 pub returns-clause-stopped : goal.returns-clause-stopped
 returns-clause-stopped g c =
-    let con = g.W.Write.contents in
     let k = g.T.Item.item_type in
     let l = c.args.job.layout in
-    let name = Some c.args.job.name.now in
+    let shown = c.args.job.name.now in
     let before = g.R.Read.remaining c.args.reader.now in
-    let old = con c.args.out.now in
-    let new = con c.write_pieces.new.out in
+    let out = stream g.W.Write.contents c.args.out.now c.write_pieces.new.out in
+    let bad = has_failed c.write_pieces.new.out in
     let err = stream g.E.Write.contents c.args.err.now c.write_pieces.new.err in
-    err_mapped c.write_pieces.result _ (λ stop. StopsAfter k name before (WritesObjects l.rename (c.args.job.name.now) old new) err stop) (λ stop s.
-    stops_mapped k name before _ (WritesObjects l.rename (c.args.job.name.now) old new) err stop (λ os x. subst (λ y. WritesObjects y.rename (c.args.job.name.now) old new os) (sym c.requires)
-    (objects_wrote g.L.Fixed.layout.rename c.args.job.name.now (λ a. a.texts.items ≡ []) _ (λ a b x y o h. h) c.new-objects.result x.0 old new os c.new-objects.ensures x.1)) s) c.write_pieces.ensures.stopped
+    err_mapped c.write_pieces.result _ (λ stop. StopsAfter k (Some shown) before (WritesObjects l.rename shown out) bad err stop) (λ stop s.
+    stops_mapped k (Some shown) before _ (WritesObjects l.rename shown out) bad err stop (λ os x. subst (λ y. WritesObjects y.rename shown out os) (sym c.requires)
+    (objects_wrote g.L.Fixed.layout.rename shown (λ a. a.texts.items ≡ []) _ (λ a b x y o h. h) c.new-objects.result x.0 out os c.new-objects.ensures x.1)) s) c.write_pieces.ensures.stopped

@@ -44,5 +44,5 @@ returns-in_ok-write_piece-in-Err-clause-piece g c = λ start ps had.
       };
       any = refl;
       are_written = c.in_ok-write_piece-in-Err.ensures.written c.args.sink.now o c.mark-mark.ensures t.begun.2 refl refl;
-      reported = λ works. (string_bytes c.in-Ok.shown, c.in-Ok.ensures, c.report_line.ensures.given works);
+      reported = λ works. (string_bytes c.in_ok-shown-in-Err.shown, c.in_ok-shown-in-Err.ensures, c.report_line.ensures.given works);
     }

@@ -1,16 +1,18 @@
 use Rattle.std.proofs.Common.{◌≡◌, Bool, ◌||◌, Some, refl, sym, ap, ◌∙◌, subst}
 use Rattle.std.proofs.KnownBytes.{Keeps-refl}
 use Rattle.souper_format.specs.Streams.{stream}
+use Rattle.souper_format.specs.Watching.{has_failed}
 use Rattle.souper_records.specs.declared.each.Stop.TheVariants.{Input}
 use Rattle.souper_records.specs.Outcomes.{StopsAfter, WritesPieces, WroteEach}
 use Rattle.souper_records.proofs.Outcomes.{Reached, wrote_more, reached_none, reached_more, reached_end, stopped_after, reading_kept}
+use Rattle.souper_records.proofs.Writers.{inner_bytes}
 use Rattle.souper_records.proofs.pieces.write_pieces.Goals as goal
 use Rattle.souper_records.proofs.pieces.write_pieces.Goals.{then-any, else-any}
 
 pub loop-turn-init : goal.loop-turn-init
 loop-turn-init g c =
     let start = g.R.Read.remaining c.args.reader.now in
-    let out = g.W.Write.contents c.args.out.now in
+    let out = inner_bytes g.W.Write.contents c.args.out.now in
     let name = c.args.name.now in
     let s = c.args.sink.now in
     record {
@@ -22,7 +24,7 @@ loop-turn-init g c =
 pub returns-in-Ok-None-clause-written : goal.returns-in-Ok-None-clause-written
 returns-in-Ok-None-clause-written g c =
     let rem = g.R.Read.remaining in
-    let con = g.W.Write.contents in
+    let con = inner_bytes g.W.Write.contents in
     let err = g.E.Write.contents in
     let start = rem c.args.reader.now in
     let after = rem c.write_next.new.reader in
@@ -39,21 +41,22 @@ returns-in-Ok-None-clause-written g c =
 pub returns-in-Err-clause-stopped : goal.returns-in-Err-clause-stopped
 returns-in-Err-clause-stopped g c =
     let rem = g.R.Read.remaining in
-    let con = g.W.Write.contents in
+    let con = inner_bytes g.W.Write.contents in
     let err = g.E.Write.contents in
     let start = rem c.args.reader.now in
     let k = g.T.Item.item_type in
     let name = c.args.name.now in
     let wrote = WroteEach (g.S.PieceSink.wrote name) c.args.sink.now (con c.args.out.now) in
     let e = c.in-Err.ensures in
-    subst (λ x. StopsAfter k (Some name) start (λ os. (s : _) × wrote s (con c.write_next.new.out) os) (stream err c.args.err.now x) c.in-Err.stop) (sym e.stopped)
-    (stopped_after k (Some name) start (rem c.loop-turn.reader) (wrote c.loop-turn.sink (con c.loop-turn.out)) (λ os. (s : _) × wrote s (con c.write_next.new.out) os) (stream err c.args.err.now c.loop-turn.err) c.loop-turn.any c.loop-turn.pieces c.in-Err.stop
-    c.loop-turn.invariant.reached (reading_kept (λ x os. (s : _) × wrote s (con x) os) (wrote c.loop-turn.sink (con c.loop-turn.out)) c.loop-turn.out c.write_next.new.out c.in-Err.stop (λ os w. (c.loop-turn.sink, w)) e.unwritten))
+    let bad = has_failed c.write_next.new.out in
+    subst (λ x. StopsAfter k (Some name) start (λ os. (s : _) × wrote s (con c.write_next.new.out) os) bad (stream err c.args.err.now x) c.in-Err.stop) (sym e.stopped)
+    (stopped_after k (Some name) start (rem c.loop-turn.reader) (wrote c.loop-turn.sink (con c.loop-turn.out)) (λ os. (s : _) × wrote s (con c.write_next.new.out) os) bad (stream err c.args.err.now c.loop-turn.err) c.loop-turn.any c.loop-turn.pieces c.in-Err.stop
+    c.loop-turn.invariant.reached (reading_kept (λ x os. (s : _) × wrote s (con x) os) (wrote c.loop-turn.sink (con c.loop-turn.out)) c.loop-turn.out c.write_next.new.out bad c.in-Err.stop (λ os w. (c.loop-turn.sink, w)) e.unwritten))
 
 pub loop-turn-preserved : goal.loop-turn-preserved
 loop-turn-preserved g c =
     let rem = g.R.Read.remaining in
-    let con = g.W.Write.contents in
+    let con = inner_bytes g.W.Write.contents in
     let err = g.E.Write.contents in
     let start = rem c.args.reader.now in
     let k = g.T.Item.item_type in
@@ -81,8 +84,8 @@ loop-turn-preserved g c =
 pub returns-clause-stopped : goal.returns-clause-stopped
 returns-clause-stopped g c =
     let rem = g.R.Read.remaining in
-    let con = g.W.Write.contents in
+    let con = inner_bytes g.W.Write.contents in
     let name = c.args.name.now in
     let wrote = WroteEach (g.S.PieceSink.wrote name) c.args.sink.now (con c.args.out.now) in
-    stopped_after g.T.Item.item_type (Some name) (rem c.args.reader.now) (rem c.loop-turn.reader) (wrote c.loop-turn.sink (con c.loop-turn.out)) (λ os. (s : _) × wrote s (con c.loop-turn.out) os)
+    stopped_after g.T.Item.item_type (Some name) (rem c.args.reader.now) (rem c.loop-turn.reader) (wrote c.loop-turn.sink (con c.loop-turn.out)) (λ os. (s : _) × wrote s (con c.loop-turn.out) os) (has_failed c.loop-turn.out)
     (stream g.E.Write.contents c.args.err.now c.loop-turn.err) c.loop-turn.any c.loop-turn.pieces (Input c.from.result) c.loop-turn.invariant.reached (λ os w. (c.loop-turn.sink, w))

@@ -5,11 +5,12 @@ use Rattle.souper_format.specs.Streams.{stream}
 use Rattle.souper_format.specs.Watching.{has_failed}
 use Rattle.souper_records.specs.Outcomes.{WroteEach}
 use Rattle.souper_records.proofs.Outcomes.{Reached}
+use Rattle.souper_records.proofs.Writers.{inner_bytes}
 use Rattle.souper_records.proofs.pieces.write_pieces.Given as goal
 
 abbrev pub invariant-loop-turn : goal.invariant-loop-turn
 invariant-loop-turn g l = record {
   reached : Reached g.T.Item.item_type (Some l.fn.name) (g.R.Read.remaining l.fn.reader) (g.R.Read.remaining l.reader)
-      (WroteEach (g.S.PieceSink.wrote l.fn.name) l.fn.sink (g.W.Write.contents l.fn.out) l.sink (g.W.Write.contents l.out)) (stream g.E.Write.contents l.fn.err l.err) l.any l.pieces;
+      (WroteEach (g.S.PieceSink.wrote l.fn.name) l.fn.sink (inner_bytes g.W.Write.contents l.fn.out) l.sink (inner_bytes g.W.Write.contents l.out)) (stream g.E.Write.contents l.fn.err l.err) l.any l.pieces;
   stays : has_failed l.fn.err ≡ true → has_failed l.err ≡ true;
 }

@@ -6,7 +6,6 @@ use Rattle.souper_graph.specs.Values.{PlainAssignment, assigned}
 use Rattle.souper_graph.specs.View.{view_rhs, view_attribute}
 use Rattle.souper_ir.specs.Errors.{error_of}
 use Rattle.souper_ir.specs.Parsing.{Parsing}
-use Rattle.souper_ir.proofs.Nodes.Failing.{not_io}
 use Rattle.souper_ir.proofs.Nodes.Statements.{heading_refused, value_refused, attributes_refused, parts_taken, assignment_taken, assignment_refused}
 use Rattle.souper_ir.proofs.Nodes.NextStatements.{no_pc_seen, no_block_pc_seen}
 use Rattle.souper_ir.proofs.Items.Steps.{entered}
@@ -32,25 +31,22 @@ returns-in_err-attributes-clause-err c =
     let p = err_from_is_err_and c.from_residual-in_err-attributes.result c.from_residual-in_err-attributes.ensures.1 in
     let here = c.args.parser.now in
     let e = error_of c.in_err-attributes.field-0.0 in
-    rw (p.1, p.2) (assignment_refused e here here here c.parse.new.parser (no_pc_seen here here c.requires) (no_block_pc_seen here here c.requires)
-    (attributes_refused e (record { name = c.in_ok-name.name.now; ty = c.in_ok-name.ty; value = view_rhs c.in-Ok.value }) here c.entered_heading.new.parser c.rhs.new.parser c.parse.new.parser
-    c.in_ok-name.ensures c.in-Ok.ensures (rw (sym c.in_err-attributes.ensures) at c.parse.ensures.err)))
-
-pub narrow-requires : goal.narrow-requires
-narrow-requires c = not_io _ _ c.parse.result c.rhs.new.parser c.parse.new.parser c.parse.ensures.err
+    rw (p.1, p.2) (assignment_refused e here here here c.attributes.new.parser (no_pc_seen here here c.requires) (no_block_pc_seen here here c.requires)
+    (attributes_refused e (record { name = c.in_ok-name.name.now; ty = c.in_ok-name.ty; value = view_rhs c.in-Ok.value }) here c.entered_heading.new.parser c.rhs.new.parser c.attributes.new.parser
+    c.in_ok-name.ensures c.in-Ok.ensures c.in_err-attributes.ensures.err))
 
 pub define-requires-clause-fresh : goal.define-requires-clause-fresh
 define-requires-clause-fresh c =
     let a : PlainAssignment = record { name = c.in_ok-name.name.now; ty = c.in_ok-name.ty; value = view_rhs c.in-Ok.value; attributes = map view_attribute c.in_ok-attributes.attributes.items } in
-    let t = parts_taken a c.args.parser.now c.entered_heading.new.parser c.rhs.new.parser c.parse.new.parser c.in_ok-name.ensures c.in-Ok.ensures (rw (sym c.in_ok-attributes.ensures) at c.parse.ensures.ok) in
+    let t = parts_taken a c.args.parser.now c.entered_heading.new.parser c.rhs.new.parser c.attributes.new.parser c.in_ok-name.ensures c.in-Ok.ensures c.in_ok-attributes.ensures.ok in
     subst (λ (p : Parsing). position_of p.scope c.in_ok-name.name.now ≡ None) (sym t.state) t.spelled.name_is_new
 
 pub returns-in-Ok-from_str-clause-ok : goal.returns-in-Ok-from_str-clause-ok
 returns-in-Ok-from_str-clause-ok c =
     let here = c.args.parser.now in
     let a : PlainAssignment = record { name = c.in_ok-name.name.now; ty = c.in_ok-name.ty; value = view_rhs c.in-Ok.value; attributes = map view_attribute c.in_ok-attributes.attributes.items } in
-    let t = parts_taken a here c.entered_heading.new.parser c.rhs.new.parser c.parse.new.parser c.in_ok-name.ensures c.in-Ok.ensures (rw (sym c.in_ok-attributes.ensures) at c.parse.ensures.ok) in
+    let t = parts_taken a here c.entered_heading.new.parser c.rhs.new.parser c.attributes.new.parser c.in_ok-name.ensures c.in-Ok.ensures c.in_ok-attributes.ensures.ok in
     on_ok_weaker c.define.result
-    (entered (assigned a) here c.parse.new.parser c.define.new.self
-    (assignment_taken a here here here c.parse.new.parser (no_pc_seen here here c.requires) (no_block_pc_seen here here c.requires) t))
+    (entered (assigned a) here c.attributes.new.parser c.define.new.self
+    (assignment_taken a here here here c.attributes.new.parser (no_pc_seen here here c.requires) (no_block_pc_seen here here c.requires) t))
     (rw c.in-Ok-from_str.ensures.ok at c.define.ensures.ok)

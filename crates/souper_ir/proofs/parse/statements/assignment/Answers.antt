@@ -7,7 +7,6 @@ use Rattle.souper_graph.specs.Syntax.Spelling.{assignment_spells}
 use Rattle.souper_ir.specs.Continuation.{assignment_continues}
 use Rattle.souper_ir.specs.Errors.{error_of}
 use Rattle.souper_ir.specs.Grammar.{Took}
-use Rattle.souper_ir.proofs.Nodes.Failing.{not_io}
 use Rattle.souper_ir.proofs.Nodes.Statements.{heading_refused, value_refused, attributes_refused, parts_taken}
 use Rattle.souper_ir.proofs.parse.statements.assignment.Goals as goal
 
@@ -24,15 +23,12 @@ returns-in_err-value-clause-err c =
 pub returns-in_err-attributes-clause-err : goal.returns-in_err-attributes-clause-err
 returns-in_err-attributes-clause-err c =
     let r = err_from_is_err_and c.from_residual-in_err-attributes.result c.from_residual-in_err-attributes.ensures.1 in
-    rw (r.1, r.2) (attributes_refused (error_of c.in_err-attributes.field-0.0) (record { name = c.in_ok-name.name.now; ty = c.in_ok-name.ty; value = view_rhs c.in_ok-value.value }) c.args.parser.now c.heading.new.parser c.rhs.new.parser c.parse.new.parser
-    c.in_ok-name.ensures c.in_ok-value.ensures (rw (sym c.in_err-attributes.ensures) at c.parse.ensures.err))
+    rw (r.1, r.2) (attributes_refused (error_of c.in_err-attributes.field-0.0) (record { name = c.in_ok-name.name.now; ty = c.in_ok-name.ty; value = view_rhs c.in_ok-value.value }) c.args.parser.now c.heading.new.parser c.rhs.new.parser c.attributes.new.parser
+    c.in_ok-name.ensures c.in_ok-value.ensures c.in_err-attributes.ensures.err)
 
 pub returns-in-Ok-clause-ok : goal.returns-in-Ok-clause-ok
 returns-in-Ok-clause-ok c =
     let a : PlainAssignment = record { name = c.in_ok-name.name.now; ty = c.in_ok-name.ty; value = view_rhs c.in_ok-value.value; attributes = map view_attribute c.in_ok-attributes.attributes.items } in
-    let whole = parts_taken a c.args.parser.now c.heading.new.parser c.rhs.new.parser c.parse.new.parser c.in_ok-name.ensures c.in_ok-value.ensures (rw (sym c.in_ok-attributes.ensures) at c.parse.ensures.ok) in
-    subst (λ (n : List ℕ). Took assignment_spells assignment_continues (λ s. s) (record { name = n; ty = c.in_ok-name.ty; value = view_rhs c.in_ok-value.value; attributes = map view_attribute c.in_ok-attributes.attributes.items }) c.args.parser.now c.parse.new.parser)
+    let whole = parts_taken a c.args.parser.now c.heading.new.parser c.rhs.new.parser c.attributes.new.parser c.in_ok-name.ensures c.in_ok-value.ensures c.in_ok-attributes.ensures.ok in
+    subst (λ (n : List ℕ). Took assignment_spells assignment_continues (λ s. s) (record { name = n; ty = c.in_ok-name.ty; value = view_rhs c.in_ok-value.value; attributes = map view_attribute c.in_ok-attributes.attributes.items }) c.args.parser.now c.attributes.new.parser)
     (sym c.in-Ok.ensures.ok) whole
-
-pub narrow-requires : goal.narrow-requires
-narrow-requires c = not_io _ _ c.parse.result c.rhs.new.parser c.parse.new.parser c.parse.ensures.err

@@ -4,11 +4,12 @@ use Rattle.std.specs.String.{string_bytes}
 use Rattle.std.specs.Io.KnownBytes.{Appends}
 use Rattle.souper_records.specs.Records.{record_of_text}
 use Rattle.souper_records.proofs.Seeing.{WritesNew, keeps_one, on_ok}
+use Rattle.souper_records.proofs.Writers.{inner_bytes}
 use Rattle.souper_records.proofs.uniq.FirstsPieceSink.write_piece.Goals as goal
 
 pub returns-clause-written : goal.returns-clause-written
 returns-clause-written g c = on_ok c.write_texts.result (λ w before o mark took line refusal.
-    let con = g.W.Write.contents in
+    let con = inner_bytes g.W.Write.contents in
     let k = g.T.Item.item_type in
     let l = g.L.Fixed.layout in
     let t = before.seen in

@@ -1,4 +1,4 @@
-use Rattle.std.proofs.Common.{◌≡◌, Option, Some, None, sym, ◌∙◌, ap, subst}
+use Rattle.std.proofs.Common.{◌≡◌, Option, Some, None, refl, sym, ◌∙◌, ap, subst}
 use Rattle.std.specs.Prelude.{is_some, map}
 use Rattle.souper_graph.specs.View.{view_statement}
 use Rattle.souper_graph.specs.Syntax.Spelling.{position_of}
@@ -22,8 +22,20 @@ returns-then-is_some c =
       fails_first (error_of c.fail_at.result) c.args.self.now _ c.fail_at.new.self c.requires (ap (λ (p : Parsing). p.len) c.self.view_is) c.fail_at.ensures,
     )
 
-pub returns : goal.returns
-returns c =
+-- nothing of the name was entered, or what was is not in scope
+pub returns-in-Ok-None : goal.returns-in-Ok-None
+returns-in-Ok-None c =
+    let live = live_inside c.self.inside.failed (subst (λ (p : Parsing). p.failed ≡ None) (sym c.self.view_is) c.requires) in
+    let new = is_new c.self.inside.names.entries (map view_statement c.self.inside.statements) c.args.name.now None (c.self.invariant.names live).entered (sym (sym c.in-Ok-None.field-0-is ∙ c.in-Ok-None.ensures.replaced)) refl in (
+      subst (λ (q : Parsing). new_name_at c.args.name.now c.args.self.now ≡ Some (tt, q)) (sym c.self.view_is)
+          (begun c.args.name.now c.args.self.now (subst (λ (p : Parsing). position_of p.scope c.args.name.now ≡ None) c.self.view_is new)),
+      c.requires,
+      subst (λ (p : Parsing). p.failed ≡ None) (sym c.self.view_is) c.requires,
+      ap (λ (p : Parsing). p.len) c.self.view_is,
+    )
+
+pub returns-else-is_some : goal.returns-else-is_some
+returns-else-is_some c =
     let live = live_inside c.self.inside.failed (subst (λ (p : Parsing). p.failed ≡ None) (sym c.self.view_is) c.requires) in
     let new = is_new c.self.inside.names.entries (map view_statement c.self.inside.statements) c.args.name.now c.in-Ok.replaced (c.self.invariant.names live).entered (sym c.in-Ok.ensures.replaced) (sym (c.if-is_some.ensures ∙ ap (λ (o : Option NameEntry). is_some o) c.in_scope.ensures)) in (
       subst (λ (q : Parsing). new_name_at c.args.name.now c.args.self.now ≡ Some (tt, q)) (sym c.self.view_is)
