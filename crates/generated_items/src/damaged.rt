@@ -1,0 +1,71 @@
+//! Laws of any text: texts of items in which some characters are others.
+use crate::generator::{Generated, Generator};
+use crate::law::{Broken, law};
+use crate::texts::{formatted, joined, streamed};
+use souper_ir::parse::parse_into;
+use std::alloc::Global;
+
+// What is put in.
+const CHARACTERS: &[u8; 41] = b"%%%  \n\n=:,()[;-_.0123456789abdefiklnprsux";
+
+fn damage(alloc: Global, generator: &mut Generator, text: &str) -> Result<String, Broken> {
+    let mut damaged = String::new(alloc);
+    let length = text.len().max(1);
+    let first = generator.below(length);
+    let second = generator.below(length);
+    for (index, c) in text.char_indices() {
+        if index == first || index == second {
+            let other = generator.below(CHARACTERS.len());
+            damaged.push(char::from(CHARACTERS[other]))?;
+        } else {
+            damaged.push(c)?;
+        }
+    }
+    Ok(damaged)
+}
+
+// The offset of a parse error is within the text.
+fn is_placed<T: Generated>(alloc: Global, text: &str) -> Result<(), Broken> {
+    let mut items: Vec<T> = Vec::new(alloc);
+    match parse_into::<T, Vec<T>>(alloc, text, None, &mut items) {
+        Ok(()) => Ok(()),
+        Err(error) => {
+            let within = error.offset().is_some_and(|offset| offset <= text.len());
+            law(
+                alloc,
+                within,
+                "a parse error has an offset within the text",
+                text,
+            )
+        }
+    }
+}
+
+/// Tries the laws of any text on a damaged list.
+pub(crate) fn check<T: Generated>(
+    alloc: Global,
+    generator: &mut Generator,
+    texts: &[String],
+) -> Result<(), Broken> {
+    let all = joined(alloc, texts)?;
+    let text = damage(alloc, generator, all.as_str())?;
+    is_placed::<T>(alloc, text.as_str())?;
+    let whole = formatted::<T>(alloc, text.as_str())?;
+    let stream = streamed::<T>(alloc, generator, text.as_str())?;
+    law(
+        alloc,
+        whole == stream,
+        "a stream is read as its text is",
+        text.as_str(),
+    )?;
+    if let Some(once) = whole {
+        let twice = formatted::<T>(alloc, once.as_str())?;
+        law(
+            alloc,
+            twice == Some(once),
+            "formatting twice is formatting once",
+            text.as_str(),
+        )?;
+    }
+    Ok(())
+}
