@@ -87,6 +87,6 @@ joined_begun l items [] (suc n) = refl
 joined_begun l items (a ∷ fs) zero = refl
 joined_begun l items (a ∷ fs) (suc n) = ap (λ (x : List ℕ). counted_record l items a ++ x) (joined_begun l items fs n)
 
--- those of some first items were written
+-- the first of the records were written
 pub written_begun : (k : ItemType) (l : Layout) (out : Stream) (s : Seen) (items : List Item) (i : ℕ) (last : List ℕ) → HasSeen k l.rename items s → IsWritten l out.before out.after s.texts.keys s.counts.items i last → WritesCountsBegun l items out
 written_begun k l out s items i last h (j, a, w) = (j, subst (IsGiven out) ((λ d. joined l (take j (h.1 d)) (h.2 d)) ∙ joined_begun l items (firsts l.rename [] items) j) a)

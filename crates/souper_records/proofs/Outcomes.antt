@@ -136,7 +136,7 @@ module _ (a b c : Stream) (p : Parts a b c) where
   reported_one [] e r h = λ works. (let l = h (sym p.last ∙ works) in (l.0, (l.0, [], sym (append-nil l.0), l.1, refl), kept_given l.0 r l.2))
   reported_one (d ∷ es) e r h = λ works. (let t = r (worked a b c p works) in let l = h (sym p.last ∙ works) in (t.0 ++ l.0, lines_more (d ∷ es) e t.0 l.0 t.1 l.1, both_given t.0 l.0 t.2 l.2))
 
-  -- then a line of which P holds was
+  -- then a line with the property P was
   pub reported_then : (es : List ParseError) (P : List ℕ → Type 0) → AreReported a es → Reported b P → AreReportedThen c es P
   reported_then [] P r h = λ works. (let l = h (sym p.last ∙ works) in ([], l.0, refl, l.1, kept_given l.0 r l.2))
   reported_then (e ∷ es) P r h = λ works. (let t = r (worked a b c p works) in let l = h (sym p.last ∙ works) in (t.0, l.0, t.1, l.1, both_given t.0 l.0 t.2 l.2))
@@ -308,7 +308,7 @@ kept_pieces k name before after a b c p so_far written refused mapped w quiet = 
   any = w.any;
 }
 
--- A run over pieces has ended. The parts of the output are `first`, for the pieces, and `last`, at the end, those of the reports `a` and `b`.
+-- The end of a run over pieces. The output was written in two parts, `first` for the pieces and then `last`, and so were the reports.
 module _ (k : ItemType) (name : List ℕ) (before after : Option (List ℕ)) (first last out : Stream) (q : Parts first last out) (a b c : Stream) (p : Parts a b c) (done : Type 0) (so_far written known_so_far known : List Outcome → Type 0)
     (mapped : IsGivenNothing last → (os : List Outcome) → so_far os → written os) (known_so : IsGivenNothing last → (os : List Outcome) → known_so_far os → known os) (all : WritesPieces k (Some name) before after written c false → done × IsGivenNothing c) where
   abbrev run : ℕ → Type 0

@@ -73,7 +73,7 @@ abbrev pub AreReported : Stream → List ParseError → Type 0
 AreReported err [] = IsGivenNothing err
 AreReported err (e ∷ es) = err.failed ≡ false → (text : List ℕ) × AreErrorLines (e ∷ es) text × IsGiven err text
 
--- unless the writer has failed, the lines of the errors were written to it, and then a line of which P holds
+-- unless the writer has failed, the lines of the errors were written to it, and then a line with the property P
 abbrev pub AreReportedThen : Stream → List ParseError → (List ℕ → Type 0) → Type 0
 AreReportedThen err es P = err.failed ≡ false → (text : List ℕ) × (line : List ℕ) × AreErrorLines es text × P line × IsGiven err (text ++ line)
 

@@ -26,7 +26,7 @@ IsNamedLine name says line = (line ≡ named_line name says) ⊎ IsMemoryLine li
 abbrev pub IsFaultLine : List ℕ → List ℕ → Type 0
 IsFaultLine name line = ((shown : List ℕ) × (line ≡ named_line name shown)) ⊎ IsMemoryLine line
 
--- unless the writer has failed, a line of which P holds was written to it
+-- unless the writer has failed, a line with the property P was written to it
 abbrev pub Reported : Stream → (List ℕ → Type 0) → Type 0
 Reported err P = err.failed ≡ false → (line : List ℕ) × P line × IsGiven err line
 

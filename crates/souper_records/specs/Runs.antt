@@ -19,7 +19,7 @@ use Rattle.souper_records.specs.Objects.{WritesObjects, WritesAllObjects}
 use Rattle.souper_records.specs.Outcomes.{Outcome, refusals_of, AreReported, AreReportedThen, WritesPieces, ReadsPieces, OfItems, WritesRecords}
 use Rattle.souper_records.specs.Reports.{IsMemoryLine, IsFaultLine, Reported, ReportedMemory, ReportedFault, ReportedError}
 
--- a fact for each status, of which there are four
+-- a fact for each of the four statuses
 abbrev pub OnStatus : ℕ → Type 0 → Type 0 → Type 0 → Type 0 → Type 0
 OnStatus zero done refused stopped unread = done
 OnStatus (suc zero) done refused stopped unread = refused
@@ -39,7 +39,7 @@ EndsWithFault fault err status = ((error_kind fault ≡ BrokenPipe) × (status �
 abbrev pub EndsWithOutput : Stream → Stream → ℕ → Type 0
 EndsWithOutput out err status = (out.failed ≡ true) × ((fault : Error) × EndsWithFault fault err status)
 
--- the output was flushed, and the status is that of what was done before; or it has failed
+-- the output was flushed, and the status is `done`; or the output has failed
 abbrev pub IsEnd : ℕ → Stream → Stream → ℕ → Type 0
 IsEnd done out err status = ((status ≡ done) × IsGivenNothing out × IsGivenNothing err) ⊎ EndsWithOutput out err status
 
@@ -54,7 +54,7 @@ abbrev pub IsPiecesEnd : List ℕ → Result Bool Stop → Stream → Stream →
 IsPiecesEnd name (Ok refused) out err status = IsEnd (if refused then 1 else 0) out err status
 IsPiecesEnd name (Err stop) out err status = IsGivenNothing out × IsStop name stop err status
 
--- Why a run stopped with status 2, and the line that was written last: a read failed or memory ran out, and `known` holds of what was
+-- Why a run stopped with status 2, and the line that was reported last: a read failed or memory ran out, and `known` says what was
 -- written; or the output has failed.
 abbrev pub HasStopped : List ℕ → Type 0 → Stream → ((List ℕ → Type 0) → Type 0) → Type 0
 HasStopped name known out reported = (known × (reported (IsFaultLine name) ⊎ reported IsMemoryLine))
@@ -70,7 +70,7 @@ IsEachRun k l name before after out err status = OnStatus status
     (HasStopped name (WritesBegun k l before out) out (Reported err))
     ((out.failed ≡ true) × IsGivenNothing err)
 
--- What the status of a run that goes on after refusals says: 0, no piece is refused, and nothing was reported; 1, pieces are refused;
+-- What the status of a run that recovers from refusals says: 0, no piece is refused, and nothing was reported; 1, pieces are refused;
 -- 2, the run has stopped after some pieces, and that was reported after their refusals: unless the output has failed, their outcomes
 -- were written; 141, the output is a pipe that nobody reads, and the refusals so far were reported.
 abbrev pub IsPiecesRun : ItemType → List ℕ → Option (List ℕ) → Option (List ℕ) → Type 0 → (List Outcome → Type 0) → (List Outcome → Type 0) → Stream → Stream → ℕ → Type 0

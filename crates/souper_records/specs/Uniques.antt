@@ -77,7 +77,7 @@ pub record WritesFirstsUpTo (k : ItemType) (l : Layout) (earlier : List Item) (f
   pub seen_now : HasSeen k l.rename (earlier ++ items) seen
   pub placed : length read + 1 < 2 ^ 64 → (offset : ℕ) × (offset ≤ length read) × IsRefusalAt file read offset e
 
--- the same holds of items that the stream begins with, but for what was seen
+-- Of items that the stream begins with, those that are the same as no earlier one had their records written, and nothing else.
 pub record WritesFirstsBegun (k : ItemType) (l : Layout) (earlier : List Item) (before : Option (List ℕ)) (out : Stream) : Type 0 where
   pub read : List ℕ
   pub after : Option (List ℕ)
@@ -112,6 +112,6 @@ counted_record l items a = count_line (count_of (text_by l.rename) items a) ++ r
 abbrev pub counted_records : Layout → List Item → List ℕ
 counted_records l items = flat_map (counted_record l items) (firsts l.rename [] items)
 
--- those of some first items, in order from the first on, were written, and nothing else
+-- the first of these records were written, each whole, and nothing else
 abbrev pub WritesCountsBegun : Layout → List Item → Stream → Type 0
 WritesCountsBegun l items out = (n : ℕ) × IsGiven out (flat_map (counted_record l items) (take n (firsts l.rename [] items)))

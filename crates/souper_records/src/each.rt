@@ -110,7 +110,7 @@ fn each_fixed<L: Fixed, T: StreamItem + Drop, R: BufRead, W: Write>(
 
 /// Writes the record of each item of the stream, in order, part by part ([`PartReader`], with 64 KiB).
 ///
-/// `name` is that of the stream, which a refusal shows. After an error of the input, and if memory ran out, what was written is the
+/// `name` is the stream's name, which a refusal shows. After an error of the input, and if memory ran out, what was written is the
 /// records of items that the stream begins with. After an error of the output `out` has failed, and nothing is known of what was
 /// written.
 pub fn each<T: StreamItem + Drop, R: BufRead, W: Write>(

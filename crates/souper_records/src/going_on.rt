@@ -41,7 +41,7 @@ fn each_fixed<L: Fixed, T: StreamItem + Drop, R: BufRead, W: Write, E: Write>(
 /// Writes the record of each item of the stream, in order, piece by piece ([`PieceReader`](souper_stream::PieceReader)), and returns whether a piece was refused.
 /// Of a refused piece the records of items that it begins with are written, and the refusal is written to `err`, with a newline.
 ///
-/// `name` is that of the stream, which a refusal shows. No error is a refusal. After an error of the input, and if memory ran out, this
+/// `name` is the stream's name, which a refusal shows. No error is a refusal. After an error of the input, and if memory ran out, this
 /// was done with pieces that the stream begins with. After an error of the output `out` has failed, and nothing is known of what was
 /// written to it.
 pub fn each_going_on<T: StreamItem + Drop, R: BufRead, W: Write, E: Write>(

@@ -172,8 +172,8 @@ fn uniq_fixed<L: Fixed, T: StreamItem + Drop, R: BufRead, W: Write>(
 /// Writes the record of each item of the stream that is the same graph as no earlier one, of this stream or of those before: of
 /// each graph the first item, in order. With a layout that renames, items that differ in names alone are the same.
 ///
-/// `seen` is passed from stream to stream of one type and one layout: it has the texts of the items so far, in memory. `name` is
-/// that of the stream, which a refusal shows. After an error of the input, and if memory ran out, this was done with items that the
+/// `seen` is passed from stream to stream of one type and one layout: it has the texts of the items so far, in memory. `name` is the
+/// stream's name, which a refusal shows. After an error of the input, and if memory ran out, this was done with items that the
 /// stream begins with. After an error of the output `out` has failed, and nothing is known of what was written. After an error that is
 /// no refusal nothing is known of `seen`, which is not to be used again.
 pub fn uniq<T: StreamItem + Drop, R: BufRead, W: Write>(

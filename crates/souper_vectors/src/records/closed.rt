@@ -51,7 +51,7 @@ enum Run {
     UniqGoingOn,
 }
 
-// The run reports this, and its status is that of a broken pipe.
+// The run reports this, and its status is `BROKEN_PIPE`.
 fn is_told(rt: &impl Abort, alloc: Global, run: Run, room: usize, want: &str) {
     let mut reader = BufReader::with_capacity(alloc, 3, SOURCE).expect(rt, "memory");
     let mut seen = Seen::new(alloc);

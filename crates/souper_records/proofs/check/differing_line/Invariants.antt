@@ -1,4 +1,4 @@
--- The texts are the same up to the index, and the line is that of the byte there.
+-- The texts are the same up to the index, and the byte there is on this line.
 use Rattle.std.proofs.Common.{◌≡◌, ◌+◌, ◌≤◌, length, take}
 use Rattle.souper_ir.specs.Places.{newlines}
 use Rattle.souper_records.proofs.check.differing_line.Given as goal
