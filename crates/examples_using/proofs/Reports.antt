@@ -1,4 +1,4 @@
--- What is written of a list that was read, and of a refusal.
+-- The lines written for a list of items, and for a refusal.
 use lib.ListN.{length-map}
 use Rattle.std.proofs.Common.{◌≡◌, ◌≤◌, ℕ, List, [], ◌∷◌, ◌++◌, map, length, codes, decimal, Option, Some, unwrap_or, inl, inr, refl, ap, sym, ◌∙◌, subst}
 use Rattle.std.specs.Prelude.{Result, Ok, Err, IfOk, IfSome}

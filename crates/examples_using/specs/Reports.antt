@@ -1,4 +1,4 @@
--- Definitions. What is reported of a text of left-hand sides.
+-- Definitions. The report on a text of left-hand sides.
 use Rattle.std.specs.Prelude.{◌≡◌, ◌⊎◌, ℕ, List, ◌∷◌, ◌++◌, length, codes, decimal, Some}
 use Rattle.souper_graph.specs.Values.{Item}
 use Rattle.souper_graph.specs.Syntax.Spelling.{TextSpells, SpellsNone, left_hand_side}

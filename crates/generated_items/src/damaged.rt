@@ -5,7 +5,7 @@ use crate::texts::{formatted, joined, streamed};
 use souper_ir::parse::parse_into;
 use std::alloc::Global;
 
-// What is put in.
+// The bytes to insert.
 const CHARACTERS: &[u8; 41] = b"%%%  \n\n=:,()[;-_.0123456789abdefiklnprsux";
 
 fn damage(alloc: Global, generator: &mut Generator, text: &str) -> Result<String, Broken> {

@@ -1,4 +1,4 @@
-//! What is reported when a law is broken.
+//! The report of a broken law.
 use souper_ir::parse::ParseError;
 use souper_ir::stringify::TextError;
 use std::alloc::{AllocError, AllocFailed, Global};

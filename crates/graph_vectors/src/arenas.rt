@@ -23,7 +23,7 @@ fn variables(rt: &impl Abort, alloc: Global, names: &[&str]) -> Arena<Statement>
     statements
 }
 
-// The id is that of the position, and the item is there.
+// The id has this position, and the item is there.
 fn has_item(rt: &impl Abort, arena: &Arena<u8>, id: Id<u8>, position: usize, item: u8) {
     equal(rt, id.index(), position);
     equal(rt, arena.get(id).copied(), Some(item));
@@ -222,7 +222,7 @@ fn hash_of<T: Hash>(value: &T) -> u64 {
     hasher.finish()
 }
 
-// The hashes of the first are the same, and not that of the other.
+// The first have one hash, and the other has another.
 fn hashes_differ<T: Hash>(rt: &impl Abort, first: &T, again: &T, other: &T) {
     let hash = hash_of(first);
     equal(

@@ -254,7 +254,7 @@ fn values_are_got_by_their_id(rt: HostRuntime) {
     is_text(&rt, own_name_in_cand(&rt, rt.alloc(), "%x.2"), "%x.2");
 }
 
-// What is shown for `{:?}` is not specified, but that something is.
+// The text of `{:?}` is not specified, but it is not empty.
 fn has_debug_text<T: Debug>(rt: &impl Abort, alloc: Global, value: &T) {
     let shown = format!(in alloc; "{value:?}").expect(rt, "memory");
     equal(rt, shown.is_empty(), false);

@@ -119,7 +119,7 @@ fn root_attributes_are_shown(rt: HostRuntime) {
     root_attribute_is(&rt, rt.alloc(), harvested, "(harvestedFromUse)");
 }
 
-// The node's text is appended to what `out` holds, and is that of the node.
+// The node's own text is appended after the content of `out`.
 fn displays<N: DisplayWithContext>(
     rt: &impl Abort,
     alloc: Global,

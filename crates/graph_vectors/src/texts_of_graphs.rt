@@ -209,7 +209,7 @@ fn statement_that_uses_itself_has_a_text(rt: HostRuntime) {
     item_is(&rt, rt.alloc(), item, "%0 = add %0, 1\ninfer %0\n", false);
 }
 
-// The item is not well formed, has a text that ends so, and so many needed statements.
+// The item is not well formed; its text has this end, and its needed statements have this number.
 fn ends_with(rt: &impl Abort, item: &LeftHandSide, end: &str, statements: usize) {
     equal(rt, item.is_well_formed().expect(rt, "memory"), false);
     equal(

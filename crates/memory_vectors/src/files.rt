@@ -19,7 +19,7 @@ use std::process::Abort;
 use std::rt::Files;
 use std::test::Fail;
 
-// The error is out of memory, or that of a read that failed.
+// The error is out of memory, or a failed read.
 fn is_for_memory(rt: &impl Abort, alloc: Global, error: &ParseError) -> Result<Met, Fail> {
     if error.kind() != ParseErrorKind::Io {
         return is_out_of_memory(rt, alloc, error);
@@ -149,7 +149,7 @@ fn compare<R: Files + AllocGlobal + Abort>(
     Ok(met)
 }
 
-// Whether the array has the line of out of memory, or begins with that of a read that failed.
+// Whether the array has the line of out of memory, or begins with the line of a failed read.
 fn is_line_for_memory(array: &[u8]) -> bool {
     holds(array, b"out of memory\n") || array.starts_with(b"IO error: ")
 }

@@ -67,7 +67,7 @@ pub enum Call {
     ConditionOnPredecessor,
 }
 
-/// The lines of a builder of a block with two predecessors and three conditions, and that of the call.
+/// The lines of a builder of a block with two predecessors and three conditions, and the call's line.
 pub fn lines(call: Call) -> [&'static str; 5] {
     let line = match call {
         Call::NamedAssignment => "%x:i8 = var\n",

@@ -27,7 +27,7 @@ const KEYED: Layout = Layout {
 // Two items of one graph.
 const TWICE: &[u8] = b"%a = var\n%b = var\ninfer %b\n\n%b = var\ninfer %b\n";
 
-// What is wanted was done, or memory ran out, after the records or none of them were written.
+// The run succeeded, or memory ran out after all records or none of them were written.
 fn did(rt: &impl Abort, status: u8, written: &[u8], reported: &[u8], want: Want<'_>) {
     if status == want.status {
         wrote(rt, written, want.records);

@@ -181,7 +181,7 @@ fn single_attributes_are_parsed(rt: HostRuntime) {
     );
 }
 
-// What is shown of the next attributes.
+// The text of the next attributes.
 fn next_attributes(rt: &impl Abort, alloc: Global, parser: &mut Parser<'_>) -> String {
     let attributes = <Vec<Attribute>>::parse(parser).expect(rt, "a value");
     format!(in alloc; "{attributes:?}").expect(rt, "memory")
@@ -423,7 +423,7 @@ fn kinds_are_copied(rt: HostRuntime) {
     );
 }
 
-// What is shown for `{:?}` is not specified, but that something is.
+// The text of `{:?}` is not specified, but it is not empty.
 #[test]
 fn parsers_have_a_debug_text(rt: HostRuntime) {
     let parser = Parser::new(rt.alloc(), "infer %x");

@@ -5,7 +5,7 @@ use std::alloc::Global;
 use std::fmt::Write;
 use std::process::Abort;
 
-// The offset and the content of each token, a line each; after the last one those of the fault, if there is one.
+// The offset and the content of each token, a line each, and last the offset and the content of the fault, if there is one.
 fn listed(rt: &impl Abort, alloc: Global, source: &str) -> String {
     let mut lexer = Lexer::new(source);
     let mut lines = String::new(alloc);

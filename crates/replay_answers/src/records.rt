@@ -42,7 +42,7 @@ fn read_kind(word: &str) -> Option<Kind>
     }
 }
 
-// Whether the status is that of a text that is refused.
+// Whether the status means that the text is refused.
 fn read_status(word: &str) -> Option<bool>
     ensures { result ≡ is_refused_by_word word.now }
 {
@@ -53,7 +53,7 @@ fn read_status(word: &str) -> Option<bool>
     }
 }
 
-// What is before the first space, and what is after it.
+// The parts before and after the first space.
 #[tactic(auto, using(std::proofs::lemmas::Str::Pattern::split_parts))]
 fn take_word(line: &str) -> Option<(&str, &str)>
     ensures { IfSome result (λ taken. line.now ≡ taken.0.now ++ 32 ∷ taken.1.now) }
@@ -80,7 +80,7 @@ fn read_head(line: &str) -> Option<Head>
     })
 }
 
-// The first `len` bytes as text, and what is after the newline that follows them.
+// The first `len` bytes as text, and the rest after the newline that follows them.
 fn take_text(bytes: &[u8], len: usize) -> Option<(&str, &[u8])>
     ensures { IfSome result (λ taken. bytes.now ≡ taken.0.now ++ 10 ∷ taken.1.now) }
 {

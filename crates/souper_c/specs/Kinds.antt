@@ -9,10 +9,10 @@ type_of_number (suc zero) = Some right_hand_side
 type_of_number (suc (suc zero)) = Some replacement
 type_of_number _ = None
 
--- the number is that of a type
+-- the number stands for a type
 abbrev pub IsKind : ℕ → Type 0
 IsKind kind = type_of_number kind ≢ None
 
--- the number is that of a type, and the fact holds of the type
+-- the number stands for a type, and the type has the property
 abbrev pub OfType : ℕ → (ItemType → Type 0) → Type 0
 OfType kind fact = IsSomeAnd (type_of_number kind) fact

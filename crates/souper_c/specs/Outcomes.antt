@@ -44,12 +44,12 @@ WritesTexts kind source o old new =
 abbrev pub WritesRefusal : ℕ → List ℕ → SouperOutcome → List ℕ → List ℕ → Type 0
 WritesRefusal kind source o old new = (shown : List ℕ) × IsRefused kind source o shown × BeginsWith old new shown
 
--- the text is what is written for the source: canonical texts, or a refusal
+-- the text is the source's output: canonical texts, or a refusal
 abbrev pub IsAnswer : ℕ → List ℕ → List ℕ → Type 0
 IsAnswer kind source text =
     FormatsTo kind source text ⊎ ((offset : ℕ) × (line : ℕ) × (column : ℕ) × IsRefusedAt kind source offset line column text)
 
--- the buffer is shorter than what is written for the source, whose length the outcome has
+-- the buffer is shorter than the source's output, whose length the outcome has
 abbrev pub IsShort : ℕ → List ℕ → SouperOutcome → List ℕ → Type 0
 IsShort kind source o old = (length old < o.length) × ((text : List ℕ) × IsAnswer kind source text × (o.length ≡ length text))
 

@@ -84,11 +84,11 @@ pub extern "C" fn souper_format(
 
 /// Whether `text` is canonical: the canonical text of each item that it spells, a newline after each.
 ///
-/// The kinds and the statuses 2, 3 and 4 are those of [`souper_format`]. Else the status is
+/// The kinds and the statuses 2, 3 and 4 are as for [`souper_format`]. Else the status is
 ///
 /// - 0, yes.
 /// - 6, no: the text spells such items, and their canonical texts are other bytes.
-/// - 1, refused: the text spells no list of such items; `offset`, `line` and `column` are those of its refusal.
+/// - 1, refused: the text spells no list of such items; `offset`, `line` and `column` locate the refusal.
 ///
 /// With these three `length` is the number of bytes that [`souper_format`] would write.
 #[unsafe(no_mangle)]
@@ -118,12 +118,12 @@ pub extern "C" fn souper_check(alloc: Global, kind: u32, text: &[u8]) -> SouperO
 /// other list.
 ///
 /// Two items are the same graph if and only if they have the same canonical text. The kinds and the statuses 2 and 3
-/// are those of [`souper_format`]. Else the status is
+/// are as for [`souper_format`]. Else the status is
 ///
 /// - 0, yes.
 /// - 6, no.
-/// - 1, refused: the text of number `input`, 0 or 1, spells no list of such items; `offset`, `line` and `column` are
-///   those of its refusal, and `length` is the number of bytes that [`souper_format`] would write for it.
+/// - 1, refused: the text of number `input`, 0 or 1, spells no list of such items; `offset`, `line` and `column`
+///   locate its refusal, and `length` is the number of bytes that [`souper_format`] would write for it.
 /// - 4: the text of number `input` is not UTF-8.
 ///
 /// The second text is looked at after the first was read: if the first spells items and the second is not UTF-8, the status is

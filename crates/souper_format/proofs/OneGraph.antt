@@ -1,5 +1,5 @@
--- Lemmas. Items with one text are one graph; what is formatted spells the renumbered items, and stays when it is
--- formatted again.
+-- Lemmas. Items with one text are one graph; formatted text spells the renumbered items, and does not change
+-- when it is formatted again.
 use Rattle.std.proofs.Common.{◌≡◌, ℕ, List, [], ◌∷◌, ◌++◌, map, refl, sym, ◌∙◌, ap, subst}
 use Rattle.std.proofs.lemmas.List.{append_cancel_right}
 use Rattle.std.specs.Prelude.{bytes_eq, IsTrue}

@@ -1,4 +1,4 @@
--- Definitions. What is written for a text.
+-- Definitions. The output for a text.
 use Rattle.std.specs.Prelude.{◌≡◌, ◌↔◌, ℕ, List, map}
 use Rattle.souper_graph.specs.Values.{Item}
 use Rattle.souper_graph.specs.Text.{texts_of}

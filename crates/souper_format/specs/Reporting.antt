@@ -20,7 +20,7 @@ fault_line shown = codes "IO error: " ++ shown ++ codes "\n"
 abbrev pub ReportedFault : Stream → Type 0
 ReportedFault err = err.failed ≡ false → ((shown : List ℕ) × IsGiven err (fault_line shown)) ⊎ IsGiven err memory_line
 
--- the bytes are what is shown of the error, if that is known
+-- the bytes are the text of the error, if that text is known
 abbrev pub IsShown : ParseError → List ℕ → Type 0
 IsShown e bytes = IfSome (shown_error e) (λ shown. bytes ≡ shown)
 

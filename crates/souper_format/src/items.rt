@@ -32,7 +32,7 @@ pub enum Items {
 
 /// The items of the kind that the text spells.
 ///
-/// The error is that of the parser of the kind: the text spells no list of such items, or memory ran out. It shows
+/// The error comes from the parser of the kind: the text spells no list of such items, or memory ran out. It shows
 /// `filename` as the name of the text. A text of white space and comments alone has no items, and never runs out of
 /// memory.
 pub fn read_items(
@@ -68,7 +68,7 @@ pub fn read_items(
 ///
 /// An item is printed when it has been read, and then dropped. Formatting is idempotent: the text spells the items with
 /// their needed statements in printed order, and formatting it again returns the same text. The text of white space and
-/// comments alone is empty, and never runs out of memory. The errors are those of [`read_items`].
+/// comments alone is empty, and never runs out of memory. This call fails like [`read_items`].
 pub fn format_text(
     alloc: Global,
     kind: Kind,

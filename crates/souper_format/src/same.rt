@@ -20,7 +20,7 @@ use std::alloc::{AllocError, Global};
 /// not matter, nor do statements that no root and no path condition needs. Two items are the same graph if and only if
 /// they have the same canonical text, so texts are compared.
 ///
-/// Each item must be well formed, as those of [`read_items`](crate::items::read_items) are. The error is out of memory.
+/// Each item must be well formed, as the items from [`read_items`](crate::items::read_items) are. The error is out of memory.
 pub fn same(alloc: Global, a: &Items, b: &Items) -> Result<bool, AllocError>
     requires formed { AllByRecursion WellFormed (view_items a.now) }
     requires other_formed { AllByRecursion WellFormed (view_items b.now) }

@@ -1,4 +1,4 @@
--- An instruction as a constructor of its operands: what is proved for each number of operands holds of every instruction.
+-- An instruction as a constructor of its operands: a property proved for each number of operands holds of every instruction.
 use Rattle.std.proofs.Common.{◌≡◌, ℕ, List, [], ◌∷◌, true, refl}
 use Rattle.souper_graph.specs.declared.ast.operands.Operand.{Operand}
 use Rattle.souper_graph.specs.declared.ast.instructions.Instruction.{Instruction}

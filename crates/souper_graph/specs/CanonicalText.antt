@@ -50,7 +50,7 @@ condition_lines ss (assigned a ∷ us) = condition_lines ss us
 condition_lines ss (condition p ∷ us) = text_of_statement ss (condition p) ∷ condition_lines ss us
 condition_lines ss (block_condition p ∷ us) = text_of_statement ss (block_condition p) ∷ condition_lines ss us
 
--- the canonical text begins with lines among which are those of all path conditions, in the order in which the item has
+-- the canonical text begins with lines that include the lines of all path conditions, in the order in which the item has
 -- them
 pub record HasConditionLines (a : Item) : Type 0 where
   pub lines : List (List ℕ)

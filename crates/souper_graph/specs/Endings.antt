@@ -1,4 +1,4 @@
--- Lemmas. The last lines of each type are those of its type of item.
+-- Lemmas. A value of each type has the last lines of its type of item.
 use Rattle.souper_graph.specs.declared.ast.items.Replacement.{Replacement}
 use Rattle.souper_graph.specs.declared.ast.items.Replacement.TheVariants.{LhsRhs, Cand}
 use Rattle.souper_graph.specs.View.{view_replacement}

@@ -27,7 +27,7 @@ IsBlock (Some (assigned a)) = IsBlockRhs a.value
 IsBlock (Some (condition p)) = ⊥
 IsBlock (Some (block_condition p)) = ⊥
 
--- what is at the position is what the use asks for
+-- the statement at the position is of the kind that the use asks for
 abbrev pub IsMet : List PlainStatement → Use → Type 0
 IsMet ss (value_use i) = IsAssigned (slice_get ss i)
 IsMet ss (block_use i) = IsBlock (slice_get ss i)

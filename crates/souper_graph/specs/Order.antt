@@ -3,7 +3,7 @@ use Rattle.std.specs.Prelude.{◌≡◌, ℕ, zero, suc, ◌+◌, ◌-◌, ◌^�
 use Rattle.souper_graph.specs.Values.{PlainStatement, Item}
 use Rattle.souper_graph.specs.Uses.{Has, used_at, first_walks, walks_of}
 
--- the unfolding of p to a depth: those of its uses below it, in order, and then p
+-- the unfolding of p to a depth: the unfoldings of its uses below it, in order, and then p
 abbrev pub unfold_to : List PlainStatement → ℕ → ℕ → List ℕ
 unfold_to ss zero p = []
 unfold_to ss (suc n) p = flat_map (unfold_to ss n) (filter (λ u. nat_lt u p) (used_at ss p)) ++ p ∷ []
@@ -34,7 +34,7 @@ abbrev pub use_below : List PlainStatement → List ℕ → Bool
 use_below ss [] = true
 use_below ss (i ∷ is) = are_below i (used_at ss i) && use_below ss is
 
--- Each needed statement uses positions below it alone. If those of the printed order do, it has all that are needed.
+-- Each needed statement uses positions below it alone. If the statements of the printed order do, it has all needed ones.
 abbrev pub uses_below : Item → Bool
 uses_below a = use_below a.statements (printed_order a)
 

@@ -10,7 +10,7 @@ abbrev pub Has : {A : Type 0} → List A → A → Type 0
 Has [] i = ⊥
 Has (x ∷ xs) i = (x ≡ i) ⊎ Has xs i
 
--- a use of a position, as that of a value or of a block
+-- a use of a position, as a value or as a block
 pub data Use : Type 0 where
   value_use : ℕ → Use
   block_use : ℕ → Use

@@ -1,4 +1,4 @@
--- Definitions. What the walks over a graph visit: its roots, its path conditions, and what is reachable from these.
+-- Definitions. The walks over a graph visit its roots, its path conditions, and the statements reachable from these.
 use Rattle.std.specs.Prelude.{◌≡◌, ℕ, ◌<◌, ◌≤◌, ◌++◌, length, List, map, slice_get}
 use Rattle.souper_graph.specs.declared.stringify.errors.TextError.{TextError}
 use Rattle.souper_graph.specs.declared.stringify.errors.TextError.TheVariants.{OutOfRange, NotAnAssignment, NotABlock, OutOfMemory}
@@ -17,13 +17,13 @@ abbrev pub target_of : Use → Target
 target_of (value_use i) = Value i
 target_of (block_use i) = Block i
 
--- what is at the position is what the target asks for
+-- the statement at the position is of the kind that the target asks for
 abbrev pub IsMetTarget : List PlainStatement → Target → Type 0
 IsMetTarget ss (Value i) = IsAssigned (slice_get ss i)
 IsMetTarget ss (Block i) = IsBlock (slice_get ss i)
 IsMetTarget ss (Condition i) = i < length ss
 
--- the error says what is wrong with the target, or is out of memory
+-- the error states the fault of the target, or is out of memory
 abbrev pub IsFaultAt : List PlainStatement → Target → TextError → Type 0
 IsFaultAt ss t (OutOfRange i) = (position_of_target t ≡ i) × (length ss ≤ i)
 IsFaultAt ss t (NotAnAssignment i) = (t ≡ Value i) × (i < length ss) × ¬ IsAssigned (slice_get ss i)

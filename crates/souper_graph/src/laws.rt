@@ -88,7 +88,7 @@ pub fn law_of_item_types()
 /// - `same_graph`: items that are the same graph have the same canonical text, so it depends neither on unneeded
 ///   statements nor on the arena order of assignments. `unneeded` says it of items whose needed statements keep their
 ///   positions, `rearranged` of items that have the same statements in another order.
-/// - `types`: the last lines of each type of value are those of its type of item.
+/// - `types`: a value of each type has the last lines of its type of item.
 pub fn law_of_canonical_texts()
     ensures reads_back { (k : ItemType) (items : List PlainItem) → AreWellFormed k items → TextSpells k (texts_of items) (map renumbered items) }
     ensures again { (a : PlainItem) → WellFormed a → text_of (renumbered a) ≡ text_of a }

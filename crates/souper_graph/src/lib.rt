@@ -1,7 +1,7 @@
 //! Souper IR as values: the nodes of the syntax tree, and their text.
 //!
 //! Souper IR is the text format of the superoptimizer [Souper](https://github.com/google/souper): left-hand sides,
-//! right-hand sides and replacements over a graph of integer operations, most of them those of the
+//! right-hand sides and replacements over a graph of integer operations, most of them defined in the
 //! [LLVM language reference](https://llvm.org/docs/LangRef.html). The crate `souper_ir` reads it, and re-exports `ast` and
 //! `stringify`.
 //!

@@ -105,7 +105,7 @@ abbrev pub ShowsFault : {W : Type 0} → (W → List ℕ → W → Type 0) → F
 ShowsFault took f r g = IsOk r →
     (shown : List ℕ) × WritesOnOk took f r (codes "IO error: " ++ shown) g × WritesStyledOnOk took f r (codes "IO error: " ++ shown) g
 
--- the place is that of the offset in the source, which has that file name
+-- the offset has this place in the source, which has that file name
 abbrev pub IsPlaceIn : Option (List ℕ) → List ℕ → ℕ → Place → Type 0
 IsPlaceIn file source offset place =
     (option_map string_bytes place.file ≡ file) × IsPlace source offset place.line place.column (string_bytes place.text)
@@ -134,14 +134,14 @@ IsLocated file source old new = OnKind (kind_of old)
     (IfSome (offset_of old) (λ offset. (kind_of new ≡ Memory) ⊎ IsRefusalAt file source offset new))
     (new ≡ old)
 
--- the text is whole lines, of so many bytes and so many lines
+-- the text is whole lines, with the given numbers of bytes and of lines
 pub record IsBefore (before : Before) (text : List ℕ) : Type 0 where
   pub lines : IsLines text
   pub bytes_are : length text ≡ before.bytes
   pub lines_are : newlines text ≡ before.lines
 
 -- what became of a refusal at that offset of the source, before which other lines come: it shows its place in these lines and
--- the source together, or memory ran out for that. The place of an offset is that of the byte before it, which must be there.
+-- the source together, or memory ran out for that. The place of an offset is the place of the byte before it, which must be there.
 abbrev pub IsPlacedAfter : Option (List ℕ) → Before → List ℕ → ℕ → ParseError → Type 0
 IsPlacedAfter file before source offset new = (kind_of new ≡ Memory) ⊎ ((text : List ℕ) → IsBefore before text → (0 < offset) ⊎ (text ≡ [])
     → length (text ++ source) + 1 < 2 ^ 64 → IsRefusalAt file (text ++ source) (length text + offset) new)
@@ -159,7 +159,7 @@ abbrev pub cause_of_read : ReadError → Cause
 cause_of_read (RefusedRead refusal) = ParseCause refusal
 cause_of_read MemoryRead = MemoryCause
 
--- the error that a caller of the parser gets for that of a reader
+-- the error that a caller of the parser gets for a reader's error
 abbrev pub error_of : ReadError → ParseError
 error_of e = record { cause = cause_of_read e }
 

@@ -58,7 +58,7 @@ Comes Is p = (t : Lexeme) × IsRead (look_at p) (Some t) p p × Is t
 
 -- ---- lists of values
 
--- P holds of a prefix of the tokens, Q of the rest, and the rest begins with no token that goes on
+-- P holds of a prefix of the tokens, Q of the rest, and the rest begins with no token that continues the prefix
 pub record Followed (P : List Lexeme → Type 0) (goes_on : Lexeme → Type 0) (Q : List Lexeme → Type 0) (ts : List Lexeme) : Type 0 where
   pub prefix : List Lexeme
   pub suffix : List Lexeme

@@ -1,4 +1,4 @@
--- Lemmas. What is read is spelled so, what is spelled so is read, and at most one prefix spells a value. The law of an
+-- Lemmas. A value is read if and only if the tokens spell it, and at most one prefix spells a value. The law of an
 -- `impl` may cite nothing of `proofs/`, so they are here.
 pub mod Unique
 pub mod Peeks

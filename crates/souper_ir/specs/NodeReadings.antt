@@ -351,7 +351,7 @@ pc_at p = do
   y ← operand_at x.1
   Some (record { x = x.0; y = y.0 }, y.1)
 
--- the number, if it is that of a predecessor of the block
+-- the number, if it denotes a predecessor of the block
 abbrev pub predecessor_below : ℕ → ℕ → Option ℕ
 predecessor_below count n = if nat_lt n count then Some n else None
 

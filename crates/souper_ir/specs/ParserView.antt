@@ -33,7 +33,7 @@ FailedWithin len None = Unit {0}
 FailedWithin len (Some (Refused o)) = o ≤ len
 FailedWithin len (Some Memory) = Unit {0}
 
--- offsets are within the text, and until the parser fails the names are those of the statements so far
+-- offsets are within the text, and until the parser fails it has the names of the statements so far
 pub record IsParser (p : Inside) : Type 0 where
   pub offset : p.offset ≤ p.lexer.len
   pub failed : FailedWithin p.lexer.len p.failed

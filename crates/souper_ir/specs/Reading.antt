@@ -45,7 +45,7 @@ if_refused (Some (refused o)) g h = g h
 if_refused (Some no_memory) g h = tt
 if_refused None g h = tt
 
--- the reading returns the value, and the parser goes on after it
+-- the reading returns the value, and the parser resumes after it
 abbrev pub IsRead : {Y : Type 0} → Option (Y × Parsing) → Y → Parsing → Parsing → Type 0
 IsRead read y old new = (read ≡ Some (y, new)) × (old.failed ≡ None) × (new.failed ≡ None) × (new.len ≡ old.len)
 

@@ -1,7 +1,7 @@
 //! Laws of the definitions that the contracts of this crate cite. No function here does anything.
 //!
-//! What a type's `parse` promises is said in the ghost members of its `Parse`, and what its `peek` returns in those of
-//! its `Peek`. The laws of the types say what these members are.
+//! The ghost members of a type's `Parse` say what its `parse` promises, and the ghost members of its `Peek` say what its
+//! `peek` returns. The laws of the types say what these members are.
 
 ghost use Rattle.std.specs.Prelude.{◌≡◌, ◌↔◌, ℕ, true, List, [], Option, map, option_map, codes};
 ghost use Rattle.std.specs.List.{AllByRecursion};

@@ -1,7 +1,7 @@
 //! Souper IR: its syntax tree, its parser and its canonical text.
 //!
 //! Souper IR is the text format of the superoptimizer [Souper](https://github.com/google/souper): left-hand sides,
-//! right-hand sides and replacements over a graph of integer operations, most of them those of the
+//! right-hand sides and replacements over a graph of integer operations, most of them defined in the
 //! [LLVM language reference](https://llvm.org/docs/LangRef.html).
 //!
 //! ```rust

@@ -7,7 +7,7 @@ use std::alloc::{AllocError, Global};
 
 static KINDS: [&str; 3] = ["lhs", "rhs", "rep"];
 
-/// What is done with the items of a stream.
+/// The command for the items of a stream.
 #[derive(Clone, Copy)]
 pub(crate) enum Action {
     /// The record of each is written.
@@ -27,7 +27,7 @@ pub(crate) enum Action {
 }
 
 impl Action {
-    /// Whether what is done with an item depends on those before it.
+    /// Whether the output for an item depends on the items before it.
     pub(crate) fn remembers(self) -> bool {
         matches!(self, Action::Uniq(_) | Action::Count(_))
     }
@@ -39,7 +39,7 @@ pub(crate) struct Task<'m, 'a> {
     pub(crate) kind: Kind,
     pub(crate) action: Action,
 
-    /// Whether reading goes on after a refusal.
+    /// Whether reading resumes after a refusal.
     pub(crate) keep_going: bool,
 
     /// The paths, of which `-` is standard input. If there are none, standard input is read.

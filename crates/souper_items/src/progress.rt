@@ -3,7 +3,7 @@
 use std::io;
 use std::io::{IsTerminal, Read};
 
-// So many bytes are read between two reports.
+// The number of bytes between two reports.
 const STEP: u64 = 1 << 24;
 
 /// Shows on a terminal how much was read of all files.
@@ -28,7 +28,7 @@ impl<'a> Meter<'a> {
         }
     }
 
-    // What is shown is overwritten by what comes next.
+    // The next output overwrites the report.
     fn count(&mut self, count: usize) {
         self.read = self.read.saturating_add(count as u64);
         if self.shows && self.read >= self.next {
@@ -37,7 +37,7 @@ impl<'a> Meter<'a> {
         }
     }
 
-    /// Removes what is shown.
+    /// Removes the report from the screen.
     pub(crate) fn clear(&self) {
         if self.shows && self.read >= STEP {
             let _ = eprint!(self.rt; "\x1b[K");

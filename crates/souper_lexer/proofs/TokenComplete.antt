@@ -136,7 +136,7 @@ solid open_paren rest is = solid_from 40 rest (omega arith) (omega arith) (omega
 solid close_paren rest is = solid_from 41 rest (omega arith) (omega arith) (omega arith) (omega arith)
 solid open_bracket rest is = solid_from 91 rest (omega arith) (omega arith) (omega arith) (omega arith)
 
--- a gap is passed over, piece by piece
+-- a gap is passed over, unit by unit
 white_small : (c : ℕ) → is_whitespace c ≡ true → c < 55296
 white_small c h = grind (arith, nat_tests)
 
@@ -184,7 +184,7 @@ unfolding after_from
 last_comment_ends [] is = refl
 last_comment_ends (c ∷ s) is = sym (gap_past_remark (c ∷ s) (omega arith) is.0) ∙ remark_to_end s is.1
 
--- what is there is what is read
+-- the token that is there is read
 next_complete : (gap : List ℕ) (t : Lexeme) (rest bs : List ℕ) → Stands gap t rest bs → after_gap bs ≡ spelling t ++ rest
 next_complete gap t rest bs h = ap after_gap h.text ∙ past_gap gap (spelling t ++ rest) h.is_gap ∙ solid t rest h.is_token
 

@@ -1,4 +1,4 @@
--- How reading passes over a gap, piece by piece.
+-- How reading passes over a gap, unit by unit.
 use Rattle.std.proofs.Common.{◌≡◌, ℕ, zero, suc, ◌+◌, ◌<◌, ◌≤◌, ◌≢◌, true, false, cond, eqb, List, [], ◌∷◌, ◌++◌, length, get_or, drop, Option, Some, slice_get, sym, refl, ap, ◌∙◌, arith}
 use Rattle.std.specs.Prelude.{if◌then◌else◌}
 use Rattle.std.specs.Str.{chars}
@@ -27,7 +27,7 @@ remark_cons b bs h = rw h refl
 pub remark_more : (bs : List ℕ) (n : ℕ) → n < length bs → eqb (get_or bs n 0) 10 ≡ false → after_from remark (drop (n + 1) bs) ≡ after_from remark (drop n bs)
 remark_more bs n l h = sym (at_drop_more (after_from remark) bs n 0 l ∙ remark_cons _ _ h)
 
--- at its end a gap goes on
+-- at the end of a unit a gap continues
 gap_by : (b : ℕ) (bs : List ℕ) (k : ℕ) → space_len (b ∷ bs) ≡ suc k → after_gap (b ∷ bs) ≡ after_from (inside k) bs
 unfolding after_from
 gap_by b bs k e = rw (e, after_from) refl

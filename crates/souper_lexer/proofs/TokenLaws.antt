@@ -1,4 +1,4 @@
--- What is read of a text are its tokens, and the tokens of a text are read.
+-- Exactly the tokens of a text are read.
 use Rattle.std.proofs.Common.{◌≡◌, ℕ, zero, suc, ◌+◌, ◌-◌, ◌<◌, ◌≤◌, Bool, true, false, ◌⊎◌, inl, inr, List, [], ◌∷◌, ◌++◌, length, IsUtf8, sym, refl, ap, ◌∙◌, subst, arith, take, drop, append-nil, append_assoc, length-append}
 use Rattle.std.specs.List.{AllByRecursion}
 use Rattle.std.proofs.lemmas.List.{take_at, drop_at}
@@ -44,7 +44,7 @@ text_tokens bs ts h =
 pub one_reading : OneReading
 one_reading bs ts us h g = sym (text_tokens bs ts h).0 ∙ (text_tokens bs us g).0
 
--- what is read is a prefix of the text, and what is left after it
+-- the tokens that are read, as a prefix of the text, and the rest after them
 pub record Reading (n : ℕ) (bs : List ℕ) (x : Lexed) : Type 0 where
   pub rest : List ℕ
   pub front : Begins n bs x.tokens rest
@@ -107,7 +107,7 @@ begins_append (t ∷ ts) us n bs mid rest h g =
     let e : n + (length bs - length mid) ≡ t.0 + length (spelling t.1) + (length h.after - length mid) = omega (arith, h.offset_is) in
     record { gap = h.gap; after = h.after; stands = s; offset_is = h.offset_is; more = begins_append ts us (t.0 + length (spelling t.1)) h.after mid rest h.more (subst (λ m. Begins m mid us rest) e g) }
 
--- each token is at its offset: xs is what is before bs in the text
+-- each token is at its offset: xs are the bytes before bs in the text
 in_place : (ts : List (ℕ × Lexeme)) (text xs bs rest : List ℕ) → text ≡ xs ++ bs → Begins (length xs) bs ts rest → AllByRecursion (StandsAt text) ts
 in_place [] text xs bs rest e h = tt
 in_place (t ∷ ts) text xs bs rest e h =

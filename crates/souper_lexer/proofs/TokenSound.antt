@@ -1,4 +1,4 @@
--- What is passed over is a gap, and what is found is a token after it.
+-- The bytes that are passed over are a gap, and the lexeme that is found is a token after it.
 use Rattle.std.proofs.Common.{◌≡◌, ℕ, zero, suc, ◌+◌, ◌<◌, ◌≤◌, Bool, true, false, cond, eqb, ◌&&◌, ◌⊎◌, inl, inr, List, [], ◌∷◌, ◌++◌, length, get_or, drop, sym, refl, ap, ◌∙◌, subst, arith, append_assoc, append-nil, length-append}
 use Rattle.std.specs.Prelude.{if◌then◌else◌, IsUtf8}
 use Rattle.std.specs.List.{AllByRecursion}
@@ -199,7 +199,7 @@ pub record Found (bs : List ℕ) (t : Lexeme) (rest : List ℕ) : Type 0 where
   pub gap_len : gap_len bs ≡ length gap
   pub utf8 : IsUtf8 rest
 
--- what is read is there
+-- the token that is read is there
 pub next_stands : (bs : List ℕ) (t : Lexeme) (rest : List ℕ) → IsUtf8 bs → next_of bs ≡ found t rest → Found bs t rest
 next_stands bs t rest utf8 e =
     let p = gap_parted bs utf8 in

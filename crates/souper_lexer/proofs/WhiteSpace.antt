@@ -1,4 +1,4 @@
--- The white space characters are those of the list.
+-- The white space characters are the characters of the list.
 use Rattle.std.proofs.Common.{◌≡◌, ℕ, zero, suc, ◌+◌, ◌-◌, ◌<◌, ◌≤◌, Bool, true, false, ◌||◌, ◌&&◌, ◌==◌, get_or, refl, sym, ◌∙◌, subst, arith, eqb-true, lit<, lit≤}
 use Rattle.std.specs.Prelude.{Contains, nat_lt}
 use Rattle.std.specs.Char.{is_whitespace}

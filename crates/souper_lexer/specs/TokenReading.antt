@@ -19,7 +19,7 @@ first_space (c ∷ cs) = if is_whitespace c then len_utf8 c else 0
 unfoldable pub space_len : List ℕ → ℕ
 space_len bs = first_space (chars bs)
 
--- what is left after the longest gap: 59 is `;`, 10 the newline
+-- the bytes after the longest gap: 59 is `;`, 10 the newline
 unfoldable pub after_from : Place → List ℕ → List ℕ
 after_from p [] = []
 after_from (inside zero) (b ∷ bs) = elim (space_len (b ∷ bs)) [ zero ↦ if b == 59 then after_from remark bs else b ∷ bs | suc k ↦ after_from (inside k) bs ]
@@ -29,7 +29,7 @@ after_from remark (b ∷ bs) = if b == 10 then after_from (inside zero) bs else 
 abbrev pub after_gap : List ℕ → List ℕ
 after_gap bs = after_from (inside 0) bs
 
--- what a text begins with: nothing, a token with what is after it, or neither
+-- what a text begins with: nothing, a token with the bytes after it, or neither
 pub data Front : Type 0 where
   ends : Front
   faulty : Front
@@ -50,7 +50,7 @@ word_at s rest = if bytes_eq s known_bits_word then bits_at rest else found (ide
 unfoldable pub name_at : List ℕ → List ℕ → Front
 name_at s rest = if length s == 1 then faulty else found (val_name s) rest
 
--- the first byte of a token and the bytes after it that pass; what is left after them
+-- the first byte of a token and the bytes after it that pass; the rest after them
 abbrev pub run_of : (ℕ → Bool) → ℕ → List ℕ → List ℕ
 run_of p c bs = c ∷ take (prefix_len p bs) bs
 

@@ -1,4 +1,4 @@
-//! The tokens of Souper IR: those of a text, each with the offset of its first byte.
+//! The tokens of a text of Souper IR, each with the offset of its first byte.
 //!
 //! Souper IR is the text format of the superoptimizer [Souper](https://github.com/google/souper), which the crate
 //! `souper_ir` reads. [`Lexer::next_token`] passes white space and comments, and returns the next [`Token`], `None` at the
@@ -25,7 +25,7 @@ pub enum Token<'a> {
     /// `%` and one or more name characters, all of it.
     ValName(&'a str),
 
-    /// What is after `knownBits=`: one or more of `0`, `1`, `x`.
+    /// The text after `knownBits=`: one or more of `0`, `1`, `x`.
     KnownBits(&'a str),
 
     /// A digit or `-`, and digits.
@@ -143,7 +143,7 @@ fn front_len(text: &str, class: Class) -> usize
     n
 }
 
-// What is left after a comment whose `;` has been taken: the newline and what follows it, or nothing.
+// The rest of the text after a comment whose `;` has been taken: the newline and the text after it, or nothing.
 #[tactic(auto, using(crate::proofs::TokenGap::remark_more, crate::proofs::TokenGap::remark_all))]
 fn after_comment(text: &str) -> &str
     ensures rest { after_gap result.now ≡ after_from remark text.now }
@@ -168,7 +168,7 @@ fn space_len(text: &str) -> usize
     }
 }
 
-// What is left after the gap.
+// The rest of the text after the gap.
 #[tactic(auto, using(crate::proofs::TokenGap::gap_past_blank, crate::proofs::TokenGap::gap_past_control, crate::proofs::TokenGap::gap_past_remark, crate::proofs::TokenGap::gap_past_space, crate::proofs::TokenGap::gap_stops_below, crate::proofs::TokenGap::gap_stops_above, crate::proofs::TokenGap::gap_stops_wide, crate::proofs::TokenGap::gap_nil))]
 fn after_gap(text: &str) -> &str
     ensures rest { result.now ≡ after_gap text.now }
@@ -192,7 +192,7 @@ fn after_gap(text: &str) -> &str
     }
 }
 
-// What is left after the first character, which is ASCII.
+// The rest of the text after the first character, which is ASCII.
 #[tactic(auto, using(crate::proofs::TokenText::boundary_after_first))]
 fn after_first(text: &str) -> &str
     requires { (0 < length text.now) × (slice_index text.now 0 < 128) }
@@ -201,7 +201,7 @@ fn after_first(text: &str) -> &str
     &text[1..]
 }
 
-// What is left after one space, if the text begins with one.
+// The rest of the text after one space, if the text begins with one.
 #[inline(always)]
 #[tactic(auto, using(crate::proofs::TokenGap::gap_past_blank))]
 fn after_space(text: &str) -> &str
@@ -214,7 +214,7 @@ fn after_space(text: &str) -> &str
     }
 }
 
-// What is left after one space or newline, if the text begins with one.
+// The rest of the text after one space or newline, if the text begins with one.
 #[inline(always)]
 #[tactic(auto, using(crate::proofs::TokenGap::gap_past_blank, crate::proofs::TokenGap::gap_past_control))]
 fn after_blank(text: &str) -> &str
@@ -327,7 +327,7 @@ fn begins_int(b: u8) -> bool
     b.is_ascii_digit() || b == b'-'
 }
 
-// A token of more than one character, and what is left after it.
+// A token of more than one character, and the rest of the text after it.
 #[tactic(auto, unfolding(crate::specs::TokenReading::longer_at))]
 fn longer_at(offset: usize, text: &str) -> Result<(Token<'_>, &str), Fault>
     requires some { 0 < length text.now }
@@ -354,7 +354,7 @@ fn longer_at(offset: usize, text: &str) -> Result<(Token<'_>, &str), Fault>
     })
 }
 
-// The token that the text begins with, and what is left after it.
+// The token that the text begins with, and the rest of the text after it.
 #[tactic(auto, unfolding(crate::specs::TokenReading::front_of))]
 fn token_at(offset: usize, text: &str) -> Result<(Token<'_>, &str), Fault>
     requires some { 0 < length text.now }
@@ -406,7 +406,7 @@ impl<'a> Lexer<'a> {
         Ok(Some((offset, token)))
     }
 
-    /// Lexes the next token into `ahead`, which is `None` at the end, and sets `offset` to that of its first byte.
+    /// Lexes the next token into `ahead`, which is `None` at the end, and sets `offset` to the offset of its first byte.
     ///
     /// The same as [`Lexer::next_token`], for callers that keep the token: as a result it would be copied once more in each
     /// of them.

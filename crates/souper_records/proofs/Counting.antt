@@ -18,7 +18,7 @@ use Rattle.souper_records.specs.Uniques.{text_by, firsts, HasSeen, count_line, c
 abbrev pub line_of : Layout → List ℕ → ℕ → List ℕ
 line_of l t n = count_line n ++ record_of_text l t
 
--- those of texts and their counts; where there is none, it is 0
+-- the records of texts, after their counts; a missing count is 0
 abbrev pub joined : Layout → List (List ℕ) → List ℕ → List ℕ
 joined l [] ns = []
 joined l (t ∷ ts) [] = line_of l t 0 ++ joined l ts []

@@ -22,7 +22,7 @@ module _ {A : Type 0} (key : A → List ℕ) where
   abbrev pub kept : List A → A → List A
   kept before a = if has_key key (key a) before then [] else a ∷ []
 
-  -- those of two lists, one after the other
+  -- the first elements of two lists, one after the other
   pub firsts-append : (before xs ys : List A) → firsts_by key before (xs ++ ys) ≡ firsts_by key before xs ++ firsts_by key (before ++ xs) ys
   firsts-append before [] ys = ap (λ (b : List A). firsts_by key b ys) (sym (append-nil before))
   firsts-append before (x ∷ xs) ys =
@@ -32,7 +32,7 @@ module _ {A : Type 0} (key : A → List ℕ) where
   same_key : (k : List ℕ) (x : A) (xs : List A) → bytes_eq k (key x) ≡ true → has_key key k xs ≡ has_key key (key x) xs
   same_key k x xs e = ap (λ (t : List ℕ). has_key key t xs) ((bytes_eq-Decides k (key x)).0 e)
 
-  -- one more element, of which h and e say whether an element before has the key, and whether it has it itself
+  -- one more element: h says whether an element before has the key, and e whether the element has it itself
   one_more : (k : List ℕ) (x : A) (before firsts xs : List A) (b h e : Bool) → has_key key (key x) before ≡ b → has_key key k before ≡ h → bytes_eq k (key x) ≡ e
       → (has_key key k (before ++ x ∷ []) || has_key key k firsts) ≡ (has_key key k (before ++ x ∷ []) || has_key key k xs)
       → (has_key key k before || has_key key k (kept before x ++ firsts)) ≡ (has_key key k before || has_key key k (x ∷ xs))

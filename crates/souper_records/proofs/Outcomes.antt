@@ -1,4 +1,4 @@
--- Piece after piece: what was read of a stream that is read on after a refusal, what was written of it and reported.
+-- Segment after segment: the text read of a stream whose reading resumes after a refusal, the output, and the reports.
 use Rattle.std.proofs.Common.{◌≡◌, inl, inr, ℕ, Bool, true, false, ◌||◌, List, [], ◌∷◌, ◌++◌, is_some, Option, Some, None, refl, sym, ap, ◌∙◌, subst, append_assoc, append-nil}
 use Rattle.std.specs.Prelude.{flat_map, Result, Ok, Err, IfOk, IfErr}
 use Rattle.std.specs.List.{cons_option}
@@ -71,7 +71,7 @@ refusals_one (p ∷ os) o e is = under p.refusal (refusals_one os o e is)
     under (Some x) h = ap (λ (xs : List ParseError). x ∷ xs) h
     under None h = h
 
--- ---- what was reported
+-- ---- reports
 
 -- written, and then nothing more, and the other way round
 appends_kept : (a b c : Option (List ℕ)) (xs : List ℕ) → Appends a b xs → Keeps b c → Appends a c xs
@@ -90,7 +90,7 @@ lines_more : (es : List ParseError) (e : ParseError) (text line : List ℕ) → 
 lines_more [] e text line h l = (line, [], ap (λ (x : List ℕ). x ++ line) h ∙ sym (append-nil line), l, refl)
 lines_more (d ∷ es) e text line h l = (h.0, h.1 ++ line, ap (λ (x : List ℕ). x ++ line) h.2 ∙ append_assoc h.0 h.1 line, h.3, lines_more es e h.1 line h.4 l)
 
--- the parts of what was written to a writer, one after the other: it has not failed before if it has not now
+-- the parts of the output of a writer, one after the other: it has not failed before if it has not now
 pub record Parts (a b c : Stream) : Type 0 where
   pub from : c.before ≡ a.before
   pub between : b.before ≡ a.after
@@ -141,14 +141,14 @@ module _ (a b c : Stream) (p : Parts a b c) where
   reported_then [] P r h = λ works. (let l = h (sym p.last ∙ works) in ([], l.0, refl, l.1, kept_given l.0 r l.2))
   reported_then (e ∷ es) P r h = λ works. (let t = r (worked a b c p works) in let l = h (sym p.last ∙ works) in (t.0, l.0, t.1, l.1, both_given t.0 l.0 t.2 l.2))
 
--- ---- piece after piece
+-- ---- segment after segment
 
 -- one more was written
 pub wrote_more : {S : Type 0} (wrote : S → Option (List ℕ) → S → Option (List ℕ) → Outcome → Type 0) (a b c : S) (x y z : Option (List ℕ)) (os : List Outcome) (o : Outcome) → WroteEach wrote a x b y os → wrote b y c z o → WroteEach wrote a x c z (os ++ o ∷ [])
 wrote_more wrote a b c x y z [] o h w = (c, z, subst (λ s. wrote s x c z o) h.0 (subst (λ (t : Option (List ℕ)). wrote b t c z o) h.1 w), (refl, refl))
 wrote_more wrote a b c x y z (p ∷ os) o (d, t, first, rest) w = (d, t, first, wrote_more wrote d b c t y z os o rest w)
 
--- what was written of the pieces so far
+-- the output of the segments so far
 pub record Reached (k : ItemType) (file start mid : Option (List ℕ)) (written : List Outcome → Type 0) (err : Stream) (any : Bool) (p : PieceReader) : Type 0 where
   pub outcomes : List Outcome
   pub had : HasPieces k start mid (pieces_of outcomes) p
@@ -160,7 +160,7 @@ pub record Reached (k : ItemType) (file start mid : Option (List ℕ)) (written 
 pub reached_none : (k : ItemType) (file start : Option (List ℕ)) (written : List Outcome → Type 0) (err : Stream) (p : PieceReader) → HasPieces k start start [] p → written [] → IsGivenNothing err → Reached k file start start written err false p
 reached_none k file start written err p h w quiet = record { outcomes = []; had = h; are = tt; are_written = w; reported = quiet; any_is = refl }
 
--- what was reported of the pieces so far, and of the next one
+-- the reports of the segments so far, and of the next one
 reported_more : (a b c : Stream) → Parts a b c → (os : List Outcome) (o : Outcome) → AreReported a (refusals_of os) → (r : Option ParseError) → o.refusal ≡ r → ReportsPiece b r → AreReported c (refusals_of (os ++ o ∷ []))
 reported_more a b c p os o reported None is h = subst (λ (x : List ParseError). AreReported c x) (sym (refusals_none os o is)) (reported_none a b c p (refusals_of os) reported h)
 reported_more a b c p os o reported (Some e) is h = subst (λ (x : List ParseError). AreReported c x) (sym (refusals_one os o e is)) (reported_one a b c p (refusals_of os) e reported h)
@@ -212,15 +212,15 @@ stopped_after k file start mid so_far written failed err any p stop r same = (
 pub reading_kept : {W : Type 0} (known : W → List Outcome → Type 0) (so_far : List Outcome → Type 0) (a b : W) (failed : Bool) (stop : Stop) → ((os : List Outcome) → so_far os → known a os) → UnlessOutput stop failed (b ≡ a) → UnlessOutput stop failed ((os : List Outcome) → so_far os → known b os)
 reading_kept known so_far a b failed stop f h = known_mapped stop failed (b ≡ a) _ (λ same os x. subst (λ y. known y os) (sym same) (f os x)) h
 
--- ---- what is written, in other words
+-- ---- the output, in other words
 
--- from that of each outcome to that of all
+-- from the output of each outcome to the output of all
 of_all : {S : Type 0} (wrote : S → Option (List ℕ) → S → Option (List ℕ) → Outcome → Type 0) (P : S → Option (List ℕ) → S → Option (List ℕ) → List Outcome → Type 0) → ((a : S) (x : Option (List ℕ)) → P a x a x [])
     → ((a b c : S) (x y z : Option (List ℕ)) (o : Outcome) (os : List Outcome) → wrote a x b y o → P b y c z os → P a x c z (o ∷ os)) → (a b : S) (x y : Option (List ℕ)) (os : List Outcome) → WroteEach wrote a x b y os → P a x b y os
 of_all wrote P none more a b x y [] h = subst (λ s. P a x s y []) (sym h.0) (subst (λ (t : Option (List ℕ)). P a x a t []) (sym h.1) (none a x))
 of_all wrote P none more a b x y (o ∷ os) (c, z, first, rest) = more a c b x z y o os first (of_all wrote P none more c b z y os rest)
 
--- text after text, from a sink that keeps nothing from piece to piece
+-- text after text, from a sink that keeps nothing from segment to segment
 module _ {S : Type 0} (idle : S → Type 0) (wrote : S → Option (List ℕ) → S → Option (List ℕ) → Outcome → Type 0) (text : Outcome → List ℕ) (one : (a b : S) (x y : Option (List ℕ)) (o : Outcome) → wrote a x b y o → idle a → idle b × Appends x y (text o)) where
   texts_wrote : (a b : S) (x y : Option (List ℕ)) (os : List Outcome) → WroteEach wrote a x b y os → idle a → idle b × Appends x y (flat_map text os)
   texts_wrote = of_all wrote (λ a x b y os. idle a → idle b × Appends x y (flat_map text os)) (λ a x e. (e, Appends-nil x))
@@ -236,7 +236,7 @@ records_wrote l idle wrote one a b out os e w =
     all [] = refl
     all (o ∷ os) = flat_map-append (record_of l) o.items (items_of os) ∙ ap (λ (text : List ℕ). records_of l o.items ++ text) (all os)
 
--- the lines of the pieces
+-- the lines of the segments
 pub objects_wrote : {S : Type 0} (rename : Bool) (name : List ℕ) (idle : S → Type 0) (wrote : S → Option (List ℕ) → S → Option (List ℕ) → Outcome → Type 0) → ((a b : S) (x y : Option (List ℕ)) (o : Outcome) → wrote a x b y o → idle a → idle b × Appends x y (piece_lines rename name o))
     → (a b : S) (out : Stream) (os : List Outcome) → idle a → WroteEach wrote a out.before b out.after os → WritesObjects rename name out os
 objects_wrote rename name idle wrote one a b out os e w = (texts_wrote idle wrote (piece_lines rename name) one a b out.before out.after os w e).1
@@ -273,11 +273,11 @@ err_mapped (Err e) P Q f h = f e h
 
 -- ---- runs
 
--- all pieces were read
+-- all segments were read
 all_reads : (k : ItemType) (file before after : Option (List ℕ)) (written : List Outcome → Type 0) (err : Stream) (refused : Bool) (w : WritesPieces k file before after written err refused) → ReadsPieces k file before w.outcomes
 all_reads k file before after written err refused w = record { read = w.read; rest = []; now = after; consumed = w.consumed; whole = w.pieces.whole ∙ sym (append-nil (concat (all_lines (pieces_of w.outcomes)))); are = w.are }
 
--- no piece was refused
+-- no segment was refused
 none_refused : (k : ItemType) (file start : Option (List ℕ)) (before : List (List Line)) (os : List Outcome) → AreOutcomes k file start before os → any_refused os ≡ false → (refusals_of os ≡ []) × PiecesSpell k (pieces_of os) (items_of os)
 none_refused k file start before [] h none = (refl, refl)
 none_refused k file start before (o ∷ os) h none = under o.refusal h.0.is none (λ rest. none_refused k file start (before ++ o.piece ∷ []) os h.1 rest)
@@ -293,7 +293,7 @@ none_reported k file before after written err w =
     let none = none_refused k file before [] w.outcomes w.are (sym w.any) in
     ((spells_by_pieces k w.read (pieces_of w.outcomes) (items_of w.outcomes) w.pieces).1 none.1, subst (λ (x : List ParseError). AreReported err x) none.0 w.reported)
 
--- the pieces that were written, after a stream to which nothing more was reported
+-- the segments that were written, after a stream to which nothing more was reported
 kept_pieces : (k : ItemType) (name : List ℕ) (before after : Option (List ℕ)) (a b c : Stream) → Parts a b c → (so_far written : List Outcome → Type 0) (refused : Bool) → ((os : List Outcome) → so_far os → written os)
     → WritesPieces k (Some name) before after so_far a refused → IsGivenNothing b → WritesPieces k (Some name) before after written c refused
 kept_pieces k name before after a b c p so_far written refused mapped w quiet = record {
@@ -308,7 +308,7 @@ kept_pieces k name before after a b c p so_far written refused mapped w quiet = 
   any = w.any;
 }
 
--- The end of a run over pieces. The output was written in two parts, `first` for the pieces and then `last`, and so were the reports.
+-- The end of a run over segments. The output was written in two parts, `first` for the segments and then `last`, and so were the reports.
 module _ (k : ItemType) (name : List ℕ) (before after : Option (List ℕ)) (first last out : Stream) (q : Parts first last out) (a b c : Stream) (p : Parts a b c) (done : Type 0) (so_far written known_so_far known : List Outcome → Type 0)
     (mapped : IsGivenNothing last → (os : List Outcome) → so_far os → written os) (known_so : IsGivenNothing last → (os : List Outcome) → known_so_far os → known os) (all : WritesPieces k (Some name) before after written c false → done × IsGivenNothing c) where
   abbrev run : ℕ → Type 0

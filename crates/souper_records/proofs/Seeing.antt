@@ -125,7 +125,7 @@ records_of_new k l before taken s t h j =
 abbrev pub Reached : ItemType → Layout → Option (List ℕ) → Option (List ℕ) → Option (List ℕ) → Option (List ℕ) → Seen → Seen → PartReader → Type 0
 Reached k l before mid old now s t p = (read : List ℕ) × (items : List Item) × HasRead k read items p × Consumes before mid read × WritesNewFirsts k l old now s t items
 
--- what was seen in one part
+-- the items that were seen in one part
 abbrev pub SeesMore : ItemType → Bool → List Item → Seen → Seen → Type 0
 SeesMore k rename taken s t = (items : List Item) → HasSeen k rename items s → HasSeen k rename (items ++ taken) t
 
@@ -230,7 +230,7 @@ module _ {S : Type 0} (k : ItemType) (l : Layout) (before mid after now : Option
         placed = part.placed;
       }
 
--- the first items of what was seen
+-- the first items of the items that were seen
 pub first_records : (k : ItemType) (l : Layout) (out : Stream) (s t : Seen) (earlier items : List Item) → HasSeen k l.rename earlier s → WritesNewFirsts k l out.before out.after s t items → WritesSeenFirsts k l earlier out t items
 first_records k l out s t earlier items seen w =
     let both = w earlier seen in

@@ -126,7 +126,7 @@ module _ {A : Type 0} (key : A → List ℕ) where
       let one : count_of key (xs ++ x ∷ []) x ≡ 1 = own_count x x xs own ∙ ap (λ (n : ℕ). min (n + 1) (2 ^ 64 - 1)) zero_is ∙ (let z : min (0 + 1) (2 ^ 64 - 1) ≡ 1 = omega arith in z) in
       ap (map (count_of key (xs ++ x ∷ []))) more ∙ map-append (count_of key (xs ++ x ∷ [])) fs (x ∷ []) ∙ (λ i. other_counts x xs fs (among xs x false at) i ++ one i ∷ [])
 
-  -- the index of its key is that of a first one
+  -- the index of its key is the index of a first one
   pub counts-again : (xs : List A) (x : A) → index x (firsts_by key [] xs) < length (firsts_by key [] xs)
       → counts_by key (xs ++ x ∷ []) ≡ slice_set (counts_by key xs) (index x (firsts_by key [] xs)) (min (slice_index_or (counts_by key xs) (index x (firsts_by key [] xs)) 0 + 1) (2 ^ 64 - 1))
   counts-again xs x less = under (has_key key (key x) xs) refl

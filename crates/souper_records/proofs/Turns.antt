@@ -1,4 +1,4 @@
--- Part after part: what was read of a stream, and the records that were written.
+-- Part after part: the text read of a stream, and the records that were written.
 use Rattle.std.proofs.Common.{◌≡◌, ℕ, Bool, true, false, List, [], ◌++◌, Option, sym, subst}
 use Rattle.std.specs.Io.KnownBytes.{Consumes, Appends}
 use Rattle.std.proofs.KnownBytes.{Consumes-nil, Consumes-trans, Appends-nil, Appends-trans}
@@ -69,6 +69,6 @@ module _ {S : Type 0} (k : ItemType) (l : Layout) (before mid after now : Option
         placed = part.placed;
       }
 
--- what was written up to a refusal is the records of items that the stream begins with
+-- the output up to a refusal is the records of items that the stream begins with
 pub up_to_begun : (k : ItemType) (l : Layout) (file : Option (List ℕ)) (before after : Option (List ℕ)) (out : Stream) (e : ParseError) → WritesUpTo k l file before after out e → WritesBegun k l before out
 up_to_begun k l file before after out e w = record { read = w.read; after = after; items = w.items; consumed = w.consumed; begun = w.begun; written = w.written }

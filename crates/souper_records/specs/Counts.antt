@@ -7,7 +7,7 @@ use Rattle.souper_records.specs.Firsts.{firsts_by}
 abbrev pub count_of : {A : Type 0} → (A → List ℕ) → List A → A → ℕ
 count_of key xs a = min (count_by (λ b. bytes_eq (key a) (key b)) xs) (2 ^ 64 - 1)
 
--- that of each first one
+-- the count of each first one
 abbrev pub counts_by : {A : Type 0} → (A → List ℕ) → List A → List ℕ
 counts_by key xs = map (count_of key xs) (firsts_by key [] xs)
 

@@ -1,4 +1,4 @@
--- Definitions. What was written of the items of a stream.
+-- Definitions. The output for the items of a stream.
 use Rattle.std.specs.Prelude.{◌≡◌, ℕ, ◌+◌, ◌^◌, ◌<◌, ◌≤◌, Bool, true, List, length, Option}
 use Rattle.std.specs.Io.KnownBytes.{Consumes}
 use Rattle.souper_graph.specs.Values.{Item}
@@ -22,8 +22,8 @@ pub record WritesEach (k : ItemType) (l : Layout) (before after : Option (List �
   pub spelled : TextSpells k read items
   pub written : IsGiven out (records_of l items)
 
--- The stream is refused: whatever follows what was read of it, the whole spells no items. The records of items that it begins
--- with were written, and nothing else; the error has and shows its place in the stream.
+-- The stream is refused: whatever follows the text read, the whole spells no items. The records of items that it begins with
+-- were written, and nothing else; the error has and shows its location in the stream.
 pub record WritesUpTo (k : ItemType) (l : Layout) (file : Option (List ℕ)) (before after : Option (List ℕ)) (out : Stream) (e : ParseError) : Type 0 where
   pub read : List ℕ
   pub items : List Item

@@ -52,15 +52,15 @@ abbrev pub refusal_line : List ℕ → Option ParseError → List ℕ
 refusal_line name None = []
 refusal_line name (Some e) = object_line (refusal_object name e)
 
--- the lines of a piece: of its items, or of those that it begins with, and of its refusal, if it is refused
+-- the lines of a segment: of its items, or of the ones that it begins with, and of its refusal, if it is refused
 abbrev pub piece_lines : Bool → List ℕ → Outcome → List ℕ
 piece_lines rename name o = flat_map (item_line rename name o.line) o.items ++ refusal_line name o.refusal
 
--- the lines of all pieces
+-- the lines of all segments
 abbrev pub objects_of : Bool → List ℕ → List Outcome → List ℕ
 objects_of rename name os = flat_map (piece_lines rename name) os
 
--- the lines of the pieces were written, and nothing else
+-- the lines of the segments were written, and nothing else
 abbrev pub WritesObjects : Bool → List ℕ → Stream → List Outcome → Type 0
 WritesObjects rename name out os = IsGiven out (objects_of rename name os)
 

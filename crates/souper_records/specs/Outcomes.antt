@@ -1,4 +1,4 @@
--- Definitions. What became of the pieces of a stream that is read on after a refusal: what was written of them and reported.
+-- Definitions. The outcomes of the segments of a stream whose reading resumes after a refusal: their output and reports.
 use Rattle.std.specs.Prelude.{◌≡◌, ℕ, Bool, false, List, [], ◌∷◌, ◌++◌, map, flat_map, filter_map, is_some, Option, None, Some}
 use Rattle.std.specs.List.{list_any}
 use Rattle.std.specs.Io.KnownBytes.{Consumes}
@@ -19,14 +19,14 @@ use Rattle.souper_records.specs.declared.each.Stop.{Stop}
 use Rattle.souper_records.specs.Eaches.{UnlessOutput}
 use Rattle.souper_records.specs.Records.{records_of}
 
--- what became of a piece: the line of its first token, its items, or those that it begins with, and its refusal, if it is refused
+-- the outcome of a segment: the line of its first token, its items, or the ones that it begins with, and its refusal, if it is refused
 pub record Outcome : Type 0 where
   pub piece : List Line
   pub line : ℕ
   pub items : List Item
   pub refusal : Option ParseError
 
--- a piece that was refused, after what is done; the refusal has and shows its place in what was read of the stream
+-- a refused segment, after the parsed text `done`; the refusal has and shows its location in the text read of the stream
 pub record IsRefusedPiece (k : ItemType) (file start : Option (List ℕ)) (done piece : List ℕ) (items : List Item) (e : ParseError) : Type 0 where
   pub kind : kind_of e ≡ Parse
   pub none : SpellsNone k piece
@@ -36,17 +36,17 @@ pub record IsRefusedPiece (k : ItemType) (file start : Option (List ℕ)) (done 
   pub consumed : Consumes start now read
   pub placed : IsPlacedIn file read done piece e
 
--- the items are those of the piece, or it was refused
+-- the segment spells the items, or it was refused
 abbrev pub IsOutcome : ItemType → Option (List ℕ) → Option (List ℕ) → List ℕ → List ℕ → List Item → Option ParseError → Type 0
 IsOutcome k file start done piece items None = TextSpells k piece items
 IsOutcome k file start done piece items (Some e) = IsRefusedPiece k file start done piece items e
 
--- that is what became of a piece, after what is done
+-- the outcome of a segment, given the parsed text `done` before it
 pub record IsOutcomeAfter (k : ItemType) (file start : Option (List ℕ)) (done : List ℕ) (o : Outcome) : Type 0 where
   pub on_line : IsOnLine done (concat o.piece) o.line
   pub is : IsOutcome k file start done (concat o.piece) o.items o.refusal
 
--- that holds of each piece, after those before it
+-- the outcome of each segment, given the segments before it
 abbrev pub AreOutcomes : ItemType → Option (List ℕ) → Option (List ℕ) → List (List Line) → List Outcome → Type 0
 AreOutcomes k file start before [] = Unit {0}
 AreOutcomes k file start before (o ∷ os) = IsOutcomeAfter k file start (concat (all_lines before)) o × AreOutcomes k file start (before ++ o.piece ∷ []) os
@@ -77,12 +77,12 @@ AreReported err (e ∷ es) = err.failed ≡ false → (text : List ℕ) × AreEr
 abbrev pub AreReportedThen : Stream → List ParseError → (List ℕ → Type 0) → Type 0
 AreReportedThen err es P = err.failed ≡ false → (text : List ℕ) × (line : List ℕ) × AreErrorLines es text × P line × IsGiven err (text ++ line)
 
--- what was reported of one piece
+-- the report of one segment
 abbrev pub ReportsPiece : Stream → Option ParseError → Type 0
 ReportsPiece err None = IsGivenNothing err
 ReportsPiece err (Some e) = ReportedLine err e
 
--- the next piece was read, its outcome was written, and its refusal was reported, if it was refused
+-- the next segment was read, its outcome was written, and its refusal was reported, if it was refused
 pub record WritesPiece (k : ItemType) (file start now : Option (List ℕ)) (ps : List (List Line)) (written : Outcome → Type 0) (err : Stream) (refused : Bool) (p : PieceReader) : Type 0 where
   pub outcome : Outcome
   pub had : HasPieces k start now (ps ++ outcome.piece ∷ []) p
@@ -91,7 +91,7 @@ pub record WritesPiece (k : ItemType) (file start now : Option (List ℕ)) (ps :
   pub are_written : written outcome
   pub reported : ReportsPiece err outcome.refusal
 
--- all of the stream was read: the outcome of each piece was written, and each refusal was reported, in order
+-- all of the stream was read: the outcome of each segment was written, and each refusal was reported, in order
 pub record WritesPieces (k : ItemType) (file before after : Option (List ℕ)) (written : List Outcome → Type 0) (err : Stream) (refused : Bool) : Type 0 where
   pub read : List ℕ
   pub outcomes : List Outcome
@@ -103,7 +103,7 @@ pub record WritesPieces (k : ItemType) (file before after : Option (List ℕ)) (
   pub reported : AreReported err (refusals_of outcomes)
   pub any : refused ≡ any_refused outcomes
 
--- the stream begins with these pieces
+-- the stream begins with these segments
 pub record ReadsPieces (k : ItemType) (file before : Option (List ℕ)) (outcomes : List Outcome) : Type 0 where
   pub read : List ℕ
   pub rest : List ℕ
@@ -112,8 +112,8 @@ pub record ReadsPieces (k : ItemType) (file before : Option (List ℕ)) (outcome
   pub whole : read ≡ concat (all_lines (pieces_of outcomes)) ++ rest
   pub are : AreOutcomes k file before [] outcomes
 
--- reading or writing stopped after these pieces: their refusals were reported, and unless the output is the cause their outcomes were
--- written; if it is, it has failed
+-- reading or writing stopped after these segments: their refusals were reported, and unless the output is the cause their outcomes
+-- were written; if it is, it has failed
 abbrev pub StopsAfter : ItemType → Option (List ℕ) → Option (List ℕ) → (List Outcome → Type 0) → Bool → Stream → Stop → Type 0
 StopsAfter k file before written failed err stop = (os : List Outcome) × ReadsPieces k file before os × AreReported err (refusals_of os) × UnlessOutput stop failed (written os)
 
@@ -122,7 +122,7 @@ abbrev pub WroteEach : {S : Type 0} → (S → Option (List ℕ) → S → Optio
 WroteEach wrote a x b y [] = (b ≡ a) × (y ≡ x)
 WroteEach {S = S} wrote a x b y (o ∷ os) = (c : S) × (z : Option (List ℕ)) × wrote a x c z o × WroteEach wrote c z b y os
 
--- the items of the outcomes were written, also those that refused pieces begin with
+-- the items of the outcomes were written, also the ones that refused segments begin with
 abbrev pub OfItems : (List Item → Type 0) → List Outcome → Type 0
 OfItems written os = written (items_of os)
 

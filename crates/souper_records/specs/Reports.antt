@@ -10,7 +10,7 @@ use Rattle.souper_format.specs.Reporting.{ReportedLine}
 abbrev pub program_line : List ℕ → List ℕ
 program_line says = codes "souper_items: " ++ (says ++ codes "\n")
 
--- the line that says something of a stream
+-- the line with a message about a stream
 abbrev pub named_line : List ℕ → List ℕ → List ℕ
 named_line name says = program_line (name ++ (codes ": " ++ says))
 

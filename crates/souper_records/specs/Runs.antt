@@ -49,13 +49,13 @@ IsStop name (Input e) err status = ReportedError name err status e
 IsStop name (Output fault) err status = EndsWithFault fault err status
 IsStop name Memory err status = (status ≡ 2) × ReportedMemory err
 
--- all pieces were written, and perhaps some were refused, or why not all were was reported
+-- all segments were written, and perhaps some were refused, or why not all were was reported
 abbrev pub IsPiecesEnd : List ℕ → Result Bool Stop → Stream → Stream → ℕ → Type 0
 IsPiecesEnd name (Ok refused) out err status = IsEnd (if refused then 1 else 0) out err status
 IsPiecesEnd name (Err stop) out err status = IsGivenNothing out × IsStop name stop err status
 
--- Why a run stopped with status 2, and the line that was reported last: a read failed or memory ran out, and `known` says what was
--- written; or the output has failed.
+-- Why a run stopped with status 2, and the line that was reported last: a read failed or memory ran out, and `known` holds of the
+-- output; or the output has failed.
 abbrev pub HasStopped : List ℕ → Type 0 → Stream → ((List ℕ → Type 0) → Type 0) → Type 0
 HasStopped name known out reported = (known × (reported (IsFaultLine name) ⊎ reported IsMemoryLine))
     ⊎ ((out.failed ≡ true) × reported (IsFaultLine output_name))
@@ -70,9 +70,9 @@ IsEachRun k l name before after out err status = OnStatus status
     (HasStopped name (WritesBegun k l before out) out (Reported err))
     ((out.failed ≡ true) × IsGivenNothing err)
 
--- What the status of a run that recovers from refusals says: 0, no piece is refused, and nothing was reported; 1, pieces are refused;
--- 2, the run has stopped after some pieces, and that was reported after their refusals: unless the output has failed, their outcomes
--- were written; 141, the output is a pipe that nobody reads, and the refusals so far were reported.
+-- What the status of a run that recovers from refusals says: 0, no segment is refused, and nothing was reported; 1, segments are
+-- refused; 2, the run has stopped after some segments, and that was reported after their refusals: unless the output has failed, their
+-- outcomes were written; 141, the output is a pipe that nobody reads, and the refusals so far were reported.
 abbrev pub IsPiecesRun : ItemType → List ℕ → Option (List ℕ) → Option (List ℕ) → Type 0 → (List Outcome → Type 0) → (List Outcome → Type 0) → Stream → Stream → ℕ → Type 0
 IsPiecesRun k name before after done written known out err status = OnStatus status
     (done × IsGivenNothing err)
@@ -102,7 +102,7 @@ IsUniqRun k l earlier name before after out seen err status = OnStatus status
     (HasStopped name (WritesFirstsBegun k l earlier before out) out (Reported err))
     ((out.failed ≡ true) × IsGivenNothing err)
 
--- the same, going on after refusals
+-- the same, resuming after refusals
 abbrev pub IsUniqGoingOnRun : ItemType → Layout → List Item → List ℕ → Option (List ℕ) → Option (List ℕ) → Stream → Seen → Stream → ℕ → Type 0
 IsUniqGoingOnRun k l earlier name before after out seen err status = IsPiecesRun k name before after
     (WritesFirsts k l earlier before after out seen)

@@ -46,7 +46,7 @@ pub record AreFirsts (rename : Bool) (earlier items first : List Item) : Type 0 
 abbrev pub HasText : ItemType → Bool → Item → Type 0
 HasText k rename a = IsWellFormedOf k a × WellFormed (chosen rename a)
 
--- these items were seen: the texts are those of the first ones among them, the counts say how many have each
+-- these items were seen: the index has the texts of the first ones among them, the counts say how many have each
 abbrev pub HasSeen : ItemType → Bool → List Item → Seen → Type 0
 HasSeen k rename items s = AllByRecursion (HasText k rename) items × (map string_bytes s.texts.keys ≡ map (text_by rename) (firsts rename [] items)) × (s.counts.items ≡ counts_by (text_by rename) items)
 
@@ -63,8 +63,8 @@ pub record WritesFirsts (k : ItemType) (l : Layout) (earlier : List Item) (befor
   pub written : IsGiven out (records_of l first)
   pub seen_now : HasSeen k l.rename (earlier ++ items) seen
 
--- The stream is refused: whatever follows what was read of it, the whole spells no items. The same holds of items that it begins
--- with; the error has and shows its place in the stream.
+-- The stream is refused: whatever follows the text read, the whole spells no items. The same holds of items that it begins with;
+-- the error has and shows its location in the stream.
 pub record WritesFirstsUpTo (k : ItemType) (l : Layout) (earlier : List Item) (file : Option (List ℕ)) (before after : Option (List ℕ)) (out : Stream) (seen : Seen) (e : ParseError) : Type 0 where
   pub read : List ℕ
   pub items : List Item
@@ -108,7 +108,7 @@ count_line n = codes "; count " ++ (decimal n ++ codes "\n")
 abbrev pub counted_record : Layout → List Item → Item → List ℕ
 counted_record l items a = count_line (count_of (text_by l.rename) items a) ++ record_of l a
 
--- those of all first items
+-- the counted records of all first items
 abbrev pub counted_records : Layout → List Item → List ℕ
 counted_records l items = flat_map (counted_record l items) (firsts l.rename [] items)
 

@@ -39,7 +39,7 @@ fn differing_line(text: &[u8], other: &[u8]) -> Option<usize>
 /// spells, as [`each`](crate::each::each) writes them in the layout [`PLAIN`]; none if it is canonical. If the text is a beginning of its
 /// canonical text, that is the line on which the rest would begin.
 ///
-/// The error is that of [`parse_into`]: the text spells no such items, or memory ran out. It shows `name` as that of the text.
+/// It fails like [`parse_into`]: the text spells no such items, or memory ran out. The error shows `name` as the name of the text.
 pub fn first_other_line<T: WholeItem + Drop>(
     alloc: Global,
     source: &str,
@@ -76,7 +76,7 @@ fn report_other_line<E: Write>(alloc: Global, name: &str, line: usize, err: &mut
 /// - 0: it is, and nothing was written to `err`.
 /// - 1: it is not, and a line was written to `err` that says so, with the name and the number of the first line that differs:
 ///   `NAME:LINE: not canonical`; or it is refused, and the refusal was written, which shows the name, and a newline.
-/// - 2: a read failed, what was read is not UTF-8, or memory ran out. A line that says so was written to `err`.
+/// - 2: a read failed, the input is not UTF-8, or memory ran out. A line that says so was written to `err`.
 ///
 /// If a write to `err` fails, the status is the same.
 pub fn check_run<T: WholeItem + Drop, R: BufRead, E: Write>(

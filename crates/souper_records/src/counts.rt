@@ -44,7 +44,7 @@ fn count_at(counts: &[u64], index: usize) -> u64
     }
 }
 
-// Writes the records, and forgets them, if there are many.
+// Writes the records, and drops them, if there are many.
 fn write_many<W: Write>(records: &mut String, out: &mut Watched<W>) -> Result<(), Stop>
     ensures written { OnOk result ((IsGiven (stream W.contents out.old out.new) (string_bytes records.old) × (string_bytes records.new ≡ []))
         ⊎ ((out.new ≡ out.old) × (records.new ≡ records.old))) }
@@ -58,10 +58,10 @@ fn write_many<W: Write>(records: &mut String, out: &mut Watched<W>) -> Result<()
 }
 
 /// Writes the record of the first item of each graph that was seen, in order, each after a comment line that says how many items
-/// have its text, which are those of the same graph: `; count 3`. A count is at most `u64::MAX`.
+/// have its text, which are the items of the same graph: `; count 3`. A count is at most `u64::MAX`.
 ///
 /// The layout is that with which the items were seen. If memory runs out, records of the first ones were written. After an error of the
-/// output `out` has failed, and nothing is known of what was written. There is no other error.
+/// output `out` has failed, and nothing is known of the bytes written. There is no other error.
 pub fn write_counts<W: Write>(
     alloc: Global,
     layout: Layout,

@@ -18,7 +18,7 @@ use std::io;
 use std::io::{BufRead, ErrorKind, Write};
 use std::marker::Brand;
 
-// So many bytes are read before items are looked for.
+// Bytes to read before searching for a cut point.
 pub(crate) const CHUNK: usize = 65536;
 
 /// Why the records of a stream were not all written.
@@ -71,7 +71,7 @@ pub(crate) fn write_text<W: Write>(text: &String, out: &mut Watched<W>) -> Resul
     }
 }
 
-// Does the job in the layout `L.layout`.
+// Writes the records in the layout `L.layout`.
 fn each_fixed<L: Fixed, T: StreamItem + Drop, R: BufRead, W: Write>(
     alloc: Global,
     job: Job<'_>,
@@ -110,9 +110,9 @@ fn each_fixed<L: Fixed, T: StreamItem + Drop, R: BufRead, W: Write>(
 
 /// Writes the record of each item of the stream, in order, part by part ([`PartReader`], with 64 KiB).
 ///
-/// `name` is the stream's name, which a refusal shows. After an error of the input, and if memory ran out, what was written is the
-/// records of items that the stream begins with. After an error of the output `out` has failed, and nothing is known of what was
-/// written.
+/// `name` is the stream's name, which a refusal shows. After an error of the input, and if memory ran out, the records of items
+/// that the stream begins with were written, and nothing else. After an error of the output `out` has failed, and nothing is known of
+/// the bytes written.
 pub fn each<T: StreamItem + Drop, R: BufRead, W: Write>(
     alloc: Global,
     layout: Layout,

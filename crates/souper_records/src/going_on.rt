@@ -1,4 +1,4 @@
-//! The record of each item of a stream that is read on after a refusal.
+//! The record of each item of a stream. Reading resumes after a refusal.
 ghost use Rattle.std.specs.Prelude.{◌≡◌, true, Some, IfOk, IfErr};
 ghost use Rattle.souper_ir.specs.Errors.{kind_of};
 ghost use Rattle.souper_format.specs.Streams.{stream};
@@ -18,7 +18,7 @@ use std::alloc::Global;
 use std::io::{BufRead, Write};
 use std::marker::Brand;
 
-// Does the job in the layout `L.layout`.
+// Writes the records in the layout `L.layout`.
 fn each_fixed<L: Fixed, T: StreamItem + Drop, R: BufRead, W: Write, E: Write>(
     alloc: Global,
     job: Job<'_>,
@@ -38,11 +38,12 @@ fn each_fixed<L: Fixed, T: StreamItem + Drop, R: BufRead, W: Write, E: Write>(
     write_pieces::<T, Records<L>, R, W, E>(alloc, job.name, &mut records, reader, out, err)
 }
 
-/// Writes the record of each item of the stream, in order, piece by piece ([`PieceReader`](souper_stream::PieceReader)), and returns whether a piece was refused.
-/// Of a refused piece the records of items that it begins with are written, and the refusal is written to `err`, with a newline.
+/// Writes the record of each item of the stream, in order, segment by segment ([`PieceReader`](souper_stream::PieceReader)), and returns
+/// whether a segment was refused. For a refused segment the records of items that it begins with are written, and the refusal is written
+/// to `err`, with a newline.
 ///
 /// `name` is the stream's name, which a refusal shows. No error is a refusal. After an error of the input, and if memory ran out, this
-/// was done with pieces that the stream begins with. After an error of the output `out` has failed, and nothing is known of what was
+/// was done with segments that the stream begins with. After an error of the output `out` has failed, and nothing is known of the bytes
 /// written to it.
 pub fn each_going_on<T: StreamItem + Drop, R: BufRead, W: Write, E: Write>(
     alloc: Global,

@@ -19,7 +19,7 @@ pub struct Layout {
     /// Whether a comment line with the key of the text is before it: `; `, and the SHA-256 of the text in hexadecimal digits.
     pub key: bool,
 
-    /// Whether the text is that of the item with names `%0`, `%1`, and so on, by its printed order
+    /// Whether the names in the text are `%0`, `%1`, and so on, by the printed order of the item
     /// ([`renamed`](souper_ir::ast::LeftHandSide::renamed)).
     pub rename: bool,
 }

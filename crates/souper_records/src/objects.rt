@@ -46,7 +46,7 @@ fn string(alloc: Global, text: Option<&str>) -> Result<Value, AllocError>
     }
 }
 
-// The object of the item of a piece that has this text.
+// The object of an item with this text. `line` is the line of its segment.
 fn item_object(alloc: Global, name: &str, line: usize, text: &str) -> Result<Value, AllocError>
     ensures { IfOk result (λ value. view value ≡ item_object name.now line text.now) }
 {
@@ -78,7 +78,7 @@ fn append_line(alloc: Global, object: &Value, out: &mut String) -> Result<(), Al
     out.push_str("\n")
 }
 
-// The lines of items of a piece that have these texts.
+// The lines of a segment's items, which have these texts.
 fn item_lines(alloc: Global, place: Place<'_>, texts: &[String]) -> Result<String, AllocError>
     ensures { IfOk result (λ out. string_bytes out ≡ flat_map (text_line place.entry.name.now place.entry.line) (map string_bytes texts.now)) }
 {
@@ -90,7 +90,7 @@ fn item_lines(alloc: Global, place: Place<'_>, texts: &[String]) -> Result<Strin
     Ok(out)
 }
 
-// The lines of a piece whose items, or those that it begins with, have these texts.
+// The lines of a segment, whose items, or the ones that it begins with, have these texts.
 fn piece_lines(
     alloc: Global,
     place: Place<'_>,
@@ -108,7 +108,7 @@ fn piece_lines(
     Ok(out)
 }
 
-// A sink that keeps the texts of a piece's items, for their objects.
+// A sink that keeps the texts of a segment's items, for their objects.
 #[derive(Drop)]
 struct Objects<L: Fixed> {
     alloc: Global,
@@ -145,7 +145,7 @@ impl<L: Fixed, T: WholeItem + Drop> Sink<T> for Objects<L> {
     }
 }
 
-// Of each piece the objects are written, and the texts forgotten.
+// Writes the objects of each segment, and drops the texts.
 impl<L: Fixed, T: StreamItem + Drop> PieceSink<T> for Objects<L> {
     ghost marks = { λ objects. 0 };
 
@@ -190,17 +190,17 @@ fn write_fixed<L: Fixed, T: StreamItem + Drop, R: BufRead, W: Write, E: Write>(
     write_pieces::<T, Objects<L>, R, W, E>(alloc, job.name, &mut objects, reader, out, err)
 }
 
-/// Writes a JSON object for each item of the stream and each refusal, in order, each on a line of its own, and goes on after a refusal
-/// ([`PieceReader`](souper_stream::PieceReader)). Returns whether a piece was refused.
+/// Writes a JSON object for each item of the stream and each refusal, in order, each on a line of its own, and resumes after a refusal
+/// ([`PieceReader`](souper_stream::PieceReader)). Returns whether a segment was refused.
 ///
-/// The object of an item has its canonical `text`, the `key` of that ([`key_of`](crate::records::key_of)), the name of the stream as
-/// `file`, and the `line` of the first token of its piece, counted from 1. With `rename` the text is that of the item with names by its
-/// printed order. The object of a refusal has `file`, `offset`, `line`, `column` and `message`: the line and the column are those that
-/// the refusal shows, of the byte before the offset. It comes after those of the items that its piece begins with, and the refusal is
-/// also written to `err`, with a newline.
+/// The object of an item has its canonical `text`, the `key` of the text ([`key_of`](crate::records::key_of)), the name of the stream
+/// as `file`, and the 1-based `line` of the first token of its segment. With `rename` the names in the text are by the printed order
+/// of the item. The object of a refusal has `file`, `offset`, `line`, `column` and `message`: the refusal shows this line and column,
+/// of the byte before the offset. It comes after the objects of the items that its segment begins with, and the refusal is also written
+/// to `err`, with a newline.
 ///
-/// No error is a refusal. After an error of the input, and if memory ran out, this was done with pieces that the stream begins with.
-/// After an error of the output `out` has failed, and nothing is known of what was written to it.
+/// No error is a refusal. After an error of the input, and if memory ran out, this was done with segments that the stream begins with.
+/// After an error of the output `out` has failed, and nothing is known of the bytes written to it.
 pub fn write_objects<T: StreamItem + Drop, R: BufRead, W: Write, E: Write>(
     alloc: Global,
     rename: bool,

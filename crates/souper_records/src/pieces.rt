@@ -1,4 +1,4 @@
-//! What is written of the pieces of a stream that is read on after a refusal.
+//! Writes the segments of a stream, and resumes after a refusal.
 ghost use Rattle.std.specs.Prelude.{◌≡◌, ℕ, List, true, Option, Some, IfOk, IfErr, IfSome, IfNone, OnOk, option_copied};
 ghost use Rattle.souper_ir.specs.Errors.{kind_of};
 ghost use Rattle.souper_ir.specs.Sinks.{TakesOver};
@@ -18,31 +18,31 @@ use std::alloc::Global;
 use std::io;
 use std::io::{BufRead, ErrorKind, Write};
 
-/// Where a piece is.
+/// The location of a segment.
 #[derive(Clone, Copy)]
 pub(crate) struct Place<'a> {
     /// The name of the stream.
     pub(crate) name: &'a str,
 
-    /// The line of the piece's first token, counted from 1.
+    /// The 1-based line of the segment's first token.
     pub(crate) line: usize,
 }
 
-/// A sink for the items of a stream's pieces, of each of which it writes something.
+/// A sink that writes output after each segment.
 pub(crate) trait PieceSink<T: StreamItem + Drop>: Sink<T> {
-    // What the sink is to know of itself before a piece, to write the piece.
+    // Its state before the segment.
     ghost marks: { Self → ℕ };
 
-    // What it is that this outcome of a piece was written, given the name of the stream, the sink and the bytes of the output before, and
-    // both after.
+    // That this outcome of a segment was written, given the name of the stream, the sink and the bytes of the output before, and both
+    // after.
     ghost wrote: { List ℕ → Self → Option (List ℕ) → Self → Option (List ℕ) → Outcome → Type 0 };
 
     /// A mark for [`write_piece`](PieceSink::write_piece).
     fn mark(&self) -> usize
         ensures { result ≡ marks self.now };
 
-    /// Writes what is wanted of a piece, after its items were taken, or those that it begins with if it was refused. `mark` is what
-    /// [`mark`](PieceSink::mark) returned before they were taken.
+    /// Writes the output of a segment, after its items were taken, or the ones that it begins with if it was refused. `mark` is the
+    /// result of [`mark`](PieceSink::mark) before they were taken.
     fn write_piece<W: Write>(
         &mut self,
         alloc: Global,
@@ -57,8 +57,8 @@ pub(crate) trait PieceSink<T: StreamItem + Drop>: Sink<T> {
         ensures unwritten { IfErr result (λ stop. UnlessOutput stop (has_failed out.new) (out.new ≡ out.old)) };
 }
 
-// Writes what the sink writes of the next piece, and reports its refusal, if it is refused, which is returned. Returns none at the
-// end of the stream.
+// Writes the sink's output of the next segment, and reports its refusal, if it is refused. Returns whether it is refused, or none at
+// the end of the stream.
 fn write_next<T: StreamItem + Drop, S: PieceSink<T>, R: BufRead, W: Write, E: Write>(
     alloc: Global,
     name: &str,
@@ -98,7 +98,7 @@ fn write_next<T: StreamItem + Drop, S: PieceSink<T>, R: BufRead, W: Write, E: Wr
     }
 }
 
-/// Writes what the sink writes of each piece of the stream, in order, and reports each refusal. Returns whether a piece was refused.
+/// Writes the sink's output of each segment of the stream, in order, and reports each refusal. Returns whether a segment was refused.
 pub(crate) fn write_pieces<T: StreamItem + Drop, S: PieceSink<T>, R: BufRead, W: Write, E: Write>(
     alloc: Global,
     name: &str,

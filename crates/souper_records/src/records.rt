@@ -22,7 +22,7 @@ fn append_canonical<T: Item>(item: &T, out: &mut String) -> Result<(), AllocErro
     }
 }
 
-// Appends the canonical text of the item, or that of the item with names by its printed order.
+// Appends the canonical text of the item, or of the item with names by its printed order.
 pub(crate) fn append_text<T: Item + Drop>(
     rename: bool,
     item: &T,

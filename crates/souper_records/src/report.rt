@@ -19,7 +19,7 @@ pub fn report_memory<E: Write>(err: &mut Watched<E>)
     let _ = err.write_all(b"souper_items: out of memory\n");
 }
 
-// The line that says something of the stream of this name.
+// `souper_items: NAME: MESSAGE`, and a newline.
 fn line(alloc: Global, name: &str, says: &str) -> Result<String, AllocError>
     ensures { IfOk result (λ line. string_bytes line ≡ named_line name.now says.now) }
 {
@@ -32,7 +32,7 @@ fn line(alloc: Global, name: &str, says: &str) -> Result<String, AllocError>
     Ok(line)
 }
 
-// Reports something of the stream of this name.
+// Reports a message about the stream of this name.
 fn report<E: Write>(alloc: Global, name: &str, says: &str, err: &mut Watched<E>)
     ensures reported { Reported (stream E.contents err.old err.new) (IsNamedLine name.now says.now) }
     ensures stays { has_failed err.old ≡ true → has_failed err.new ≡ true }

@@ -76,7 +76,7 @@ fn report_stop<E: Write>(alloc: Global, name: &str, stop: &Stop, err: &mut Watch
     }
 }
 
-// Flushes the output after all pieces were written to it, or reports why not all were, and returns the status: 1 if pieces were refused.
+// Flushes the output after all segments were written to it, or reports why not all were. Returns the status: 1 if any were refused.
 fn end_pieces<W: Write, E: Write>(
     alloc: Global,
     name: &str,
@@ -99,7 +99,7 @@ fn end_pieces<W: Write, E: Write>(
 /// - 0: done, and nothing was written to `err`.
 /// - 1: the stream is refused. Records of items that it begins with were written, and to `err` the refusal, which shows the name,
 ///   and a newline.
-/// - 2: a read or `out` failed, what was read is not UTF-8, or memory ran out. A line that says so was written to `err`. Unless `out`
+/// - 2: a read or `out` failed, the input is not UTF-8, or memory ran out. A line that says so was written to `err`. Unless `out`
 ///   failed, records of items that the stream begins with were written, and nothing else.
 /// - 141 ([`BROKEN_PIPE`]): `out` failed, since it is a pipe that nobody reads. Nothing was written to `err`.
 ///
@@ -121,13 +121,13 @@ pub fn each_run<T: StreamItem + Drop, R: BufRead, W: Write, E: Write>(
     }
 }
 
-/// Writes the record of each item of the stream to `out`, and goes on after a refusal ([`each_going_on`]). Returns the status of the
+/// Writes the record of each item of the stream to `out`, and resumes after a refusal ([`each_going_on`]). Returns the status of the
 /// program.
 ///
-/// - 0: done, no piece was refused, and nothing was written to `err`.
-/// - 1: done, and some pieces were refused. Each refusal was written to `err`, in order, with a newline.
-/// - 2: a read or `out` failed, what was read is not UTF-8, or memory ran out, and a line that says so was written to `err`, after the
-///   refusals so far. Unless `out` failed, the records of the pieces so far were written, and nothing else.
+/// - 0: done, no segment was refused, and nothing was written to `err`.
+/// - 1: done, and some segments were refused. Each refusal was written to `err`, in order, with a newline.
+/// - 2: a read or `out` failed, the input is not UTF-8, or memory ran out, and a line that says so was written to `err`, after the
+///   refusals so far. Unless `out` failed, the records of the segments so far were written, and nothing else.
 /// - 141 ([`BROKEN_PIPE`]): `out` failed, since it is a pipe that nobody reads. Only the refusals so far were written to `err`.
 ///
 /// If a write to `err` fails, the status is the same.
@@ -146,7 +146,7 @@ pub fn each_going_on_run<T: StreamItem + Drop, R: BufRead, W: Write, E: Write>(
     end_pieces(alloc, name, pieces, out, err)
 }
 
-/// Writes a JSON object for each item of the stream and each refusal to `out`, and goes on after a refusal ([`write_objects`]). Returns
+/// Writes a JSON object for each item of the stream and each refusal to `out`, and resumes after a refusal ([`write_objects`]). Returns
 /// the status of the program, as [`each_going_on_run`] does.
 pub fn objects_run<T: StreamItem + Drop, R: BufRead, W: Write, E: Write>(
     alloc: Global,
@@ -185,7 +185,7 @@ pub fn uniq_run<T: StreamItem + Drop, R: BufRead, W: Write, E: Write>(
     }
 }
 
-/// Writes the record of each item of the stream that is the same graph as no earlier one to `out`, and goes on after a refusal
+/// Writes the record of each item of the stream that is the same graph as no earlier one to `out`, and resumes after a refusal
 /// ([`uniq_going_on`]). Returns the status of the program, as [`each_going_on_run`] does, with the records of first items. After status 2
 /// or 141 nothing is known of `seen`, which is not to be used again.
 pub fn uniq_going_on_run<T: StreamItem + Drop, R: BufRead, W: Write, E: Write>(

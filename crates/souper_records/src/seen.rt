@@ -1,4 +1,4 @@
-//! The items that were seen.
+//! The index of the distinct items.
 ghost use Rattle.std.specs.Prelude.{◌≡◌, [], Bool, OnOk};
 ghost use Rattle.souper_graph.specs.Syntax.Spelling.{ItemType};
 ghost use Rattle.souper_records.specs.Counts.{IsCounted};
@@ -7,8 +7,7 @@ ghost use Rattle.souper_records.specs.Uniques.{HasSeen};
 use indexmap::IndexSet;
 use std::alloc::{AllocError, Global};
 
-/// The canonical texts of the items that were seen, each once, in the order in which they were first seen, and how many items have
-/// each.
+/// The distinct canonical texts of the items so far, in the order of their first items, and how many items have each.
 #[derive(Drop)]
 pub struct Seen {
     pub(crate) texts: IndexSet<String>,

@@ -61,7 +61,7 @@ impl<L: Fixed, T: WholeItem + Drop> Sink<T> for Records<L> {
     }
 }
 
-// Of each piece the records are written, and forgotten.
+// Writes the records of each segment, and drops them.
 impl<L: Fixed, T: StreamItem + Drop> PieceSink<T> for Records<L> {
     ghost marks = { λ records. 0 };
 

@@ -66,7 +66,7 @@ impl<L: Fixed, T: WholeItem + Drop> Sink<T> for Firsts<L> {
     }
 }
 
-// Of each piece the records of the first items are written, which come after the mark.
+// Writes the records of each segment's first items, which come after the mark.
 impl<L: Fixed, T: StreamItem + Drop> PieceSink<T> for Firsts<L> {
     ghost marks = { λ firsts. length firsts.seen.texts.keys };
 
@@ -105,7 +105,7 @@ fn write_texts<W: Write>(
     write_text(&text, out)
 }
 
-// Does the job with a sink.
+// Writes the records of first items with this sink.
 fn uniq_parts<L: Fixed, T: StreamItem + Drop, R: BufRead, W: Write>(
     alloc: Global,
     job: Job<'_>,
@@ -144,7 +144,7 @@ fn uniq_parts<L: Fixed, T: StreamItem + Drop, R: BufRead, W: Write>(
     Err(Stop::Input(ParseError::from(fault)))
 }
 
-// Does the job in the layout `L.layout`.
+// Writes the records of first items in the layout `L.layout`.
 fn uniq_fixed<L: Fixed, T: StreamItem + Drop, R: BufRead, W: Write>(
     alloc: Global,
     job: Job<'_>,
@@ -174,7 +174,7 @@ fn uniq_fixed<L: Fixed, T: StreamItem + Drop, R: BufRead, W: Write>(
 ///
 /// `seen` is passed from stream to stream of one type and one layout: it has the texts of the items so far, in memory. `name` is the
 /// stream's name, which a refusal shows. After an error of the input, and if memory ran out, this was done with items that the
-/// stream begins with. After an error of the output `out` has failed, and nothing is known of what was written. After an error that is
+/// stream begins with. After an error of the output `out` has failed, and nothing is known of the bytes written. After an error that is
 /// no refusal nothing is known of `seen`, which is not to be used again.
 pub fn uniq<T: StreamItem + Drop, R: BufRead, W: Write>(
     alloc: Global,

@@ -22,7 +22,7 @@ use std::io::{BufRead, Write};
 use std::marker::Brand;
 use std::mem;
 
-// Does the job in the layout `L.layout`.
+// Writes the records of first items in the layout `L.layout`.
 fn uniq_fixed<L: Fixed, T: StreamItem + Drop, R: BufRead, W: Write, E: Write>(
     alloc: Global,
     job: Job<'_>,
@@ -55,14 +55,14 @@ fn uniq_fixed<L: Fixed, T: StreamItem + Drop, R: BufRead, W: Write, E: Write>(
     result
 }
 
-/// Writes the record of each item of the stream that is the same graph as no earlier one ([`uniq`](crate::uniq::uniq)), piece by piece
-/// ([`PieceReader`](souper_stream::PieceReader)), and returns whether a piece was refused. Of a refused piece this is done with items that it begins with, and the
-/// refusal is written to `err`, with a newline.
+/// Writes the record of each item of the stream that is the same graph as no earlier one ([`uniq`](crate::uniq::uniq)), segment by
+/// segment ([`PieceReader`](souper_stream::PieceReader)), and returns whether a segment was refused. For a refused segment this is done
+/// with items that it begins with, and the refusal is written to `err`, with a newline.
 ///
-/// `seen` is that of [`uniq`](crate::uniq::uniq). `name` is that of the stream, which a refusal shows. No error is a refusal. After an
-/// error of the input, and if memory ran out, this was done with pieces that the stream begins with. After an error of the output `out`
-/// has failed, and nothing is known of what was written to it. After any error nothing is known of `seen`, which is not to be used
-/// again.
+/// `seen` is passed on as in [`uniq`](crate::uniq::uniq). `name` is the stream's name, which a refusal shows. No error is a refusal.
+/// After an error of the input, and if memory ran out, this was done with segments that the stream begins with. After an error of the
+/// output `out` has failed, and nothing is known of the bytes written to it. After any error nothing is known of `seen`, which is not to
+/// be used again.
 pub fn uniq_going_on<T: StreamItem + Drop, R: BufRead, W: Write, E: Write>(
     alloc: Global,
     layout: Layout,

@@ -27,7 +27,7 @@ all_at_end (Some xs) (Some ys) (Some zs) bs cs h e k =
     let none : cs ≡ [] = nothing_more cs zs (sym e ∙ k) in
     h ∙ ap (λ (l : List ℕ). bs ++ l) (e ∙ sym none)
 
--- all of what was left, after what was read before
+-- all the bytes that were left, after the bytes read before
 pub all_after : (a b : Option (List ℕ)) (bs cs : List ℕ) → Consumes a b bs → AreAll b cs → AreAll a (bs ++ cs)
 all_after None b bs cs h k = tt
 all_after (Some xs) None bs cs h k = absurd h

@@ -209,7 +209,7 @@ part_by k a b ws l last starts h =
     let r = items_part k ws e.before e.after (kinds vs) e.word e.ends e.quiet (starts vs both.3) (subst (λ (x : List Lexeme). list_spells k ws x) whole h.2) in
     (r.xs, r.ys, r.whole, (ts, both.2, subst (λ (x : List Lexeme). list_spells k r.xs x) (sym e.whole) r.first), (vs, both.3, r.second))
 
--- the tokens of lines have what those of the last of them have
+-- lines end an item if the tokens of their last line do
 pub last_ends : (k : ItemType) (a b : List ℕ) (ts : List (ℕ × Lexeme)) → IsLines a → IsTextOf (a ++ b) ts → ((us : List (ℕ × Lexeme)) → IsTextOf b us → LastEnds k (kinds us)) → LastEnds k (kinds ts)
 last_ends k a b ts l h last =
     let both = tokens_part a b ts l h in
@@ -227,7 +227,7 @@ item_ends_last : (k : ItemType) (a : List ℕ) (ts : List (ℕ × Lexeme)) → E
 item_ends_last k a ts end h = last_ends k end.before end.last ts end.lines (subst (λ (x : List ℕ). IsTextOf x ts) end.whole h)
     (λ us u. (let line = end.is_end in record { before = []; word = line.word; after = line.others; whole = ap kinds (one_reading end.last us line.tokens u line.is_text) ∙ line.kinds_are; ends = line.ends; quiet = line.no_start }))
 
--- the tokens of a text in which a line starts begin with those of the line
+-- if a text starts a line, its tokens begin with the tokens of the line
 line_starts : (b : List ℕ) (vs : List (ℕ × Lexeme)) → StartsLine b → IsTextOf b vs → starts_line (kinds vs) ≡ true
 line_starts b vs start h =
     let firsts = first_tokens start.tokens vs 0 b start.rest h.0 start.begins h.1 h.2 in

@@ -1,4 +1,4 @@
--- What is held of a stream, beside what was read of it and what is done.
+-- The buffer of a stream, the bytes read, and the parsed text.
 use Rattle.std.proofs.Common.{◌≡◌, ◌⊎◌, inl, inr, ℕ, ◌+◌, ◌-◌, ◌^◌, ◌<◌, ◌≤◌, cond, List, [], ◌++◌, length, take, drop, Option, refl, sym, ap, ◌∙◌, subst, arith, append_assoc, length-append}
 use Rattle.std.specs.Prelude.{◌==◌}
 use Rattle.std.proofs.lemmas.List.{take-append-drop, take-append-le, drop-append-le, length-drop, length-take}
@@ -26,7 +26,7 @@ after_none h none zero_is b l = record {
   placed = inr refl;
 }
 
--- what is done, and the rest, are all that was read
+-- the parsed text, and the rest, are all that was read
 pub parts_read : (read done : List ℕ) (h : Held) → HoldsAfter read done h → read ≡ done ++ fresh h
 parts_read read done h p =
     p.whole ∙ ap (λ (x : List ℕ). p.gone ++ x) (sym (take-append-drop h.skipped h.bytes.items)) ∙ sym (append_assoc p.gone (take h.skipped h.bytes.items) (fresh h)) ∙ ap (λ (x : List ℕ). x ++ fresh h) (sym p.done_is)
@@ -59,7 +59,7 @@ drop_after m xs b e l =
     let at : length (take m xs) ≡ m = omega (arith, length-take m xs) in
     (λ i. drop (sym at i) (e i)) ∙ drop-append_seam (take m xs) b
 
--- more is done, and lines before the last of it were forgotten
+-- more text was parsed, and lines before its last were dropped
 pub after_forgot : (read done : List ℕ) (old new : Held) (n : ℕ) → HoldsAfter read done old → n ≤ length (fresh old) → Forgets old new n → HoldsAfter read (done ++ take n (fresh old)) new × (fresh new ≡ drop n (fresh old))
 after_forgot read done old new n p fits f =
     let bytes = old.bytes.items in
@@ -72,7 +72,7 @@ after_forgot read done old new n p fits f =
     let end : ℕ = old.skipped + n in
     let end_fits : end ≤ length bytes = omega arith in
     let gone : List ℕ = p.gone ++ take start bytes in
-    -- what is done
+    -- the parsed text
     let past : end - old.skipped ≡ n = omega arith in
     let left : end - start ≡ new.skipped = omega arith in
     let front : take end bytes ≡ take old.skipped bytes ++ take n (fresh old) = take_parts bytes old.skipped end (omega arith) within ∙ ap (λ (m : ℕ). take old.skipped bytes ++ take m (fresh old)) past in
@@ -106,7 +106,7 @@ after_forgot read done old new n p fits f =
       later,
     )
 
--- a refusal in what is held was given its place
+-- a refusal in the buffer was given its location
 pub after_placed : (file : Option (List ℕ)) (read done : List ℕ) (h : Held) (o : ℕ) (shown : ParseError) → HoldsAfter read done h → kind_of shown ≡ Parse → IsPlacedAfter file h.before h.bytes.items (h.skipped + o) shown → length read + 1 < 2 ^ 64
     → IsRefusalAt file read (length done + o) shown
 after_placed file read done h o shown p kind located small = placed located

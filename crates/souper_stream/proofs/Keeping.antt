@@ -1,4 +1,4 @@
--- What is held of a stream, beside what was read of it and the items that were passed to sinks.
+-- The buffer of a stream, the bytes read, and the items that were passed to sinks.
 use Rattle.std.proofs.Common.{◌≡◌, inl, inr, ℕ, ◌+◌, ◌≤◌, Bool, true, false, List, [], ◌++◌, length, take, drop, Option, Some, None, refl, sym, ap, ◌∙◌, subst, arith, append_assoc, append-nil, length-append}
 use Rattle.std.specs.Prelude.{IfSome}
 use Rattle.std.proofs.lemmas.List.{take_all, take-append-drop, length-drop}
@@ -41,7 +41,7 @@ held_idle k read items xs h n p none t =
     let same : xs ≡ [] = text_alone k [] xs [] nothing (none_spelled k) in
     subst (λ (x : List Item). IsHeld k read x h) (sym (ap (λ (x : List Item). items ++ x) same ∙ append-nil items)) p
 
--- items were passed to sinks, and lines before the last of them forgotten
+-- items were passed to sinks, and lines before the last of them dropped
 pub held_forgot : (k : ItemType) (read : List ℕ) (items xs : List Item) (old new : Held) (n : ℕ) → IsHeld k read items old → n ≤ length (fresh old) → IsSeam k (take n (fresh old)) (drop n (fresh old)) → TextSpells k (take n (fresh old)) xs
     → Forgets old new n → IsHeld k read (items ++ xs) new
 held_forgot k read items xs old new n p fits seam t f =
@@ -62,13 +62,13 @@ held_all k read items xs h n p all t =
 
 -- ---- refusals
 
--- if the part spells no items, all that is held spells none
+-- if the part spells no items, the whole text spells none
 pub whole_none : (k : ItemType) (ended : Bool) (text : List ℕ) (n : ℕ) → IsComplete k ended text n → SpellsNone k (take n text) → SpellsNone k text
 whole_none k true text n all none = subst (λ (x : List ℕ). SpellsNone k x) (take_all n text (omega (arith, all))) none
 whole_none k false text n (inl zero_is) none = absurd (none [] (subst (λ (m : ℕ). TextSpells k (take m text) []) (sym zero_is) (none_spelled k)))
 whole_none k false text n (inr seam) none = subst (λ (x : List ℕ). SpellsNone k x) (take-append-drop n text) (none_before k (take n text) (drop n text) seam none)
 
--- the part that was refused, and what is after it
+-- the part that was refused, and the text after it
 refused_never : (k : ItemType) (ended : Bool) (all : Type 0) (read : List ℕ) (items : List Item) (h : Held) (n : ℕ) → IsHeld k read items h → IsComplete k ended (fresh h) n → SpellsNone k (take n (fresh h)) → (ended ≡ true → all) → NeverSpells k all read
 refused_never k true all read items h n p long none at_end =
     let part : take n (fresh h) ≡ fresh h = take_all n (fresh h) (omega (arith, long)) in
@@ -95,7 +95,7 @@ refused_prefix k ended read items ys h n p complete b =
     longer false (inl zero_is) = after (inl (ap (λ (m : ℕ). take m (fresh h)) zero_is))
     longer false (inr seam) = after seam.lines
 
--- what was read begins with the items that were passed to sinks
+-- the text read begins with the items that were passed to sinks
 pub held_begun : (k : ItemType) (read : List ℕ) (items : List Item) (h : Held) → IsHeld k read items h → PrefixSpells k read items
 held_begun k read items h p =
     let b = prefix_after k (p.done) (fresh h) items [] (open_lines k (p.done) (fresh h) p.opened) p.spelled ([], fresh h, refl, refl) in
@@ -108,7 +108,7 @@ str_offset k file source e kind h = let r = rw kind at h in (r.0, r.1, r.2, r.3)
 some_is : (a b : ℕ) → Some a ≡ Some b → a ≡ b
 some_is a b e = cc
 
--- the offset of any error of the part is in what is held
+-- the offset of any error of the part is in the buffer
 pub offset_held : (k : ItemType) (ended : Bool) (h : Held) {S : Type 0} (holds : S → List Item → Type 0) (old new : S) (e : ParseError) → h.skipped ≤ length h.bytes.items → (kind_of e ≡ Parse → IsRefusedPart k ended (fresh h) holds old new e)
     → IfSome (offset_of e) (λ o. h.skipped + o ≤ length h.bytes.items)
 offset_held k ended h holds old new e within part = under e.cause refl
@@ -125,7 +125,7 @@ offset_held k ended h holds old new e within part = under e.cause refl
         let inside = s.2 in
         rw at (omega arith)
 
--- what was read and is held spells no items, whatever follows
+-- the text read spells no items, whatever follows
 pub part_refused : (k : ItemType) (file : Option (List ℕ)) (ended : Bool) (all : Type 0) {S : Type 0} (holds : S → List Item → Type 0) (old new : S) (read : List ℕ) (items : List Item) (h : Held) (e shown : ParseError)
     → IsHeld k read items h → (ended ≡ true → all) → IsRefusedPart k ended (fresh h) holds old new e → kind_of e ≡ Parse → kind_of shown ≡ Parse → IsLocatedAfter file h.before h.bytes.items h.skipped e shown
     → IsRefused k file all read items holds old new shown

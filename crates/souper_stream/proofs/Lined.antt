@@ -1,4 +1,4 @@
--- Lines of a piece, one after the other: whether an item ends with them, and the next line begins another.
+-- Lines of a segment, one after the other: whether an item ends with them, and the next line begins another.
 use Rattle.std.proofs.Common.{◌≡◌, ◌⊎◌, inl, inr, ℕ, true, false, List, [], ◌∷◌, ◌++◌, IsUtf8, refl, sym, ap, ◌∙◌, subst, append_assoc, append-nil}
 use Rattle.std.specs.List.{AllByRecursion}
 use Rattle.souper_graph.specs.Syntax.Tokens.{Lexeme}
@@ -40,7 +40,7 @@ abbrev pub Scans : ItemType → Line → ScanState → ScanState → Type 0
 Scans k line s new = (ts : List Lexeme) → IsStateAfter k ts s → IsStateAfter k (ts ++ tokens_of line) new
 
 module _ (k : ItemType) (piece : List ℕ) (s new : ScanState) (ls : List Line) (line : Line) (h : HasLines k piece s ls) (ul : IsUtf8 line) (scan : Scans k line s new) where
-  -- the piece goes on, where the line does not start or no item ends before it
+  -- the segment continues, where the line does not start or no item ends before it
   uncut_more : (starts_line (tokens_of line) ≡ true → EndsPiece k ls → ⊥) → IsUncut k (ls ++ line ∷ [])
   uncut_more goes_on front back e ends starts = under (snoc_parted front back ls line e)
     where
@@ -60,7 +60,7 @@ module _ (k : ItemType) (piece : List ℕ) (s new : ScanState) (ls : List Line) 
     scanned = subst (λ (ts : List Lexeme). IsStateAfter k ts new) (sym (tokens_snoc ls line)) (scan (tokens_of_lines ls) h.scanned);
   }
 
-  -- the line was passed, and the piece goes on
+  -- the line was passed, and the segment continues
   pub stays_in : (s.ends_item ≡ true → starts_line (tokens_of line) ≡ true → ⊥) → Passes k piece ls line false new
   stays_in not_both = (λ e. one_more (λ starts ends. not_both (h.scanned.ends.1 ends) starts), λ e. absurd cc)
 
@@ -72,7 +72,7 @@ no_lines k s none = record { whole = refl; utf8 = tt; uncut = λ front back e en
     no_start [] back e s = subst (λ (x : List Line). StartsPiece x) (sym e) s
     no_start (f ∷ front) back e s = cc
 
--- the line is the first of the next piece
+-- the line is the first of the next segment
 pub goes_next : (k : ItemType) (piece : List ℕ) (s none new : ScanState) (ls : List Line) (line : Line) → HasLines k piece s ls → IsUtf8 line → s.ends_item ≡ true → starts_line (tokens_of line) ≡ true
     → IsStateAfter k [] none → Scans k line none new → Passes k piece ls line true new
 goes_next k piece s none new ls line h ul ends starts nothing scan = (

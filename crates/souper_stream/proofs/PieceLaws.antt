@@ -1,4 +1,4 @@
--- What a text spells is what its pieces spell.
+-- A text spells the items that its segments spell.
 use Rattle.std.proofs.Common.{◌≡◌, inr, ℕ, true, List, [], ◌∷◌, ◌++◌, length, refl, sym, ap, ◌∙◌, subst, append-nil, Option}
 use Rattle.std.specs.List.{AllByRecursion}
 use Rattle.std.specs.Io.KnownBytes.{Consumes}
@@ -52,7 +52,7 @@ piece_starts (l ∷ q) more ts lines s h =
     let t = first_line l (q ++ more) ts lines h in
     subst (λ (x : List Lexeme). starts_line x ≡ true) (sym t.1) (starts_longer (tokens_of l) t.0 s)
 
--- the tokens of lines without a fault are those of all their bytes
+-- the tokens of lines without a fault are the tokens of all their bytes
 kinds_of_lines : (p : List Line) (ts : List (ℕ × Lexeme)) → AllByRecursion IsLine p → IsTextOf (concat p) ts → kinds ts ≡ tokens_of_lines p
 kinds_of_lines [] ts lines h = ap kinds (one_reading [] ts [] h no_text)
 kinds_of_lines (l ∷ p) ts lines h =
@@ -62,7 +62,7 @@ kinds_of_lines (l ∷ p) ts lines h =
 piece_ends : (k : ItemType) (p : List Line) (ts : List (ℕ × Lexeme)) → AllByRecursion IsLine p → EndsPiece k p → IsTextOf (concat p) ts → LastEnds k (kinds ts)
 piece_ends k p ts lines ends h = subst (λ (x : List Lexeme). LastEnds k x) (sym (kinds_of_lines p ts lines h)) ends
 
--- ---- pieces
+-- ---- segments
 
 two_pieces : (k : ItemType) (p q : List Line) (ps : List (List Line)) → concat (all_lines (p ∷ (q ∷ ps))) ≡ concat p ++ concat (all_lines (q ∷ ps))
 two_pieces k p q ps = concat-append p (all_lines (q ∷ ps))
@@ -97,6 +97,6 @@ spells_by_pieces k text ps ws a = (
   λ h. subst (λ (x : List ℕ). TextSpells k x ws) (sym a.whole) (parts_whole k ps ws a.lines a.cut h),
 )
 
--- a stream begins with the pieces that were read of it
+-- a stream begins with the segments that were read of it
 pub pieces_begin : (k : ItemType) (start now : Option (List ℕ)) (ps : List (List Line)) (p : PieceReader) → HasPieces k start now ps p → (read : List ℕ) × (rest : List ℕ) × Consumes start now read × (read ≡ concat (all_lines ps) ++ rest)
 pieces_begin k start now ps p (ls, h) = (h.read, fresh p.held, h.consumed, parts_read h.read (concat (all_lines ps)) p.held h.held)

@@ -1,4 +1,4 @@
--- One turn of the reading of a stream piece by piece: a line is read, and the piece goes on or ends.
+-- One turn of the reading of a stream segment by segment: a line is read, and the segment continues or ends.
 use Rattle.std.proofs.Common.{◌≡◌, inl, inr, ℕ, ◌+◌, ◌-◌, ◌<◌, ◌≤◌, Bool, true, false, List, [], ◌∷◌, ◌++◌, length, take, drop, Option, None, refl, sym, ap, ◌∙◌, subst, arith, append_assoc, append-nil, length-append}
 use Rattle.std.specs.Prelude.{vec_len}
 use Rattle.std.specs.List.{AllByRecursion}
@@ -28,7 +28,7 @@ use Rattle.souper_stream.proofs.Keeping.{str_offset}
 use Rattle.souper_stream.proofs.Turns.{located_kind}
 use Rattle.souper_stream.proofs.Lined.{concat-append, no_lines, ends_some}
 
--- ---- lists of lines and of pieces
+-- ---- lists of lines and of segments
 
 all_lines_snoc : (ps : List (List Line)) (p : List Line) → all_lines (ps ++ p ∷ []) ≡ all_lines ps ++ p
 all_lines_snoc [] p = append-nil p
@@ -79,7 +79,7 @@ cut_more k [] p q h e s = (e, s, starts_some q s)
 cut_more k (r ∷ []) p q h e s = (h.0, h.1, (e, s, starts_some q s))
 cut_more k (r ∷ (t ∷ ps)) p q h e s = (h.0, h.1, cut_more k (t ∷ ps) p q h.2 e s)
 
--- the next piece with more lines
+-- the next segment with more lines
 next_longer : (k : ItemType) (ps : List (List Line)) (ls : List Line) (l : Line) → (ls ≡ [] → ps ≡ []) → AreCut k (and_next ps ls) → AreCut k (and_next ps (ls ++ l ∷ []))
 next_longer k ps [] l none h = rw (none refl) (λ e. cc)
 next_longer k ps (x ∷ ls) l none h = cut_longer k ps x ls (l ∷ []) h
@@ -112,7 +112,7 @@ begun_none k start p none zero_is b l nothing ended = (
   },
 )
 
--- a line was read into what is held, and the fields of the reader are these
+-- a line was read into the buffer, and the fields of the reader are these
 pub record Turn (mid after : Option (List ℕ)) (p q : PieceReader) (line : Line) : Type 0 where
   pub reads : ReadsLine mid after p.held.bytes.items q.held.bytes.items q.ended line
   pub skipped : q.held.skipped ≡ p.held.skipped
@@ -157,7 +157,7 @@ module _ (k : ItemType) (start mid after : Option (List ℕ)) (ps : List (List L
     },
   )
 
-  -- the piece goes on
+  -- the segment continues
   pub turn_more : 0 < length line → HasLines k (fresh p.held ++ line) q.scanned (ls ++ line ∷ []) → HasPieces k start after ps q
   turn_more some next = (
     ls ++ line ∷ [],
@@ -175,7 +175,7 @@ module _ (k : ItemType) (start mid after : Option (List ℕ)) (ps : List (List L
     },
   )
 
-  -- the piece has ended before the line
+  -- the segment has ended before the line
   pub turn_cut : 0 < length line → EndsPiece k ls → StartsPiece (line ∷ []) → HasLines k line q.scanned (line ∷ []) → IsNext k start after ps q (length (fresh p.held))
   turn_cut some ends starts next = (
     λ e. absurd (some_piece ls ends (no_bytes (all_lines ps) ls h.lines (sym (ap length h.next.whole) ∙ e))),
@@ -215,7 +215,7 @@ module _ (k : ItemType) (start mid after : Option (List ℕ)) (ps : List (List L
       left : drop (length (fresh p.held)) (fresh q.held) ≡ line
       left = ap (λ (x : List ℕ). drop (length (fresh p.held)) x) fresh_now ∙ drop-append_seam (fresh p.held) line
 
--- the stream has ended: what is left is the last piece
+-- the stream has ended: the unparsed bytes are the last segment
 pub turn_last : (k : ItemType) (start now : Option (List ℕ)) (ps : List (List Line)) (ls : List Line) (p q : PieceReader) → HasBegun k start now ps ls p → p.ended ≡ true → q.held ≡ p.held → IsStateAfter k [] q.scanned → q.ended ≡ true → IsNext k start now ps q (length (fresh p.held))
 turn_last k start now ps ls p q h ended held_is nothing ended_now = (
   λ e. all (no_bytes (all_lines ps) ls h.lines (sym (ap length h.next.whole) ∙ e)) e,
@@ -269,9 +269,9 @@ turn_last k start now ps ls p q h ended held_is nothing ended_now = (
       },
     )
 
--- ---- what was read, by slices
+-- ---- the bytes read, by slices
 
--- the lengths of what is held
+-- the number of unparsed bytes
 pub fresh_len : (h : Held) (n : ℕ) → n ≡ vec_len h.bytes → length (fresh h) ≡ n - h.skipped
 fresh_len h n e = length-drop h.skipped h.bytes.items ∙ ap (λ (m : ℕ). m - h.skipped) (omega (arith, e, h.bytes.ok))
 
@@ -313,7 +313,7 @@ pub empty_ended : (before after : Option (List ℕ)) (old new : List ℕ) (ended
 empty_ended before after old new true line r e = (no_line line e, refl)
 empty_ended before after old new false line r e = let some = line_some line (inl (r.whole refl)) in absurd (omega arith)
 
--- ---- the piece that was parsed
+-- ---- the segment that was parsed
 
 -- its refusal
 pub piece_refused : {S : Type 0} (k : ItemType) (file : Option (List ℕ)) (h : Held) (len : ℕ) (holds : S → List Item → Type 0) (old new : S) (text : List ℕ) (e shown : ParseError) → text ≡ take len (fresh h) → len ≤ length (fresh h)
@@ -328,14 +328,14 @@ piece_refused k file h len holds old new text e shown is within begun error show
       placed = λ read done held small. (length done + s.0, omega arith, omega (arith, s.2, ap length is, length-append done (take len (fresh h))), after_placed file read done h s.0 shown held shown_kind placed_after small);
     }
 
--- the piece was forgotten
+-- the segment was dropped
 pub piece_done : (k : ItemType) (start now : Option (List ℕ)) (ps : List (List Line)) (p q : PieceReader) (len : ℕ) (piece : List Line) → IsReady k start now ps p len piece → Forgets p.held q.held len → q.scanned ≡ p.scanned → q.ended ≡ p.ended → HasPieces k start now (ps ++ piece ∷ []) q
 piece_done k start now ps p q len piece r f scanned ended =
     let a = after_forgot r.read (concat (all_lines ps)) p.held q.held len r.held r.within f in
     let same : holding p q.held q.line ≡ q = (λ i. record { held = q.held; scanned = sym scanned i; ended = sym ended i; line = q.line }) in
     subst (λ (x : PieceReader). HasPieces k start now (ps ++ piece ∷ []) x) same (r.then q.held q.line a.0 a.1)
 
--- its line is that in the stream
+-- its line in the stream
 on_line : (k : ItemType) (start now : Option (List ℕ)) (ps : List (List Line)) (p : PieceReader) (len line : ℕ) (piece : List Line) → IsReady k start now ps p len piece → HasLine p.held len line → IsOnLine (concat (all_lines ps)) (concat piece) line
 on_line k start now ps p len line piece r h = subst (λ (x : List ℕ). IsOnLine (concat (all_lines ps)) x line) r.part (h r.read (concat (all_lines ps)) r.held)
 

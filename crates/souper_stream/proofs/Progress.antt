@@ -1,4 +1,4 @@
--- What was read of a stream, and what was passed to sinks of it.
+-- The text read of a stream, and its parsed part.
 use Rattle.std.proofs.Common.{◌≡◌, ◌⊎◌, inl, inr, ℕ, ◌+◌, ◌-◌, ◌<◌, List, [], ◌∷◌, ◌++◌, length, refl, sym, ap, ◌∙◌, subst, arith, append_assoc, append-nil, length-append}
 use Rattle.souper_graph.specs.Values.{Item}
 use Rattle.souper_graph.specs.Syntax.Tokens.{Lexeme, IsGap, Begins, IsTextOf}
@@ -52,11 +52,11 @@ no_text = ([], refl, record { gap = []; last = []; is_gap = ([], tt, refl); is_l
 pub none_spelled : (k : ItemType) → TextSpells k [] []
 none_spelled k = ([], no_text, refl)
 
--- the items of what was passed to sinks, and of the part after it
+-- the items of the parsed text, and of the part after it
 pub spelled_more : (k : ItemType) (done fresh part : List ℕ) (xs ys : List Item) → IsOpen k done fresh → TextSpells k done xs → TextSpells k part ys → TextSpells k (done ++ part) (xs ++ ys)
 spelled_more k done fresh part xs ys opened a b = items_join k done part xs ys (open_lines k done fresh opened) a b
 
--- a part that spells no items, after what was passed to sinks and before a seam
+-- a part that spells no items, after the parsed text and before a seam
 pub none_after : (k : ItemType) (done part rest : List ℕ) → IsOpen k done (part ++ rest) → IsSeam k part rest → SpellsNone k part → SpellsNone k (done ++ (part ++ rest))
 none_after k done part rest opened seam none items spelled = under opened
   where
@@ -67,7 +67,7 @@ none_after k done part rest opened seam none items spelled = under opened
     under (inl e) = inner items (subst (λ (x : List ℕ). TextSpells k (x ++ (part ++ rest)) items) e spelled)
     under (inr s) = let r = (seams_part k done (part ++ rest) items s).0 spelled in inner r.1 r.4
 
--- the same at the end of what was read
+-- the same at the end of the text read
 pub none_at_end : (k : ItemType) (done part : List ℕ) → IsOpen k done part → SpellsNone k part → SpellsNone k (done ++ part)
 none_at_end k done part opened none items spelled = under opened
   where

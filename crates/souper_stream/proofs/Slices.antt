@@ -20,7 +20,7 @@ use Rattle.souper_stream.proofs.Cuts.{starts_more}
 length_front : (xs : List ℕ) (s : ℕ) → s ≤ length xs → length (take s xs) ≡ s
 length_front xs s l = omega (arith, length-take s xs)
 
--- a prefix, and what is after it up to a later place
+-- a prefix, and the bytes after it up to a later index
 pub take_parts : (xs : List ℕ) (s n : ℕ) → s ≤ n → s ≤ length xs → take n xs ≡ take s xs ++ take (n - s) (drop s xs)
 take_parts xs s n l k =
     let front = length_front xs s k in
@@ -34,7 +34,7 @@ drop_parts xs s n l k =
     let later : drop n xs ≡ drop (n - s) (drop s xs) = (λ i. drop (sym at i) (sym (take-append-drop s xs) i)) ∙ drop-append-add (take s xs) (drop s xs) (n - s) in
     sym (take-append-drop (n - s) (drop s xs)) ∙ ap (λ (x : List ℕ). take (n - s) (drop s xs) ++ x) (sym later)
 
--- what is after a newline
+-- the bytes up to a newline are lines
 pub lines_at : (xs : List ℕ) (n : ℕ) → 0 < n → n ≤ length xs → get_or xs (n - 1) 0 ≡ 10 → IsLines (take n xs)
 lines_at xs n some l e =
     let at : n - 1 + 1 ≡ n = omega arith in

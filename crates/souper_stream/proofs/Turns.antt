@@ -27,7 +27,7 @@ use Rattle.souper_stream.proofs.Keeping.{held_more, held_idle, held_forgot, held
 pub enough_read : (held new least goal more : ℕ) → min (held + least) (2 ^ 64 - 1) ≤ goal → goal ≤ new → new < 2 ^ 63 → new ≡ held + more → least ≤ more
 enough_read held new least goal more room reached small is = omega arith
 
--- more was read into what is held
+-- more was read into the buffer
 pub record Fills (mid after : Option (List ℕ)) (h0 h1 : Held) (ended : Bool) (more : List ℕ) : Type 0 where
   pub reads : ReadsMore mid after h0.bytes.items h1.bytes.items ended more
   pub skipped : h1.skipped ≡ h0.skipped
@@ -53,7 +53,7 @@ seam_taken : (k : ItemType) (h : Held) (n : ℕ) → 0 < n → IsTaken k false (
 seam_taken k h n some (fits, inl none) = absurd (omega arith)
 seam_taken k h n some (fits, inr seam) = seam
 
--- items were passed to sinks, and forgotten
+-- items were passed to sinks, and their text dropped
 pub turn_forgot : {S : Type 0} (k : ItemType) (read : List ℕ) (items : List Item) (mid after : Option (List ℕ)) (holds : S → List Item → Type 0) (old new : S) (h0 h1 : Held) (p : PartReader) (more : List ℕ) (n : ℕ)
     → IsHeld k read items h0 → Fills mid after h0 h1 false more → Forgets h1 p.held n → 0 < n → IsTaken k false (fresh h1) n → TakesText holds k (take n (fresh h1)) old new → AwaitsPart p → p.least ≤ length more → ReadsPart k read items mid after holds old new p false
 turn_forgot k read items mid after holds old new h0 h1 p more n r m f some taken t awaits enough = record {
@@ -79,7 +79,7 @@ turn_ended k read items mid after holds old new h0 h1 p more n r m taken t = rec
   all_read = λ e. (m.reads.all_read refl, held_all k (read ++ more) items t.0 h1 n (held_now k read items mid after h0 h1 true more r m) taken.1 t.1);
 }
 
--- only a refusal is given a place
+-- only a refusal is given a location
 pub located_kind : (file : Option (List ℕ)) (before : Before) (source : List ℕ) (skipped : ℕ) (e new : ParseError) → IsLocatedAfter file before source skipped e new → kind_of new ≡ Parse → kind_of e ≡ Parse
 located_kind file before source skipped e new l kind = under (kind_of e) refl l
   where
@@ -99,13 +99,13 @@ turn_refused k file read items mid after holds old new h0 h1 ended more e shown 
       part_refused k file ended (AreAll mid more) holds old new (read ++ more) items h1 e shown (held_now k read items mid after h0 h1 ended more r m) m.reads.all_read (part kind) kind shown_kind located,
     )
 
--- what was read begins with the items that were passed to sinks
+-- the text read begins with the items that were passed to sinks
 pub read_begun : (k : ItemType) (read : List ℕ) (items : List Item) (p : PartReader) → HasRead k read items p → PrefixSpells k read items
 read_begun k read items p h = held_begun k read items p.held h.0
 
 -- ---- part after part
 
--- what was read of a stream, and the items that the sink took
+-- the text read of a stream, and the items that the sink took
 abbrev pub Reached : {S : Type 0} → ItemType → Option (List ℕ) → Option (List ℕ) → (S → List Item → Type 0) → S → S → PartReader → Type 0
 Reached k before mid holds first old p = (read : List ℕ) × (items : List Item) × HasRead k read items p × Consumes before mid read × TakesOver holds items first old
 
@@ -134,7 +134,7 @@ reached_end k before mid after holds first old new p q ended r m e = record {
   taken = (r.1 ++ m.taken, (m.all_read e).1, over_both holds r.1 m.taken first old new r.4 m.over);
 }
 
--- what was read is refused for good, or is all of the stream
+-- the text read is refused for good, or is all of the stream
 pub never_after : (k : ItemType) (before mid : Option (List ℕ)) (read more : List ℕ) → Consumes before mid read → NeverSpells k (AreAll mid more) (read ++ more) → NeverSpells k (AreAll before (read ++ more)) (read ++ more)
 never_after k before mid read more h (inl never) = inl never
 never_after k before mid read more h (inr all) = inr (all_after before mid read more h all.0, all.1)

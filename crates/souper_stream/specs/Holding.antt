@@ -1,4 +1,4 @@
--- Definitions. What is held of a stream, beside what was read of it and the items that were passed to sinks.
+-- Definitions. The buffer of a stream, its relation to the bytes read, the parsed text (`done`), and the items that were passed to sinks.
 use Rattle.std.specs.Prelude.{◌≡◌, ◌⊎◌, ℕ, ◌+◌, ◌-◌, ◌^◌, ◌<◌, ◌≤◌, List, [], ◌++◌, length, min, take, drop}
 use Rattle.souper_graph.specs.Values.{Item}
 use Rattle.souper_graph.specs.Syntax.Spelling.{ItemType, TextSpells}
@@ -8,15 +8,15 @@ use Rattle.souper_ir.specs.Joining.{IsLines}
 use Rattle.souper_stream.specs.declared.held.Held.{Held}
 use Rattle.souper_stream.specs.Seams.{IsSeam}
 
--- the text after what was passed to sinks
+-- the unparsed bytes: the buffer after the kept line
 abbrev pub fresh : Held → List ℕ
 fresh h = drop h.skipped h.bytes.items
 
--- nothing was passed to sinks, or a seam is after what was
+-- no text was parsed, or a seam is after the parsed text
 abbrev pub IsOpen : ItemType → List ℕ → List ℕ → Type 0
 IsOpen k done fresh = (done ≡ []) ⊎ IsSeam k done fresh
 
--- Of what was read, lines are gone and counted, and the rest is held: after what is done, which was passed to sinks.
+-- Of the bytes read, whole lines were dropped and counted, and the rest is the buffer, which begins with the end of the parsed text.
 pub record HoldsAfter (read done : List ℕ) (h : Held) : Type 0 where
   pub gone : List ℕ
   pub whole : read ≡ gone ++ h.bytes.items
@@ -26,14 +26,14 @@ pub record HoldsAfter (read done : List ℕ) (h : Held) : Type 0 where
   pub done_is : done ≡ gone ++ take h.skipped h.bytes.items
   pub placed : (0 < h.skipped) ⊎ (gone ≡ [])
 
--- what is done spells the items that were passed to sinks
+-- the parsed text spells the items that were passed to sinks
 pub record IsHeld (k : ItemType) (read : List ℕ) (items : List Item) (h : Held) : Type 0 where
   pub done : List ℕ
   pub after : HoldsAfter read done h
   pub spelled : TextSpells k done items
   pub opened : IsOpen k done (fresh h)
 
--- Whole lines were forgotten, and counted; so many bytes more than before are those of the line that was passed to sinks.
+-- Whole lines were dropped and counted. The parsed text is `len` bytes longer, and the end of it is still buffered.
 pub record Forgets (old new : Held) (len : ℕ) : Type 0 where
   pub start : ℕ
   pub within : start ≤ old.skipped + len

@@ -79,6 +79,6 @@ abbrev pub first_offset : List (ℕ × Lexeme) → ℕ
 first_offset [] = 0
 first_offset (t ∷ ts) = t.0
 
--- the line, counted from 1, on which the first token of a piece is, after what is done
+-- the 1-based line of the first token of a segment, after the parsed text `done`
 abbrev pub first_line : List ℕ → List ℕ → ℕ
 first_line done piece = newlines (done ++ take (first_offset (lexed_of 0 piece).tokens) piece) + 1

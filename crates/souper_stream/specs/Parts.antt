@@ -9,12 +9,12 @@ use Rattle.souper_stream.specs.declared.parts.PartReader.{PartReader}
 use Rattle.souper_stream.specs.Holding.{IsHeld}
 use Rattle.souper_stream.specs.Reading.{AreAll, IsRefused}
 
--- the next part has at least `least` bytes more than are held, of which there is one at least
+-- the buffer will have grown by at least `least` bytes, at least one, when the next part is parsed
 pub record AwaitsPart (p : PartReader) : Type 0 where
   pub some : 0 < p.least
   pub room : min (length p.held.bytes.items + p.least) (2 ^ 64 - 1) ≤ p.goal
 
--- so much of a stream was read, and these items were passed to sinks; the rest of what was read is held
+-- this text of a stream was read, and these items were passed to sinks; the buffer has the unparsed rest
 abbrev pub HasRead : ItemType → List ℕ → List Item → PartReader → Type 0
 HasRead k read items p = IsHeld k read items p.held × AwaitsPart p
 

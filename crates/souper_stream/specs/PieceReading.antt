@@ -1,4 +1,4 @@
--- Definitions. The reading of a stream piece by piece.
+-- Definitions. The reading of a stream segment by segment.
 use Rattle.std.specs.Prelude.{◌≡◌, ℕ, ◌+◌, ◌^◌, ◌<◌, ◌≤◌, Bool, true, false, List, [], ◌∷◌, ◌++◌, length, take, drop, Option, IsUtf8}
 use Rattle.std.specs.List.{AllByRecursion}
 use Rattle.std.specs.Io.KnownBytes.{Consumes}
@@ -24,25 +24,25 @@ pub record ReadsLine (before after : Option (List ℕ)) (old new : List ℕ) (en
   pub part : ended ≡ true → IsOneLine line
   pub all_read : ended ≡ true → AreAll before line
 
--- the bytes are these lines of a piece, and the state is that after their tokens
+-- the bytes are these lines of a segment, and `s` is the state after their tokens
 pub record HasLines (k : ItemType) (bytes : List ℕ) (s : ScanState) (ls : List Line) : Type 0 where
   pub whole : bytes ≡ concat ls
   pub utf8 : AllByRecursion IsUtf8 ls
   pub uncut : IsUncut k ls
   pub scanned : IsStateAfter k (tokens_of_lines ls) s
 
--- the line is one more of the piece, or the first of the next, and the state is that after its tokens
+-- the line is one more of the segment, or the first of the next, and `s` is the state after its tokens
 abbrev pub Passes : ItemType → List ℕ → List Line → Line → Bool → ScanState → Type 0
 Passes k piece ls line cut s =
     (cut ≡ false → HasLines k (piece ++ line) s (ls ++ line ∷ []))
     × (cut ≡ true → EndsPiece k ls × StartsPiece (line ∷ []) × HasLines k line s (line ∷ []))
 
--- the pieces, and the lines of the next, if there are any
+-- the segments, and the lines of the next, if there are any
 abbrev pub and_next : List (List Line) → List Line → List (List Line)
 and_next ps [] = ps
 and_next ps (l ∷ ls) = ps ++ (l ∷ ls) ∷ []
 
--- These pieces of a stream were read and parsed, and these lines of the next were read.
+-- These segments of a stream were read and parsed, and these lines of the next were read.
 pub record HasBegun (k : ItemType) (start now : Option (List ℕ)) (ps : List (List Line)) (ls : List Line) (p : PieceReader) : Type 0 where
   pub read : List ℕ
   pub consumed : Consumes start now read
@@ -55,19 +55,19 @@ pub record HasBegun (k : ItemType) (start now : Option (List ℕ)) (ps : List (L
   pub none : p.ended ≡ false → ls ≡ [] → ps ≡ []
   pub all_read : p.ended ≡ true → AreAll start read
 
--- these pieces of a stream were read and parsed
+-- these segments of a stream were read and parsed
 abbrev pub HasPieces : ItemType → Option (List ℕ) → Option (List ℕ) → List (List Line) → PieceReader → Type 0
 HasPieces k start now ps p = (ls : List Line) × HasBegun k start now ps ls p
 
--- the stream has ended, and these are its pieces
+-- the stream has ended, and these are its segments
 abbrev pub HasAll : ItemType → Option (List ℕ) → Option (List ℕ) → List (List Line) → Type 0
 HasAll k start now ps = (read : List ℕ) × Consumes start now read × AreAll start read × ArePieces k read ps
 
--- the reader with other bytes held, and another line
+-- the reader with another buffer, and another line
 abbrev pub holding : PieceReader → Held → ℕ → PieceReader
 holding p h line = record { held = h; scanned = p.scanned; ended = p.ended; line = line }
 
--- the next piece has so many bytes: the reader will have read it too, once they are forgotten
+-- the next segment is `len` bytes long, and dropping them advances the reader past it
 pub record IsReady (k : ItemType) (start now : Option (List ℕ)) (ps : List (List Line)) (p : PieceReader) (len : ℕ) (piece : List Line) : Type 0 where
   pub read : List ℕ
   pub consumed : Consumes start now read
@@ -76,15 +76,15 @@ pub record IsReady (k : ItemType) (start now : Option (List ℕ)) (ps : List (Li
   pub part : take len (fresh p.held) ≡ concat piece
   pub then : (h : Held) (line : ℕ) → HoldsAfter read (concat (all_lines ps) ++ take len (fresh p.held)) h → fresh h ≡ drop len (fresh p.held) → HasPieces k start now (ps ++ piece ∷ []) (holding p h line)
 
--- the stream has ended, or the next piece was read
+-- the stream has ended, or the next segment was read
 abbrev pub IsNext : ItemType → Option (List ℕ) → Option (List ℕ) → List (List Line) → PieceReader → ℕ → Type 0
 IsNext k start now ps p len = (len ≡ 0 → HasAll k start now ps) × (0 < len → (piece : List Line) × IsReady k start now ps p len piece)
 
--- The line of a piece, after what is done. Numbers have 64 bits.
+-- The line of a segment, after the parsed text `done`. Numbers have 64 bits.
 abbrev pub IsOnLine : List ℕ → List ℕ → ℕ → Type 0
 IsOnLine done piece line = length (done ++ piece) + 1 < 2 ^ 64 → line ≡ first_line done piece
 
--- the line of the first bytes that are held, so many
+-- the line of the first `len` unparsed bytes
 abbrev pub HasLine : Held → ℕ → ℕ → Type 0
 HasLine h len line = (read done : List ℕ) → HoldsAfter read done h → IsOnLine done (take len (fresh h)) line
 
@@ -92,24 +92,24 @@ HasLine h len line = (read done : List ℕ) → HoldsAfter read done h → IsOnL
 abbrev pub line_of : PieceReader → ℕ
 line_of p = p.line
 
--- the refusal of a piece, after what is done, has and shows its place in what was read
+-- the refusal of a segment, after the parsed text `done`, has and shows its location in the text read
 abbrev pub IsPlacedIn : Option (List ℕ) → List ℕ → List ℕ → List ℕ → ParseError → Type 0
 IsPlacedIn file read done piece e = length read + 1 < 2 ^ 64 → (offset : ℕ) × (length done ≤ offset) × (offset ≤ length (done ++ piece)) × IsRefusalAt file read offset e
 
--- the first bytes that are held, so many, spell no items
+-- the first `len` unparsed bytes spell no items
 pub record RefusesBytes {S : Type 0} (k : ItemType) (file : Option (List ℕ)) (h : Held) (len : ℕ) (holds : S → List Item → Type 0) (old new : S) (e : ParseError) : Type 0 where
   pub none : SpellsNone k (take len (fresh h))
   pub begun : TakesPrefix holds k (take len (fresh h)) old new
   pub placed : (read done : List ℕ) → HoldsAfter read done h → IsPlacedIn file read done (take len (fresh h)) e
 
--- the next piece spells items, and the sink took them
+-- the next segment spells items, and the sink took them
 pub record TakesPiece {S : Type 0} (k : ItemType) (start now : Option (List ℕ)) (ps : List (List Line)) (holds : S → List Item → Type 0) (old new : S) (p : PieceReader) : Type 0 where
   pub piece : List Line
   pub goes_on : HasPieces k start now (ps ++ piece ∷ []) p
   pub on_line : IsOnLine (concat (all_lines ps)) (concat piece) (line_of p)
   pub taken : TakesText holds k (concat piece) old new
 
--- The next piece spells no items. The sink took items that it begins with. The refusal has and shows its place in what was read.
+-- The next segment spells no items. The sink took items that it begins with. The refusal has and shows its location in the text read.
 pub record RefusesPiece {S : Type 0} (k : ItemType) (file start now : Option (List ℕ)) (ps : List (List Line)) (holds : S → List Item → Type 0) (old new : S) (p : PieceReader) (e : ParseError) : Type 0 where
   pub piece : List Line
   pub goes_on : HasPieces k start now (ps ++ piece ∷ []) p

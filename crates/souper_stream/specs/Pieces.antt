@@ -1,6 +1,6 @@
--- Definitions. The pieces of a text: lines, cut where an item ends and a line of the next begins, as far as tokens show it. A line
+-- Definitions. The segments of a text: lines, cut where an item ends and a line of the next begins, as far as tokens show it. A line
 -- starts if it begins with a statement, or with one of an item's last lines. A fault hides the tokens after it on its line, and no
--- others; so the next piece can be read though this one is refused.
+-- others; so the next segment can be read though this one is refused.
 use Rattle.std.specs.Prelude.{◌≡◌, ◌⊎◌, ◌↔◌, ℕ, ◌<◌, true, List, [], ◌∷◌, ◌++◌, length}
 use Rattle.std.specs.List.{AllByRecursion}
 use Rattle.souper_graph.specs.Values.{Item}
@@ -36,7 +36,7 @@ AreLines (l ∷ (m ∷ ls)) = IsLine l × AreLines (m ∷ ls)
 abbrev pub tokens_of : List ℕ → List Lexeme
 tokens_of bs = kinds (lexed_of 0 bs).tokens
 
--- The tokens of lines, each up to a fault if it has one. No token goes on in the next line.
+-- The tokens of lines, each up to a fault if it has one. No token extends into the next line.
 abbrev pub tokens_of_lines : List Line → List Lexeme
 tokens_of_lines [] = []
 tokens_of_lines (l ∷ ls) = tokens_of l ++ tokens_of_lines ls
@@ -54,29 +54,29 @@ StartsPiece (l ∷ ls) = starts_line (tokens_of l) ≡ true
 abbrev pub IsUncut : ItemType → List Line → Type 0
 IsUncut k ls = (front back : List Line) → ls ≡ front ++ back → EndsPiece k front → StartsPiece back → ⊥
 
--- Each piece has lines. An item ends with each but the last, and a line starts with each but the first.
+-- Each segment has lines. An item ends with each but the last, and a line starts with each but the first.
 abbrev pub AreCut : ItemType → List (List Line) → Type 0
 AreCut k [] = Unit {0}
 AreCut k (p ∷ []) = p ≡ [] → ⊥
 AreCut k (p ∷ (q ∷ ps)) = EndsPiece k p × StartsPiece q × AreCut k (q ∷ ps)
 
--- the lines of all pieces
+-- the lines of all segments
 abbrev pub all_lines : List (List Line) → List Line
 all_lines [] = []
 all_lines (p ∷ ps) = p ++ all_lines ps
 
--- the text is these pieces: it is cut at each place where it can be cut, and nowhere else
+-- the text is these segments: it is cut at every cut point, and nowhere else
 pub record ArePieces (k : ItemType) (text : List ℕ) (ps : List (List Line)) : Type 0 where
   pub whole : text ≡ concat (all_lines ps)
   pub lines : AreLines (all_lines ps)
   pub cut : AreCut k ps
   pub uncut : AllByRecursion (IsUncut k) ps
 
--- each piece spells its items, and the items are those of all
+-- each segment spells its items, and `ws` has the items of all segments, in order
 abbrev pub PiecesSpell : ItemType → List (List Line) → List Item → Type 0
 PiecesSpell k [] ws = ws ≡ []
 PiecesSpell k (p ∷ ps) ws = (xs : List Item) × (ys : List Item) × (ws ≡ xs ++ ys) × TextSpells k (concat p) xs × PiecesSpell k ps ys
 
--- a text spells what its pieces spell
+-- a text spells the items that its segments spell
 abbrev pub SpellsByPieces : Type 0
 SpellsByPieces = (k : ItemType) (text : List ℕ) (ps : List (List Line)) (ws : List Item) → ArePieces k text ps → TextSpells k text ws ↔ PiecesSpell k ps ws

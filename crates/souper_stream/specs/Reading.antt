@@ -1,4 +1,4 @@
--- Definitions. What is read of a stream, and what becomes of it.
+-- Definitions. Reads of a stream, and their outcomes.
 use Rattle.std.specs.Prelude.{◌≡◌, ◌⊎◌, ℕ, ◌+◌, ◌^◌, ◌<◌, ◌≤◌, Bool, true, false, List, [], ◌++◌, length, take, drop, Option, None, IfSome}
 use Rattle.std.specs.Io.KnownBytes.{Consumes}
 use Rattle.souper_graph.specs.Values.{Item}
@@ -13,7 +13,7 @@ use Rattle.souper_stream.specs.Seams.{IsSeam}
 abbrev pub AreAll : Option (List ℕ) → List ℕ → Type 0
 AreAll known bytes = IfSome known (λ all. all ≡ bytes)
 
--- these bytes more were read and are held; if the input has ended, they are all that was left of it
+-- these bytes were read and appended to the buffer; if the input has ended, they are all that was left of it
 pub record ReadsMore (before after : Option (List ℕ)) (old new : List ℕ) (ended : Bool) (more : List ℕ) : Type 0 where
   pub held : new ≡ old ++ more
   pub consumed : Consumes before after more
@@ -27,7 +27,7 @@ IsComplete k false fresh n = (n ≡ 0) ⊎ IsSeam k (take n fresh) (drop n fresh
 abbrev pub IsTaken : ItemType → Bool → List ℕ → ℕ → Type 0
 IsTaken k ended fresh n = (n ≤ length fresh) × IsComplete k ended fresh n
 
--- the part up to there spells no items, the error is that of the whole, and the sink took items that the part begins with
+-- the first `len` bytes spell no items, the error comes from parsing the whole text, and the sink took items that the part begins with
 pub record IsRefusedPart {S : Type 0} (k : ItemType) (ended : Bool) (fresh : List ℕ) (holds : S → List Item → Type 0) (old new : S) (e : ParseError) : Type 0 where
   pub len : ℕ
   pub taken : IsTaken k ended fresh len
@@ -42,12 +42,12 @@ pub record IsStreamTaken {S : Type 0} (k : ItemType) (before after : Option (Lis
   pub all_read : AreAll before read
   pub taken : TakesText holds k read old new
 
--- no text that begins with what was read of a stream spells items; or what was read is all, and spells none
+-- no text that begins with the text read of a stream spells items; or the text read is all, and spells none
 abbrev pub NeverSpells : ItemType → Type 0 → List ℕ → Type 0
 NeverSpells k all read = ((more : List ℕ) → SpellsNone k (read ++ more)) ⊎ (all × SpellsNone k read)
 
--- What was read of a stream is refused: whatever follows, the whole spells no items. After `items` the sink took further items,
--- and what was read begins with all of them. The error has and shows its place in what was read.
+-- The text read of a stream is refused: whatever follows, the whole spells no items. After `items` the sink took further items,
+-- and the text read begins with all of them. The error has and shows its location in the text read.
 pub record IsRefused {S : Type 0} (k : ItemType) (file : Option (List ℕ)) (all : Type 0) (read : List ℕ) (items : List Item) (holds : S → List Item → Type 0) (old new : S) (e : ParseError) : Type 0 where
   pub taken : List Item
   pub over : TakesOver holds taken old new

@@ -39,7 +39,7 @@ pub record IsSeam (k : ItemType) (a b : List ℕ) : Type 0 where
   pub ends : EndsItem k a
   pub starts : StartsLine b
 
--- the items that a text spells are those of the parts before and after a seam
+-- a text spells the items of its part before a seam, followed by the items of its part after the seam
 abbrev pub SeamsPart : Type 0
 SeamsPart = (k : ItemType) (a b : List ℕ) (ws : List Item) → IsSeam k a b
     → TextSpells k (a ++ b) ws ↔ ((xs : List Item) × (ys : List Item) × (ws ≡ xs ++ ys) × TextSpells k a xs × TextSpells k b ys)

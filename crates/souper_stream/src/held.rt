@@ -1,4 +1,4 @@
-//! What is held of a stream.
+//! The buffer of a stream.
 ghost use Rattle.std.specs.Prelude.{◌≡◌, ◌+◌, ◌<◌, ◌≤◌, [], length, vec_len, OnOk};
 ghost use Rattle.souper_ir.specs.Places.{newlines};
 ghost use Rattle.souper_stream.specs.Holding.{Forgets};
@@ -7,20 +7,20 @@ use crate::lines::lines_len;
 use souper_ir::parse::Before;
 use std::alloc::{AllocError, Global};
 
-/// What is held of a stream.
+/// The buffer of a stream.
 #[derive(Drop)]
 pub(crate) struct Held {
-    /// A line whose items were passed to sinks, if there is one, and what was read after it.
+    /// The last line whose items were passed to sinks, if there is one, and the bytes that were read after it.
     pub(crate) bytes: Vec<u8>,
 
     /// The length of that line, in bytes.
     pub(crate) skipped: usize,
 
-    /// What was read before the bytes.
+    /// The numbers of bytes and lines before the buffer.
     pub(crate) before: Before,
 }
 
-// The newlines of so few bytes that one byte counts them.
+// The newlines of at most 255 bytes, counted in one byte.
 fn newlines_of_chunk(bytes: &[u8]) -> u8
     requires { length bytes.now ≤ 255 }
     ensures { result ≡ newlines bytes.now }
@@ -34,7 +34,7 @@ fn newlines_of_chunk(bytes: &[u8]) -> u8
     count
 }
 
-// So many bytes at a time: 7 times 32, which is what the compiled loop takes in one turn.
+// Chunk size in bytes: 7 times the 32 bytes that the compiled loop takes in one turn.
 const CHUNK: usize = 224;
 
 /// The newlines of the bytes. A counter of one byte lets the compiler compare and count 16 bytes at once.
@@ -62,7 +62,7 @@ impl Held {
         }
     }
 
-    /// Forgets what was read up to the line that ends so many bytes later, whose items were passed to sinks.
+    /// Drops `len` consumed bytes, keeping the last line for error locations.
     pub(crate) fn forget(&mut self, alloc: Global, len: usize) -> Result<(), AllocError>
         requires some { 0 < len }
         requires within { self.old.skipped + len ≤ vec_len self.old.bytes }

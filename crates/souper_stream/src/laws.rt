@@ -2,7 +2,7 @@
 ghost use Rattle.souper_stream.specs.Pieces.{SpellsByPieces};
 ghost use Rattle.souper_stream.specs.Seams.{SeamsPart};
 
-/// The items that a text spells are those that the part before a seam spells, and those that the part after it spells.
+/// A text spells the items that its part before a seam spells, followed by the items that its part after the seam spells.
 ///
 /// A seam is between whole lines: the last of those before it begins with the word that an item of the type ends with, and
 /// after that word no other statement or last line begins; and the text after it begins with one. That a word is in a comment,
@@ -11,8 +11,8 @@ pub fn law_of_seams()
     ensures { SeamsPart }
 {}
 
-/// The items that a text spells are those that its pieces spell, in order: if each piece spells items, [`PieceReader`] passes the
-/// items of the whole text to the sinks, and if the whole text spells items, no piece is refused.
+/// A text spells the items that its segments spell, in order: if each segment spells items, [`PieceReader`] passes the items of the
+/// whole text to the sinks, and if the whole text spells items, no segment is refused.
 ///
 /// [`PieceReader`]: crate::PieceReader
 pub fn law_of_pieces()

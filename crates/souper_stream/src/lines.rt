@@ -128,7 +128,7 @@ fn is_end_word<T: StreamItem>(token: Token<'_>) -> bool
     }
 }
 
-/// What is known of tokens that were scanned.
+/// The scanner state after a sequence of tokens.
 #[derive(Clone, Copy)]
 pub(crate) struct ScanState {
     /// Whether the last token is a name.
@@ -139,7 +139,7 @@ pub(crate) struct ScanState {
 }
 
 impl ScanState {
-    /// That of no tokens.
+    /// The state after no tokens.
     pub(crate) fn new() -> ScanState
         ensures { (k : ItemType) → IsStateAfter k [] result }
     {
@@ -150,7 +150,7 @@ impl ScanState {
     }
 }
 
-// The state after the tokens before and the remaining ones, up to a fault.
+// The state after the remaining tokens, up to a fault, given the state before them.
 fn scan<T: StreamItem>(lexer: &mut Lexer<'_>, before: ScanState) -> ScanState
     ensures { (ts : List Lexeme) → IsStateAfter T.item_type ts before → IsStateAfter T.item_type (ts ++ kinds lexer.old.tokens) result }
 {
@@ -170,7 +170,7 @@ fn scan<T: StreamItem>(lexer: &mut Lexer<'_>, before: ScanState) -> ScanState
     }
 }
 
-/// The state after the tokens before and those of the line, up to a fault.
+/// The state after the tokens of the line, up to a fault, given the state before them.
 pub(crate) fn scan_line<T: StreamItem>(line: &str, before: ScanState) -> ScanState
     ensures { (ts : List Lexeme) → IsStateAfter T.item_type ts before → IsStateAfter T.item_type (ts ++ tokens_of line.now) result }
 {

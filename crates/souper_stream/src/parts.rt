@@ -16,10 +16,10 @@ use std::alloc::{AllocError, Global};
 use std::io::{BufRead, ErrorKind};
 use std::{io, str};
 
-// So many bytes are asked for at a time.
+// Read size in bytes.
 const BLOCK: usize = 4096;
 
-// Reads blocks until so many bytes are there, or until the input has ended, which it returns.
+// Reads blocks until `goal` bytes are buffered, or until the input has ended. Returns whether it has ended.
 fn fill_blocks<R: BufRead>(reader: &mut R, bytes: &mut Vec<u8>, goal: usize) -> io::Result<bool>
     ensures more { IfOk result (λ ended. (more : List ℕ) × ReadsMore (R.remaining reader.old) (R.remaining reader.new) bytes.old.items bytes.new.items ended more) }
     ensures enough { IfOk result (λ ended. ended ≡ false → goal ≤ length bytes.new.items) }
@@ -39,8 +39,8 @@ fn fill_blocks<R: BufRead>(reader: &mut R, bytes: &mut Vec<u8>, goal: usize) -> 
     Err(io::Error::from(ErrorKind::Other))
 }
 
-// Reads until so many bytes are there, and the line that the last of them is in, or until the input has ended, which it
-// returns.
+// Reads until `goal` bytes are buffered, and the line that the last of them is in, or until the input has ended. Returns whether it
+// has ended.
 fn fill<R: BufRead>(reader: &mut R, bytes: &mut Vec<u8>, goal: usize) -> io::Result<bool>
     ensures more { IfOk result (λ ended. (more : List ℕ) × ReadsMore (R.remaining reader.old) (R.remaining reader.new) bytes.old.items bytes.new.items ended more) }
     ensures enough { IfOk result (λ ended. ended ≡ false → goal ≤ length bytes.new.items) }
@@ -75,8 +75,8 @@ fn refusal<T: StreamItem + Drop>(alloc: Global, text: &str) -> ParseError
     }
 }
 
-// Passes the items that are complete in what was read to the sink, and returns the length of their text: all of it, if the
-// input has ended.
+// Passes the complete items of the unparsed bytes to the sink, and returns the length of their text: all of it, if the input has
+// ended.
 fn take_items<T: StreamItem + Drop, S: Sink<T>>(
     alloc: Global,
     fresh: &[u8],
@@ -94,7 +94,7 @@ fn take_items<T: StreamItem + Drop, S: Sink<T>>(
     match parse_into::<T, S>(alloc, &text[..len], None, sink) {
         Ok(()) => Ok(len),
         Err(error) => match error.kind() {
-            // The part may end in an incomplete line, so the error is that of all that is held.
+            // The part may end in an incomplete line, so the error returned comes from parsing all unparsed bytes.
             ParseErrorKind::Parse => Err(refusal::<T>(alloc, text)),
             _ => Err(error),
         },
@@ -112,7 +112,7 @@ pub(crate) fn read_error(fault: io::Error) -> ParseError
     }
 }
 
-// Gives an error of what is held its place in the stream.
+// Gives an error of the unparsed bytes its location in the stream.
 pub(crate) fn place(
     alloc: Global,
     held: &Held,
@@ -133,17 +133,17 @@ pub(crate) fn place(
 pub struct PartReader {
     held: Held,
 
-    // So many bytes more are read before items are looked for.
+    // Bytes to read before searching for a cut point.
     least: usize,
 
-    // So many bytes are to be held when items are looked for.
+    // Buffer length at which to search for the next cut point.
     goal: usize,
 }
 
 impl PartReader {
-    /// A reader for a stream of which nothing was read. Items are looked for when `least` bytes more than are held were read (at
-    /// least 1), and the line that the last of them is in. If no items are complete, they are looked for again when as much again
-    /// as is held was read. With a small `least` items are passed to the sink sooner; with a larger one reading takes less time.
+    /// A reader at the start of a stream. `least` is the chunk size in bytes (at least 1): items are looked for when the buffer has
+    /// grown by `least` bytes, and by the line that the last of them is in. If no items are complete, they are looked for again when
+    /// the buffer has doubled. With a small `least` items are passed to the sink sooner; with a larger one reading takes less time.
     pub fn new(alloc: Global, least: usize) -> PartReader
         ensures start { (k : ItemType) → HasRead k [] [] result }
         ensures least { result.least ≡ max least 1 }
@@ -159,8 +159,8 @@ impl PartReader {
     /// Reads more of the stream, passes the items that are complete to the sink, in order, and returns whether the stream has
     /// ended. If it has, all items were passed to sinks; if not, at least `least` bytes were read.
     ///
-    /// Each call of one stream is given the same reader and type of items, and the sink may be another each time. The errors are
-    /// those of [`read_into`](crate::read_into); after one the stream cannot be read on.
+    /// Each call of one stream is given the same reader and type of items, and the sink may be another each time. It fails
+    /// like [`read_into`](crate::read_into); after an error the stream cannot be read on.
     pub fn read_part<T: StreamItem + Drop, R: BufRead, S: Sink<T>>(
         &mut self,
         alloc: Global,

@@ -1,4 +1,4 @@
-//! The pieces of a stream: each is parsed by itself, so that reading can go on after one that is refused.
+//! The segments of a stream. Each is parsed by itself, so that reading can resume after a refused one.
 ghost use Rattle.std.specs.Prelude.{◌≡◌, ◌⊎◌, ◌<◌, ◌≤◌, ℕ, List, [], length, take, true, false, Option, IsOk, IfOk, IfErr, IsErrAnd, OnOk, vec_len, option_copied, IsUtf8};
 ghost use Rattle.souper_graph.specs.Syntax.Spelling.{ItemType};
 ghost use Rattle.souper_ir.specs.Errors.{kind_of};
@@ -34,7 +34,7 @@ fn read_line<R: BufRead>(reader: &mut R, bytes: &mut Vec<u8>) -> io::Result<bool
     Ok(len == 0 || bytes[bytes.len() - 1] != b'\n')
 }
 
-// Whether the piece ends before the line, and the state after the line: that of the next piece, if it ends.
+// Whether the segment ends before the line, and the state after the line, which is the first of the next segment if this one ends.
 fn pass_line<T: StreamItem>(line: &[u8], before: ScanState) -> io::Result<(bool, ScanState)>
     ensures { IfOk result (λ r. (piece : List ℕ) (ls : List Line) → HasLines T.item_type piece before ls → Passes T.item_type piece ls line.now r.0 r.1) }
 {
@@ -46,7 +46,7 @@ fn pass_line<T: StreamItem>(line: &[u8], before: ScanState) -> io::Result<(bool,
     }
 }
 
-// Passes the items of the next piece to the sink. It has so many bytes of what is held.
+// Passes the items of the next segment, the first `len` unparsed bytes of the buffer, to the sink.
 fn parse_piece<T: StreamItem + Drop, S: Sink<T>>(
     alloc: Global,
     held: &Held,
@@ -67,7 +67,7 @@ fn parse_piece<T: StreamItem + Drop, S: Sink<T>>(
     }
 }
 
-// The line of the stream on which the first token of the next piece is. The piece has so many bytes of what is held.
+// The 1-based line of the first token of the next segment, the first `len` unparsed bytes of the buffer.
 fn first_line(held: &Held, len: usize) -> io::Result<usize>
     requires skipped { held.now.skipped ≤ vec_len held.now.bytes }
     requires within { len ≤ length (fresh held.now) }
@@ -80,27 +80,27 @@ fn first_line(held: &Held, len: usize) -> io::Result<usize>
     Ok(held.before.lines.saturating_add(lines).saturating_add(1))
 }
 
-/// Reads a stream piece by piece.
+/// Reads a stream segment by segment.
 ///
-/// Pieces are whole lines: the stream is cut before each line that begins with a statement (a name and `=` or `:`, `pc`, `blockpc`)
-/// or last line (`infer`, `result`, `cand`), if of those that begin in the piece the last is one that an item of the type ends with.
+/// Segments are whole lines. The stream is cut before each line that begins with a statement (a name and `=` or `:`, `pc`, `blockpc`)
+/// or last line (`infer`, `result`, `cand`), if the last one to begin in the segment is a line that an item of the type ends with.
 /// A lexical fault hides the rest of its line.
 #[derive(Drop)]
 pub struct PieceReader {
     held: Held,
 
-    // The state after the tokens of the piece.
+    // The state after the tokens of the segment.
     scanned: ScanState,
 
     // Whether the input has ended.
     ended: bool,
 
-    // The line of the first token of the last piece.
+    // The line of the first token of the last segment.
     line: usize,
 }
 
 impl PieceReader {
-    /// A reader for a stream of which nothing was read.
+    /// A reader at the start of a stream.
     pub fn new(alloc: Global) -> PieceReader
         ensures { (k : ItemType) (start : Option (List ℕ)) → HasPieces k start start [] result }
     {
@@ -112,15 +112,15 @@ impl PieceReader {
         }
     }
 
-    /// The line of the stream, counted from 1, on which the first token is of the piece that was read last, whether it was refused
-    /// or not. If no token is found, since there is none or a fault comes first, it is the line on which the piece begins.
+    /// The 1-based line of the first token of the last segment, refused or not. If no token is found, since there is none or a fault
+    /// comes first, it is the line on which the segment begins.
     pub fn line(&self) -> usize
         ensures { result ≡ line_of self.now }
     {
         self.line
     }
 
-    // Reads up to the end of the next piece, and returns its length in bytes, which is 0 if the stream has ended.
+    // Reads up to the end of the next segment, and returns its length in bytes, which is 0 if the stream has ended.
     fn next_len<T: StreamItem, R: BufRead>(&mut self, reader: &mut R) -> io::Result<usize>
         requires within { self.old.held.skipped ≤ vec_len self.old.held.bytes }
         ensures { IfOk result (λ len. (start : Option (List ℕ)) (ps : List (List Line)) → HasPieces T.item_type start (R.remaining reader.old) ps self.old
@@ -146,7 +146,7 @@ impl PieceReader {
         Err(io::Error::from(ErrorKind::Other))
     }
 
-    // Passes the items of the next piece, which has so many bytes, to the sink, and forgets the piece.
+    // Passes the items of the next segment, which has `len` bytes, to the sink, and drops the segment.
     fn take_piece<T: StreamItem + Drop, S: Sink<T>>(
         &mut self,
         alloc: Global,
@@ -169,15 +169,15 @@ impl PieceReader {
         parsed
     }
 
-    /// Reads the next piece of the stream, and passes its items to the sink, in order. Returns false if the stream has ended, and
+    /// Reads the next segment of the stream, and passes its items to the sink, in order. Returns false if the stream has ended, and
     /// nothing was left of it.
     ///
     /// Each call of one stream is given the same reader and type of items, and the sink may be another each time. After it
-    /// [`line`](PieceReader::line) says on which line the piece's first token is.
+    /// [`line`](PieceReader::line) returns the line of the segment's first token.
     ///
-    /// - `Parse`: the piece spells no items. The sink has taken items that it begins with. The error has and shows its place in the
-    ///   stream. The next call reads the next piece.
-    /// - `Io`: a read failed, or what was read is not UTF-8.
+    /// - `Parse`: the segment spells no items. The sink has taken items that it begins with. The error has and shows its location in
+    ///   the stream. The next call reads the next segment.
+    /// - `Io`: a read failed, or the bytes read are not UTF-8.
     /// - `Memory`: memory ran out, or the sink returned so.
     ///
     /// After `Io` or `Memory` the stream cannot be read on, and the sink may have taken items.

@@ -10,20 +10,20 @@ use std::alloc::Global;
 use std::io;
 use std::io::{BufRead, ErrorKind};
 
-// So many bytes are read before items are looked for.
+// Bytes to read before searching for a cut point.
 const CHUNK: usize = 65536;
 
 /// Reads the items of a stream to its end, and passes them to a sink, in order.
 ///
-/// They are those of its whole text ([`parse_into`](souper_ir::parse::parse_into)). Of the text a part is held: at least 64 KiB, or up to twice what is between
-/// two places where it can be cut, which are after the last line of an item and before a line of the next. The type of the items
-/// is [`LeftHandSide`](souper_ir::ast::LeftHandSide), [`RightHandSide`](souper_ir::ast::RightHandSide) or
+/// They are the items of its whole text ([`parse_into`](souper_ir::parse::parse_into)). A part of the text is buffered: at least
+/// 64 KiB, or up to twice the text between two cut points, which are after the last line of an item and before a line of the next.
+/// The type of the items is [`LeftHandSide`](souper_ir::ast::LeftHandSide), [`RightHandSide`](souper_ir::ast::RightHandSide) or
 /// [`Replacement`](souper_ir::ast::Replacement). The file name is for the error, which shows `unknown` without one.
 ///
-/// - `Parse`: what was read is not the beginning of any text that spells such items; or the stream has ended, and its text spells
-///   none. The sink has then taken items that the stream begins with. The error is one of what was read so far, and has and shows
-///   its place in the stream.
-/// - `Io`: a read failed, or what was read is not UTF-8.
+/// - `Parse`: the text read so far is not the beginning of any text that spells such items; or the stream has ended, and its text
+///   spells none. The sink has then taken items that the stream begins with. The error is one of the text read so far, and has and
+///   shows its location in the stream.
+/// - `Io`: a read failed, or the bytes read are not UTF-8.
 /// - `Memory`: memory ran out, or the sink returned so.
 ///
 /// After `Io` or `Memory` the sink may have taken items.
@@ -39,7 +39,7 @@ pub fn read_into<T: StreamItem + Drop, R: BufRead, S: Sink<T>>(
     read_chunks_into::<T, R, S>(alloc, CHUNK, reader, filename, sink)
 }
 
-/// [`read_into`] with a [`PartReader`] that looks for items when `least` bytes more than are held were read.
+/// [`read_into`] with a [`PartReader`] of the chunk size `least`, in bytes.
 pub fn read_chunks_into<T: StreamItem + Drop, R: BufRead, S: Sink<T>>(
     alloc: Global,
     least: usize,

@@ -20,7 +20,7 @@ pub fn text(bytes: &[u8]) -> &str {
     str::from_utf8(bytes).unwrap_or("bytes that are no text")
 }
 
-/// The bytes as a text, or [`FAULT`] if they are the line of a fault, whose words are those of the system.
+/// The bytes as a text, or [`FAULT`] if they are the line of a fault, whose words come from the system.
 pub fn told(bytes: &[u8]) -> &str {
     let line = text(bytes);
     if line.starts_with("IO error: ") && line.ends_with("\n") {

@@ -12,7 +12,7 @@ use Rattle.souper_graph.specs.Faults.{IsAssigned, IsBlock, IsMet, AreMet, NamedI
 use Rattle.souper_graph.specs.WellFormed.{Closed, WellFormed}
 use Rattle.souper_graph.specs.Judging.{IsMetBelow, AreMetBelow, MayStand, MayStandAt, StandsEnding, AllStand}
 
--- what holds of each image holds of that of the element at i
+-- a property of each image holds of the image of the element at i
 pub All-map_at : {A B : Type 0} (P : B → Type 0) (f : A → B) (xs : List A) (i : ℕ) (x : A) → i < length xs → x ≡ get_or xs i x → AllByRecursion P (map f xs) → P (f x)
 All-map_at P f [] i x lt e h = absurd (omega arith)
 All-map_at P f (y ∷ ys) zero x lt e h = subst (λ z. P (f z)) (sym e) h.0
@@ -115,7 +115,7 @@ well_formed_of_stand a ids exact ending stand = record {
   named_apart = λ p q v x np nq. stand.1 p q v x ((exact p).1 np) ((exact q).1 nq);
 }
 
--- what is at a use of a well formed item is what the use asks for
+-- the statement at a use of a well formed item is of the kind that the use asks for
 met_of_optional : (a : Item) (p : ℕ) (o : Option PlainStatement) (u : Use) → WellFormed a → NeededIn a p → slice_get a.statements p ≡ o → Has (uses_of_optional o) u → IsMet a.statements u
 met_of_optional a p None u w needed e h = absurd h
 met_of_optional a p (Some s) u w needed e h = (w.closed p s needed e).met u h

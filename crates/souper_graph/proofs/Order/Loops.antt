@@ -111,7 +111,7 @@ entered_next g w s s' s'' s''' m m' ids turns turns' i i' e t n b r a f met ther
     (running_entered ss w (reverse s') m ids turns turns' t (popped ss w s s' m ids turns e (Trace t) r a f) met (inside_there g j n there)
     (ap (λ z. get_or m z false) (sym at') ∙ sym q ∙ h) k))
 
--- the work decreases by more than what is pushed
+-- the work decreases by more than the number of pushed entries
 pub entered_smaller : (g : List Statement) (w : List Target) (s s' s'' s''' : List Entry) (m m' : List Bool) (ids : List ℕ) (turns i i' : ℕ) (e : Entry) (t : Target) (n : Statement) (b : Bool) →
     Running (map view_statement g) w (reverse s) m ids turns → s ≡ s' ++ e ∷ [] →
     slice_get g (position_of_target t) ≡ Some n → i ≡ position_of_target t → i' ≡ position_of_target t → b ≡ get_or m i' false → b ≡ false → m' ≡ set m i true →
@@ -241,7 +241,7 @@ ended_at ss walks m ids turns r =
       uses_met = λ v u n h. met_then ss (target_of u) (r.judged.uses_met v u (k.held_marked v (needed_held k n)) h);
     }
 
--- while the walks before k are over, the lead's statements are what those of them before the infer line need
+-- while the walks before k are over, the lead's statements are the ones that the walks before both k and the infer line need
 abbrev pub LeadNeeds : List PlainStatement → List Target → ℕ → ℕ → ℕ → List ℕ → Type 0
 LeadNeeds ss walks k before lead ids = (i : ℕ) → Has (take lead ids) i ↔ Needed ss (positions (take (min k before) walks)) i
 

@@ -1,4 +1,4 @@
--- What every run keeps: its statements are needed, occur once and are closed up to what is still to be visited.
+-- The invariant of every run: its statements are needed, occur once and are closed up to the statements still to be visited.
 use Rattle.std.proofs.Common.{◌≡◌, ℕ, suc, ◌+◌, ◌<◌, ◌++◌, ◌⊎◌, inl, inr, length, map, List, [], ◌∷◌, Bool, true, false, refl, sym, ap, ◌∙◌, subst, arith, length-append, append_assoc, append-nil, get_or, get_or-set_same, get_or-set_other}
 use Rattle.std.proofs.Math.ListN.{replicate, set, length-set, length-replicate}
 use Rattle.std.proofs.lemmas.List.{length-map, get_or-replicate, get_or_past}
@@ -30,7 +30,7 @@ unfolding waiting
 waiting-uses [] s = refl
 waiting-uses (u ∷ us) s = waiting-uses us s
 
--- of a run: what it has, what is still to be visited, the marks, how many entries wait, and its turns
+-- of a run: its statements, the statements still to be visited, the marks, how many entries wait, and its turns
 pub record Kept (g : List PlainStatement) (w held traced : List ℕ) (m : List Bool) (n t : ℕ) : Type 0 where
   pub sized : length m ≡ length g
   pub marked_held : (i : ℕ) → get_or m i false ≡ true → Has held i

@@ -28,7 +28,7 @@ pub data Reached (g : List PlainStatement) : List ℕ → List Step → List Boo
 abbrev pub Below : List PlainStatement → List ℕ → Type 0
 Below g walks = (i u : ℕ) → Needed g walks i → Has (used_at g i) u → u < i
 
--- what is left to do for the statements without a mark: for each 2, and 1 per use
+-- the work left for the statements without a mark: 2 for each, and 1 per use
 unfoldable pub work : List PlainStatement → List Bool → ℕ
 work [] m = 0
 work (n ∷ g) [] = 0

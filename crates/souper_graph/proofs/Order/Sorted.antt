@@ -173,7 +173,7 @@ with_one k xs i h = ap (λ (b : Bool). with_new (cond b k (k ++ i ∷ [])) xs) (
 
 -- the stack
 
--- what is left to be yielded: the top first, each trace entry whole
+-- the positions still to be yielded: the top first, each trace entry whole
 unfoldable pub yields : List PlainStatement → List Step → List ℕ
 yields g [] = []
 yields g (trace i ∷ s) = unfolding_of g i ++ yields g s
@@ -223,7 +223,7 @@ flat-join f (x ∷ xs) ys = ap (λ z. f x ++ z) (flat-join f xs ys) ∙ sym (app
 fewer : (g : List PlainStatement) (w : List ℕ) (i : ℕ) → Below g (w ++ i ∷ []) → Below g w
 fewer g w i ub = λ v u n h. ub v u (needed_more (λ j a. Has-left w (i ∷ []) j a) n) h
 
--- the invariant: what is finished, and what is left to be yielded, give the printed order
+-- the invariant: the finished positions, and the positions still to be yielded, give the printed order
 pub record Sorted (g : List PlainStatement) (w : List ℕ) (s : List Step) (ids : List ℕ) : Type 0 where
   pub ordered : Ordered s
   pub yielded : with_new ids (yields g s) ≡ gathered g w

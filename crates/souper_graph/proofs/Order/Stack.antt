@@ -28,7 +28,7 @@ traces_of us = map (λ u. Trace (target_of u)) us
 abbrev pub IsNamed : List PlainStatement → List Target → List Bool → Target → Type 0
 IsNamed ss walks m t = Has walks t ⊎ ((v : ℕ) × (u : Use) × (get_or m v false ≡ true) × Has (uses_at ss v) u × (target_of u ≡ t))
 
--- what is on the stack, its top first, is named, and all that is named and is not on it resolves
+-- the targets on the stack, its top first, are named, and every named target that is not on it resolves
 pub record Judged (ss : List PlainStatement) (walks : List Target) (s : List Entry) (m : List Bool) : Type 0 where
   pub named : (t : Target) → Has s (Trace t) → IsNamed ss walks m t
   pub walks_met : (t : Target) → Has walks t → IsMetTarget ss t ⊎ Has s (Trace t)

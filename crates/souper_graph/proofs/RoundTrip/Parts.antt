@@ -124,7 +124,7 @@ no_gap = ([], tt, refl)
 
 -- ---- parts
 
--- what is after the last token, if g is before the parts
+-- the text after the last token, if g is before the parts
 abbrev last_gap : List ℕ → List Part → List ℕ
 last_gap g [] = g
 last_gap g (word t ∷ ps) = last_gap [] ps

@@ -73,7 +73,7 @@ module _ (a : Item) (wa : WellFormed a) where
   ending-lines (candidate c) lead k =
       (λ j. all-lines j ++ sym (cand-carried (place (printed_order a)) a.statements (numbered_item a).statements c (λ u h. k u (Has-left (uses_of_operand c.lhs ++ uses_of_operand c.rhs) [] u h))) j)
 
-  -- the canonical text is that of the renumbered statements as they are listed
+  -- the canonical text is the text of the renumbered statements as they are listed
   pub text-listed : text_of a ≡ listed_text (renumbered a).statements (renumbered a).ending (lead_of a)
   text-listed =
       ending-lines a.ending (lead_of a) (λ u h. same-name (position_of u) (root-walked a u h))

@@ -64,7 +64,7 @@ pub get_middle : {A : Type 0} (xs ys : List A) (y : A) → slice_get (xs ++ y �
 get_middle [] ys y = refl
 get_middle (x ∷ xs) ys y = get_middle xs ys y
 
--- ---- what is known in a scope
+-- ---- facts about a scope
 
 block_predecessors : (r : PlainRhs) → IsBlockRhs r → predecessors_if_block r ≡ Some (predecessors_of_rhs r)
 block_predecessors var h = absurd h
@@ -87,7 +87,7 @@ block_there (Some (condition p)) h = absurd h
 block_there (Some (block_condition p)) h = absurd h
 
 module _ (a : Item) (ec : EachClosed a) (s rest : List PlainStatement) (whole : a.statements ≡ s ++ rest) where
-  -- the statements of the scope are those of the item
+  -- at each position of the scope the item has the same statement
   in_scope : (i : ℕ) → i < length s → slice_get a.statements i ≡ slice_get s i
   in_scope i l = ap (λ (x : List PlainStatement). slice_get x i) whole ∙ get_left s rest i l
 

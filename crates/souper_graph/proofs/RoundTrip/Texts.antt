@@ -1,4 +1,4 @@
--- Lemmas. The bytes of a node are those of its parts.
+-- Lemmas. The bytes of a node are the bytes of its parts.
 use Rattle.std.proofs.Common.{◌≡◌, ℕ, List, [], ◌∷◌, ◌++◌, take, drop, Option, Some, None, refl, ap, ◌∙◌, append-nil}
 use Rattle.std.specs.Prelude.{codes}
 use Rattle.souper_graph.specs.declared.ast.operands.«Type».{«Type» as Ty}

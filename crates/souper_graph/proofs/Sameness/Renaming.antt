@@ -115,7 +115,7 @@ module _ (a : Item) (oa : Ordered a) where
       (alike-ordered a (renamed a) (renamed-alike a) oa).there i (alike-needed a (renamed a) (renamed-alike a) d)
       ∙ ap (λ (z : PlainStatement). Some z) (renamed-at i d)
 
--- what is the same graph up to names is the same graph once it is renamed
+-- items that are the same graph up to names are the same graph once they are renamed
 pub renamed-graph : (a b : Item) → Ordered a → Ordered b → SameUpToNames a b → SameGraph (renamed a) (renamed b)
 renamed-graph a b oa ob s = record {
   to = s.to;

@@ -486,7 +486,7 @@ unneeded-well a b wa s =
 pub unneeded-same : (a b : Item) → WellFormed a → SameNeeded a b → renumbered b ≡ renumbered a
 unneeded-same a b wa s = sym (renumbered-same a b wa (unneeded-well a b wa s) (unneeded-graph a b s))
 
--- the printed order is that of the needed statements
+-- the printed order is an order of the needed statements
 
 printed-after : (a : Item) → WellFormed a → EachAfterItsUses a.statements (printed_order a)
 printed-after a wa front back i u e h =

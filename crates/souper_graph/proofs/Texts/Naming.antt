@@ -45,7 +45,7 @@ flat_map_front f xs k d l at =
 pub AreMet-more : {X : Type 0} (ss : List PlainStatement) (f : X → List Use) (xs : List X) (k : ℕ) (d : X) → k < length xs → d ≡ get_or xs k d → AreMet ss (flat_map f (take k xs)) → AreMet ss (f d) → AreMet ss (flat_map f (take (k + 1) xs))
 AreMet-more ss f xs k d l at a b = subst (AreMet ss) (flat_map_front f xs k d l at) (AreMet-append ss (flat_map f (take k xs)) (f d) a b)
 
--- one more text at the end of those of the prefix
+-- one more text at the end of the texts of the prefix
 pub texts_more : {X : Type 0} (f : X → List ℕ) (xs : List X) (k : ℕ) (d : X) (a b t c : List ℕ) → k < length xs → d ≡ get_or xs k d → b ≡ a ++ flat_map f (take k xs) → t ≡ f d → c ≡ b ++ t → c ≡ a ++ flat_map f (take (k + 1) xs)
 texts_more f xs k d a b t c l at e u g =
     g ∙ (λ j. e j ++ u j) ∙ append_assoc a (flat_map f (take k xs)) (f d) ∙ ap (λ x. a ++ x) (flat_map_front f xs k d l at)

@@ -92,7 +92,7 @@ pair_spells s x y ts = Joined (operand_spells s x) (operand_spells s y) ts
 abbrev pub block_spells : Block → List Lexeme → Type 0
 block_spells b ts = (w : List ℕ) × (ts ≡ ident (codes "block") ∷ int w ∷ []) × (count_of (2 ^ 32) w ≡ Some b.predecessors)
 
--- the name is that of a block, and each of its predecessors has a value
+-- the name denotes a block, and each of its predecessors has a value
 pub record phi_spells (s : Scope) (p : PlainPhi) (ts : List Lexeme) : Type 0 where
   pub name : List ℕ
   pub rest : List Lexeme
@@ -163,7 +163,7 @@ pub record assignment_spells (s : Scope) (a : PlainAssignment) (ts : List Lexeme
 abbrev pub pc_spells : Scope → Pc → List Lexeme → Type 0
 pc_spells s p ts = (rest : List Lexeme) × (ts ≡ ident (codes "pc") ∷ rest) × pair_spells s p.x p.y rest
 
--- the name is that of a block, and the number that of one of its predecessors
+-- the name denotes a block, and the number denotes one of its predecessors
 pub record block_pc_spells (s : Scope) (p : BlockPc) (ts : List Lexeme) : Type 0 where
   pub name : List ℕ
   pub number : List ℕ
@@ -220,7 +220,7 @@ pub data ItemType : Type 0 where
   right_hand_side : ItemType
   replacement : ItemType
 
--- the last lines are those of an item of the type
+-- the last lines belong to an item of the type
 abbrev pub IsEndingOf : ItemType → Ending → Type 0
 IsEndingOf left_hand_side (inferred i) = Unit {0}
 IsEndingOf left_hand_side (resulting r) = ⊥

@@ -131,7 +131,7 @@ pub record Stands (gap : List ℕ) (t : Lexeme) (rest : List ℕ) (bs : List ℕ
   pub is_over : Stops (continues t) rest
   pub text : bs ≡ gap ++ (spelling t ++ rest)
 
--- bs, which begins at offset n of a text, is a gap and the token t at its offset, and P holds of what is after it
+-- bs, which begins at offset n of a text, is a gap and the token t at its offset, and P holds of the bytes after it
 pub record BeginsWith (n : ℕ) (t : ℕ × Lexeme) (P : List ℕ → Type 0) (bs : List ℕ) : Type 0 where
   pub gap : List ℕ
   pub after : List ℕ
@@ -149,7 +149,7 @@ abbrev pub IsTextOf : List ℕ → List (ℕ × Lexeme) → Type 0
 IsTextOf bs ts = (rest : List ℕ) × Begins 0 bs ts rest × IsLastGap rest
 
 -- The tokens of any text: they are a prefix of it, every list of tokens that is a prefix of it is a prefix of them, and
--- a fault follows if and only if what is left is no gap.
+-- a fault follows if and only if the rest is no gap.
 pub record AreTokensOf (bs : List ℕ) (ts : List (ℕ × Lexeme)) (fault : Bool) : Type 0 where
   pub rest : List ℕ
   pub front : Begins 0 bs ts rest

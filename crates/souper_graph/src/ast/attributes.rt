@@ -1,6 +1,6 @@
-//! What is known of values and of roots.
+//! Attributes: the known facts about values and roots.
 
-/// What is known of the root of an item.
+/// A known fact about the root of an item.
 #[derive(Debug, Drop)]
 pub enum RootAttribute {
     /// Which bits of the root's value are used: one entry per bit of its type, `true` if the bit is used, in the order

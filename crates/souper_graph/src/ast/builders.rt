@@ -166,7 +166,7 @@ impl ReplacementBuilder {
 
     /// Appends the path condition that `x` equals `y` if control comes from one predecessor of the block.
     ///
-    /// The id has to be that of a block's assignment in this arena, and `predecessor`, which counts from 0, less than
+    /// The id must name a block's assignment in this arena, and `predecessor`, which counts from 0, must be less than
     /// the block's number of predecessors. If memory runs out, the builder is unchanged.
     pub fn block_pc(
         &mut self,
@@ -191,7 +191,7 @@ impl ReplacementBuilder {
 
     /// The replacement of the value `lhs` by `rhs`, over all the statements.
     ///
-    /// The attributes say what is known of the value `lhs`.
+    /// The attributes are the known facts about the value `lhs`.
     pub fn finish(self, lhs: ValueId, rhs: Operand, attributes: Vec<RootAttribute>) -> Replacement
         ensures { result ≡ LhsRhs self (record { value = lhs; attributes = attributes }) rhs }
     {
@@ -286,7 +286,7 @@ impl LeftHandSideBuilder {
 
     /// Appends the path condition that `x` equals `y` if control comes from one predecessor of the block.
     ///
-    /// The id has to be that of a block's assignment in this arena, and `predecessor`, which counts from 0, less than
+    /// The id must name a block's assignment in this arena, and `predecessor`, which counts from 0, must be less than
     /// the block's number of predecessors. If memory runs out, the builder is unchanged.
     pub fn block_pc(
         &mut self,
@@ -311,7 +311,7 @@ impl LeftHandSideBuilder {
 
     /// The left-hand side whose root is the value `lhs`, with all the statements.
     ///
-    /// The attributes say what is known of that value.
+    /// The attributes are the known facts about that value.
     pub fn finish(self, lhs: ValueId, attributes: Vec<RootAttribute>) -> LeftHandSide
         ensures { result ≡ record { statements = self; infer = record { value = lhs; attributes = attributes } } }
     {
@@ -325,7 +325,7 @@ impl LeftHandSideBuilder {
 
     /// The assignment that defines the value.
     ///
-    /// The id has to be that of an assignment in this arena.
+    /// The id must name an assignment in this arena.
     pub fn get_value(&self, id: ValueId) -> &Assignment
         requires { IsAssigned (slice_get (map view_statement self.now) id) }
         ensures { slice_get self.now id ≡ Some (assignment_variant result.now) }
@@ -346,7 +346,7 @@ impl LeftHandSideBuilder {
 impl Replacement {
     /// The assignment that defines the value.
     ///
-    /// The id has to be that of an assignment in this item's arena, which [`Arena::get`] shows.
+    /// The id must name an assignment in this item's arena, which [`Arena::get`] shows.
     pub fn assignment(&self, id: ValueId) -> &Assignment
         requires { IsAssigned (slice_get (map view_statement (statements_of self.now)) id) }
         ensures { slice_get (statements_of self.now) id ≡ Some (assignment_variant result.now) }

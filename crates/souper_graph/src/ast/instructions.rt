@@ -89,7 +89,7 @@ pub enum Instruction {
     /// The left shift; shifting out a set bit is undefined behaviour.
     ShlNuw { a: Operand, b: Operand },
 
-    /// The left shift with both conditions, those of `shlnsw` and of `shlnuw`.
+    /// The left shift with the conditions of both `shlnsw` and `shlnuw`.
     ShlNw { a: Operand, b: Operand },
 
     /// `a` shifted right by `b` bits, filled with zeros. A `b` that is not less than the width is undefined behaviour.

@@ -63,7 +63,7 @@ pub trait Item {
     fn is_well_formed(&self) -> Result<bool, AllocError>
         ensures { IfOk result (λ answer. IsTrue answer ↔ WellFormed (view self.now)) };
 
-    /// The last lines are those of the type.
+    /// The item has the last lines of its type.
     ghost ends: { (item : Self) → IsEndingOf item_type (view item).ending };
 }
 

@@ -6,7 +6,7 @@ use crate::ast::ids::ValueId;
 use crate::ast::operands::Operand;
 use crate::ast::statements::Statement;
 
-/// An optimization: what is looked for, and what may replace it.
+/// An optimization: the pattern that it looks for, and the result that may replace it.
 #[derive(Debug, Drop)]
 pub enum Replacement {
     /// A left-hand side and the result that replaces it.
@@ -34,13 +34,13 @@ pub enum Replacement {
 /// Two operands of which the second may replace the first.
 #[derive(Debug, Drop)]
 pub struct Cand {
-    /// What is replaced.
+    /// The operand that is replaced.
     pub lhs: Operand,
 
-    /// What replaces it.
+    /// The operand that replaces it.
     pub rhs: Operand,
 
-    /// What is known of the replaced operand, in the order in which it is written.
+    /// The known facts about the replaced operand, in the order in which they are written.
     pub attributes: Vec<RootAttribute>,
 }
 
@@ -60,7 +60,7 @@ pub struct Infer {
     /// The value that is to be replaced.
     pub value: ValueId,
 
-    /// What is known of that value, in the order in which it is written.
+    /// The known facts about that value, in the order in which they are written.
     pub attributes: Vec<RootAttribute>,
 }
 

@@ -58,7 +58,7 @@ pub struct Assignment {
     /// What the value is.
     pub value: AssignmentRhs,
 
-    /// What is known of the value, in the order in which it is written.
+    /// The known facts about the value, in the order in which they are written.
     pub attributes: Vec<Attribute>,
 }
 
@@ -108,12 +108,12 @@ impl From<Instruction> for AssignmentRhs {
     }
 }
 
-/// An input variable with what is known of it.
+/// An input variable with the known facts about it.
 ///
 /// No other node has it: an input variable is [`AssignmentRhs::Var`], and its attributes are the assignment's.
 #[derive(Debug, Drop)]
 pub struct Var {
-    /// What is known of the variable.
+    /// The known facts about the variable.
     pub attributes: Vec<Attribute>,
 }
 

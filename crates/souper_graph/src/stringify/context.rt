@@ -109,7 +109,7 @@ impl DisplayWithContext for Phi {
     }
 }
 
-/// What is after the `=`, as `var` or `add %0, 1:i8`.
+/// The text after the `=`, as `var` or `add %0, 1:i8`.
 impl DisplayWithContext for AssignmentRhs {
     ghost text = { λ ss rhs. text_of_rhs ss (view_rhs rhs) };
 

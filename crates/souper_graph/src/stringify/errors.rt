@@ -26,7 +26,7 @@ pub enum TextError {
     OutOfMemory,
 }
 
-// `statement id 3` and what is wrong with it.
+// `statement id 3` and its fault.
 #[tactic(auto, using(crate::proofs::Texts::Styled::styled_three))]
 fn write_fault<W: fmt::Write>(
     id: Id<Statement>,

@@ -113,7 +113,7 @@ impl Target {
 // An entry of the work stack.
 #[derive(Clone, Copy)]
 enum Entry {
-    // What is to be visited.
+    // A target that is to be visited.
     Trace(Target),
     // A statement whose uses are in the order when the entry is popped.
     Finished(Id<Statement>),

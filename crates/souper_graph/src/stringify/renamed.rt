@@ -18,7 +18,7 @@ impl LeftHandSide {
     /// Path conditions have an index and no name. Statements keep their positions, those that are not needed their names
     /// too. Two well-formed items have the same text after this if and only if they are the same graph up to names.
     ///
-    /// Errors: those of [`print_order`](Self::print_order).
+    /// Fails like [`print_order`](Self::print_order).
     pub fn renamed(&self) -> Result<Self, TextError>
         ensures refused { IfErr result (λ error. IsFaultOf (view_left_hand_side self.now) error) }
         ensures named { IfOk result (λ copy. IsRenamed (view_left_hand_side self.now) (view_left_hand_side copy)) }
@@ -31,9 +31,9 @@ impl LeftHandSide {
 }
 
 impl RightHandSide {
-    /// A copy with names by printed order, as that of [`LeftHandSide::renamed`].
+    /// A copy with names by printed order, as [`LeftHandSide::renamed`] returns.
     ///
-    /// Errors: those of [`print_order`](Self::print_order).
+    /// Fails like [`print_order`](Self::print_order).
     pub fn renamed(&self) -> Result<Self, TextError>
         ensures refused { IfErr result (λ error. IsFaultOf (view_right_hand_side self.now) error) }
         ensures named { IfOk result (λ copy. IsRenamed (view_right_hand_side self.now) (view_right_hand_side copy)) }
@@ -46,9 +46,9 @@ impl RightHandSide {
 }
 
 impl Replacement {
-    /// A copy with names by printed order, as that of [`LeftHandSide::renamed`].
+    /// A copy with names by printed order, as [`LeftHandSide::renamed`] returns.
     ///
-    /// Errors: those of [`print_order`](Self::print_order).
+    /// Fails like [`print_order`](Self::print_order).
     pub fn renamed(&self) -> Result<Self, TextError>
         ensures refused { IfErr result (λ error. IsFaultOf (view_replacement self.now) error) }
         ensures named { IfOk result (λ copy. IsRenamed (view_replacement self.now) (view_replacement copy)) }
@@ -69,7 +69,7 @@ impl Replacement {
 }
 
 impl Parts<'_> {
-    // A copy of the statements, in which those of the printed order are named by it.
+    // A copy of the statements, in which the needed statements are named by printed order.
     fn renamed_statements(&self) -> Result<Arena<Statement>, TextError>
         ensures refused { IfErr result (λ error. IsFaultOf (view_parts self.now) error) }
         ensures named { IfOk result (λ copy. IsRenamed (view_parts self.now) (with_statements (view_parts self.now) (map view_statement copy))) }
@@ -79,7 +79,7 @@ impl Parts<'_> {
     }
 }
 
-// A copy of the statements, each of those of the list with the name of its index there.
+// A copy of the statements. Each statement in the list has the name of its index there.
 fn named_statements(
     statements: &Arena<Statement>,
     ids: &[Id<Statement>],

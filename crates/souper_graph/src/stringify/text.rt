@@ -53,9 +53,9 @@ impl Parts<'_> {
 }
 
 impl LeftHandSide {
-    /// Appends the canonical text, that of [`LeftHandSide::to_text`], to `out`.
+    /// Appends to `out` the canonical text that [`LeftHandSide::to_text`] returns.
     ///
-    /// The errors are those of `to_text`, and leave `out` unchanged.
+    /// Fails like `to_text`, and then leaves `out` unchanged.
     pub fn append_text(&self, out: &mut String) -> Result<(), TextError>
         ensures refused { IfErr result (λ error. IsFaultOf (view_left_hand_side self.now) error) }
         ensures appended { OnOk result (AppendsItemText left_hand_side (view_left_hand_side self.now) (string_bytes out.old) (string_bytes out.new)) }
@@ -81,9 +81,9 @@ impl LeftHandSide {
 }
 
 impl RightHandSide {
-    /// Appends the canonical text, that of [`RightHandSide::to_text`], to `out`.
+    /// Appends to `out` the canonical text that [`RightHandSide::to_text`] returns.
     ///
-    /// The errors are those of `to_text`, and leave `out` unchanged.
+    /// Fails like `to_text`, and then leaves `out` unchanged.
     pub fn append_text(&self, out: &mut String) -> Result<(), TextError>
         ensures refused { IfErr result (λ error. IsFaultOf (view_right_hand_side self.now) error) }
         ensures appended { OnOk result (AppendsItemText right_hand_side (view_right_hand_side self.now) (string_bytes out.old) (string_bytes out.new)) }
@@ -94,7 +94,7 @@ impl RightHandSide {
 
     /// The canonical text: the needed statements in printed order, a line each, and the result line without a newline.
     ///
-    /// Needed are the root and the path conditions, and all that these use. The errors are those of
+    /// Needed are the root and the path conditions, and all that these use. Fails like
     /// [`LeftHandSide::to_text`].
     pub fn to_text(&self) -> Result<String, TextError>
         ensures refused { IfErr result (λ error. IsFaultOf (view_right_hand_side self.now) error) }
@@ -105,9 +105,9 @@ impl RightHandSide {
 }
 
 impl Replacement {
-    /// Appends the canonical text, that of [`Replacement::to_text`], to `out`.
+    /// Appends to `out` the canonical text that [`Replacement::to_text`] returns.
     ///
-    /// The errors are those of `to_text`, and leave `out` unchanged.
+    /// Fails like `to_text`, and then leaves `out` unchanged.
     pub fn append_text(&self, out: &mut String) -> Result<(), TextError>
         ensures refused { IfErr result (λ error. IsFaultOf (view_replacement self.now) error) }
         ensures appended { OnOk result (AppendsItemText replacement (view_replacement self.now) (string_bytes out.old) (string_bytes out.new)) }
@@ -119,8 +119,8 @@ impl Replacement {
     /// The canonical text: the needed statements in printed order, a line each, and the cand line; or the infer line
     /// after the statements that it and the path conditions need, and the result line at the end.
     ///
-    /// Needed are the roots and the path conditions, and all that these use. The text ends in a newline. The errors are
-    /// those of [`LeftHandSide::to_text`].
+    /// Needed are the roots and the path conditions, and all that these use. The text ends in a newline. Fails like
+    /// [`LeftHandSide::to_text`].
     pub fn to_text(&self) -> Result<String, TextError>
         ensures refused { IfErr result (λ error. IsFaultOf (view_replacement self.now) error) }
         ensures printed { IfOk result (λ text. IsItemText replacement (view_replacement self.now) (string_bytes text)) }

@@ -62,7 +62,7 @@ item_begins : (k : ItemType) (a : Item) (ts : List Lexeme) → item_spells k a t
 item_begins k a ts h =
     subst (λ (x : List Lexeme). Starts begins_line x) (sym h.whole) (begun_by [] h.first h.head h.tail h.head_spelled (tail_begins k h.first (h.last, a.ending) h.tail h.tail_spelled))
 
--- an item is not continued by what is after it
+-- an item is not continued by the tokens after it
 starts_free : (v : Item) (ts : List Lexeme) → Starts begins_line ts → Free (item_continues v) ts
 starts_free v [] h = tt
 starts_free v (t ∷ ts) h = ending_ends v.ending t h

@@ -1,4 +1,4 @@
--- Lines and a text after them: the tokens that they have together are those of each.
+-- Lines and a text after them: the tokens that they have together are the tokens of each.
 use Rattle.std.proofs.Common.{◌≡◌, ℕ, ◌+◌, ◌<◌, Bool, ◌⊎◌, inl, inr, List, [], ◌∷◌, ◌++◌, length, refl, sym, ap, ◌∙◌, subst, arith, append_assoc, append-nil, length-append, get_or}
 use Rattle.std.specs.Prelude.{◌==◌, codes, flat_map}
 use Rattle.std.specs.List.{AllByRecursion}
@@ -18,7 +18,7 @@ pub record Within {A : Type 0} (x y r b : List A) : Type 0 where
   pub first : r ≡ x ++ left
   pub second : y ≡ left ++ b
 
--- x goes on after r
+-- x extends beyond r
 pub record Beyond {A : Type 0} (x y r b : List A) : Type 0 where
   pub more : List A
   pub some : 0 < length more
@@ -40,7 +40,7 @@ parted_twice {A} (c ∷ x) y (d ∷ r) b e = under (parted_twice x y r b tails)
     under (inl h) = inl (record { left = h.left; first = (λ i. sym heads i ∷ h.first i); second = h.second })
     under (inr h) = inr (record { more = h.more; some = h.some; first = (λ i. heads i ∷ h.first i); second = h.second })
 
--- what is left of lines is lines
+-- a suffix of lines is lines
 pub lines_end : (x s : List ℕ) → IsLines (x ++ s) → IsLines s
 lines_end x [] l = inl refl
 lines_end x (c ∷ s) (inl e) = let n = ap length e in let m = length-append x (c ∷ s) in absurd (omega arith)
@@ -74,7 +74,7 @@ comment_front t r s one e some = under (parted_twice (59 ∷ t) (codes "\n") r s
         nothing_left (c ∷ left) p q = let n = ap length q in let m = length-append left s in absurd (omega arith)
     under (inr h) = one_line_front r h.more (subst (λ (l : List ℕ). IsOneLine l) h.first whole)
 
--- a piece of a gap has no newline before its end
+-- a unit of a gap has no newline before its end
 piece_whole : (p : Piece) (r s : List ℕ) → IsPiece p → piece_text p ≡ r ++ s → 0 < length s → IsLines r → r ≡ []
 piece_whole (comment t) r s is e some l = no_line_in r (comment_front t r s is e some) l
 piece_whole (space c) r s is e some (inl none) = none
@@ -244,7 +244,7 @@ token_inside u us n r b other left h first k ih w =
       is_last = p.is_last;
     }
 
--- no token goes on after the end of lines
+-- no token extends beyond the end of lines
 token_ends : (t : Lexeme) (after left b : List ℕ) → IsLexeme t → 0 < length left → IsLines left → Beyond (spelling t) after left b → ⊥
 token_ends t after left b is some l w =
     let none : left ≡ [] = no_line_in left (one_line_front left w.more (subst (λ (x : List ℕ). IsOneLine x) w.first (token_line t is))) l in

@@ -1,4 +1,4 @@
--- Texts of items: what they spell, and what is returned if they spell none.
+-- Texts of items: the items that they spell, and the result if they spell none.
 use Rattle.std.proofs.Common.{◌≡◌, ◌⊎◌, ℕ, ◌+◌, ◌≤◌, Bool, false, List, [], ◌∷◌, ◌++◌, length, Option, Some, None, refl, sym, ◌∙◌, ap, subst, inl, inr, arith}
 use Rattle.std.specs.Prelude.{IfSome}
 use Rattle.souper_graph.specs.Values.{Item}
@@ -37,7 +37,7 @@ offset_kind MemoryCause o e = absurd cc
 offset_cause : (e : ParseError) (o : ℕ) → offset_of e ≡ Some o → cause_of e ≡ Some (refused o)
 offset_cause e o at = rw (offset_kind e.cause o at, at) refl
 
--- what is known if the parser refused
+-- the text spells no items if the parser refused
 none_spelled : (k : ItemType) (bs : List ℕ) (e : ParseError) (p q : Parsing) (o : ℕ) → p.failed ≡ None → ((ts : List (ℕ × Lexeme)) → IsTextOf bs ts → (p.tokens ≡ ts) × (p.faulty ≡ false))
     → ListRefusal k e p q → cause_of e ≡ Some (refused o) → SpellsNone k bs
 none_spelled k bs e p q o live only h cause items spelled =

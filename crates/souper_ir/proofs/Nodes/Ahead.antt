@@ -1,4 +1,4 @@
--- What is known of a parser whose next token comes, though it was not lexed.
+-- Facts about a parser whose next token comes, though it was not lexed.
 use Rattle.std.proofs.Common.{◌≡◌, ◌⊎◌, ℕ, Bool, true, false, List, [], ◌∷◌, Some, None, refl, sym, ◌∙◌, ap, subst, inl, inr}
 use Rattle.std.specs.Prelude.{Result}
 use Rattle.souper_graph.specs.declared.ast.operands.Operand.{Operand}

@@ -88,7 +88,7 @@ module _ (p q : Inside) (o : ℕ) (t : Lexeme) (v : Parsing) (is : parsing_of p 
     failed = option_map cause_of_failure ((same.1 ∙ none_is p.failed (sym live)) i);
   })
 
-  -- what is read from the one to the other
+  -- a reading from the one to the other
   between : {Y : Type 0} (read : Parsing → Option (Y × Parsing)) (y : Y) → IsRead (read start) y start end → IsRead (read v) y v (parsing_of q)
   between {Y} read y h =
       subst (λ (x : Parsing). IsRead (read x) y x (parsing_of q)) is_before

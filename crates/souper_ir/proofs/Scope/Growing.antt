@@ -1,4 +1,4 @@
--- What is where a scope has a name, and what still holds as the scope grows.
+-- The statement where a scope has a name, and the facts that still hold as the scope grows.
 use Rattle.std.proofs.Common.{◌≡◌, ◌⊎◌, ℕ, zero, suc, ◌+◌, ◌<◌, Bool, true, false, List, [], ◌∷◌, ◌++◌, length, Option, Some, None, refl, sym, ◌∙◌, ap, subst, inl, inr, arith}
 use Rattle.std.specs.Prelude.{bytes_eq, option_map, slice_get, if◌then◌else◌}
 use Rattle.std.proofs.lemmas.Slice.Eq.{bytes_eq-Decides}
@@ -36,7 +36,7 @@ found_from k (assigned a ∷ s) n e h = found_if (bytes_eq a.name n) k a s n (en
 found_from k (condition p ∷ s) n e h = later k (condition p) s n e (found_from (suc k) s n e h)
 found_from k (block_condition p ∷ s) n e h = later k (block_condition p) s n e (found_from (suc k) s n e h)
 
--- what is at the entry of a name
+-- the statement at the entry of a name
 pub entry_stands : (s : Scope) (n : List ℕ) (i : ℕ) (predecessors : Option ℕ) → entry_of s n ≡ Some (i, predecessors) → StandsWith s n i predecessors
 entry_stands s n i predecessors h =
     let r = found_from 0 s n (i, predecessors) h in
@@ -95,7 +95,7 @@ named_pass ss s named c p v e = by_place (get_push ss s (assigned v) p e)
     by_place (inl h) = ap (λ (o : Option (ℕ × Option ℕ)). option_map (λ (e : ℕ × Option ℕ). e.0) o) (sym (entry_pass 0 ss s v.name c)) ∙ named p v h
     by_place (inr h) = absurd (let no : true ≡ false = sym c ∙ ap is_condition h.1 in cc)
 
--- ---- what is there
+-- ---- the statements of a scope
 
 get_in : (s : Scope) (i : ℕ) (x : PlainStatement) → slice_get s i ≡ Some x → i < length s
 get_in [] i x e = absurd cc

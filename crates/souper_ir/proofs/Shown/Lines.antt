@@ -144,7 +144,7 @@ shown_parts : (file line column message aligned text caret : List ℕ)
     ≡ file ++ (codes ":" ++ (line ++ (codes ":" ++ (column ++ (codes ": " ++ (message ++ (10 ∷ (codes "     |" ++ (10 ∷ (aligned ++ (codes " | " ++ (text ++ (10 ∷ (codes "     | " ++ caret))))))))))))))
 shown_parts file line column message aligned text caret = simp append_assoc
 
--- what is written of a refusal that has no place
+-- the text written for a refusal that has no place
 pub direct_is : (offset : ℕ) (message : List ℕ)
     → codes "unknown:1:1: " ++ (message ++ (10 ∷ (codes "     |" ++ (10 ∷ (codes "   1 | byte offset " ++ (decimal offset ++ (10 ∷ codes "     | ^")))))))
     ≡ direct_text offset message

@@ -86,7 +86,7 @@ same_text body (c ∷ cs) s t a b = by_end a.1 b.1
 
 -- ---- two places
 
--- the line of a place does not begin before that of another
+-- the line of a place does not begin before the line of another
 not_before : (source : List ℕ) (offset l c m d : ℕ) (s t : List ℕ) (p : IsPlace source offset l c s) (q : IsPlace source offset m d t) → length p.front < length q.front → ⊥
 not_before source offset l c m d s t p q less = by_begin q.begins
   where

@@ -51,7 +51,7 @@ module _ {X : Type 0} (spells : X → List Lexeme → Type 0) (first : (x : X) (
   attributes_only P [] y (t ∷ rest) m f g = neither (λ e. g (more_if_open {V = X} [] t e)) (subst (λ (z : List Lexeme). Free P (z ++ t ∷ rest)) m f)
   attributes_only P (x ∷ xs) y (t ∷ rest) m f g = λ e. g (more_if_open (x ∷ xs) t e)
 
--- what is known of a node C that is a node A with attributes X after it
+-- the laws of a node C that is a node A with attributes X after it
 pub record Laws {A X C : Type 0} (spells_a : Scope → A → List Lexeme → Type 0) (goes_on_a : A → Lexeme → Type 0) (spells_x : X → List Lexeme → Type 0) (a_of : C → A) (xs_of : C → List X)
     (spells_c : Scope → C → List Lexeme → Type 0) (goes_on_c : C → Lexeme → Type 0) : Type 0 where
   pub alone : Alone spells_c goes_on_c

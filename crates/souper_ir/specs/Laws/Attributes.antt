@@ -1,4 +1,4 @@
--- Lemmas. The rules of attributes: what is read is spelled so, and what is spelled so is read.
+-- Lemmas. The rules of attributes: a value is read if and only if the tokens spell it.
 use Rattle.std.proofs.Common.{◌≡◌, ℕ, ◌^◌, ◌<◌, ◌==◌, Bool, true, false, List, [], ◌∷◌, ◌++◌, map, length, Option, Some, None, refl, sym, ◌∙◌, ap, subst, inl, inr, arith, eqb-true}
 use Rattle.std.specs.Prelude.{codes, if◌then◌else◌}
 use Rattle.souper_graph.specs.Leaves.{text_of_known_bit, text_of_bit}

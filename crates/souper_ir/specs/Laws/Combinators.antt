@@ -16,7 +16,7 @@ use Rattle.souper_ir.specs.Laws.Tokens.{name_means, mark_means, word_means, word
 
 -- ---- rules
 
--- what is asked of the tokens after a node that some tokens continue: a reading ensures `Free`, and requires `Stops`
+-- the condition on the tokens after a node that some tokens continue: a reading ensures `Free`, and requires `Stops`
 abbrev pub Ends : Type 1
 Ends = (Lexeme → Type 0) → List Lexeme → Type 0
 
@@ -34,7 +34,7 @@ pub record Reads {V : Type 0} (read : Reading V) (v : V) (p : Parsing) (rest : L
   pub ahead : At next rest
   pub state : next ≡ record p { tokens = next.tokens }
 
--- what is read has the form, and what has the form is read
+-- a value is read if and only if it has the form
 pub record Rule {V : Type 0} (form : Form V) (read : Reading V) : Type 0 where
   pub sound : (p q : Parsing) (v : V) → p.failed ≡ None → read p ≡ Some (v, q) → (used : List Lexeme) × Takes p q used × form Free p.scope v used (kinds q.tokens)
   pub complete : (p : Parsing) (v : V) (front rest : List Lexeme) → At p (front ++ rest) → form (λ goes_on. Stops goes_on p.faulty) p.scope v front rest → Reads read v p rest
@@ -51,11 +51,11 @@ ruled {F = F} m = record { form = F; rule = m }
 abbrev pub Node : {V : Type 0} → (Scope → V → List Lexeme → Type 0) → (V → Lexeme → Type 0) → Form V
 Node spells continues = λ ends s v ts rest. spells s v ts × ends (continues v) rest
 
--- what was read has the second form if it has the first
+-- a value that was read has the second form if it has the first
 abbrev pub To : {V : Type 0} → Form V → Form V → Type 0
 To {V} F G = (s : Scope) (v : V) (ts rest : List Lexeme) → F Free s v ts rest → G Free s v ts rest
 
--- what is to be read has the second form if it has the first
+-- a value that is to be read has the second form if it has the first
 abbrev pub From : {V : Type 0} → Form V → Form V → Type 0
 From {V} F G = (faulty : Bool) (s : Scope) (v : V) (ts rest : List Lexeme) → F (λ goes_on. Stops goes_on faulty) s v ts rest → G (λ goes_on. Stops goes_on faulty) s v ts rest
 
@@ -141,7 +141,7 @@ given {f = f} o n = record {
       record { next = k.next; is_read = rw (h.is, k.is_read) refl; ahead = k.ahead; state = k.state };
 }
 
--- the value is made of what is read last
+-- the value is made of the value that is read last
 pub record Last {A B : Type 0} (F : Form A) (g : A → B) (ends : Ends) (s : Scope) (v : B) (ts rest : List Lexeme) : Type 0 where
   pub value : A
   pub is : v ≡ g value

@@ -14,7 +14,7 @@ use Rattle.souper_ir.specs.Laws.Unique.{Alone}
 use Rattle.souper_ir.specs.Laws.Combinators.{Reading, Reads, Rule, Node}
 
 module _ {Y : Type 0} (spells : Scope → Y → List Lexeme → Type 0) (continues : Y → Lexeme → Type 0) (read : Reading Y) where
-  -- what is spelled so, and not continued, is read
+  -- a value that is spelled so, and not continued, is read
   abbrev pub Complete : Type 0
   Complete = (p : Parsing) (y : Y) (front rest : List Lexeme) → At p (front ++ rest) → spells p.scope y front × Stops (continues y) p.faulty rest → Reads read y p rest
 

@@ -166,7 +166,7 @@ no_tokens : (c d : List Lexeme) → Opens c → [] ≡ c ++ d → ⊥
 no_tokens [] d o e = o
 no_tokens (t ∷ c) d o e = absurd cc
 
--- the first statement, and what is after it
+-- the first statement, and the tokens after it
 pub split : (a f g c : List Lexeme) → a ≡ f ++ g → a ++ c ≡ f ++ (g ++ c)
 split a f g c e = ap (λ (x : List Lexeme). x ++ c) e ∙ append_assoc f g c
 
@@ -222,7 +222,7 @@ module _ {Y : Type 0} (tail : Scope → Y → List Lexeme → Type 0) (continues
       no_item faulty (s ++ v ∷ []) vs ws m.suffix c n.suffix e d y rest m.second
       (Free-weaker (λ t. LastGoesOn statement_continues (v ∷ vs) t) (λ t. LastGoesOn statement_continues vs t) c (last_later v vs) f) k2 more sp2 st
 
-  -- what is stuck by statements alone
+  -- tokens that are stuck by statements alone are stuck with a tail too
   pub weaker : (s : Scope) (faulty : Bool) (ts : List Lexeme) → StuckAt NoStatement s faulty ts → StuckAt (NoMore tail continues) s faulty ts
   weaker s faulty ts h = record { members = h.members; front = h.front; rest = h.rest; parts = h.parts; spelled = h.spelled; free = h.free; stuck = inl h.stuck }
 

@@ -1,4 +1,4 @@
--- Lemmas. The rules of types, constants and operands: what is read is spelled so, and what is spelled so is read.
+-- Lemmas. The rules of types, constants and operands: a value is read if and only if the tokens spell it.
 use Rattle.std.proofs.Common.{◌≡◌, ℕ, suc, zero, Bool, true, false, List, [], ◌∷◌, ◌++◌, length, Option, Some, None, refl, ◌∙◌, ap, subst, arith}
 use Rattle.souper_graph.specs.declared.ast.operands.«Type».{«Type» as Ty}
 use Rattle.souper_graph.specs.declared.ast.operands.Constant.{Constant}

@@ -1,4 +1,4 @@
--- Lemmas. The rules of right sides: what is read is spelled so, and what is spelled so is read.
+-- Lemmas. The rules of right sides: a value is read if and only if the tokens spell it.
 use Rattle.std.proofs.Common.{◌≡◌, ℕ, ◌^◌, Bool, true, false, List, [], ◌∷◌, ◌++◌, length, Option, Some, None, refl, sym, ◌∙◌, ap, subst}
 use Rattle.std.specs.Prelude.{codes, is_some, ◌↔◌}
 use Rattle.std.proofs.lemmas.List.{append-nil}

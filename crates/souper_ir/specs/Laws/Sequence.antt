@@ -15,7 +15,7 @@ use Rattle.souper_ir.specs.Laws.Steps.{kinds-append}
 abbrev pub Split : {A B : Type 0} → (Scope → A → List Lexeme → Type 0) → (A → Lexeme → Type 0) → (Scope → B → List Lexeme → Type 0) → Scope → A → B → List Lexeme → Type 0
 Split spells_a goes_on_a spells_b s a b ts = Followed (spells_a s a) (goes_on_a a) (spells_b s b) ts
 
--- C has a part A and a part B. What goes on with C goes on with its B, or with its A if its B is empty.
+-- C has a part A and a part B. A token continues C if it continues its B, or its A if its B is empty.
 module _ {A B C : Type 0} (spells_a : Scope → A → List Lexeme → Type 0) (goes_on_a : A → Lexeme → Type 0) (spells_b : Scope → B → List Lexeme → Type 0) (goes_on_b : B → Lexeme → Type 0) (goes_on_c : C → Lexeme → Type 0)
     (a_of : C → A) (b_of : C → B)
     (last : (c : C) (t : Lexeme) → goes_on_b (b_of c) t → goes_on_c c t)

@@ -1,4 +1,4 @@
--- Lemmas. The rules of statements and last lines: what is read is spelled so, what is spelled so is read, and at most
+-- Lemmas. The rules of statements and last lines: a value is read if and only if the tokens spell it, and at most
 -- one prefix spells one.
 use Rattle.std.proofs.Common.{◌≡◌, ℕ, ◌^◌, ◌<◌, Bool, true, false, List, [], ◌∷◌, ◌++◌, Option, Some, None, refl, sym, ◌∙◌, ap, subst, append_assoc, ◌⊎◌, inl, inr}
 use Rattle.std.specs.Prelude.{codes, nat_lt, if◌then◌else◌}

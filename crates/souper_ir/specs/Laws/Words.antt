@@ -81,11 +81,11 @@ opcode_is Hole = (do_hole, (refl, refl, refl))
 
 -- ---- the instruction of an opcode
 
--- the word and the operands are those of the instruction
+-- the instruction has this word and these operands
 abbrev pub Makes : List ℕ → List Operand → Instruction → Type 0
 Makes w xs i = (w ≡ word_of i) × (xs ≡ operands_of i)
 
--- the word is that of whatever has the shape
+-- each instruction of the shape has the word
 abbrev pub Names : List ℕ → Shape → Type 0
 Names w (no_operand i) = Makes w [] i
 Names w (one_operand f) = (a : Operand) → Makes w (a ∷ []) (f a)
@@ -211,6 +211,6 @@ shaped (one_operand f) w h = (f (Value 0), (h (Value 0)).0)
 shaped (two_operands f) w h = (f (Value 0) (Value 0), (h (Value 0) (Value 0)).0)
 shaped (three_operands f) w h = (f (Value 0) (Value 0) (Value 0), (h (Value 0) (Value 0) (Value 0)).0)
 
--- an opcode's word is that of an instruction
+-- an opcode's word is the word of an instruction
 pub opcode_names : (w : List ℕ) (o : Opcode) → opcode_of w ≡ Some o → (i : Instruction) × (w ≡ word_of i)
 opcode_names w o e = shaped (shape_of o) w (opcode_fits (length w) w o e)

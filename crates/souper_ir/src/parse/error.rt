@@ -140,7 +140,7 @@ impl ParseError {
     ///
     /// The part begins at the byte `skipped` of `source`, and `before` says what comes before `source`. A refusal is then at
     /// that place of the whole text, and shows it, unless memory runs out for that. Other errors stay as they are. The place of
-    /// an offset is that of the byte before it: if anything comes before `source`, the offset in `source` must not be 0.
+    /// an offset is the place of the byte before it: if anything comes before `source`, the offset in `source` must not be 0.
     pub fn locate_after(
         self,
         alloc: Global,

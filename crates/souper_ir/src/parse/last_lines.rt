@@ -84,7 +84,7 @@ pub(crate) fn result(parser: &mut Parser<'_>) -> Read<Operand>
     operand(parser)
 }
 
-/// Its name has to be that of a value in scope.
+/// Its name must denote a value in scope.
 impl Parse for Infer {
     ghost Plain = { PlainInfer };
 
@@ -113,7 +113,7 @@ impl Peek for Infer {
     }
 }
 
-/// Each name has to be that of a value in scope. A comma may come between the two operands.
+/// Each name must denote a value in scope. A comma may come between the two operands.
 impl Parse for Cand {
     ghost Plain = { PlainCand };
 

@@ -170,7 +170,7 @@ impl Peek for Constant {
     }
 }
 
-/// A name has to be that of a value in scope.
+/// A name must denote a value in scope.
 impl Parse for Operand {
     ghost Plain = { Self };
 

@@ -182,7 +182,7 @@ impl Peek for Block {
     }
 }
 
-/// Its name has to be that of a block in scope, and it has one value per predecessor of that block.
+/// Its name must denote a block in scope, and it has one value per predecessor of that block.
 impl Parse for Phi {
     ghost Plain = { PlainPhi };
 

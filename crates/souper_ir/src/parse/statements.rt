@@ -183,7 +183,7 @@ impl Peek for Pc {
     }
 }
 
-/// Its name has to be that of a block in scope, and its number that of a predecessor of the block, counted from 0.
+/// Its name must denote a block in scope, and its number a predecessor of the block, counted from 0.
 /// Called by itself, it adds no statement.
 impl Parse for BlockPc {
     ghost Plain = { block_pc_value };

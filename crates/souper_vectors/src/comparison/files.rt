@@ -57,7 +57,7 @@ pub fn write_files<R: Files + AllocGlobal + Abort>(rt: &R) {
     write(rt, "no_text", b"\xff");
 }
 
-// So many items were read.
+// This number of items was read.
 fn has_items<T: Drop>(rt: &impl Abort, read: Result<Vec<T>, ParseError>, count: usize) {
     let items = read.expect(rt, "items");
     equal(rt, items.len(), count);
@@ -105,7 +105,7 @@ fn refusal_shows_the_path(rt: HostRuntime) {
     is_refused(&rt, "./a file");
 }
 
-// The error is that of a read that failed.
+// The error is a failed read.
 fn is_fault<T: Drop>(rt: &impl Abort, alloc: Global, read: Result<Vec<T>, ParseError>, path: &str) {
     let error = read.err().expect(rt, path);
     let shown = error.to_string(alloc).expect(rt, path);

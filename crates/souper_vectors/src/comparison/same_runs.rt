@@ -19,7 +19,7 @@ fn compare<R: Files + AllocGlobal, W: Write, E: Write>(
     same_run(rt, rt.alloc(), Kind::Lhs, first, second, out, err)
 }
 
-// A comparison with `first` has this status, and reports this line. `out` fails after so many calls.
+// A comparison with `first` has this status, and reports this line. `out` fails after `after` calls.
 fn writes<R: Files + AllocGlobal + Abort>(
     rt: &R,
     path: &str,
@@ -50,7 +50,7 @@ fn failed_write_is_a_fault(rt: HostRuntime) {
     writes(&rt, "third", 6, false, (0, ""));
 }
 
-// A comparison over an `err` that fails after so many calls: the status, whether `out` and `err` failed, and whether
+// A comparison over an `err` that fails after `after` calls: the status, whether `out` and `err` failed, and whether
 // nothing is written.
 fn compare_over_err<R: Files + AllocGlobal>(
     rt: &R,
@@ -79,7 +79,7 @@ fn keeps_status<R: Files + AllocGlobal + Abort>(
     }
 }
 
-// The line of a refusal is 79 bytes, and that of a fault of a read begins with 10 known ones.
+// The line of a refusal has 79 bytes, and the line of a failed read begins with 10 known ones.
 #[test]
 fn failed_err_keeps_the_status(rt: HostRuntime) {
     write_files(&rt);
@@ -90,7 +90,7 @@ fn failed_err_keeps_the_status(rt: HostRuntime) {
     keeps_status(&rt, ("first", "no_text"), 3, 10);
 }
 
-// A comparison over an `out` and an `err` that fail after so many calls: the status, and whether each failed.
+// A comparison over an `out` and an `err` that fail after these numbers of calls: the status, and whether each failed.
 fn compare_over_both<R: Files + AllocGlobal>(
     rt: &R,
     after: usize,

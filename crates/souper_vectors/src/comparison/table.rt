@@ -1,4 +1,4 @@
-//! Tables of two texts of a kind, of lists that are the same and of lists that are not. The form is that of the tables of
+//! Tables of two texts of a kind, of lists that are the same and of lists that are not. The form is the same as in the tables of
 //! `texts`; the comment at the head says what a row shows.
 
 /// Lists with pairwise the same graphs.

@@ -165,7 +165,7 @@ fn other_words_get_the_usage(rt: HostRuntime) {
     does(&rt, rt.alloc(), "same x sum sum", (2, "", USAGE));
 }
 
-// A run without a command over an `err` that fails after so many calls: the status, whether `err` failed, and whether
+// A run without a command over an `err` that fails after `after` calls: the status, whether `err` failed, and whether
 // nothing is written.
 fn usage_over_err(
     rt: &impl Abort,

@@ -116,7 +116,7 @@ fn write_that_takes_nothing_is_a_fault(rt: HostRuntime) {
     writes(&rt, rt.alloc(), none.as_mut_slice(), true, (3, FAULT));
 }
 
-// A run over an `err` that fails after so many calls: the status, whether `err` failed, and whether nothing is written.
+// A run over an `err` that fails after `after` calls: the status, whether `err` failed, and whether nothing is written.
 fn runs_over_err(alloc: Global, source: &[u8], after: usize) -> (u8, bool, bool) {
     let mut written = Vec::new(alloc);
     let mut input = Watched::new(source);

@@ -42,7 +42,7 @@ fn failed_read_is_reported(rt: HostRuntime) {
     did(&rt, run, (2, "", READ_ERROR));
 }
 
-// The status of a run that is refused and whose report fails after so many calls, and whether the report failed.
+// The status of a run that is refused and whose report fails after this number of calls, and whether the report failed.
 fn failed_report(rt: &impl Abort, alloc: Global, after: usize) -> (u8, bool) {
     let mut reader = BufReader::new(alloc, b"infer %x\n".as_slice()).expect(rt, "memory");
     let mut written = Vec::new(alloc);
@@ -59,7 +59,7 @@ fn failed_report(rt: &impl Abort, alloc: Global, after: usize) -> (u8, bool) {
     (status, err.failed())
 }
 
-// If the report cannot be written, the status is that of the refusal.
+// If the report cannot be written, the status still says that the input is refused.
 #[test]
 fn failed_report_leaves_the_status(rt: HostRuntime) {
     for after in 0..4 {

@@ -43,7 +43,7 @@ fn uniq_over<T: StreamItem + Drop, R: BufRead>(alloc: Global, reader: &mut R) ->
     }
 }
 
-// What a run over the text does, with so many bytes a read. All of what it reports is compared.
+// The outcome of a run over the text, with this number of bytes a read. The whole report is compared.
 fn each_does<T: StreamItem + Drop>(
     rt: &impl Abort,
     alloc: Global,
@@ -258,7 +258,7 @@ fn first_items_are_written_around_a_refused_one(rt: HostRuntime) {
     );
 }
 
-// The refusals come before the line of what is no text.
+// The refusals come before the line of the bytes that are not UTF-8.
 #[test]
 fn fault_is_reported_after_the_refusals(rt: HostRuntime) {
     let source = b"%a = var\ninfer %a\ninfer %b\n%c = var\ninfer %c\n\xff";
@@ -275,7 +275,7 @@ fn fault_is_reported_after_the_refusals(rt: HostRuntime) {
     equal(&rt, found, (2, "%a = var\ninfer %a\n\n", true, true));
 }
 
-// The status of a run that is refused and whose report fails after so many calls, and whether it failed.
+// The status of a run that is refused and whose report fails after this number of calls, and whether it failed.
 fn failed_report(rt: &impl Abort, alloc: Global, after: usize) -> (u8, bool) {
     let mut reader = BufReader::new(alloc, b"infer %x\n".as_slice()).expect(rt, "memory");
     let mut written = Vec::new(alloc);

@@ -31,7 +31,7 @@ fn objects_over<T: StreamItem + Drop, R: BufRead>(
     }
 }
 
-// What a run over the text does, with so many bytes a read. All of what it reports is compared.
+// The outcome of a run over the text, with this number of bytes a read. The whole report is compared.
 fn objects_do<T: StreamItem + Drop>(
     rt: &impl Abort,
     alloc: Global,
@@ -79,7 +79,7 @@ const REPORTED: &str = r#"a "b"\c.opt:6:9: expected a constant, var, block, phi,
      |         ^
 "#;
 
-// The keys are those of sha256sum, the lines were counted by hand.
+// The keys come from sha256sum, the lines were counted by hand.
 #[test]
 fn objects_have_text_key_file_and_line(rt: HostRuntime) {
     let alloc = rt.alloc();
@@ -104,7 +104,7 @@ const LINE_REPORTED: &str = r#"a "b"\c.opt:1:25: expected an integer literal
      |                         ^
 "#;
 
-// A refusal comes after the items that its piece begins with, which have the line of the first of them.
+// A refusal comes after the items that its segment begins with, which have the line of the first of them.
 #[test]
 fn items_of_a_piece_have_its_line(rt: HostRuntime) {
     let source = "result 1 result 2 result result\nresult 3\nresult 4";
@@ -112,7 +112,7 @@ fn items_of_a_piece_have_its_line(rt: HostRuntime) {
     objects_do::<RightHandSide>(&rt, rt.alloc(), false, (source, 3), want);
 }
 
-// The status of a run whose output fails after so many calls, and whether it failed.
+// The status of a run whose output fails after this number of calls, and whether it failed.
 fn failed_output(rt: &impl Abort, alloc: Global, after: usize) -> (u8, bool) {
     let mut reader = BufReader::new(alloc, SOURCE.as_bytes()).expect(rt, SOURCE);
     let mut reported = Vec::new(alloc);

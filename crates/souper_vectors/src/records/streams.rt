@@ -1,4 +1,4 @@
-//! The records of a stream are those of its items, whatever the reads give.
+//! A stream gives the records of its items, whatever the sizes of the reads.
 use crate::checks::{equal, text};
 use crate::records::support::{Run, headed, run_over, runs};
 use crate::sources::{ATTRIBUTES, BLOCKS, GAPS, PAIRS, RESULTS, VALUES};
@@ -46,7 +46,7 @@ fn records_are_what_the_formatter_writes(rt: HostRuntime) {
     is_formatted::<Replacement>(&rt, rt.alloc(), Kind::Rep, RESULTS.as_slice());
 }
 
-// So many left-hand sides, as they are written.
+// `count` left-hand sides, as they are written.
 fn good_ones(rt: &impl Abort, alloc: Global, count: usize) -> String {
     let mut source = String::new(alloc);
     for _ in 0..count {
@@ -62,14 +62,14 @@ fn with_refused(rt: &impl Abort, alloc: Global, good: &str) -> String {
     format!(in alloc; "{good}%b = foo\ninfer %b\n\n%c = var\ninfer %c\n").expect(rt, good)
 }
 
-// The run wrote what is good, and told of the refusal at this place.
+// The run wrote the valid items, and reported the refusal at this location.
 fn is_refused(rt: &impl Abort, run: Run, good: &str, place: &str) {
     let shows = text(&run.err).contains("%b = foo\n");
     let found = (run.status, text(&run.out), headed(&run.err, place));
     equal(rt, (found, shows), ((1, good, place), true));
 }
 
-// So many items are written before the refusal at this place.
+// This number of items is written before the refusal at this location.
 fn writes_before(rt: &impl Abort, alloc: Global, count: usize, place: &str) {
     let good = good_ones(rt, alloc, count);
     let source = with_refused(rt, alloc, good.as_str());

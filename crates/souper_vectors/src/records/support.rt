@@ -54,7 +54,7 @@ pub(crate) fn did(rt: &impl Abort, run: Run, want: Ran<'_>) {
     equal(rt, found, want);
 }
 
-/// Asserts what a run of `each` over a text does, with so many bytes a read.
+/// Asserts the outcome of a run of `each` over a text, with this number of bytes a read.
 pub(crate) fn runs<T: StreamItem + Drop>(
     rt: &impl Abort,
     alloc: Global,

@@ -17,7 +17,7 @@ const RENAMED: Layout = Layout {
     rename: true,
 };
 
-// The status of a stream after those that were seen, with so many bytes a read.
+// The status of a stream after the earlier ones, with this number of bytes a read.
 fn uniq<T: StreamItem + Drop, W: Write>(
     rt: &impl Abort,
     alloc: Global,

@@ -9,7 +9,7 @@
 //!
 //! KIND is the type of the items that the text is read as: `lhs`, `rhs` or `rep`. OFFSET is the offset of the error, NAME
 //! says what the case is, and ERROR is what the error shows. TEXT and ERROR may have several lines: the newline before
-//! `---` and the one before `===` are not part of them. Escapes are those of a string literal; a space at the end of a line
+//! `---` and the one before `===` are not part of them. Escapes are as in a string literal; a space at the end of a line
 //! is written `\u{20}`.
 //!
 //! The examples of `docs/GRAMMAR.md` are among the records, which `tools/grammar-examples` checks.

@@ -1,4 +1,4 @@
-//! Items of streams: the same as those of the whole texts, whatever the reads give and wherever the chunks end.
+//! Items of streams: the same items as in the whole texts, whatever the sizes of the reads and of the chunks.
 use crate::checks::is_text;
 use crate::sources::{ATTRIBUTES, BLOCKS, GAPS, PAIRS, RESULTS, RIGHT_HAND_SIDES, VALUES};
 use souper_ir::ast::{Item, LeftHandSide, Replacement, RightHandSide};
@@ -34,7 +34,7 @@ fn of_whole<T: StreamItem + Drop>(rt: &impl Abort, alloc: Global, source: &str) 
     texts.text
 }
 
-// With so many bytes a read, and looked at after so many bytes.
+// With this number of bytes a read, and this chunk size.
 fn of_stream<T: StreamItem + Drop>(
     alloc: Global,
     source: &str,

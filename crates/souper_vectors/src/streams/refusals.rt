@@ -22,7 +22,7 @@ impl<T: WholeItem + Drop> Sink<T> for Count {
     }
 }
 
-// How many left-hand sides are taken of a stream that is looked at after so many bytes, and its error.
+// The number of left-hand sides taken from a stream with this chunk size, and the stream's error.
 fn read(
     rt: &impl Abort,
     alloc: Global,
@@ -58,7 +58,7 @@ fn are_same(rt: &impl Abort, alloc: Global, error: ParseError, whole: &ParseErro
     );
 }
 
-// The stream is refused as the whole text is, after so many items.
+// The stream is refused as the whole text is, after this number of items.
 fn is_refused(rt: &impl Abort, alloc: Global, source: &str, want: usize) {
     let whole = parse_left_hand_sides_str(alloc, source, Some("a"));
     let whole = whole.err().expect(rt, "the text is read");
@@ -114,7 +114,7 @@ infer %0 (
 infer %1
 ";
 
-// The text is refused after so many items, also between others.
+// The text is refused after this number of items, also between others.
 fn is_refused_between(rt: &impl Abort, alloc: Global, bad: &str, items: usize) {
     is_refused(rt, alloc, bad, items);
     let mut source = String::from_str(alloc, GOOD).expect(rt, bad);

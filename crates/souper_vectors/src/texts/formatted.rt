@@ -92,7 +92,7 @@ fn has_debug_text(rt: &impl Abort, alloc: Global, kind: Kind, source: &str) {
     equal(rt, shown.is_empty(), false);
 }
 
-// What is shown for `{:?}` is not specified, but that something is.
+// The text of `{:?}` is not specified, but it is not empty.
 #[test]
 fn items_have_a_debug_text(rt: HostRuntime) {
     let lhs = "%b = block 1\n%x:i8 = phi %b, 1 (nonZero)\nblockpc %b 0 %x 2\npc %x 1\n\

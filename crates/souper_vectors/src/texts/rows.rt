@@ -1,4 +1,4 @@
-//! The rows of a table of a kind, a text and what is wanted of it.
+//! The rows of a table of a kind: a text and its expected result.
 use souper_format::command::Kind;
 
 /// A row of a table.
@@ -9,7 +9,7 @@ pub struct Row<'a> {
     pub want: &'a str,
 }
 
-/// The row of these lines, if they are one: the kind, the text, a line `=>`, and what is wanted.
+/// The row of these lines, if they are one: the kind, the text, a line `=>`, and the expected result.
 pub fn read_row(lines: &str) -> Option<Row<'_>> {
     let (kind, rest) = lines.split_once('\n')?;
     let (source, want) = rest.split_once("\n=>\n")?;

@@ -1,4 +1,4 @@
-//! Tables of texts, and of what is wanted of them. `----` and a newline come between two rows.
+//! Tables of texts, each with its expected result. `----` and a newline come between two rows.
 
 /// White space and comments alone.
 pub const BLANK: &str = "\

@@ -1,4 +1,4 @@
--- The names so far are those of the statements so far.
+-- The names so far belong to the statements so far, in order.
 use Rattle.std.proofs.Common.{◌≡◌, map, take}
 use Rattle.examples_using.specs.Names.{names_at}
 use Rattle.examples_using.proofs.walking.needed_names.Given as goal

@@ -1,4 +1,4 @@
-//! The check of names: whether those of assignments are distinct.
+//! The check of names: whether the assignments' names are distinct.
 
 ghost use Rattle.std.specs.Prelude.{◌≡◌, ◌↔◌, map, IsTrue, IfOk, option_copied};
 ghost use Rattle.souper_graph.specs.View.{view_statement};

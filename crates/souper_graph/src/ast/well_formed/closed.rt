@@ -1,4 +1,4 @@
-//! The checks of uses: whether each is below its statement, and what is there.
+//! The checks of uses: whether each is below its statement, and whether the kind of statement there is right.
 
 ghost use Rattle.std.specs.Prelude.{◌≡◌, ◌<◌, ◌↔◌, ◌∷◌, [], map, length, slice_get, Some, None, IsTrue, MatchOption};
 ghost use Rattle.std.specs.List.{AllByRecursion};

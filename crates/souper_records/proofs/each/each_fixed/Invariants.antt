@@ -1,4 +1,4 @@
--- What was read, and the records that were written of its items.
+-- The text read, and the records that were written of its items.
 use Rattle.souper_records.proofs.Turns.{Reached}
 use Rattle.souper_records.proofs.Writers.{inner_bytes}
 use Rattle.souper_records.proofs.each.each_fixed.Given as goal

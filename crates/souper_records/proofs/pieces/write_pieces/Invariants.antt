@@ -1,4 +1,4 @@
--- The pieces that were read, what was written of them, and what was reported.
+-- The segments that were read, their output, and the reports.
 use Rattle.std.proofs.Common.{◌≡◌, true}
 use Rattle.std.specs.Prelude.{Some}
 use Rattle.souper_format.specs.Streams.{stream}

@@ -1,4 +1,4 @@
--- What was read, the items that were seen, and the records that were written of the first ones.
+-- The text read, the items that were seen, and the records that were written of the first ones.
 use Rattle.souper_records.proofs.Seeing.{Reached}
 use Rattle.souper_records.proofs.Writers.{inner_bytes}
 use Rattle.souper_records.proofs.uniq.uniq_parts.Given as goal

@@ -1,4 +1,4 @@
--- The count so far, and the newlines of the bytes that are left, are those of all bytes.
+-- The count so far and the newlines of the remaining bytes add up to the newlines of all bytes.
 use Rattle.std.proofs.Common.{◌≡◌, ◌+◌}
 use Rattle.std.specs.Slice.Iter.{chunks_rest, chunks_size}
 use Rattle.souper_ir.specs.Places.{newlines}

@@ -1,4 +1,4 @@
--- The count so far is that of the bytes so far.
+-- The count is the number of newlines of the bytes so far.
 use Rattle.std.proofs.Common.{◌≡◌, ◌≤◌, take}
 use Rattle.souper_ir.specs.Places.{newlines}
 use Rattle.souper_stream.proofs.held.newlines_of_chunk.Given as goal

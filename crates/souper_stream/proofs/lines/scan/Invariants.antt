@@ -1,4 +1,4 @@
--- The state is that after the tokens before and those that were looked at.
+-- The state is the state after the tokens before and the tokens that were looked at.
 use Rattle.std.proofs.Common.{List, length}
 use Rattle.souper_graph.specs.Syntax.Tokens.{Lexeme}
 use Rattle.souper_stream.specs.Lines.{IsStateAfter}

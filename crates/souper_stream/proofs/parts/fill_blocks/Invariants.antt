@@ -1,4 +1,4 @@
--- What was read so far was consumed, and is held.
+-- The bytes read so far were consumed, and are buffered.
 use Rattle.std.proofs.Common.{◌≡◌, ℕ, List, ◌++◌}
 use Rattle.std.specs.Io.KnownBytes.{Consumes}
 use Rattle.souper_stream.proofs.parts.fill_blocks.Given as goal

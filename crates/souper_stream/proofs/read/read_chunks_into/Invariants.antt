@@ -1,4 +1,4 @@
--- What was read so far, and the items that were passed to sinks.
+-- The text read so far, and the items that were passed to sinks.
 use Rattle.souper_stream.proofs.Turns.{Reached}
 use Rattle.souper_stream.proofs.read.read_chunks_into.Given as goal
 

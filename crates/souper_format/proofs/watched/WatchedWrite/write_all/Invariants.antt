@@ -1,4 +1,4 @@
--- What is gone from `rest` was appended, and no call has failed.
+-- The bytes removed from `rest` were appended, and no call has failed.
 use Rattle.std.proofs.Common.{◌≡◌, ℕ, List, ◌++◌, length}
 use Rattle.std.specs.Io.KnownBytes.{Appends}
 use Rattle.souper_format.proofs.watched.WatchedWrite.write_all.Given as goal

@@ -5,7 +5,7 @@ use Rattle.souper_graph.proofs.Order.Stack.{Running}
 use Rattle.souper_graph.proofs.Order.Loops.{Leads, LeadNeeds}
 use Rattle.souper_graph.proofs.stringify.order.order_of.Given as goal
 
--- the walks before k are over, and the lead counts what those of them before the infer line have appended
+-- the walks before k are over, and the lead counts the statements that the walks before both k and the infer line have appended
 abbrev pub invariant-loop-k : goal.invariant-loop-k
 invariant-loop-k l =
     (l.stack.items ≡ [])

@@ -1,4 +1,4 @@
--- The pieces that were read are those that were read before.
+-- The same segments were read as before.
 use Rattle.std.proofs.Common.{List, ◌≤◌}
 use Rattle.std.specs.Prelude.{ℕ, Option, vec_len}
 use Rattle.souper_stream.specs.Pieces.{Line}
