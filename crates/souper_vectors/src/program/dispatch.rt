@@ -12,6 +12,7 @@ use std::process::Abort;
 const USAGE: &str = "usage: souper_fmt lhs|rhs|rep\n       souper_fmt same lhs|rhs|rep PATH PATH\n";
 
 // The files, each with its text. The test fails if `unread` is read.
+#[derive(Drop)]
 struct TextsInMemory<'a, R> {
     rt: &'a R,
     alloc: Global,
