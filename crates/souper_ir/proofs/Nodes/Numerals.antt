@@ -11,7 +11,7 @@ use Rattle.std.proofs.lemmas.Str.Pattern.{strip_prefix_char}
 use Rattle.std.specs.Str.Pattern.{FindsCharPrefix}
 use Rattle.std.proofs.lemmas.Result.{OkIff-at_ok, OkIff-at_err}
 use Rattle.std.proofs.lemmas.Bool.{leb-true, ltb-true, lt-ltb, le-leb}
-use Rattle.std.proofs.lemmas.Bool.Decides.{Decides-and, Decides-ltb}
+use Rattle.std.proofs.lemmas.Bool.Decides.{Decides-and, Decides-ltb, nat_tests}
 use Rattle.std.proofs.lemmas.Int.{to_z-of_z}
 use mir.Syntax.{w128}
 use mir.Val.{to_z, of_z}
@@ -70,6 +70,23 @@ number_read w z h =
 
 pub number_refused : (w : List ℕ) → ¬ (IsNumber w) → number_of w ≡ None
 number_refused w h = none_if (is_number w) (signed_digits_value 10 w) (λ e. h ((is_number_decides w).0 e))
+
+module _ (c : ℕ) (d : is_ascii_digit c ≡ true) where
+  no_minus : (c == 45) ≡ false
+  no_minus = grind (arith, nat_tests)
+
+  no_plus : (c == 43) ≡ false
+  no_plus = grind (arith, nat_tests)
+
+-- a word of digits alone, whose number is small
+pub digits_read : (w : List ℕ) (n : ℕ) → 0 < length w → are_digits w ≡ true → digits_value 10 w ≡ n → n < 2 ^ 64 → number_of w ≡ Some (pos n)
+digits_read [] n h d v b = absurd (omega arith)
+digits_read (c ∷ cs) n h d v b =
+    let first = (both (is_ascii_digit c) (are_digits cs) d).0 in
+    let value : signed_digits_value 10 (c ∷ cs) ≡ pos n = rw (no_minus c first, no_plus c first) (ap pos v) in
+    let numeral : is_numeral (without_leading_sign (c ∷ cs)) ≡ true = rw (no_minus c first, no_plus c first, lt-ltb 0 (length (c ∷ cs)) h) d in
+    let within : is_within (pos n) ≡ true = le-leb n (2 ^ 127 - 1) (omega arith) in
+    some_if (is_number (c ∷ cs)) (signed_digits_value 10 (c ∷ cs)) (pos n) (rw (numeral, value) within) value
 
 -- ---- widths
 

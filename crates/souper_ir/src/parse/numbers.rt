@@ -1,6 +1,6 @@
 //! The numbers, widths and bit lists that words spell.
 
-ghost use Rattle.std.specs.Prelude.{◌≡◌, ◌^◌, Some, None, MatchResult, IfOk, IfSome, option_map};
+ghost use Rattle.std.specs.Prelude.{◌≡◌, ◌^◌, Some, None, pos, MatchResult, IfOk, IfSome, option_map};
 ghost use Rattle.std.specs.Char.{is_ascii_digit};
 ghost use Rattle.std.specs.List.{list_all};
 ghost use Rattle.souper_graph.specs.Syntax.Numbers.{number_of, count_of, width_of, bit_of, known_bit_of, bits_of, known_bits_of};
@@ -8,10 +8,32 @@ ghost use Rattle.souper_graph.specs.Syntax.Numbers.{number_of, count_of, width_o
 use std::alloc::{AllocError, Global};
 use std::num::IntErrorKind;
 
+// The number of a word of digits alone, if a `u64` holds it.
+#[inline(always)]
+fn short_number(word: &str) -> Option<u64>
+    ensures { IfSome result (λ n. number_of word.now ≡ Some (pos n)) }
+{
+    if word.is_empty() {
+        return None;
+    }
+    let mut value: u64 = 0;
+    for byte in word.bytes() {
+        if !byte.is_ascii_digit() {
+            return None;
+        }
+        value = value.checked_mul(10)?.checked_add(u64::from(byte - b'0'))?;
+    }
+    Some(value)
+}
+
 /// The number of a word of digits, perhaps with `-` before them.
 pub(crate) fn number(word: &str) -> Result<i128, IntErrorKind>
     ensures { MatchResult result (λ n. number_of word.now ≡ Some n) (λ _. number_of word.now ≡ None) }
 {
+    // Most numbers are short, and `i128` is slow.
+    if let Some(value) = short_number(word) {
+        return Ok(i128::from(value));
+    }
     match word.parse::<i128>() {
         Ok(value) => Ok(value),
         Err(error) => Err(*error.kind()),

@@ -474,7 +474,10 @@ impl<'a> Parser<'a> {
         ensures empty { self.new ≡ record self.old { scope = [] } }
     {
         self.names.clear();
-        self.statements.shrink_to_fit();
+        // So no more than half of the room stays unused.
+        if self.statements.len() < ROOM / 2 {
+            self.statements.shrink_to_fit();
+        }
         mem::replace(&mut self.statements, Arena::new(self.alloc))
     }
 }
