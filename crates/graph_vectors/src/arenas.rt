@@ -1,5 +1,5 @@
 //! Arenas, ids and the errors of a text, by calls.
-use crate::fixtures::{Graph, equal, is_text, number};
+use crate::fixtures::{Graph, equal, is_not_displayed, is_text, number};
 use souper_graph::ast::{
     Arena, Assignment, AssignmentRhs, BlockId, Id, Infer, LeftHandSide, Statement, ValueId,
 };
@@ -148,7 +148,7 @@ fn foreign_root_out_of_range_has_no_text(rt: HostRuntime) {
     let id = id_at(&rt, rt.alloc(), 2);
     let item = rooted(&rt, rt.alloc(), id);
     equal(&rt, item.to_text().err(), Some(TextError::OutOfRange(id)));
-    equal(&rt, item.to_string(rt.alloc()).is_err(), true);
+    is_not_displayed(&rt, rt.alloc(), &item);
     let shown = TextError::OutOfRange(id)
         .to_string(rt.alloc())
         .expect(&rt, "memory");

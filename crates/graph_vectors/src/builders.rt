@@ -48,6 +48,21 @@ fn left_hand_side_is_built(rt: HostRuntime) {
     item_is(&rt, alloc, item, text, true);
 }
 
+// The second name has a space, which no text can spell: an unneeded statement is not judged.
+#[test]
+fn unneeded_variable_is_built(rt: HostRuntime) {
+    let alloc = rt.alloc();
+    let mut builder = LeftHandSideBuilder::new(alloc);
+    let [x, _] = ["%x", "% y"].map(|text| {
+        let var = AssignmentRhs::Var;
+        builder
+            .assignment(name(&rt, alloc, text), None, var, Vec::new(alloc))
+            .expect(&rt, "memory")
+    });
+    let item = builder.finish(x, Vec::new(alloc));
+    item_is(&rt, alloc, item, "%x = var\ninfer %x\n", true);
+}
+
 // A variable and an unnamed one, which is the root, or an unnamed sum of the variable and 1.
 fn unnamed_root(rt: &impl Abort, alloc: Global, is_sum: bool) -> LeftHandSide {
     let mut builder = LeftHandSideBuilder::new(alloc);

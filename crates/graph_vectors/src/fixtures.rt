@@ -6,7 +6,7 @@ use souper_graph::ast::{
 };
 use souper_graph::stringify::Order;
 use std::alloc::{AllocError, Global};
-use std::fmt::{Debug, Display};
+use std::fmt::{self, Debug, Display, Formatter};
 use std::process::Abort;
 
 // An arena that grows statement by statement.
@@ -236,6 +236,13 @@ fn is_written<I: Copied + Display>(rt: &impl Abort, alloc: Global, item: &I, wan
     is_text(rt, item.text_of_copy(rt), want);
     let whole = format!(in alloc; "before\n{want}").expect(rt, "memory");
     is_text(rt, appended(rt, alloc, item), whole.as_str());
+}
+
+// To display the item fails, and writes nothing.
+pub fn is_not_displayed<I: Display>(rt: &impl Abort, alloc: Global, item: &I) {
+    let mut f = Formatter::new(String::new(alloc));
+    equal(rt, item.fmt(&mut f), Err(fmt::Error));
+    is_text(rt, f.into_inner(), "");
 }
 
 // The item has this text, and is well formed or not.

@@ -1,7 +1,12 @@
 //! Items that are built, mostly such as no text spells: their texts, the order of their statements, and whether they are well
 //! formed. The others are tested with the texts that spell them, in `souper_vectors`.
-use crate::fixtures::{Graph, equal, foreign_id, has_counts, is_text, item_is, number, typed};
-use souper_graph::ast::{AssignmentRhs, Attribute, BlockId, Id, LeftHandSide, Statement};
+use crate::fixtures::{
+    Graph, equal, foreign_id, has_counts, is_not_displayed, is_text, item_is, number, typed,
+};
+use souper_graph::ast::{
+    AssignmentRhs, Attribute, BlockId, Id, Instruction, LeftHandSide, LeftHandSideBuilder, Phi,
+    Statement, ValueId,
+};
 use souper_graph::stringify::TextError;
 use std::alloc::{AllocError, Global};
 use std::process::Abort;
@@ -117,7 +122,7 @@ fn refused_append(
 fn refused(rt: &impl Abort, alloc: Global, item: &LeftHandSide, want: TextError) {
     has_no_text(rt, item, &want);
     has_no_order(rt, item, &want);
-    equal(rt, item.to_string(alloc).is_err(), true);
+    is_not_displayed(rt, alloc, item);
     equal(rt, item.is_well_formed().expect(rt, "memory"), false);
     is_not_appended(rt, alloc, item, &want);
 }
@@ -136,37 +141,49 @@ fn is_not_appended(rt: &impl Abort, alloc: Global, item: &LeftHandSide, want: &T
     is_text(rt, text, "before");
 }
 
+// Appends an unnamed assignment.
+fn put(
+    rt: &impl Abort,
+    alloc: Global,
+    builder: &mut LeftHandSideBuilder,
+    value: AssignmentRhs,
+) -> ValueId {
+    builder
+        .assignment(None, None, value, Vec::new(alloc))
+        .expect(rt, "memory")
+}
+
 #[test]
 fn root_out_of_range_is_reported(rt: HostRuntime) {
     let root = foreign_id(&rt, rt.alloc(), 2);
-    let mut graph = Graph::new(rt.alloc());
-    graph.var(&rt, "%0");
-    let item = graph.infer(root);
+    let mut builder = LeftHandSideBuilder::new(rt.alloc());
+    put(&rt, rt.alloc(), &mut builder, AssignmentRhs::Var);
+    let item = builder.finish(root, Vec::new(rt.alloc()));
     refused(&rt, rt.alloc(), &item, TextError::OutOfRange(root.into()));
 }
 
 #[test]
 fn root_that_is_a_condition_is_reported(rt: HostRuntime) {
     let root = foreign_id(&rt, rt.alloc(), 1);
-    let mut graph = Graph::new(rt.alloc());
-    let x = graph.var(&rt, "%0");
-    graph.pc(&rt, x.into(), number(1));
-    let item = graph.infer(root);
-    refused(
-        &rt,
-        rt.alloc(),
-        &item,
-        TextError::NotAnAssignment(root.into()),
-    );
+    let mut builder = LeftHandSideBuilder::new(rt.alloc());
+    let x = put(&rt, rt.alloc(), &mut builder, AssignmentRhs::Var);
+    builder.pc(x.into(), number(1)).expect(&rt, "memory");
+    let item = builder.finish(root, Vec::new(rt.alloc()));
+    let want = TextError::NotAnAssignment(root.into());
+    refused(&rt, rt.alloc(), &item, want);
 }
 
 #[test]
 fn phi_over_no_block_is_reported(rt: HostRuntime) {
     let first = foreign_id(&rt, rt.alloc(), 0);
-    let mut graph = Graph::new(rt.alloc());
-    graph.var(&rt, "%0");
-    let phi = graph.phi(&rt, "%1", BlockId::from(Id::from(first)), &[]);
-    let item = graph.infer(phi);
+    let mut builder = LeftHandSideBuilder::new(rt.alloc());
+    put(&rt, rt.alloc(), &mut builder, AssignmentRhs::Var);
+    let phi = Phi {
+        block: BlockId::from(Id::from(first)),
+        values: Vec::new(rt.alloc()),
+    };
+    let root = put(&rt, rt.alloc(), &mut builder, phi.into());
+    let item = builder.finish(root, Vec::new(rt.alloc()));
     refused(&rt, rt.alloc(), &item, TextError::NotABlock(first.into()));
 }
 
@@ -202,9 +219,11 @@ fn one_of_two_bad_ids_is_reported(rt: HostRuntime) {
 #[test]
 fn statement_that_uses_itself_has_a_text(rt: HostRuntime) {
     let first = foreign_id(&rt, rt.alloc(), 0);
-    let mut graph = Graph::new(rt.alloc());
-    let own = graph.add(&rt, "%0", first.into(), number(1));
-    let item = graph.infer(own);
+    let mut builder = LeftHandSideBuilder::new(rt.alloc());
+    let (a, b) = (first.into(), number(1));
+    let own = Instruction::Add { a, b };
+    let root = put(&rt, rt.alloc(), &mut builder, own.into());
+    let item = builder.finish(root, Vec::new(rt.alloc()));
     has_counts(&rt, item.print_order().expect(&rt, "memory"), (1, 1, 3));
     item_is(&rt, rt.alloc(), item, "%0 = add %0, 1\ninfer %0\n", false);
 }
