@@ -1,6 +1,6 @@
 -- What `parse` returns, in terms of numbers and widths.
-use Rattle.std.proofs.Common.{◌≡◌, ℕ, ◌-◌, ◌^◌, ◌<◌, ◌≢◌, ◌==◌, Bool, true, false, ◌&&◌, ℤ, pos, negsuc, List, [], ◌∷◌, length, Option, Some, None, refl, sym, ◌∙◌, ap, subst, Decides, arith, eqb-true, ◌+◌, drop, lit<}
-use Rattle.std.specs.Prelude.{Result, Ok, Err, OkIff, if◌then◌else◌, nat_lt, int_le, FitsSigned}
+use Rattle.std.proofs.Common.{◌≡◌, ℕ, ◌-◌, ◌^◌, ◌<◌, ◌≢◌, ◌==◌, Bool, true, false, ◌&&◌, ℤ, pos, negsuc, zero, suc, List, [], ◌∷◌, length, Option, Some, None, refl, sym, ◌∙◌, ap, subst, Decides, arith, eqb-true, ◌+◌, drop, lit<}
+use Rattle.std.specs.Prelude.{Result, Ok, Err, OkIff, if◌then◌else◌, nat_lt, int_le, neg_ℤ, FitsSigned}
 use Rattle.std.specs.Char.{is_ascii_digit}
 use Rattle.std.specs.List.{list_all}
 use Rattle.std.specs.Str.Parse.{AllDigits, IsNumeral, digits_value, signed_digits_value, without_leading_sign, ParsesUnsigned}
@@ -78,15 +78,29 @@ module _ (c : ℕ) (d : is_ascii_digit c ≡ true) where
   no_plus : (c == 43) ≡ false
   no_plus = grind (arith, nat_tests)
 
+pub numeral_is : (ds : List ℕ) → 0 < length ds → are_digits ds ≡ true → is_numeral ds ≡ true
+numeral_is ds h d = rw (lt-ltb 0 (length ds) h) d
+
 -- a word of digits alone, whose number is small
-pub digits_read : (w : List ℕ) (n : ℕ) → 0 < length w → are_digits w ≡ true → digits_value 10 w ≡ n → n < 2 ^ 64 → number_of w ≡ Some (pos n)
-digits_read [] n h d v b = absurd (omega arith)
-digits_read (c ∷ cs) n h d v b =
-    let first = (both (is_ascii_digit c) (are_digits cs) d).0 in
+pub digits_read : (w : List ℕ) (n : ℕ) → is_numeral w ≡ true → digits_value 10 w ≡ n → n < 2 ^ 64 → number_of w ≡ Some (pos n)
+digits_read [] n d v b = absurd cc
+digits_read (c ∷ cs) n d v b =
+    let digits = (both (nat_lt 0 (length (c ∷ cs))) (are_digits (c ∷ cs)) d).1 in
+    let first = (both (is_ascii_digit c) (are_digits cs) digits).0 in
     let value : signed_digits_value 10 (c ∷ cs) ≡ pos n = rw (no_minus c first, no_plus c first) (ap pos v) in
-    let numeral : is_numeral (without_leading_sign (c ∷ cs)) ≡ true = rw (no_minus c first, no_plus c first, lt-ltb 0 (length (c ∷ cs)) h) d in
+    let numeral : is_numeral (without_leading_sign (c ∷ cs)) ≡ true = rw (no_minus c first, no_plus c first) d in
     let within : is_within (pos n) ≡ true = le-leb n (2 ^ 127 - 1) (omega arith) in
     some_if (is_number (c ∷ cs)) (signed_digits_value 10 (c ∷ cs)) (pos n) (rw (numeral, value) within) value
+
+within_negated : (n : ℕ) → n < 2 ^ 64 → is_within (neg_ℤ (pos n)) ≡ true
+within_negated zero h = refl
+within_negated (suc n) h = rw (le-leb n (2 ^ 127 - 1) (omega arith)) refl
+
+-- the same behind `-` (45)
+pub negated_read : (w ds : List ℕ) (n : ℕ) → w ≡ 45 ∷ ds → is_numeral ds ≡ true → digits_value 10 ds ≡ n → n < 2 ^ 64 → number_of w ≡ Some (neg_ℤ (pos n))
+negated_read w ds n e d v b =
+    let value : signed_digits_value 10 (45 ∷ ds) ≡ neg_ℤ (pos n) = ap (λ (k : ℕ). neg_ℤ (pos k)) v in
+    ap number_of e ∙ some_if (is_number (45 ∷ ds)) (signed_digits_value 10 (45 ∷ ds)) (neg_ℤ (pos n)) (rw (d, value) (within_negated n b)) value
 
 -- ---- widths
 

@@ -53,13 +53,17 @@ fn kind_of_word<'a>(word: &str) -> Option<Kind<'a>>
 fn attribute_kind<'a>(parser: &mut Parser<'a>) -> Read<Kind<'a>>
     ensures { Gives view_kind (widened result) (accept attribute_kind_of parser.old) parser.old parser.new }
 {
-    match parser.token()? {
-        Token::KnownBits(pattern) => Ok(Kind::KnownBits(pattern)),
-        Token::Ident(word) => match kind_of_word(word) {
-            Some(kind) => Ok(kind),
-            None => Err(parser.refuse(Message::UnknownAttribute(word))),
+    let word = match parser.take_word() {
+        Some(word) => word,
+        None => match parser.token()? {
+            Token::KnownBits(pattern) => return Ok(Kind::KnownBits(pattern)),
+            Token::Ident(word) => word,
+            _ => return Err(parser.refuse(Message::ExpectedAttribute)),
         },
-        _ => Err(parser.refuse(Message::ExpectedAttribute)),
+    };
+    match kind_of_word(word) {
+        Some(kind) => Ok(kind),
+        None => Err(parser.refuse(Message::UnknownAttribute(word))),
     }
 }
 
@@ -136,9 +140,16 @@ enum RootKind {
 fn root_kind(parser: &mut Parser<'_>) -> Read<RootKind>
     ensures { Gives (λ k. k) (widened result) (accept (ident_by root_kind_of_word) parser.old) parser.old parser.new }
 {
-    match parser.token()? {
-        Token::Ident("demandedBits") => Ok(RootKind::DemandedBits),
-        Token::Ident("harvestedFromUse") => Ok(RootKind::HarvestedFromUse),
+    let word = match parser.take_word() {
+        Some(word) => word,
+        None => match parser.token()? {
+            Token::Ident(word) => word,
+            _ => return Err(parser.refuse(Message::ExpectedRootAttribute)),
+        },
+    };
+    match word {
+        "demandedBits" => Ok(RootKind::DemandedBits),
+        "harvestedFromUse" => Ok(RootKind::HarvestedFromUse),
         _ => Err(parser.refuse(Message::ExpectedRootAttribute)),
     }
 }
@@ -147,9 +158,12 @@ fn root_kind(parser: &mut Parser<'_>) -> Read<RootKind>
 fn bit_list(parser: &mut Parser<'_>) -> Read<Vec<bool>>
     ensures { Gives (λ bits. bits.items) (widened result) (accept (int_by bits_of) parser.old) parser.old parser.new }
 {
-    let pattern = match parser.token()? {
-        Token::Int(pattern) => pattern,
-        _ => return Err(parser.refuse(Message::ExpectedBits)),
+    let pattern = match parser.take_int() {
+        Some(pattern) => pattern,
+        None => match parser.token()? {
+            Token::Int(pattern) => pattern,
+            _ => return Err(parser.refuse(Message::ExpectedBits)),
+        },
     };
     match bits(parser.alloc(), pattern) {
         Ok(Some(bits)) => Ok(bits),

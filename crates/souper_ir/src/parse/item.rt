@@ -85,14 +85,13 @@ fn enter_assignment(parser: &mut Parser<'_>) -> Read<()>
     ensures err { IfErr result (λ e. Refusal statement_spells statement_continues (error_of e) parser.old parser.new) }
 {
     let (name, ty) = entered_heading(parser)?;
-    // `?` would copy the value once more.
-    let value = match rhs(parser) {
-        Ok(value) => value,
-        Err(error) => return Err(error),
-    };
-    let attributes = attributes(parser)?;
-    match String::from_str(parser.alloc(), name) {
-        Ok(text) => {
+    // `let value = rhs(parser)?` would copy the value twice more.
+    match rhs(parser) {
+        Ok(value) => {
+            let attributes = attributes(parser)?;
+            let Ok(text) = String::from_str(parser.alloc(), name) else {
+                return Err(parser.want_memory());
+            };
             let assignment = Assignment {
                 name: text,
                 ty,
@@ -101,7 +100,7 @@ fn enter_assignment(parser: &mut Parser<'_>) -> Read<()>
             };
             parser.define(name, assignment)
         }
-        Err(_) => Err(parser.want_memory()),
+        Err(error) => Err(error),
     }
 }
 

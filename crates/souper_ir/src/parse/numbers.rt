@@ -1,23 +1,26 @@
 //! The numbers, widths and bit lists that words spell.
 
-ghost use Rattle.std.specs.Prelude.{◌≡◌, ◌^◌, Some, None, pos, MatchResult, IfOk, IfSome, option_map};
+ghost use Rattle.std.specs.Prelude.{◌≡◌, ◌^◌, ◌<◌, Some, None, true, MatchResult, IfOk, IfSome, option_map};
 ghost use Rattle.std.specs.Char.{is_ascii_digit};
 ghost use Rattle.std.specs.List.{list_all};
-ghost use Rattle.souper_graph.specs.Syntax.Numbers.{number_of, count_of, width_of, bit_of, known_bit_of, bits_of, known_bits_of};
+ghost use Rattle.std.specs.Str.Parse.{digits_value};
+ghost use Rattle.souper_graph.specs.Syntax.Numbers.{is_numeral, number_of, count_of, width_of, bit_of, known_bit_of, bits_of, known_bits_of};
 
 use std::alloc::{AllocError, Global};
 use std::num::IntErrorKind;
 
 // The number of a word of digits alone, if a `u64` holds it.
 #[inline(always)]
-fn short_number(word: &str) -> Option<u64>
-    ensures { IfSome result (λ n. number_of word.now ≡ Some (pos n)) }
+fn short_number(digits: &str) -> Option<u64>
+    ensures numeral { IfSome result (λ _. is_numeral digits.now ≡ true) }
+    ensures value { IfSome result (λ n. digits_value 10 digits.now ≡ n) }
+    ensures small { IfSome result (λ n. n < 2 ^ 64) }
 {
-    if word.is_empty() {
+    if digits.is_empty() {
         return None;
     }
     let mut value: u64 = 0;
-    for byte in word.bytes() {
+    for byte in digits.bytes() {
         if !byte.is_ascii_digit() {
             return None;
         }
@@ -33,6 +36,11 @@ pub(crate) fn number(word: &str) -> Result<i128, IntErrorKind>
     // Most numbers are short, and `i128` is slow.
     if let Some(value) = short_number(word) {
         return Ok(i128::from(value));
+    }
+    if let Some(digits) = word.strip_prefix('-') {
+        if let Some(value) = short_number(digits) {
+            return Ok(-i128::from(value));
+        }
     }
     match word.parse::<i128>() {
         Ok(value) => Ok(value),

@@ -104,6 +104,19 @@ pub(crate) fn mark_comes(parser: &mut Parser<'_>, mark: Mark) -> Read<bool>
     }
 }
 
+// A value name, as a token of the lexer.
+#[inline(never)]
+#[tactic(auto, unfolding(crate::specs::NodeReadings::accept))]
+fn next_value_name<'a>(parser: &mut Parser<'a>) -> Read<&'a str>
+    ensures { Gives (λ name. name.now) (widened result) (accept name_of parser.old) parser.old parser.new }
+{
+    match parser.token()? {
+        Token::ValName(name) => Ok(name),
+        _ => Err(parser.refuse(Message::ExpectedValueName)),
+    }
+}
+
+#[inline(always)]
 #[tactic(auto, unfolding(crate::specs::NodeReadings::accept))]
 pub(crate) fn value_name<'a>(parser: &mut Parser<'a>) -> Read<&'a str>
     ensures { Gives (λ name. name.now) (widened result) (accept name_of parser.old) parser.old parser.new }
@@ -111,10 +124,7 @@ pub(crate) fn value_name<'a>(parser: &mut Parser<'a>) -> Read<&'a str>
     if let Some(name) = parser.take_name() {
         return Ok(name);
     }
-    match parser.token()? {
-        Token::ValName(name) => Ok(name),
-        _ => Err(parser.refuse(Message::ExpectedValueName)),
-    }
+    next_value_name(parser)
 }
 
 #[tactic(auto, unfolding(crate::specs::NodeReadings::accept))]
@@ -150,12 +160,16 @@ pub(crate) fn integer(parser: &mut Parser<'_>) -> Read<i128>
 pub(crate) fn predecessor_number(parser: &mut Parser<'_>) -> Read<u32>
     ensures { Gives (λ n. n) (widened result) (accept (int_by (count_of (2 ^ 32))) parser.old) parser.old parser.new }
 {
-    match parser.token()? {
-        Token::Int(word) => match count(word) {
-            Ok(value) => Ok(value),
-            Err(fault) => Err(parser.refuse(Message::BadInteger(fault))),
+    let digits = match parser.take_int() {
+        Some(digits) => digits,
+        None => match parser.token()? {
+            Token::Int(digits) => digits,
+            _ => return Err(parser.refuse(Message::ExpectedInteger)),
         },
-        _ => Err(parser.refuse(Message::ExpectedInteger)),
+    };
+    match count(digits) {
+        Ok(value) => Ok(value),
+        Err(fault) => Err(parser.refuse(Message::BadInteger(fault))),
     }
 }
 
@@ -164,12 +178,16 @@ pub(crate) fn predecessor_number(parser: &mut Parser<'_>) -> Read<u32>
 pub(crate) fn bit_count(parser: &mut Parser<'_>) -> Read<u8>
     ensures { Gives (λ n. n) (widened result) (accept (int_by (count_of (2 ^ 8))) parser.old) parser.old parser.new }
 {
-    match parser.token()? {
-        Token::Int(word) => match small_count(word) {
-            Ok(value) => Ok(value),
-            Err(fault) => Err(parser.refuse(Message::BadInteger(fault))),
+    let digits = match parser.take_int() {
+        Some(digits) => digits,
+        None => match parser.token()? {
+            Token::Int(digits) => digits,
+            _ => return Err(parser.refuse(Message::ExpectedInteger)),
         },
-        _ => Err(parser.refuse(Message::ExpectedInteger)),
+    };
+    match small_count(digits) {
+        Ok(value) => Ok(value),
+        Err(fault) => Err(parser.refuse(Message::BadInteger(fault))),
     }
 }
 

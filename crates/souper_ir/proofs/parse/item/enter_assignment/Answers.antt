@@ -26,26 +26,26 @@ returns-in-Err-clause-err c =
     assignment_refused e here here here c.rhs.new.parser (no_pc_seen here here c.requires) (no_block_pc_seen here here c.requires)
     (value_refused e (c.in_ok-name.name.now, c.in_ok-name.ty) here c.entered_heading.new.parser c.rhs.new.parser c.in_ok-name.ensures c.in-Err.ensures)
 
-pub returns-in_err-attributes-clause-err : goal.returns-in_err-attributes-clause-err
-returns-in_err-attributes-clause-err c =
-    let p = err_from_is_err_and c.from_residual-in_err-attributes.result c.from_residual-in_err-attributes.ensures.1 in
+pub returns-in_err-attributes-in-Ok-clause-err : goal.returns-in_err-attributes-in-Ok-clause-err
+returns-in_err-attributes-in-Ok-clause-err c =
+    let p = err_from_is_err_and c.from_residual-in_err-attributes-in-Ok.result c.from_residual-in_err-attributes-in-Ok.ensures.1 in
     let here = c.args.parser.now in
-    let e = error_of c.in_err-attributes.field-0.0 in
+    let e = error_of c.in_err-attributes-in-Ok.field-0.0 in
     rw (p.1, p.2) (assignment_refused e here here here c.attributes.new.parser (no_pc_seen here here c.requires) (no_block_pc_seen here here c.requires)
     (attributes_refused e (record { name = c.in_ok-name.name.now; ty = c.in_ok-name.ty; value = view_rhs c.in-Ok.value }) here c.entered_heading.new.parser c.rhs.new.parser c.attributes.new.parser
-    c.in_ok-name.ensures c.in-Ok.ensures c.in_err-attributes.ensures.err))
+    c.in_ok-name.ensures c.in-Ok.ensures c.in_err-attributes-in-Ok.ensures.err))
 
 pub define-requires-clause-fresh : goal.define-requires-clause-fresh
 define-requires-clause-fresh c =
-    let a : PlainAssignment = record { name = c.in_ok-name.name.now; ty = c.in_ok-name.ty; value = view_rhs c.in-Ok.value; attributes = map view_attribute c.in_ok-attributes.attributes.items } in
-    let t = parts_taken a c.args.parser.now c.entered_heading.new.parser c.rhs.new.parser c.attributes.new.parser c.in_ok-name.ensures c.in-Ok.ensures c.in_ok-attributes.ensures.ok in
+    let a : PlainAssignment = record { name = c.in_ok-name.name.now; ty = c.in_ok-name.ty; value = view_rhs c.in-Ok.value; attributes = map view_attribute c.in_ok-attributes-in-Ok.attributes.items } in
+    let t = parts_taken a c.args.parser.now c.entered_heading.new.parser c.rhs.new.parser c.attributes.new.parser c.in_ok-name.ensures c.in-Ok.ensures c.in_ok-attributes-in-Ok.ensures.ok in
     subst (λ (p : Parsing). position_of p.scope c.in_ok-name.name.now ≡ None) (sym t.state) t.spelled.name_is_new
 
 pub returns-in-Ok-from_str-clause-ok : goal.returns-in-Ok-from_str-clause-ok
 returns-in-Ok-from_str-clause-ok c =
     let here = c.args.parser.now in
-    let a : PlainAssignment = record { name = c.in_ok-name.name.now; ty = c.in_ok-name.ty; value = view_rhs c.in-Ok.value; attributes = map view_attribute c.in_ok-attributes.attributes.items } in
-    let t = parts_taken a here c.entered_heading.new.parser c.rhs.new.parser c.attributes.new.parser c.in_ok-name.ensures c.in-Ok.ensures c.in_ok-attributes.ensures.ok in
+    let a : PlainAssignment = record { name = c.in_ok-name.name.now; ty = c.in_ok-name.ty; value = view_rhs c.in-Ok.value; attributes = map view_attribute c.in_ok-attributes-in-Ok.attributes.items } in
+    let t = parts_taken a here c.entered_heading.new.parser c.rhs.new.parser c.attributes.new.parser c.in_ok-name.ensures c.in-Ok.ensures c.in_ok-attributes-in-Ok.ensures.ok in
     on_ok_weaker c.define.result
     (entered (assigned a) here c.attributes.new.parser c.define.new.self
     (assignment_taken a here here here c.attributes.new.parser (no_pc_seen here here c.requires) (no_block_pc_seen here here c.requires) t))

@@ -4,4 +4,4 @@ use Rattle.souper_graph.specs.Syntax.Numbers.{are_digits}
 use Rattle.souper_ir.proofs.parse.numbers.short_number.Given as goal
 
 abbrev pub invariant-loop-byte : goal.invariant-loop-byte
-invariant-loop-byte l = (are_digits l.byte-iterator.rest.now ≡ are_digits l.word) × (digits_value_after 10 l.value l.byte-iterator.rest.now ≡ digits_value 10 l.word) × (l.value < 2 ^ 64)
+invariant-loop-byte l = (are_digits l.byte-iterator.rest.now ≡ are_digits l.digits) × (digits_value_after 10 l.value l.byte-iterator.rest.now ≡ digits_value 10 l.digits) × (l.value < 2 ^ 64)
