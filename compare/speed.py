@@ -1,7 +1,7 @@
 #!/usr/bin/env python3
 """Measures the figures of docs/SPEED.md: whole processes, in turn, medians.
 
-    speed.py DRIVER PROGRAM [ROUNDS]            the program beside the crate (5 rounds)
+    speed.py DRIVER PROGRAM [ROUNDS]            the program beside the crate (5 rounds), and its instructions per byte
     speed.py --through-c EXAMPLE PROGRAM [ROUNDS]   the same library through C beside the program (5 rounds)
     speed.py --growth PROGRAM [ROUNDS]          how the program grows with its input (3 rounds)
     speed.py --instructions PROGRAM..           instructions per byte of each program, by valgrind's callgrind
@@ -24,6 +24,10 @@ def small(items):
     return ["large.py", "lhs", str(items), "12"]
 
 
+def named(items):
+    return ["words.py", "lhs", str(items), "12"]
+
+
 def one_item(statements):
     return ["large.py", "lhs", "1", str(statements)]
 
@@ -34,6 +38,7 @@ def linked(statements, prefix="", suffix=""):
 
 BESIDE = {
     "40,000 small items": small(40_000),
+    "the same, names that are words": named(40_000),
     "one chain of 400,000": linked(400_000),
     "one item of 400,000 with path conditions": one_item(400_000),
 }
@@ -51,8 +56,10 @@ GROWTH = {
 }
 
 COUNTED = {
-    "2,000 small items": small(2_000),
-    "one chain of 20,000": linked(20_000),
+    "2,000 items of 12 statements": small(2_000),
+    "800 items of 30 statements": ["large.py", "lhs", "800", "30"],
+    "one chain of 20,000 statements": linked(20_000),
+    "the first, names that are words": named(2_000),
     "one item of 20,000 with path conditions": one_item(20_000),
 }
 
@@ -134,6 +141,8 @@ def main(words):
             counts(programs)
         case [driver, program, *rounds]:
             beside(driver, program, int(rounds[0]) if rounds else 5)
+            print()
+            counts([program])
         case _:
             sys.exit(__doc__)
 
