@@ -1,7 +1,7 @@
 //! A stream gives the records of its items, whatever the sizes of the reads.
 use crate::cases::joined_texts;
 use crate::checks::{equal, text};
-use crate::records::support::{Run, headed, run_over, runs};
+use crate::records::support::{Command, Run, headed, run_over, runs};
 use souper_format::command::Kind;
 use souper_format::items::format_text;
 use souper_ir::ast::{LeftHandSide, Replacement};
@@ -17,7 +17,13 @@ fn is_formatted<T: StreamItem + Drop>(rt: &impl Abort, alloc: Global, kind: Kind
     let text = format_text(alloc, kind, all.as_str(), None).expect(rt, all.as_str());
     for capacity in [1, 7, 4096] {
         let want = (0, text.as_str(), "");
-        runs::<T>(rt, alloc, PLAIN, (all.as_str(), capacity), want);
+        runs::<T>(
+            rt,
+            alloc,
+            Command::Each(PLAIN),
+            (all.as_str(), capacity),
+            want,
+        );
     }
 }
 
@@ -55,7 +61,7 @@ fn writes_before(rt: &impl Abort, alloc: Global, count: usize, place: &str) {
     let good = good_ones(rt, alloc, count);
     let source = with_refused(rt, alloc, good.as_str());
     let mut reader = BufReader::with_capacity(alloc, 4096, source.as_bytes()).expect(rt, place);
-    let run = run_over::<LeftHandSide, BufReader<&[u8]>>(alloc, PLAIN, &mut reader);
+    let run = run_over::<LeftHandSide, BufReader<&[u8]>>(alloc, Command::Each(PLAIN), &mut reader);
     is_refused(rt, run, good.as_str(), place);
 }
 
