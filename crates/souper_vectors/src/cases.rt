@@ -68,8 +68,10 @@ fn push_case<'a>(rt: &impl Abort, cases: &mut Vec<Case<'a>>, lines: &'a str) {
 /// The cases of a file, of which there is at least one.
 pub fn read_cases<'a>(rt: &impl Abort, alloc: Global, file: &'a str) -> Vec<Case<'a>> {
     let mut cases = Vec::new(alloc);
-    let rest = file.strip_prefix("\n=== ").expect(rt, file);
-    let rest = rest.strip_suffix("\n").expect(rt, file);
+    let rest = file
+        .strip_prefix("\n=== ")
+        .expect(rt, "no case at the beginning");
+    let rest = rest.strip_suffix("\n").expect(rt, "no newline at the end");
     for lines in rest.split("\n=== ") {
         push_case(rt, &mut cases, lines);
     }
