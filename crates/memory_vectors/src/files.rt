@@ -14,10 +14,10 @@ use souper_ir::parse::{
     parse_right_hand_sides_file,
 };
 use std::alloc::Global;
-use std::fs;
 use std::process::Abort;
 use std::rt::Files;
 use std::test::Fail;
+use std::{fs, io};
 
 // The error is out of memory, or a failed read.
 fn is_for_memory(rt: &impl Abort, alloc: Global, error: &ParseError) -> Result<Met, Fail> {
@@ -30,12 +30,18 @@ fn is_for_memory(rt: &impl Abort, alloc: Global, error: &ParseError) -> Result<M
     Ok(Met::Refused)
 }
 
+// Writes a file below `out`, where `rt` builds too.
+fn write<R: Files + AllocGlobal>(rt: &R, path: &str, text: &str) -> io::Result<()> {
+    fs::create_dir_all(rt, "out")?;
+    fs::write(rt, path, text)
+}
+
 // Reads the item with attributes.
 fn attributes<R: Files + AllocGlobal + Abort>(rt: &R, alloc: Global) -> Result<Met, Fail> {
-    let Ok(()) = fs::write(rt, "attributes", ATTRIBUTES) else {
+    let Ok(()) = write(rt, "out/attributes", ATTRIBUTES) else {
         return Ok(Met::Unreached);
     };
-    match parse_left_hand_sides_file(rt, alloc, "attributes") {
+    match parse_left_hand_sides_file(rt, alloc, "out/attributes") {
         Ok(items) => are_attributes(rt, alloc, items.as_slice()),
         Err(error) => is_for_memory(rt, alloc, &error),
     }
@@ -48,10 +54,10 @@ fn reading_left_hand_sides(rt: HostRuntime) -> Result<(), Fail> {
 
 // Reads two results.
 fn results<R: Files + AllocGlobal + Abort>(rt: &R, alloc: Global) -> Result<Met, Fail> {
-    let Ok(()) = fs::write(rt, "results", "result 1\nresult 2") else {
+    let Ok(()) = write(rt, "out/results", "result 1\nresult 2") else {
         return Ok(Met::Unreached);
     };
-    match parse_right_hand_sides_file(rt, alloc, "results") {
+    match parse_right_hand_sides_file(rt, alloc, "out/results") {
         Ok(items) => are_results(rt, alloc, items.as_slice()),
         Err(error) => is_for_memory(rt, alloc, &error),
     }
@@ -75,10 +81,10 @@ fn reading_right_hand_sides(rt: HostRuntime) -> Result<(), Fail> {
 
 // Reads the two items.
 fn two_items<R: Files + AllocGlobal + Abort>(rt: &R, alloc: Global) -> Result<Met, Fail> {
-    let Ok(()) = fs::write(rt, "two_items", TWO_ITEMS) else {
+    let Ok(()) = write(rt, "out/two_items", TWO_ITEMS) else {
         return Ok(Met::Unreached);
     };
-    match parse_replacements_file(rt, alloc, "two_items") {
+    match parse_replacements_file(rt, alloc, "out/two_items") {
         Ok(items) => are_two_items(rt, alloc, items.as_slice()),
         Err(error) => is_for_memory(rt, alloc, &error),
     }
@@ -92,14 +98,14 @@ fn reading_replacements(rt: HostRuntime) -> Result<(), Fail> {
 const REFUSED: &str = "infer %x";
 
 const REFUSAL: &str =
-    "refused:1:6: no value named '%x' in scope\n     |\n   1 | infer %x\n     |      ^\n";
+    "out/refused:1:6: no value named '%x' in scope\n     |\n   1 | infer %x\n     |      ^\n";
 
 // Refuses a text, and shows the path.
 fn refusal<R: Files + AllocGlobal + Abort>(rt: &R, alloc: Global) -> Result<Met, Fail> {
-    let Ok(()) = fs::write(rt, "refused", REFUSED) else {
+    let Ok(()) = write(rt, "out/refused", REFUSED) else {
         return Ok(Met::Unreached);
     };
-    match parse_left_hand_sides_file(rt, alloc, "refused") {
+    match parse_left_hand_sides_file(rt, alloc, "out/refused") {
         Ok(_) => Err(Fail::new("a name is unknown")),
         Err(error) => is_unknown_name(rt, alloc, &error),
     }
@@ -156,13 +162,13 @@ fn is_line_for_memory(array: &[u8]) -> bool {
 
 // Files that differ in the order of their definitions.
 fn comparison<R: Files + AllocGlobal + Abort>(rt: &R, alloc: Global) -> Result<Met, Fail> {
-    let Ok(()) = fs::write(rt, "first", FIRST) else {
+    let Ok(()) = write(rt, "out/first", FIRST) else {
         return Ok(Met::Unreached);
     };
-    let Ok(()) = fs::write(rt, "second", SECOND) else {
+    let Ok(()) = write(rt, "out/second", SECOND) else {
         return Ok(Met::Unreached);
     };
-    compare(rt, alloc, ("first", "second"), 0, b"same\n", b"")
+    compare(rt, alloc, ("out/first", "out/second"), 0, b"same\n", b"")
 }
 
 #[test]
@@ -172,13 +178,20 @@ fn comparing_files(rt: HostRuntime) -> Result<(), Fail> {
 
 // Files of which the second is refused.
 fn refused_comparison<R: Files + AllocGlobal + Abort>(rt: &R, alloc: Global) -> Result<Met, Fail> {
-    let Ok(()) = fs::write(rt, "first", FIRST) else {
+    let Ok(()) = write(rt, "out/first", FIRST) else {
         return Ok(Met::Unreached);
     };
-    let Ok(()) = fs::write(rt, "refused", REFUSED) else {
+    let Ok(()) = write(rt, "out/refused", REFUSED) else {
         return Ok(Met::Unreached);
     };
-    compare(rt, alloc, ("first", "refused"), 1, b"", REFUSAL.as_bytes())
+    compare(
+        rt,
+        alloc,
+        ("out/first", "out/refused"),
+        1,
+        b"",
+        REFUSAL.as_bytes(),
+    )
 }
 
 #[test]

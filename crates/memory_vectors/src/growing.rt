@@ -4,7 +4,7 @@ ghost use Rattle.souper_graph.specs.Building.{BeginsWithPercent};
 
 use crate::met::{Met, completed_if, equal, strictly};
 use crate::texts::is_text;
-use souper_ir::ast::{Arena, Constant, Operand, Pc, Statement};
+use souper_ir::ast::{Arena, Constant, Operand, Pc, Statement, Type};
 use souper_ir::stringify::{DisplayWithContext, TextError};
 use std::alloc::{AllocError, Global};
 use std::process::Abort;
@@ -65,6 +65,25 @@ pub enum Call {
     UnnamedBlock,
     Condition,
     ConditionOnPredecessor,
+}
+
+impl Call {
+    /// The name that the call gives, or a text that is no name.
+    pub fn name(self) -> &'static str {
+        match self {
+            Call::NamedAssignment => "%x",
+            Call::NamedBlock => "%b",
+            _ => "",
+        }
+    }
+
+    /// The type that the call gives.
+    pub fn ty(self) -> Option<Type> {
+        match self {
+            Call::NamedAssignment => Some(Type { width: 8 }),
+            _ => None,
+        }
+    }
 }
 
 /// The lines of a builder of a block with two predecessors and three conditions, and the call's line.

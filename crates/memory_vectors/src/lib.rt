@@ -6,21 +6,19 @@
 #![tactic(auto)]
 
 #[cfg(test)]
+mod builders;
+#[cfg(test)]
 mod files;
 #[cfg(test)]
 mod growing;
 #[cfg(test)]
 mod items;
 #[cfg(test)]
-mod left_hand_sides;
-#[cfg(test)]
 mod met;
 #[cfg(test)]
 mod parsers;
 #[cfg(test)]
 mod records;
-#[cfg(test)]
-mod replacements;
 #[cfg(test)]
 mod runs;
 #[cfg(test)]

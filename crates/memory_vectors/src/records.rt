@@ -40,41 +40,33 @@ fn did(rt: &impl Abort, status: u8, written: &[u8], reported: &[u8], want: Want<
     }
 }
 
-// Writes the record of each item of the source.
-fn each(rt: &impl Abort, alloc: Global, layout: Layout, mut source: &[u8], want: Want<'_>) -> Met {
-    let mut written = [0u8; 200];
-    let mut reported = [0u8; 200];
-    let mut out = Watched::new(written.as_mut_slice());
-    let mut err = Watched::new(reported.as_mut_slice());
-    let status = each_run::<LeftHandSide, &[u8], &mut [u8], &mut [u8]>(
-        alloc,
-        layout,
-        &mut source,
-        "a.opt",
-        &mut out,
-        &mut err,
-    );
-    let met = completed_if(alloc, status == want.status);
-    did(rt, status, &written, &reported, want);
-    met
+// A command that reads a stream.
+#[derive(Clone, Copy)]
+enum Command {
+    Each(Layout),
+    Uniq,
+    Objects,
 }
 
-// Writes the record of the first item of each graph of the source.
-fn uniq(rt: &impl Abort, alloc: Global, mut source: &[u8], want: Want<'_>) -> Met {
+// Runs the command over the source.
+fn run(rt: &impl Abort, alloc: Global, command: Command, mut source: &[u8], want: Want<'_>) -> Met {
     let mut written = [0u8; 200];
     let mut reported = [0u8; 200];
     let mut out = Watched::new(written.as_mut_slice());
     let mut err = Watched::new(reported.as_mut_slice());
     let mut seen = Seen::new(alloc);
-    let status = uniq_run::<LeftHandSide, &[u8], &mut [u8], &mut [u8]>(
-        alloc,
-        PLAIN,
-        &mut seen,
-        &mut source,
-        "a.opt",
-        &mut out,
-        &mut err,
-    );
+    let (source, name, out, err) = (&mut source, "a.opt", &mut out, &mut err);
+    let status = match command {
+        Command::Each(layout) => each_run::<LeftHandSide, &[u8], &mut [u8], &mut [u8]>(
+            alloc, layout, source, name, out, err,
+        ),
+        Command::Uniq => uniq_run::<LeftHandSide, &[u8], &mut [u8], &mut [u8]>(
+            alloc, PLAIN, &mut seen, source, name, out, err,
+        ),
+        Command::Objects => objects_run::<LeftHandSide, &[u8], &mut [u8], &mut [u8]>(
+            alloc, false, source, name, out, err,
+        ),
+    };
     let met = completed_if(alloc, status == want.status);
     did(rt, status, &written, &reported, want);
     met
@@ -86,7 +78,7 @@ fn plain_records(rt: &impl Abort, alloc: Global) -> Met {
         records: b"%b = var\ninfer %b\n\n%b = var\ninfer %b\n\n",
         line: b"",
     };
-    each(rt, alloc, PLAIN, TWICE, want)
+    run(rt, alloc, Command::Each(PLAIN), TWICE, want)
 }
 
 #[test]
@@ -100,7 +92,7 @@ fn keyed_records(rt: &impl Abort, alloc: Global) -> Met {
         records: b"; d32f2ebccf6585b8a12455a400baff7b04e2eaa4b0ecef3bf2107f7f84065684\n%0 = var\ninfer %0\n\n",
         line: b"",
     };
-    each(rt, alloc, KEYED, b"%b = var infer %b", want)
+    run(rt, alloc, Command::Each(KEYED), b"%b = var infer %b", want)
 }
 
 #[test]
@@ -114,7 +106,13 @@ fn refused_stream(rt: &impl Abort, alloc: Global) -> Met {
         records: b"%b = var\ninfer %b\n\n",
         line: b"a.opt:3:6: no value named '%x' in scope\n     |\n   3 | infer %x\n     |      ^\n",
     };
-    each(rt, alloc, PLAIN, b"%b = var\ninfer %b\ninfer %x\n", want)
+    run(
+        rt,
+        alloc,
+        Command::Each(PLAIN),
+        b"%b = var\ninfer %b\ninfer %x\n",
+        want,
+    )
 }
 
 #[test]
@@ -128,31 +126,12 @@ fn first_items(rt: &impl Abort, alloc: Global) -> Met {
         records: b"%b = var\ninfer %b\n\n",
         line: b"",
     };
-    uniq(rt, alloc, TWICE, want)
+    run(rt, alloc, Command::Uniq, TWICE, want)
 }
 
 #[test]
 fn writing_first_items(rt: HostRuntime) -> Result<(), Fail> {
     strictly(first_items(&rt, rt.alloc()))
-}
-
-// Writes the object of each item of the source, and of each refusal.
-fn objects(rt: &impl Abort, alloc: Global, mut source: &[u8], want: Want<'_>) -> Met {
-    let mut written = [0u8; 200];
-    let mut reported = [0u8; 200];
-    let mut out = Watched::new(written.as_mut_slice());
-    let mut err = Watched::new(reported.as_mut_slice());
-    let status = objects_run::<LeftHandSide, &[u8], &mut [u8], &mut [u8]>(
-        alloc,
-        false,
-        &mut source,
-        "a.opt",
-        &mut out,
-        &mut err,
-    );
-    let met = completed_if(alloc, status == want.status);
-    did(rt, status, &written, &reported, want);
-    met
 }
 
 fn item_object(rt: &impl Abort, alloc: Global) -> Met {
@@ -161,7 +140,7 @@ fn item_object(rt: &impl Abort, alloc: Global) -> Met {
         records: b"{\"file\":\"a.opt\",\"key\":\"5c403662fcd26736aeae00bdfcb2bbb44ba7e2d5ecd0c212fa872ef39b72a9c8\",\"line\":1,\"text\":\"%b = var\\ninfer %b\\n\"}\n",
         line: b"",
     };
-    objects(rt, alloc, b"%b = var infer %b", want)
+    run(rt, alloc, Command::Objects, b"%b = var infer %b", want)
 }
 
 #[test]
@@ -175,7 +154,7 @@ fn refusal_object(rt: &impl Abort, alloc: Global) -> Met {
         records: b"{\"column\":6,\"file\":\"a.opt\",\"line\":1,\"message\":\"no value named '%x' in scope\",\"offset\":6}\n",
         line: b"a.opt:1:6: no value named '%x' in scope\n     |\n   1 | infer %x\n     |      ^\n",
     };
-    objects(rt, alloc, b"infer %x\n", want)
+    run(rt, alloc, Command::Objects, b"infer %x\n", want)
 }
 
 #[test]

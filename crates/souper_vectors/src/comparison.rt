@@ -2,4 +2,3 @@
 mod files;
 mod same;
 mod same_runs;
-mod table;

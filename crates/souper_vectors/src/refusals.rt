@@ -3,4 +3,3 @@ mod changed;
 mod cuts;
 mod places;
 mod reports;
-mod table;

@@ -3,5 +3,3 @@ mod formatted;
 mod kept;
 mod orders;
 mod renaming;
-pub mod rows;
-mod table;

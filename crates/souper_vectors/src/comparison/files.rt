@@ -15,36 +15,38 @@ use std::rt::Files;
 const REFUSAL: &str = ":1:6: no value named '%x' in scope\n     |\n   1 | infer %x\n     |      ^";
 
 // The files that are compared: the path of each, and on the next lines its text.
-const COMPARED: &str = "first
+const COMPARED: &str = "out/first
 %b = var
 %a = var
 %c = add %a, %b
 infer %c
 
-second
+out/second
 %a = var
 %b = var
 %c = add %a, %b
 infer %c
 
-third
+out/third
 %a = var
 %b = var
 %c = add %b, %a
 infer %c
 
-variable
+out/variable
 %a = var
 infer %a
 
-renamed
+out/renamed
 %b = var
 infer %b
 
-refused
+out/refused
 infer %x";
 
+// Writes a file below `out`, where `rt` builds too.
 fn write<R: Files + AllocGlobal + Abort>(rt: &R, path: &str, bytes: &[u8]) {
+    fs::create_dir_all(rt, "out").expect(rt, path);
     fs::write(rt, path, bytes).expect(rt, path);
 }
 
@@ -54,7 +56,7 @@ pub fn write_files<R: Files + AllocGlobal + Abort>(rt: &R) {
         let (path, text) = file.split_once('\n').expect(rt, file);
         write(rt, path, text.as_bytes());
     }
-    write(rt, "no_text", b"\xff");
+    write(rt, "out/no_text", b"\xff");
 }
 
 // This number of items was read.
@@ -65,22 +67,38 @@ fn has_items<T: Drop>(rt: &impl Abort, read: Result<Vec<T>, ParseError>, count: 
 
 #[test]
 fn items_of_files_are_read(rt: HostRuntime) {
-    write(&rt, "lhs", b"%a = var\n%b = var\ninfer %b");
-    write(&rt, "rep", b"cand 1-2");
-    write(&rt, "rhs", b"result 1\nresult 2");
-    has_items(&rt, parse_left_hand_sides_file(&rt, rt.alloc(), "lhs"), 1);
-    has_items(&rt, parse_replacements_file(&rt, rt.alloc(), "rep"), 1);
-    has_items(&rt, parse_right_hand_sides_file(&rt, rt.alloc(), "rhs"), 2);
+    write(&rt, "out/lhs", b"%a = var\n%b = var\ninfer %b");
+    write(&rt, "out/rep", b"cand 1-2");
+    write(&rt, "out/rhs", b"result 1\nresult 2");
+    has_items(
+        &rt,
+        parse_left_hand_sides_file(&rt, rt.alloc(), "out/lhs"),
+        1,
+    );
+    has_items(&rt, parse_replacements_file(&rt, rt.alloc(), "out/rep"), 1);
+    has_items(
+        &rt,
+        parse_right_hand_sides_file(&rt, rt.alloc(), "out/rhs"),
+        2,
+    );
 }
 
 #[test]
 fn empty_file_has_no_items(rt: HostRuntime) {
-    write(&rt, "empty", b"");
-    has_items(&rt, parse_left_hand_sides_file(&rt, rt.alloc(), "empty"), 0);
-    has_items(&rt, parse_replacements_file(&rt, rt.alloc(), "empty"), 0);
+    write(&rt, "out/empty", b"");
     has_items(
         &rt,
-        parse_right_hand_sides_file(&rt, rt.alloc(), "empty"),
+        parse_left_hand_sides_file(&rt, rt.alloc(), "out/empty"),
+        0,
+    );
+    has_items(
+        &rt,
+        parse_replacements_file(&rt, rt.alloc(), "out/empty"),
+        0,
+    );
+    has_items(
+        &rt,
+        parse_right_hand_sides_file(&rt, rt.alloc(), "out/empty"),
         0,
     );
 }
@@ -100,9 +118,9 @@ fn is_refused<R: Files + AllocGlobal + Abort>(rt: &R, path: &str) {
 
 #[test]
 fn refusal_shows_the_path(rt: HostRuntime) {
-    write(&rt, "a file", b"infer %x");
-    is_refused(&rt, "a file");
-    is_refused(&rt, "./a file");
+    write(&rt, "out/a file", b"infer %x");
+    is_refused(&rt, "out/a file");
+    is_refused(&rt, "./out/a file");
 }
 
 // The error is a failed read.
@@ -120,8 +138,8 @@ fn is_fault<T: Drop>(rt: &impl Abort, alloc: Global, read: Result<Vec<T>, ParseE
 #[test]
 fn failed_read_is_reported(rt: HostRuntime) {
     let alloc = rt.alloc();
-    write(&rt, "no_text", b"\xff");
-    for path in ["absent", "no_text", "."] {
+    write(&rt, "out/no_text", b"\xff");
+    for path in ["absent", "out/no_text", "."] {
         is_fault(
             &rt,
             alloc,
@@ -152,26 +170,26 @@ fn compares<R: Files + AllocGlobal + Abort>(rt: &R, (first, second): (&str, &str
 #[test]
 fn files_are_compared(rt: HostRuntime) {
     write_files(&rt);
-    compares(&rt, ("first", "first"), (0, "same\n", ""));
-    compares(&rt, ("first", "second"), (0, "same\n", ""));
-    compares(&rt, ("first", "third"), (0, "different\n", ""));
-    compares(&rt, ("variable", "renamed"), (0, "different\n", ""));
+    compares(&rt, ("out/first", "out/first"), (0, "same\n", ""));
+    compares(&rt, ("out/first", "out/second"), (0, "same\n", ""));
+    compares(&rt, ("out/first", "out/third"), (0, "different\n", ""));
+    compares(&rt, ("out/variable", "out/renamed"), (0, "different\n", ""));
 }
 
 #[test]
 fn refusal_of_a_compared_file_is_reported(rt: HostRuntime) {
     write_files(&rt);
-    let line = format!(in rt.alloc(); "refused{REFUSAL}\n").expect(&rt, "memory");
+    let line = format!(in rt.alloc(); "out/refused{REFUSAL}\n").expect(&rt, "memory");
     let want = (1, "", line.as_str());
-    compares(&rt, ("refused", "absent"), want);
-    compares(&rt, ("refused", "refused"), want);
-    compares(&rt, ("variable", "refused"), want);
+    compares(&rt, ("out/refused", "absent"), want);
+    compares(&rt, ("out/refused", "out/refused"), want);
+    compares(&rt, ("out/variable", "out/refused"), want);
 }
 
 #[test]
 fn failed_read_of_a_compared_file_is_reported(rt: HostRuntime) {
     write_files(&rt);
-    compares(&rt, ("absent", "variable"), (3, "", FAULT));
-    compares(&rt, ("variable", "absent"), (3, "", FAULT));
-    compares(&rt, ("variable", "."), (3, "", FAULT));
+    compares(&rt, ("absent", "out/variable"), (3, "", FAULT));
+    compares(&rt, ("out/variable", "absent"), (3, "", FAULT));
+    compares(&rt, ("out/variable", "."), (3, "", FAULT));
 }

@@ -1,7 +1,8 @@
 //! Lists with pairwise the same graphs, and lists without.
-use crate::checks::{equal, items};
-use crate::comparison::table::{OTHER, SAME};
-use crate::texts::rows::read_row;
+use crate::cases::different::DIFFERENT;
+use crate::cases::read_cases;
+use crate::cases::same::SAME;
+use crate::checks::{equal_in, items};
 use souper_format::command::Kind;
 use souper_format::same::same;
 use std::alloc::Global;
@@ -11,24 +12,18 @@ use std::process::Abort;
 type Source<'a> = (Kind, &'a str);
 
 // The lists are the same or not.
-fn compares(rt: &impl Abort, alloc: Global, a: Source<'_>, b: Source<'_>, want: bool) {
-    let first = items(rt, alloc, a.0, a.1);
-    let second = items(rt, alloc, b.0, b.1);
-    let found = same(alloc, &first, &second).expect(rt, "memory");
-    equal(rt, (a, b, found), (a, b, want));
+fn compares(rt: &impl Abort, alloc: Global, a: Source<'_>, b: Source<'_>, want: bool, case: &str) {
+    let first = items(rt, alloc, a.0, a.1, case);
+    let second = items(rt, alloc, b.0, b.1, case);
+    let found = same(alloc, &first, &second).expect(rt, case);
+    equal_in(rt, (a, b, found), (a, b, want), case);
 }
 
-// Each row has two texts of a kind, of lists that are the same or not.
-fn compare_all(rt: &impl Abort, alloc: Global, table: &str, want: bool) {
-    for lines in table.split("----\n") {
-        let row = read_row(lines).expect(rt, lines);
-        compares(
-            rt,
-            alloc,
-            (row.kind, row.source),
-            (row.kind, row.want),
-            want,
-        );
+// The two lists of each case are the same or not.
+fn compare_all(rt: &impl Abort, alloc: Global, file: &str, want: bool) {
+    for case in read_cases(rt, alloc, file).iter() {
+        let (a, b) = ((case.kind, case.text), (case.kind, case.want));
+        compares(rt, alloc, a, b, want, case.lines);
     }
 }
 
@@ -38,14 +33,16 @@ fn lists_of_the_same_graphs_are_same(rt: HostRuntime) {
 }
 
 #[test]
-fn other_lists_are_not_same(rt: HostRuntime) {
-    compare_all(&rt, rt.alloc(), OTHER, false);
+fn other_lists_are_different(rt: HostRuntime) {
+    compare_all(&rt, rt.alloc(), DIFFERENT, false);
 }
 
 #[test]
 fn empty_lists_are_same_within_a_kind(rt: HostRuntime) {
-    compares(&rt, rt.alloc(), (Kind::Rhs, ""), (Kind::Rhs, ""), true);
-    compares(&rt, rt.alloc(), (Kind::Rhs, ""), (Kind::Rhs, " \n"), true);
-    compares(&rt, rt.alloc(), (Kind::Lhs, ""), (Kind::Rhs, ""), false);
-    compares(&rt, rt.alloc(), (Kind::Rhs, ""), (Kind::Lhs, ""), false);
+    let (rt, alloc) = (&rt, rt.alloc());
+    let (lhs, rhs) = ((Kind::Lhs, ""), (Kind::Rhs, ""));
+    compares(rt, alloc, rhs, rhs, true, "no items");
+    compares(rt, alloc, rhs, (Kind::Rhs, " \n"), true, "no items");
+    compares(rt, alloc, lhs, rhs, false, "no items");
+    compares(rt, alloc, rhs, lhs, false, "no items");
 }

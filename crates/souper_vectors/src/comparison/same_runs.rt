@@ -30,7 +30,7 @@ fn writes<R: Files + AllocGlobal + Abort>(
     let mut reported = Vec::new(rt.alloc());
     let mut out = Watched::new(FaultyWriter::new(2, after));
     let mut err = Watched::new(&mut reported);
-    let status = compare(rt, ("first", path), &mut out, &mut err);
+    let status = compare(rt, ("out/first", path), &mut out, &mut err);
     let failed = out.failed();
     let ran = (status, told(&reported));
     equal(rt, (path, after, failed, ran), (path, after, fails, want));
@@ -41,13 +41,13 @@ fn writes<R: Files + AllocGlobal + Abort>(
 fn failed_write_is_a_fault(rt: HostRuntime) {
     write_files(&rt);
     for after in 0..4 {
-        writes(&rt, "second", after, true, (3, FAULT));
+        writes(&rt, "out/second", after, true, (3, FAULT));
     }
-    writes(&rt, "second", 4, false, (0, ""));
+    writes(&rt, "out/second", 4, false, (0, ""));
     for after in 0..6 {
-        writes(&rt, "third", after, true, (3, FAULT));
+        writes(&rt, "out/third", after, true, (3, FAULT));
     }
-    writes(&rt, "third", 6, false, (0, ""));
+    writes(&rt, "out/third", 6, false, (0, ""));
 }
 
 // A comparison over an `err` that fails after `after` calls: the status, whether `out` and `err` failed, and whether
@@ -79,15 +79,15 @@ fn keeps_status<R: Files + AllocGlobal + Abort>(
     }
 }
 
-// The line of a refusal has 79 bytes, and the line of a failed read begins with 10 known ones.
+// The line of a refusal has 83 bytes, and the line of a failed read begins with 10 known ones.
 #[test]
 fn failed_err_keeps_the_status(rt: HostRuntime) {
     write_files(&rt);
-    keeps_status(&rt, ("refused", "absent"), 1, 79);
-    keeps_status(&rt, ("first", "refused"), 1, 79);
-    keeps_status(&rt, ("absent", "refused"), 3, 10);
-    keeps_status(&rt, ("first", "absent"), 3, 10);
-    keeps_status(&rt, ("first", "no_text"), 3, 10);
+    keeps_status(&rt, ("out/refused", "absent"), 1, 83);
+    keeps_status(&rt, ("out/first", "out/refused"), 1, 83);
+    keeps_status(&rt, ("absent", "out/refused"), 3, 10);
+    keeps_status(&rt, ("out/first", "absent"), 3, 10);
+    keeps_status(&rt, ("out/first", "out/no_text"), 3, 10);
 }
 
 // A comparison over an `out` and an `err` that fail after these numbers of calls: the status, and whether each failed.
@@ -98,7 +98,7 @@ fn compare_over_both<R: Files + AllocGlobal>(
 ) -> (u8, bool, bool) {
     let mut out = Watched::new(FaultyWriter::new(2, after));
     let mut err = Watched::new(FaultyWriter::new(1, bytes));
-    let status = compare(rt, ("first", "second"), &mut out, &mut err);
+    let status = compare(rt, ("out/first", "out/second"), &mut out, &mut err);
     (status, out.failed(), err.failed())
 }
 
@@ -118,7 +118,7 @@ fn needs_no_err<R: Files + AllocGlobal + Abort>(rt: &R, path: &str, want: &str) 
     let mut written = Vec::new(rt.alloc());
     let mut out = Watched::new(&mut written);
     let mut err = Watched::new(FaultyWriter::new(1, 0));
-    let status = compare(rt, ("first", path), &mut out, &mut err);
+    let status = compare(rt, ("out/first", path), &mut out, &mut err);
     let failed = err.failed();
     let ran = (status, failed, text(&written));
     equal(rt, (path, ran), (path, (0, false, want)));
@@ -127,6 +127,6 @@ fn needs_no_err<R: Files + AllocGlobal + Abort>(rt: &R, path: &str, want: &str) 
 #[test]
 fn comparison_needs_no_err(rt: HostRuntime) {
     write_files(&rt);
-    needs_no_err(&rt, "second", "same\n");
-    needs_no_err(&rt, "third", "different\n");
+    needs_no_err(&rt, "out/second", "same\n");
+    needs_no_err(&rt, "out/third", "different\n");
 }

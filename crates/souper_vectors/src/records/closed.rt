@@ -1,11 +1,10 @@
 //! Outputs that are pipes which nobody reads.
 use crate::checks::{equal, text};
+use crate::records::support::{Command, run_to};
 use souper_format::watched::Watched;
 use souper_ir::ast::LeftHandSide;
 use souper_records::layout::PLAIN;
-use souper_records::run::{
-    BROKEN_PIPE, count_run, each_going_on_run, each_run, objects_run, uniq_going_on_run, uniq_run,
-};
+use souper_records::run::{BROKEN_PIPE, count_run, uniq_run};
 use souper_records::seen::Seen;
 use std::alloc::Global;
 use std::io;
@@ -41,60 +40,42 @@ const REFUSAL: &str =
 
 type Reader<'a> = BufReader<&'a [u8]>;
 
-// A run to a pipe with this much room.
-#[derive(Clone, Copy)]
-enum Run {
-    Each,
-    EachGoingOn,
-    Objects,
-    Uniq,
-    UniqGoingOn,
-}
-
-// The run reports this, and its status is `BROKEN_PIPE`.
-fn is_told(rt: &impl Abort, alloc: Global, run: Run, room: usize, want: &str) {
+// A run to a pipe with this much room reports this, and its status is `BROKEN_PIPE`.
+fn is_told(rt: &impl Abort, alloc: Global, command: Command, room: usize, want: &str) {
     let mut reader = BufReader::with_capacity(alloc, 3, SOURCE).expect(rt, "memory");
-    let mut seen = Seen::new(alloc);
     let mut reported = Vec::new(alloc);
     let mut out = Watched::new(Pipe { room });
     let mut err = Watched::new(&mut reported);
-    let (reader, name, out, err) = (&mut reader, "a.opt", &mut out, &mut err);
-    let status = match run {
-        Run::Each => each_run::<LeftHandSide, Reader<'_>, Pipe, &mut Vec<u8>>(
-            alloc, PLAIN, reader, name, out, err,
-        ),
-        Run::EachGoingOn => each_going_on_run::<LeftHandSide, Reader<'_>, Pipe, &mut Vec<u8>>(
-            alloc, PLAIN, reader, name, out, err,
-        ),
-        Run::Objects => objects_run::<LeftHandSide, Reader<'_>, Pipe, &mut Vec<u8>>(
-            alloc, false, reader, name, out, err,
-        ),
-        Run::Uniq => uniq_run::<LeftHandSide, Reader<'_>, Pipe, &mut Vec<u8>>(
-            alloc, PLAIN, &mut seen, reader, name, out, err,
-        ),
-        Run::UniqGoingOn => uniq_going_on_run::<LeftHandSide, Reader<'_>, Pipe, &mut Vec<u8>>(
-            alloc, PLAIN, &mut seen, reader, name, out, err,
-        ),
-    };
+    let status = run_to::<LeftHandSide, Reader<'_>, Pipe, &mut Vec<u8>>(
+        alloc,
+        command,
+        &mut reader,
+        &mut out,
+        &mut err,
+    );
     equal(rt, (status, text(&reported)), (BROKEN_PIPE, want));
 }
 
 #[test]
 fn closed_pipe_is_not_reported(rt: HostRuntime) {
     for room in 0..19 {
-        is_told(&rt, rt.alloc(), Run::Each, room, "");
-        is_told(&rt, rt.alloc(), Run::Uniq, room, "");
+        is_told(&rt, rt.alloc(), Command::Each(PLAIN), room, "");
+        is_told(&rt, rt.alloc(), Command::Uniq, room, "");
     }
 }
 
 #[test]
 fn refusals_before_a_closed_pipe_are_reported(rt: HostRuntime) {
-    for run in [Run::EachGoingOn, Run::UniqGoingOn] {
-        is_told(&rt, rt.alloc(), run, 0, "");
-        is_told(&rt, rt.alloc(), run, 19, REFUSAL);
+    for command in [Command::EachGoingOn, Command::UniqGoingOn] {
+        is_told(&rt, rt.alloc(), command, 0, "");
+        is_told(&rt, rt.alloc(), command, 19, REFUSAL);
     }
-    is_told(&rt, rt.alloc(), Run::Objects, 0, "");
-    is_told(&rt, rt.alloc(), Run::Objects, 280, REFUSAL);
+    let objects = Command::Objects {
+        file: "a.opt",
+        rename: false,
+    };
+    is_told(&rt, rt.alloc(), objects, 0, "");
+    is_told(&rt, rt.alloc(), objects, 280, REFUSAL);
 }
 
 #[test]

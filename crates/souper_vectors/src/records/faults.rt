@@ -1,11 +1,10 @@
 //! Reads and writes that fail.
 use crate::checks::equal;
 use crate::faulty::{FaultyReader, FaultyWriter};
-use crate::records::support::{did, headed, run_over};
+use crate::records::support::{Command, did, headed, run_over, run_to};
 use souper_format::watched::Watched;
 use souper_ir::ast::LeftHandSide;
 use souper_records::layout::PLAIN;
-use souper_records::run::each_run;
 use std::alloc::Global;
 use std::io;
 use std::io::{BufReader, ErrorKind, Read};
@@ -38,7 +37,11 @@ fn failed_read_is_reported(rt: HostRuntime) {
         rest: b"%x = var\ninfer %x\n%y = var\n",
     };
     let mut reader = BufReader::with_capacity(rt.alloc(), 3, source).expect(&rt, "memory");
-    let run = run_over::<LeftHandSide, BufReader<BrokenReader<'_>>>(rt.alloc(), PLAIN, &mut reader);
+    let run = run_over::<LeftHandSide, BufReader<BrokenReader<'_>>>(
+        rt.alloc(),
+        Command::Each(PLAIN),
+        &mut reader,
+    );
     did(&rt, run, (2, "", READ_ERROR));
 }
 
@@ -48,11 +51,10 @@ fn failed_report(rt: &impl Abort, alloc: Global, after: usize) -> (u8, bool) {
     let mut written = Vec::new(alloc);
     let mut out = Watched::new(&mut written);
     let mut err = Watched::new(FaultyWriter::new(5, after));
-    let status = each_run::<LeftHandSide, BufReader<&[u8]>, &mut Vec<u8>, FaultyWriter>(
+    let status = run_to::<LeftHandSide, BufReader<&[u8]>, &mut Vec<u8>, FaultyWriter>(
         alloc,
-        PLAIN,
+        Command::Each(PLAIN),
         &mut reader,
-        "a.opt",
         &mut out,
         &mut err,
     );
@@ -72,7 +74,11 @@ fn failed_report_leaves_the_status(rt: HostRuntime) {
 fn bytes_that_are_no_text_are_reported(rt: HostRuntime) {
     let source = b"%x = var\ninfer %x\n\xff".as_slice();
     let mut reader = BufReader::new(rt.alloc(), source).expect(&rt, "memory");
-    let run = run_over::<LeftHandSide, BufReader<&[u8]>>(rt.alloc(), PLAIN, &mut reader);
+    let run = run_over::<LeftHandSide, BufReader<&[u8]>>(
+        rt.alloc(),
+        Command::Each(PLAIN),
+        &mut reader,
+    );
     let found = (run.status, headed(&run.err, READ_ERROR));
     equal(&rt, found, (2, READ_ERROR));
 }
@@ -81,7 +87,11 @@ fn bytes_that_are_no_text_are_reported(rt: HostRuntime) {
 fn is_tried_again(rt: &impl Abort, alloc: Global, after: usize) {
     let source = FaultyReader::new(b"%x = var\ninfer %x\n", 5, after);
     let mut reader = BufReader::with_capacity(alloc, 3, source).expect(rt, "memory");
-    let run = run_over::<LeftHandSide, BufReader<FaultyReader<'_>>>(alloc, PLAIN, &mut reader);
+    let run = run_over::<LeftHandSide, BufReader<FaultyReader<'_>>>(
+        alloc,
+        Command::Each(PLAIN),
+        &mut reader,
+    );
     did(rt, run, (0, "%x = var\ninfer %x\n\n", ""));
 }
 
@@ -100,11 +110,10 @@ fn writes(rt: &impl Abort, alloc: Global, after: usize, fails: bool, want: (u8, 
     let mut reported = Vec::new(alloc);
     let mut err = Watched::new(&mut reported);
     let mut out = Watched::new(FaultyWriter::new(5, after));
-    let status = each_run::<LeftHandSide, BufReader<&[u8]>, FaultyWriter, &mut Vec<u8>>(
+    let status = run_to::<LeftHandSide, BufReader<&[u8]>, FaultyWriter, &mut Vec<u8>>(
         alloc,
-        PLAIN,
+        Command::Each(PLAIN),
         &mut reader,
-        "a.opt",
         &mut out,
         &mut err,
     );

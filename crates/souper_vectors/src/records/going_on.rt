@@ -1,65 +1,17 @@
 //! Streams that are read on after a refusal.
 use crate::checks::{Ran, equal, text};
 use crate::faulty::FaultyWriter;
-use crate::records::support::{Run, did};
+use crate::records::support::{Command, did, run_over, run_to, runs};
 use souper_format::watched::Watched;
 use souper_ir::ast::{LeftHandSide, Replacement, RightHandSide};
-use souper_records::layout::PLAIN;
-use souper_records::run::{each_going_on_run, uniq_going_on_run};
-use souper_records::seen::Seen;
 use souper_stream::StreamItem;
 use std::alloc::Global;
-use std::io::{BufRead, BufReader};
+use std::io::BufReader;
 use std::process::Abort;
-
-fn each_over<T: StreamItem + Drop, R: BufRead>(alloc: Global, reader: &mut R) -> Run {
-    let mut written = Vec::new(alloc);
-    let mut reported = Vec::new(alloc);
-    let mut out = Watched::new(&mut written);
-    let mut err = Watched::new(&mut reported);
-    let status = each_going_on_run::<T, R, &mut Vec<u8>, &mut Vec<u8>>(
-        alloc, PLAIN, reader, "a.opt", &mut out, &mut err,
-    );
-    Run {
-        status,
-        out: written,
-        err: reported,
-    }
-}
-
-fn uniq_over<T: StreamItem + Drop, R: BufRead>(alloc: Global, reader: &mut R) -> Run {
-    let mut seen = Seen::new(alloc);
-    let mut written = Vec::new(alloc);
-    let mut reported = Vec::new(alloc);
-    let mut out = Watched::new(&mut written);
-    let mut err = Watched::new(&mut reported);
-    let status = uniq_going_on_run::<T, R, &mut Vec<u8>, &mut Vec<u8>>(
-        alloc, PLAIN, &mut seen, reader, "a.opt", &mut out, &mut err,
-    );
-    Run {
-        status,
-        out: written,
-        err: reported,
-    }
-}
-
-// The outcome of a run over the text, with this number of bytes a read. The whole report is compared.
-fn each_does<T: StreamItem + Drop>(
-    rt: &impl Abort,
-    alloc: Global,
-    (source, capacity): (&str, usize),
-    want: Ran<'_>,
-) {
-    let bytes = source.as_bytes();
-    let mut reader = BufReader::with_capacity(alloc, capacity, bytes).expect(rt, source);
-    let run = each_over::<T, BufReader<&[u8]>>(alloc, &mut reader);
-    let found = (run.status, text(&run.out), text(&run.err));
-    equal(rt, found, want);
-}
 
 fn each_text<T: StreamItem + Drop>(rt: &impl Abort, alloc: Global, source: &str, want: Ran<'_>) {
     for capacity in [1, 7, 4096] {
-        each_does::<T>(rt, alloc, (source, capacity), want);
+        runs::<T>(rt, alloc, Command::EachGoingOn, (source, capacity), want);
     }
 }
 
@@ -189,7 +141,11 @@ fn items_of_the_next_lines_are_written(rt: HostRuntime) {
     let source = "cand 1 $\ninfer 1 result 2\n%x = var infer %x result %x $\ncand 3 4";
     let written = "%x = var\ninfer %x\nresult %x\n\ncand 3 4\n\n";
     let mut reader = BufReader::with_capacity(rt.alloc(), 3, source.as_bytes()).expect(&rt, source);
-    let run = each_over::<Replacement, BufReader<&[u8]>>(rt.alloc(), &mut reader);
+    let run = run_over::<Replacement, BufReader<&[u8]>>(
+        rt.alloc(),
+        Command::EachGoingOn,
+        &mut reader,
+    );
     equal(&rt, (run.status, text(&run.out)), (1, written));
     equal(&rt, text(&run.err).lines().count(), 12);
 }
@@ -228,7 +184,7 @@ fn keeps_the_others(rt: &impl Abort, alloc: Global, bad: usize) {
     let source = one_refused(rt, alloc, bad, 5);
     let bytes = source.as_bytes();
     let mut reader = BufReader::with_capacity(alloc, 3, bytes).expect(rt, "memory");
-    let run = each_over::<LeftHandSide, BufReader<&[u8]>>(alloc, &mut reader);
+    let run = run_over::<LeftHandSide, BufReader<&[u8]>>(alloc, Command::EachGoingOn, &mut reader);
     let line = bad.saturating_mul(3).saturating_add(1);
     let report = format!(in alloc;
         "a.opt:{line}:6: no value named '%a' in scope\n     |\n{line:>4} | infer %a\n     |      ^\n"
@@ -249,7 +205,11 @@ fn first_items_are_written_around_a_refused_one(rt: HostRuntime) {
     let source = "%a = var\ninfer %a\ninfer %b\n%a = var\ninfer %a\n%c = var\ninfer %c\n";
     let bytes = source.as_bytes();
     let mut reader = BufReader::with_capacity(rt.alloc(), 3, bytes).expect(&rt, source);
-    let run = uniq_over::<LeftHandSide, BufReader<&[u8]>>(rt.alloc(), &mut reader);
+    let run = run_over::<LeftHandSide, BufReader<&[u8]>>(
+        rt.alloc(),
+        Command::UniqGoingOn,
+        &mut reader,
+    );
     let want = "%a = var\ninfer %a\n\n%c = var\ninfer %c\n\n";
     did(
         &rt,
@@ -264,7 +224,11 @@ fn fault_is_reported_after_the_refusals(rt: HostRuntime) {
     let source = b"%a = var\ninfer %a\ninfer %b\n%c = var\ninfer %c\n\xff";
     let bytes = source.as_slice();
     let mut reader = BufReader::with_capacity(rt.alloc(), 3, bytes).expect(&rt, "memory");
-    let run = each_over::<LeftHandSide, BufReader<&[u8]>>(rt.alloc(), &mut reader);
+    let run = run_over::<LeftHandSide, BufReader<&[u8]>>(
+        rt.alloc(),
+        Command::EachGoingOn,
+        &mut reader,
+    );
     let lines = text(&run.err);
     let found = (
         run.status,
@@ -281,11 +245,10 @@ fn failed_report(rt: &impl Abort, alloc: Global, after: usize) -> (u8, bool) {
     let mut written = Vec::new(alloc);
     let mut out = Watched::new(&mut written);
     let mut err = Watched::new(FaultyWriter::new(5, after));
-    let status = each_going_on_run::<LeftHandSide, BufReader<&[u8]>, &mut Vec<u8>, FaultyWriter>(
+    let status = run_to::<LeftHandSide, BufReader<&[u8]>, &mut Vec<u8>, FaultyWriter>(
         alloc,
-        PLAIN,
+        Command::EachGoingOn,
         &mut reader,
-        "a.opt",
         &mut out,
         &mut err,
     );

@@ -1,6 +1,6 @@
 //! What a record has.
 use crate::checks::equal;
-use crate::records::support::runs;
+use crate::records::support::{Command, runs};
 use souper_ir::ast::{LeftHandSide, Replacement, RightHandSide};
 use souper_records::layout::{Delimiter, Layout, PLAIN};
 use souper_records::records::key_of;
@@ -9,7 +9,7 @@ use std::process::Abort;
 
 // The records of left-hand sides are this text.
 fn has_records(rt: &impl Abort, alloc: Global, layout: Layout, source: &str, text: &str) {
-    runs::<LeftHandSide>(rt, alloc, layout, (source, 9), (0, text, ""));
+    runs::<LeftHandSide>(rt, alloc, Command::Each(layout), (source, 9), (0, text, ""));
 }
 
 #[test]
@@ -20,10 +20,10 @@ fn record_is_the_text_and_an_empty_line(rt: HostRuntime) {
     // The text of a right-hand side has no newline at its end.
     let source = "result 1:i8 result 2:i8";
     let want = (0, "result 1:i8\n\nresult 2:i8\n\n", "");
-    runs::<RightHandSide>(&rt, alloc, PLAIN, (source, 9), want);
+    runs::<RightHandSide>(&rt, alloc, Command::Each(PLAIN), (source, 9), want);
     let source = "%x = var cand %x 1 ; one";
     let want = (0, "%x = var\ncand %x 1\n\n", "");
-    runs::<Replacement>(&rt, alloc, PLAIN, (source, 9), want);
+    runs::<Replacement>(&rt, alloc, Command::Each(PLAIN), (source, 9), want);
     has_records(&rt, alloc, PLAIN, " ; none\n", "");
 }
 
@@ -38,7 +38,13 @@ fn record_ends_with_nul(rt: HostRuntime) {
     let text = "%x = var\ninfer %x\n\0%y = var\ninfer %y\n\0";
     has_records(&rt, rt.alloc(), layout, source, text);
     let want = (0, "result 1:i8\0", "");
-    runs::<RightHandSide>(&rt, rt.alloc(), layout, ("result 1:i8", 9), want);
+    runs::<RightHandSide>(
+        &rt,
+        rt.alloc(),
+        Command::Each(layout),
+        ("result 1:i8", 9),
+        want,
+    );
 }
 
 // The text has this key.

@@ -1,50 +1,24 @@
 //! JSON objects of items and of refusals.
-use crate::checks::{Ran, equal, text};
+use crate::checks::equal;
 use crate::faulty::FaultyWriter;
-use crate::records::support::Run;
+use crate::records::support::{Command, run_to, runs};
 use souper_format::watched::Watched;
 use souper_ir::ast::{LeftHandSide, RightHandSide};
-use souper_records::run::objects_run;
-use souper_stream::StreamItem;
 use std::alloc::Global;
-use std::io::{BufRead, BufReader};
+use std::io::BufReader;
 use std::process::Abort;
 
 const NAME: &str = r#"a "b"\c.opt"#;
 
-fn objects_over<T: StreamItem + Drop, R: BufRead>(
-    alloc: Global,
-    rename: bool,
-    reader: &mut R,
-) -> Run {
-    let mut written = Vec::new(alloc);
-    let mut reported = Vec::new(alloc);
-    let mut out = Watched::new(&mut written);
-    let mut err = Watched::new(&mut reported);
-    let status = objects_run::<T, R, &mut Vec<u8>, &mut Vec<u8>>(
-        alloc, rename, reader, NAME, &mut out, &mut err,
-    );
-    Run {
-        status,
-        out: written,
-        err: reported,
-    }
-}
+const OBJECTS_OF_ITEMS: Command = Command::Objects {
+    file: NAME,
+    rename: false,
+};
 
-// The outcome of a run over the text, with this number of bytes a read. The whole report is compared.
-fn objects_do<T: StreamItem + Drop>(
-    rt: &impl Abort,
-    alloc: Global,
-    rename: bool,
-    (source, capacity): (&str, usize),
-    want: Ran<'_>,
-) {
-    let bytes = source.as_bytes();
-    let mut reader = BufReader::with_capacity(alloc, capacity, bytes).expect(rt, source);
-    let run = objects_over::<T, BufReader<&[u8]>>(alloc, rename, &mut reader);
-    let found = (run.status, text(&run.out), text(&run.err));
-    equal(rt, found, want);
-}
+const OBJECTS_OF_RENAMED: Command = Command::Objects {
+    file: NAME,
+    rename: true,
+};
 
 const SOURCE: &str = "; a comment at the head
 
@@ -84,10 +58,22 @@ const REPORTED: &str = r#"a "b"\c.opt:6:9: expected a constant, var, block, phi,
 fn objects_have_text_key_file_and_line(rt: HostRuntime) {
     let alloc = rt.alloc();
     let want = (1, OBJECTS, REPORTED);
-    objects_do::<LeftHandSide>(&rt, alloc, false, (SOURCE, 1), want);
-    objects_do::<LeftHandSide>(&rt, alloc, false, (SOURCE, 4096), want);
-    objects_do::<LeftHandSide>(&rt, alloc, true, (SOURCE, 7), (1, RENAMED, REPORTED));
-    objects_do::<LeftHandSide>(&rt, alloc, true, ("; nothing\n", 7), (0, "", ""));
+    runs::<LeftHandSide>(&rt, alloc, OBJECTS_OF_ITEMS, (SOURCE, 1), want);
+    runs::<LeftHandSide>(&rt, alloc, OBJECTS_OF_ITEMS, (SOURCE, 4096), want);
+    runs::<LeftHandSide>(
+        &rt,
+        alloc,
+        OBJECTS_OF_RENAMED,
+        (SOURCE, 7),
+        (1, RENAMED, REPORTED),
+    );
+    runs::<LeftHandSide>(
+        &rt,
+        alloc,
+        OBJECTS_OF_RENAMED,
+        ("; nothing\n", 7),
+        (0, "", ""),
+    );
 }
 
 const LINE: &str =
@@ -109,7 +95,7 @@ const LINE_REPORTED: &str = r#"a "b"\c.opt:1:25: expected an integer literal
 fn items_of_a_piece_have_its_line(rt: HostRuntime) {
     let source = "result 1 result 2 result result\nresult 3\nresult 4";
     let want = (1, LINE, LINE_REPORTED);
-    objects_do::<RightHandSide>(&rt, rt.alloc(), false, (source, 3), want);
+    runs::<RightHandSide>(&rt, rt.alloc(), OBJECTS_OF_ITEMS, (source, 3), want);
 }
 
 // The status of a run whose output fails after this number of calls, and whether it failed.
@@ -118,11 +104,10 @@ fn failed_output(rt: &impl Abort, alloc: Global, after: usize) -> (u8, bool) {
     let mut reported = Vec::new(alloc);
     let mut out = Watched::new(FaultyWriter::new(50, after));
     let mut err = Watched::new(&mut reported);
-    let status = objects_run::<LeftHandSide, BufReader<&[u8]>, FaultyWriter, &mut Vec<u8>>(
+    let status = run_to::<LeftHandSide, BufReader<&[u8]>, FaultyWriter, &mut Vec<u8>>(
         alloc,
-        false,
+        OBJECTS_OF_ITEMS,
         &mut reader,
-        NAME,
         &mut out,
         &mut err,
     );

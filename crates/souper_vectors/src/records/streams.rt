@@ -1,7 +1,7 @@
 //! A stream gives the records of its items, whatever the sizes of the reads.
+use crate::cases::joined_texts;
 use crate::checks::{equal, text};
-use crate::records::support::{Run, headed, run_over, runs};
-use crate::sources::{ATTRIBUTES, BLOCKS, GAPS, PAIRS, RESULTS, VALUES};
+use crate::records::support::{Command, Run, headed, run_over, runs};
 use souper_format::command::Kind;
 use souper_format::items::format_text;
 use souper_ir::ast::{LeftHandSide, Replacement};
@@ -11,39 +11,26 @@ use std::alloc::Global;
 use std::io::BufReader;
 use std::process::Abort;
 
-// The texts, each on lines of its own.
-fn joined(rt: &impl Abort, alloc: Global, sources: &[&str]) -> String {
-    let mut all = String::new(alloc);
-    for source in sources {
-        all.push_str(source).expect(rt, source);
-        all.push('\n').expect(rt, source);
-    }
-    all
-}
-
-// The records of these texts one after the other are what the formatter writes.
-fn is_formatted<T: StreamItem + Drop>(
-    rt: &impl Abort,
-    alloc: Global,
-    kind: Kind,
-    sources: &[&str],
-) {
-    let all = joined(rt, alloc, sources);
+// The records of the texts of the kind, one after the other, are what the formatter writes.
+fn is_formatted<T: StreamItem + Drop>(rt: &impl Abort, alloc: Global, kind: Kind) {
+    let all = joined_texts(rt, alloc, kind);
     let text = format_text(alloc, kind, all.as_str(), None).expect(rt, all.as_str());
     for capacity in [1, 7, 4096] {
         let want = (0, text.as_str(), "");
-        runs::<T>(rt, alloc, PLAIN, (all.as_str(), capacity), want);
+        runs::<T>(
+            rt,
+            alloc,
+            Command::Each(PLAIN),
+            (all.as_str(), capacity),
+            want,
+        );
     }
 }
 
 #[test]
 fn records_are_what_the_formatter_writes(rt: HostRuntime) {
-    is_formatted::<LeftHandSide>(&rt, rt.alloc(), Kind::Lhs, GAPS.as_slice());
-    is_formatted::<LeftHandSide>(&rt, rt.alloc(), Kind::Lhs, VALUES.as_slice());
-    is_formatted::<LeftHandSide>(&rt, rt.alloc(), Kind::Lhs, BLOCKS.as_slice());
-    is_formatted::<LeftHandSide>(&rt, rt.alloc(), Kind::Lhs, ATTRIBUTES.as_slice());
-    is_formatted::<Replacement>(&rt, rt.alloc(), Kind::Rep, PAIRS.as_slice());
-    is_formatted::<Replacement>(&rt, rt.alloc(), Kind::Rep, RESULTS.as_slice());
+    is_formatted::<LeftHandSide>(&rt, rt.alloc(), Kind::Lhs);
+    is_formatted::<Replacement>(&rt, rt.alloc(), Kind::Rep);
 }
 
 // `count` left-hand sides, as they are written.
@@ -74,7 +61,7 @@ fn writes_before(rt: &impl Abort, alloc: Global, count: usize, place: &str) {
     let good = good_ones(rt, alloc, count);
     let source = with_refused(rt, alloc, good.as_str());
     let mut reader = BufReader::with_capacity(alloc, 4096, source.as_bytes()).expect(rt, place);
-    let run = run_over::<LeftHandSide, BufReader<&[u8]>>(alloc, PLAIN, &mut reader);
+    let run = run_over::<LeftHandSide, BufReader<&[u8]>>(alloc, Command::Each(PLAIN), &mut reader);
     is_refused(rt, run, good.as_str(), place);
 }
 

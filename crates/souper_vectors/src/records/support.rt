@@ -1,12 +1,51 @@
-//! Runs over texts that are in memory.
+//! Runs of the commands over texts that are in memory.
 use crate::checks::{Ran, equal, text};
 use souper_format::watched::Watched;
-use souper_records::layout::Layout;
-use souper_records::run::each_run;
+use souper_records::layout::{Layout, PLAIN};
+use souper_records::run::{each_going_on_run, each_run, objects_run, uniq_going_on_run, uniq_run};
+use souper_records::seen::Seen;
 use souper_stream::StreamItem;
 use std::alloc::Global;
-use std::io::{BufRead, BufReader};
+use std::io::{BufRead, BufReader, Write};
 use std::process::Abort;
+
+/// A command that reads a stream.
+#[derive(Clone, Copy)]
+pub(crate) enum Command {
+    Each(Layout),
+    EachGoingOn,
+    Uniq,
+    UniqGoingOn,
+    Objects { file: &'static str, rename: bool },
+}
+
+/// The status of a run of the command. The file is `a.opt` if the command names none.
+pub(crate) fn run_to<T: StreamItem + Drop, R: BufRead, W: Write, E: Write>(
+    alloc: Global,
+    command: Command,
+    reader: &mut R,
+    out: &mut Watched<W>,
+    err: &mut Watched<E>,
+) -> u8 {
+    let mut seen = Seen::new(alloc);
+    match command {
+        Command::Each(layout) => {
+            each_run::<T, R, W, E>(alloc, layout, reader, "a.opt", out, err)
+        }
+        Command::EachGoingOn => {
+            each_going_on_run::<T, R, W, E>(alloc, PLAIN, reader, "a.opt", out, err)
+        }
+        Command::Uniq => {
+            uniq_run::<T, R, W, E>(alloc, PLAIN, &mut seen, reader, "a.opt", out, err)
+        }
+        Command::UniqGoingOn => {
+            uniq_going_on_run::<T, R, W, E>(alloc, PLAIN, &mut seen, reader, "a.opt", out, err)
+        }
+        Command::Objects { file, rename } => {
+            objects_run::<T, R, W, E>(alloc, rename, reader, file, out, err)
+        }
+    }
+}
 
 /// What a run did.
 #[derive(Drop)]
@@ -14,6 +53,26 @@ pub(crate) struct Run {
     pub(crate) status: u8,
     pub(crate) out: Vec<u8>,
     pub(crate) err: Vec<u8>,
+}
+
+/// A run of the command over a reader.
+pub(crate) fn run_over<T: StreamItem + Drop, R: BufRead>(
+    alloc: Global,
+    command: Command,
+    reader: &mut R,
+) -> Run {
+    let mut written = Vec::new(alloc);
+    let mut reported = Vec::new(alloc);
+    let mut out = Watched::new(&mut written);
+    let mut err = Watched::new(&mut reported);
+    let status = run_to::<T, R, &mut Vec<u8>, &mut Vec<u8>>(
+        alloc, command, reader, &mut out, &mut err,
+    );
+    Run {
+        status,
+        out: written,
+        err: reported,
+    }
 }
 
 /// The bytes as a text, or the head alone if they are lines that begin with it. The head without a newline is no line.
@@ -28,46 +87,23 @@ pub(crate) fn headed<'a>(bytes: &'a [u8], head: &'a str) -> &'a str {
     }
 }
 
-/// A run of `each` over a reader.
-pub(crate) fn run_over<T: StreamItem + Drop, R: BufRead>(
-    alloc: Global,
-    layout: Layout,
-    reader: &mut R,
-) -> Run {
-    let mut written = Vec::new(alloc);
-    let mut reported = Vec::new(alloc);
-    let mut out = Watched::new(&mut written);
-    let mut err = Watched::new(&mut reported);
-    let status = each_run::<T, R, &mut Vec<u8>, &mut Vec<u8>>(
-        alloc, layout, reader, "a.opt", &mut out, &mut err,
-    );
-    Run {
-        status,
-        out: written,
-        err: reported,
-    }
-}
-
 /// Asserts what the run did. Of the lines on `err` the wanted text is the head.
 pub(crate) fn did(rt: &impl Abort, run: Run, want: Ran<'_>) {
     let found = (run.status, text(&run.out), headed(&run.err, want.2));
     equal(rt, found, want);
 }
 
-/// Asserts the outcome of a run of `each` over a text, with this number of bytes a read.
+/// Asserts the outcome of a run of the command over a text, with this number of bytes a read. The whole report is compared.
 pub(crate) fn runs<T: StreamItem + Drop>(
     rt: &impl Abort,
     alloc: Global,
-    layout: Layout,
+    command: Command,
     (source, capacity): (&str, usize),
     want: Ran<'_>,
 ) {
-    let mut reader = BufReader::with_capacity(alloc, capacity, source.as_bytes()).expect(
-        rt, source,
-    );
-    did(
-        rt,
-        run_over::<T, BufReader<&[u8]>>(alloc, layout, &mut reader),
-        want,
-    );
+    let bytes = source.as_bytes();
+    let mut reader = BufReader::with_capacity(alloc, capacity, bytes).expect(rt, source);
+    let run = run_over::<T, BufReader<&[u8]>>(alloc, command, &mut reader);
+    let found = (run.status, text(&run.out), text(&run.err));
+    equal(rt, found, want);
 }

@@ -1,8 +1,8 @@
 //! Items that were built, or changed after they were read, and what becomes of their texts.
 ghost use Rattle.souper_graph.specs.Building.{BeginsWithPercent};
 
-use crate::checks::is_text;
-use crate::refusals::reports::{equal, reports};
+use crate::checks::{equal_in, is_text};
+use crate::refusals::reports::reports;
 use souper_ir::ast::{
     Arena, AssignmentRhs, Attribute, Constant, Id, Instruction, LeftHandSide, LeftHandSideBuilder,
     Statement,
@@ -21,7 +21,7 @@ fn name(rt: &impl Abort, alloc: Global, text: &str) -> Option<String>
 
 // The item has this text, and is well formed or not.
 fn is(rt: &impl Abort, alloc: Global, item: &LeftHandSide, want: &str, well_formed: bool) {
-    equal(
+    equal_in(
         rt,
         item.is_well_formed().expect(rt, want),
         well_formed,
@@ -34,7 +34,7 @@ fn is(rt: &impl Abort, alloc: Global, item: &LeftHandSide, want: &str, well_form
 // The text is refused at the offset, and the error shows this.
 fn is_refused(rt: &impl Abort, alloc: Global, text: &str, offset: usize, want: &str) {
     let error = parse_left_hand_sides_str(alloc, text, None).err();
-    reports(rt, alloc, error, offset, want);
+    reports(rt, alloc, error, offset, want, text);
 }
 
 fn with_a_name_twice(rt: &impl Abort, alloc: Global) -> LeftHandSide {

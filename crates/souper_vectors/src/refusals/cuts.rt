@@ -1,10 +1,9 @@
 //! Texts that are cut off.
-use crate::refusals::reports::{equal, read_record};
-use crate::refusals::table::TABLE;
-use crate::sources::{
-    ATTRIBUTES, BLOCKS, GAPS, PAIRS, PRINTED_PAIRS, RESULTS, RIGHT_HAND_SIDES, VALUES, WORDS,
-    applied, chain, thousand, word_and_count,
-};
+use crate::cases::formatted::FORMATTED;
+use crate::cases::read_cases;
+use crate::cases::refused::REFUSED;
+use crate::checks::equal_in;
+use crate::sources::{WORDS, applied, chain, thousand, word_and_count};
 use souper_format::command::Kind;
 use souper_format::items::read_items;
 use souper_ir::parse::{ParseError, ParseErrorKind, parse_left_hand_sides_str};
@@ -58,10 +57,10 @@ fn prefix_is_refused(rt: &impl Abort, alloc: Global, row: &str) {
     let prefix = SOURCE.get(..len).expect(rt, row);
     let error = parse_left_hand_sides_str(alloc, prefix, None).err();
     let error = error.expect(rt, row);
-    equal(rt, error.kind(), ParseErrorKind::Parse, row);
-    equal(rt, error.offset(), Some(offset), row);
+    equal_in(rt, error.kind(), ParseErrorKind::Parse, row);
+    equal_in(rt, error.offset(), Some(offset), row);
     let shown = error.to_string(alloc).expect(rt, "memory");
-    equal(rt, message(shown.as_str()), Some(want), row);
+    equal_in(rt, message(shown.as_str()), Some(want), row);
 }
 
 #[test]
@@ -74,16 +73,16 @@ fn each_prefix_of_a_text_is_refused(rt: HostRuntime) {
 #[test]
 fn empty_prefix_and_whole_text_are_read(rt: HostRuntime) {
     let none = parse_left_hand_sides_str(rt.alloc(), "", None).expect(&rt, "no item");
-    equal(&rt, none.len(), 0, "");
+    equal_in(&rt, none.len(), 0, "");
     let items = parse_left_hand_sides_str(rt.alloc(), SOURCE, None).expect(&rt, SOURCE);
-    equal(&rt, (SOURCE.len(), items.len()), (26, 1), SOURCE);
+    equal_in(&rt, (SOURCE.len(), items.len()), (26, 1), SOURCE);
 }
 
 // The text is refused within it.
 fn is_refused_within(rt: &impl Abort, error: &ParseError, text: &str) {
-    equal(rt, error.kind(), ParseErrorKind::Parse, text);
+    equal_in(rt, error.kind(), ParseErrorKind::Parse, text);
     let offset = error.offset().expect(rt, text);
-    equal(rt, offset <= text.len(), true, text);
+    equal_in(rt, offset <= text.len(), true, text);
 }
 
 // Each prefix of the text is read, or refused within it.
@@ -98,31 +97,19 @@ fn cuts_of(rt: &impl Abort, alloc: Global, kind: Kind, text: &str) {
     }
 }
 
-// The same, of each text.
-fn cuts(rt: &impl Abort, alloc: Global, kind: Kind, texts: &[&str]) {
-    for text in texts {
-        cuts_of(rt, alloc, kind, text);
-    }
-}
-
 #[test]
 fn prefixes_of_refused_texts_are_read_or_refused(rt: HostRuntime) {
-    for lines in TABLE.split("\n=== ").skip(1) {
-        let refusal = read_record(lines).expect(&rt, lines);
-        cuts_of(&rt, rt.alloc(), refusal.kind, refusal.text);
+    for case in read_cases(&rt, rt.alloc(), REFUSED).iter() {
+        cuts_of(&rt, rt.alloc(), case.kind, case.text);
     }
 }
 
 #[test]
 fn prefixes_of_items_are_read_or_refused(rt: HostRuntime) {
-    cuts(&rt, rt.alloc(), Kind::Lhs, &VALUES);
-    cuts(&rt, rt.alloc(), Kind::Lhs, &BLOCKS);
-    cuts(&rt, rt.alloc(), Kind::Lhs, &ATTRIBUTES);
-    cuts(&rt, rt.alloc(), Kind::Rhs, &RIGHT_HAND_SIDES);
-    cuts(&rt, rt.alloc(), Kind::Rep, &RESULTS);
-    cuts(&rt, rt.alloc(), Kind::Rep, &PAIRS);
-    cuts(&rt, rt.alloc(), Kind::Rep, &PRINTED_PAIRS);
-    cuts(&rt, rt.alloc(), Kind::Rep, &GAPS);
+    for case in read_cases(&rt, rt.alloc(), FORMATTED).iter() {
+        cuts_of(&rt, rt.alloc(), case.kind, case.text);
+        cuts_of(&rt, rt.alloc(), case.kind, case.want);
+    }
 }
 
 #[test]

@@ -1,5 +1,6 @@
 //! The places of refusals: the name of the file, lines and columns far away, and errors without a place.
-use crate::refusals::reports::{Refusal, equal, is_refused, reports, shows};
+use crate::checks::equal_in;
+use crate::refusals::reports::{Refusal, is_refused, reports, shows};
 use crate::sources::thousand;
 use souper_format::command::Kind;
 use souper_ir::ast::Infer;
@@ -17,6 +18,7 @@ fn is_refused_in(
     shown: &str,
 ) {
     let refusal = Refusal {
+        case: text,
         kind: Kind::Lhs,
         text,
         offset,
@@ -58,6 +60,7 @@ fn line_is_far_down(rt: HostRuntime) {
         "f:12346:70001: expected 'infer'\n     |\n12346 | {spaces} x\n     | {spaces}^"
     ).expect(&rt, "memory");
     let refusal = Refusal {
+        case: "a line far down",
         kind: Kind::Lhs,
         text: text.as_str(),
         offset: 82_346,
@@ -73,6 +76,7 @@ fn is_expected_after(rt: &impl Abort, alloc: Global, spaces: &str, kind: Kind, w
         "unknown:1:70000: expected '{wanted}'\n     |\n   1 | {text}\n     | {spaces}^"
     ).expect(rt, "memory");
     let refusal = Refusal {
+        case: "a marker far to the right",
         kind,
         text: text.as_str(),
         offset: 70_000,
@@ -96,6 +100,7 @@ fn second_definition_among_a_thousand_is_refused(rt: HostRuntime) {
     text.push_str("%500 = var\ninfer %999")
         .expect(&rt, "memory");
     let refusal = Refusal {
+        case: "a second definition among a thousand",
         kind: Kind::Lhs,
         text: text.as_str(),
         offset: 10_890,
@@ -108,8 +113,8 @@ fn second_definition_among_a_thousand_is_refused(rt: HostRuntime) {
 fn has_no_source(rt: &impl Abort, alloc: Global, source: &str, offset: usize, want: &str) {
     let error = Infer::parse(&mut Parser::new(alloc, source)).err();
     let place = error.as_ref().map(|error| (error.line(), error.column()));
-    equal(rt, place, Some((None, None)), want);
-    reports(rt, alloc, error, offset, want);
+    equal_in(rt, place, Some((None, None)), want);
+    reports(rt, alloc, error, offset, want, source);
 }
 
 #[test]
@@ -128,10 +133,10 @@ fn has_no_text(
     (kind, fault): (ParseErrorKind, Option<io::ErrorKind>),
     want: &str,
 ) {
-    equal(rt, (error.kind(), error.offset()), (kind, None), want);
+    equal_in(rt, (error.kind(), error.offset()), (kind, None), want);
     let found = error.io_error().map(|found| found.kind());
-    equal(rt, found == fault, true, want);
-    shows(rt, alloc, &error, want);
+    equal_in(rt, found == fault, true, want);
+    shows(rt, alloc, &error, want, want);
 }
 
 #[test]

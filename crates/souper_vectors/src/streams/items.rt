@@ -1,6 +1,8 @@
 //! Items of streams: the same items as in the whole texts, whatever the sizes of the reads and of the chunks.
-use crate::checks::is_text;
-use crate::sources::{ATTRIBUTES, BLOCKS, GAPS, PAIRS, RESULTS, RIGHT_HAND_SIDES, VALUES};
+use crate::cases::formatted::FORMATTED;
+use crate::cases::{joined_texts, read_cases};
+use crate::checks::{is_text, is_text_in};
+use souper_format::command::Kind;
 use souper_ir::ast::{Item, LeftHandSide, Replacement, RightHandSide};
 use souper_ir::parse::{ParseError, Sink, WholeItem, parse_into};
 use souper_stream::{StreamItem, read_chunks_into, read_into};
@@ -49,64 +51,34 @@ fn of_stream<T: StreamItem + Drop>(
     Ok(texts.text)
 }
 
-fn is_same<T: StreamItem + Drop>(rt: &impl Abort, alloc: Global, source: &str) {
+// A failure shows `case`.
+fn is_same<T: StreamItem + Drop>(rt: &impl Abort, alloc: Global, source: &str, case: &str) {
     let whole = of_whole::<T>(rt, alloc, source);
     for least in [0, 1, 7, 30, 65536] {
         for capacity in [1, 5, 4096] {
-            let text = of_stream::<T>(alloc, source, capacity, least).expect(rt, source);
-            is_text(rt, text, whole.as_str());
+            let text = of_stream::<T>(alloc, source, capacity, least).expect(rt, case);
+            is_text_in(rt, text, whole.as_str(), case);
         }
     }
 }
 
-// Several items, and then the same again.
-fn are_same<T: StreamItem + Drop>(rt: &impl Abort, alloc: Global, sources: &[&str]) {
-    let mut all = String::new(alloc);
-    for source in sources {
-        is_same::<T>(rt, alloc, source);
-        all.push_str(source).expect(rt, source);
-        all.push('\n').expect(rt, source);
+// The texts of each case of the kind, and then all texts in one stream.
+fn are_same<T: StreamItem + Drop>(rt: &impl Abort, alloc: Global, kind: Kind) {
+    for case in read_cases(rt, alloc, FORMATTED).iter() {
+        if case.kind == kind {
+            is_same::<T>(rt, alloc, case.text, case.lines);
+            is_same::<T>(rt, alloc, case.want, case.lines);
+        }
     }
-    is_same::<T>(rt, alloc, all.as_str());
+    let all = joined_texts(rt, alloc, kind);
+    is_same::<T>(rt, alloc, all.as_str(), "all texts of a kind");
 }
 
 #[test]
-fn left_hand_sides_are_those_of_the_text(rt: HostRuntime) {
-    are_same::<LeftHandSide>(&rt, rt.alloc(), GAPS.as_slice());
-    are_same::<LeftHandSide>(&rt, rt.alloc(), VALUES.as_slice());
-    are_same::<LeftHandSide>(&rt, rt.alloc(), BLOCKS.as_slice());
-    are_same::<LeftHandSide>(&rt, rt.alloc(), ATTRIBUTES.as_slice());
-}
-
-#[test]
-fn other_items_are_those_of_the_text(rt: HostRuntime) {
-    are_same::<RightHandSide>(&rt, rt.alloc(), RIGHT_HAND_SIDES.as_slice());
-    are_same::<Replacement>(&rt, rt.alloc(), PAIRS.as_slice());
-    are_same::<Replacement>(&rt, rt.alloc(), RESULTS.as_slice());
-}
-
-#[test]
-fn words_and_layout_that_look_like_an_end_are_none(rt: HostRuntime) {
-    let sources = [
-        "%x = var ; infer %x\n; infer %x\n%y = var\ninfer %y\n(harvestedFromUse)\n%x = var\ninfer %x",
-        "%x = var infer %x %y\n= var\ninfer\n%y %z:i8 = var\n\ninfer %z ; end\n",
-        "%x\n=\nvar\ninfer\n%x\n(\ndemandedBits\n=\n01\n)\n%x = var\ninfer %x\n",
-    ];
-    are_same::<LeftHandSide>(&rt, rt.alloc(), sources.as_slice());
-}
-
-#[test]
-fn operands_may_come_on_further_lines(rt: HostRuntime) {
-    let sources = [
-        "%x = var\ninfer %x\n%y = add %x, 1\npc %y 1\nresult\n%y\ncand 1\n2\n%x = var\n\
-                    cand %x\n%x\ncand 1,\n2\n",
-    ];
-    are_same::<Replacement>(&rt, rt.alloc(), sources.as_slice());
-    // The last item has no second operand.
-    let source = "%x = var\ninfer %x\n%y = add %x, 1\npc %y 1\nresult\n%y\ncand 1\n2\n%x = var\n\
-                  cand %x\n%x\ncand %x\n";
-    let refused = of_stream::<Replacement>(rt.alloc(), source, 4096, 1);
-    assert!(rt; refused.is_err());
+fn items_are_those_of_the_text(rt: HostRuntime) {
+    are_same::<LeftHandSide>(&rt, rt.alloc(), Kind::Lhs);
+    are_same::<RightHandSide>(&rt, rt.alloc(), Kind::Rhs);
+    are_same::<Replacement>(&rt, rt.alloc(), Kind::Rep);
 }
 
 fn of_chunks(rt: &impl Abort, alloc: Global, source: &str) -> String {

@@ -1,8 +1,12 @@
 //! Refusals of streams: their places are those in the whole text, and the items before them were taken.
-use crate::checks::is_text;
-use souper_ir::ast::LeftHandSide;
-use souper_ir::parse::{ParseError, ParseErrorKind, Sink, WholeItem, parse_left_hand_sides_str};
-use souper_stream::read_chunks_into;
+use crate::cases::refused_streams::REFUSED_STREAMS;
+use crate::cases::{Case, read_cases};
+use crate::checks::{equal_in, is_text_in};
+use souper_format::command::Kind;
+use souper_format::items::read_items;
+use souper_ir::ast::{LeftHandSide, Replacement, RightHandSide};
+use souper_ir::parse::{ParseError, ParseErrorKind, Sink, WholeItem};
+use souper_stream::{StreamItem, read_chunks_into};
 use std::alloc::{AllocError, Global};
 use std::io::BufReader;
 use std::process::Abort;
@@ -22,8 +26,8 @@ impl<T: WholeItem + Drop> Sink<T> for Count {
     }
 }
 
-// The number of left-hand sides taken from a stream with this chunk size, and the stream's error.
-fn read(
+// The number of items taken from a stream with this chunk size, and the stream's error.
+fn read<T: StreamItem + Drop>(
     rt: &impl Abort,
     alloc: Global,
     source: &[u8],
@@ -31,7 +35,7 @@ fn read(
 ) -> (usize, Option<ParseError>) {
     let mut count = Count { items: 0 };
     let mut reader = BufReader::new(alloc, source).expect(rt, "memory");
-    let read = read_chunks_into::<LeftHandSide, BufReader<&[u8]>, Count>(
+    let read = read_chunks_into::<T, BufReader<&[u8]>, Count>(
         alloc,
         least,
         &mut reader,
@@ -47,96 +51,67 @@ fn place_of(error: &ParseError) -> (Option<usize>, Option<usize>, Option<usize>)
 }
 
 // The errors are refusals with one place, and shown as one text.
-fn are_same(rt: &impl Abort, alloc: Global, error: ParseError, whole: &ParseError) {
-    assert_eq!(rt; error.kind(), ParseErrorKind::Parse);
-    assert_eq!(rt; place_of(&error), place_of(whole));
-    let want = whole.to_string(alloc).expect(rt, "memory");
-    is_text(
-        rt,
-        error.to_string(alloc).expect(rt, "memory"),
-        want.as_str(),
-    );
+fn are_same(rt: &impl Abort, alloc: Global, error: ParseError, whole: &ParseError, case: &str) {
+    equal_in(rt, error.kind(), ParseErrorKind::Parse, case);
+    equal_in(rt, place_of(&error), place_of(whole), case);
+    let want = whole.to_string(alloc).expect(rt, case);
+    let shown = error.to_string(alloc).expect(rt, case);
+    is_text_in(rt, shown, want.as_str(), case);
 }
 
 // The stream is refused as the whole text is, after this number of items.
-fn is_refused(rt: &impl Abort, alloc: Global, source: &str, want: usize) {
-    let whole = parse_left_hand_sides_str(alloc, source, Some("a"));
-    let whole = whole.err().expect(rt, "the text is read");
+fn is_refused<T: StreamItem + Drop>(
+    rt: &impl Abort,
+    alloc: Global,
+    source: &str,
+    want: usize,
+    case: &Case<'_>,
+) {
+    let whole = read_items(alloc, case.kind, source, Some("a"));
+    let whole = whole.err().expect(rt, case.lines);
     for least in [1, 20, 65536] {
-        let (items, error) = read(rt, alloc, source.as_bytes(), least);
-        are_same(rt, alloc, error.expect(rt, "the stream is read"), &whole);
-        assert_eq!(rt; items, want, "in {source:?}");
+        let (items, error) = read::<T>(rt, alloc, source.as_bytes(), least);
+        let error = error.expect(rt, case.lines);
+        are_same(rt, alloc, error, &whole, case.lines);
+        equal_in(rt, items, want, case.lines);
     }
 }
 
-// Two items.
-const GOOD: &str = "%x = var ; one\n\n%y = add %x, 1\ninfer %y\n; two\n%x = var\ninfer %x\n";
-
-// Texts that are refused before an item of them is taken.
-const BAD: &str = "\
-infer %x
-----
-result 1
-----
-%x = foo
-infer %x
-%x = var
-infer %x
-----
-%x = var
-infer %x (bad)
-%x = var
-infer %x
-----
-%x = var ]
-infer %x
-%x = var
-infer %x
-----
-%x = var\ninfer %y\r\n%x = var
-infer %x
-----
-%x = var----
-%x = var
-infer %x
-#
-%x = var
-infer %x
-----
-%0 = var
-infer
-%1 = var
-infer %1
-----
-%0 = var
-infer %0 (
-%1 = var
-infer %1
-";
+// Two items of the kind.
+fn good(kind: Kind) -> &'static str {
+    match kind {
+        Kind::Lhs => { "%x = var ; one\n\n%y = add %x, 1\ninfer %y\n; two\n%x = var\ninfer %x\n" }
+        Kind::Rhs => "result 1 ; one\n\n; two\n%x = var\nresult %x\n",
+        Kind::Rep => "cand 1, 2 ; one\n\n; two\n%x = var\ninfer %x\nresult %x\n",
+    }
+}
 
 // The text is refused after this number of items, also between others.
-fn is_refused_between(rt: &impl Abort, alloc: Global, bad: &str, items: usize) {
-    is_refused(rt, alloc, bad, items);
-    let mut source = String::from_str(alloc, GOOD).expect(rt, bad);
-    source.push_str(bad).expect(rt, bad);
-    is_refused(rt, alloc, source.as_str(), items.saturating_add(2));
-    source.push_str(GOOD).expect(rt, bad);
-    is_refused(rt, alloc, source.as_str(), items.saturating_add(2));
+fn is_refused_between<T: StreamItem + Drop>(rt: &impl Abort, alloc: Global, case: &Case<'_>) {
+    let items = case.want.parse::<usize>().ok().expect(rt, case.lines);
+    is_refused::<T>(rt, alloc, case.text, items, case);
+    let mut source = String::from_str(alloc, good(case.kind)).expect(rt, case.lines);
+    source.push_str(case.text).expect(rt, case.lines);
+    is_refused::<T>(rt, alloc, source.as_str(), items.saturating_add(2), case);
+    source.push_str(good(case.kind)).expect(rt, case.lines);
+    is_refused::<T>(rt, alloc, source.as_str(), items.saturating_add(2), case);
 }
 
 #[test]
 fn refusal_has_its_place_in_the_stream(rt: HostRuntime) {
-    for bad in BAD.split("----\n") {
-        is_refused_between(&rt, rt.alloc(), bad, 0);
+    let (rt, alloc) = (&rt, rt.alloc());
+    for case in read_cases(rt, alloc, REFUSED_STREAMS).iter() {
+        match case.kind {
+            Kind::Lhs => is_refused_between::<LeftHandSide>(rt, alloc, case),
+            Kind::Rhs => is_refused_between::<RightHandSide>(rt, alloc, case),
+            Kind::Rep => is_refused_between::<Replacement>(rt, alloc, case),
+        }
     }
-    let bad = "%x = var\ninfer %x\n%z = var\n%z = var\ninfer %z\n%x = var\ninfer %x\n";
-    is_refused_between(&rt, rt.alloc(), bad, 1);
-    is_refused_between(&rt, rt.alloc(), "%x = var infer %x\ncand 1 2\n", 1);
 }
 
 // The stream is a fault and no refusal.
 fn is_no_text(rt: &impl Abort, alloc: Global, source: &[u8]) {
-    let (_, error) = read(rt, alloc, source, 1);
+    let (_, error) = read::<LeftHandSide>(rt, alloc, source, 1);
     let kind = error.map(|error| error.kind());
     assert_eq!(rt; kind, Some(ParseErrorKind::Io));
 }

@@ -1,12 +1,9 @@
 //! Texts of the three kinds that are read, and the texts of their items.
+use crate::cases::formatted::FORMATTED;
+use crate::cases::{Case, read_cases};
 use crate::checks::{equal, items};
-use crate::sources::{
-    ATTRIBUTES, BLOCKS, GAPS, PAIRS, PRINTED_PAIRS, RESULTS, RIGHT_HAND_SIDES, VALUES, WORDS,
-    applied, chain, thousand, word_and_count,
-};
-use crate::texts::kept::{formats, formats_again};
-use crate::texts::rows::read_row;
-use crate::texts::table::{BLANK, FORMATTED};
+use crate::sources::{WORDS, applied, chain, thousand, word_and_count};
+use crate::texts::kept::{formats, formats_as};
 use souper_format::command::Kind;
 use souper_format::items::read_items;
 use std::alloc::Global;
@@ -14,46 +11,24 @@ use std::process::Abort;
 
 #[test]
 fn texts_are_formatted(rt: HostRuntime) {
-    for lines in FORMATTED.split("----\n") {
-        let row = read_row(lines).expect(&rt, lines);
-        formats(&rt, rt.alloc(), row.kind, row.source, row.want);
-    }
-}
-
-#[test]
-fn gaps_alone_hold_no_items(rt: HostRuntime) {
-    for source in BLANK.split("----\n") {
-        formats(&rt, rt.alloc(), Kind::Lhs, source, "");
-        formats(&rt, rt.alloc(), Kind::Rhs, source, "");
-        formats(&rt, rt.alloc(), Kind::Rep, source, "");
-    }
-}
-
-fn all_format_again(rt: &impl Abort, alloc: Global, kind: Kind, sources: &[&str]) {
-    for source in sources {
-        formats_again(rt, alloc, kind, source);
+    for case in read_cases(&rt, rt.alloc(), FORMATTED).iter() {
+        formats(&rt, rt.alloc(), *case);
     }
 }
 
 #[test]
 fn items_are_formatted_again(rt: HostRuntime) {
-    all_format_again(&rt, rt.alloc(), Kind::Lhs, &GAPS);
-    all_format_again(&rt, rt.alloc(), Kind::Lhs, &VALUES);
-    all_format_again(&rt, rt.alloc(), Kind::Lhs, &BLOCKS);
-    all_format_again(&rt, rt.alloc(), Kind::Lhs, &ATTRIBUTES);
-    all_format_again(&rt, rt.alloc(), Kind::Rhs, &GAPS);
-    all_format_again(&rt, rt.alloc(), Kind::Rhs, &RIGHT_HAND_SIDES);
-    all_format_again(&rt, rt.alloc(), Kind::Rep, &GAPS);
-    all_format_again(&rt, rt.alloc(), Kind::Rep, &RESULTS);
-    all_format_again(&rt, rt.alloc(), Kind::Rep, &PAIRS);
-    all_format_again(&rt, rt.alloc(), Kind::Rep, &PRINTED_PAIRS);
+    for case in read_cases(&rt, rt.alloc(), FORMATTED).iter() {
+        let text = case.want;
+        formats(&rt, rt.alloc(), Case { text, ..*case });
+    }
 }
 
 // The source with `count` operands is printed as it is, and that with one less, if there is one, is refused.
 fn has_operands(rt: &impl Abort, alloc: Global, word: &str, count: usize) {
     let source = applied(rt, alloc, word, count);
     let want = format!(in alloc; "{source}\n\n").expect(rt, "memory");
-    formats(rt, alloc, Kind::Lhs, source.as_str(), want.as_str());
+    formats_as(rt, alloc, source.as_str(), want.as_str());
     if count > 0 {
         let source = applied(rt, alloc, word, count - 1);
         let is_refused = read_items(alloc, Kind::Lhs, source.as_str(), None).is_err();
@@ -74,7 +49,7 @@ fn one_of_a_thousand_statements_is_printed(rt: HostRuntime) {
     let mut source = thousand(&rt, rt.alloc());
     source.push_str("infer %999").expect(&rt, "memory");
     let want = "%999 = var\ninfer %999\n\n";
-    formats(&rt, rt.alloc(), Kind::Lhs, source.as_str(), want);
+    formats_as(&rt, rt.alloc(), source.as_str(), want);
 }
 
 #[test]
@@ -82,12 +57,12 @@ fn chains_of_doublings_print_themselves(rt: HostRuntime) {
     for doublings in [199, 299_999] {
         let source = chain(&rt, rt.alloc(), doublings);
         let want = format!(in rt.alloc(); "{source}\n").expect(&rt, "memory");
-        formats(&rt, rt.alloc(), Kind::Lhs, source.as_str(), want.as_str());
+        formats_as(&rt, rt.alloc(), source.as_str(), want.as_str());
     }
 }
 
 fn has_debug_text(rt: &impl Abort, alloc: Global, kind: Kind, source: &str) {
-    let items = items(rt, alloc, kind, source);
+    let items = items(rt, alloc, kind, source, source);
     let shown = format!(in alloc; "{items:?}").expect(rt, "memory");
     equal(rt, shown.is_empty(), false);
 }

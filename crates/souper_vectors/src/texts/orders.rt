@@ -1,8 +1,8 @@
 //! Printed orders of items that are read.
-use crate::checks::{equal, is_text, items};
+use crate::cases::orders::ORDERS;
+use crate::cases::read_cases;
+use crate::checks::{equal, is_text_in, items};
 use crate::sources::chain;
-use crate::texts::rows::read_row;
-use crate::texts::table::ORDERS;
 use souper_format::command::Kind;
 use souper_format::items::Items;
 use souper_format::same::same;
@@ -15,7 +15,7 @@ fn counts_of_first<I: Item + Drop>(rt: &impl Abort, alloc: Global, items: &[I]) 
     let first = items.first().expect(rt, "an item");
     let order = first.print_order().expect(rt, "an order");
     let (count, lead, turns) = (order.ids.len(), order.lead, order.turns);
-    format!(in alloc; "{count} {lead} {turns}\n").expect(rt, "memory")
+    format!(in alloc; "{count} {lead} {turns}").expect(rt, "memory")
 }
 
 fn counts_of(rt: &impl Abort, alloc: Global, items: &Items) -> String {
@@ -28,10 +28,10 @@ fn counts_of(rt: &impl Abort, alloc: Global, items: &Items) -> String {
 
 #[test]
 fn orders_are_counted(rt: HostRuntime) {
-    for lines in ORDERS.split("----\n") {
-        let row = read_row(lines).expect(&rt, lines);
-        let items = items(&rt, rt.alloc(), row.kind, row.source);
-        is_text(&rt, counts_of(&rt, rt.alloc(), &items), row.want);
+    for case in read_cases(&rt, rt.alloc(), ORDERS).iter() {
+        let items = items(&rt, rt.alloc(), case.kind, case.text, case.lines);
+        let counts = counts_of(&rt, rt.alloc(), &items);
+        is_text_in(&rt, counts, case.want, case.lines);
     }
 }
 
@@ -39,13 +39,13 @@ fn orders_are_counted(rt: HostRuntime) {
 fn chain_is(rt: &impl Abort, alloc: Global, doublings: u32, counts: &str) {
     let source = chain(rt, alloc, doublings);
     equal(rt, source.as_str().lines().count(), doublings as usize + 2);
-    let items = items(rt, alloc, Kind::Lhs, source.as_str());
-    is_text(rt, counts_of(rt, alloc, &items), counts);
+    let items = items(rt, alloc, Kind::Lhs, source.as_str(), counts);
+    is_text_in(rt, counts_of(rt, alloc, &items), counts, "a chain");
     equal(rt, same(alloc, &items, &items).expect(rt, "memory"), true);
 }
 
 #[test]
 fn orders_of_chains_are_counted(rt: HostRuntime) {
-    chain_is(&rt, rt.alloc(), 199, "200 200 599\n");
-    chain_is(&rt, rt.alloc(), 299_999, "300000 300000 899999\n");
+    chain_is(&rt, rt.alloc(), 199, "200 200 599");
+    chain_is(&rt, rt.alloc(), 299_999, "300000 300000 899999");
 }

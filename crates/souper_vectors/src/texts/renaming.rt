@@ -1,8 +1,7 @@
 //! Items that are named by their printed order.
-use crate::checks::{equal, is_text, items};
-use crate::texts::rows::read_row;
-use crate::texts::table::RENAMED;
-use souper_format::command::Kind;
+use crate::cases::renamed::RENAMED;
+use crate::cases::{Case, read_cases};
+use crate::checks::{equal, is_text, is_text_in, items};
 use souper_format::items::Items;
 use souper_ir::ast::{Item, Statement};
 use souper_ir::parse::parse_left_hand_sides_str;
@@ -27,9 +26,9 @@ fn text_of_first<I: Item + Drop>(rt: &impl Abort, items: &[I]) -> String {
     text
 }
 
-// The text of the renamed first item of the source.
-fn text_of_renamed(rt: &impl Abort, alloc: Global, kind: Kind, source: &str) -> String {
-    match items(rt, alloc, kind, source) {
+// The text of the renamed first item of the case.
+fn text_of_renamed(rt: &impl Abort, alloc: Global, case: &Case<'_>) -> String {
+    match items(rt, alloc, case.kind, case.text, case.lines) {
         Items::Lhs(items) => text_of_first(rt, &items),
         Items::Rhs(items) => text_of_first(rt, &items),
         Items::Rep(items) => text_of_first(rt, &items),
@@ -38,12 +37,9 @@ fn text_of_renamed(rt: &impl Abort, alloc: Global, kind: Kind, source: &str) -> 
 
 #[test]
 fn items_are_renamed(rt: HostRuntime) {
-    for lines in RENAMED.split("----\n") {
-        let row = read_row(lines).expect(&rt, lines);
-        let text = text_of_renamed(&rt, rt.alloc(), row.kind, row.source);
-        // The text of a right-hand side does not end in a newline.
-        let end = if row.kind == Kind::Rhs { "\n" } else { "" };
-        equal(&rt, row.want.strip_suffix(end), Some(text.as_str()));
+    for case in read_cases(&rt, rt.alloc(), RENAMED).iter() {
+        let text = text_of_renamed(&rt, rt.alloc(), case);
+        is_text_in(&rt, text, case.want, case.lines);
     }
 }
 

@@ -1,21 +1,8 @@
-//! The table of texts that are refused, each with the error that it gives. A record is
-//!
-//! ```text
-//! === KIND OFFSET NAME
-//! TEXT
-//! ---
-//! ERROR
-//! ```
-//!
-//! KIND is the type of the items that the text is read as: `lhs`, `rhs` or `rep`. OFFSET is the offset of the error, NAME
-//! says what the case is, and ERROR is what the error shows. TEXT and ERROR may have several lines: the newline before
-//! `---` and the one before `===` are not part of them. Escapes are as in a string literal; a space at the end of a line
-//! is written `\u{20}`.
-//!
-//! The examples of `docs/GRAMMAR.md` are among the records, which `tools/grammar-examples` checks.
+//! Texts that are refused, each with the offset of the error and what the error shows. The examples of `docs/GRAMMAR.md` are
+//! among them, which `tools/grammar-examples` checks.
 
-/// The records, from end to end.
-pub const TABLE: &str = "
+/// The cases.
+pub const REFUSED: &str = "
 === lhs 6 undefined name
 infer %x
 ---
@@ -24,7 +11,7 @@ unknown:1:6: no value named '%x' in scope
    1 | infer %x
      |      ^
 === lhs 16 undefined name after a carriage return and a newline
-%x = var\r
+%x = var\u{d}
 infer %y
 ---
 unknown:2:6: no value named '%y' in scope
@@ -323,11 +310,11 @@ unknown:2:6: unexpected EOF
    2 | infer
      |      ^
 === lhs 8 end after a carriage return
-%x = var\r
+%x = var\u{d}
 ---
 unknown:1:8: unexpected EOF
      |
-   1 | %x = var\r
+   1 | %x = var\u{d}
      |        ^
 === lhs 0 character of two bytes
 é
@@ -706,7 +693,7 @@ unknown:1:19: number too large to fit in target type
    1 | %x = var (signBits=256)
      |                   ^
 === lhs 0 first byte of the text
-ab\r
+ab\u{d}
 cd
 ---
 unknown:1:1: expected 'infer'
@@ -714,11 +701,11 @@ unknown:1:1: expected 'infer'
    1 | ab
      | ^
 === lhs 0 first byte of a line with a carriage return
-ab\rcd
+ab\u{d}cd
 ---
 unknown:1:1: expected 'infer'
      |
-   1 | ab\rcd
+   1 | ab\u{d}cd
      | ^
 === lhs 1 newline: the last byte of its line
 
@@ -729,7 +716,7 @@ unknown:1:1: expected 'infer'
    1 |\u{20}
      | ^
 === lhs 4 newline after a carriage return
-%x\r
+%x\u{d}
 cd
 ---
 unknown:1:4: expected '='
@@ -737,15 +724,15 @@ unknown:1:4: expected '='
    1 | %x
      |    ^
 === lhs 5 newline after two carriage returns
-%x\r\r
+%x\u{d}\u{d}
 cd
 ---
 unknown:1:5: expected '='
      |
-   1 | %x\r
+   1 | %x\u{d}
      |     ^
 === lhs 3 carriage return before a newline
-%x\r
+%x\u{d}
 
 ---
 unknown:1:3: unexpected EOF
@@ -753,27 +740,27 @@ unknown:1:3: unexpected EOF
    1 | %x
      |   ^
 === lhs 4 second carriage return before a newline
-%x\r\r
+%x\u{d}\u{d}
 
 ---
 unknown:1:4: unexpected EOF
      |
-   1 | %x\r
+   1 | %x\u{d}
      |    ^
 === lhs 5 line that ends in a carriage return alone
-%x\r
-=d\r
+%x\u{d}
+=d\u{d}
 ---
 unknown:2:1: expected a constant, var, block, phi, or instruction
      |
-   2 | =d\r
+   2 | =d\u{d}
      | ^
 === lhs 5 carriage returns without a newline
-%x\r=\rd
+%x\u{d}=\u{d}d
 ---
 unknown:1:5: expected a constant, var, block, phi, or instruction
      |
-   1 | %x\r=\rd
+   1 | %x\u{d}=\u{d}d
      |     ^
 === lhs 5 column in bytes: the line above has a character of two
 ;é
@@ -793,11 +780,12 @@ unknown:1:5: unexpected 'é'
    1 | %x\u{3000}é
      |     ^
 === lhs 14 column in bytes: spaces of two and three
-;é\r
-%x\u{85}\u{2028}= é\r
+;é\u{d}
+%x\u{85}\u{2028}= é\u{d}
 
 ---
 unknown:2:9: unexpected 'é'
      |
    2 | %x\u{85}\u{2028}= é
-     |         ^";
+     |         ^
+";
