@@ -97,7 +97,7 @@ fn is_appended(rt: &impl Abort, appended: Result<(), TextError>, out: &str) -> b
         }
         Err(error) => {
             equal(rt, error, TextError::OutOfMemory);
-            equal(rt, text.is_some(), true);
+            equal(rt, text, Some(""));
             false
         }
     }
