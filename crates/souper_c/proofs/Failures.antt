@@ -9,7 +9,7 @@ use Rattle.souper_ir.specs.Errors.{offset_of, line_of, column_of, shown_error, S
 use Rattle.souper_ir.specs.Places.{IsRefusalTextAt}
 use Rattle.souper_ir.specs.declared.parse.ParseError.{ParseError}
 use Rattle.souper_c.specs.Kinds.{type_of_number}
-use Rattle.souper_c.specs.Outcomes.{IsShort, BeginsWith}
+use Rattle.souper_c.specs.Outcomes.{IsShortFor, BeginsWith}
 use Rattle.souper_c.specs.Failures.{IsFailure, IsFailureOf, short_outcome}
 use Rattle.souper_c.specs.declared.outcome.SouperOutcome.{SouperOutcome}
 use Rattle.souper_c.specs.declared.inputs.Refusal.{Refusal}
@@ -55,11 +55,11 @@ Wrote old new shown given o = (length shown ≤ length old → (o ≡ given) × 
     × (length old < length shown → (o ≡ short_outcome (length shown)) × (new ≡ old))
 
 -- a buffer that lacks room for a refusal
-pub refusal_is_short : (number : ℕ) (source old new : List ℕ) (r : Refusal) (given o : SouperOutcome) → IsFailure number source (Refused r)
-    → Wrote old new (string_bytes r.shown) given o → given.status ≡ 1 → o.status ≡ 5 → IsShort number source o old
-refusal_is_short number source old new r given o is (fits, lacks) is_given is_short =
+pub refusal_is_short : (gives : ℕ → List ℕ → List ℕ → Type 0) (number : ℕ) (source old new : List ℕ) (r : Refusal) (given o : SouperOutcome) → IsFailure number source (Refused r)
+    → Wrote old new (string_bytes r.shown) given o → given.status ≡ 1 → o.status ≡ 5 → IsShortFor gives number source o old
+refusal_is_short gives number source old new r given o is (fits, lacks) is_given is_short =
     elim (cases_lt (length old) (length (string_bytes r.shown))) [
-      | inl l ↦ subst (λ (o : SouperOutcome). IsShort number source o old) (sym (lacks l).0)
+      | inl l ↦ subst (λ (o : SouperOutcome). IsShortFor gives number source o old) (sym (lacks l).0)
           (l, (string_bytes r.shown, inr (r.offset, r.line, r.column, is), refl))
       | inr l ↦ (let clash : 1 ≡ 5 = sym is_given ∙ (sym (ap (λ (o : SouperOutcome). o.status) (fits l).0) ∙ is_short) in absurd (omega (arith, clash)))
     ]

@@ -4,15 +4,24 @@ use Rattle.std.specs.List.{AllZip}
 use Rattle.std.specs.Str.{IsUtf8}
 use Rattle.souper_graph.specs.Values.{Item}
 use Rattle.souper_graph.specs.Sameness.{SameGraph}
-use Rattle.souper_graph.specs.Syntax.Spelling.{TextSpells, SpellsNone}
+use Rattle.souper_graph.specs.Syntax.Spelling.{ItemType, TextSpells, SpellsNone}
 use Rattle.souper_ir.specs.Places.{IsRefusalTextAt}
 use Rattle.souper_format.specs.Formatted.{IsFormatted}
+use Rattle.souper_code.specs.Codes.{code_of_items}
 use Rattle.souper_c.specs.Kinds.{OfType}
 use Rattle.souper_c.specs.declared.outcome.SouperOutcome.{SouperOutcome}
+
+-- the source spells items of the type, and the bytes are their code
+abbrev pub IsCodeOf : ItemType → List ℕ → List ℕ → Type 0
+IsCodeOf k source code = (xs : List Item) × TextSpells k source xs × (code ≡ code_of_items xs)
 
 -- the source spells items of the kind, and the text is their canonical texts
 abbrev pub FormatsTo : ℕ → List ℕ → List ℕ → Type 0
 FormatsTo kind source text = OfType kind (λ k. IsFormatted k source text)
+
+-- the source spells items of the kind, and the bytes are their code
+abbrev pub CodesTo : ℕ → List ℕ → List ℕ → Type 0
+CodesTo kind source code = OfType kind (λ k. IsCodeOf k source code)
 
 -- the source spells no items of the kind; its refusal has that place, and the text shows it
 abbrev pub IsRefusedAt : ℕ → List ℕ → ℕ → ℕ → ℕ → List ℕ → Type 0
@@ -40,18 +49,32 @@ abbrev pub WritesTexts : ℕ → List ℕ → SouperOutcome → List ℕ → Lis
 WritesTexts kind source o old new =
     (text : List ℕ) × FormatsTo kind source text × (o.length ≡ length text) × BeginsWith old new text
 
+-- the code was written to the buffer
+abbrev pub WritesCode : ℕ → List ℕ → SouperOutcome → List ℕ → List ℕ → Type 0
+WritesCode kind source o old new =
+    (code : List ℕ) × CodesTo kind source code × (o.length ≡ length code) × BeginsWith old new code
+
 -- the refusal was written to the buffer
 abbrev pub WritesRefusal : ℕ → List ℕ → SouperOutcome → List ℕ → List ℕ → Type 0
 WritesRefusal kind source o old new = (shown : List ℕ) × IsRefused kind source o shown × BeginsWith old new shown
 
--- the text is the source's output: canonical texts, or a refusal
-abbrev pub IsAnswer : ℕ → List ℕ → List ℕ → Type 0
-IsAnswer kind source text =
-    FormatsTo kind source text ⊎ ((offset : ℕ) × (line : ℕ) × (column : ℕ) × IsRefusedAt kind source offset line column text)
+-- the bytes are the source's output: what a call gives for items, or a refusal
+abbrev pub IsAnswer : (ℕ → List ℕ → List ℕ → Type 0) → ℕ → List ℕ → List ℕ → Type 0
+IsAnswer gives kind source bytes =
+    gives kind source bytes ⊎ ((offset : ℕ) × (line : ℕ) × (column : ℕ) × IsRefusedAt kind source offset line column bytes)
 
 -- the buffer is shorter than the source's output, whose length the outcome has
+abbrev pub IsShortFor : (ℕ → List ℕ → List ℕ → Type 0) → ℕ → List ℕ → SouperOutcome → List ℕ → Type 0
+IsShortFor gives kind source o old =
+    (length old < o.length) × ((bytes : List ℕ) × IsAnswer gives kind source bytes × (o.length ≡ length bytes))
+
+-- of canonical texts
 abbrev pub IsShort : ℕ → List ℕ → SouperOutcome → List ℕ → Type 0
-IsShort kind source o old = (length old < o.length) × ((text : List ℕ) × IsAnswer kind source text × (o.length ≡ length text))
+IsShort = IsShortFor FormatsTo
+
+-- of code
+abbrev pub IsShortCode : ℕ → List ℕ → SouperOutcome → List ℕ → Type 0
+IsShortCode = IsShortFor CodesTo
 
 -- the source is its own canonical texts
 abbrev pub IsCanonical : ℕ → List ℕ → SouperOutcome → Type 0

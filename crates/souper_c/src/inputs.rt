@@ -72,7 +72,7 @@ fn read_kind(number: u32) -> Option<Kind>
 }
 
 /// The kind with that number, and the bytes as text.
-fn kind_and_source(number: u32, bytes: &[u8]) -> Result<(Kind, &str), Failure>
+pub(crate) fn kind_and_source(number: u32, bytes: &[u8]) -> Result<(Kind, &str), Failure>
     ensures kind { IfOk result (λ given. type_of_number number ≡ Some (item_type_of given.0)) }
     ensures source { IfOk result (λ given. given.1.now ≡ bytes.now) }
     ensures failed { IfErr result (IsInputFailure number bytes.now) }
@@ -97,8 +97,8 @@ fn refusal_of(alloc: Global, error: &ParseError) -> Option<Refusal>
     })
 }
 
-// The failure for an error of a parser of texts.
-fn failure_of(alloc: Global, error: &ParseError) -> Failure
+/// The failure for an error of a parser of texts.
+pub(crate) fn failure_of(alloc: Global, error: &ParseError) -> Failure
     ensures { IsFailureOf error.now result }
 {
     match refusal_of(alloc, error) {

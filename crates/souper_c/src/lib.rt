@@ -4,6 +4,7 @@
 //! keeps no memory and has no state of its own. No contract has a condition on its arguments.
 #![tactic(auto)]
 
+mod codes;
 mod inputs;
 mod outcome;
 #[cfg(test)]
@@ -13,21 +14,21 @@ ghost use Rattle.std.specs.Prelude.{◌≡◌, ◌≢◌, ◌<◌, ◌≤◌, �
 ghost use Rattle.std.specs.Str.{IsUtf8};
 ghost use Rattle.souper_graph.specs.Syntax.Tokens.{IsLastGap};
 ghost use Rattle.souper_c.specs.Kinds.{type_of_number, IsKind};
-ghost use Rattle.souper_c.specs.Outcomes.{HasNoPlace, BeginsWith, WritesTexts, WritesRefusal, IsShort, IsCanonical, IsNotCanonical, Refuses, BothSpell, AreSame, AreNotSame, RefusesInput, IsNoTextInput, SpellsSome};
+ghost use Rattle.souper_c.specs.Outcomes.{HasNoPlace, BeginsWith, WritesTexts, WritesCode, WritesRefusal, IsShort, IsShortCode, IsCanonical, IsNotCanonical, Refuses, BothSpell, AreSame, AreNotSame, RefusesInput, IsNoTextInput, SpellsSome};
 ghost use Rattle.souper_c.specs.Failures.{short_outcome};
 
+use crate::codes::code;
 use crate::inputs::{Failure, canonical_text, items};
 pub use crate::outcome::SouperOutcome;
 use crate::outcome::{DIFFERENT, DONE, OUT_OF_MEMORY, SHORT};
 use souper_format::same::same;
 use std::alloc::Global;
 
-// Writes the answer to the beginning of the buffer, if it has the room.
-fn write(answer: &str, outcome: SouperOutcome, out: &mut [u8]) -> SouperOutcome
-    ensures written { length answer.now ≤ length out.old → (result ≡ outcome) × BeginsWith out.old out.new answer.now }
-    ensures short { length out.old < length answer.now → (result ≡ short_outcome (length answer.now)) × (out.new ≡ out.old) }
+// Writes the bytes to the beginning of the buffer, if it has the room.
+fn write(bytes: &[u8], outcome: SouperOutcome, out: &mut [u8]) -> SouperOutcome
+    ensures written { length bytes.now ≤ length out.old → (result ≡ outcome) × BeginsWith out.old out.new bytes.now }
+    ensures short { length out.old < length bytes.now → (result ≡ short_outcome (length bytes.now)) × (out.new ≡ out.old) }
 {
-    let bytes = answer.as_bytes();
     let length = bytes.len();
     if out.len() < length {
         return SouperOutcome::new(SHORT, length);
@@ -71,13 +72,50 @@ pub extern "C" fn souper_format(
     let failure = match canonical_text(alloc, kind, text) {
         Ok(canonical) => {
             let outcome = SouperOutcome::new(DONE, canonical.len());
-            return write(canonical.as_str(), outcome, out);
+            return write(canonical.as_bytes(), outcome, out);
         }
         Err(failure) => failure,
     };
     let outcome = failure.outcome(0);
     match failure {
-        Failure::Refused(refusal) => write(refusal.shown.as_str(), outcome, out),
+        Failure::Refused(refusal) => write(refusal.shown.as_bytes(), outcome, out),
+        _ => outcome,
+    }
+}
+
+/// Writes the code of the items that `text` spells to the beginning of `out`: all of their statements, in the order of the text.
+///
+/// The crate `souper_code` says what the code is. The kinds and the statuses are as for [`souper_format`], with the code in place
+/// of the canonical texts.
+#[unsafe(no_mangle)]
+pub extern "C" fn souper_read(
+    alloc: Global,
+    kind: u32,
+    text: &[u8],
+    out: &mut [u8],
+) -> SouperOutcome
+    ensures known { result.status ≤ 5 }
+    ensures coded { result.status ≡ 0 → WritesCode kind text.now result out.old out.new }
+    ensures refused { result.status ≡ 1 → WritesRefusal kind text.now result out.old out.new }
+    ensures no_kind { (result.status ≡ 2) ↔ (type_of_number kind ≡ None) }
+    ensures no_text { (result.status ≡ 4) ↔ (IsKind kind × ¬ (IsUtf8 text.now)) }
+    ensures short { result.status ≡ 5 → IsShortCode kind text.now result out.old }
+    ensures kept { 2 ≤ result.status → out.new ≡ out.old }
+    ensures no_place { (result.status ≡ 1) ⊎ HasNoPlace result }
+    ensures no_length { 2 ≤ result.status → result.status ≤ 4 → result.length ≡ 0 }
+    ensures first { result.input ≡ 0 }
+    ensures gaps { IsKind kind → IsUtf8 text.now → IsLastGap text.now → (result.status ≡ 0) × (result.length ≡ 0) }
+{
+    let failure = match code(alloc, kind, text) {
+        Ok(code) => {
+            let outcome = SouperOutcome::new(DONE, code.len());
+            return write(&code, outcome, out);
+        }
+        Err(failure) => failure,
+    };
+    let outcome = failure.outcome(0);
+    match failure {
+        Failure::Refused(refusal) => write(refusal.shown.as_bytes(), outcome, out),
         _ => outcome,
     }
 }
