@@ -67,6 +67,13 @@ typedef struct SouperOutcome {
  * The other bytes of `out` are as before; unless the status is DONE or REFUSED, all of them. */
 SOUPER_CALL SouperOutcome souper_format(uint32_t kind, const uint8_t *text, size_t text_length, uint8_t *out, size_t out_length);
 
+/* Writes the code of the items that the text spells, with all their statements, to the beginning of `out`: bytes from which a
+ * program makes the graph without a parser. docs/EMBEDDING.md says where the code is described.
+ *
+ * DONE: `length` bytes were written, the code. REFUSED, SHORT, NO_KIND, OUT_OF_MEMORY, NOT_UTF8 and the other bytes of `out`:
+ * as for souper_format. */
+SOUPER_CALL SouperOutcome souper_read(uint32_t kind, const uint8_t *text, size_t text_length, uint8_t *out, size_t out_length);
+
 /* Whether the text is canonical: what souper_format would write for it is the text itself.
  *
  * DONE: yes. DIFFERENT: no; the text spells items, and souper_format would write other bytes. REFUSED: the text spells

@@ -69,6 +69,27 @@ static SouperOutcome written(const Record *record, size_t more) {
     return outcome;
 }
 
+/* The code: a buffer that is too short stays as it is, one of the length takes it; what is refused is refused as by format. */
+static void codes(const Record *record, SouperOutcome format) {
+    SouperOutcome outcome = souper_read(record->kind, record->text, record->text_length, buffer(0), 0);
+    if (record->status == SOUPER_REFUSED) {
+        expect(outcome.status == SOUPER_SHORT && outcome.length == format.length, "the length of a refusal in place of code", record);
+        return;
+    }
+    size_t length = outcome.length;
+    expect(outcome.status == (length ? SOUPER_SHORT : SOUPER_DONE), "the length of the code", record);
+    for (size_t less = length < 9 ? length : 9; less > 0; less--) {
+        uint8_t *out = buffer(length - less);
+        outcome = souper_read(record->kind, record->text, record->text_length, out, length - less);
+        expect(outcome.status == SOUPER_SHORT && outcome.length == length && untouched(out, length - less), "short code", record);
+        free(out);
+    }
+    uint8_t *out = buffer(length + 1);
+    outcome = souper_read(record->kind, record->text, record->text_length, out, length + 1);
+    expect(outcome.status == SOUPER_DONE && outcome.length == length && untouched(out + length, 1), "the code", record);
+    free(out);
+}
+
 static void questions(const Record *record, SouperOutcome format) {
     SouperOutcome check = souper_check(record->kind, record->text, record->text_length);
     SouperOutcome first = souper_same(record->kind, record->text, record->text_length, record->answer, record->answer_length);
@@ -122,6 +143,7 @@ static void numbers(void) {
     no_text.status = SOUPER_NOT_UTF8;
     for (size_t i = 0; i < sizeof none / sizeof *none; i++) {
         expect(equal(souper_format(none[i], bad, sizeof bad, &byte, 1), no_kind) && byte == 0xaa, "no kind", NULL);
+        expect(equal(souper_read(none[i], bad, sizeof bad, &byte, 1), no_kind) && byte == 0xaa, "no kind, code", NULL);
         expect(equal(souper_check(none[i], bad, sizeof bad), no_kind), "no kind, check", NULL);
         expect(equal(souper_same(none[i], bad, sizeof bad, bad, sizeof bad), no_kind), "no kind, same", NULL);
     }
@@ -129,6 +151,7 @@ static void numbers(void) {
         SouperOutcome second = no_text;
         second.input = 1;
         expect(equal(souper_format(kind, bad, sizeof bad, &byte, 1), no_text) && byte == 0xaa, "no text", NULL);
+        expect(equal(souper_read(kind, bad, sizeof bad, &byte, 1), no_text) && byte == 0xaa, "no text, code", NULL);
         expect(equal(souper_check(kind, bad, sizeof bad), no_text), "no text, check", NULL);
         expect(equal(souper_same(kind, bad, sizeof bad, &empty, 0), no_text), "no text, first", NULL);
         expect(equal(souper_same(kind, &empty, 0, bad, sizeof bad), second), "no text, second", NULL);

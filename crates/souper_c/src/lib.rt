@@ -116,7 +116,7 @@ pub extern "C" fn souper_read(
     let outcome = failure.outcome(0);
     match failure {
         Failure::Refused(refusal) => write(refusal.shown.as_bytes(), outcome, out),
-        _ => outcome,
+        Failure::NoKind | Failure::NotUtf8 | Failure::OutOfMemory => outcome,
     }
 }
 

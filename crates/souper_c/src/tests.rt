@@ -1,5 +1,5 @@
 //! Each call with each of its statuses, but for out of memory.
-use crate::{SouperOutcome, souper_check, souper_format, souper_same};
+use crate::{SouperOutcome, souper_check, souper_format, souper_read, souper_same};
 use std::alloc::Global;
 use std::fmt::Debug;
 use std::process::Abort;
@@ -44,6 +44,58 @@ fn texts_are_written(rt: HostRuntime) {
     equal(&rt, out.get(..20), Some(b"%x = var\ncand %x 1\n\n"));
 }
 
+#[test]
+fn code_is_written(rt: HostRuntime) {
+    let mut out = [b'.'; ROOM];
+    let done = souper_read(rt.alloc(), 0, b"%x:i8 = var infer %x", &mut out);
+    equal(&rt, done, plain(0, 48));
+    let statement = b"\x01\0\0\0\0\0\0\0\0\x02\0\0\0\0\0\0\0%x\x01\x08\0\0\0\0\0\0\0\0\0\0";
+    equal(&rt, out.get(..31), Some(statement));
+    equal(
+        &rt,
+        out.get(31..50),
+        Some(b"\0\0\0\0\0\0\0\0\0\0\0\0\0\0\0\0\0.."),
+    );
+    let done = souper_read(rt.alloc(), 1, b"result -2:i8", &mut out);
+    equal(&rt, done, plain(0, 29));
+    let result =
+        b"\0\0\0\0\0\0\0\0\x01\x01\xfe\xff\xff\xff\xff\xff\xff\xff\xff\xff\xff\xff\xff\xff\xff\xff\x01\x08\0";
+    equal(&rt, out.get(..29), Some(result));
+    let refused = souper_read(rt.alloc(), 2, b"result -2", &mut out);
+    equal(&rt, (refused.status, refused.offset), (1, 0));
+}
+
+// The words of the instructions, by their numbers.
+const WORDS: &str =
+    "add addnsw addnuw addnw sub subnsw subnuw subnw mul mulnsw mulnuw mulnw udiv sdiv udivexact \
+    sdivexact urem srem and or xor shl shlnsw shlnuw shlnw lshr lshrexact ashr ashrexact select zext \
+    sext trunc eq ne ult slt ule sle ctpop bswap bitreverse cttz ctlz fshl fshr sadd.with.overflow \
+    uadd.with.overflow ssub.with.overflow usub.with.overflow smul.with.overflow umul.with.overflow \
+    sadd.sat uadd.sat ssub.sat usub.sat extractvalue hole freeze";
+
+// The number of the instruction in the code of a left-hand side, which has up to three operands.
+fn number_of_word(rt: &impl Abort, alloc: Global, word: &str) -> Option<u8> {
+    let mut out = [b'.'; 2 * ROOM];
+    for operands in ["", "1", "1, 1", "1, 1, 1"] {
+        let text = format!(in alloc; "%x = {word} {operands}\ninfer %x").expect(rt, word);
+        let outcome = souper_read(alloc, 0, text.as_bytes(), &mut out);
+        if outcome.status == 0 {
+            return out.get(21).copied();
+        }
+    }
+    None
+}
+
+#[test]
+fn instructions_have_numbers(rt: HostRuntime) {
+    let mut number = 0u8;
+    for word in WORDS.split(' ') {
+        equal(&rt, number_of_word(&rt, rt.alloc(), word), Some(number));
+        number += 1;
+    }
+    equal(&rt, number, 59);
+}
+
 const SHOWN: &str =
     "unknown:2:6: no value named '%y' in scope\n     |\n   2 | infer %y\n     |      ^";
 
@@ -73,6 +125,8 @@ fn short_buffers_keep_their_bytes(rt: HostRuntime) {
     let mut out = [b'.'; 18];
     let short = souper_format(rt.alloc(), 0, b"%x=var infer %x", &mut out);
     equal(&rt, (short, out), (plain(5, 19), [b'.'; 18]));
+    let short = souper_read(rt.alloc(), 0, b"%x=var infer %x", &mut out);
+    equal(&rt, (short, out), (plain(5, 46), [b'.'; 18]));
     let empty: &mut [u8] = &mut [];
     equal(
         &rt,
@@ -88,6 +142,8 @@ fn kinds_and_bytes_are_tested(rt: HostRuntime) {
     equal(&rt, souper_format(alloc, 3, b"\xff", &mut out), plain(2, 0));
     equal(&rt, souper_format(alloc, 0, b"\xff", &mut out), plain(4, 0));
     equal(&rt, out, [b'.'; ROOM]);
+    equal(&rt, souper_read(alloc, 3, b"\xff", &mut out), plain(2, 0));
+    equal(&rt, souper_read(alloc, 0, b"\xff", &mut out), plain(4, 0));
     equal(&rt, souper_check(alloc, 3, b""), plain(2, 0));
     equal(&rt, souper_check(alloc, 1, b"\xff"), plain(4, 0));
     equal(&rt, souper_same(alloc, 3, b"", b""), plain(2, 0));
