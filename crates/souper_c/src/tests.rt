@@ -88,12 +88,11 @@ fn number_of_word(rt: &impl Abort, alloc: Global, word: &str) -> Option<u8> {
 
 #[test]
 fn instructions_have_numbers(rt: HostRuntime) {
-    let mut number = 0u8;
-    for word in WORDS.split(' ') {
-        equal(&rt, number_of_word(&rt, rt.alloc(), word), Some(number));
-        number += 1;
+    for (number, word) in WORDS.split(' ').enumerate() {
+        let found = number_of_word(&rt, rt.alloc(), word);
+        equal(&rt, found.map(usize::from), Some(number));
     }
-    equal(&rt, number, 59);
+    equal(&rt, WORDS.split(' ').count(), 59);
 }
 
 const SHOWN: &str =
