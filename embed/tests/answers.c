@@ -71,7 +71,9 @@ static SouperOutcome written(const Record *record, size_t more) {
 
 /* The code: a buffer that is too short stays as it is, one of the length takes it; what is refused is refused as by format. */
 static void codes(const Record *record, SouperOutcome format) {
-    SouperOutcome outcome = souper_read(record->kind, record->text, record->text_length, buffer(0), 0);
+    uint8_t *out = buffer(0);
+    SouperOutcome outcome = souper_read(record->kind, record->text, record->text_length, out, 0);
+    free(out);
     if (record->status == SOUPER_REFUSED) {
         expect(outcome.status == SOUPER_SHORT && outcome.length == format.length, "the length of a refusal in place of code", record);
         return;
@@ -79,12 +81,12 @@ static void codes(const Record *record, SouperOutcome format) {
     size_t length = outcome.length;
     expect(outcome.status == (length ? SOUPER_SHORT : SOUPER_DONE), "the length of the code", record);
     for (size_t less = length < 9 ? length : 9; less > 0; less--) {
-        uint8_t *out = buffer(length - less);
+        out = buffer(length - less);
         outcome = souper_read(record->kind, record->text, record->text_length, out, length - less);
         expect(outcome.status == SOUPER_SHORT && outcome.length == length && untouched(out, length - less), "short code", record);
         free(out);
     }
-    uint8_t *out = buffer(length + 1);
+    out = buffer(length + 1);
     outcome = souper_read(record->kind, record->text, record->text_length, out, length + 1);
     expect(outcome.status == SOUPER_DONE && outcome.length == length && untouched(out + length, 1), "the code", record);
     free(out);
@@ -168,6 +170,7 @@ int main(int argc, char **argv) {
         SouperOutcome outcome = written(&records[i], 0);
         expect(equal(written(&records[i], 7), outcome), "the same outcome for a longer buffer", &records[i]);
         lengths(&records[i]);
+        codes(&records[i], outcome);
         questions(&records[i], outcome);
         const Record *next = next_of_kind(&records[i], records + count);
         if (records[i].status == SOUPER_DONE && next != NULL) {
