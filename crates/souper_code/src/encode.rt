@@ -37,7 +37,7 @@ fn encode_cand(cand: &Cand, out: &mut Vec<u8>) -> Result<(), AllocError>
 pub trait Encode: Item {
     /// Appends the code of the item. The code of a list of items is the codes of its items, one after the other.
     ///
-    /// The error is out of memory; then `out` may have got a part of the code.
+    /// The error is out of memory, and what `out` holds then is not specified.
     fn encode(&self, out: &mut Vec<u8>) -> Result<(), AllocError>
         ensures { OnOk result (out.new.items ≡ out.old.items ++ code_of (Self.view self.now)) };
 }
