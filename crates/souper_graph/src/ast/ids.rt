@@ -26,7 +26,8 @@ impl<T> Model for Id<T> {
 }
 
 impl<T> Id<T> {
-    pub(crate) fn at(index: usize) -> Self
+    /// The id of a position. Whether a `T` is there is checked where the id is used.
+    pub fn at(index: usize) -> Self
         ensures { result ≡ index }
     {
         Id {
