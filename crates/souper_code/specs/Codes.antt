@@ -1,5 +1,5 @@
 -- Definitions. The byte code of items: little-endian, nothing aligned.
-use Rattle.std.specs.Prelude.{ℕ, ◌/◌, ◌%◌, ◌^◌, ℤ, Bool, true, false, List, [], ◌∷◌, ◌++◌, length, map, flat_map, Option, Some, None}
+use Rattle.std.specs.Prelude.{ℕ, ◌/◌, ◌%◌, ◌^◌, ℤ, Bool, true, false, List, [], ◌∷◌, ◌++◌, length, flat_map, Option, Some, None}
 use Rattle.std.specs.Int.{w16, w32, w64, w128, to_le_bytes, cast_unsigned}
 use Rattle.souper_graph.specs.declared.ast.operands.«Type».{«Type» as Ty}
 use Rattle.souper_graph.specs.declared.ast.operands.Constant.{Constant as ConstantNode}
@@ -10,9 +10,21 @@ use Rattle.souper_graph.specs.Instructions.{operands_of}
 use Rattle.souper_graph.specs.Values.{PlainAttribute, known_bits, power_of_two, negative, non_negative, non_zero, has_external_uses, sign_bits, range, PlainRootAttribute, demanded_bits, harvested_from_use, PlainRhs, var, block, phi, reserved_inst, reserved_const, instruction, PlainAssignment, PlainStatement, assigned, condition, block_condition, PlainInfer, PlainCand, Ending, inferred, resulting, replaced, candidate, Item}
 use Rattle.souper_code.specs.Numbers.{number_of}
 
--- a count, a length or a position
+-- a number of 2 bytes
+unfoldable pub code_of_u16 : ℕ → List ℕ
+code_of_u16 n = to_le_bytes w16 n
+
+-- a number of 4 bytes
+unfoldable pub code_of_u32 : ℕ → List ℕ
+code_of_u32 n = to_le_bytes w32 n
+
+-- a count, a length or a position: a number of 8 bytes
 unfoldable pub code_of_size : ℕ → List ℕ
 code_of_size n = to_le_bytes w64 n
+
+-- a list: its length, and its elements
+abbrev pub code_of_list : {X : Type 0} → (X → List ℕ) → List X → List ℕ
+code_of_list code xs = code_of_size (length xs) ++ flat_map code xs
 
 -- 128 bits: the lower 64, and the upper 64
 abbrev pub code_of_wide : ℕ → List ℕ
@@ -25,7 +37,7 @@ code_of_number n = code_of_wide (cast_unsigned w128 n)
 -- a type, if there is one
 abbrev pub code_of_type : Option Ty → List ℕ
 code_of_type None = 0 ∷ []
-code_of_type (Some t) = 1 ∷ to_le_bytes w16 t.width
+code_of_type (Some t) = 1 ∷ code_of_u16 t.width
 
 abbrev pub code_of_constant : ConstantNode → List ℕ
 code_of_constant c = code_of_number c.value ++ code_of_type c.ty
@@ -34,32 +46,31 @@ abbrev pub code_of_operand : Operand → List ℕ
 code_of_operand (Value i) = 0 ∷ code_of_size i
 code_of_operand (Constant c) = 1 ∷ code_of_constant c
 
--- a count, and the operands
 abbrev pub code_of_operands : List Operand → List ℕ
-code_of_operands xs = code_of_size (length xs) ++ flat_map code_of_operand xs
+code_of_operands xs = code_of_list code_of_operand xs
 
 abbrev pub code_of_instruction : Instruction → List ℕ
 code_of_instruction i = number_of i ∷ code_of_operands (operands_of i)
 
 abbrev pub code_of_rhs : PlainRhs → List ℕ
 code_of_rhs var = 0 ∷ []
-code_of_rhs (block b) = 1 ∷ to_le_bytes w32 b.predecessors
+code_of_rhs (block b) = 1 ∷ code_of_u32 b.predecessors
 code_of_rhs (phi p) = 2 ∷ (code_of_size p.block ++ code_of_operands p.values)
 code_of_rhs reserved_inst = 3 ∷ []
 code_of_rhs reserved_const = 4 ∷ []
 code_of_rhs (instruction i) = 5 ∷ code_of_instruction i
 
-abbrev pub code_of_bit : Bool → ℕ
-code_of_bit false = 0
-code_of_bit true = 1
+abbrev pub code_of_bit : Bool → List ℕ
+code_of_bit false = 0 ∷ []
+code_of_bit true = 1 ∷ []
 
 -- 2 for a bit that is not known
-abbrev pub code_of_known_bit : Option Bool → ℕ
-code_of_known_bit None = 2
+abbrev pub code_of_known_bit : Option Bool → List ℕ
+code_of_known_bit None = 2 ∷ []
 code_of_known_bit (Some b) = code_of_bit b
 
 abbrev pub code_of_attribute : PlainAttribute → List ℕ
-code_of_attribute (known_bits bits) = 0 ∷ (code_of_size (length bits) ++ map code_of_known_bit bits)
+code_of_attribute (known_bits bits) = 0 ∷ code_of_list code_of_known_bit bits
 code_of_attribute power_of_two = 1 ∷ []
 code_of_attribute negative = 2 ∷ []
 code_of_attribute non_negative = 3 ∷ []
@@ -69,14 +80,14 @@ code_of_attribute (sign_bits n) = 6 ∷ n ∷ []
 code_of_attribute (range low high) = 7 ∷ (code_of_number low ++ code_of_number high)
 
 abbrev pub code_of_attributes : List PlainAttribute → List ℕ
-code_of_attributes xs = code_of_size (length xs) ++ flat_map code_of_attribute xs
+code_of_attributes xs = code_of_list code_of_attribute xs
 
 abbrev pub code_of_root_attribute : PlainRootAttribute → List ℕ
-code_of_root_attribute (demanded_bits bits) = 0 ∷ (code_of_size (length bits) ++ map code_of_bit bits)
+code_of_root_attribute (demanded_bits bits) = 0 ∷ code_of_list code_of_bit bits
 code_of_root_attribute harvested_from_use = 1 ∷ []
 
 abbrev pub code_of_root_attributes : List PlainRootAttribute → List ℕ
-code_of_root_attributes xs = code_of_size (length xs) ++ flat_map code_of_root_attribute xs
+code_of_root_attributes xs = code_of_list code_of_root_attribute xs
 
 abbrev pub code_of_name : List ℕ → List ℕ
 code_of_name name = code_of_size (length name) ++ name
@@ -87,7 +98,7 @@ code_of_assignment a = code_of_name a.name ++ (code_of_type a.ty ++ (code_of_rhs
 abbrev pub code_of_statement : PlainStatement → List ℕ
 code_of_statement (assigned a) = 0 ∷ code_of_assignment a
 code_of_statement (condition p) = 1 ∷ (code_of_operand p.x ++ code_of_operand p.y)
-code_of_statement (block_condition p) = 2 ∷ (code_of_size p.block ++ (to_le_bytes w32 p.predecessor ++ (code_of_operand p.x ++ code_of_operand p.y)))
+code_of_statement (block_condition p) = 2 ∷ (code_of_size p.block ++ (code_of_u32 p.predecessor ++ (code_of_operand p.x ++ code_of_operand p.y)))
 
 abbrev pub code_of_infer : PlainInfer → List ℕ
 code_of_infer i = code_of_size i.value ++ code_of_root_attributes i.attributes
@@ -102,7 +113,7 @@ code_of_ending (replaced i r) = 2 ∷ (code_of_infer i ++ code_of_operand r)
 code_of_ending (candidate c) = 3 ∷ code_of_cand c
 
 abbrev pub code_of_statements : List PlainStatement → List ℕ
-code_of_statements ss = code_of_size (length ss) ++ flat_map code_of_statement ss
+code_of_statements ss = code_of_list code_of_statement ss
 
 abbrev pub code_of : Item → List ℕ
 code_of a = code_of_statements a.statements ++ code_of_ending a.ending

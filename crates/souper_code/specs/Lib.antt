@@ -1,2 +1,4 @@
 pub mod Numbers
 pub mod Codes
+pub mod Codable
+pub mod Reading

@@ -19,4 +19,5 @@
 //! A list of items is its items one after the other, without a length. [`encode::Encode`] gives the code of an item.
 #![tactic(auto)]
 
+pub mod decode;
 pub mod encode;

@@ -1,7 +1,7 @@
 //! Numbers, types, operands and lists of bits.
 
-ghost use Rattle.std.specs.Prelude.{◌≡◌, ◌++◌, ◌∷◌, [], length, map, OnOk};
-ghost use Rattle.souper_code.specs.Codes.{code_of_size, code_of_wide, code_of_number, code_of_type, code_of_operand, code_of_operands, code_of_bit, code_of_known_bit};
+ghost use Rattle.std.specs.Prelude.{◌≡◌, ◌++◌, OnOk};
+ghost use Rattle.souper_code.specs.Codes.{code_of_size, code_of_list, code_of_wide, code_of_number, code_of_type, code_of_operand, code_of_operands, code_of_bit, code_of_known_bit};
 
 use souper_graph::ast::{Id, Operand, Statement, Type};
 use std::alloc::AllocError;
@@ -29,6 +29,7 @@ pub(crate) fn encode_number(number: i128, out: &mut Vec<u8>) -> Result<(), Alloc
     encode_wide(number.cast_unsigned(), out)
 }
 
+#[tactic(auto, unfolding(crate::specs::Codes::code_of_u16))]
 pub(crate) fn encode_type(ty: Option<Type>, out: &mut Vec<u8>) -> Result<(), AllocError>
     ensures { OnOk result (out.new.items ≡ out.old.items ++ code_of_type ty) }
 {
@@ -73,14 +74,14 @@ pub(crate) fn encode_operands(operands: &[Operand], out: &mut Vec<u8>) -> Result
 }
 
 fn encode_bit(bit: bool, out: &mut Vec<u8>) -> Result<(), AllocError>
-    ensures { OnOk result (out.new.items ≡ out.old.items ++ (code_of_bit bit ∷ [])) }
+    ensures { OnOk result (out.new.items ≡ out.old.items ++ code_of_bit bit) }
 {
     out.push(if bit { 1 } else { 0 })?;
     Ok(())
 }
 
 fn encode_known_bit(bit: Option<bool>, out: &mut Vec<u8>) -> Result<(), AllocError>
-    ensures { OnOk result (out.new.items ≡ out.old.items ++ (code_of_known_bit bit ∷ [])) }
+    ensures { OnOk result (out.new.items ≡ out.old.items ++ code_of_known_bit bit) }
 {
     match bit {
         None => {
@@ -92,7 +93,7 @@ fn encode_known_bit(bit: Option<bool>, out: &mut Vec<u8>) -> Result<(), AllocErr
 }
 
 pub(crate) fn encode_bits(bits: &[bool], out: &mut Vec<u8>) -> Result<(), AllocError>
-    ensures { OnOk result (out.new.items ≡ out.old.items ++ (code_of_size (length bits.now) ++ map code_of_bit bits.now)) }
+    ensures { OnOk result (out.new.items ≡ out.old.items ++ code_of_list code_of_bit bits.now) }
 {
     encode_size(bits.len(), out)?;
     for bit in bits {
@@ -102,7 +103,7 @@ pub(crate) fn encode_bits(bits: &[bool], out: &mut Vec<u8>) -> Result<(), AllocE
 }
 
 pub(crate) fn encode_known_bits(bits: &[Option<bool>], out: &mut Vec<u8>) -> Result<(), AllocError>
-    ensures { OnOk result (out.new.items ≡ out.old.items ++ (code_of_size (length bits.now) ++ map code_of_known_bit bits.now)) }
+    ensures { OnOk result (out.new.items ≡ out.old.items ++ code_of_list code_of_known_bit bits.now) }
 {
     encode_size(bits.len(), out)?;
     for bit in bits {

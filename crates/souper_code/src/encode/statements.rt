@@ -1,9 +1,8 @@
 //! Statements.
 
 ghost use Rattle.std.specs.Prelude.{◌≡◌, ◌++◌, map, OnOk};
-ghost use Rattle.std.specs.Int.{w32, to_le_bytes};
 ghost use Rattle.souper_graph.specs.View.{view_rhs, view_assignment, view_statement};
-ghost use Rattle.souper_code.specs.Codes.{code_of_size, code_of_operand, code_of_operands, code_of_name, code_of_rhs, code_of_assignment, code_of_statement, code_of_statements};
+ghost use Rattle.souper_code.specs.Codes.{code_of_u32, code_of_size, code_of_operand, code_of_operands, code_of_name, code_of_rhs, code_of_assignment, code_of_statement, code_of_statements};
 
 use crate::encode::attributes::encode_attributes;
 use crate::encode::instructions::encode_instruction;
@@ -19,6 +18,7 @@ fn encode_phi(phi: &Phi, out: &mut Vec<u8>) -> Result<(), AllocError>
     encode_operands(&phi.values, out)
 }
 
+#[tactic(auto, unfolding(crate::specs::Codes::code_of_u32))]
 fn encode_rhs(rhs: &AssignmentRhs, out: &mut Vec<u8>) -> Result<(), AllocError>
     ensures { OnOk result (out.new.items ≡ out.old.items ++ code_of_rhs (view_rhs rhs.now)) }
 {
@@ -74,8 +74,9 @@ fn encode_pc(pc: &Pc, out: &mut Vec<u8>) -> Result<(), AllocError>
     encode_operand(pc.y, out)
 }
 
+#[tactic(auto, unfolding(crate::specs::Codes::code_of_u32))]
 fn encode_block_pc(pc: &BlockPc, out: &mut Vec<u8>) -> Result<(), AllocError>
-    ensures { OnOk result (out.new.items ≡ out.old.items ++ (code_of_size pc.now.block ++ (to_le_bytes w32 pc.now.predecessor ++ (code_of_operand pc.now.x ++ code_of_operand pc.now.y)))) }
+    ensures { OnOk result (out.new.items ≡ out.old.items ++ (code_of_size pc.now.block ++ (code_of_u32 pc.now.predecessor ++ (code_of_operand pc.now.x ++ code_of_operand pc.now.y)))) }
 {
     let block: Id<Statement> = pc.block.into();
     encode_size(block.index(), out)?;

@@ -1,8 +1,8 @@
-use Rattle.std.proofs.Common.{◌≡◌, ◌++◌, map, take}
+use Rattle.std.proofs.Common.{◌≡◌, ◌++◌, flat_map, take}
 use Rattle.souper_code.specs.Codes.{code_of_known_bit}
 use Rattle.souper_code.proofs.encode.leaves.encode_known_bits.Given as goal
 
 -- the bits so far are written
 abbrev pub invariant-loop-bit : goal.invariant-loop-bit
 invariant-loop-bit l =
-    l.out.items ≡ l.initial.out.items ++ map code_of_known_bit (take l.bit-index l.bits)
+    l.out.items ≡ l.initial.out.items ++ flat_map code_of_known_bit (take l.bit-index l.bits)
