@@ -1,5 +1,5 @@
 -- Definitions. The values that have a code: each number is in the range of its bytes, and each name is UTF-8.
-use Rattle.std.specs.Prelude.{ℕ, ℤ, ◌<◌, ◌^◌, List, Option, Some, None, length, FitsSigned}
+use Rattle.std.specs.Prelude.{ℕ, ℤ, Bool, ◌<◌, ◌^◌, List, Option, Some, None, length, FitsSigned}
 use Rattle.std.specs.Int.{w128}
 use Rattle.std.specs.Str.{IsUtf8}
 use Rattle.std.specs.List.{AllByRecursion}
@@ -7,8 +7,10 @@ use Rattle.souper_graph.specs.declared.ast.operands.«Type».{«Type» as Ty}
 use Rattle.souper_graph.specs.declared.ast.operands.Constant.{Constant as ConstantNode}
 use Rattle.souper_graph.specs.declared.ast.operands.Operand.{Operand}
 use Rattle.souper_graph.specs.declared.ast.operands.Operand.TheVariants.{Value, Constant}
+use Rattle.souper_graph.specs.declared.ast.statements.Pc.{Pc}
+use Rattle.souper_graph.specs.declared.ast.statements.BlockPc.{BlockPc}
 use Rattle.souper_graph.specs.Instructions.{operands_of}
-use Rattle.souper_graph.specs.Values.{PlainAttribute, known_bits, power_of_two, negative, non_negative, non_zero, has_external_uses, sign_bits, range, PlainRootAttribute, demanded_bits, harvested_from_use, PlainRhs, var, block, phi, reserved_inst, reserved_const, instruction, PlainAssignment, PlainStatement, assigned, condition, block_condition, PlainInfer, PlainCand, Ending, inferred, resulting, replaced, candidate, Item}
+use Rattle.souper_graph.specs.Values.{PlainAttribute, known_bits, power_of_two, negative, non_negative, non_zero, has_external_uses, sign_bits, range, PlainRootAttribute, demanded_bits, harvested_from_use, PlainPhi, PlainRhs, var, block, phi, reserved_inst, reserved_const, instruction, PlainAssignment, PlainStatement, assigned, condition, block_condition, PlainInfer, PlainCand, Ending, inferred, resulting, replaced, candidate, Item}
 use Rattle.souper_graph.specs.declared.ast.instructions.Instruction.{Instruction}
 use Rattle.souper_graph.specs.Syntax.Spelling.{ItemType, IsEndingOf}
 
@@ -35,16 +37,25 @@ CodableOperand (Constant c) = CodableConstant c
 abbrev pub CodableInstruction : Instruction → Type 0
 CodableInstruction i = CodableList CodableOperand (operands_of i)
 
+abbrev pub CodablePhi : PlainPhi → Type 0
+CodablePhi p = CodableSize p.block × CodableList CodableOperand p.values
+
 abbrev pub CodableRhs : PlainRhs → Type 0
 CodableRhs var = Unit {0}
 CodableRhs (block b) = b.predecessors < 2 ^ 32
-CodableRhs (phi p) = CodableSize p.block × CodableList CodableOperand p.values
+CodableRhs (phi p) = CodablePhi p
 CodableRhs reserved_inst = Unit {0}
 CodableRhs reserved_const = Unit {0}
 CodableRhs (instruction i) = CodableInstruction i
 
+abbrev pub CodableBit : Bool → Type 0
+CodableBit b = Unit {0}
+
+abbrev pub CodableKnownBit : Option Bool → Type 0
+CodableKnownBit b = Unit {0}
+
 abbrev pub CodableAttribute : PlainAttribute → Type 0
-CodableAttribute (known_bits bits) = CodableSize (length bits)
+CodableAttribute (known_bits bits) = CodableList CodableKnownBit bits
 CodableAttribute power_of_two = Unit {0}
 CodableAttribute negative = Unit {0}
 CodableAttribute non_negative = Unit {0}
@@ -54,7 +65,7 @@ CodableAttribute (sign_bits n) = n < 2 ^ 8
 CodableAttribute (range low high) = CodableNumber low × CodableNumber high
 
 abbrev pub CodableRootAttribute : PlainRootAttribute → Type 0
-CodableRootAttribute (demanded_bits bits) = CodableSize (length bits)
+CodableRootAttribute (demanded_bits bits) = CodableList CodableBit bits
 CodableRootAttribute harvested_from_use = Unit {0}
 
 abbrev pub CodableName : List ℕ → Type 0
@@ -63,10 +74,16 @@ CodableName name = CodableSize (length name) × IsUtf8 name
 abbrev pub CodableAssignment : PlainAssignment → Type 0
 CodableAssignment a = CodableName a.name × CodableType a.ty × CodableRhs a.value × CodableList CodableAttribute a.attributes
 
+abbrev pub CodableCondition : Pc → Type 0
+CodableCondition p = CodableOperand p.x × CodableOperand p.y
+
+abbrev pub CodableBlockCondition : BlockPc → Type 0
+CodableBlockCondition p = CodableSize p.block × (p.predecessor < 2 ^ 32) × CodableOperand p.x × CodableOperand p.y
+
 abbrev pub CodableStatement : PlainStatement → Type 0
 CodableStatement (assigned a) = CodableAssignment a
-CodableStatement (condition p) = CodableOperand p.x × CodableOperand p.y
-CodableStatement (block_condition p) = CodableSize p.block × (p.predecessor < 2 ^ 32) × CodableOperand p.x × CodableOperand p.y
+CodableStatement (condition p) = CodableCondition p
+CodableStatement (block_condition p) = CodableBlockCondition p
 
 abbrev pub CodableInfer : PlainInfer → Type 0
 CodableInfer i = CodableSize i.value × CodableList CodableRootAttribute i.attributes

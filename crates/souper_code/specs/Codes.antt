@@ -6,8 +6,10 @@ use Rattle.souper_graph.specs.declared.ast.operands.Constant.{Constant as Consta
 use Rattle.souper_graph.specs.declared.ast.operands.Operand.{Operand}
 use Rattle.souper_graph.specs.declared.ast.operands.Operand.TheVariants.{Value, Constant}
 use Rattle.souper_graph.specs.declared.ast.instructions.Instruction.{Instruction}
+use Rattle.souper_graph.specs.declared.ast.statements.Pc.{Pc}
+use Rattle.souper_graph.specs.declared.ast.statements.BlockPc.{BlockPc}
 use Rattle.souper_graph.specs.Instructions.{operands_of}
-use Rattle.souper_graph.specs.Values.{PlainAttribute, known_bits, power_of_two, negative, non_negative, non_zero, has_external_uses, sign_bits, range, PlainRootAttribute, demanded_bits, harvested_from_use, PlainRhs, var, block, phi, reserved_inst, reserved_const, instruction, PlainAssignment, PlainStatement, assigned, condition, block_condition, PlainInfer, PlainCand, Ending, inferred, resulting, replaced, candidate, Item}
+use Rattle.souper_graph.specs.Values.{PlainAttribute, known_bits, power_of_two, negative, non_negative, non_zero, has_external_uses, sign_bits, range, PlainRootAttribute, demanded_bits, harvested_from_use, PlainPhi, PlainRhs, var, block, phi, reserved_inst, reserved_const, instruction, PlainAssignment, PlainStatement, assigned, condition, block_condition, PlainInfer, PlainCand, Ending, inferred, resulting, replaced, candidate, Item}
 use Rattle.souper_code.specs.Numbers.{number_of}
 
 -- a number of 2 bytes
@@ -52,10 +54,13 @@ code_of_operands xs = code_of_list code_of_operand xs
 abbrev pub code_of_instruction : Instruction → List ℕ
 code_of_instruction i = number_of i ∷ code_of_operands (operands_of i)
 
+abbrev pub code_of_phi : PlainPhi → List ℕ
+code_of_phi p = code_of_size p.block ++ code_of_operands p.values
+
 abbrev pub code_of_rhs : PlainRhs → List ℕ
 code_of_rhs var = 0 ∷ []
 code_of_rhs (block b) = 1 ∷ code_of_u32 b.predecessors
-code_of_rhs (phi p) = 2 ∷ (code_of_size p.block ++ code_of_operands p.values)
+code_of_rhs (phi p) = 2 ∷ code_of_phi p
 code_of_rhs reserved_inst = 3 ∷ []
 code_of_rhs reserved_const = 4 ∷ []
 code_of_rhs (instruction i) = 5 ∷ code_of_instruction i
@@ -95,10 +100,16 @@ code_of_name name = code_of_size (length name) ++ name
 abbrev pub code_of_assignment : PlainAssignment → List ℕ
 code_of_assignment a = code_of_name a.name ++ (code_of_type a.ty ++ (code_of_rhs a.value ++ code_of_attributes a.attributes))
 
+abbrev pub code_of_condition : Pc → List ℕ
+code_of_condition p = code_of_operand p.x ++ code_of_operand p.y
+
+abbrev pub code_of_block_condition : BlockPc → List ℕ
+code_of_block_condition p = code_of_size p.block ++ (code_of_u32 p.predecessor ++ (code_of_operand p.x ++ code_of_operand p.y))
+
 abbrev pub code_of_statement : PlainStatement → List ℕ
 code_of_statement (assigned a) = 0 ∷ code_of_assignment a
-code_of_statement (condition p) = 1 ∷ (code_of_operand p.x ++ code_of_operand p.y)
-code_of_statement (block_condition p) = 2 ∷ (code_of_size p.block ++ (code_of_u32 p.predecessor ++ (code_of_operand p.x ++ code_of_operand p.y)))
+code_of_statement (condition p) = 1 ∷ code_of_condition p
+code_of_statement (block_condition p) = 2 ∷ code_of_block_condition p
 
 abbrev pub code_of_infer : PlainInfer → List ℕ
 code_of_infer i = code_of_size i.value ++ code_of_root_attributes i.attributes

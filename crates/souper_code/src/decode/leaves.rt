@@ -6,8 +6,8 @@ ghost use Rattle.souper_graph.specs.declared.ast.operands.«Type».{«Type» as 
 ghost use Rattle.souper_graph.specs.declared.ast.operands.Constant.{Constant as ConstantNode};
 ghost use Rattle.souper_graph.specs.declared.ast.operands.Operand.{Operand as OperandNode};
 ghost use Rattle.souper_code.specs.declared.decode.DecodeError.TheVariants.{NoCode};
-ghost use Rattle.souper_code.specs.Codes.{code_of_u16, code_of_u32, code_of_size, code_of_list, code_of_wide, code_of_number, code_of_type, code_of_constant, code_of_operand, code_of_operands, code_of_bit, code_of_known_bit};
-ghost use Rattle.souper_code.specs.Codable.{CodableSize, CodableNumber, CodableType, CodableConstant, CodableOperand, CodableList};
+ghost use Rattle.souper_code.specs.Codes.{code_of_u16, code_of_u32, code_of_size, code_of_list, code_of_wide, code_of_number, code_of_type, code_of_constant, code_of_operand, code_of_bit, code_of_known_bit};
+ghost use Rattle.souper_code.specs.Codable.{CodableSize, CodableNumber, CodableType, CodableConstant, CodableOperand, CodableBit, CodableKnownBit, CodableList};
 ghost use Rattle.souper_code.specs.Reading.{Gives};
 
 use crate::decode::{DecodeError, Reader};
@@ -146,8 +146,8 @@ impl Reader<'_> {
     }
 
     fn bit(&mut self) -> Result<bool, DecodeError>
-        ensures read { IfOk result (λ bit. self.old.rest.now ≡ code_of_bit bit ++ self.new.rest.now) }
-        ensures only { (bit : Bool) (rest : List ℕ) → self.old.rest.now ≡ code_of_bit bit ++ rest → Gives result (λ v. v ≡ bit) self.new.rest.now rest }
+        ensures read { IfOk result (λ bit. CodableBit bit × (self.old.rest.now ≡ code_of_bit bit ++ self.new.rest.now)) }
+        ensures only { (bit : Bool) (rest : List ℕ) → CodableBit bit → self.old.rest.now ≡ code_of_bit bit ++ rest → Gives result (λ v. v ≡ bit) self.new.rest.now rest }
     {
         match self.byte()? {
             0 => Ok(false),
@@ -157,8 +157,8 @@ impl Reader<'_> {
     }
 
     fn known_bit(&mut self) -> Result<Option<bool>, DecodeError>
-        ensures read { IfOk result (λ bit. self.old.rest.now ≡ code_of_known_bit bit ++ self.new.rest.now) }
-        ensures only { (bit : Option Bool) (rest : List ℕ) → self.old.rest.now ≡ code_of_known_bit bit ++ rest → Gives result (λ v. v ≡ bit) self.new.rest.now rest }
+        ensures read { IfOk result (λ bit. CodableKnownBit bit × (self.old.rest.now ≡ code_of_known_bit bit ++ self.new.rest.now)) }
+        ensures only { (bit : Option Bool) (rest : List ℕ) → CodableKnownBit bit → self.old.rest.now ≡ code_of_known_bit bit ++ rest → Gives result (λ v. v ≡ bit) self.new.rest.now rest }
     {
         match self.byte()? {
             0 => Ok(Some(false)),
@@ -169,8 +169,8 @@ impl Reader<'_> {
     }
 
     pub(crate) fn operands(&mut self, alloc: Global) -> Result<Vec<Operand>, DecodeError>
-        ensures read { IfOk result (λ os. CodableList CodableOperand os.items × (self.old.rest.now ≡ code_of_operands os.items ++ self.new.rest.now)) }
-        ensures only { (os : List OperandNode) (rest : List ℕ) → CodableList CodableOperand os → self.old.rest.now ≡ code_of_operands os ++ rest → Gives result (λ v. v.items ≡ os) self.new.rest.now rest }
+        ensures read { IfOk result (λ v. CodableList CodableOperand v.items × (self.old.rest.now ≡ code_of_list code_of_operand v.items ++ self.new.rest.now)) }
+        ensures only { (xs : List OperandNode) (rest : List ℕ) → CodableList CodableOperand xs → self.old.rest.now ≡ code_of_list code_of_operand xs ++ rest → Gives result (λ v. v.items ≡ xs) self.new.rest.now rest }
     {
         let count = self.size()?;
         let mut operands = Vec::new(alloc);
@@ -179,5 +179,31 @@ impl Reader<'_> {
             operands.push(operand)?;
         }
         Ok(operands)
+    }
+
+    pub(crate) fn bits(&mut self, alloc: Global) -> Result<Vec<bool>, DecodeError>
+        ensures read { IfOk result (λ v. CodableList CodableBit v.items × (self.old.rest.now ≡ code_of_list code_of_bit v.items ++ self.new.rest.now)) }
+        ensures only { (xs : List Bool) (rest : List ℕ) → CodableList CodableBit xs → self.old.rest.now ≡ code_of_list code_of_bit xs ++ rest → Gives result (λ v. v.items ≡ xs) self.new.rest.now rest }
+    {
+        let count = self.size()?;
+        let mut bits = Vec::new(alloc);
+        for _ in 0..count {
+            let bit = self.bit()?;
+            bits.push(bit)?;
+        }
+        Ok(bits)
+    }
+
+    pub(crate) fn known_bits(&mut self, alloc: Global) -> Result<Vec<Option<bool>>, DecodeError>
+        ensures read { IfOk result (λ v. CodableList CodableKnownBit v.items × (self.old.rest.now ≡ code_of_list code_of_known_bit v.items ++ self.new.rest.now)) }
+        ensures only { (xs : List (Option Bool)) (rest : List ℕ) → CodableList CodableKnownBit xs → self.old.rest.now ≡ code_of_list code_of_known_bit xs ++ rest → Gives result (λ v. v.items ≡ xs) self.new.rest.now rest }
+    {
+        let count = self.size()?;
+        let mut known_bits = Vec::new(alloc);
+        for _ in 0..count {
+            let known_bit = self.known_bit()?;
+            known_bits.push(known_bit)?;
+        }
+        Ok(known_bits)
     }
 }

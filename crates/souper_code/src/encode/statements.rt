@@ -1,8 +1,8 @@
 //! Statements.
 
 ghost use Rattle.std.specs.Prelude.{◌≡◌, ◌++◌, map, OnOk};
-ghost use Rattle.souper_graph.specs.View.{view_rhs, view_assignment, view_statement};
-ghost use Rattle.souper_code.specs.Codes.{code_of_u32, code_of_size, code_of_operand, code_of_operands, code_of_name, code_of_rhs, code_of_assignment, code_of_statement, code_of_statements};
+ghost use Rattle.souper_graph.specs.View.{view_phi, view_rhs, view_assignment, view_statement};
+ghost use Rattle.souper_code.specs.Codes.{code_of_phi, code_of_rhs, code_of_name, code_of_assignment, code_of_condition, code_of_block_condition, code_of_statement, code_of_statements};
 
 use crate::encode::attributes::encode_attributes;
 use crate::encode::instructions::encode_instruction;
@@ -11,7 +11,7 @@ use souper_graph::ast::{Arena, Assignment, AssignmentRhs, BlockPc, Id, Pc, Phi, 
 use std::alloc::AllocError;
 
 fn encode_phi(phi: &Phi, out: &mut Vec<u8>) -> Result<(), AllocError>
-    ensures { OnOk result (out.new.items ≡ out.old.items ++ (code_of_size phi.now.block ++ code_of_operands phi.now.values.items)) }
+    ensures { OnOk result (out.new.items ≡ out.old.items ++ code_of_phi (view_phi phi.now)) }
 {
     let block: Id<Statement> = phi.block.into();
     encode_size(block.index(), out)?;
@@ -68,7 +68,7 @@ fn encode_assignment(assignment: &Assignment, out: &mut Vec<u8>) -> Result<(), A
 }
 
 fn encode_pc(pc: &Pc, out: &mut Vec<u8>) -> Result<(), AllocError>
-    ensures { OnOk result (out.new.items ≡ out.old.items ++ (code_of_operand pc.now.x ++ code_of_operand pc.now.y)) }
+    ensures { OnOk result (out.new.items ≡ out.old.items ++ code_of_condition pc.now) }
 {
     encode_operand(pc.x, out)?;
     encode_operand(pc.y, out)
@@ -76,7 +76,7 @@ fn encode_pc(pc: &Pc, out: &mut Vec<u8>) -> Result<(), AllocError>
 
 #[tactic(auto, unfolding(crate::specs::Codes::code_of_u32))]
 fn encode_block_pc(pc: &BlockPc, out: &mut Vec<u8>) -> Result<(), AllocError>
-    ensures { OnOk result (out.new.items ≡ out.old.items ++ (code_of_size pc.now.block ++ (code_of_u32 pc.now.predecessor ++ (code_of_operand pc.now.x ++ code_of_operand pc.now.y)))) }
+    ensures { OnOk result (out.new.items ≡ out.old.items ++ code_of_block_condition pc.now) }
 {
     let block: Id<Statement> = pc.block.into();
     encode_size(block.index(), out)?;
