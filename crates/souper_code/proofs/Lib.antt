@@ -1,3 +1,4 @@
+pub mod Items
 pub mod Lists
 pub mod Numbers
 pub mod Statements

@@ -5,7 +5,7 @@ mod instructions;
 mod leaves;
 mod statements;
 
-ghost use Rattle.std.specs.Prelude.{◌≡◌, ◌++◌, ◌↔◌, ℕ, List, [], map, IfOk, IfErr, IsTrue};
+ghost use Rattle.std.specs.Prelude.{◌≡◌, ◌++◌, ◌↔◌, ℕ, List, [], length, map, IfOk, IfErr, IsTrue};
 ghost use Rattle.std.specs.List.{AllByRecursion};
 ghost use Rattle.souper_graph.specs.Values.{Item as PlainItem, PlainInfer, PlainCand};
 ghost use Rattle.souper_graph.specs.View.{view_infer, view_cand};
@@ -64,6 +64,13 @@ impl<'a> Reader<'a> {
         ensures { IsTrue result ↔ (self.now.rest.now ≡ []) }
     {
         self.rest.is_empty()
+    }
+
+    /// The number of bytes that are left.
+    pub fn len(&self) -> usize
+        ensures { result ≡ length self.now.rest.now }
+    {
+        self.rest.len()
     }
 
     fn infer(&mut self, alloc: Global) -> Result<Infer, DecodeError>

@@ -21,3 +21,4 @@
 
 pub mod decode;
 pub mod encode;
+pub mod write;

@@ -1,0 +1,76 @@
+-- Reading items to the end of their code.
+use Rattle.std.proofs.Common.{◌≡◌, ◌≢◌, ℕ, ◌<◌, ◌≤◌, ◌-◌, List, [], ◌∷◌, ◌++◌, length, flat_map, refl, sym, ◌∙◌, ap, subst, append_assoc, arith, rules, length-append}
+use Rattle.std.proofs.lemmas.List.{flat_map_more}
+use Rattle.std.specs.List.{AllByRecursion}
+use Rattle.souper_graph.specs.Values.{Item}
+use Rattle.souper_graph.specs.Syntax.Spelling.{ItemType}
+use Rattle.souper_code.specs.Codes.{code_of_size, code_of_statement, code_of_statements, code_of_ending, code_of, code_of_items}
+use Rattle.souper_code.specs.Codable.{CodableItem}
+use Rattle.souper_code.specs.Writing.{IsCodeOf, IsCodeOfOnly, IsNoCode, BeginsWithNone}
+use Rattle.souper_code.proofs.Lists.{IsOnly}
+
+size_is_long : (n : ℕ) → length (code_of_size n) ≡ 8
+unfolding code_of_size
+size_is_long n = refl
+
+code_is_long : (x : Item) → 8 ≤ length (code_of x)
+code_is_long x = omega (arith, length-append (code_of_statements x.statements) (code_of_ending x.ending), length-append (code_of_size (length x.statements)) (flat_map code_of_statement x.statements), size_is_long (length x.statements))
+
+pub items_are_long : (xs : List Item) → length xs ≤ length (code_of_items xs)
+items_are_long [] = omega arith
+items_are_long (x ∷ xs) = omega (arith, items_are_long xs, code_is_long x, length-append (code_of x) (code_of_items xs))
+
+-- all is the code of the items done and of what is left, and each list whose code it is begins with these items
+pub record HasRead (k : ItemType) (all : List ℕ) (done : List Item) (left : List ℕ) : Type 0 where
+  pub read : all ≡ code_of_items done ++ left
+  pub codable : AllByRecursion (CodableItem k) done
+  pub begins : (xs : List Item) → IsCodeOf k all xs → (others : List Item) × (xs ≡ done ++ others) × IsCodeOf k left others
+
+pub nothing_read : (k : ItemType) (all : List ℕ) → HasRead k all [] all
+nothing_read k all = record { read = refl; codable = tt; begins = λ xs is. (xs, refl, is) }
+
+begins_more : (k : ItemType) (all : List ℕ) (done : List Item) (left : List ℕ) (x : Item) (after : List ℕ) → HasRead k all done left → left ≢ []
+    → IsOnly code_of (CodableItem k) left x after → (xs : List Item) → IsCodeOf k all xs → (others : List Item) × (xs ≡ (done ++ (x ∷ [])) ++ others) × IsCodeOf k after others
+begins_more k all done left x after has some only xs is =
+    let (others, same, rest_is) = has.begins xs is in
+    elim others as (λ (others : List Item). xs ≡ done ++ others → IsCodeOf k left others → (more : List Item) × (xs ≡ (done ++ (x ∷ [])) ++ more) × IsCodeOf k after more) [
+      [] ↦ λ same rest_is. absurd (some rest_is.1)
+    | ◌∷◌ y more ↦ λ same rest_is.
+        let one = only y (code_of_items more) rest_is.0.0 rest_is.1 in
+        (more, same ∙ ap (λ (z : Item). done ++ (z ∷ more)) (sym one.0) ∙ sym (append_assoc done (x ∷ []) more), (rest_is.0.1, one.1))
+    ] same rest_is
+
+codable_more : (k : ItemType) (done : List Item) (x : Item) → AllByRecursion (CodableItem k) done → CodableItem k x → AllByRecursion (CodableItem k) (done ++ (x ∷ []))
+codable_more k [] x all one = (one, tt)
+codable_more k (d ∷ ds) x all one = (all.0, codable_more k ds x all.1 one)
+
+pub read_more : (k : ItemType) (all : List ℕ) (done : List Item) (left : List ℕ) (x : Item) (after : List ℕ) → HasRead k all done left → left ≢ []
+    → CodableItem k x → left ≡ code_of x ++ after → IsOnly code_of (CodableItem k) left x after → HasRead k all (done ++ (x ∷ [])) after
+read_more k all done left x after has some fits front only = record {
+  read = has.read ∙ ap (λ (t : List ℕ). code_of_items done ++ t) front ∙ sym (append_assoc (code_of_items done) (code_of x) after)
+      ∙ ap (λ (t : List ℕ). t ++ after) (flat_map_more code_of [] done x);
+  codable = codable_more k done x has.codable fits;
+  begins = begins_more k all done left x after has some only;
+}
+
+pub all_read : (k : ItemType) (all : List ℕ) (done : List Item) (left : List ℕ) → HasRead k all done left → left ≡ [] → IsCodeOfOnly k all done
+all_read k all done left has end = ((has.codable, has.read ∙ ap (λ (t : List ℕ). code_of_items done ++ t) end ∙ search rules), λ xs is.
+    let (others, same, rest_is) = has.begins xs is in
+    elim others as (λ (others : List Item). xs ≡ done ++ others → left ≡ code_of_items others → done ≡ xs) [
+      [] ↦ λ same rest_is. sym (same ∙ search rules)
+    | ◌∷◌ y more ↦ λ same rest_is. absurd (omega (arith, code_is_long y, ap length (sym end ∙ rest_is), length-append (code_of y) (code_of_items more)))
+    ] same rest_is.1)
+
+pub none_read : (k : ItemType) (all : List ℕ) (done : List Item) (left : List ℕ) → HasRead k all done left → left ≢ [] → BeginsWithNone k left → IsNoCode k all
+none_read k all done left has some none = λ xs is.
+    let (others, same, rest_is) = has.begins xs is in
+    elim others as (λ (others : List Item). IsCodeOf k left others → ⊥) [
+      [] ↦ λ rest_is. some rest_is.1
+    | ◌∷◌ y more ↦ λ rest_is. none y (code_of_items more) rest_is.0.0 rest_is.1
+    ] rest_is
+
+pub offset_is : (k : ItemType) (all : List ℕ) (done : List Item) (left : List ℕ) (n : ℕ) → HasRead k all done left → n ≡ length left → length (code_of_items done) ≡ length all - n
+offset_is k all done left n has is = omega (arith, is, ap length has.read, length-append (code_of_items done) left)
+
+pub count_is : (k : ItemType) (all : List ℕ) (done : List Item) (left : List ℕ) → HasRead k all done left → length done ≤ length all
+count_is k all done left has = omega (arith, items_are_long done, ap length has.read, length-append (code_of_items done) left)
