@@ -1,13 +1,15 @@
 -- Reading items to the end of their code.
-use Rattle.std.proofs.Common.{◌≡◌, ◌≢◌, ℕ, ◌<◌, ◌≤◌, ◌-◌, List, [], ◌∷◌, ◌++◌, length, flat_map, refl, sym, ◌∙◌, ap, subst, append_assoc, arith, rules, length-append}
+use Rattle.std.proofs.Common.{◌≡◌, ◌≢◌, ℕ, ◌<◌, ◌≤◌, ◌-◌, List, [], ◌∷◌, ◌++◌, length, flat_map, Result, Err, IfErr, ◌⊎◌, inl, inr, refl, sym, ◌∙◌, ap, subst, append_assoc, arith, rules, length-append}
 use Rattle.std.proofs.lemmas.List.{flat_map_more}
 use Rattle.std.specs.List.{AllByRecursion}
 use Rattle.souper_graph.specs.Values.{Item}
 use Rattle.souper_graph.specs.Syntax.Spelling.{ItemType}
+use Rattle.souper_code.specs.declared.decode.DecodeError.{DecodeError}
+use Rattle.souper_code.specs.declared.decode.DecodeError.TheVariants.{NoCode, OutOfMemory}
 use Rattle.souper_code.specs.Codes.{code_of_size, code_of_statement, code_of_statements, code_of_ending, code_of, code_of_items}
 use Rattle.souper_code.specs.Codable.{CodableItem}
 use Rattle.souper_code.specs.Writing.{IsCodeOf, IsCodeOfOnly, IsNoCode, BeginsWithNone}
-use Rattle.souper_code.proofs.Lists.{IsOnly}
+use Rattle.souper_code.proofs.Lists.{IsOnly, IsNone}
 
 size_is_long : (n : ℕ) → length (code_of_size n) ≡ 8
 unfolding code_of_size
@@ -34,10 +36,10 @@ begins_more : (k : ItemType) (all : List ℕ) (done : List Item) (left : List �
 begins_more k all done left x after has some only xs is =
     let (others, same, rest_is) = has.begins xs is in
     elim others as (λ (others : List Item). xs ≡ done ++ others → IsCodeOf k left others → (more : List Item) × (xs ≡ (done ++ (x ∷ [])) ++ more) × IsCodeOf k after more) [
-      [] ↦ λ same rest_is. absurd (some rest_is.1)
-    | ◌∷◌ y more ↦ λ same rest_is.
-        let one = only y (code_of_items more) rest_is.0.0 rest_is.1 in
-        (more, same ∙ ap (λ (z : Item). done ++ (z ∷ more)) (sym one.0) ∙ sym (append_assoc done (x ∷ []) more), (rest_is.0.1, one.1))
+      | [] ↦ λ same rest_is. absurd (some rest_is.1)
+      | ◌∷◌ y more ↦ λ same rest_is.
+          let one = only y (code_of_items more) rest_is.0.0 rest_is.1 in
+          (more, same ∙ ap (λ (z : Item). done ++ (z ∷ more)) (sym one.0) ∙ sym (append_assoc done (x ∷ []) more), (rest_is.0.1, one.1))
     ] same rest_is
 
 codable_more : (k : ItemType) (done : List Item) (x : Item) → AllByRecursion (CodableItem k) done → CodableItem k x → AllByRecursion (CodableItem k) (done ++ (x ∷ []))
@@ -54,19 +56,22 @@ read_more k all done left x after has some fits front only = record {
 }
 
 pub all_read : (k : ItemType) (all : List ℕ) (done : List Item) (left : List ℕ) → HasRead k all done left → left ≡ [] → IsCodeOfOnly k all done
-all_read k all done left has end = ((has.codable, has.read ∙ ap (λ (t : List ℕ). code_of_items done ++ t) end ∙ search rules), λ xs is.
-    let (others, same, rest_is) = has.begins xs is in
-    elim others as (λ (others : List Item). xs ≡ done ++ others → left ≡ code_of_items others → done ≡ xs) [
-      [] ↦ λ same rest_is. sym (same ∙ search rules)
-    | ◌∷◌ y more ↦ λ same rest_is. absurd (omega (arith, code_is_long y, ap length (sym end ∙ rest_is), length-append (code_of y) (code_of_items more)))
-    ] same rest_is.1)
+all_read k all done left has end = (
+  (has.codable, has.read ∙ ap (λ (t : List ℕ). code_of_items done ++ t) end ∙ search rules),
+  λ xs is.
+      let (others, same, rest_is) = has.begins xs is in
+      elim others as (λ (others : List Item). xs ≡ done ++ others → left ≡ code_of_items others → done ≡ xs) [
+        | [] ↦ λ same rest_is. sym (same ∙ search rules)
+        | ◌∷◌ y more ↦ λ same rest_is. absurd (omega (arith, code_is_long y, ap length (sym end ∙ rest_is), length-append (code_of y) (code_of_items more)))
+      ] same rest_is.1,
+)
 
 pub none_read : (k : ItemType) (all : List ℕ) (done : List Item) (left : List ℕ) → HasRead k all done left → left ≢ [] → BeginsWithNone k left → IsNoCode k all
 none_read k all done left has some none = λ xs is.
     let (others, same, rest_is) = has.begins xs is in
     elim others as (λ (others : List Item). IsCodeOf k left others → ⊥) [
-      [] ↦ λ rest_is. some rest_is.1
-    | ◌∷◌ y more ↦ λ rest_is. none y (code_of_items more) rest_is.0.0 rest_is.1
+      | [] ↦ λ rest_is. some rest_is.1
+      | ◌∷◌ y more ↦ λ rest_is. none y (code_of_items more) rest_is.0.0 rest_is.1
     ] rest_is
 
 pub offset_is : (k : ItemType) (all : List ℕ) (done : List Item) (left : List ℕ) (n : ℕ) → HasRead k all done left → n ≡ length left → length (code_of_items done) ≡ length all - n
@@ -74,3 +79,12 @@ offset_is k all done left n has is = omega (arith, is, ap length has.read, lengt
 
 pub count_is : (k : ItemType) (all : List ℕ) (done : List Item) (left : List ℕ) → HasRead k all done left → length done ≤ length all
 count_is k all done left has = omega (arith, items_are_long done, ap length has.read, length-append (code_of_items done) left)
+
+pub stopped : {V : Type 0} (k : ItemType) (all : List ℕ) (done : List Item) (left : List ℕ) (r : Result V DecodeError) (e : DecodeError) → HasRead k all done left → left ≢ []
+    → IsNone code_of (CodableItem k) left e → r ≡ Err e → IfErr r (λ e. IsNoCode k all ⊎ (e ≡ OutOfMemory))
+stopped {V} k all done left r e has some none is =
+    subst (λ (r : Result V DecodeError). IfErr r (λ e. IsNoCode k all ⊎ (e ≡ OutOfMemory))) (sym is)
+    (elim e as (λ (e : DecodeError). IsNone code_of (CodableItem k) left e → IsNoCode k all ⊎ (e ≡ OutOfMemory)) [
+      | NoCode ↦ λ none. inl (none_read k all done left has some none)
+      | OutOfMemory ↦ λ none. inr refl
+    ] none)

@@ -34,11 +34,11 @@ pub begins_more : {X : Type 0} (code : X → List ℕ) (Codable : X → Type 0) 
 begins_more {X} code Codable count all done left x after begins short only = λ xs rest long fits e.
     let (others, is, fit, front) = begins xs rest long fits e in
     elim others as (λ (others : List X). xs ≡ done ++ others → AllByRecursion Codable others → left ≡ flat_map code others ++ rest
-        → (more : List X) × (xs ≡ (done ++ (x ∷ [])) ++ more) × AllByRecursion Codable more × (after ≡ flat_map code more ++ rest)) [
-      [] ↦ λ is fit front. absurd (no_others count xs done long short is)
-    | ◌∷◌ y more ↦ λ is fit front.
-        let one = only y (flat_map code more ++ rest) fit.0 (front ∙ append_assoc (code y) (flat_map code more) rest) in
-        (more, is ∙ ap (λ (z : X). done ++ (z ∷ more)) (sym one.0) ∙ sym (append_assoc done (x ∷ []) more), fit.1, one.1)
+    → (more : List X) × (xs ≡ (done ++ (x ∷ [])) ++ more) × AllByRecursion Codable more × (after ≡ flat_map code more ++ rest)) [
+      | [] ↦ λ is fit front. absurd (no_others count xs done long short is)
+      | ◌∷◌ y more ↦ λ is fit front.
+          let one = only y (flat_map code more ++ rest) fit.0 (front ∙ append_assoc (code y) (flat_map code more) rest) in
+          (more, is ∙ ap (λ (z : X). done ++ (z ∷ more)) (sym one.0) ∙ sym (append_assoc done (x ∷ []) more), fit.1, one.1)
     ] is fit front
 
 begins_all : {X : Type 0} (code : X → List ℕ) (Codable : X → Type 0) (count : ℕ) (all : List ℕ) (done : List X) (left : List ℕ)
@@ -46,8 +46,8 @@ begins_all : {X : Type 0} (code : X → List ℕ) (Codable : X → Type 0) (coun
 begins_all {X} code Codable count all done left begins whole = λ xs rest fits e.
     let (others, is, fit, front) = begins xs rest fits.0 fits.1 e in
     elim others as (λ (others : List X). xs ≡ done ++ others → left ≡ flat_map code others ++ rest → (done ≡ xs) × (left ≡ rest)) [
-      [] ↦ λ is front. (sym (is ∙ search rules), front)
-    | ◌∷◌ y more ↦ λ is front. absurd (omega (arith, fits.0, ap length is, length-append done (y ∷ more)))
+      | [] ↦ λ is front. (sym (is ∙ search rules), front)
+      | ◌∷◌ y more ↦ λ is front. absurd (omega (arith, fits.0, ap length is, length-append done (y ∷ more)))
     ] is front
 
 begins_not : {X : Type 0} (code : X → List ℕ) (Codable : X → Type 0) (count : ℕ) (all : List ℕ) (done : List X) (left : List ℕ) (e : DecodeError)
@@ -56,8 +56,8 @@ begins_not : {X : Type 0} (code : X → List ℕ) (Codable : X → Type 0) (coun
 begins_not {X} code Codable count all done left e begins short none = λ xs rest fits is_front.
     let (others, is, fit, front) = begins xs rest fits.0 fits.1 is_front in
     elim others as (λ (others : List X). xs ≡ done ++ others → AllByRecursion Codable others → left ≡ flat_map code others ++ rest → IsMemory e) [
-      [] ↦ λ is fit front. absurd (no_others count xs done fits.0 short is)
-    | ◌∷◌ y more ↦ λ is fit front. none y (flat_map code more ++ rest) fit.0 (front ∙ append_assoc (code y) (flat_map code more) rest)
+      | [] ↦ λ is fit front. absurd (no_others count xs done fits.0 short is)
+      | ◌∷◌ y more ↦ λ is fit front. none y (flat_map code more ++ rest) fit.0 (front ∙ append_assoc (code y) (flat_map code more) rest)
     ] is fit front
 
 -- all elements were read

@@ -5,7 +5,7 @@ mod instructions;
 mod leaves;
 mod statements;
 
-ghost use Rattle.std.specs.Prelude.{◌≡◌, ◌++◌, ◌↔◌, ℕ, List, [], length, map, IfOk, IfErr, IsTrue};
+ghost use Rattle.std.specs.Prelude.{◌≡◌, ◌++◌, ◌↔◌, ◌⊎◌, ℕ, List, [], length, map, IfOk, IfErr, IsTrue};
 ghost use Rattle.std.specs.List.{AllByRecursion};
 ghost use Rattle.souper_graph.specs.Values.{Item as PlainItem, PlainInfer, PlainCand};
 ghost use Rattle.souper_graph.specs.View.{view_infer, view_cand};
@@ -13,6 +13,7 @@ ghost use Rattle.souper_code.specs.declared.decode.DecodeError.TheVariants.{OutO
 ghost use Rattle.souper_code.specs.Codes.{code_of_infer, code_of_cand, code_of, code_of_items};
 ghost use Rattle.souper_code.specs.Codable.{CodableInfer, CodableCand, CodableItem};
 ghost use Rattle.souper_code.specs.Reading.{Gives};
+ghost use Rattle.souper_code.specs.Writing.{IsCodeOfOnly, IsNoCode};
 
 use souper_graph::ast::{
     Cand, Id, Infer, Item, LeftHandSide, Replacement, RightHandSide, Statement,
@@ -156,4 +157,21 @@ impl Decode for Replacement {
             _ => Err(DecodeError::NoCode),
         }
     }
+}
+
+/// The items whose code the bytes are, in their order.
+///
+/// A code belongs to one list of items. The error is `NoCode` if and only if the bytes are the code of no list of items of the
+/// type; a length in the code that is larger than the code costs neither time nor memory.
+pub fn decode_items<T: Decode + Drop>(alloc: Global, code: &[u8]) -> Result<Vec<T>, DecodeError>
+    ensures decoded { IfOk result (λ items. IsCodeOfOnly T.item_type code.now (map T.view items.items)) }
+    ensures no_code { IfErr result (λ e. IsNoCode T.item_type code.now ⊎ (e ≡ OutOfMemory)) }
+{
+    let mut reader = Reader::new(code);
+    let mut items = Vec::new(alloc);
+    while !reader.is_empty() {
+        let item = T::decode(&mut reader, alloc)?;
+        items.push(item)?;
+    }
+    Ok(items)
 }

@@ -57,7 +57,10 @@ impl Reader<'_> {
         Ok(attributes)
     }
 
-    pub(crate) fn root_attributes(&mut self, alloc: Global) -> Result<Vec<RootAttribute>, DecodeError>
+    pub(crate) fn root_attributes(
+        &mut self,
+        alloc: Global,
+    ) -> Result<Vec<RootAttribute>, DecodeError>
         ensures read { IfOk result (λ v. CodableList CodableRootAttribute (map view_root_attribute v.items) × (self.old.rest.now ≡ code_of_list code_of_root_attribute (map view_root_attribute v.items) ++ self.new.rest.now)) }
         ensures only { (xs : List PlainRootAttribute) (rest : List ℕ) → CodableList CodableRootAttribute xs → self.old.rest.now ≡ code_of_list code_of_root_attribute xs ++ rest → Gives result (λ v. map view_root_attribute v.items ≡ xs) self.new.rest.now rest }
     {

@@ -26,12 +26,14 @@ pub loop-reader-preserved : goal.loop-reader-preserved
 loop-reader-preserved g c =
     let (done, known) = c.loop-reader.invariant in
     let some : c.loop-reader.reader.rest.now ≢ [] = search rules in
-    let read = read_more _ _ done _ _ _ known.read some c.in-Ok.ensures.read.0 c.in-Ok.ensures.read.1 c.in-Ok.ensures.only in
-    (done ++ (g.T.Item.view c.in-Ok.item ∷ []), record {
-      read = read;
-      count = omega (arith, known.count, length-append done (g.T.Item.view c.in-Ok.item ∷ []));
-      judged = c.in_ok-add-in-Ok.ensures done (known.count, offset_is _ _ done _ _ known.read (search rules)) known.judged;
-    })
+    let read = read_more _ _ done _ _ _ known.read some c.in-Ok.ensures.read.0 c.in-Ok.ensures.read.1 c.in-Ok.ensures.only in (
+      done ++ (g.T.Item.view c.in-Ok.item ∷ []),
+      record {
+        read = read;
+        count = omega (arith, known.count, length-append done (g.T.Item.view c.in-Ok.item ∷ []));
+        judged = c.in_ok-add-in-Ok.ensures done (known.count, offset_is _ _ done _ _ known.read (search rules)) known.judged;
+      },
+    )
 
 pub returns-in-None-clause-written : goal.returns-in-None-clause-written
 returns-in-None-clause-written g c =

@@ -8,7 +8,7 @@ use Rattle.souper_code.proofs.decode.Reader.bits.Goals as goal
 pub returns-in_err-bit-clause-only : goal.returns-in_err-bit-clause-only
 returns-in_err-bit-clause-only c = λ os rest fits e.
     passed _ c.in_err-bit.field-0.0 _ _ _ (search rules)
-        (list_none code_of_bit CodableBit _ _ _ _ _ _ c.in_ok-count.ensures.only c.loop.invariant.begins (omega (arith, c.loop.invariant.count)) c.in_err-bit.ensures.only os rest fits e)
+    (list_none code_of_bit CodableBit _ _ _ _ _ _ c.in_ok-count.ensures.only c.loop.invariant.begins (omega (arith, c.loop.invariant.count)) c.in_err-bit.ensures.only os rest fits e)
 
 pub loop-preserved : goal.loop-preserved
 loop-preserved c = record {

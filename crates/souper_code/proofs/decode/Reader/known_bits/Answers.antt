@@ -8,7 +8,7 @@ use Rattle.souper_code.proofs.decode.Reader.known_bits.Goals as goal
 pub returns-in_err-known_bit-clause-only : goal.returns-in_err-known_bit-clause-only
 returns-in_err-known_bit-clause-only c = λ os rest fits e.
     passed _ c.in_err-known_bit.field-0.0 _ _ _ (search rules)
-        (list_none code_of_known_bit CodableKnownBit _ _ _ _ _ _ c.in_ok-count.ensures.only c.loop.invariant.begins (omega (arith, c.loop.invariant.count)) c.in_err-known_bit.ensures.only os rest fits e)
+    (list_none code_of_known_bit CodableKnownBit _ _ _ _ _ _ c.in_ok-count.ensures.only c.loop.invariant.begins (omega (arith, c.loop.invariant.count)) c.in_err-known_bit.ensures.only os rest fits e)
 
 pub loop-preserved : goal.loop-preserved
 loop-preserved c = record {

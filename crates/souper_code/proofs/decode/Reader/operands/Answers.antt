@@ -8,7 +8,7 @@ use Rattle.souper_code.proofs.decode.Reader.operands.Goals as goal
 pub returns-in_err-operand-clause-only : goal.returns-in_err-operand-clause-only
 returns-in_err-operand-clause-only c = λ os rest fits e.
     passed _ c.in_err-operand.field-0.0 _ _ _ (search rules)
-        (list_none code_of_operand CodableOperand _ _ _ _ _ _ c.in_ok-count.ensures.only c.loop.invariant.begins (omega (arith, c.loop.invariant.count)) c.in_err-operand.ensures.only os rest fits e)
+    (list_none code_of_operand CodableOperand _ _ _ _ _ _ c.in_ok-count.ensures.only c.loop.invariant.begins (omega (arith, c.loop.invariant.count)) c.in_err-operand.ensures.only os rest fits e)
 
 pub loop-preserved : goal.loop-preserved
 loop-preserved c = record {
