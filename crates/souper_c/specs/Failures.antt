@@ -4,6 +4,8 @@ use Rattle.std.specs.Str.{IsUtf8}
 use Rattle.souper_ir.specs.Errors.{kind_of, offset_of, line_of, column_of, shown_error}
 use Rattle.souper_ir.specs.declared.parse.ParseError.{ParseError}
 use Rattle.souper_ir.specs.declared.parse.ParseErrorKind.TheVariants.{Parse}
+use Rattle.souper_code.specs.declared.write.WriteError.{WriteError}
+use Rattle.souper_code.specs.declared.write.WriteError.TheVariants.{NoCode, NotWellFormed, OutOfMemory as StopOutOfMemory}
 use Rattle.souper_c.specs.Kinds.{type_of_number, OfType}
 use Rattle.souper_c.specs.Outcomes.{IsRefusedAt}
 use Rattle.souper_c.specs.declared.outcome.SouperOutcome.{SouperOutcome}
@@ -46,3 +48,9 @@ outcome_of (Refused r) input =
 -- the outcome for a buffer that lacks room for that many bytes
 abbrev pub short_outcome : ℕ → SouperOutcome
 short_outcome length = record { status = 5; input = 0; length = length; offset = 0; line = 0; column = 0 }
+
+-- the outcome that says why there are no texts of the items of a code
+abbrev pub outcome_of_stop : WriteError → SouperOutcome
+outcome_of_stop (NoCode p) = record { status = 7; input = 0; length = p.index; offset = p.offset; line = 0; column = 0 }
+outcome_of_stop (NotWellFormed p) = record { status = 8; input = 0; length = p.index; offset = p.offset; line = 0; column = 0 }
+outcome_of_stop StopOutOfMemory = record { status = 3; input = 0; length = 0; offset = 0; line = 0; column = 0 }

@@ -8,12 +8,14 @@ use Rattle.souper_graph.specs.Syntax.Spelling.{ItemType, TextSpells, SpellsNone}
 use Rattle.souper_ir.specs.Places.{IsRefusalTextAt}
 use Rattle.souper_format.specs.Formatted.{IsFormatted}
 use Rattle.souper_code.specs.Codes.{code_of_items}
+use Rattle.souper_code.specs.Writing.{IsWritten}
+use Rattle.souper_code.specs.declared.write.Place.{Place}
 use Rattle.souper_c.specs.Kinds.{OfType}
 use Rattle.souper_c.specs.declared.outcome.SouperOutcome.{SouperOutcome}
 
 -- the source spells items of the type, and the bytes are their code
-abbrev pub IsCodeOf : ItemType → List ℕ → List ℕ → Type 0
-IsCodeOf k source code = (xs : List Item) × TextSpells k source xs × (code ≡ code_of_items xs)
+abbrev pub IsCodeOfText : ItemType → List ℕ → List ℕ → Type 0
+IsCodeOfText k source code = (xs : List Item) × TextSpells k source xs × (code ≡ code_of_items xs)
 
 -- the source spells items of the kind, and the text is their canonical texts
 abbrev pub FormatsTo : ℕ → List ℕ → List ℕ → Type 0
@@ -21,7 +23,7 @@ FormatsTo kind source text = OfType kind (λ k. IsFormatted k source text)
 
 -- the source spells items of the kind, and the bytes are their code
 abbrev pub CodesTo : ℕ → List ℕ → List ℕ → Type 0
-CodesTo kind source code = OfType kind (λ k. IsCodeOf k source code)
+CodesTo kind source code = OfType kind (λ k. IsCodeOfText k source code)
 
 -- the source spells no items of the kind; its refusal has that place, and the text shows it
 abbrev pub IsRefusedAt : ℕ → List ℕ → ℕ → ℕ → ℕ → List ℕ → Type 0
@@ -75,6 +77,20 @@ IsShort = IsShortFor FormatsTo
 -- of code
 abbrev pub IsShortCode : ℕ → List ℕ → SouperOutcome → List ℕ → Type 0
 IsShortCode = IsShortFor CodesTo
+
+-- the canonical texts of the items of a code were written to the buffer
+abbrev pub WritesItems : ℕ → List ℕ → SouperOutcome → List ℕ → List ℕ → Type 0
+WritesItems kind code o old new =
+    (text : List ℕ) × OfType kind (λ k. IsWritten k code text) × (o.length ≡ length text) × BeginsWith old new text
+
+-- the buffer is shorter than the canonical texts of the items of a code, whose length the outcome has
+abbrev pub IsShortItems : ℕ → List ℕ → SouperOutcome → List ℕ → Type 0
+IsShortItems kind code o old =
+    (length old < o.length) × ((text : List ℕ) × OfType kind (λ k. IsWritten k code text) × (o.length ≡ length text))
+
+-- the item that the outcome tells by the number of items and of bytes before it
+abbrev pub place_of : SouperOutcome → Place
+place_of o = record { index = o.length; offset = o.offset }
 
 -- the source is its own canonical texts
 abbrev pub IsCanonical : ℕ → List ℕ → SouperOutcome → Type 0

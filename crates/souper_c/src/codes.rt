@@ -7,7 +7,7 @@ ghost use Rattle.souper_ir.specs.Answers.{IsStrError};
 ghost use Rattle.souper_format.specs.Kinds.{item_type_of};
 ghost use Rattle.souper_code.specs.Codes.{code_of_items};
 ghost use Rattle.souper_c.specs.Kinds.{IsKind};
-ghost use Rattle.souper_c.specs.Outcomes.{IsCodeOf, CodesTo};
+ghost use Rattle.souper_c.specs.Outcomes.{IsCodeOfText, CodesTo};
 ghost use Rattle.souper_c.specs.Failures.{IsFailure};
 ghost use Rattle.souper_c.specs.declared.inputs.Failure.TheVariants.{NotUtf8};
 
@@ -37,7 +37,7 @@ fn code_of_source<T: WholeItem + Encode + Drop>(
     alloc: Global,
     source: &str,
 ) -> Result<Vec<u8>, ParseError>
-    ensures coded { IfOk result (λ code. IsCodeOf T.item_type source.now code.items) }
+    ensures coded { IfOk result (λ code. IsCodeOfText T.item_type source.now code.items) }
     ensures refused { IfErr result (λ e. IsStrError T.item_type None source.now e) }
     ensures gaps { IsLastGap source.now → IsOkAnd result (λ code. code.items ≡ []) }
 {
@@ -49,7 +49,7 @@ fn code_of_source<T: WholeItem + Encode + Drop>(
 }
 
 fn code_of_text(alloc: Global, kind: Kind, source: &str) -> Result<Vec<u8>, ParseError>
-    ensures coded { IfOk result (λ code. IsCodeOf (item_type_of kind) source.now code.items) }
+    ensures coded { IfOk result (λ code. IsCodeOfText (item_type_of kind) source.now code.items) }
     ensures refused { IfErr result (λ e. IsStrError (item_type_of kind) None source.now e) }
     ensures gaps { IsLastGap source.now → IsOkAnd result (λ code. code.items ≡ []) }
 {

@@ -60,7 +60,8 @@ impl Failure {
     }
 }
 
-fn read_kind(number: u32) -> Option<Kind>
+/// The kind with that number.
+pub(crate) fn read_kind(number: u32) -> Option<Kind>
     ensures { option_map item_type_of result ≡ type_of_number number }
 {
     match number {

@@ -7,20 +7,23 @@
 mod codes;
 mod inputs;
 mod outcome;
+mod texts;
 #[cfg(test)]
 mod tests;
 
 ghost use Rattle.std.specs.Prelude.{◌≡◌, ◌≢◌, ◌<◌, ◌≤◌, ◌⊎◌, ◌↔◌, None, length};
 ghost use Rattle.std.specs.Str.{IsUtf8};
 ghost use Rattle.souper_graph.specs.Syntax.Tokens.{IsLastGap};
-ghost use Rattle.souper_c.specs.Kinds.{type_of_number, IsKind};
-ghost use Rattle.souper_c.specs.Outcomes.{HasNoPlace, BeginsWith, WritesTexts, WritesCode, WritesRefusal, IsShort, IsShortCode, IsCanonical, IsNotCanonical, Refuses, BothSpell, AreSame, AreNotSame, RefusesInput, IsNoTextInput, SpellsSome};
+ghost use Rattle.souper_c.specs.Kinds.{type_of_number, IsKind, OfType};
+ghost use Rattle.souper_c.specs.Outcomes.{HasNoPlace, BeginsWith, WritesTexts, WritesCode, WritesItems, IsShortItems, place_of, WritesRefusal, IsShort, IsShortCode, IsCanonical, IsNotCanonical, Refuses, BothSpell, AreSame, AreNotSame, RefusesInput, IsNoTextInput, SpellsSome};
+ghost use Rattle.souper_code.specs.Writing.{IsNoCodeAt, IsIllFormedAt};
 ghost use Rattle.souper_c.specs.Failures.{short_outcome};
 
 use crate::codes::code;
-use crate::inputs::{Failure, canonical_text, items};
+use crate::inputs::{Failure, canonical_text, items, read_kind};
 pub use crate::outcome::SouperOutcome;
-use crate::outcome::{DIFFERENT, DONE, OUT_OF_MEMORY, SHORT};
+use crate::outcome::{DIFFERENT, DONE, NO_KIND, OUT_OF_MEMORY, SHORT};
+use crate::texts::{outcome_of_stop, texts_of_code};
 use souper_format::same::same;
 use std::alloc::Global;
 
@@ -117,6 +120,50 @@ pub extern "C" fn souper_read(
     match failure {
         Failure::Refused(refusal) => write(refusal.shown.as_bytes(), outcome, out),
         Failure::NoKind | Failure::NotUtf8 | Failure::OutOfMemory => outcome,
+    }
+}
+
+/// Writes the canonical text of each item whose code `code` is, a newline after each, to the beginning of `out`.
+///
+/// The kinds are as for [`souper_format`]. The bytes are the code of one list of items of the kind or of none, and the status is
+///
+/// - 0, done: `out` begins with the canonical texts, which have `length` bytes.
+/// - 2: the kind is no kind.
+/// - 3: memory ran out.
+/// - 5: `out` is shorter than the canonical texts, which have `length` bytes.
+/// - 7: the bytes are the code of no list of items of the kind. They begin with the codes of `length` items, which have `offset`
+///   bytes, and the code of no item follows.
+/// - 8: the item after the first `length`, whose code begins at byte `offset`, is the first that is not well formed.
+///
+/// The rest of `out` is as it was, and if the status is not 0, all of it.
+#[unsafe(no_mangle)]
+pub extern "C" fn souper_write(
+    alloc: Global,
+    kind: u32,
+    code: &[u8],
+    out: &mut [u8],
+) -> SouperOutcome
+    ensures known { (result.status ≡ 0) ⊎ (result.status ≡ 2) ⊎ (result.status ≡ 3) ⊎ (result.status ≡ 5) ⊎ (result.status ≡ 7) ⊎ (result.status ≡ 8) }
+    ensures written { result.status ≡ 0 → WritesItems kind code.now result out.old out.new }
+    ensures no_kind { (result.status ≡ 2) ↔ (type_of_number kind ≡ None) }
+    ensures short { result.status ≡ 5 → IsShortItems kind code.now result out.old }
+    ensures no_code { result.status ≡ 7 → OfType kind (λ k. IsNoCodeAt k code.now (place_of result)) }
+    ensures ill_formed { result.status ≡ 8 → OfType kind (λ k. IsIllFormedAt k code.now (place_of result)) }
+    ensures kept { 2 ≤ result.status → out.new ≡ out.old }
+    ensures no_place { (7 ≤ result.status) ⊎ HasNoPlace result }
+    ensures no_length { (result.status ≡ 2) ⊎ (result.status ≡ 3) → result.length ≡ 0 }
+    ensures first { (result.input ≡ 0) × (result.line ≡ 0) × (result.column ≡ 0) }
+{
+    let kind = match read_kind(kind) {
+        Some(kind) => kind,
+        None => return SouperOutcome::new(NO_KIND, 0),
+    };
+    match texts_of_code(alloc, kind, code) {
+        Ok(text) => {
+            let outcome = SouperOutcome::new(DONE, text.len());
+            write(text.as_bytes(), outcome, out)
+        }
+        Err(error) => outcome_of_stop(error),
     }
 }
 

@@ -22,20 +22,27 @@ pub(crate) const SHORT: u32 = 5;
 /// The answer to a question is no.
 pub(crate) const DIFFERENT: u32 = 6;
 
+/// The bytes are the code of no list of items.
+pub(crate) const NO_CODE: u32 = 7;
+
+/// The bytes are the code of items, and one of them is not well formed.
+pub(crate) const NOT_WELL_FORMED: u32 = 8;
+
 /// What a call did. A number that is not named below for the status is 0.
 #[repr(C)]
 #[derive(Clone, Copy, Debug, PartialEq, Eq)]
 pub struct SouperOutcome {
-    /// 0 done, or yes; 1 refused; 2 no kind; 3 out of memory; 4 not UTF-8; 5 short buffer; 6 no.
+    /// 0 done, or yes; 1 refused; 2 no kind; 3 out of memory; 4 not UTF-8; 5 short buffer; 6 no; 7 no code; 8 not well formed.
     pub status: u32,
 
     /// Which text was refused or is not UTF-8: 0 for the first, 1 for the second.
     pub input: u32,
 
-    /// The number of bytes of what was written, or of what a buffer must have room for.
+    /// The number of bytes of what was written, or of what a buffer must have room for; with status 7 or 8, how many items are
+    /// before the one that the status is about.
     pub length: usize,
 
-    /// Where the text was refused: how many bytes were read.
+    /// Where the text was refused: how many bytes were read; with status 7 or 8, how many bytes are before the code of that item.
     pub offset: usize,
 
     /// The line of the last of these bytes, or of the first of the text if there is none; from 1.
