@@ -7,16 +7,16 @@
 mod codes;
 mod inputs;
 mod outcome;
-mod texts;
 #[cfg(test)]
 mod tests;
+mod texts;
 
 ghost use Rattle.std.specs.Prelude.{◌≡◌, ◌≢◌, ◌<◌, ◌≤◌, ◌⊎◌, ◌↔◌, None, length};
 ghost use Rattle.std.specs.Str.{IsUtf8};
 ghost use Rattle.souper_graph.specs.Syntax.Tokens.{IsLastGap};
 ghost use Rattle.souper_c.specs.Kinds.{type_of_number, IsKind, OfType};
 ghost use Rattle.souper_c.specs.Outcomes.{HasNoPlace, BeginsWith, WritesTexts, WritesCode, WritesItems, IsShortItems, place_of, WritesRefusal, IsShort, IsShortCode, IsCanonical, IsNotCanonical, Refuses, BothSpell, AreSame, AreNotSame, RefusesInput, IsNoTextInput, SpellsSome};
-ghost use Rattle.souper_code.specs.Writing.{IsNoCodeAt, IsIllFormedAt};
+ghost use Rattle.souper_code.specs.Writing.{IsNoCode, IsNoCodeAt, IsCodeOfWellFormed, IsIllFormedAt};
 ghost use Rattle.souper_c.specs.Failures.{short_outcome};
 
 use crate::codes::code;
@@ -148,6 +148,8 @@ pub extern "C" fn souper_write(
     ensures no_kind { (result.status ≡ 2) ↔ (type_of_number kind ≡ None) }
     ensures short { result.status ≡ 5 → IsShortItems kind code.now result out.old }
     ensures no_code { result.status ≡ 7 → OfType kind (λ k. IsNoCodeAt k code.now (place_of result)) }
+    ensures no_other_code { OfType kind (λ k. IsNoCode k code.now) → (result.status ≡ 3) ⊎ (result.status ≡ 7) }
+    ensures well_formed { OfType kind (λ k. IsCodeOfWellFormed k code.now) → (result.status ≡ 0) ⊎ (result.status ≡ 3) ⊎ (result.status ≡ 5) }
     ensures ill_formed { result.status ≡ 8 → OfType kind (λ k. IsIllFormedAt k code.now (place_of result)) }
     ensures kept { 2 ≤ result.status → out.new ≡ out.old }
     ensures no_place { (7 ≤ result.status) ⊎ HasNoPlace result }

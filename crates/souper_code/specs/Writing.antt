@@ -23,6 +23,10 @@ IsCodeOfOnly k code xs = IsCodeOf k code xs × ((ys : List Item) → IsCodeOf k 
 abbrev pub IsNoCode : ItemType → List ℕ → Type 0
 IsNoCode k code = (xs : List Item) → ¬ (IsCodeOf k code xs)
 
+-- the bytes are the code of well-formed items of the type
+abbrev pub IsCodeOfWellFormed : ItemType → List ℕ → Type 0
+IsCodeOfWellFormed k code = (xs : List Item) × IsCodeOf k code xs × AllByRecursion WellFormed xs
+
 -- the bytes do not begin with the code of an item of the type
 abbrev pub BeginsWithNone : ItemType → List ℕ → Type 0
 BeginsWithNone k code = (x : Item) (rest : List ℕ) → CodableItem k x → ¬ (code ≡ code_of x ++ rest)
