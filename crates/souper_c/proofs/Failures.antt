@@ -9,8 +9,8 @@ use Rattle.souper_ir.specs.Errors.{offset_of, line_of, column_of, shown_error, S
 use Rattle.souper_ir.specs.Places.{IsRefusalTextAt}
 use Rattle.souper_ir.specs.declared.parse.ParseError.{ParseError}
 use Rattle.souper_c.specs.Kinds.{type_of_number}
-use Rattle.souper_c.specs.Outcomes.{IsShortFor, BeginsWith}
-use Rattle.souper_c.specs.Failures.{IsFailure, IsFailureOf, short_outcome}
+use Rattle.souper_c.specs.Outcomes.{IsShortFor, BeginsWith, WritesRefusal}
+use Rattle.souper_c.specs.Failures.{IsFailure, IsFailureOf, outcome_of, short_outcome}
 use Rattle.souper_c.specs.declared.outcome.SouperOutcome.{SouperOutcome}
 use Rattle.souper_c.specs.declared.inputs.Refusal.{Refusal}
 use Rattle.souper_c.specs.declared.inputs.Failure.{Failure}
@@ -62,4 +62,22 @@ refusal_is_short gives number source old new r given o is (fits, lacks) is_given
       | inl l ↦ subst (λ (o : SouperOutcome). IsShortFor gives number source o old) (sym (lacks l).0)
           (l, (string_bytes r.shown, inr (r.offset, r.line, r.column, is), refl))
       | inr l ↦ (let clash : 1 ≡ 5 = sym is_given ∙ (sym (ap (λ (o : SouperOutcome). o.status) (fits l).0) ∙ is_short) in absurd (omega (arith, clash)))
+    ]
+
+-- a refusal that was written
+pub refusal_is_written : (number : ℕ) (source old new : List ℕ) (r : Refusal) (given o : SouperOutcome) → IsFailure number source (Refused r)
+    → Wrote old new (string_bytes r.shown) given o → given ≡ outcome_of (Refused r) 0 → o.status ≡ 1 → WritesRefusal number source o old new
+refusal_is_written number source old new r given o is (fits, lacks) is_given is_refused =
+    elim (cases_lt (length old) (length (string_bytes r.shown))) [
+      | inl l ↦ (let clash : 5 ≡ 1 = sym (ap (λ (o : SouperOutcome). o.status) (lacks l).0) ∙ is_refused in absurd (omega (arith, clash)))
+      | inr l ↦ subst (λ (o : SouperOutcome). WritesRefusal number source o old new) (sym ((fits l).0 ∙ is_given)) (string_bytes r.shown, (is, refl), (fits l).1)
+    ]
+
+-- what was asked for was written
+pub bytes_are_written : (old new bytes : List ℕ) (given o : SouperOutcome) → Wrote old new bytes given o → given.length ≡ length bytes → o.status ≡ 0
+    → (o.length ≡ length bytes) × BeginsWith old new bytes
+bytes_are_written old new bytes given o (fits, lacks) is_given is_done =
+    elim (cases_lt (length old) (length bytes)) [
+      | inl l ↦ (let clash : 5 ≡ 0 = sym (ap (λ (o : SouperOutcome). o.status) (lacks l).0) ∙ is_done in absurd (omega (arith, clash)))
+      | inr l ↦ (ap (λ (o : SouperOutcome). o.length) (fits l).0 ∙ is_given, (fits l).1)
     ]

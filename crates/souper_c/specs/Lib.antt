@@ -1,3 +1,4 @@
 pub mod Kinds
 pub mod Outcomes
 pub mod Failures
+pub mod Records

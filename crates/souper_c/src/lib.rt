@@ -7,6 +7,7 @@
 mod codes;
 mod inputs;
 mod outcome;
+mod records;
 #[cfg(test)]
 mod tests;
 mod texts;
@@ -15,14 +16,16 @@ ghost use Rattle.std.specs.Prelude.{◌≡◌, ◌≢◌, ◌<◌, ◌≤◌, �
 ghost use Rattle.std.specs.Str.{IsUtf8};
 ghost use Rattle.souper_graph.specs.Syntax.Tokens.{IsLastGap};
 ghost use Rattle.souper_c.specs.Kinds.{type_of_number, IsKind, OfType};
-ghost use Rattle.souper_c.specs.Outcomes.{HasNoPlace, BeginsWith, WritesTexts, WritesCode, WritesItems, IsShortItems, place_of, WritesRefusal, IsShort, IsShortCode, IsCanonical, IsNotCanonical, Refuses, BothSpell, AreSame, AreNotSame, RefusesInput, IsNoTextInput, SpellsSome};
+ghost use Rattle.souper_c.specs.Outcomes.{HasNoPlace, BeginsWith, WritesTexts, WritesCode, WritesItems, IsShortItems, place_of, WritesRefusal, IsShort, IsShortCode, IsShortFor, IsCanonical, IsNotCanonical, Refuses, BothSpell, AreSame, AreNotSame, RefusesInput, IsNoTextInput, SpellsSome};
 ghost use Rattle.souper_code.specs.Writing.{IsNoCode, IsNoCodeAt, IsCodeOfWellFormed, IsIllFormedAt};
+ghost use Rattle.souper_c.specs.Records.{RecordsTo, WritesRecords};
 ghost use Rattle.souper_c.specs.Failures.{short_outcome};
 
 use crate::codes::code;
 use crate::inputs::{Failure, canonical_text, items, read_kind};
 pub use crate::outcome::SouperOutcome;
-use crate::outcome::{DIFFERENT, DONE, NO_KIND, OUT_OF_MEMORY, SHORT};
+use crate::outcome::{DIFFERENT, DONE, NO_FLAGS, NO_KIND, OUT_OF_MEMORY, SHORT};
+use crate::records::{layout_of, records};
 use crate::texts::{outcome_of_stop, texts_of_code};
 use souper_format::same::same;
 use std::alloc::Global;
@@ -113,6 +116,53 @@ pub extern "C" fn souper_read(
         Ok(code) => {
             let outcome = SouperOutcome::new(DONE, code.len());
             return write(&code, outcome, out);
+        }
+        Err(failure) => failure,
+    };
+    let outcome = failure.outcome(0);
+    match failure {
+        Failure::Refused(refusal) => write(refusal.shown.as_bytes(), outcome, out),
+        Failure::NoKind | Failure::NotUtf8 | Failure::OutOfMemory => outcome,
+    }
+}
+
+/// Writes the record of each item that `text` spells to the beginning of `out`: its canonical text, and an empty line after it.
+///
+/// The flags are the sum of 1, for a line before each text with its key (`; ` and the SHA-256 of the text in hexadecimal digits),
+/// 2, for names by the printed order (`%0`, `%1`, and so on), and 4, for a NUL in place of the empty line. With 1 and 2, two items
+/// have the same key if and only if they are the same graph up to names, unless two texts have the same SHA-256. The program
+/// `souper_items` writes the same records.
+///
+/// The kinds and the statuses are as for [`souper_format`], with the records in place of the canonical texts, and 9: a flag is
+/// none of these.
+#[unsafe(no_mangle)]
+pub extern "C" fn souper_key(
+    alloc: Global,
+    kind: u32,
+    flags: u32,
+    text: &[u8],
+    out: &mut [u8],
+) -> SouperOutcome
+    ensures known { (result.status ≤ 5) ⊎ (result.status ≡ 9) }
+    ensures recorded { result.status ≡ 0 → WritesRecords flags kind text.now result out.old out.new }
+    ensures refused { result.status ≡ 1 → WritesRefusal kind text.now result out.old out.new }
+    ensures no_flags { (result.status ≡ 9) ↔ (8 ≤ flags) }
+    ensures no_kind { (result.status ≡ 2) ↔ ((flags < 8) × (type_of_number kind ≡ None)) }
+    ensures no_text { (result.status ≡ 4) ↔ ((flags < 8) × IsKind kind × ¬ (IsUtf8 text.now)) }
+    ensures short { result.status ≡ 5 → IsShortFor (RecordsTo flags) kind text.now result out.old }
+    ensures kept { 2 ≤ result.status → out.new ≡ out.old }
+    ensures no_place { (result.status ≡ 1) ⊎ HasNoPlace result }
+    ensures no_length { 2 ≤ result.status → (result.status ≡ 5) ⊎ (result.length ≡ 0) }
+    ensures first { result.input ≡ 0 }
+{
+    let layout = match layout_of(flags) {
+        Some(layout) => layout,
+        None => return SouperOutcome::new(NO_FLAGS, 0),
+    };
+    let failure = match records(alloc, kind, layout, text) {
+        Ok(records) => {
+            let outcome = SouperOutcome::new(DONE, records.len());
+            return write(records.as_bytes(), outcome, out);
         }
         Err(failure) => failure,
     };

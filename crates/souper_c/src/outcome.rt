@@ -28,11 +28,14 @@ pub(crate) const NO_CODE: u32 = 7;
 /// The bytes are the code of items, and one of them is not well formed.
 pub(crate) const NOT_WELL_FORMED: u32 = 8;
 
+/// A flag is none.
+pub(crate) const NO_FLAGS: u32 = 9;
+
 /// What a call did. A number that is not named below for the status is 0.
 #[repr(C)]
 #[derive(Clone, Copy, Debug, PartialEq, Eq)]
 pub struct SouperOutcome {
-    /// 0 done, or yes; 1 refused; 2 no kind; 3 out of memory; 4 not UTF-8; 5 short buffer; 6 no; 7 no code; 8 not well formed.
+    /// 0 done, or yes; 1 refused; 2 no kind; 3 out of memory; 4 not UTF-8; 5 short buffer; 6 no; 7 no code; 8 not well formed; 9 no flags.
     pub status: u32,
 
     /// Which text was refused or is not UTF-8: 0 for the first, 1 for the second.
