@@ -1,5 +1,7 @@
 //! Each call with each of its statuses, but for out of memory.
-use crate::{SouperOutcome, souper_check, souper_format, souper_read, souper_same};
+use crate::{
+    SouperOutcome, souper_check, souper_format, souper_key, souper_read, souper_same, souper_write,
+};
 use std::alloc::Global;
 use std::fmt::Debug;
 use std::process::Abort;
@@ -62,6 +64,93 @@ fn code_is_written(rt: HostRuntime) {
         b"\0\0\0\0\0\0\0\0\x01\x01\xfe\xff\xff\xff\xff\xff\xff\xff\xff\xff\xff\xff\xff\xff\xff\xff\x01\x08\0";
     equal(&rt, out.get(..29), Some(result));
     let refused = souper_read(rt.alloc(), 2, b"result -2", &mut out);
+    equal(&rt, (refused.status, refused.offset), (1, 0));
+}
+
+// The code of the text, and from it the canonical text, a newline after it.
+fn reads_back(rt: &impl Abort, alloc: Global, kind: u32, text: &[u8], want: &[u8]) {
+    let mut code = [b'.'; 8 * ROOM];
+    let read = souper_read(alloc, kind, text, &mut code);
+    equal(rt, read.status, 0);
+    let mut out = [b'.'; 2 * ROOM];
+    let written = souper_write(alloc, kind, &code[..read.length], &mut out);
+    equal(rt, written, plain(0, want.len()));
+    equal(rt, out.get(..want.len()), Some(want));
+    let short = souper_write(
+        alloc,
+        kind,
+        &code[..read.length],
+        &mut out[..want.len() - 1],
+    );
+    equal(rt, short, plain(5, want.len()));
+}
+
+#[test]
+fn items_are_written_from_their_code(rt: HostRuntime) {
+    let alloc = rt.alloc();
+    let text = b"%z = var\n%b = block 2\n%x:i8 = var (knownBits=01x) (range=[-3,4)) (signBits=2)\n\
+        %p:i8 = phi %b, %x, -1:i8\nblockpc %b 1 %x 7\npc %p 1\ninfer %p (demandedBits=10)";
+    let want = b"%b = block 2\n%x:i8 = var (knownBits=01x) (range=[-3,4)) (signBits=2)\n\
+        %p:i8 = phi %b, %x, -1:i8\nblockpc %b 1 %x 7\npc %p 1\ninfer %p (demandedBits=10)\n\n";
+    reads_back(&rt, alloc, 0, text, want);
+    reads_back(&rt, alloc, 1, b"result 5:i8", b"result 5:i8\n");
+    let text = b"%x = var %y = sub %x, 1 cand %y %x";
+    let want = b"%x = var\n%y = sub %x, 1\ncand %y %x\n\n";
+    reads_back(&rt, alloc, 2, text, want);
+}
+
+// An outcome about the item with an index, whose code is at an offset.
+fn at(status: u32, index: usize, offset: usize) -> SouperOutcome {
+    SouperOutcome {
+        offset,
+        ..plain(status, index)
+    }
+}
+
+#[test]
+fn other_bytes_are_no_code(rt: HostRuntime) {
+    let alloc = rt.alloc();
+    let mut out = [b'.'; ROOM];
+    equal(&rt, souper_write(alloc, 3, b"", &mut out), plain(2, 0));
+    equal(&rt, souper_write(alloc, 1, b"", &mut out), plain(0, 0));
+    let result = b"\0\0\0\0\0\0\0\0\x01\0\x05\0\0\0\0\0\0\0";
+    equal(&rt, souper_write(alloc, 1, result, &mut out), at(8, 0, 0));
+    equal(&rt, souper_write(alloc, 0, result, &mut out), at(7, 0, 0));
+    equal(
+        &rt,
+        souper_write(alloc, 1, &result[..17], &mut out),
+        at(7, 0, 0),
+    );
+    let huge = b"\xff\xff\xff\xff\xff\xff\xff\xff\0";
+    equal(&rt, souper_write(alloc, 1, huge, &mut out), at(7, 0, 0));
+    let mut code = [0; ROOM];
+    let read = souper_read(alloc, 1, b"result 1 result 2", &mut code);
+    equal(&rt, read, plain(0, 54));
+    equal(
+        &rt,
+        souper_write(alloc, 1, &code[..55], &mut out),
+        at(7, 2, 54),
+    );
+    equal(&rt, out, [b'.'; ROOM]);
+}
+
+#[test]
+fn records_have_their_flags(rt: HostRuntime) {
+    let alloc = rt.alloc();
+    let mut out = [b'.'; ROOM];
+    let done = souper_key(alloc, 1, 4, b"result 1 result 2", &mut out);
+    equal(&rt, done, plain(0, 18));
+    equal(&rt, out.get(..19), Some(b"result 1\0result 2\0."));
+    let done = souper_key(alloc, 0, 3, b"%x=var infer %x", &mut out);
+    equal(&rt, done, plain(0, 86));
+    // The key is what `printf '%%0 = var\ninfer %%0\n' | sha256sum` prints.
+    let want =
+        b"; d32f2ebccf6585b8a12455a400baff7b04e2eaa4b0ecef3bf2107f7f84065684\n%0 = var\ninfer %0\n\n";
+    equal(&rt, out.get(..86), Some(want));
+    equal(&rt, souper_key(alloc, 3, 8, b"", &mut out), plain(9, 0));
+    equal(&rt, souper_key(alloc, 3, 7, b"", &mut out), plain(2, 0));
+    equal(&rt, souper_key(alloc, 1, 0, b"\xff", &mut out), plain(4, 0));
+    let refused = souper_key(alloc, 1, 0, b"infer", &mut out);
     equal(&rt, (refused.status, refused.offset), (1, 0));
 }
 

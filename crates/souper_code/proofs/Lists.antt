@@ -1,8 +1,7 @@
 -- Reading a list: the elements that were read so far begin each list whose code the bytes begin with.
-use Rattle.std.proofs.Common.{◌≡◌, ℕ, ◌<◌, ◌≤◌, ◌^◌, ◌+◌, List, [], ◌∷◌, ◌++◌, length, flat_map, Result, Err, refl, sym, ◌∙◌, ap, subst, append_assoc, arith, rules, length-append}
+use Rattle.std.proofs.Common.{◌≡◌, ℕ, ◌<◌, ◌≤◌, ◌^◌, List, [], ◌∷◌, ◌++◌, length, flat_map, Result, Err, refl, sym, ◌∙◌, ap, subst, append_assoc, arith, rules, length-append}
 use Rattle.std.specs.List.{AllByRecursion}
 use Rattle.souper_code.specs.declared.decode.DecodeError.{DecodeError}
-use Rattle.souper_code.specs.declared.decode.DecodeError.TheVariants.{NoCode, OutOfMemory}
 use Rattle.souper_code.specs.Codes.{code_of_size, code_of_list}
 use Rattle.souper_code.specs.Codable.{CodableList}
 use Rattle.souper_code.specs.Reading.{IsMemory, Gives}

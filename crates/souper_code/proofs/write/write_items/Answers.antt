@@ -1,11 +1,7 @@
-use Rattle.std.proofs.Common.{rules, ◌≡◌, ◌≢◌, ℕ, List, [], ◌∷◌, ◌++◌, length, arith, length-append, ap, sym, subst, ◌∙◌}
-use Rattle.std.proofs.lemmas.Grind.{common_steps}
-use Rattle.std.specs.String.{string_bytes}
+use Rattle.std.proofs.Common.{rules, ◌≢◌, List, [], ◌∷◌, ◌++◌, arith, length-append, subst}
 use Rattle.souper_graph.specs.Values.{Item}
-use Rattle.souper_code.specs.declared.decode.DecodeError.TheVariants.{NoCode}
 use Rattle.souper_code.specs.Writing.{IsCodeOfOnly, BeginsWithNone}
-use Rattle.souper_code.specs.Judging.{Judged}
-use Rattle.souper_code.proofs.Items.{HasRead, nothing_read, read_more, all_read, none_read, offset_is, count_is}
+use Rattle.souper_code.proofs.Items.{read_more, all_read, none_read, offset_is, count_is}
 use Rattle.souper_code.proofs.write.write_items.Goals as goal
 
 pub returns-in-Err-NoCode-clause-stopped : goal.returns-in-Err-NoCode-clause-stopped

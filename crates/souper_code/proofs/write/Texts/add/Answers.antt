@@ -1,5 +1,4 @@
-use Rattle.std.proofs.Common.{rules, ◌≡◌, ℕ, List, [], ◌∷◌, ◌++◌, Some, Option, ◌∙◌, ap, subst, sym, append_assoc}
-use Rattle.std.specs.String.{string_bytes}
+use Rattle.std.proofs.Common.{◌≡◌, ℕ, List, [], ◌∷◌, ◌++◌, Some, Option, ◌∙◌, ap, subst, sym, append_assoc}
 use Rattle.souper_graph.specs.Values.{Item}
 use Rattle.souper_code.specs.declared.write.Place.{Place}
 use Rattle.souper_code.specs.Judging.{Judged}
