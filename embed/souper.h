@@ -1,4 +1,5 @@
-/* Souper IR for C and C++: canonical texts, whether two texts have the same graphs, whether a text is canonical.
+/* Souper IR for C and C++: canonical texts and their keys, whether two texts have the same graphs, whether a text is canonical,
+ * and the code of graphs, which is read and written without a parser.
  *
  * The functions are those of libsouper_c.a, whose contracts are proved. docs/EMBEDDING.md says what is proved, what is tested,
  * and how to build and link.
@@ -38,13 +39,23 @@ enum { SOUPER_LHS = 0, SOUPER_RHS = 1, SOUPER_REP = 2 };
 
 /* Statuses. */
 enum {
-    SOUPER_DONE = 0,          /* done; or, to a question, yes */
-    SOUPER_REFUSED = 1,       /* a text spells no list of items of the kind */
-    SOUPER_NO_KIND = 2,       /* the kind is not 0, 1 or 2 */
-    SOUPER_OUT_OF_MEMORY = 3, /* an allocation failed */
-    SOUPER_NOT_UTF8 = 4,      /* a text is not UTF-8 */
-    SOUPER_SHORT = 5,         /* `out` is too short; nothing was written */
-    SOUPER_DIFFERENT = 6      /* to a question, no */
+    SOUPER_DONE = 0,            /* done; or, to a question, yes */
+    SOUPER_REFUSED = 1,         /* a text spells no list of items of the kind */
+    SOUPER_NO_KIND = 2,         /* the kind is not 0, 1 or 2 */
+    SOUPER_OUT_OF_MEMORY = 3,   /* an allocation failed */
+    SOUPER_NOT_UTF8 = 4,        /* a text is not UTF-8 */
+    SOUPER_SHORT = 5,           /* `out` is too short; nothing was written */
+    SOUPER_DIFFERENT = 6,       /* to a question, no */
+    SOUPER_NO_CODE = 7,         /* the bytes are the code of no list of items of the kind */
+    SOUPER_NOT_WELL_FORMED = 8, /* the bytes are the code of items, and one of them is not well formed */
+    SOUPER_NO_FLAGS = 9         /* a flag is none of the three */
+};
+
+/* Flags of souper_key; they may be combined by `|`. */
+enum {
+    SOUPER_KEY = 1,    /* before each text a line `; ` and the SHA-256 of the text in hexadecimal digits */
+    SOUPER_RENAME = 2, /* names %0, %1, .. in printed order */
+    SOUPER_NULL = 4    /* a byte 0 after each text in place of the empty line */
 };
 
 /* What a call did. What is not named for the status is 0. */
@@ -52,7 +63,7 @@ typedef struct SouperOutcome {
     uint32_t status;
     uint32_t input; /* REFUSED, NOT_UTF8: of two texts, which one: 0 the first, 1 the second */
     size_t length;  /* see each function */
-    size_t offset;  /* REFUSED: how many bytes were read */
+    size_t offset;  /* REFUSED: how many bytes were read; NO_CODE, NOT_WELL_FORMED: where the code of the item begins */
     size_t line;    /* REFUSED: the line of the last of these bytes, or of the first of the text if there is none; from 1 */
     size_t column;  /* REFUSED: its column, from 1 */
 } SouperOutcome;
@@ -73,6 +84,24 @@ SOUPER_CALL SouperOutcome souper_format(uint32_t kind, const uint8_t *text, size
  * DONE: `length` bytes were written, the code. REFUSED, SHORT, NO_KIND, OUT_OF_MEMORY, NOT_UTF8 and the other bytes of `out`:
  * as for souper_format. */
 SOUPER_CALL SouperOutcome souper_read(uint32_t kind, const uint8_t *text, size_t text_length, uint8_t *out, size_t out_length);
+
+/* Writes the canonical text of each item that the code has, a newline after each, to the beginning of `out`: of the code that
+ * souper_read writes for a text, what souper_format writes for the text.
+ *
+ * DONE: `length` bytes were written.
+ * NO_CODE: `length` items were read before the first whose code is none, which begins at `offset`.
+ * NOT_WELL_FORMED: the item at index `length`, from 0, is not well formed; its code begins at `offset`.
+ * SHORT: `out` has fewer than the `length` bytes that DONE would write.
+ * NO_KIND, OUT_OF_MEMORY: as above.
+ *
+ * The other bytes of `out` are as before; unless the status is DONE, all of them. */
+SOUPER_CALL SouperOutcome souper_write(uint32_t kind, const uint8_t *code, size_t code_length, uint8_t *out, size_t out_length);
+
+/* Writes the record of each item that the text spells to the beginning of `out`: its canonical text and an empty line, and what
+ * the flags add or change. The program souper_items writes the same records.
+ *
+ * NO_FLAGS: a flag is none of the three. The other statuses, and the other bytes of `out`: as for souper_format. */
+SOUPER_CALL SouperOutcome souper_key(uint32_t kind, uint32_t flags, const uint8_t *text, size_t text_length, uint8_t *out, size_t out_length);
 
 /* Whether the text is canonical: what souper_format would write for it is the text itself.
  *

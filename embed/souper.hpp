@@ -1,8 +1,15 @@
-// Souper IR for C++17: canonical texts, whether two texts have the same graphs, whether a text is canonical.
+// Souper IR for C++17: items as values, which are read, built and written; canonical texts and their keys; whether two texts have
+// the same graphs, whether a text is canonical.
 //
-// Thin wrappers over souper.h, which says what the calls promise and what the caller sees to; these see to the pointers. They
-// need exceptions: a refused text is thrown as `souper::refused`, bytes that are not UTF-8 as `souper::not_utf8`, a kind that
-// is none as `std::invalid_argument`, and out of memory as `std::bad_alloc`. Code without exceptions calls souper.h.
+// Over souper.h, which says what the calls promise and what the caller sees to; these functions see to the pointers. Each comes in
+// two forms:
+//
+//   - `read`, `write`, `format`, .. throw, and exist only where exceptions are on. A refused text is thrown as `souper::refused`,
+//     bytes that are not UTF-8 as `souper::not_utf8`, an item that is not well formed as `souper::not_well_formed`, a damaged code
+//     as `souper::bad_code`, a kind or flag that is none as `std::invalid_argument`, and out of memory as `std::bad_alloc`;
+//   - `try_read`, `try_write`, `try_format`, .. are noexcept. They return whether they are done, and else say why in a
+//     `souper::error`. Where exceptions are off (-fno-exceptions; the header does without RTTI too), an allocation of the
+//     standard library that fails ends the program, as it does there.
 #ifndef SOUPER_HPP
 #define SOUPER_HPP
 
@@ -10,16 +17,1068 @@
 
 #include <cstddef>
 #include <cstdint>
+#include <cstring>
+#include <exception>
 #include <memory>
 #include <new>
+#include <optional>
 #include <stdexcept>
 #include <string>
 #include <string_view>
+#include <utility>
+#include <variant>
+#include <vector>
+
+static_assert(__BYTE_ORDER__ == __ORDER_LITTLE_ENDIAN__, "the archive is for x86-64, and the code is little-endian");
+
+// The instructions: the name in C++, the word in a text, the number of operands. Their order is their number in the code.
+#define SOUPER_INSTRUCTIONS(X) \
+    X(add, "add", 2) \
+    X(addnsw, "addnsw", 2) \
+    X(addnuw, "addnuw", 2) \
+    X(addnw, "addnw", 2) \
+    X(sub, "sub", 2) \
+    X(subnsw, "subnsw", 2) \
+    X(subnuw, "subnuw", 2) \
+    X(subnw, "subnw", 2) \
+    X(mul, "mul", 2) \
+    X(mulnsw, "mulnsw", 2) \
+    X(mulnuw, "mulnuw", 2) \
+    X(mulnw, "mulnw", 2) \
+    X(udiv, "udiv", 2) \
+    X(sdiv, "sdiv", 2) \
+    X(udivexact, "udivexact", 2) \
+    X(sdivexact, "sdivexact", 2) \
+    X(urem, "urem", 2) \
+    X(srem, "srem", 2) \
+    X(and_, "and", 2) \
+    X(or_, "or", 2) \
+    X(xor_, "xor", 2) \
+    X(shl, "shl", 2) \
+    X(shlnsw, "shlnsw", 2) \
+    X(shlnuw, "shlnuw", 2) \
+    X(shlnw, "shlnw", 2) \
+    X(lshr, "lshr", 2) \
+    X(lshrexact, "lshrexact", 2) \
+    X(ashr, "ashr", 2) \
+    X(ashrexact, "ashrexact", 2) \
+    X(select, "select", 3) \
+    X(zext, "zext", 1) \
+    X(sext, "sext", 1) \
+    X(trunc, "trunc", 1) \
+    X(eq, "eq", 2) \
+    X(ne, "ne", 2) \
+    X(ult, "ult", 2) \
+    X(slt, "slt", 2) \
+    X(ule, "ule", 2) \
+    X(sle, "sle", 2) \
+    X(ctpop, "ctpop", 1) \
+    X(bswap, "bswap", 1) \
+    X(bitreverse, "bitreverse", 1) \
+    X(cttz, "cttz", 1) \
+    X(ctlz, "ctlz", 1) \
+    X(fshl, "fshl", 3) \
+    X(fshr, "fshr", 3) \
+    X(sadd_with_overflow, "sadd.with.overflow", 2) \
+    X(uadd_with_overflow, "uadd.with.overflow", 2) \
+    X(ssub_with_overflow, "ssub.with.overflow", 2) \
+    X(usub_with_overflow, "usub.with.overflow", 2) \
+    X(smul_with_overflow, "smul.with.overflow", 2) \
+    X(umul_with_overflow, "umul.with.overflow", 2) \
+    X(sadd_sat, "sadd.sat", 2) \
+    X(uadd_sat, "uadd.sat", 2) \
+    X(ssub_sat, "ssub.sat", 2) \
+    X(usub_sat, "usub.sat", 2) \
+    X(extractvalue, "extractvalue", 2) \
+    X(hole, "hole", 0) \
+    X(freeze, "freeze", 1)
 
 namespace souper {
 
 /// What a text is read as.
 enum class kind : std::uint32_t { lhs = SOUPER_LHS, rhs = SOUPER_RHS, rep = SOUPER_REP };
+
+// ----------------------------------------------------------------
+// Items
+//
+// An item is plain data: a list of statements, and the last lines. Each value is compared by `==`.
+
+__extension__ typedef __int128 int128;
+
+/// A statement of an item, by its position in `item::statements`, from 0.
+struct id {
+    std::size_t position;
+
+    friend bool operator==(id a, id b) noexcept { return a.position == b.position; }
+    friend bool operator!=(id a, id b) noexcept { return a.position != b.position; }
+};
+
+/// A number, with a width in bits (1 to 65535) or without.
+struct constant {
+    int128 value;
+    std::optional<std::uint32_t> width = std::nullopt;
+
+    friend bool operator==(const constant &a, const constant &b) noexcept { return a.value == b.value && a.width == b.width; }
+    friend bool operator!=(const constant &a, const constant &b) noexcept { return !(a == b); }
+};
+
+/// What a statement uses: the value of another one, or a constant.
+using operand = std::variant<id, constant>;
+
+/// An instruction's operation.
+enum class op : std::uint8_t {
+#define SOUPER_X(name, text, operands) name,
+    SOUPER_INSTRUCTIONS(SOUPER_X)
+#undef SOUPER_X
+};
+
+/// The word of an operation in a text; empty if it is none of the 59.
+constexpr std::string_view word(op operation) noexcept {
+    switch (operation) {
+#define SOUPER_X(name, text, operands) \
+    case op::name: \
+        return text;
+        SOUPER_INSTRUCTIONS(SOUPER_X)
+#undef SOUPER_X
+    }
+    return {};
+}
+
+/// How many operands an operation has, 0 to 3.
+constexpr std::size_t operand_count(op operation) noexcept {
+    switch (operation) {
+#define SOUPER_X(name, text, operands) \
+    case op::name: \
+        return operands;
+        SOUPER_INSTRUCTIONS(SOUPER_X)
+#undef SOUPER_X
+    }
+    return 0;
+}
+
+// Right sides of assignments.
+
+/// An input.
+struct var {
+    friend bool operator==(var, var) noexcept { return true; }
+};
+
+/// A block, with its number of predecessors.
+struct block {
+    std::uint32_t predecessors;
+
+    friend bool operator==(block a, block b) noexcept { return a.predecessors == b.predecessors; }
+};
+
+/// A choice by a block: a value for each of its predecessors.
+struct phi {
+    id block;
+    std::vector<operand> values;
+
+    friend bool operator==(const phi &a, const phi &b) noexcept { return a.block == b.block && a.values == b.values; }
+};
+
+/// An instruction that Souper keeps for itself.
+struct reservedinst {
+    friend bool operator==(reservedinst, reservedinst) noexcept { return true; }
+};
+
+/// A constant that Souper keeps for itself.
+struct reservedconst {
+    friend bool operator==(reservedconst, reservedconst) noexcept { return true; }
+};
+
+/// An operation and its operands, `operand_count` of them.
+struct instruction {
+    op operation;
+    std::vector<operand> operands;
+
+    friend bool operator==(const instruction &a, const instruction &b) noexcept {
+        return a.operation == b.operation && a.operands == b.operands;
+    }
+};
+
+/// What an assignment assigns.
+using right_side = std::variant<var, block, phi, reservedinst, reservedconst, instruction>;
+
+// Attributes of assignments: what is known of a value.
+
+/// The bits of a value: `0`, `1`, or `x` for one that is not known, in the order of the text.
+struct known_bits {
+    std::string bits;
+
+    friend bool operator==(const known_bits &a, const known_bits &b) noexcept { return a.bits == b.bits; }
+};
+
+struct power_of_two {
+    friend bool operator==(power_of_two, power_of_two) noexcept { return true; }
+};
+
+struct negative {
+    friend bool operator==(negative, negative) noexcept { return true; }
+};
+
+struct non_negative {
+    friend bool operator==(non_negative, non_negative) noexcept { return true; }
+};
+
+struct non_zero {
+    friend bool operator==(non_zero, non_zero) noexcept { return true; }
+};
+
+struct has_external_uses {
+    friend bool operator==(has_external_uses, has_external_uses) noexcept { return true; }
+};
+
+/// The number of sign bits of a value.
+struct sign_bits {
+    std::uint8_t count;
+
+    friend bool operator==(sign_bits a, sign_bits b) noexcept { return a.count == b.count; }
+};
+
+/// Bounds of a value: `(range=[low,high))`.
+struct range {
+    int128 low, high;
+
+    friend bool operator==(const range &a, const range &b) noexcept { return a.low == b.low && a.high == b.high; }
+};
+
+/// An attribute of an assignment.
+using attribute = std::variant<known_bits, power_of_two, negative, non_negative, non_zero, has_external_uses, sign_bits, range>;
+
+// Statements.
+
+/// `name = value`. The name begins with its `%`; the width is in bits, 1 to 65535, or none.
+struct assignment {
+    std::string name;
+    std::optional<std::uint32_t> width;
+    right_side value;
+    std::vector<attribute> attributes;
+
+    friend bool operator==(const assignment &a, const assignment &b) noexcept {
+        return a.name == b.name && a.width == b.width && a.value == b.value && a.attributes == b.attributes;
+    }
+};
+
+/// A path condition: x is y.
+struct pc {
+    operand x, y;
+
+    friend bool operator==(const pc &a, const pc &b) noexcept { return a.x == b.x && a.y == b.y; }
+};
+
+/// A path condition on a predecessor of a block, by its index from 0: x is y.
+struct blockpc {
+    id block;
+    std::uint32_t predecessor;
+    operand x, y;
+
+    friend bool operator==(const blockpc &a, const blockpc &b) noexcept {
+        return a.block == b.block && a.predecessor == b.predecessor && a.x == b.x && a.y == b.y;
+    }
+};
+
+/// A statement of an item.
+using statement = std::variant<assignment, pc, blockpc>;
+
+// Last lines.
+
+/// The bits of a root that are wanted: `0` or `1`, in the order of the text.
+struct demanded_bits {
+    std::string bits;
+
+    friend bool operator==(const demanded_bits &a, const demanded_bits &b) noexcept { return a.bits == b.bits; }
+};
+
+struct harvested_from_use {
+    friend bool operator==(harvested_from_use, harvested_from_use) noexcept { return true; }
+};
+
+/// An attribute of the last lines.
+using root_attribute = std::variant<demanded_bits, harvested_from_use>;
+
+/// `infer value`: the last line of a left-hand side.
+struct infer {
+    id value;
+    std::vector<root_attribute> attributes;
+
+    friend bool operator==(const infer &a, const infer &b) noexcept { return a.value == b.value && a.attributes == b.attributes; }
+};
+
+/// `result value`: the last line of a right-hand side.
+struct result {
+    operand value;
+
+    friend bool operator==(const result &a, const result &b) noexcept { return a.value == b.value; }
+};
+
+/// `infer replaced.value` and `result by.value`: the last lines of a replacement.
+struct infer_result {
+    infer replaced;
+    result by;
+
+    friend bool operator==(const infer_result &a, const infer_result &b) noexcept {
+        return a.replaced == b.replaced && a.by == b.by;
+    }
+};
+
+/// `cand replaced by`: the last line of a replacement.
+struct cand {
+    operand replaced, by;
+    std::vector<root_attribute> attributes;
+
+    friend bool operator==(const cand &a, const cand &b) noexcept {
+        return a.replaced == b.replaced && a.by == b.by && a.attributes == b.attributes;
+    }
+};
+
+/// The last lines of an item.
+using last_lines = std::variant<infer, result, infer_result, cand>;
+
+/// A left-hand side, a right-hand side or a replacement. The items of a text have all statements of the text, also those that
+/// nothing needs, in its order; a statement uses statements before it.
+struct item {
+    std::vector<statement> statements;
+    last_lines last;
+
+    /// The assignment at a position; null if no statement or a path condition is there.
+    const assignment *at(id position) const noexcept {
+        return position.position < statements.size() ? std::get_if<assignment>(&statements[position.position]) : nullptr;
+    }
+
+    friend bool operator==(const item &a, const item &b) noexcept { return a.statements == b.statements && a.last == b.last; }
+};
+
+/// What the last lines make the item.
+inline kind kind_of(const item &i) noexcept {
+    return i.last.index() == 0 ? kind::lhs : i.last.index() == 1 ? kind::rhs : kind::rep;
+}
+
+/// Calls `visit` with the id of each use of a statement, in order: the block of a phi or `blockpc`, and then the operands from left
+/// to right. Constants are no uses.
+template <typename Visit> void for_each_use(const statement &s, Visit visit) {
+    const auto operands = [&visit](const auto &...all) {
+        const auto one = [&visit](const operand &o) {
+            if (const id *used = std::get_if<id>(&o)) {
+                visit(*used);
+            }
+        };
+        (one(all), ...);
+    };
+    if (const auto *condition = std::get_if<pc>(&s)) {
+        operands(condition->x, condition->y);
+    } else if (const auto *on_block = std::get_if<blockpc>(&s)) {
+        visit(on_block->block);
+        operands(on_block->x, on_block->y);
+    } else if (const auto *assigned = std::get_if<assignment>(&s)) {
+        if (const auto *choice = std::get_if<phi>(&assigned->value)) {
+            visit(choice->block);
+            for (const operand &o : choice->values) {
+                operands(o);
+            }
+        } else if (const auto *computed = std::get_if<instruction>(&assigned->value)) {
+            for (const operand &o : computed->operands) {
+                operands(o);
+            }
+        }
+    }
+}
+
+// ----------------------------------------------------------------
+// Building
+
+/// Builds an item, statement by statement. Nothing is tested before the item is written: `write` says whether it is well formed.
+///
+/// A name may have its `%` or not. The name of an assignment without one is `%` and the position of the assignment.
+class builder {
+public:
+    builder() = default;
+
+    /// Begins with these statements, as of an item that was read.
+    explicit builder(std::vector<statement> begun) noexcept : statements(std::move(begun)) {}
+
+    id assign(right_side value, std::optional<std::uint32_t> width = {}, std::string_view name = {},
+              std::vector<attribute> attributes = {}) {
+        std::string whole(name.empty() || name.front() != '%' ? "%" : "");
+        whole += name.empty() ? std::to_string(statements.size()) : std::string(name);
+        return append(assignment{std::move(whole), width, std::move(value), std::move(attributes)});
+    }
+
+    id var(std::string_view name = {}, std::optional<std::uint32_t> width = {}, std::vector<attribute> attributes = {}) {
+        return assign(souper::var{}, width, name, std::move(attributes));
+    }
+
+    id block(std::uint32_t predecessors, std::string_view name = {}) { return assign(souper::block{predecessors}, {}, name); }
+
+    id phi(id of, std::vector<operand> values, std::optional<std::uint32_t> width = {}, std::string_view name = {}) {
+        return assign(souper::phi{of, std::move(values)}, width, name);
+    }
+
+    id inst(op operation, std::vector<operand> operands, std::optional<std::uint32_t> width = {}, std::string_view name = {},
+            std::vector<attribute> attributes = {}) {
+        return assign(instruction{operation, std::move(operands)}, width, name, std::move(attributes));
+    }
+
+    void pc(operand x, operand y) { append(souper::pc{x, y}); }
+
+    void blockpc(id of, std::uint32_t predecessor, operand x, operand y) { append(souper::blockpc{of, predecessor, x, y}); }
+
+    // Each of these returns the item, and leaves the builder without statements.
+
+    item infer(id value, std::vector<root_attribute> attributes = {}) { return end(souper::infer{value, std::move(attributes)}); }
+
+    item result(operand value) { return end(souper::result{value}); }
+
+    item infer_result(id replaced, operand by, std::vector<root_attribute> attributes = {}) {
+        return end(souper::infer_result{{replaced, std::move(attributes)}, {by}});
+    }
+
+    item cand(operand replaced, operand by, std::vector<root_attribute> attributes = {}) {
+        return end(souper::cand{replaced, by, std::move(attributes)});
+    }
+
+private:
+    id append(statement s) {
+        statements.push_back(std::move(s));
+        return id{statements.size() - 1};
+    }
+
+    item end(last_lines last) { return item{std::exchange(statements, {}), std::move(last)}; }
+
+    std::vector<statement> statements;
+};
+
+// ----------------------------------------------------------------
+// Errors
+
+/// Why a call is not done; the names are those of souper.h.
+enum class status : std::uint32_t {
+    done = SOUPER_DONE,
+    refused = SOUPER_REFUSED,
+    no_kind = SOUPER_NO_KIND,
+    out_of_memory = SOUPER_OUT_OF_MEMORY,
+    not_utf8 = SOUPER_NOT_UTF8,
+    no_code = SOUPER_NO_CODE,
+    not_well_formed = SOUPER_NOT_WELL_FORMED,
+    no_flags = SOUPER_NO_FLAGS
+};
+
+/// What a `try_` call reports. What is not named for the status is 0 or empty.
+struct error {
+    status what = status::done;
+    unsigned input = 0;     ///< refused, not_utf8: which text of the call, 0 the first, 1 the second
+    std::size_t index = 0;  ///< no_code, not_well_formed: which item, from 0
+    std::size_t offset = 0; ///< refused: how many bytes were read; no_code, not_well_formed: where the code of the item begins
+    std::size_t line = 0;   ///< refused: the line of the last of these bytes, or of the first of the text if there is none; from 1
+    std::size_t column = 0; ///< refused: its column, in bytes and from 1
+    std::string shown = {}; ///< refused: why and where, in four lines without a newline at the end
+};
+
+/// What `records` returns of an item.
+struct record {
+    std::string key;  ///< the SHA-256 of the text, in 64 hexadecimal digits
+    std::string text; ///< the canonical text, without the newline that `format` writes after it
+};
+
+/// What `key` adds or changes; combined by `|`.
+enum class flags : std::uint32_t {
+    none = 0,
+    key = SOUPER_KEY,       ///< before each text a line `; ` and the SHA-256 of the text in hexadecimal digits
+    rename = SOUPER_RENAME, ///< names %0, %1, .. in printed order
+    null = SOUPER_NULL      ///< a byte 0 after each text in place of the empty line
+};
+
+constexpr flags operator|(flags a, flags b) noexcept {
+    return static_cast<flags>(static_cast<std::uint32_t>(a) | static_cast<std::uint32_t>(b));
+}
+
+// ----------------------------------------------------------------
+// The code of items, which crates/souper_code/src/lib.rt describes
+
+namespace detail {
+
+// Appends the code of items.
+class encoder {
+public:
+    explicit encoder(std::string &code) noexcept : out(code) {}
+
+    // Whether each value so far has a code.
+    bool fits = true;
+
+    void put(const item &i) {
+        list(i.statements);
+        byte(i.last.index());
+        if (const auto *lhs = std::get_if<infer>(&i.last)) {
+            put(*lhs);
+        } else if (const auto *rhs = std::get_if<result>(&i.last)) {
+            put(rhs->value);
+        } else if (const auto *both = std::get_if<infer_result>(&i.last)) {
+            put(both->replaced);
+            put(both->by.value);
+        } else if (const auto *pair = std::get_if<cand>(&i.last)) {
+            put(pair->replaced);
+            put(pair->by);
+            list(pair->attributes);
+        }
+    }
+
+private:
+    template <typename T> void plain(T value) {
+        char bytes[sizeof value];
+        std::memcpy(bytes, &value, sizeof value);
+        out.append(bytes, sizeof value);
+    }
+
+    // The index of a variant, a bit or an operation.
+    void byte(std::size_t value) {
+        fits = fits && value <= UINT8_MAX;
+        plain(static_cast<std::uint8_t>(value));
+    }
+
+    void size(std::size_t value) { plain(static_cast<std::uint64_t>(value)); }
+
+    template <typename T> void list(const std::vector<T> &all) {
+        size(all.size());
+        for (const T &one : all) {
+            put(one);
+        }
+    }
+
+    void bits(const std::string &text, std::string_view digits) {
+        size(text.size());
+        for (const char digit : text) {
+            byte(digits.find(digit));
+        }
+    }
+
+    void width(const std::optional<std::uint32_t> &bits_wide) {
+        byte(bits_wide.has_value());
+        if (bits_wide) {
+            fits = fits && *bits_wide <= UINT16_MAX;
+            plain(static_cast<std::uint16_t>(*bits_wide));
+        }
+    }
+
+    void put(const operand &o) {
+        byte(o.index());
+        if (const auto *used = std::get_if<id>(&o)) {
+            size(used->position);
+        } else if (const auto *number = std::get_if<constant>(&o)) {
+            plain(number->value);
+            width(number->width);
+        }
+    }
+
+    void put(const attribute &a) {
+        byte(a.index());
+        if (const auto *known = std::get_if<known_bits>(&a)) {
+            bits(known->bits, "01x");
+        } else if (const auto *sign = std::get_if<sign_bits>(&a)) {
+            plain(sign->count);
+        } else if (const auto *bounds = std::get_if<range>(&a)) {
+            plain(bounds->low);
+            plain(bounds->high);
+        }
+    }
+
+    void put(const root_attribute &a) {
+        byte(a.index());
+        if (const auto *demanded = std::get_if<demanded_bits>(&a)) {
+            bits(demanded->bits, "01");
+        }
+    }
+
+    void put(const right_side &value) {
+        byte(value.index());
+        if (const auto *of_block = std::get_if<block>(&value)) {
+            plain(of_block->predecessors);
+        } else if (const auto *choice = std::get_if<phi>(&value)) {
+            size(choice->block.position);
+            list(choice->values);
+        } else if (const auto *computed = std::get_if<instruction>(&value)) {
+            plain(computed->operation);
+            list(computed->operands);
+        }
+    }
+
+    void put(const statement &s) {
+        byte(s.index());
+        if (const auto *assigned = std::get_if<assignment>(&s)) {
+            size(assigned->name.size());
+            out += assigned->name;
+            width(assigned->width);
+            put(assigned->value);
+            list(assigned->attributes);
+        } else if (const auto *condition = std::get_if<pc>(&s)) {
+            put(condition->x);
+            put(condition->y);
+        } else if (const auto *on_block = std::get_if<blockpc>(&s)) {
+            size(on_block->block.position);
+            plain(on_block->predecessor);
+            put(on_block->x);
+            put(on_block->y);
+        }
+    }
+
+    void put(const infer &i) {
+        size(i.value.position);
+        list(i.attributes);
+    }
+
+    std::string &out;
+};
+
+// Reads items from the front of a code. Past a byte that no code has there, or past the end, `good` is false and the values that
+// are read mean nothing. A list is not longer than the bytes that are left allow, so memory is bounded by the length of the code.
+class decoder {
+public:
+    explicit decoder(std::string_view code) noexcept : rest(code) {}
+
+    bool good = true;
+
+    std::size_t left() const noexcept { return rest.size(); }
+
+    item get_item(kind k) {
+        item i{list<statement>(least_statement, &decoder::get_statement), {}};
+        i.last = get_last();
+        if (kind_of(i) != k) {
+            fail();
+        }
+        return i;
+    }
+
+private:
+    // The lengths of the shortest codes.
+    static constexpr std::size_t least_operand = 9, least_statement = 19, least_attribute = 1;
+
+    void fail() noexcept {
+        good = false;
+        rest = {};
+    }
+
+    template <typename T> T plain() noexcept {
+        T value{};
+        if (rest.size() < sizeof value) {
+            fail();
+            return value;
+        }
+        std::memcpy(&value, rest.data(), sizeof value);
+        rest.remove_prefix(sizeof value);
+        return value;
+    }
+
+    // A byte below a bound.
+    std::uint8_t byte(std::size_t bound) noexcept {
+        const auto value = plain<std::uint8_t>();
+        if (value >= bound) {
+            fail();
+        }
+        return value;
+    }
+
+    // The length of a list whose elements have at least these bytes.
+    std::size_t length(std::size_t least) noexcept {
+        const auto count = plain<std::uint64_t>();
+        if (count > rest.size() / least) {
+            fail();
+        }
+        return good ? static_cast<std::size_t>(count) : 0;
+    }
+
+    template <typename T> std::vector<T> list(std::size_t least, T (decoder::*get)()) {
+        std::vector<T> all;
+        const std::size_t count = length(least);
+        all.reserve(count);
+        while (good && all.size() < count) {
+            all.push_back((this->*get)());
+        }
+        return all;
+    }
+
+    std::string text() {
+        const std::size_t count = length(1);
+        std::string bytes(rest.substr(0, count));
+        rest.remove_prefix(count);
+        return bytes;
+    }
+
+    std::string bits(std::string_view digits) {
+        std::string all = text();
+        for (char &bit : all) {
+            const auto value = static_cast<unsigned char>(bit);
+            if (value >= digits.size()) {
+                fail();
+                return all;
+            }
+            bit = digits[value];
+        }
+        return all;
+    }
+
+    std::optional<std::uint32_t> width() noexcept {
+        return byte(2) == 1 ? std::optional<std::uint32_t>(plain<std::uint16_t>()) : std::nullopt;
+    }
+
+    id get_id() noexcept { return id{static_cast<std::size_t>(plain<std::uint64_t>())}; }
+
+    operand get_operand() {
+        if (byte(2) == 0) {
+            return get_id();
+        }
+        const auto value = plain<int128>();
+        return constant{value, width()};
+    }
+
+    std::vector<operand> operands() { return list<operand>(least_operand, &decoder::get_operand); }
+
+    attribute get_attribute() {
+        switch (byte(std::variant_size_v<attribute>)) {
+        case 0:
+            return known_bits{bits("01x")};
+        case 1:
+            return power_of_two{};
+        case 2:
+            return negative{};
+        case 3:
+            return non_negative{};
+        case 4:
+            return non_zero{};
+        case 5:
+            return has_external_uses{};
+        case 6:
+            return sign_bits{plain<std::uint8_t>()};
+        default:
+            const auto low = plain<int128>();
+            return range{low, plain<int128>()};
+        }
+    }
+
+    root_attribute get_root_attribute() {
+        if (byte(std::variant_size_v<root_attribute>) == 0) {
+            return demanded_bits{bits("01")};
+        }
+        return harvested_from_use{};
+    }
+
+    std::vector<root_attribute> root_attributes() { return list<root_attribute>(least_attribute, &decoder::get_root_attribute); }
+
+    instruction get_instruction() {
+        constexpr std::size_t operations = static_cast<std::size_t>(op::freeze) + 1;
+        instruction computed{static_cast<op>(byte(operations)), operands()};
+        if (good && computed.operands.size() != operand_count(computed.operation)) {
+            fail();
+        }
+        return computed;
+    }
+
+    right_side get_right_side() {
+        switch (byte(std::variant_size_v<right_side>)) {
+        case 0:
+            return var{};
+        case 1:
+            return block{plain<std::uint32_t>()};
+        case 2: {
+            const id of = get_id();
+            return phi{of, operands()};
+        }
+        case 3:
+            return reservedinst{};
+        case 4:
+            return reservedconst{};
+        default:
+            return get_instruction();
+        }
+    }
+
+    statement get_statement() {
+        const auto which = byte(std::variant_size_v<statement>);
+        if (which == 0) {
+            assignment assigned{text(), width(), get_right_side(), {}};
+            assigned.attributes = list<attribute>(least_attribute, &decoder::get_attribute);
+            return assigned;
+        }
+        if (which == 1) {
+            return pc{get_operand(), get_operand()};
+        }
+        return blockpc{get_id(), plain<std::uint32_t>(), get_operand(), get_operand()};
+    }
+
+    infer get_infer() { return infer{get_id(), root_attributes()}; }
+
+    last_lines get_last() {
+        switch (byte(std::variant_size_v<last_lines>)) {
+        case 0:
+            return get_infer();
+        case 1:
+            return result{get_operand()};
+        case 2:
+            return infer_result{get_infer(), {get_operand()}};
+        default:
+            return cand{get_operand(), get_operand(), root_attributes()};
+        }
+    }
+
+    std::string_view rest;
+};
+
+// The code of items; false with `index` if one of their values has none.
+inline bool encode(const item *items, std::size_t count, std::string &code, error &e) {
+    encoder to(code);
+    for (std::size_t i = 0; i < count; i++) {
+        e.offset = code.size();
+        to.put(items[i]);
+        if (!to.fits) {
+            e.what = status::not_well_formed;
+            e.index = i;
+            return false;
+        }
+    }
+    e.offset = 0;
+    return true;
+}
+
+inline bool decode(kind k, std::string_view code, std::vector<item> &items, error &e) {
+    if (static_cast<std::uint32_t>(k) > SOUPER_REP) {
+        e.what = status::no_kind;
+        return false;
+    }
+    decoder from(code);
+    while (from.left() > 0) {
+        const std::size_t begin = code.size() - from.left();
+        items.push_back(from.get_item(k));
+        if (!from.good) {
+            e.what = status::no_code;
+            e.index = items.size() - 1;
+            e.offset = begin;
+            return false;
+        }
+    }
+    return true;
+}
+
+// The calls of souper.h.
+
+// The bytes of a text; the pointer is not null, as that of an empty view may be.
+inline const std::uint8_t *bytes(std::string_view text) noexcept {
+    return reinterpret_cast<const std::uint8_t *>(text.empty() ? "" : text.data());
+}
+
+inline void report(const SouperOutcome &outcome, error &e) noexcept {
+    e.what = static_cast<status>(outcome.status);
+    e.input = outcome.input;
+    e.index = outcome.status == SOUPER_NO_CODE || outcome.status == SOUPER_NOT_WELL_FORMED ? outcome.length : 0;
+    e.offset = outcome.offset;
+    e.line = outcome.line;
+    e.column = outcome.column;
+}
+
+// What a call writes to a buffer that is long enough; `room` is the first guess at its length.
+template <typename Call> bool collect(std::string &out, std::size_t room, error &e, Call call) {
+    SouperOutcome outcome;
+    do {
+        out.resize(room);
+        outcome = call(reinterpret_cast<std::uint8_t *>(out.data()), out.size());
+        room = outcome.length;
+    } while (outcome.status == SOUPER_SHORT);
+    out.resize(outcome.status == SOUPER_DONE || outcome.status == SOUPER_REFUSED ? outcome.length : 0);
+    if (outcome.status == SOUPER_DONE) {
+        return true;
+    }
+    report(outcome, e);
+    e.shown.swap(out);
+    return false;
+}
+
+inline bool format(kind k, std::string_view text, std::string &out, error &e) {
+    return collect(out, text.size() + text.size() / 4 + 256, e, [k, text](std::uint8_t *to, std::size_t room) {
+        return souper_format(static_cast<std::uint32_t>(k), bytes(text), text.size(), to, room);
+    });
+}
+
+inline bool key(kind k, std::string_view text, flags f, std::string &out, error &e) {
+    return collect(out, text.size() + text.size() / 4 + 256, e, [k, text, f](std::uint8_t *to, std::size_t room) {
+        return souper_key(static_cast<std::uint32_t>(k), static_cast<std::uint32_t>(f), bytes(text), text.size(), to, room);
+    });
+}
+
+inline bool read(kind k, std::string_view text, std::vector<item> &items, error &e) {
+    std::string code;
+    return collect(code, 3 * text.size() + 256, e, [k, text](std::uint8_t *to, std::size_t room) {
+        return souper_read(static_cast<std::uint32_t>(k), bytes(text), text.size(), to, room);
+    }) && decode(k, code, items, e);
+}
+
+inline bool write(kind k, const item *items, std::size_t count, std::string &out, error &e) {
+    std::string code;
+    if (!encode(items, count, code, e)) {
+        return false;
+    }
+    if (collect(out, code.size() + 256, e, [k, &code](std::uint8_t *to, std::size_t room) {
+            return souper_write(static_cast<std::uint32_t>(k), bytes(code), code.size(), to, room);
+        })) {
+        return true;
+    }
+    // What has no code has a name that is not UTF-8, another number of operands, or last lines of another kind.
+    e.what = e.what == status::no_code ? status::not_well_formed : e.what;
+    return false;
+}
+
+inline bool canonical(kind k, const item *items, std::size_t count, std::vector<item> &out, error &e) {
+    std::string text;
+    return write(k, items, count, text, e) && read(k, text, out, e);
+}
+
+// Each record is `; `, the key, a newline, the text and a byte 0.
+inline bool records(kind k, std::string_view text, bool rename, std::vector<record> &out, error &e) {
+    constexpr std::size_t digits = 64, before = 2, head = before + digits + 1;
+    std::string all;
+    if (!key(k, text, flags::key | flags::null | (rename ? flags::rename : flags::none), all, e)) {
+        return false;
+    }
+    for (std::size_t at = 0; at < all.size();) {
+        const std::size_t end = all.find('\0', at);
+        out.push_back(record{all.substr(at + before, digits), all.substr(at + head, end - at - head)});
+        at = end + 1;
+    }
+    return true;
+}
+
+// Whether a question was answered. What a refusal shows is asked of souper_format, as the question has no buffer.
+inline bool answer(kind k, std::string_view text, const SouperOutcome &outcome, bool &yes, error &e) {
+    yes = outcome.status == SOUPER_DONE;
+    if (yes || outcome.status == SOUPER_DIFFERENT) {
+        return true;
+    }
+    if (outcome.status == SOUPER_REFUSED) {
+        std::string out;
+        if (!format(k, text, out, e) && e.what != status::refused) {
+            return false;
+        }
+    }
+    report(outcome, e);
+    return false;
+}
+
+inline bool check(kind k, std::string_view text, bool &canonical, error &e) {
+    return answer(k, text, souper_check(static_cast<std::uint32_t>(k), bytes(text), text.size()), canonical, e);
+}
+
+inline bool same(kind k, std::string_view a, std::string_view b, bool &same, error &e) {
+    const SouperOutcome outcome = souper_same(static_cast<std::uint32_t>(k), bytes(a), a.size(), bytes(b), b.size());
+    return answer(k, outcome.input == 0 ? a : b, outcome, same, e);
+}
+
+} // namespace detail
+
+// ----------------------------------------------------------------
+// The form without exceptions
+//
+// Each call returns whether it is done. If it is not, `e` says why, and its output is empty or false. The output need not be empty
+// before.
+
+// With exceptions and without, the functions differ where memory runs out: they have other names for the linker, so that one
+// program may have both.
+#if defined(__cpp_exceptions)
+#define SOUPER_FORM with_exceptions
+#else
+#define SOUPER_FORM without_exceptions
+#endif
+
+namespace detail {
+inline namespace SOUPER_FORM {
+
+// What the call makes of an empty output; it may have been given a view of `out`.
+template <typename Output, typename Call> bool made(Output &out, error &e, Call call) {
+    Output fresh{};
+    e = error();
+    const bool done = call(fresh, e);
+    out = done ? std::move(fresh) : Output{};
+    return done;
+}
+
+// The only exceptions of the call are those of allocation.
+template <typename Output, typename Call> bool guarded(Output &out, error &e, Call call) noexcept {
+#if defined(__cpp_exceptions)
+    try {
+        return made(out, e, call);
+    } catch (const std::exception &) {
+        out = Output{};
+        e = error();
+        e.what = status::out_of_memory;
+        return false;
+    }
+#else
+    return made(out, e, call);
+#endif
+}
+
+} // namespace SOUPER_FORM
+} // namespace detail
+
+inline namespace SOUPER_FORM {
+
+/// See `format`.
+[[nodiscard]] inline bool try_format(kind k, std::string_view text, std::string &out, error &e) noexcept {
+    return detail::guarded(out, e, [&](auto &o, error &why) { return detail::format(k, text, o, why); });
+}
+
+/// See `check`.
+[[nodiscard]] inline bool try_check(kind k, std::string_view text, bool &canonical, error &e) noexcept {
+    return detail::guarded(canonical, e, [&](auto &o, error &why) { return detail::check(k, text, o, why); });
+}
+
+/// See `same`.
+[[nodiscard]] inline bool try_same(kind k, std::string_view a, std::string_view b, bool &same, error &e) noexcept {
+    return detail::guarded(same, e, [&](auto &o, error &why) { return detail::same(k, a, b, o, why); });
+}
+
+/// See `read`.
+[[nodiscard]] inline bool try_read(kind k, std::string_view text, std::vector<item> &items, error &e) noexcept {
+    return detail::guarded(items, e, [&](auto &o, error &why) { return detail::read(k, text, o, why); });
+}
+
+/// See `write`.
+[[nodiscard]] inline bool try_write(kind k, const std::vector<item> &items, std::string &text, error &e) noexcept {
+    return detail::guarded(text, e, [&](auto &o, error &why) { return detail::write(k, items.data(), items.size(), o, why); });
+}
+
+/// See `write`.
+[[nodiscard]] inline bool try_write(kind k, const item &one, std::string &text, error &e) noexcept {
+    return detail::guarded(text, e, [&](auto &o, error &why) { return detail::write(k, &one, 1, o, why); });
+}
+
+/// See `canonical`.
+[[nodiscard]] inline bool try_canonical(kind k, const std::vector<item> &items, std::vector<item> &out, error &e) noexcept {
+    return detail::guarded(out, e, [&](auto &o, error &why) { return detail::canonical(k, items.data(), items.size(), o, why); });
+}
+
+/// See `key`.
+[[nodiscard]] inline bool try_key(kind k, std::string_view text, flags f, std::string &out, error &e) noexcept {
+    return detail::guarded(out, e, [&](auto &o, error &why) { return detail::key(k, text, f, o, why); });
+}
+
+/// See `records`.
+[[nodiscard]] inline bool try_records(kind k, std::string_view text, bool rename, std::vector<record> &out, error &e) noexcept {
+    return detail::guarded(out, e, [&](auto &o, error &why) { return detail::records(k, text, rename, o, why); });
+}
+
+/// See `encode`.
+[[nodiscard]] inline bool try_encode(const std::vector<item> &items, std::string &code, error &e) noexcept {
+    return detail::guarded(code, e, [&](auto &o, error &why) { return detail::encode(items.data(), items.size(), o, why); });
+}
+
+/// See `decode`.
+[[nodiscard]] inline bool try_decode(kind k, std::string_view code, std::vector<item> &items, error &e) noexcept {
+    return detail::guarded(items, e, [&](auto &o, error &why) { return detail::decode(k, code, o, why); });
+}
+
+} // namespace SOUPER_FORM
+#undef SOUPER_FORM
+
+// ----------------------------------------------------------------
+// The form with exceptions
+#if defined(__cpp_exceptions)
 
 /// A text spells no list of items of the kind. `what()` shows why and where, in four lines.
 class refused : public std::runtime_error {
@@ -48,79 +1107,129 @@ public:
     unsigned input; ///< which text of the call: 0 the first, 1 the second
 };
 
+/// An item is not well formed, so it has no canonical text.
+class not_well_formed : public std::invalid_argument {
+public:
+    explicit not_well_formed(std::size_t which)
+        : std::invalid_argument("item " + std::to_string(which) + " is not well formed"), index(which) {}
+
+    std::size_t index; ///< which item, from 0
+};
+
+/// Bytes are the code of no list of items of the kind.
+class bad_code : public std::runtime_error {
+public:
+    bad_code(std::size_t which, std::size_t begin)
+        : std::runtime_error("at byte " + std::to_string(begin) + " is the code of no item"), index(which), offset(begin) {}
+
+    std::size_t index;  ///< how many items come before
+    std::size_t offset; ///< where the bytes begin that are the code of no item
+};
+
 namespace detail {
 
-// The bytes of a text; the pointer is not null, as that of an empty view may be.
-inline const std::uint8_t *bytes(std::string_view text) noexcept {
-    return reinterpret_cast<const std::uint8_t *>(text.empty() ? "" : text.data());
-}
-
-// What souper_format writes, and its outcome. `room` is the first guess at its length.
-inline SouperOutcome write(kind k, std::string_view text, std::size_t room, std::string &out) {
-    for (;;) {
-        out.resize(room);
-        const SouperOutcome outcome = souper_format(static_cast<std::uint32_t>(k), bytes(text), text.size(),
-                                                    reinterpret_cast<std::uint8_t *>(out.data()), out.size());
-        if (outcome.status != SOUPER_SHORT) {
-            return outcome;
-        }
-        room = outcome.length;
-    }
-}
-
-// Throws what is neither yes nor no. The text is the one that the outcome is about.
-[[noreturn]] inline void fail(kind k, std::string_view text, const SouperOutcome &outcome) {
-    if (outcome.status == SOUPER_NOT_UTF8) {
-        throw not_utf8(outcome.input);
-    }
-    if (outcome.status == SOUPER_NO_KIND) {
+[[noreturn]] inline void fail(const error &e) {
+    switch (e.what) {
+    case status::refused:
+        throw refused(e.shown, SouperOutcome{SOUPER_REFUSED, e.input, e.shown.size(), e.offset, e.line, e.column});
+    case status::not_utf8:
+        throw not_utf8(e.input);
+    case status::no_kind:
         throw std::invalid_argument("the kind is none");
-    }
-    if (outcome.status == SOUPER_REFUSED) {
-        std::string shown;
-        if (write(k, text, outcome.length, shown).status == SOUPER_REFUSED) {
-            throw refused(shown, outcome);
-        }
+    case status::no_flags:
+        throw std::invalid_argument("a flag is none");
+    case status::no_code:
+        throw bad_code(e.index, e.offset);
+    case status::not_well_formed:
+        throw not_well_formed(e.index);
+    case status::done:
+    case status::out_of_memory:
+        break;
     }
     throw std::bad_alloc();
+}
+
+// The output of a call.
+template <typename Output, typename Call> Output output(Call call) {
+    Output out{};
+    error e;
+    if (!call(out, e)) {
+        fail(e);
+    }
+    return out;
 }
 
 } // namespace detail
 
 /// The canonical text of each item that the text spells, a newline after each.
 inline std::string format(kind k, std::string_view text) {
-    std::string out;
-    const SouperOutcome outcome = detail::write(k, text, text.size() + text.size() / 4 + 256, out);
-    if (outcome.status == SOUPER_DONE || outcome.status == SOUPER_REFUSED) {
-        out.resize(outcome.length);
-    }
-    if (outcome.status == SOUPER_DONE) {
-        return out;
-    }
-    if (outcome.status == SOUPER_REFUSED) {
-        throw refused(out, outcome);
-    }
-    detail::fail(k, text, outcome);
+    return detail::output<std::string>([&](std::string &out, error &e) { return try_format(k, text, out, e); });
 }
 
 /// Whether the text is canonical: `format` returns the text itself.
 inline bool check(kind k, std::string_view text) {
-    const SouperOutcome outcome = souper_check(static_cast<std::uint32_t>(k), detail::bytes(text), text.size());
-    if (outcome.status == SOUPER_DONE || outcome.status == SOUPER_DIFFERENT) {
-        return outcome.status == SOUPER_DONE;
-    }
-    detail::fail(k, text, outcome);
+    return detail::output<bool>([&](bool &out, error &e) { return try_check(k, text, out, e); });
 }
 
 /// Whether the texts spell lists of one length, in which each item is the same graph as the one at its index in the other.
 inline bool same(kind k, std::string_view a, std::string_view b) {
-    const SouperOutcome outcome =
-        souper_same(static_cast<std::uint32_t>(k), detail::bytes(a), a.size(), detail::bytes(b), b.size());
-    if (outcome.status == SOUPER_DONE || outcome.status == SOUPER_DIFFERENT) {
-        return outcome.status == SOUPER_DONE;
-    }
-    detail::fail(k, outcome.input == 0 ? a : b, outcome);
+    return detail::output<bool>([&](bool &out, error &e) { return try_same(k, a, b, out, e); });
 }
+
+/// The items that the text spells, with all their statements.
+inline std::vector<item> read(kind k, std::string_view text) {
+    return detail::output<std::vector<item>>([&](std::vector<item> &out, error &e) { return try_read(k, text, out, e); });
+}
+
+/// The canonical text of each item, a newline after each. Of the items that `read` returns, what `format` returns for the text.
+///
+/// Throws `not_well_formed` if an item has no canonical text of the kind: a statement that it needs is invalid or uses one that is
+/// not before it, two have one name, or the last lines are of another kind.
+inline std::string write(kind k, const std::vector<item> &items) {
+    return detail::output<std::string>([&](std::string &out, error &e) { return try_write(k, items, out, e); });
+}
+
+/// The canonical text of an item, and a newline.
+inline std::string write(kind k, const item &one) {
+    return detail::output<std::string>([&](std::string &out, error &e) { return try_write(k, one, out, e); });
+}
+
+/// The items of the canonical texts of items. The statements of each are the needed ones in printed order, uses before their users,
+/// so a loop over `statements` is a walk of the graph in that order.
+inline std::vector<item> canonical(kind k, const std::vector<item> &items) {
+    return detail::output<std::vector<item>>([&](std::vector<item> &out, error &e) { return try_canonical(k, items, out, e); });
+}
+
+/// The item of the canonical text of an item: its statements are the needed ones in printed order.
+inline item canonical(kind k, const item &one) {
+    return std::move(canonical(k, std::vector<item>{one}).front());
+}
+
+/// The records of the items that the text spells, one after the other, as the program souper_items writes them: each is the
+/// canonical text and an empty line, and what the flags add or change.
+inline std::string key(kind k, std::string_view text, flags f = flags::key) {
+    return detail::output<std::string>([&](std::string &out, error &e) { return try_key(k, text, f, out, e); });
+}
+
+/// The key and the canonical text of each item that the text spells; with `rename`, of the item with names %0, %1, .. in printed
+/// order.
+inline std::vector<record> records(kind k, std::string_view text, bool rename = false) {
+    return detail::output<std::vector<record>>([&](std::vector<record> &out, error &e) { return try_records(k, text, rename, out, e); });
+}
+
+/// The code of items, which `decode` and souper_write read. Throws `not_well_formed` if an item has a value without a code: a width
+/// of more than 16 bits, or a bit that is none.
+inline std::string encode(const std::vector<item> &items) {
+    return detail::output<std::string>([&](std::string &out, error &e) { return try_encode(items, out, e); });
+}
+
+/// The items whose code this is. It reads nothing outside the code, and allocates at most a constant times its length. That the
+/// items are well formed, it does not test.
+inline std::vector<item> decode(kind k, std::string_view code) {
+    return detail::output<std::vector<item>>([&](std::vector<item> &out, error &e) { return try_decode(k, code, out, e); });
+}
+
+#endif
 
 } // namespace souper
 
