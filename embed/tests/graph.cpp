@@ -1,0 +1,298 @@
+// Each stored answer as values: read, coded, written, and its canonical items and records. Items that are built, by their texts.
+#include "souper.hpp"
+
+extern "C" {
+#include "records.h"
+}
+
+#include <algorithm>
+#include <string>
+
+namespace {
+
+using souper::constant;
+using souper::id;
+using souper::item;
+using souper::kind;
+using souper::op;
+
+std::string_view view(const std::uint8_t *bytes, std::size_t length) {
+    return {reinterpret_cast<const char *>(bytes), length};
+}
+
+// What souper_read writes.
+std::string code_of(kind k, std::string_view text) {
+    std::string code(16 * text.size() + 64, '\xaa');
+    const SouperOutcome outcome = souper_read(static_cast<std::uint32_t>(k), reinterpret_cast<const std::uint8_t *>(text.data()),
+                                              text.size(), reinterpret_cast<std::uint8_t *>(code.data()), code.size());
+    code.resize(outcome.status == SOUPER_DONE ? outcome.length : 0);
+    return code;
+}
+
+// Each use is of an assignment before its user.
+bool uses_lie_before(const item &i) {
+    bool all = true;
+    for (std::size_t position = 0; position < i.statements.size(); position++) {
+        souper::for_each_use(i.statements[position],
+                             [&](id used) { all = all && used.position < position && i.at(used) != nullptr; });
+    }
+    return all;
+}
+
+// The records of a text in one string, out of the list of its records.
+std::string joined(const std::vector<souper::record> &records, bool with_null) {
+    std::string all;
+    for (const auto &record : records) {
+        all += "; " + record.key + "\n" + record.text;
+        all += with_null ? std::string(1, '\0') : record.text.back() == '\n' ? "\n" : "\n\n";
+    }
+    return all;
+}
+
+void keys(const Record &record, kind k, std::string_view text, std::string_view answer) {
+    const auto records = souper::records(k, text);
+    std::string texts;
+    for (const auto &one : records) {
+        texts += one.text + "\n";
+    }
+    expect(texts == answer, "the texts of its records", &record);
+    expect(souper::key(k, text) == joined(records, false), "its keys", &record);
+    expect(souper::key(k, text, souper::flags::key | souper::flags::null) == joined(records, true), "its keys with nulls", &record);
+    const auto renamed = souper::records(k, text, true);
+    expect(renamed.size() == records.size(), "the number of its renamed records", &record);
+    expect(souper::key(k, text, souper::flags::key | souper::flags::rename) == joined(renamed, false), "its renamed keys", &record);
+}
+
+void acceptance(const Record &record, kind k, std::string_view text, std::string_view answer) {
+    const std::string code = code_of(k, text);
+    const auto items = souper::read(k, text);
+    expect(souper::encode(items) == code, "the code of its values", &record);
+    expect(souper::decode(k, code) == items, "the values of its code", &record);
+    for (const item &i : items) {
+        expect(souper::kind_of(i) == k && uses_lie_before(i), "an item", &record);
+    }
+    expect(souper::write(k, items) == answer, "the text of its values", &record);
+    const auto canonical = souper::canonical(k, items);
+    expect(canonical == souper::read(k, answer), "its canonical items", &record);
+    expect(souper::canonical(k, canonical) == canonical, "the canonical items of canonical items", &record);
+    std::string one_by_one;
+    for (std::size_t i = 0; i < items.size(); i++) {
+        expect(souper::canonical(k, items[i]) == canonical[i], "a canonical item", &record);
+        one_by_one += souper::write(k, items[i]);
+    }
+    expect(one_by_one == answer, "the texts of its items", &record);
+    keys(record, k, text, answer);
+}
+
+template <typename Call> bool is_refused(Call call, std::string_view shown) {
+    try {
+        call();
+        return false;
+    } catch (const souper::refused &refusal) {
+        return refusal.shown() == shown && refusal.input == 0;
+    }
+}
+
+void refusal(const Record &record, kind k, std::string_view text, std::string_view answer) {
+    expect(is_refused([&] { return souper::read(k, text); }, answer), "the exception of read", &record);
+    expect(is_refused([&] { return souper::key(k, text); }, answer), "the exception of key", &record);
+    expect(is_refused([&] { return souper::records(k, text, true); }, answer), "the exception of records", &record);
+}
+
+// Items that are built, and their texts.
+
+void prints(const char *what, const item &i, const std::string &text) {
+    expect(souper::write(souper::kind_of(i), i) == text + "\n", what, nullptr);
+}
+
+void built_lhs() {
+    souper::builder b;
+    const id x = b.var("x", 8, {souper::known_bits{"0xxxxxxx"}, souper::non_negative{}});
+    b.var("unneeded");
+    const id y = b.inst(op::mul, {x, constant{2, 8}}, {}, "%y");
+    const id c = b.inst(op::slt, {constant{0}, y});
+    b.pc(c, constant{1});
+    prints("a left-hand side", b.infer(y, {souper::demanded_bits{"00001111"}, souper::harvested_from_use{}}),
+           "%x:i8 = var (knownBits=0xxxxxxx) (nonNegative)\n%y = mul %x, 2:i8\n%3 = slt 0, %y\npc %3 1\n"
+           "infer %y (demandedBits=00001111) (harvestedFromUse)\n");
+    const id again = b.var();
+    prints("a builder that is used again", b.infer(again), "%0 = var\ninfer %0\n");
+}
+
+void built_blocks() {
+    souper::builder b;
+    const id x = b.var("x", 32), block = b.block(2, "b");
+    const id choice = b.phi(block, {x, constant{-1, 32}}, 32, "p");
+    b.blockpc(block, 1, x, constant{7, 32});
+    prints("a right-hand side", b.result(choice), "%b = block 2\n%x:i32 = var\n%p:i32 = phi %b, %x, -1:i32\nblockpc %b 1 %x 7:i32\nresult %p");
+}
+
+void built_replacements() {
+    souper::builder b;
+    const id x = b.var("x", 8), twice = b.inst(op::add, {x, x}, {}, "y");
+    souper::builder other(souper::builder(b).infer(twice).statements);
+    prints("a replacement by cand", b.cand(twice, constant{0}), "%x:i8 = var\n%y = add %x, %x\ncand %y 0\n");
+    const id shifted = other.inst(op::shl, {x, constant{1, 8}}, {}, "z");
+    prints("a replacement by result", other.infer_result(twice, shifted),
+           "%x:i8 = var\n%y = add %x, %x\ninfer %y\n%z = shl %x, 1:i8\nresult %z\n");
+    const auto least = static_cast<souper::int128>(1) << 126;
+    prints("numbers of 128 bits", b.cand(constant{-least - least}, constant{least - 1 + least, 128}),
+           "cand -170141183460469231731687303715884105728 170141183460469231731687303715884105727:i128\n");
+}
+
+void built_attributes() {
+    souper::builder b;
+    const id x = b.var("x", 8, {souper::power_of_two{}, souper::negative{}, souper::non_zero{}, souper::has_external_uses{}, souper::sign_bits{255},
+                                souper::range{-5, 6}});
+    b.assign(souper::reservedinst{}, {}, "r");
+    const id r = b.assign(souper::reservedinst{}, 3, "s"), c = b.assign(souper::reservedconst{}, {}, "c");
+    const id y = b.inst(op::select, {x, r, c}, 65535, "y", {souper::known_bits{"01x"}});
+    prints("attributes", b.result(y), "%x:i8 = var (powerOfTwo) (negative) (nonZero) (hasExternalUses) (signBits=255) (range=[-5,6))\n"
+           "%s:i3 = reservedinst\n%c = reservedconst\n%y:i65535 = select %x, %s, %c (knownBits=01x)\nresult %y");
+}
+
+// Each operation in an item, by its word and with its operands.
+void operations() {
+    std::size_t count = 0;
+#define SOUPER_X(name, text, operands)                                                                                              \
+    expect(static_cast<std::size_t>(op::name) == count++ && souper::word(op::name) == (text), text, nullptr);
+    SOUPER_INSTRUCTIONS(SOUPER_X)
+#undef SOUPER_X
+    expect(count == 59 && souper::word(static_cast<op>(59)).empty(), "the number of operations", nullptr);
+    for (std::size_t number = 0; number < count; number++) {
+        const auto operation = static_cast<op>(number);
+        souper::builder b;
+        const std::vector<souper::operand> operands(souper::operand_count(operation), b.var("x"));
+        std::string line = "%y = " + std::string(souper::word(operation));
+        for (std::size_t i = 0; i < operands.size(); i++) {
+            line += i == 0 ? " %x" : ", %x";
+        }
+        const item i = b.infer(b.inst(operation, operands, {}, "y"));
+        prints(line.c_str(), i, (operands.empty() ? "" : "%x = var\n") + line + "\ninfer %y\n");
+        expect(souper::read(kind::lhs, "%x = var " + line + " infer %y").front() == i, line.c_str(), nullptr);
+    }
+}
+
+void walks() {
+    const item i = souper::read(kind::lhs, "%b = block 2 %x = var %u = var %p = phi %b, %x, 1 blockpc %b 0 3 %p infer %p").front();
+    std::vector<std::size_t> uses;
+    for (const auto &s : i.statements) {
+        souper::for_each_use(s, [&](id used) { uses.push_back(used.position); });
+    }
+    expect(uses == std::vector<std::size_t>{0, 1, 0, 3}, "the uses of a phi and a blockpc", nullptr);
+    std::string names;
+    for (const auto &s : souper::canonical(kind::lhs, i).statements) {
+        const auto *assigned = std::get_if<souper::assignment>(&s);
+        names += assigned != nullptr ? assigned->name : "-";
+    }
+    expect(names == "%b%x%p-", "the needed statements in printed order", nullptr);
+    expect(i.at(id{4}) == nullptr && i.at(id{5}) == nullptr, "no assignment", nullptr);
+}
+
+// What is no item of the kind.
+
+bool is_ill_formed(kind k, const std::vector<item> &items, std::size_t index) {
+    try {
+        souper::write(k, items);
+        return false;
+    } catch (const souper::not_well_formed &error) {
+        return error.index == index;
+    }
+}
+
+void ill_formed(const char *what, const item &bad) {
+    souper::builder b;
+    const id x = b.var("x");
+    const item good = bad.last.index() == 1 ? b.result(x) : b.infer(x);
+    const kind k = souper::kind_of(good);
+    expect(is_ill_formed(k, {bad}, 0) && is_ill_formed(k, {good, good, bad, good}, 2), what, nullptr);
+}
+
+item lhs_of(souper::assignment assigned) {
+    return item{{std::move(assigned)}, souper::infer{id{0}, {}}};
+}
+
+void ill_formed_values() {
+    const souper::var var;
+    ill_formed("a width of 0", lhs_of({"%x", 0, var, {}}));
+    ill_formed("a width of 2^16", lhs_of({"%x", 65536, var, {}}));
+    ill_formed("no known bits", lhs_of({"%x", {}, var, {souper::known_bits{""}}}));
+    ill_formed("a bit that is none", lhs_of({"%x", {}, var, {souper::known_bits{"012"}}}));
+    ill_formed("no name", lhs_of({"", {}, var, {}}));
+    ill_formed("a name without a character", lhs_of({"%", {}, var, {}}));
+    ill_formed("a name without its %", lhs_of({"x", {}, var, {}}));
+    ill_formed("a name with a newline", lhs_of({"%x = var\n%y", {}, var, {}}));
+    ill_formed("a name that is not UTF-8", lhs_of({"%\xff", {}, var, {}}));
+    ill_formed("an operation that is none", lhs_of({"%x", {}, souper::instruction{static_cast<op>(59), {}}, {}}));
+    ill_formed("no operands", lhs_of({"%x", {}, souper::instruction{op::freeze, {}}, {}}));
+    ill_formed("an operand of width 0", lhs_of({"%x", {}, souper::instruction{op::freeze, {constant{1, 0}}}, {}}));
+    ill_formed("a use of itself", lhs_of({"%x", {}, souper::instruction{op::freeze, {id{0}}}, {}}));
+    ill_formed("a use of no statement", lhs_of({"%x", {}, souper::instruction{op::freeze, {id{SIZE_MAX}}}, {}}));
+}
+
+void ill_formed_graphs() {
+    souper::builder b;
+    const id x = b.var("x"), y = b.var("x");
+    ill_formed("one name of two", b.infer(b.inst(op::add, {x, y})));
+    b.pc(constant{1}, constant{1});
+    ill_formed("a use of a path condition", b.infer(id{0}));
+    ill_formed("a root that is none", b.infer(id{0}));
+    const id block = b.block(2);
+    ill_formed("a phi with a value too few", b.infer(b.phi(block, {constant{1}})));
+    b.phi(b.var(), {});
+    ill_formed("a phi of no block", b.infer(id{1}));
+    b.blockpc(b.block(2), 2, constant{1}, constant{1});
+    ill_formed("a predecessor that is none", b.infer(id{0}));
+    ill_formed("no demanded bits", b.infer(b.var(), {souper::demanded_bits{""}}));
+    ill_formed("a demanded bit that is none", b.infer(b.var(), {souper::demanded_bits{"0x"}}));
+    b.var();
+    expect(is_ill_formed(kind::rhs, {b.infer(id{0})}, 0), "an item of another kind", nullptr);
+    b.var();
+    expect(is_ill_formed(kind::rep, {b.cand(constant{1}, constant{2}), b.result(constant{1})}, 1), "a second item of another kind", nullptr);
+}
+
+void numbers() {
+    const std::string text = "%b = var %a = var %c = add %a, %b pc %c 1 infer %c";
+    const auto renamed = souper::records(kind::lhs, text, true);
+    expect(renamed.size() == 1 && renamed[0].key == "5c3aba6388404e1e1b78de05a4f8679dcfca76884a681a5c8b5902c32dcdbf52", "a key", nullptr);
+    expect(souper::read(kind::rep, {}).empty() && souper::write(kind::rep, std::vector<item>{}).empty(), "no items", nullptr);
+    expect(souper::canonical(kind::rep, std::vector<item>{}).empty() && souper::records(kind::rep, {}).empty(), "no items, canonical", nullptr);
+    expect(souper::decode(kind::lhs, {}).empty() && souper::encode({}).empty(), "no items, code", nullptr);
+    for (const auto wrong : {static_cast<souper::flags>(8), static_cast<souper::flags>(0x80000001u)}) {
+        try {
+            souper::key(kind::lhs, text, wrong);
+            expect(false, "the exception of a flag that is none", nullptr);
+        } catch (const std::invalid_argument &) {
+            expect(true, "the exception of a flag that is none", nullptr);
+        }
+    }
+    try {
+        souper::decode(kind::lhs, souper::encode(souper::read(kind::lhs, text + " " + text)) + "x");
+        expect(false, "the exception of a damaged code", nullptr);
+    } catch (const souper::bad_code &error) {
+        expect(error.index == 2 && error.offset == 2 * souper::encode(souper::read(kind::lhs, text)).size(), "its place", nullptr);
+    }
+}
+
+} // namespace
+
+int main(int argc, char **argv) {
+    std::size_t count;
+    Record *records = read_records(argc == 2 ? argv[1] : "", &count);
+    for (std::size_t i = 0; i < count; i++) {
+        const auto text = view(records[i].text, records[i].text_length);
+        const auto answer = view(records[i].answer, records[i].answer_length);
+        (records[i].status == SOUPER_REFUSED ? refusal : acceptance)(records[i], static_cast<kind>(records[i].kind), text, answer);
+    }
+    built_lhs();
+    built_blocks();
+    built_replacements();
+    built_attributes();
+    operations();
+    walks();
+    ill_formed_values();
+    ill_formed_graphs();
+    numbers();
+    free_records(records);
+    return summary("C++: the stored answers as values, items that are built");
+}

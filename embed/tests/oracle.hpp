@@ -1,0 +1,88 @@
+// What holds of any bytes as a code: the decoder of souper.hpp, and souper_write with the checker of texts. Null, or what is wrong.
+#ifndef ORACLE_HPP
+#define ORACLE_HPP
+
+#include "souper.hpp"
+
+#include <algorithm>
+#include <memory>
+#include <string>
+
+namespace oracle {
+
+inline const std::uint8_t *bytes(const std::string &text) {
+    return reinterpret_cast<const std::uint8_t *>(text.data());
+}
+
+// The code is copied to memory of its own length, so that a sanitizer sees a read past its end.
+inline bool decode(souper::kind k, std::string_view code, std::vector<souper::item> &items, souper::error &e) {
+    const std::unique_ptr<char[]> exact(new char[code.size()]);
+    std::copy(code.begin(), code.end(), exact.get());
+    return souper::try_decode(k, {exact.get(), code.size()}, items, e);
+}
+
+// The bytes are the code of the values that they are decoded to, or are none.
+inline const char *decodes(souper::kind k, std::string_view code) {
+    std::vector<souper::item> items;
+    souper::error e;
+    std::string again;
+    if (decode(k, code, items, e)) {
+        return souper::try_encode(items, again, e) && again == code ? nullptr : "the code of the values";
+    }
+    return e.what == souper::status::no_code && items.empty() && e.offset <= code.size() ? nullptr : "the error of a code that is none";
+}
+
+// Names are UTF-8, which the decoder of souper.hpp does not test.
+inline bool has_names(const std::vector<souper::item> &items) {
+    for (const auto &i : items) {
+        for (const auto &s : i.statements) {
+            const auto *assigned = std::get_if<souper::assignment>(&s);
+            if (assigned != nullptr && souper_check(SOUPER_LHS, bytes(assigned->name), assigned->name.size()).status == SOUPER_NOT_UTF8) {
+                return false;
+            }
+        }
+    }
+    return true;
+}
+
+inline SouperOutcome write(souper::kind k, const std::string &code, std::string &text) {
+    SouperOutcome outcome;
+    text.assign(code.size(), '\xaa');
+    const auto call = [&] {
+        return souper_write(static_cast<std::uint32_t>(k), bytes(code), code.size(), reinterpret_cast<std::uint8_t *>(text.data()), text.size());
+    };
+    while ((outcome = call()).status == SOUPER_SHORT) {
+        text.resize(outcome.length, '\xaa');
+    }
+    return outcome;
+}
+
+// The outcome of souper_write agrees with the decoder, and what it writes is canonical.
+inline const char *writes(souper::kind k, const std::string &code) {
+    std::string text;
+    std::vector<souper::item> items;
+    souper::error e;
+    const SouperOutcome outcome = write(k, code, text);
+    const bool decoded = decode(k, code, items, e);
+    switch (outcome.status) {
+    case SOUPER_DONE:
+        text.resize(outcome.length);
+        if (souper_check(static_cast<std::uint32_t>(k), bytes(text), text.size()).status != SOUPER_DONE) {
+            return "that the text is canonical";
+        }
+        return decoded ? nullptr : "that what is written is decoded";
+    case SOUPER_NO_CODE:
+        if (decoded) {
+            return has_names(items) ? "that what is decoded has a code" : nullptr;
+        }
+        return outcome.length < e.index || (outcome.length == e.index && outcome.offset == e.offset) ? nullptr : "the place of a code that is none";
+    case SOUPER_NOT_WELL_FORMED:
+        return decoded && outcome.length < items.size() && outcome.offset < code.size() ? nullptr : "the place of an item that is not well formed";
+    default:
+        return "a status of the list";
+    }
+}
+
+} // namespace oracle
+
+#endif
