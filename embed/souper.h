@@ -101,7 +101,8 @@ SOUPER_CALL SouperOutcome souper_write(uint32_t kind, const uint8_t *code, size_
  * the flags add or change. The program souper_items writes the same records.
  *
  * NO_FLAGS: a flag is none of the three. The other statuses, and the other bytes of `out`: as for souper_format. */
-SOUPER_CALL SouperOutcome souper_key(uint32_t kind, uint32_t flags, const uint8_t *text, size_t text_length, uint8_t *out, size_t out_length);
+SOUPER_CALL SouperOutcome souper_key(uint32_t kind, uint32_t flags, const uint8_t *text, size_t text_length, uint8_t *out,
+                                     size_t out_length);
 
 /* Whether the text is canonical: what souper_format would write for it is the text itself.
  *

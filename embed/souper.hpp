@@ -1,15 +1,15 @@
 // Souper IR for C++17: items as values, which are read, built and written; canonical texts and their keys; whether two texts have
 // the same graphs, whether a text is canonical.
 //
-// Over souper.h, which says what the calls promise and what the caller sees to; these functions see to the pointers. Each comes in
-// two forms:
+// Over souper.h, which says what the calls promise and what the caller sees to; these functions see to the pointers. Each has two
+// forms:
 //
 //   - `read`, `write`, `format`, .. throw, and exist only where exceptions are on. A refused text is thrown as `souper::refused`,
-//     bytes that are not UTF-8 as `souper::not_utf8`, an item that is not well formed as `souper::not_well_formed`, a damaged code
-//     as `souper::bad_code`, a kind or flag that is none as `std::invalid_argument`, and out of memory as `std::bad_alloc`;
+//     bytes that are not UTF-8 as `souper::not_utf8`, an item that is not well formed as `souper::not_well_formed`, a damaged
+//     code as `souper::bad_code`, a kind or flag that is none as `std::invalid_argument`, and out of memory as `std::bad_alloc`;
 //   - `try_read`, `try_write`, `try_format`, .. are noexcept. They return whether they are done, and else say why in a
-//     `souper::error`. Where exceptions are off (-fno-exceptions; the header does without RTTI too), an allocation of the
-//     standard library that fails ends the program, as it does there.
+//     `souper::error`. Where exceptions are off (-fno-exceptions; RTTI may be off too), an allocation of the standard library
+//     that fails ends the program, as elsewhere in such code.
 #ifndef SOUPER_HPP
 #define SOUPER_HPP
 
@@ -355,8 +355,8 @@ inline kind kind_of(const item &i) noexcept {
     return i.last.index() == 0 ? kind::lhs : i.last.index() == 1 ? kind::rhs : kind::rep;
 }
 
-/// Calls `visit` with the id of each use of a statement, in order: the block of a phi or `blockpc`, and then the operands from left
-/// to right. Constants are no uses.
+/// Calls `visit` with the id of each use of a statement, in order: the block of a phi or `blockpc`, and then the operands from
+/// left to right. Constants are no uses.
 template <typename Visit> void for_each_use(const statement &s, Visit visit) {
     const auto operands = [&visit](const auto &...all) {
         const auto one = [&visit](const operand &o) {
@@ -470,7 +470,7 @@ struct error {
     unsigned input = 0;     ///< refused, not_utf8: which text of the call, 0 the first, 1 the second
     std::size_t index = 0;  ///< no_code, not_well_formed: which item, from 0
     std::size_t offset = 0; ///< refused: how many bytes were read; no_code, not_well_formed: where the code of the item begins
-    std::size_t line = 0;   ///< refused: the line of the last of these bytes, or of the first of the text if there is none; from 1
+    std::size_t line = 0;   ///< refused: the line of the last of these bytes, or of the first byte if there is none; from 1
     std::size_t column = 0; ///< refused: its column, in bytes and from 1
     std::string shown = {}; ///< refused: why and where, in four lines without a newline at the end
 };
@@ -904,9 +904,11 @@ inline bool key(kind k, std::string_view text, flags f, std::string &out, error 
 
 inline bool read(kind k, std::string_view text, std::vector<item> &items, error &e) {
     std::string code;
-    return collect(code, 3 * text.size() + 256, e, [k, text](std::uint8_t *to, std::size_t room) {
-        return souper_read(static_cast<std::uint32_t>(k), bytes(text), text.size(), to, room);
-    }) && decode(k, code, items, e);
+    return collect(code, 3 * text.size() + 256, e,
+                   [k, text](std::uint8_t *to, std::size_t room) {
+                       return souper_read(static_cast<std::uint32_t>(k), bytes(text), text.size(), to, room);
+                   })
+        && decode(k, code, items, e);
 }
 
 inline bool write(kind k, const item *items, std::size_t count, std::string &out, error &e) {
@@ -974,8 +976,8 @@ inline bool same(kind k, std::string_view a, std::string_view b, bool &same, err
 // ----------------------------------------------------------------
 // The form without exceptions
 //
-// Each call returns whether it is done. If it is not, `e` says why, and its output is empty or false. The output need not be empty
-// before.
+// Each call returns whether it is done. If it is not, `e` says why, and its output is empty or false. The output need not be
+// empty before.
 
 // With exceptions and without, the functions differ where memory runs out: they have other names for the linker, so that one
 // program may have both.
@@ -1183,8 +1185,8 @@ inline std::vector<item> read(kind k, std::string_view text) {
 
 /// The canonical text of each item, a newline after each. Of the items that `read` returns, what `format` returns for the text.
 ///
-/// Throws `not_well_formed` if an item has no canonical text of the kind: a statement that it needs is invalid or uses one that is
-/// not before it, two have one name, or the last lines are of another kind.
+/// Throws `not_well_formed` if an item has no canonical text of the kind: a statement that it needs is invalid or uses one that
+/// is not before it, two have one name, or the last lines are of another kind.
 inline std::string write(kind k, const std::vector<item> &items) {
     return detail::output<std::string>([&](std::string &out, error &e) { return try_write(k, items, out, e); });
 }
@@ -1194,8 +1196,8 @@ inline std::string write(kind k, const item &one) {
     return detail::output<std::string>([&](std::string &out, error &e) { return try_write(k, one, out, e); });
 }
 
-/// The items of the canonical texts of items. The statements of each are the needed ones in printed order, uses before their users,
-/// so a loop over `statements` is a walk of the graph in that order.
+/// The items of the canonical texts of items. The statements of each are the needed ones in printed order, uses before their
+/// users, so a loop over `statements` is a walk of the graph in that order.
 inline std::vector<item> canonical(kind k, const std::vector<item> &items) {
     return detail::output<std::vector<item>>([&](std::vector<item> &out, error &e) { return try_canonical(k, items, out, e); });
 }
@@ -1214,11 +1216,12 @@ inline std::string key(kind k, std::string_view text, flags f = flags::key) {
 /// The key and the canonical text of each item that the text spells; with `rename`, of the item with names %0, %1, .. in printed
 /// order.
 inline std::vector<record> records(kind k, std::string_view text, bool rename = false) {
-    return detail::output<std::vector<record>>([&](std::vector<record> &out, error &e) { return try_records(k, text, rename, out, e); });
+    return detail::output<std::vector<record>>(
+        [&](std::vector<record> &out, error &e) { return try_records(k, text, rename, out, e); });
 }
 
-/// The code of items, which `decode` and souper_write read. Throws `not_well_formed` if an item has a value without a code: a width
-/// of more than 16 bits, or a bit that is none.
+/// The code of items, which `decode` and souper_write read. Throws `not_well_formed` if an item has a value without a code: a
+/// width of more than 65535, or a bit that is none.
 inline std::string encode(const std::vector<item> &items) {
     return detail::output<std::string>([&](std::string &out, error &e) { return try_encode(items, out, e); });
 }

@@ -109,8 +109,8 @@ llvm::Optional<Translation> comparison(const llvm::ICmpInst &instruction) {
     }
 }
 
-// Of an intrinsic function the first operands; a flag of cttz and ctlz comes after them. With it the result for 0 is poison, so that
-// the left-hand side has more defined values than the instruction.
+// Of an intrinsic function the first operands; a flag of cttz and ctlz comes after them. With it the result for 0 is poison, so
+// the left-hand side is defined more often than the instruction.
 llvm::Optional<Translation> intrinsic(const llvm::IntrinsicInst &instruction) {
     Value *a = instruction.arg_empty() ? nullptr : instruction.getArgOperand(0);
     const auto two = [&](op operation) { return Translation{operation, {a, instruction.getArgOperand(1)}}; };
@@ -148,7 +148,8 @@ llvm::Optional<Translation> intrinsic(const llvm::IntrinsicInst &instruction) {
 llvm::Optional<Translation> plain_translation(const Instruction &instruction) {
     if (const auto *binary = llvm::dyn_cast<llvm::BinaryOperator>(&instruction)) {
         const auto operation = operation_of(*binary);
-        return operation ? llvm::Optional<Translation>(Translation{*operation, {binary->getOperand(0), binary->getOperand(1)}}) : llvm::None;
+        return operation ? llvm::Optional<Translation>(Translation{*operation, {binary->getOperand(0), binary->getOperand(1)}})
+                         : llvm::None;
     }
     if (const auto *compared = llvm::dyn_cast<llvm::ICmpInst>(&instruction)) {
         return comparison(*compared);

@@ -3,8 +3,8 @@
 //
 //     passgen FILE > rules.inc
 //
-// A replacement holds under its conditions: path conditions, attributes, the widths of its values. The functions test widths alone,
-// so a replacement with another condition is refused, and so is one with a node that has no pattern; then the status is 1.
+// A replacement holds under its conditions: path conditions, attributes, the widths of its values. The functions test widths
+// alone, so a replacement with another condition is refused, and so is one with a node that has no pattern; the status is then 1.
 #include "souper.hpp"
 
 #include <algorithm>
@@ -190,7 +190,7 @@ void require_no_condition(const souper::statement &s) {
     }
     const auto *computed = std::get_if<instruction>(&assigned->value);
     if (computed == nullptr) {
-        throw unsupported(assigned->name + ", which is neither a variable nor an instruction");
+        throw unsupported("a value that is neither a variable nor an instruction: " + assigned->name);
     }
     const op operation = computed->operation;
     if (!binary_of(operation) && predicate_of(operation).empty() && cast_of(operation).empty() && intrinsic_of(operation).empty()
@@ -206,7 +206,8 @@ std::pair<operand, operand> roots_of(const item &i) {
     if (!(both != nullptr ? both->replaced.attributes : pair->attributes).empty()) {
         throw unsupported("an attribute of the last line");
     }
-    return both != nullptr ? std::pair<operand, operand>(both->replaced.value, both->by.value) : std::pair(pair->replaced, pair->by);
+    return both != nullptr ? std::pair<operand, operand>(both->replaced.value, both->by.value)
+                           : std::pair(pair->replaced, pair->by);
 }
 
 // Widths: those of the text, and those that follow from them.
@@ -283,7 +284,7 @@ private:
 
     void require(assignment &assigned) {
         if (!assigned.width) {
-            throw unsupported("no width of " + assigned.name);
+            throw unsupported("a value without a width: " + assigned.name);
         }
         auto *computed = std::get_if<instruction>(&assigned.value);
         if (computed == nullptr) {
@@ -291,11 +292,12 @@ private:
         }
         for (auto &o : computed->operands) {
             if (!of(o)->has_value()) {
-                throw unsupported("no width of an operand of " + assigned.name);
+                throw unsupported("a constant without a width, in " + assigned.name);
             }
         }
         const bool narrows = computed->operation == op::trunc;
-        if (!cast_of(computed->operation).empty() && (narrows ? *assigned.width >= **of(computed->operands[0]) : *assigned.width <= **of(computed->operands[0]))) {
+        if (!cast_of(computed->operation).empty()
+            && (narrows ? *assigned.width >= **of(computed->operands[0]) : *assigned.width <= **of(computed->operands[0]))) {
             throw unsupported("a cast that LLVM does not have: " + assigned.name);
         }
         if (computed->operation == op::bswap && *assigned.width % 16 != 0) {
@@ -317,7 +319,8 @@ std::string number(const constant &c) {
     std::ostringstream out;
     out << "number(" << bits << ", {";
     for (unsigned bit = 0; bit < bits; bit += 64) {
-        out << (bit == 0 ? "" : ", ") << "0x" << std::hex << static_cast<std::uint64_t>(c.value >> std::min(bit, 127u)) << std::dec << "u";
+        out << (bit == 0 ? "" : ", ") << "0x" << std::hex << static_cast<std::uint64_t>(c.value >> std::min(bit, 127u))
+            << std::dec << "u";
     }
     out << "})";
     return out.str();
@@ -354,7 +357,8 @@ public:
                 body << "    llvm::Value *r" << position << " = " << build(position) << ";\n";
             }
         }
-        out << "static llvm::Value *rule_" << index << "(llvm::Value *root, [[maybe_unused]] llvm::IRBuilder<> &b) {\n    using namespace llvm::PatternMatch;\n"
+        out << "static llvm::Value *rule_" << index
+            << "(llvm::Value *root, [[maybe_unused]] llvm::IRBuilder<> &b) {\n    using namespace llvm::PatternMatch;\n"
             << variables.str() << "    if (!match(root, " << whole << ")) {\n        return nullptr;\n    }\n"
             << body.str() << "    return " << built(by) << ";\n}\n\n";
     }
@@ -384,8 +388,8 @@ private:
         }
     }
 
-    // Undefined values. A value that is undef may be another one at each use, and one that is poison may be used where a select does
-    // not choose it: then the right side is built of values that are frozen. A division of a frozen value may divide by 0.
+    // Undefined values. A value that is undef may be another one at each use, and one that is poison may be used where a select
+    // does not choose it: then the right side is built of values that are frozen. A division by a frozen value may be one by 0.
     void require_right_side() {
         for (std::size_t position = 0; position < i.statements.size(); position++) {
             const bool is_select = computed(position) != nullptr && computed(position)->operation == op::select;
@@ -396,7 +400,7 @@ private:
                 continue;
             }
             if (computed(position) == nullptr && left[position] == 0) {
-                throw unsupported(at(id{position}).name + ", which the left-hand side does not have");
+                throw unsupported("a variable that the left-hand side does not have: " + at(id{position}).name);
             }
             if (computed(position) != nullptr && divides(computed(position)->operation)) {
                 throw unsupported("a division in the right side");
@@ -412,7 +416,8 @@ private:
 
     // Whether the function has a variable for the matched value.
     bool is_bound(std::size_t position) const {
-        return left[position] > 0 && (computed(position) == nullptr || left[position] > 1 || (right[position] > 0 && is_taken(position)));
+        return left[position] > 0
+            && (computed(position) == nullptr || left[position] > 1 || (right[position] > 0 && is_taken(position)));
     }
 
     std::string pattern(const operand &o) {
@@ -440,9 +445,9 @@ private:
         }
         if (const auto b = binary_of(c.operation)) {
             const std::string plain = std::string(b->commutes ? "m_c_" : "m_") + b->name + "(" + operands + ")";
-            return b->is_exact                                    ? "m_Exact(" + plain + ")"
-                   : b->no_unsigned_wrap || b->no_signed_wrap ? "no_wrap(" + flags(*b) + ", " + plain + ")"
-                                                                  : plain;
+            return b->is_exact                             ? "m_Exact(" + plain + ")"
+                : b->no_unsigned_wrap || b->no_signed_wrap ? "no_wrap(" + flags(*b) + ", " + plain + ")"
+                                                           : plain;
         }
         if (!predicate_of(c.operation).empty()) {
             return "compare(" + predicate_of(c.operation) + ", " + operands + ")";
@@ -481,7 +486,11 @@ private:
         const std::string type = "b.getIntNTy(" + std::to_string(at(id{position}).width.value()) + ")";
         if (const auto b = binary_of(c->operation)) {
             const bool wraps = b->no_unsigned_wrap || b->no_signed_wrap;
-            return std::string("b.Create") + b->name + "(" + operands + (b->is_exact ? ", \"\", true" : wraps ? ", \"\", " + flags(*b) : "") + ")";
+            return std::string("b.Create") + b->name + "(" + operands
+                + (b->is_exact ? ", \"\", true"
+                       : wraps ? ", \"\", " + flags(*b)
+                               : "")
+                + ")";
         }
         if (!predicate_of(c->operation).empty()) {
             return "b.CreateICmp(" + predicate_of(c->operation) + ", " + operands + ")";
@@ -492,7 +501,8 @@ private:
         if (c->operation == op::select) {
             return "b.CreateSelect(" + operands + ")";
         }
-        return "b.CreateIntrinsic(" + intrinsic_of(c->operation) + ", {" + type + "}, {" + operands + (has_flag(c->operation) ? ", b.getFalse()" : "") + "})";
+        return "b.CreateIntrinsic(" + intrinsic_of(c->operation) + ", {" + type + "}, {" + operands
+            + (has_flag(c->operation) ? ", b.getFalse()" : "") + "})";
     }
 
     item i;

@@ -47,7 +47,8 @@ template <typename Pattern> struct NoWrap {
 
     bool match(llvm::Value *value) {
         const auto *flags = llvm::dyn_cast<llvm::OverflowingBinaryOperator>(value);
-        return flags && (!is_unsigned || flags->hasNoUnsignedWrap()) && (!is_signed || flags->hasNoSignedWrap()) && pattern.match(value);
+        return flags && (!is_unsigned || flags->hasNoUnsignedWrap()) && (!is_signed || flags->hasNoSignedWrap())
+            && pattern.match(value);
     }
 };
 
@@ -72,7 +73,8 @@ template <typename Left, typename Right> struct Compare {
     }
 };
 
-template <typename Left, typename Right> Compare<Left, Right> compare(llvm::ICmpInst::Predicate predicate, Left left, Right right) {
+template <typename Left, typename Right>
+Compare<Left, Right> compare(llvm::ICmpInst::Predicate predicate, Left left, Right right) {
     return {predicate, left, right};
 }
 

@@ -1,7 +1,9 @@
-// Codes that are damaged: the decoder of souper.hpp reads nothing outside them and allocates little, and souper_write refuses them
-// or writes canonical texts. Each allocation of a call in C++ is refused in turn.
+// Codes that are damaged: the decoder of souper.hpp reads nothing outside them and allocates little, and souper_write refuses
+// them or writes canonical texts. Each allocation of a call in C++ is refused in turn.
 //
-//     codes RECORDS [COUNT]        COUNT codes are changed at random, by default 200,000
+//     codes RECORDS [COUNT [FOLDER]]
+//
+// COUNT codes are changed at random, by default 200,000. The codes of the records are written to FOLDER, as seeds for fuzz.cpp.
 #include "oracle.hpp"
 
 extern "C" {
@@ -10,6 +12,7 @@ extern "C" {
 
 #include <cstdio>
 #include <cstdlib>
+#include <fstream>
 #include <new>
 #include <random>
 
@@ -89,10 +92,12 @@ void holds(kind k, const std::string &code) {
 // A text with each kind of node.
 sample each_node() {
     const auto items = souper::read(
-        kind::rep, "%x:i8 = var (knownBits=01x) (powerOfTwo) (negative) (nonNegative) (nonZero) (hasExternalUses) (signBits=3) (range=[-1,5))"
-                   "%b = block 2 %p = phi %b, %x, 1:i8 %r = reservedinst %c = reservedconst pc %x 1 blockpc %b 1 %x 2:i8 %h = hole"
-                   "%y = select %x, %p, -7 infer %y (demandedBits=01) (harvestedFromUse) %z = fshl %r, %c, %x result %z"
-                   "%x = var cand %x, 1 (demandedBits=1)");
+        kind::rep,
+        "%x:i8 = var (knownBits=01x) (powerOfTwo) (negative) (nonNegative) (nonZero) (hasExternalUses) (signBits=3) "
+        "(range=[-1,5))"
+        "%b = block 2 %p = phi %b, %x, 1:i8 %r = reservedinst %c = reservedconst pc %x 1 blockpc %b 1 %x 2:i8 %h = hole"
+        "%y = select %x, %p, -7 infer %y (demandedBits=01) (harvestedFromUse) %z = fshl %r, %c, %x result %z"
+        "%x = var cand %x, 1 (demandedBits=1)");
     return {kind::rep, items, souper::encode(items)};
 }
 
@@ -245,7 +250,8 @@ void random_changes(const std::vector<sample> &all, std::size_t count) {
     }
     std::printf("  of %zu codes, %zu are written, %zu are none, %zu are not well formed\n", count, statuses[SOUPER_DONE],
                 statuses[SOUPER_NO_CODE], statuses[SOUPER_NOT_WELL_FORMED]);
-    expect(statuses[SOUPER_DONE] > 0 && statuses[SOUPER_NO_CODE] > 0 && statuses[SOUPER_NOT_WELL_FORMED] > 0, "each status", nullptr);
+    expect(statuses[SOUPER_DONE] > 0 && statuses[SOUPER_NO_CODE] > 0 && statuses[SOUPER_NOT_WELL_FORMED] > 0, "each status",
+           nullptr);
 }
 
 // A call whose allocations fail from the first, the second, .. on, until it is done.
@@ -288,6 +294,12 @@ void out_of_memory(const sample &from) {
     expect(thrown, "the exception of read without memory", nullptr);
 }
 
+void write_seeds(const std::vector<sample> &all, const std::string &folder) {
+    for (std::size_t i = 0; i < all.size(); i++) {
+        std::ofstream(folder + "/" + std::to_string(i), std::ios::binary) << all[i].code;
+    }
+}
+
 } // namespace
 
 int main(int argc, char **argv) {
@@ -300,6 +312,9 @@ int main(int argc, char **argv) {
     }
     lengths();
     memory(each_node(), each_node().code);
+    if (argc > 3) {
+        write_seeds(all, argv[3]);
+    }
     random_changes(all, argc > 2 ? std::strtoull(argv[2], nullptr, 10) : 200000);
     out_of_memory(each_node());
     free_records(records);

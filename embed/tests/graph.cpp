@@ -57,10 +57,12 @@ void keys(const Record &record, kind k, std::string_view text, std::string_view 
     }
     expect(texts == answer, "the texts of its records", &record);
     expect(souper::key(k, text) == joined(records, false), "its keys", &record);
-    expect(souper::key(k, text, souper::flags::key | souper::flags::null) == joined(records, true), "its keys with nulls", &record);
+    expect(souper::key(k, text, souper::flags::key | souper::flags::null) == joined(records, true), "its keys with nulls",
+           &record);
     const auto renamed = souper::records(k, text, true);
     expect(renamed.size() == records.size(), "the number of its renamed records", &record);
-    expect(souper::key(k, text, souper::flags::key | souper::flags::rename) == joined(renamed, false), "its renamed keys", &record);
+    expect(souper::key(k, text, souper::flags::key | souper::flags::rename) == joined(renamed, false), "its renamed keys",
+           &record);
 }
 
 void acceptance(const Record &record, kind k, std::string_view text, std::string_view answer) {
@@ -124,7 +126,8 @@ void built_blocks() {
     const id x = b.var("x", 32), block = b.block(2, "b");
     const id choice = b.phi(block, {x, constant{-1, 32}}, 32, "p");
     b.blockpc(block, 1, x, constant{7, 32});
-    prints("a right-hand side", b.result(choice), "%b = block 2\n%x:i32 = var\n%p:i32 = phi %b, %x, -1:i32\nblockpc %b 1 %x 7:i32\nresult %p");
+    prints("a right-hand side", b.result(choice),
+           "%b = block 2\n%x:i32 = var\n%p:i32 = phi %b, %x, -1:i32\nblockpc %b 1 %x 7:i32\nresult %p");
 }
 
 void built_replacements() {
@@ -142,19 +145,21 @@ void built_replacements() {
 
 void built_attributes() {
     souper::builder b;
-    const id x = b.var("x", 8, {souper::power_of_two{}, souper::negative{}, souper::non_zero{}, souper::has_external_uses{}, souper::sign_bits{255},
-                                souper::range{-5, 6}});
+    const id x = b.var("x", 8,
+                       {souper::power_of_two{}, souper::negative{}, souper::non_zero{}, souper::has_external_uses{},
+                        souper::sign_bits{255}, souper::range{-5, 6}});
     b.assign(souper::reservedinst{}, {}, "r");
     const id r = b.assign(souper::reservedinst{}, 3, "s"), c = b.assign(souper::reservedconst{}, {}, "c");
     const id y = b.inst(op::select, {x, r, c}, 65535, "y", {souper::known_bits{"01x"}});
-    prints("attributes", b.result(y), "%x:i8 = var (powerOfTwo) (negative) (nonZero) (hasExternalUses) (signBits=255) (range=[-5,6))\n"
+    prints("attributes", b.result(y),
+           "%x:i8 = var (powerOfTwo) (negative) (nonZero) (hasExternalUses) (signBits=255) (range=[-5,6))\n"
            "%s:i3 = reservedinst\n%c = reservedconst\n%y:i65535 = select %x, %s, %c (knownBits=01x)\nresult %y");
 }
 
 // Each operation in an item, by its word and with its operands.
 void operations() {
     std::size_t count = 0;
-#define SOUPER_X(name, text, operands)                                                                                              \
+#define SOUPER_X(name, text, operands) \
     expect(static_cast<std::size_t>(op::name) == count++ && souper::word(op::name) == (text), text, nullptr);
     SOUPER_INSTRUCTIONS(SOUPER_X)
 #undef SOUPER_X
@@ -174,7 +179,8 @@ void operations() {
 }
 
 void walks() {
-    const item i = souper::read(kind::lhs, "%b = block 2 %x = var %u = var %p = phi %b, %x, 1 blockpc %b 0 3 %p infer %p").front();
+    const item i =
+        souper::read(kind::lhs, "%b = block 2 %x = var %u = var %p = phi %b, %x, 1 blockpc %b 0 3 %p infer %p").front();
     std::vector<std::size_t> uses;
     for (const auto &s : i.statements) {
         souper::for_each_use(s, [&](id used) { uses.push_back(used.position); });
@@ -248,15 +254,18 @@ void ill_formed_graphs() {
     b.var();
     expect(is_ill_formed(kind::rhs, {b.infer(id{0})}, 0), "an item of another kind", nullptr);
     b.var();
-    expect(is_ill_formed(kind::rep, {b.cand(constant{1}, constant{2}), b.result(constant{1})}, 1), "a second item of another kind", nullptr);
+    expect(is_ill_formed(kind::rep, {b.cand(constant{1}, constant{2}), b.result(constant{1})}, 1),
+           "a second item of another kind", nullptr);
 }
 
 void numbers() {
     const std::string text = "%b = var %a = var %c = add %a, %b pc %c 1 infer %c";
     const auto renamed = souper::records(kind::lhs, text, true);
-    expect(renamed.size() == 1 && renamed[0].key == "5c3aba6388404e1e1b78de05a4f8679dcfca76884a681a5c8b5902c32dcdbf52", "a key", nullptr);
+    expect(renamed.size() == 1 && renamed[0].key == "5c3aba6388404e1e1b78de05a4f8679dcfca76884a681a5c8b5902c32dcdbf52", "a key",
+           nullptr);
     expect(souper::read(kind::rep, {}).empty() && souper::write(kind::rep, std::vector<item>{}).empty(), "no items", nullptr);
-    expect(souper::canonical(kind::rep, std::vector<item>{}).empty() && souper::records(kind::rep, {}).empty(), "no items, canonical", nullptr);
+    expect(souper::canonical(kind::rep, std::vector<item>{}).empty() && souper::records(kind::rep, {}).empty(),
+           "no items, canonical", nullptr);
     expect(souper::decode(kind::lhs, {}).empty() && souper::encode({}).empty(), "no items, code", nullptr);
     for (const auto wrong : {static_cast<souper::flags>(8), static_cast<souper::flags>(0x80000001u)}) {
         try {
@@ -270,7 +279,8 @@ void numbers() {
         souper::decode(kind::lhs, souper::encode(souper::read(kind::lhs, text + " " + text)) + "x");
         expect(false, "the exception of a damaged code", nullptr);
     } catch (const souper::bad_code &error) {
-        expect(error.index == 2 && error.offset == 2 * souper::encode(souper::read(kind::lhs, text)).size(), "its place", nullptr);
+        expect(error.index == 2 && error.offset == 2 * souper::encode(souper::read(kind::lhs, text)).size(), "its place",
+               nullptr);
     }
 }
 
@@ -282,7 +292,8 @@ int main(int argc, char **argv) {
     for (std::size_t i = 0; i < count; i++) {
         const auto text = view(records[i].text, records[i].text_length);
         const auto answer = view(records[i].answer, records[i].answer_length);
-        (records[i].status == SOUPER_REFUSED ? refusal : acceptance)(records[i], static_cast<kind>(records[i].kind), text, answer);
+        (records[i].status == SOUPER_REFUSED ? refusal : acceptance)(records[i], static_cast<kind>(records[i].kind), text,
+                                                                     answer);
     }
     built_lhs();
     built_blocks();

@@ -1,4 +1,5 @@
-// What holds of any bytes as a code: the decoder of souper.hpp, and souper_write with the checker of texts. Null, or what is wrong.
+// What holds of any bytes as a code, by the decoder of souper.hpp, by souper_write, and by the checker of texts. A test returns
+// null, or what does not hold.
 #ifndef ORACLE_HPP
 #define ORACLE_HPP
 
@@ -29,7 +30,8 @@ inline const char *decodes(souper::kind k, std::string_view code) {
     if (decode(k, code, items, e)) {
         return souper::try_encode(items, again, e) && again == code ? nullptr : "the code of the values";
     }
-    return e.what == souper::status::no_code && items.empty() && e.offset <= code.size() ? nullptr : "the error of a code that is none";
+    return e.what == souper::status::no_code && items.empty() && e.offset <= code.size() ? nullptr
+                                                                                         : "the error of a code that is none";
 }
 
 // Names are UTF-8, which the decoder of souper.hpp does not test.
@@ -37,7 +39,8 @@ inline bool has_names(const std::vector<souper::item> &items) {
     for (const auto &i : items) {
         for (const auto &s : i.statements) {
             const auto *assigned = std::get_if<souper::assignment>(&s);
-            if (assigned != nullptr && souper_check(SOUPER_LHS, bytes(assigned->name), assigned->name.size()).status == SOUPER_NOT_UTF8) {
+            if (assigned != nullptr
+                && souper_check(SOUPER_LHS, bytes(assigned->name), assigned->name.size()).status == SOUPER_NOT_UTF8) {
                 return false;
             }
         }
@@ -49,7 +52,8 @@ inline SouperOutcome write(souper::kind k, const std::string &code, std::string 
     SouperOutcome outcome;
     text.assign(code.size(), '\xaa');
     const auto call = [&] {
-        return souper_write(static_cast<std::uint32_t>(k), bytes(code), code.size(), reinterpret_cast<std::uint8_t *>(text.data()), text.size());
+        return souper_write(static_cast<std::uint32_t>(k), bytes(code), code.size(),
+                            reinterpret_cast<std::uint8_t *>(text.data()), text.size());
     };
     while ((outcome = call()).status == SOUPER_SHORT) {
         text.resize(outcome.length, '\xaa');
@@ -75,9 +79,13 @@ inline const char *writes(souper::kind k, const std::string &code) {
         if (decoded) {
             return has_names(items) ? "that what is decoded has a code" : nullptr;
         }
-        return outcome.length < e.index || (outcome.length == e.index && outcome.offset == e.offset) ? nullptr : "the place of a code that is none";
+        return outcome.length < e.index || (outcome.length == e.index && outcome.offset == e.offset)
+            ? nullptr
+            : "the place of a code that is none";
     case SOUPER_NOT_WELL_FORMED:
-        return decoded && outcome.length < items.size() && outcome.offset < code.size() ? nullptr : "the place of an item that is not well formed";
+        return decoded && outcome.length < items.size() && outcome.offset < code.size()
+            ? nullptr
+            : "the place of an item that is not well formed";
     default:
         return "a status of the list";
     }

@@ -20,7 +20,8 @@ const char *const text = "%unused = var %x:i8 = var %y = add %x, 1 infer %y";
 const char *const canonical = "%x:i8 = var\n%y = add %x, 1\ninfer %y\n\n";
 
 bool is_none(const error &e) {
-    return e.what == status::done && e.input == 0 && e.index == 0 && e.offset == 0 && e.line == 0 && e.column == 0 && e.shown.empty();
+    return e.what == status::done && e.input == 0 && e.index == 0 && e.offset == 0 && e.line == 0 && e.column == 0
+        && e.shown.empty();
 }
 
 void done() {
@@ -39,7 +40,8 @@ void done() {
     expect(souper::try_write(kind::lhs, items[0], out, e) && is_none(e) && out == canonical, "write, one", nullptr);
     expect(souper::try_encode(items, code, e) && is_none(e), "encode", nullptr);
     expect(souper::try_decode(kind::lhs, code, again, e) && is_none(e) && again == items, "decode", nullptr);
-    expect(souper::try_canonical(kind::lhs, items, items, e) && is_none(e) && items[0].statements.size() == 2, "canonical, in place", nullptr);
+    expect(souper::try_canonical(kind::lhs, items, items, e) && is_none(e) && items[0].statements.size() == 2,
+           "canonical, in place", nullptr);
     expect(souper::try_format(kind::lhs, out, out, e) && is_none(e) && out == canonical, "format, in place", nullptr);
     expect(souper::try_key(kind::lhs, text, souper::flags::none, out, e) && is_none(e) && out == canonical, "key", nullptr);
     expect(souper::try_records(kind::lhs, text, false, records, e) && is_none(e) && records.size() == 1, "records", nullptr);
@@ -55,18 +57,21 @@ void refused() {
     bool yes = true;
     expect(!souper::try_format(kind::lhs, bad, out, e) && out.empty() && e.what == status::refused, "format", nullptr);
     const error wanted = e;
-    expect(wanted.offset > 0 && wanted.line == 2 && wanted.column > 0 && wanted.shown.find("unknown value '%z'") != std::string::npos,
+    expect(wanted.offset > 0 && wanted.line == 2 && wanted.column > 0
+               && wanted.shown.find("unknown value '%z'") != std::string::npos,
            "what a refusal shows", nullptr);
     const auto is_wanted = [&wanted](const error &got, unsigned input) {
-        return got.what == wanted.what && got.input == input && got.index == 0 && got.offset == wanted.offset && got.line == wanted.line
-            && got.column == wanted.column && got.shown == wanted.shown;
+        return got.what == wanted.what && got.input == input && got.index == 0 && got.offset == wanted.offset
+            && got.line == wanted.line && got.column == wanted.column && got.shown == wanted.shown;
     };
     expect(!souper::try_check(kind::lhs, bad, yes, e) && is_wanted(e, 0) && !yes, "check, refused", nullptr);
     expect(!souper::try_same(kind::lhs, bad, "", yes, e) && is_wanted(e, 0), "same, refused first", nullptr);
     expect(!souper::try_same(kind::lhs, "", bad, yes, e) && is_wanted(e, 1), "same, refused second", nullptr);
     expect(!souper::try_read(kind::lhs, bad, items, e) && is_wanted(e, 0) && items.empty(), "read, refused", nullptr);
-    expect(!souper::try_key(kind::lhs, bad, souper::flags::key, out, e) && is_wanted(e, 0) && out.empty(), "key, refused", nullptr);
-    expect(!souper::try_records(kind::lhs, bad, true, records, e) && is_wanted(e, 0) && records.empty(), "records, refused", nullptr);
+    expect(!souper::try_key(kind::lhs, bad, souper::flags::key, out, e) && is_wanted(e, 0) && out.empty(), "key, refused",
+           nullptr);
+    expect(!souper::try_records(kind::lhs, bad, true, records, e) && is_wanted(e, 0) && records.empty(), "records, refused",
+           nullptr);
 }
 
 void other_errors() {
@@ -80,17 +85,23 @@ void other_errors() {
     expect(!souper::try_write(none, items, out, e) && e.what == status::no_kind, "write, no kind", nullptr);
     expect(!souper::try_decode(none, "", items, e) && e.what == status::no_kind, "decode, no kind", nullptr);
     expect(!souper::try_key(none, text, souper::flags::key, out, e) && e.what == status::no_kind, "key, no kind", nullptr);
-    expect(!souper::try_key(kind::lhs, text, static_cast<souper::flags>(8), out, e) && e.what == status::no_flags, "key, no flags", nullptr);
-    expect(!souper::try_read(kind::lhs, "\xff", items, e) && e.what == status::not_utf8 && e.input == 0, "read, not UTF-8", nullptr);
-    expect(!souper::try_same(kind::lhs, "", "\xff", yes, e) && e.what == status::not_utf8 && e.input == 1, "same, not UTF-8", nullptr);
+    expect(!souper::try_key(kind::lhs, text, static_cast<souper::flags>(8), out, e) && e.what == status::no_flags,
+           "key, no flags", nullptr);
+    expect(!souper::try_read(kind::lhs, "\xff", items, e) && e.what == status::not_utf8 && e.input == 0, "read, not UTF-8",
+           nullptr);
+    expect(!souper::try_same(kind::lhs, "", "\xff", yes, e) && e.what == status::not_utf8 && e.input == 1, "same, not UTF-8",
+           nullptr);
     souper::builder b;
     items.push_back(b.infer(b.var("x")));
     items.push_back(b.infer(b.var("x", 70000)));
     expect(!souper::try_encode(items, out, e) && e.what == status::not_well_formed && e.index == 1, "encode, no code", nullptr);
-    expect(!souper::try_write(kind::lhs, items, out, e) && e.what == status::not_well_formed && e.index == 1, "write, no code", nullptr);
+    expect(!souper::try_write(kind::lhs, items, out, e) && e.what == status::not_well_formed && e.index == 1, "write, no code",
+           nullptr);
     items[1] = b.infer(b.var("x y"));
-    expect(!souper::try_write(kind::lhs, items, out, e) && e.what == status::not_well_formed && e.index == 1, "write, no name", nullptr);
-    expect(souper::try_encode({items[0]}, out, e) && !souper::try_decode(kind::rhs, out, items, e) && e.what == status::no_code && e.index == 0,
+    expect(!souper::try_write(kind::lhs, items, out, e) && e.what == status::not_well_formed && e.index == 1, "write, no name",
+           nullptr);
+    expect(souper::try_encode({items[0]}, out, e) && !souper::try_decode(kind::rhs, out, items, e) && e.what == status::no_code
+               && e.index == 0,
            "decode, another kind", nullptr);
 }
 
