@@ -250,7 +250,7 @@ void random_changes(const std::vector<sample> &all, std::size_t count) {
     }
     std::printf("  of %zu codes, %zu are written, %zu are none, %zu are not well formed\n", count, statuses[SOUPER_DONE],
                 statuses[SOUPER_NO_CODE], statuses[SOUPER_NOT_WELL_FORMED]);
-    expect(statuses[SOUPER_DONE] > 0 && statuses[SOUPER_NO_CODE] > 0 && statuses[SOUPER_NOT_WELL_FORMED] > 0, "each status",
+    expect(count < 1000 || (statuses[SOUPER_DONE] > 0 && statuses[SOUPER_NO_CODE] > 0 && statuses[SOUPER_NOT_WELL_FORMED] > 0), "each status",
            nullptr);
 }
 
