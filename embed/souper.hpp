@@ -390,7 +390,7 @@ template <typename Visit> void for_each_use(const statement &s, Visit visit) {
 
 /// Builds an item, statement by statement. Nothing is tested before the item is written: `write` says whether it is well formed.
 ///
-/// A name may have its `%` or not. The name of an assignment without one is `%` and the position of the assignment.
+/// A name may have its `%` or not; an assignment without a name gets `%` and its position. A width is in bits, 1 to 65535, or none.
 class builder {
 public:
     builder() = default;
@@ -398,6 +398,7 @@ public:
     /// Begins with these statements, as of an item that was read.
     explicit builder(std::vector<statement> begun) noexcept : statements(std::move(begun)) {}
 
+    /// Appends an assignment, and returns its position for later uses.
     id assign(right_side value, std::optional<std::uint32_t> width = {}, std::string_view name = {},
               std::vector<attribute> attributes = {}) {
         std::string whole(name.empty() || name.front() != '%' ? "%" : "");
@@ -405,23 +406,29 @@ public:
         return append(assignment{std::move(whole), width, std::move(value), std::move(attributes)});
     }
 
+    /// An input.
     id var(std::string_view name = {}, std::optional<std::uint32_t> width = {}, std::vector<attribute> attributes = {}) {
         return assign(souper::var{}, width, name, std::move(attributes));
     }
 
+    /// A block, for phis and for path conditions on its predecessors.
     id block(std::uint32_t predecessors, std::string_view name = {}) { return assign(souper::block{predecessors}, {}, name); }
 
+    /// A choice by a block, with a value for each of its predecessors.
     id phi(id of, std::vector<operand> values, std::optional<std::uint32_t> width = {}, std::string_view name = {}) {
         return assign(souper::phi{of, std::move(values)}, width, name);
     }
 
+    /// An instruction, with `operand_count(operation)` operands.
     id inst(op operation, std::vector<operand> operands, std::optional<std::uint32_t> width = {}, std::string_view name = {},
             std::vector<attribute> attributes = {}) {
         return assign(instruction{operation, std::move(operands)}, width, name, std::move(attributes));
     }
 
+    /// A path condition: x is y.
     void pc(operand x, operand y) { append(souper::pc{x, y}); }
 
+    /// A path condition on the predecessor of a block with this index, from 0: x is y.
     void blockpc(id of, std::uint32_t predecessor, operand x, operand y) { append(souper::blockpc{of, predecessor, x, y}); }
 
     // Each of these returns the item, and leaves the builder without statements.
@@ -859,7 +866,7 @@ inline bool decode(kind k, std::string_view code, std::vector<item> &items, erro
 
 // The calls of souper.h.
 
-// The bytes of a text; the pointer is not null, as that of an empty view may be.
+// The bytes of a text; the pointer is not null, also of an empty view.
 inline const std::uint8_t *bytes(std::string_view text) noexcept {
     return reinterpret_cast<const std::uint8_t *>(text.empty() ? "" : text.data());
 }
