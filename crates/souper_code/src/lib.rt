@@ -16,7 +16,12 @@
 //! | last lines | `0` infer: the root's position and the list of root attributes; `1` result: an operand; `2` infer and result, one after the other; `3` cand: two operands and the list of root attributes |
 //! | item | the list of statements, and the last lines |
 //!
-//! A list of items is its items one after the other, without a length. [`encode::Encode`] gives the code of an item.
+//! A list of items is its items one after the other, without a length. A code belongs to one list of items of a type, and no code of
+//! an item begins the code of another.
+//!
+//! [`encode::Encode`] gives the code of an item, [`decode::Decode`] the item that a code begins with, [`decode::decode_items`] the
+//! items of a code, and [`write::write_items`] their canonical texts. Reading takes time and memory in proportion to the code,
+//! whatever lengths stand in it.
 #![tactic(auto)]
 
 pub mod decode;
