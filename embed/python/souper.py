@@ -20,7 +20,7 @@ Two items have the same canonical text if and only if they are the same graph:
 infer %y
 <BLANKLINE>
 >>> souper.key("lhs", item)
-'KEY'
+'d66a7a1bb88ce7002c2c65fbd716f6b06125d531f1c578eb8eb33a3ccc1c8e93'
 
 A graph is built by a `Builder`:
 
@@ -1105,9 +1105,8 @@ def records(
     """The record of each item that the text spells, as the program ``souper_items`` writes it.
 
     A record is the canonical text and an empty line; with `nul`, a NUL in place of the empty line.
-    With `key` it begins with a comment line that has the key, the SHA-256 of the text. With
-    `rename` the values are named ``%0``, ``%1``, .. in printed order, so that items which differ in
-    names alone have one record.
+    With `key` it begins with a comment line that has the key. With `rename` the values are named
+    ``%0``, ``%1``, .. in printed order, so that items which differ in names alone have one record.
 
     `Refused` if the text spells no list of items of the kind.
 
@@ -1123,10 +1122,11 @@ def records(
 
 
 def keys(kind: Kind | str, text: str | bytes, *, rename: bool = False) -> list[str]:
-    """The key of each item that the text spells: the SHA-256 of its text, in 64 hexadecimal digits.
+    """The key of each item that the text spells.
 
-    The text is the canonical text with a newline at its end. With `rename` it has the names ``%0``,
-    ``%1``, .. in printed order, so that items which differ in names alone have one key.
+    A key is the SHA-256 of the item's canonical text, in 64 hexadecimal digits. With `rename` the
+    values are named ``%0``, ``%1``, .. in printed order, so that items which differ in names alone
+    have one key.
 
     `Refused` if the text spells no list of items of the kind.
     """
