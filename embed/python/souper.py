@@ -422,8 +422,7 @@ class Assignment:
                 return operands
             case Phi(block, values):
                 return (block, *values)
-            case _:
-                return ()
+        return ()
 
 
 @dataclass(frozen=True, slots=True)
@@ -510,8 +509,7 @@ class Item:
                 return Kind.LHS
             case Result():
                 return Kind.RHS
-            case _:
-                return Kind.REP
+        return Kind.REP
 
     def assignment(self, value: Value) -> Assignment:
         """The assignment that defines the value.
@@ -528,7 +526,14 @@ class Item:
 # nothing in it is aligned. crates/souper_code/src/lib.rt describes it.
 
 _OPS = tuple(Op)
-_FLAGS = (PowerOfTwo(), Negative(), NonNegative(), NonZero(), HasExternalUses())
+# The attributes without contents, from number 1.
+_FLAGS: tuple[Attribute, ...] = (
+    PowerOfTwo(),
+    Negative(),
+    NonNegative(),
+    NonZero(),
+    HasExternalUses(),
+)
 _KNOWN_BITS = "01x"
 _DEMANDED_BITS = "01"
 
@@ -1297,12 +1302,12 @@ class Builder:
     ) -> Value:
         if width is not None:
             _check_range("a width", width, 1, 65535)
-        attributes = tuple(attributes)
-        for attribute in attributes:
+        facts = tuple(attributes)
+        for attribute in facts:
             self._check_attribute(attribute)
         name = self._new_name(name)
         self._names.add(name)
-        self._statements.append(Assignment(name, width, rhs, attributes))
+        self._statements.append(Assignment(name, width, rhs, facts))
         return Value(len(self._statements) - 1)
 
     def _new_name(self, name: str | None) -> str:

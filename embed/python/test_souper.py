@@ -1,0 +1,698 @@
+"""Tests of souper.py: python3 -W error embed/python/test_souper.py"""
+
+from __future__ import annotations
+
+import concurrent.futures
+import contextlib
+import ctypes
+import hashlib
+import itertools
+import os
+import pickle
+import random
+import re
+import subprocess
+import sys
+import threading
+import time
+import tracemalloc
+import unittest
+from collections.abc import Callable, Iterator
+from dataclasses import FrozenInstanceError, dataclass, replace
+from functools import partial
+from pathlib import Path
+from typing import Any
+
+import souper
+from souper import Assignment, BlockPc, Builder, Constant, Infer, Instruction, Item, Kind, Op
+from souper import Pc, Phi, Value, Var
+
+HERE = Path(__file__).resolve().parent
+ROOT = HERE.parent.parent
+DONE, SHORT, NO_CODE, NOT_WELL_FORMED = 0, 5, 7, 8
+LIBRARY = souper._LIBRARY
+
+# Each form of a node, in three items.
+FORMS = {
+    Kind.LHS: """
+        %b:i1 = block 2
+        %x:i8 = var (knownBits=01x) (powerOfTwo) (negative) (nonNegative) (nonZero)
+        %y = var (hasExternalUses) (signBits=255)
+            (range=[-5,170141183460469231731687303715884105727))
+        %p = phi %b, %x, -170141183460469231731687303715884105728:i65535
+        %i = reservedinst
+        %c = reservedconst
+        %h = hole
+        %s:i8 = select %y, %p, 1:i8
+        pc %s 1
+        blockpc %b 1 %x %i
+        infer %h (demandedBits=0110) (harvestedFromUse)""",
+    Kind.RHS: "%x = var  %y = freeze %x  result %y  result 5:i7  result -1",
+    Kind.REP: """
+        %x = var  infer %x (harvestedFromUse)  %z = add %x, 1  result %z
+        %x = var  cand %x, 3:i8""",
+}
+
+
+@dataclass
+class Record:
+    """A stored answer: a kind, a text, and what ``souper_format`` writes for it."""
+
+    kind: Kind
+    is_refused: bool
+    text: bytes
+    answer: bytes
+
+
+def stored_answers() -> Iterator[Record]:
+    rest = (ROOT / "crates/replay_answers/stdin").read_bytes()
+    while rest:
+        head, _, rest = rest.partition(b"\n")
+        kind, status, _, text, answer = head.decode().split(" ")
+        end = int(text) + 1 + int(answer)
+        yield Record(Kind(kind), status == "1", rest[: int(text)], rest[int(text) + 1 : end])
+        rest = rest[end + 1 :]
+
+
+RECORDS = list(stored_answers())
+VALID = [record for record in RECORDS if not record.is_refused]
+REFUSED = [record for record in RECORDS if record.is_refused]
+
+
+def raw(name: str, kind: Kind, data: bytes) -> tuple[souper._Outcome, bytes]:
+    """What a function of C returns and writes, without the calls that are tested."""
+    room = 100 * len(data) + 1000
+    out = ctypes.create_string_buffer(room)
+    outcome = getattr(LIBRARY, name)(list(Kind).index(kind), data, len(data), out, room)
+    return outcome, out.raw[: outcome.length] if outcome.status == DONE else b""
+
+
+def each_call(kind: Kind, text: bytes) -> Iterator[Callable[[], object]]:
+    """Each call with the text alone."""
+    yield partial(souper.read, kind, text)
+    yield partial(souper.format, kind, text)
+    yield partial(souper.check, kind, text)
+    yield partial(souper.same, kind, text, b"")
+    yield partial(souper.records, kind, text)
+    yield partial(souper.keys, kind, text)
+    yield partial(souper.key, kind, text)
+
+
+class Answers(unittest.TestCase):
+    """The stored answers."""
+
+    def test_there_are_560(self) -> None:
+        self.assertEqual((len(RECORDS), len(VALID) > 200, len(REFUSED) > 100), (560, True, True))
+
+    def test_the_code_is_the_one_of_the_library(self) -> None:
+        for record in VALID:
+            code = raw("souper_read", record.kind, record.text)[1]
+            items = souper.read(record.kind, record.text)
+            self.assertEqual(souper.encode(record.kind, items), code, record)
+            self.assertEqual(souper.decode(record.kind, code), items, record)
+
+    def test_what_is_read_and_written_is_canonical(self) -> None:
+        for record in VALID:
+            answer = record.answer.decode()
+            items = souper.read(record.kind, record.text)
+            self.assertEqual(souper.write(record.kind, items), answer, record)
+            self.assertEqual(souper.format(record.kind, record.text), answer, record)
+            self.assertEqual(souper.format(record.kind, record.text.decode()), answer, record)
+
+    def test_questions(self) -> None:
+        for record in VALID:
+            kind, text, answer = record.kind, record.text, record.answer
+            self.assertIs(souper.check(kind, text), text == answer, record)
+            self.assertIs(souper.check(kind, answer), True, record)
+            self.assertIs(souper.same(kind, text, answer), True, record)
+            self.assertIs(souper.same(kind, b"", text), not answer, record)
+
+    def test_canonical_items(self) -> None:
+        for record in VALID:
+            read = souper.read(record.kind, record.text)
+            items = [souper.canonical(record.kind, item) for item in read]
+            self.assertEqual(items, souper.read(record.kind, record.answer), record)
+            for item in items:
+                self.assertEqual(souper.canonical(record.kind, item), item, record)
+                for position, statement in enumerate(item.statements):
+                    used = [o.position for o in statement.operands if isinstance(o, Value)]
+                    self.assertTrue(all(use < position for use in used), record)
+
+    def test_keys_are_hashes_of_canonical_texts(self) -> None:
+        for record in VALID:
+            kind = record.kind
+            items = souper.read(kind, record.text)
+            texts = [souper.write(kind, [item])[:-1] for item in items]
+            keys = [hashlib.sha256(text.encode()).hexdigest() for text in texts]
+            self.assertEqual(souper.keys(kind, record.text), keys, record)
+            self.assertEqual([souper.key(kind, item) for item in items], keys, record)
+            whole = "".join(f"; {key}\n{text}\0" for key, text in zip(keys, texts))
+            self.assertEqual(souper.records(kind, record.text, key=True, nul=True), whole, record)
+            lines = "".join(text.removesuffix("\n") + "\n\n" for text in texts)
+            self.assertEqual(souper.records(kind, record.text), lines, record)
+
+    def test_renamed_records(self) -> None:
+        for record in VALID:
+            renamed = souper.records(record.kind, record.text, rename=True)
+            keys = souper.keys(record.kind, record.text, rename=True)
+            self.assertEqual(souper.keys(record.kind, renamed), keys, record)
+            for item in souper.read(record.kind, renamed):
+                names = [s.name for s in item.statements if isinstance(s, Assignment)]
+                self.assertEqual(names, [f"%{n}" for n in range(len(names))], record)
+
+    def assert_refused(self, call: Callable[[], object], record: Record, input: int = 0) -> None:
+        with self.assertRaises(souper.Refused) as raised:
+            call()
+        refusal = raised.exception
+        # The place is the one of the last byte before the offset, or of the first byte.
+        *lines, last = record.text[: max(refusal.offset - 1, 0)].split(b"\n")
+        self.assertEqual((refusal.line, refusal.column), (len(lines) + 1, len(last) + 1), record)
+        self.assertEqual(refusal.shown, record.answer.decode(), record)
+        self.assertEqual(str(refusal), refusal.shown, record)
+        self.assertTrue(refusal.shown.startswith(f"unknown:{refusal.line}:{refusal.column}: "))
+        self.assertEqual(refusal.input, input, record)
+        outcome = LIBRARY.souper_check(list(Kind).index(record.kind), record.text, len(record.text))
+        self.assertEqual(refusal.offset, outcome.offset, record)
+
+    def test_refusals(self) -> None:
+        for record in REFUSED:
+            for call in each_call(record.kind, record.text):
+                self.assert_refused(call, record)
+            self.assert_refused(lambda: souper.same(record.kind, b"", record.text), record, 1)
+
+    def test_eight_threads(self) -> None:
+        def answers(first: int) -> list[object]:
+            return [self.answer(RECORDS[(first + i) % 560]) for i in range(560)]
+
+        alone = answers(0)
+        with concurrent.futures.ThreadPoolExecutor(8) as pool:
+            for first, found in zip(range(0, 560, 70), pool.map(answers, range(0, 560, 70))):
+                self.assertEqual(found, alone[first:] + alone[:first])
+
+    def answer(self, record: Record) -> object:
+        """What the calls return for a record."""
+        try:
+            items = souper.read(record.kind, record.text)
+            written = souper.write(record.kind, items)
+            return items, written, souper.keys(record.kind, record.text)
+        except souper.Refused as refusal:
+            return refusal.args
+
+
+class Instructions(unittest.TestCase):
+    """The table of the instructions."""
+
+    def test_numbers_are_the_ones_of_the_definition(self) -> None:
+        numbers = (ROOT / "crates/souper_code/specs/Numbers.antt").read_text()
+        rows = re.findall(r"^number_of \(?(\w+)((?: \w)*)\)? = (\d+)$", numbers, re.MULTILINE)
+        defined = [(name.lower(), len(operands) // 2, int(n)) for name, operands, n in rows]
+        ops = [(op.name.replace("_", "").lower(), op.arity, op.number) for op in Op]
+        self.assertEqual((len(ops), ops), (59, defined))
+
+    def test_words_are_the_ones_of_the_reader(self) -> None:
+        for op in Op:
+            text = f"%x = {op.value} {', '.join('123'[: op.arity])} infer %x"
+            [item] = souper.read("lhs", text)
+            operands = tuple(map(Constant, range(1, op.arity + 1)))
+            self.assertEqual(item.assignment(Value(0)).value, Instruction(op, operands))
+            self.assertEqual(souper.write("lhs", [item]), souper.format("lhs", text))
+            self.assertIs(Op(op.value), op)
+
+    def test_numbers_are_indices(self) -> None:
+        self.assertEqual([op.number for op in Op], list(range(59)))
+
+
+class Values(unittest.TestCase):
+    """The values."""
+
+    def test_each_form_is_read_and_written(self) -> None:
+        for kind, text in FORMS.items():
+            items = souper.read(kind, text)
+            self.assertEqual([item.kind for item in items], [kind] * len(items))
+            self.assertEqual(souper.write(kind, items), souper.format(kind, text))
+            self.assertEqual(souper.write(kind.value, iter(items)), souper.format(kind.value, text))
+            self.assertEqual(souper.encode(kind, items), raw("souper_read", kind, text.encode())[1])
+
+    def test_values_are_immutable_and_hashable(self) -> None:
+        [item] = souper.read("lhs", FORMS[Kind.LHS])
+        self.assertEqual(len({item, souper.read("lhs", FORMS[Kind.LHS])[0]}), 1)
+        self.assertEqual(pickle.loads(pickle.dumps(item)), item)
+        self.assertRaises(FrozenInstanceError, setattr, item, "ending", Infer(Value(0)))
+
+    def test_the_values_of_each_form(self) -> None:
+        [item] = souper.read("lhs", FORMS[Kind.LHS])
+        least, greatest = -(2**127), 2**127 - 1
+        block, x, y, phi, _, _, _, _, pc, block_pc = item.statements
+        flags = (souper.PowerOfTwo(), souper.Negative(), souper.NonNegative(), souper.NonZero())
+        self.assertEqual(block, Assignment("%b", 1, souper.Block(2)))
+        self.assertEqual(x, Assignment("%x", 8, Var(), (souper.KnownBits("01x"), *flags)))
+        facts = (souper.HasExternalUses(), souper.SignBits(255), souper.Range(-5, greatest))
+        self.assertEqual(y, Assignment("%y", None, Var(), facts))
+        values = (Value(1), Constant(least, 65535))
+        self.assertEqual(phi, Assignment("%p", None, Phi(Value(0), values)))
+        self.assertEqual(phi.operands, (Value(0), *values))
+        self.assertEqual(pc, Pc(Value(7), Constant(1)))
+        self.assertEqual(block_pc, BlockPc(Value(0), 1, Value(1), Value(4)))
+        self.assertEqual(block_pc.operands, (Value(0), Value(1), Value(4)))
+        ending = (souper.DemandedBits("0110"), souper.HarvestedFromUse())
+        self.assertEqual(item.ending, Infer(Value(6), ending))
+
+    def test_the_ends_of_replacements(self) -> None:
+        first, second = souper.read("rep", FORMS[Kind.REP])
+        infer = Infer(Value(0), (souper.HarvestedFromUse(),))
+        self.assertEqual(first.ending, souper.Replace(infer, Value(1)))
+        self.assertEqual(second.ending, souper.Cand(Value(0), Constant(3, 8)))
+
+    def test_assignments(self) -> None:
+        [item] = souper.read("lhs", "%x = var pc %x 1 infer %x")
+        self.assertEqual(item.assignment(Value(0)).name, "%x")
+        self.assertRaises(ValueError, item.assignment, Value(1))
+        self.assertRaises(IndexError, item.assignment, Value(2))
+
+    def test_items_that_have_no_code(self) -> None:
+        item = Item((Assignment("%x", 8, Var()),), Infer(Value(0)))
+
+        def encode(**changes: Any) -> bytes:
+            statement = replace(item.statements[0], **changes)
+            return souper.encode("lhs", [replace(item, statements=(statement,))])
+
+        self.assertEqual(souper.decode("lhs", encode()), [item])
+        for width in (-1, 65536):
+            self.assertRaises(ValueError, encode, width=width)
+        for value in (-(2**127) - 1, 2**127):
+            operands = (Constant(value), Constant(0))
+            self.assertRaises(ValueError, encode, value=Instruction(Op.ADD, operands))
+            self.assertRaises(ValueError, encode, attributes=(souper.Range(value, 0),))
+        self.assertRaises(ValueError, encode, value=Instruction(Op.ADD, (Constant(0),)))
+        self.assertRaises(ValueError, encode, value=souper.Block(2**32))
+        self.assertRaises(ValueError, encode, value=Phi(Value(-1), ()))
+        self.assertRaises(ValueError, encode, value=Phi(Value(2**64), ()))
+        self.assertRaises(ValueError, encode, attributes=(souper.KnownBits("012"),))
+        self.assertRaises(ValueError, encode, attributes=(souper.SignBits(256),))
+        self.assertRaises(ValueError, encode, name="\ud800")
+        self.assertRaises(TypeError, encode, value=None)
+        self.assertRaises(TypeError, encode, attributes=(None,))
+        self.assertRaises(ValueError, souper.encode, "rhs", [item])
+        self.assertRaises(ValueError, souper.write, "rep", [item])
+        bits = (souper.DemandedBits("01x"),)
+        self.assertRaises(ValueError, souper.encode, "lhs", [Item((), Infer(Value(0), bits))])
+
+
+class IllFormed(unittest.TestCase):
+    """Items without a canonical text."""
+
+    GOOD = Item((Assignment("%x", 8, Var()),), Infer(Value(0)))
+
+    def assert_ill_formed(self, *statements: souper.Statement, root: int = -1) -> None:
+        item = Item(statements, Infer(Value(root % len(statements))))
+        with self.assertRaises(souper.NotWellFormed) as raised:
+            souper.write("lhs", [self.GOOD, item, self.GOOD, item])
+        self.assertEqual(raised.exception.index, 1)
+        self.assertEqual(str(raised.exception), "item 1 is not well formed")
+        self.assertRaises(souper.NotWellFormed, souper.canonical, "lhs", item)
+        self.assertRaises(souper.NotWellFormed, souper.key, "lhs", item)
+        self.assertEqual(souper.decode("lhs", souper.encode("lhs", [item])), [item])
+
+    def test_names(self) -> None:
+        for name in ("", "x", "%", "%x y", "%x\ninfer", "%é", "%x\0"):
+            self.assert_ill_formed(Assignment(name, None, Var()))
+        x = Assignment("%x", None, Var())
+        use = Assignment("%x", None, Instruction(Op.FREEZE, (Value(0),)))
+        self.assert_ill_formed(x, use)
+
+    def test_uses(self) -> None:
+        for position in (1, 2, 2**64 - 1):
+            use = Instruction(Op.FREEZE, (Value(position),))
+            self.assert_ill_formed(Assignment("%x", 8, Var()), Assignment("%y", 8, use))
+        self.assert_ill_formed(Pc(Constant(1), Constant(1)))
+        self.assert_ill_formed(Assignment("%x", 8, Phi(Value(0), ())))
+
+    def test_numbers(self) -> None:
+        self.assert_ill_formed(Assignment("%x", 0, Var()))
+        self.assert_ill_formed(Assignment("%x", 8, Var(), (souper.KnownBits(""),)))
+        constant = Instruction(Op.FREEZE, (Constant(1, 0),))
+        self.assert_ill_formed(Assignment("%x", 8, constant))
+        block = Assignment("%b", None, souper.Block(1))
+        self.assert_ill_formed(block, Assignment("%x", 8, Phi(Value(0), ())))
+        self.assert_ill_formed(block, BlockPc(Value(0), 1, Constant(1), Constant(1)), root=0)
+
+    def test_statements_that_are_not_needed_are_free(self) -> None:
+        unneeded = Assignment("", 0, Phi(Value(7), ()))
+        item = replace(self.GOOD, statements=(*self.GOOD.statements, unneeded))
+        self.assertEqual(souper.write("lhs", [item]), "%x:i8 = var\ninfer %x\n\n")
+        self.assertEqual(souper.canonical("lhs", item), self.GOOD)
+
+
+class Damaged(unittest.TestCase):
+    """Bytes that are codes or not: `decode` and ``souper_write`` agree on which."""
+
+    def judge(self, kind: Kind, code: bytes) -> bool:
+        """Whether the bytes are the code of items."""
+        outcome, text = raw("souper_write", kind, code)
+        try:
+            items = souper.decode(kind, code)
+        except souper.NoCode as error:
+            found = (NO_CODE, error.index, error.offset)
+            self.assertEqual((outcome.status, outcome.length, outcome.offset), found, code)
+            return False
+        self.assertEqual(souper.encode(kind, items), code)
+        self.assertIn(outcome.status, (DONE, NOT_WELL_FORMED), code)
+        if outcome.status == DONE:
+            self.assertEqual(souper.write(kind, items), text.decode(), code)
+            return True
+        with self.assertRaises(souper.NotWellFormed) as raised:
+            souper.write(kind, items)
+        self.assertEqual(raised.exception.index, outcome.length, code)
+        return True
+
+    def codes(self) -> Iterator[tuple[Kind, bytes]]:
+        for kind, text in FORMS.items():
+            yield kind, souper.encode(kind, souper.read(kind, text))
+
+    def test_prefixes(self) -> None:
+        for kind, code in self.codes():
+            ends = [n for n in range(len(code) + 1) if self.judge(kind, code[:n])]
+            self.assertEqual(len(ends), len(souper.decode(kind, code)) + 1)
+
+    def test_each_byte_is_changed(self) -> None:
+        values = (0, 1, 2, 3, 4, 5, 6, 7, 8, 58, 59, 127, 128, 255)
+        for kind, code in self.codes():
+            for at, value in itertools.product(range(len(code)), values):
+                self.judge(kind, code[:at] + bytes([value]) + code[at + 1 :])
+
+    def test_bytes_are_added_and_removed(self) -> None:
+        for kind, code in self.codes():
+            for at in range(len(code)):
+                self.judge(kind, code[:at] + code[at + 1 :])
+                self.judge(kind, code[:at] + b"\0" + code[at:])
+
+    def test_other_kinds(self) -> None:
+        for kind, code in self.codes():
+            for other in Kind:
+                self.assertIs(self.judge(other, code), other is kind)
+
+    def test_random_bytes(self) -> None:
+        r = random.Random(1)
+        for _ in range(2000):
+            # Mostly small, as lengths and tags are.
+            code = bytes(r.choice((0, 0, 0, 0, 1, 2, 3, 5, r.randrange(256))) for _ in range(40))
+            self.judge(r.choice(list(Kind)), code)
+
+    def test_great_lengths_cost_nothing(self) -> None:
+        lengths = [n.to_bytes(8, "little") for n in (2**64 - 1, 2**63, 2**40, 2**31)]
+        for kind, code in self.codes():
+            for at, length in itertools.product(range(len(code) - 7), lengths):
+                damaged = code[:at] + length + code[at + 8 :]
+                tracemalloc.start()
+                with contextlib.suppress(souper.NoCode):
+                    souper.decode(kind, damaged)
+                peak = tracemalloc.get_traced_memory()[1]
+                tracemalloc.stop()
+                self.assertLess(peak, 100 * len(code) + 10_000)
+
+
+class Building(unittest.TestCase):
+    """`Builder`."""
+
+    def test_each_form(self) -> None:
+        b = Builder()
+        block = b.block(2, "b")
+        x = b.var("%x", 8, attributes=[souper.NonZero(), souper.KnownBits("0x")])
+        phi = b.phi(block, x, Constant(2, 8), name="p", width=8, attributes=[souper.SignBits(2)])
+        inst = b.inst(Op.ADD, phi, b.reserved_inst("i", 8), name="a", attributes=())
+        const = b.reserved_const("c", attributes=[souper.Range(-1, 1)])
+        b.pc(b.inst("eq", inst, const), 1)
+        b.block_pc(block, 1, -5, x)
+        infer = b.infer(inst, souper.DemandedBits("01"), souper.HarvestedFromUse())
+        statements = """
+            %b = block 2  %x:i8 = var (nonZero) (knownBits=0x)
+            %p:i8 = phi %b, %x, 2:i8 (signBits=2)
+            %i:i8 = reservedinst  %a = add %p, %i
+            %c = reservedconst (range=[-1,1))
+            %6 = eq %a, %c  pc %6 1  blockpc %b 1 -5 %x """
+        root = "(demandedBits=01) (harvestedFromUse)"
+        self.assertEqual([infer], souper.read("lhs", f"{statements} infer %a {root}"))
+        self.assertEqual([b.result(3)], souper.read("rhs", f"{statements} result 3"))
+        replaced = b.replace(inst, x, souper.HarvestedFromUse())
+        text = f"{statements} infer %a (harvestedFromUse) result %x"
+        self.assertEqual([replaced], souper.read("rep", text))
+        cand = b.cand(inst, 5, souper.DemandedBits("01"))
+        text = f"{statements} cand %a 5 (demandedBits=01)"
+        self.assertEqual([cand], souper.read("rep", text))
+
+    def test_names(self) -> None:
+        b = Builder()
+        b.var("1")
+        b.var()
+        b.var("3")
+        b.var()
+        names = [s.name for s in b.result(0).statements if isinstance(s, Assignment)]
+        self.assertEqual(names, ["%1", "%2", "%3", "%4"])
+        for name in ("", "%", "1", "%1", "a b", "a\n", "é", "%%x"):
+            self.assertRaises(ValueError, b.var, name)
+        self.assertEqual(len(b.result(0).statements), 4)
+
+    def test_what_is_refused(self) -> None:
+        b = Builder()
+        x = b.var("x")
+        b.pc(x, 1)
+        block = b.block(2)
+        wrong: list[Callable[[], object]] = [
+            lambda: b.var("y", 0),
+            lambda: b.var("y", 65536),
+            lambda: b.block(-1),
+            lambda: b.block(2**32),
+            lambda: b.inst("add", x),
+            lambda: b.inst("plus", x, x),
+            lambda: b.inst("add", x, 2**127),
+            lambda: b.inst("add", x, Constant(1, 0)),
+            lambda: b.inst("freeze", Value(1)),
+            lambda: b.inst("freeze", Value(3)),
+            lambda: b.inst("freeze", Value(-1)),
+            lambda: b.phi(block, x),
+            lambda: b.phi(x),
+            lambda: b.block_pc(block, 2, x, x),
+            lambda: b.block_pc(block, -1, x, x),
+            lambda: b.block_pc(x, 0, x, x),
+            lambda: b.pc(Value(7), 1),
+            lambda: b.infer(Value(1)),
+            lambda: b.infer(x, souper.DemandedBits("")),
+            lambda: b.cand(x, x, souper.DemandedBits("2")),
+            lambda: b.result(-(2**127) - 1),
+            lambda: b.var("y", attributes=[souper.KnownBits("")]),
+            lambda: b.var("y", attributes=[souper.KnownBits("2")]),
+            lambda: b.var("y", attributes=[souper.SignBits(256)]),
+            lambda: b.var("y", attributes=[souper.Range(0, 2**127)]),
+        ]
+        before = b.result(0)
+        for call in wrong:
+            self.assertRaises(ValueError, call)
+        self.assertEqual(b.result(0), before)
+
+    def random_item(self, r: random.Random) -> Item:
+        b = Builder()
+        values = [b.var(width=r.choice((None, 1, 8, 65535)))]
+        blocks = [b.block(r.randrange(3))]
+
+        def operand() -> souper.Operand | int:
+            constant = r.randrange(-(2**127), 2**127)
+            return r.choice((r.choice(values), constant, Constant(constant, r.randrange(1, 99))))
+
+        for _ in range(r.randrange(12)):
+            match r.randrange(6):
+                case 0:
+                    blocks.append(b.block(r.randrange(3)))
+                case 1:
+                    block = r.choice(blocks)
+                    count = b._predecessors(block)
+                    values.append(b.phi(block, *(operand() for _ in range(count))))
+                case 2:
+                    b.pc(operand(), operand())
+                case 3 if b._predecessors(blocks[-1]):
+                    b.block_pc(blocks[-1], 0, operand(), operand())
+                case _:
+                    op = r.choice(list(Op))
+                    values.append(b.inst(op, *(operand() for _ in range(op.arity))))
+        match r.randrange(4):
+            case 0:
+                return b.infer(values[-1])
+            case 1:
+                return b.result(operand())
+            case 2:
+                return b.replace(values[-1], operand())
+        return b.cand(operand(), operand())
+
+    def test_what_is_built_is_well_formed(self) -> None:
+        r = random.Random(2)
+        for _ in range(1000):
+            item = self.random_item(r)
+            text = souper.write(item.kind, [item])
+            self.assertTrue(souper.check(item.kind, text))
+            found = souper.canonical(item.kind, item)
+            self.assertEqual(souper.write(item.kind, [found]), text)
+            self.assertEqual(souper.canonical(item.kind, found), found)
+
+
+class Arguments(unittest.TestCase):
+    """What the calls are given, and how they fail."""
+
+    def test_kinds(self) -> None:
+        kinds: list[Any] = ["LHS", "", "lhs ", 0, None]
+        for kind in kinds:
+            self.assertRaises(ValueError, souper.format, kind, "")
+            self.assertRaises(ValueError, souper.read, kind, "")
+            self.assertRaises(ValueError, souper.write, kind, [])
+            self.assertRaises(ValueError, souper.decode, kind, b"")
+
+    def test_no_items(self) -> None:
+        for kind in Kind:
+            self.assertEqual((souper.read(kind, ""), souper.write(kind, [])), ([], ""))
+            self.assertEqual((souper.format(kind, b""), souper.records(kind, " ")), ("", ""))
+            self.assertEqual((souper.keys(kind, ""), souper.check(kind, "")), ([], True))
+            self.assertIs(souper.same(kind, "", "; none"), True)
+            self.assertEqual((souper.encode(kind, []), souper.decode(kind, b"")), (b"", []))
+
+    def test_texts(self) -> None:
+        texts: list[Any] = [None, 5, ["%x"], bytearray(b"")]
+        for text in texts:
+            for call in each_call(Kind.LHS, text):
+                self.assertRaises(TypeError, call)
+        bad = b"%x = var infer %x \xff"
+        for call in each_call(Kind.LHS, bad):
+            self.assertRaises(UnicodeDecodeError, call)
+        self.assertRaises(UnicodeDecodeError, souper.same, "lhs", "", bad)
+        self.assertRaises(UnicodeEncodeError, souper.format, "lhs", "\ud800")
+
+    def test_offsets_are_in_bytes(self) -> None:
+        with self.assertRaises(souper.Refused) as raised:
+            souper.format("lhs", "%x = var ; é\ninfer\u2003%x 5")
+        refusal = raised.exception
+        self.assertEqual((refusal.offset, refusal.line, refusal.column), (25, 2, 11))
+
+    def test_a_key_is_for_one_item(self) -> None:
+        self.assertRaises(ValueError, souper.key, "rhs", "")
+        self.assertRaises(ValueError, souper.key, "rhs", "result 1 result 2")
+        self.assertRaises(souper.Refused, souper.key, "rhs", "result")
+        self.assertEqual(len(souper.key("rhs", "result 1")), 64)
+
+    def test_answers_that_are_longer_than_the_first_buffer(self) -> None:
+        text = "%x = var " + "pc 1 1 " * 2000 + "infer %x"
+        self.assertGreater(len(souper.encode("lhs", souper.read("lhs", text))), 5 * len(text))
+        name = "n" * 5000
+        with self.assertRaises(souper.Refused) as raised:
+            souper.check("lhs", f"%{name} = var infer %{name}x")
+        self.assertEqual(raised.exception.line, 1)
+        uses = "".join(f"%{name[n:]} = freeze %{name[n - 1:]} " for n in range(1, 300))
+        item = souper.read("lhs", f"%{name} = var {uses} infer %{name[299:]}")
+        self.assertEqual(len(souper.write("lhs", item).splitlines()), 302)
+
+    def test_exceptions_are_pickled(self) -> None:
+        errors: list[Exception] = [souper.NotWellFormed(3), souper.NoCode(2, 40)]
+        errors.append(souper.Refused("shown", 1, 2, 3, 1))
+        for error in errors:
+            found = pickle.loads(pickle.dumps(error))
+            self.assertIs(type(found), type(error))
+            self.assertEqual((found.__dict__, str(found)), (error.__dict__, str(error)))
+            self.assertIsInstance(error, ValueError)
+
+    def test_out_of_memory(self) -> None:
+        program = """
+            import pathlib, resource, souper
+            text = "%x = var " + "pc 1 1 " * 500000 + "infer %x"
+            pages = int(pathlib.Path("/proc/self/statm").read_text().split()[0])
+            used = pages * resource.getpagesize()
+            limits = [used + (n << 20) for n in (2, 8, 16, 32)]
+            for limit in limits:
+                resource.setrlimit(resource.RLIMIT_AS, (limit, resource.RLIM_INFINITY))
+                for call in (souper.format, souper.read, souper.check, souper.records):
+                    try:
+                        call("lhs", text)
+                    except MemoryError:
+                        print("none", end=" ")
+                assert souper.format("rhs", "result 1") == "result 1\\n"
+        """
+        found = python("\n".join(line[12:] for line in program.splitlines()))
+        self.assertEqual((found.returncode, found.stderr), (0, ""))
+        self.assertGreater(len(found.stdout.split()), 8)
+
+    def test_status_out_of_memory(self) -> None:
+        failure = souper._failure(souper._Outcome(status=3), b"", b"")
+        self.assertIsInstance(failure, MemoryError)
+        self.assertIsInstance(souper._failure(souper._Outcome(status=9), b"", b""), RuntimeError)
+
+    def test_other_threads_run_while_the_library_works(self) -> None:
+        text = ("%x = var " + "%y = add %x, %x " + "pc %y 1 " * 400_000 + "infer %x").encode()
+        times: list[float] = []
+        has_ended = threading.Event()
+
+        def note() -> None:
+            while not has_ended.is_set():
+                times.append(time.monotonic())
+
+        thread = threading.Thread(target=note)
+        thread.start()
+        try:
+            self.assertTrue(any(self.runs_beside(text, times) for _ in range(20)))
+        finally:
+            has_ended.set()
+            thread.join()
+
+    def runs_beside(self, text: bytes, times: list[float]) -> bool:
+        """Whether another thread noted times in each half of a call."""
+        times.clear()
+        start = time.monotonic()
+        LIBRARY.souper_check(0, text, len(text))
+        end = time.monotonic()
+        noted = [start, *(t for t in list(times) if start < t < end), end]
+        return max(b - a for a, b in zip(noted, noted[1:])) < (end - start) / 2
+
+
+def python(program: str, *arguments: str, **variables: str) -> subprocess.CompletedProcess[str]:
+    """Runs a program of Python that imports the module."""
+    library = {"SOUPER_LIB": LIBRARY._name, "PYTHONPATH": str(HERE), "PYTHONWARNINGS": "error"}
+    return subprocess.run(
+        [sys.executable, "-c", program, *arguments],
+        env={**os.environ, **library, **variables},
+        capture_output=True,
+        text=True,
+        check=False,
+    )
+
+
+class Programs(unittest.TestCase):
+    """The module in other processes."""
+
+    def test_a_library_that_cannot_be_loaded(self) -> None:
+        other = str(sys.modules["_ctypes"].__file__)
+        for path in (str(HERE / "none.so"), __file__, other):
+            found = python("import souper", SOUPER_LIB=path)
+            *_, message = found.stderr.splitlines()
+            self.assertEqual(found.returncode, 1)
+            self.assertIn("ImportError: ", message)
+            self.assertIn("embed/python/build", message)
+            self.assertIn("SOUPER_LIB", message)
+
+    def histogram(self, *arguments: str) -> subprocess.CompletedProcess[str]:
+        program = (HERE / "examples/histogram.py").read_text()
+        files = [str(ROOT / "examples" / f"{name}.souper") for name in ("first", "second")]
+        return python(program, *arguments, "lhs", *files)
+
+    def test_the_histogram(self) -> None:
+        found = self.histogram()
+        self.assertEqual((found.stderr, found.stdout), ("", "       1 add\n"))
+        key = "5c3aba6388404e1e1b78de05a4f8679dcfca76884a681a5c8b5902c32dcdbf52"
+        found = self.histogram("--keys")
+        self.assertEqual((found.stderr, found.stdout), ("", f"       2 {key}\n"))
+
+    def test_the_histogram_of_an_invalid_file(self) -> None:
+        path = str(ROOT / "examples/invalid.souper")
+        found = python((HERE / "examples/histogram.py").read_text(), "lhs", path)
+        self.assertEqual((found.returncode, found.stdout), (1, ""))
+        self.assertTrue(found.stderr.startswith(f"{path}:6:9: refused\n"))
+
+
+if __name__ == "__main__":
+    result = unittest.main(exit=False).result
+    wrong = len({test.id() for test, _ in [*result.failures, *result.errors]})
+    print(f"Python: {result.testsRun - wrong} passed, {wrong} failed")
+    sys.exit(wrong != 0)
