@@ -196,72 +196,73 @@ class Op(enum.Enum):
     arity: int
     """The number of operands."""
 
-    def __new__(cls, number: int, word: str, arity: int) -> Op:
+    # With the defaults, a call with a word alone has the right type.
+    def __new__(cls, word: str, number: int = 0, arity: int = 0) -> Op:
         op = object.__new__(cls)
         op._value_ = word
         op.number = number
         op.arity = arity
         return op
 
-    ADD = 0, "add", 2
-    ADD_NSW = 1, "addnsw", 2
-    ADD_NUW = 2, "addnuw", 2
-    ADD_NW = 3, "addnw", 2
-    SUB = 4, "sub", 2
-    SUB_NSW = 5, "subnsw", 2
-    SUB_NUW = 6, "subnuw", 2
-    SUB_NW = 7, "subnw", 2
-    MUL = 8, "mul", 2
-    MUL_NSW = 9, "mulnsw", 2
-    MUL_NUW = 10, "mulnuw", 2
-    MUL_NW = 11, "mulnw", 2
-    UDIV = 12, "udiv", 2
-    SDIV = 13, "sdiv", 2
-    UDIV_EXACT = 14, "udivexact", 2
-    SDIV_EXACT = 15, "sdivexact", 2
-    UREM = 16, "urem", 2
-    SREM = 17, "srem", 2
-    AND = 18, "and", 2
-    OR = 19, "or", 2
-    XOR = 20, "xor", 2
-    SHL = 21, "shl", 2
-    SHL_NSW = 22, "shlnsw", 2
-    SHL_NUW = 23, "shlnuw", 2
-    SHL_NW = 24, "shlnw", 2
-    LSHR = 25, "lshr", 2
-    LSHR_EXACT = 26, "lshrexact", 2
-    ASHR = 27, "ashr", 2
-    ASHR_EXACT = 28, "ashrexact", 2
-    SELECT = 29, "select", 3
-    ZEXT = 30, "zext", 1
-    SEXT = 31, "sext", 1
-    TRUNC = 32, "trunc", 1
-    EQ = 33, "eq", 2
-    NE = 34, "ne", 2
-    ULT = 35, "ult", 2
-    SLT = 36, "slt", 2
-    ULE = 37, "ule", 2
-    SLE = 38, "sle", 2
-    CTPOP = 39, "ctpop", 1
-    BSWAP = 40, "bswap", 1
-    BIT_REVERSE = 41, "bitreverse", 1
-    CTTZ = 42, "cttz", 1
-    CTLZ = 43, "ctlz", 1
-    FSHL = 44, "fshl", 3
-    FSHR = 45, "fshr", 3
-    SADD_WITH_OVERFLOW = 46, "sadd.with.overflow", 2
-    UADD_WITH_OVERFLOW = 47, "uadd.with.overflow", 2
-    SSUB_WITH_OVERFLOW = 48, "ssub.with.overflow", 2
-    USUB_WITH_OVERFLOW = 49, "usub.with.overflow", 2
-    SMUL_WITH_OVERFLOW = 50, "smul.with.overflow", 2
-    UMUL_WITH_OVERFLOW = 51, "umul.with.overflow", 2
-    SADD_SAT = 52, "sadd.sat", 2
-    UADD_SAT = 53, "uadd.sat", 2
-    SSUB_SAT = 54, "ssub.sat", 2
-    USUB_SAT = 55, "usub.sat", 2
-    EXTRACT_VALUE = 56, "extractvalue", 2
-    HOLE = 57, "hole", 0
-    FREEZE = 58, "freeze", 1
+    ADD = "add", 0, 2
+    ADD_NSW = "addnsw", 1, 2
+    ADD_NUW = "addnuw", 2, 2
+    ADD_NW = "addnw", 3, 2
+    SUB = "sub", 4, 2
+    SUB_NSW = "subnsw", 5, 2
+    SUB_NUW = "subnuw", 6, 2
+    SUB_NW = "subnw", 7, 2
+    MUL = "mul", 8, 2
+    MUL_NSW = "mulnsw", 9, 2
+    MUL_NUW = "mulnuw", 10, 2
+    MUL_NW = "mulnw", 11, 2
+    UDIV = "udiv", 12, 2
+    SDIV = "sdiv", 13, 2
+    UDIV_EXACT = "udivexact", 14, 2
+    SDIV_EXACT = "sdivexact", 15, 2
+    UREM = "urem", 16, 2
+    SREM = "srem", 17, 2
+    AND = "and", 18, 2
+    OR = "or", 19, 2
+    XOR = "xor", 20, 2
+    SHL = "shl", 21, 2
+    SHL_NSW = "shlnsw", 22, 2
+    SHL_NUW = "shlnuw", 23, 2
+    SHL_NW = "shlnw", 24, 2
+    LSHR = "lshr", 25, 2
+    LSHR_EXACT = "lshrexact", 26, 2
+    ASHR = "ashr", 27, 2
+    ASHR_EXACT = "ashrexact", 28, 2
+    SELECT = "select", 29, 3
+    ZEXT = "zext", 30, 1
+    SEXT = "sext", 31, 1
+    TRUNC = "trunc", 32, 1
+    EQ = "eq", 33, 2
+    NE = "ne", 34, 2
+    ULT = "ult", 35, 2
+    SLT = "slt", 36, 2
+    ULE = "ule", 37, 2
+    SLE = "sle", 38, 2
+    CTPOP = "ctpop", 39, 1
+    BSWAP = "bswap", 40, 1
+    BIT_REVERSE = "bitreverse", 41, 1
+    CTTZ = "cttz", 42, 1
+    CTLZ = "ctlz", 43, 1
+    FSHL = "fshl", 44, 3
+    FSHR = "fshr", 45, 3
+    SADD_WITH_OVERFLOW = "sadd.with.overflow", 46, 2
+    UADD_WITH_OVERFLOW = "uadd.with.overflow", 47, 2
+    SSUB_WITH_OVERFLOW = "ssub.with.overflow", 48, 2
+    USUB_WITH_OVERFLOW = "usub.with.overflow", 49, 2
+    SMUL_WITH_OVERFLOW = "smul.with.overflow", 50, 2
+    UMUL_WITH_OVERFLOW = "umul.with.overflow", 51, 2
+    SADD_SAT = "sadd.sat", 52, 2
+    UADD_SAT = "uadd.sat", 53, 2
+    SSUB_SAT = "ssub.sat", 54, 2
+    USUB_SAT = "usub.sat", 55, 2
+    EXTRACT_VALUE = "extractvalue", 56, 2
+    HOLE = "hole", 57, 0
+    FREEZE = "freeze", 58, 1
 
 
 # The values are immutable and hashable, with tuples for sequences. A width is in bits, from 1 to
@@ -516,6 +517,8 @@ class Item:
 
         `IndexError` if the item has no such statement, `ValueError` if it is a path condition.
         """
+        if not 0 <= value.position < len(self.statements):
+            raise IndexError(f"the item has no statement {value.position}")
         statement = self.statements[value.position]
         if not isinstance(statement, Assignment):
             raise ValueError(f"statement {value.position} is not an assignment")

@@ -22,6 +22,7 @@ from dataclasses import FrozenInstanceError, dataclass, replace
 from functools import partial
 from pathlib import Path
 from typing import Any
+from unittest import mock
 
 import souper
 from souper import Assignment, BlockPc, Builder, Constant, Infer, Instruction, Item, Kind, Op
@@ -252,6 +253,8 @@ class Values(unittest.TestCase):
         self.assertEqual(phi, Assignment("%p", None, Phi(Value(0), values)))
         self.assertEqual(phi.operands, (Value(0), *values))
         self.assertEqual(pc, Pc(Value(7), Constant(1)))
+        self.assertEqual(pc.operands, (Value(7), Constant(1)))
+        self.assertEqual(y.operands, ())
         self.assertEqual(block_pc, BlockPc(Value(0), 1, Value(1), Value(4)))
         self.assertEqual(block_pc.operands, (Value(0), Value(1), Value(4)))
         ending = (souper.DemandedBits("0110"), souper.HarvestedFromUse())
@@ -268,6 +271,7 @@ class Values(unittest.TestCase):
         self.assertEqual(item.assignment(Value(0)).name, "%x")
         self.assertRaises(ValueError, item.assignment, Value(1))
         self.assertRaises(IndexError, item.assignment, Value(2))
+        self.assertRaises(IndexError, item.assignment, Value(-1))
 
     def test_items_that_have_no_code(self) -> None:
         item = Item((Assignment("%x", 8, Var()),), Infer(Value(0)))
@@ -296,6 +300,13 @@ class Values(unittest.TestCase):
         self.assertRaises(ValueError, souper.write, "rep", [item])
         bits = (souper.DemandedBits("01x"),)
         self.assertRaises(ValueError, souper.encode, "lhs", [Item((), Infer(Value(0), bits))])
+
+    def test_what_is_no_value(self) -> None:
+        none: Any = None
+        items = [Item((none,), Infer(Value(0))), Item((), none), Item((), souper.Result(none))]
+        items.append(Item((), Infer(Value(0), (none,))))
+        for item in items:
+            self.assertRaises(TypeError, souper.encode, item.kind, [item])
 
 
 class IllFormed(unittest.TestCase):
@@ -615,10 +626,14 @@ class Arguments(unittest.TestCase):
         self.assertEqual((found.returncode, found.stderr), (0, ""))
         self.assertGreater(len(found.stdout.split()), 8)
 
-    def test_status_out_of_memory(self) -> None:
-        failure = souper._failure(souper._Outcome(status=3), b"", b"")
-        self.assertIsInstance(failure, MemoryError)
-        self.assertIsInstance(souper._failure(souper._Outcome(status=9), b"", b""), RuntimeError)
+    def test_statuses(self) -> None:
+        calls = [*each_call(Kind.LHS, b""), partial(souper.write, Kind.LHS, [])]
+        for status, error in ((3, MemoryError), (9, RuntimeError), (4, RuntimeError)):
+            outcome = souper._Outcome(status=status)
+            library = mock.Mock(**{f"{name}.return_value": outcome for name in souper._SIGNATURES})
+            with mock.patch.object(souper, "_LIBRARY", library):
+                for call in calls:
+                    self.assertRaises(error, call)
 
     def test_other_threads_run_while_the_library_works(self) -> None:
         text = ("%x = var " + "%y = add %x, %x " + "pc %y 1 " * 400_000 + "infer %x").encode()
