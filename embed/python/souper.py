@@ -123,7 +123,7 @@ __all__ = [
 
 
 class Kind(enum.Enum):
-    """What a text is read as. Calls also take the value, such as ``'lhs'`` for ``Kind.LHS``."""
+    """The kind of the items of a text. Calls also take its value: ``'lhs'`` for ``Kind.LHS``."""
 
     LHS = "lhs"
     """Left-hand sides, each ended by ``infer``."""
@@ -182,7 +182,7 @@ class NoCode(ValueError):
         self.index = index
         """The number of items that were read before."""
         self.offset = offset
-        """The number of bytes before the first item that is none."""
+        """The number of bytes before the place where the code of an item is missing."""
 
     def __str__(self) -> str:
         return f"no code of an item at byte {self.offset}, after {self.index} items"
@@ -287,12 +287,12 @@ class Constant:
 
 
 Operand: TypeAlias = Value | Constant
-"""What an instruction, a phi, a path condition or the last lines take."""
+"""An operand of an instruction, a phi, a path condition or the last lines."""
 
 
 @dataclass(frozen=True, slots=True)
 class KnownBits:
-    """``(knownBits=0xx1)``: what is known of each bit."""
+    """``(knownBits=0xx1)``: the bits that are known."""
 
     bits: str
     """A character for each bit: ``0``, ``1``, or ``x`` for a bit that is not known."""
@@ -347,7 +347,7 @@ Attribute: TypeAlias = (
 
 @dataclass(frozen=True, slots=True)
 class DemandedBits:
-    """``(demandedBits=0011)``: which bits are wanted."""
+    """``(demandedBits=0011)``: the bits that are wanted."""
 
     bits: str
     """A character for each bit, ``0`` or ``1``."""
@@ -544,11 +544,11 @@ _T = TypeVar("_T")
 
 
 class _Damaged(Exception):
-    """The bytes are no code."""
+    """The bytes do not begin with a code."""
 
 
 class _Reader:
-    """The bytes of a code that are left. The length of what is taken is tested first."""
+    """The rest of a code. Each length is compared with the rest before bytes are taken."""
 
     __slots__ = ("code", "at")
 
@@ -905,7 +905,7 @@ _KEY, _RENAME, _NUL = 1, 2, 4
 
 
 class _Outcome(ctypes.Structure):
-    """What a call did: ``SouperOutcome`` of C."""
+    """The outcome of a call, ``SouperOutcome`` of C."""
 
     status: int
     input: int
@@ -969,7 +969,7 @@ def _utf8(text: str | bytes) -> bytes:
 def _written(
     function: Any, head: tuple[int, ...], data: bytes, room: int
 ) -> tuple[_Outcome, bytes]:
-    """The outcome of a function that writes bytes, and the bytes. `room` is a first length."""
+    """The outcome and the output of a function. `room` is the first size of the buffer."""
     while True:
         out = bytearray(room)
         first = ctypes.c_char.from_buffer(out)
@@ -1002,7 +1002,11 @@ def _failure(outcome: _Outcome, data: bytes, shown: bytes) -> Exception:
 def _answer(kind: Kind, outcome: _Outcome, data: bytes) -> bool:
     if outcome.status in (_DONE, _DIFFERENT):
         return outcome.status == _DONE
-    shown = _formatted(kind, data)[1] if outcome.status == _REFUSED else b""
+    shown = b""
+    if outcome.status == _REFUSED:
+        again, shown = _formatted(kind, data)
+        if again.status != _REFUSED:
+            raise _failure(again, data, b"")
     raise _failure(outcome, data, shown)
 
 
@@ -1067,7 +1071,7 @@ def format(kind: Kind | str, text: str | bytes) -> str:
 
     `Refused` if the text spells no list of items of the kind.
 
-    >>> format("lhs", "%x=var ; comments are dropped, as is what nothing needs\\n%y = var infer %x")
+    >>> format("lhs", "%x=var ; a comment\\n%unused = var infer %x")
     '%x = var\\ninfer %x\\n\\n'
     """
     data = _utf8(text)

@@ -57,7 +57,7 @@ FORMS = {
 
 @dataclass
 class Record:
-    """A stored answer: a kind, a text, and what ``souper_format`` writes for it."""
+    """A stored answer: a kind, a text, and the output of ``souper_format``."""
 
     kind: Kind
     is_refused: bool
@@ -81,7 +81,7 @@ REFUSED = [record for record in RECORDS if record.is_refused]
 
 
 def raw(name: str, kind: Kind, data: bytes) -> tuple[souper._Outcome, bytes]:
-    """What a function of C returns and writes, without the calls that are tested."""
+    """The outcome and the output of a function of C."""
     room = 100 * len(data) + 1000
     out = ctypes.create_string_buffer(room)
     outcome = getattr(LIBRARY, name)(list(Kind).index(kind), data, len(data), out, room)
@@ -191,7 +191,7 @@ class Answers(unittest.TestCase):
                 self.assertEqual(found, alone[first:] + alone[:first])
 
     def answer(self, record: Record) -> object:
-        """What the calls return for a record."""
+        """The results of the calls for a record."""
         try:
             items = souper.read(record.kind, record.text)
             written = souper.write(record.kind, items)
@@ -545,7 +545,7 @@ class Building(unittest.TestCase):
 
 
 class Arguments(unittest.TestCase):
-    """What the calls are given, and how they fail."""
+    """Arguments and failures of the calls."""
 
     def test_kinds(self) -> None:
         kinds: list[Any] = ["LHS", "", "lhs ", 0, None]
@@ -634,6 +634,14 @@ class Arguments(unittest.TestCase):
             with mock.patch.object(souper, "_LIBRARY", library):
                 for call in calls:
                     self.assertRaises(error, call)
+
+    def test_out_of_memory_when_a_refusal_is_shown(self) -> None:
+        refused, none = souper._Outcome(status=1, length=4), souper._Outcome(status=3)
+        library = mock.Mock(**{"souper_format.return_value": none})
+        library.souper_check.return_value = library.souper_same.return_value = refused
+        with mock.patch.object(souper, "_LIBRARY", library):
+            self.assertRaises(MemoryError, souper.check, "lhs", "")
+            self.assertRaises(MemoryError, souper.same, "lhs", "", "")
 
     def test_other_threads_run_while_the_library_works(self) -> None:
         text = ("%x = var " + "%y = add %x, %x " + "pc %y 1 " * 400_000 + "infer %x").encode()
