@@ -1125,7 +1125,8 @@ def records(
     >>> records("lhs", "%x = var infer %x", rename=True)
     '%0 = var\\ninfer %0\\n\\n'
     """
-    data, flags = _utf8(text), _KEY * key | _RENAME * rename | _NUL * nul
+    data = _utf8(text)
+    flags = (_KEY if key else 0) | (_RENAME if rename else 0) | (_NUL if nul else 0)
     head = (_NUMBERS[Kind(kind)], flags)
     outcome, out = _written(_LIBRARY.souper_key, head, data, 2 * len(data) + 256)
     if outcome.status != _DONE:
