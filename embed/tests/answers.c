@@ -69,6 +69,36 @@ static SouperOutcome written(const Record *record, size_t more) {
     return outcome;
 }
 
+/* The canonical texts from the code, by buffers of every length up to the one that is wanted; a code that is cut off is none. */
+static void written_back(const Record *record, const uint8_t *code, size_t length) {
+    for (size_t room = 0; room <= record->answer_length; room++) {
+        uint8_t *out = buffer(room);
+        SouperOutcome wanted = nothing, outcome = souper_write(record->kind, code, length, out, room);
+        wanted.status = room < record->answer_length ? SOUPER_SHORT : SOUPER_DONE;
+        wanted.length = record->answer_length;
+        expect(equal(outcome, wanted), "the outcome for a code", record);
+        expect(wanted.status == SOUPER_DONE ? memcmp(out, record->answer, room) == 0 : untouched(out, room), "what is written of a code", record);
+        free(out);
+    }
+    if (length > 0) {
+        uint8_t byte = 0xaa;
+        SouperOutcome outcome = souper_write(record->kind, code, length - 1, &byte, 1);
+        expect(outcome.status == SOUPER_NO_CODE && outcome.offset < length && byte == 0xaa, "a code that is cut off", record);
+    }
+}
+
+/* The records without flags are the canonical texts but for the newline that the text of a right-hand side lacks. */
+static void recorded(const Record *record) {
+    for (size_t room = 0; record->kind != SOUPER_RHS && room <= record->answer_length; room++) {
+        uint8_t *out = buffer(room);
+        SouperOutcome outcome = souper_key(record->kind, 0, record->text, record->text_length, out, room);
+        uint32_t wanted = room < record->answer_length ? (uint32_t)SOUPER_SHORT : record->status;
+        expect(outcome.status == wanted && outcome.length == record->answer_length, "the outcome of records", record);
+        expect(wanted == SOUPER_SHORT ? untouched(out, room) : memcmp(out, record->answer, room) == 0, "the records", record);
+        free(out);
+    }
+}
+
 /* The code: a buffer that is too short stays as it is, one of the length takes it; what is refused is refused as by format. */
 static void codes(const Record *record, SouperOutcome format) {
     uint8_t *out = buffer(0);
@@ -89,6 +119,7 @@ static void codes(const Record *record, SouperOutcome format) {
     out = buffer(length + 1);
     outcome = souper_read(record->kind, record->text, record->text_length, out, length + 1);
     expect(outcome.status == SOUPER_DONE && outcome.length == length && untouched(out + length, 1), "the code", record);
+    written_back(record, out, length);
     free(out);
 }
 
@@ -146,6 +177,8 @@ static void numbers(void) {
     for (size_t i = 0; i < sizeof none / sizeof *none; i++) {
         expect(equal(souper_format(none[i], bad, sizeof bad, &byte, 1), no_kind) && byte == 0xaa, "no kind", NULL);
         expect(equal(souper_read(none[i], bad, sizeof bad, &byte, 1), no_kind) && byte == 0xaa, "no kind, code", NULL);
+        expect(equal(souper_write(none[i], bad, sizeof bad, &byte, 1), no_kind) && byte == 0xaa, "no kind, write", NULL);
+        expect(equal(souper_key(none[i], 0, bad, sizeof bad, &byte, 1), no_kind) && byte == 0xaa, "no kind, key", NULL);
         expect(equal(souper_check(none[i], bad, sizeof bad), no_kind), "no kind, check", NULL);
         expect(equal(souper_same(none[i], bad, sizeof bad, bad, sizeof bad), no_kind), "no kind, same", NULL);
     }
@@ -154,10 +187,14 @@ static void numbers(void) {
         second.input = 1;
         expect(equal(souper_format(kind, bad, sizeof bad, &byte, 1), no_text) && byte == 0xaa, "no text", NULL);
         expect(equal(souper_read(kind, bad, sizeof bad, &byte, 1), no_text) && byte == 0xaa, "no text, code", NULL);
+        expect(equal(souper_key(kind, 7, bad, sizeof bad, &byte, 1), no_text) && byte == 0xaa, "no text, key", NULL);
+        expect(souper_key(kind, 8, bad, sizeof bad, &byte, 1).status == SOUPER_NO_FLAGS && byte == 0xaa, "no flags", NULL);
+        expect(souper_write(kind, bad, sizeof bad, &byte, 1).status == SOUPER_NO_CODE && byte == 0xaa, "no code", NULL);
         expect(equal(souper_check(kind, bad, sizeof bad), no_text), "no text, check", NULL);
         expect(equal(souper_same(kind, bad, sizeof bad, &empty, 0), no_text), "no text, first", NULL);
         expect(equal(souper_same(kind, &empty, 0, bad, sizeof bad), second), "no text, second", NULL);
         expect(equal(souper_format(kind, &empty, 0, &byte, 0), nothing), "no bytes", NULL);
+        expect(equal(souper_write(kind, &empty, 0, &byte, 0), nothing), "no bytes, write", NULL);
         expect(equal(souper_check(kind, &empty, 0), nothing), "no bytes, check", NULL);
         expect(equal(souper_same(kind, &empty, 0, &empty, 0), nothing), "no bytes, same", NULL);
     }
@@ -171,6 +208,7 @@ int main(int argc, char **argv) {
         expect(equal(written(&records[i], 7), outcome), "the same outcome for a longer buffer", &records[i]);
         lengths(&records[i]);
         codes(&records[i], outcome);
+        recorded(&records[i]);
         questions(&records[i], outcome);
         const Record *next = next_of_kind(&records[i], records + count);
         if (records[i].status == SOUPER_DONE && next != NULL) {
@@ -179,5 +217,5 @@ int main(int argc, char **argv) {
     }
     numbers();
     free_records(records);
-    return summary("C: the stored answers, every length of the buffer, the questions");
+    return summary("C: the stored answers, every length of the buffer, the questions, codes and records");
 }

@@ -37,9 +37,10 @@ void __wrap_free(void *block) {
     __real_free(block);
 }
 
-enum { FORMAT, CHECK, SAME, CALLS };
+enum { FORMAT, CHECK, SAME, READ, WRITE, KEY, CALLS };
 
-static uint8_t out[1 << 16];
+static uint8_t out[1 << 16], code[1 << 16];
+static size_t code_length;
 
 static SouperOutcome call(int which, const Record *record) {
     switch (which) {
@@ -48,6 +49,13 @@ static SouperOutcome call(int which, const Record *record) {
         return souper_format(record->kind, record->text, record->text_length, out, record->answer_length);
     case CHECK:
         return souper_check(record->kind, record->text, record->text_length);
+    case READ:
+        return souper_read(record->kind, record->text, record->text_length, out, sizeof out);
+    case WRITE:
+        memset(out, 0xaa, record->answer_length + 1);
+        return souper_write(record->kind, code, code_length, out, record->answer_length);
+    case KEY:
+        return souper_key(record->kind, SOUPER_KEY | SOUPER_RENAME, record->text, record->text_length, out, sizeof out);
     default:
         return souper_same(record->kind, record->text, record->text_length, record->answer, record->answer_length);
     }
@@ -82,8 +90,19 @@ static void refuse_each(int which, const Record *record) {
                "the outcome without memory", record);
         expect(live == 0, "that all is freed without memory", record);
         ran_out += outcome.status == SOUPER_OUT_OF_MEMORY;
-        expect(which != FORMAT || is_written(record, outcome.status), "the buffer without memory", record);
+        expect((which != FORMAT && which != WRITE) || is_written(record, outcome.status), "the buffer without memory", record);
     }
+}
+
+/* Whether the call can be asked: the code of a text that is refused is none. */
+static int has_call(int which, const Record *record) {
+    if (which != WRITE) {
+        return 1;
+    }
+    refused = 0;
+    SouperOutcome outcome = souper_read(record->kind, record->text, record->text_length, code, sizeof code);
+    code_length = outcome.length;
+    return outcome.status == SOUPER_DONE;
 }
 
 int main(int argc, char **argv) {
@@ -93,6 +112,9 @@ int main(int argc, char **argv) {
     for (size_t i = 0; i < count; i++) {
         expect(records[i].answer_length < sizeof out, "that its answer has room", &records[i]);
         for (int which = FORMAT; which < CALLS && records[i].answer_length < sizeof out; which++) {
+            if (!has_call(which, &records[i])) {
+                continue;
+            }
             refuses_the_rest = 0;
             refuse_each(which, &records[i]);
             refuses_the_rest = 1;
