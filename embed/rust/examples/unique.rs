@@ -4,7 +4,7 @@
 //!
 //! Each file has left-hand sides, with an empty line after each. The first of each graph is printed, by its canonical text,
 //! in the order of the files; standard error has how many there were, and each that was refused.
-use souper_canon::{Error, Kind, format};
+use souper_ir::canonical::{format, Error, Kind};
 use std::collections::HashSet;
 use std::io::Write;
 use std::process::ExitCode;

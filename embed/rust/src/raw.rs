@@ -1,13 +1,21 @@
-//! The calls of `souper.h`. What the header asks of a caller holds here for every argument.
-use crate::Kind;
+//! The calls of `souper.h`, and all code that the compiler does not check. What the header asks of a caller holds here for every
+//! argument.
+#![allow(unsafe_code)]
+use crate::canonical::Kind;
+
+#[cfg(feature = "heap")]
+mod heap;
 
 pub(crate) const DONE: u32 = 0;
 pub(crate) const REFUSED: u32 = 1;
+pub(crate) const OUT_OF_MEMORY: u32 = 3;
 pub(crate) const SHORT: u32 = 5;
 pub(crate) const DIFFERENT: u32 = 6;
+pub(crate) const NO_CODE: u32 = 7;
+pub(crate) const NOT_WELL_FORMED: u32 = 8;
 
 #[repr(C)]
-#[derive(Clone, Copy)]
+#[derive(Clone, Copy, Default)]
 pub(crate) struct Outcome {
     pub(crate) status: u32,
     pub(crate) input: u32,
@@ -17,43 +25,56 @@ pub(crate) struct Outcome {
     pub(crate) column: usize,
 }
 
-unsafe extern "C" {
-    fn souper_format(
-        kind: u32,
-        text: *const u8,
-        text_length: usize,
-        out: *mut u8,
-        out_length: usize,
-    ) -> Outcome;
-    fn souper_check(kind: u32, text: *const u8, text_length: usize) -> Outcome;
-    fn souper_same(
-        kind: u32,
-        a: *const u8,
-        a_length: usize,
-        b: *const u8,
-        b_length: usize,
-    ) -> Outcome;
+extern "C" {
+    fn souper_format(kind: u32, text: *const u8, n: usize, out: *mut u8, room: usize) -> Outcome;
+    fn souper_read(kind: u32, text: *const u8, n: usize, out: *mut u8, room: usize) -> Outcome;
+    fn souper_write(kind: u32, code: *const u8, n: usize, out: *mut u8, room: usize) -> Outcome;
+    fn souper_check(kind: u32, text: *const u8, n: usize) -> Outcome;
+    fn souper_same(kind: u32, a: *const u8, n: usize, b: *const u8, m: usize) -> Outcome;
 }
 
-/// Writes to the room of `out`, which is empty and has `room` bytes or more; `out` is then what was written.
-pub(crate) fn format(kind: Kind, text: &str, out: &mut Vec<u8>, room: usize) -> Outcome {
-    assert!(out.is_empty() && room <= out.capacity());
-    out.resize(room, 0);
-    // SAFETY: the pointers of slices and vectors are not null, and `out` overlaps nothing, being borrowed mutably.
+/// A call that writes to a buffer.
+#[derive(Clone, Copy)]
+pub(crate) enum Call {
+    Format,
+    Read,
+    Write,
+}
+
+/// The call's outcome, and what it wrote. `room` is the first guess at the length, in bytes; a second call has the right one.
+pub(crate) fn call(call: Call, kind: Kind, input: &[u8], room: usize) -> (Outcome, Vec<u8>) {
+    let mut out = Vec::new();
+    let outcome = once(call, kind, input, room, &mut out);
+    if outcome.status != SHORT {
+        return (outcome, out);
+    }
+    (once(call, kind, input, outcome.length, &mut out), out)
+}
+
+// One call, to a buffer of that length; `out` is empty before, and is what was written.
+fn once(call: Call, kind: Kind, input: &[u8], room: usize, out: &mut Vec<u8>) -> Outcome {
+    assert!(out.is_empty());
+    if out.try_reserve_exact(room).is_err() {
+        return Outcome {
+            status: OUT_OF_MEMORY,
+            ..Outcome::default()
+        };
+    }
+    let (kind, n, input, to) = (kind as u32, input.len(), input.as_ptr(), out.as_mut_ptr());
+    // SAFETY: pointers of slices and vectors are not null. `out` has room for `room` bytes, and overlaps nothing, being
+    // borrowed mutably.
     let outcome = unsafe {
-        souper_format(
-            kind as u32,
-            text.as_ptr(),
-            text.len(),
-            out.as_mut_ptr(),
-            room,
-        )
+        match call {
+            Call::Format => souper_format(kind, input, n, to, room),
+            Call::Read => souper_read(kind, input, n, to, room),
+            Call::Write => souper_write(kind, input, n, to, room),
+        }
     };
-    out.truncate(if outcome.status == DONE || outcome.status == REFUSED {
-        outcome.length
-    } else {
-        0
-    });
+    if outcome.status == DONE || outcome.status == REFUSED {
+        assert!(outcome.length <= room);
+        // SAFETY: with these statuses the call has written so many bytes.
+        unsafe { out.set_len(outcome.length) }
+    }
     outcome
 }
 

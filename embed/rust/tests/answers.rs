@@ -1,51 +1,8 @@
-//! The stored answers through Rust, alone and on threads.
-use souper_canon::{Error, Kind, check, format, same};
-use std::path::Path;
+//! The stored answers by the calls that take and return texts, alone and on threads.
+mod common;
 
-struct Record {
-    kind: Kind,
-    is_refused: bool,
-    text: String,
-    answer: String,
-}
-
-fn record(rest: &str) -> (Record, &str) {
-    let (head, rest) = rest.split_once('\n').expect("a record has a head");
-    let words: Vec<&str> = head.split(' ').collect();
-    let [kind, status, _, text, answer] = words[..] else {
-        panic!("a head has five words: {head}")
-    };
-    let kind = match kind {
-        "lhs" => Kind::Lhs,
-        "rhs" => Kind::Rhs,
-        _ => Kind::Rep,
-    };
-    let (text, rest) = rest.split_at(text.parse().unwrap());
-    let (answer, rest) = rest[1..].split_at(answer.parse().unwrap());
-    (
-        Record {
-            kind,
-            is_refused: status == "1",
-            text: text.into(),
-            answer: answer.into(),
-        },
-        &rest[1..],
-    )
-}
-
-fn records() -> Vec<Record> {
-    let path = Path::new(env!("CARGO_MANIFEST_DIR")).join("../../crates/replay_answers/stdin");
-    let stored = std::fs::read_to_string(path).unwrap();
-    let mut records = Vec::new();
-    let mut rest = stored.as_str();
-    while !rest.is_empty() {
-        let (record, tail) = record(rest);
-        records.push(record);
-        rest = tail;
-    }
-    assert_eq!(records.len(), 560);
-    records
-}
+use common::{records, Record};
+use souper_ir::canonical::{check, format, same, Error, Kind};
 
 fn refuses(error: Error, record: &Record, input: usize) {
     let Error::Refused(refusal) = &error else {
@@ -58,10 +15,10 @@ fn refuses(error: Error, record: &Record, input: usize) {
     assert_eq!(error.to_string(), record.answer);
     // The byte before the offset, or the first.
     let before = &record.text.as_bytes()[..refusal.offset().saturating_sub(1)];
-    let line = before.split(|byte| *byte == b'\n');
+    let lines: Vec<_> = before.split(|byte| *byte == b'\n').collect();
     assert_eq!(
         (refusal.line(), refusal.column()),
-        (line.clone().count(), line.last().unwrap().len() + 1)
+        (lines.len(), lines[lines.len() - 1].len() + 1)
     );
 }
 

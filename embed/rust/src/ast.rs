@@ -1,0 +1,35 @@
+//! Items of Souper IR as values: left-hand sides, right-hand sides, replacements, and what they consist of.
+//!
+//! The statements of an item are in an [`Arena`], in the order of the text; an operand names an earlier one by its id. Values are
+//! made by [`parse`](crate::parse) or by a builder, and the three items have `Display`.
+//!
+//! An item that was parsed is *well formed*. One that was built or changed is, if of the statements that it needs
+//!
+//! - each operand, block and root has the id of an earlier assignment, and a block's is one of a `block`;
+//! - a phi has a value for each predecessor of its block, and a block path condition has the index of one of them;
+//! - names are `%` and one or more of the characters `0` to `9`, `a` to `z`, `A` to `Z`, `_` and `.`, and no two are the same;
+//! - no width is 0, and no list of bits is empty.
+//!
+//! An item needs the statements that its last lines and its path conditions use, directly or not, and the path conditions.
+mod attributes;
+mod builders;
+mod instruction;
+mod items;
+mod operands;
+mod statements;
+
+pub use crate::arena::{Arena, Id};
+pub use attributes::{Attribute, RootAttribute};
+pub use builders::{LeftHandSideBuilder, ReplacementBuilder};
+pub use instruction::Instruction;
+pub use items::{Cand, Infer, LeftHandSide, Replacement, RightHandSide};
+pub use operands::{BlockId, Constant, Operand, Type, ValueId};
+pub use statements::{Assignment, AssignmentRhs, Block, BlockPc, Pc, Phi, Statement, Var};
+
+// The assignment of a value.
+fn assignment(statements: &Arena<Statement>, id: ValueId) -> &Assignment {
+    match statements.get(id.into()) {
+        Some(Statement::Assignment(assignment)) => assignment,
+        _ => panic!("the id is of no assignment among these statements"),
+    }
+}

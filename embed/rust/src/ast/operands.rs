@@ -1,0 +1,84 @@
+//! What a statement uses: values by their ids, and constants.
+use super::{Id, Statement};
+use std::fmt;
+
+/// The id of an assignment, and so of the value that it defines.
+#[derive(Copy, Clone, Debug, PartialEq, Eq, Hash)]
+pub struct ValueId(pub(crate) Id<Statement>);
+
+/// The id of an assignment whose right side is a [`Block`](super::Block).
+#[derive(Copy, Clone, Debug, PartialEq, Eq, Hash)]
+pub struct BlockId(pub(crate) ValueId);
+
+impl From<ValueId> for Id<Statement> {
+    fn from(value: ValueId) -> Self {
+        value.0
+    }
+}
+
+impl From<BlockId> for ValueId {
+    fn from(block: BlockId) -> Self {
+        block.0
+    }
+}
+
+impl From<BlockId> for Id<Statement> {
+    fn from(block: BlockId) -> Self {
+        block.0 .0
+    }
+}
+
+/// What an instruction or another statement works on.
+#[derive(Copy, Clone, Debug)]
+pub enum Operand {
+    /// The value of an earlier assignment.
+    Value(ValueId),
+    /// A number.
+    Constant(Constant),
+}
+
+impl From<ValueId> for Operand {
+    fn from(value: ValueId) -> Self {
+        Operand::Value(value)
+    }
+}
+
+impl From<Constant> for Operand {
+    fn from(constant: Constant) -> Self {
+        Operand::Constant(constant)
+    }
+}
+
+/// A number, with or without a type.
+#[derive(Copy, Clone, Debug)]
+pub struct Constant {
+    /// The number.
+    pub value: i128,
+    /// Its type, if the text gives one.
+    pub r#type: Option<Type>,
+}
+
+/// `5`, or `5:i32`.
+impl fmt::Display for Constant {
+    fn fmt(&self, f: &mut fmt::Formatter<'_>) -> fmt::Result {
+        write!(f, "{}", self.value)?;
+        match self.r#type {
+            Some(ty) => write!(f, ":{ty}"),
+            None => Ok(()),
+        }
+    }
+}
+
+/// An integer type.
+#[derive(Copy, Clone, Debug)]
+pub struct Type {
+    /// The number of bits, from 1.
+    pub width: u16,
+}
+
+/// `i32`.
+impl fmt::Display for Type {
+    fn fmt(&self, f: &mut fmt::Formatter<'_>) -> fmt::Result {
+        write!(f, "i{}", self.width)
+    }
+}

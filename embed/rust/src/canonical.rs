@@ -1,0 +1,168 @@
+//! Canonical texts, and what follows from them, without values.
+//!
+//! Two items have the same canonical text if and only if they are the same graph: a one-to-one map between the statements
+//! that they need carries one to the other. Names and the order of path conditions count; the order of other statements
+//! does not.
+//!
+//! ```
+//! use souper_ir::canonical::{format, same, Error, Kind};
+//!
+//! let a = "%x:i8 = var  %y:i8 = var  %z:i8 = add %x, 1:i8  infer %z";
+//! let b = "%x:i8 = var\n%z:i8 = add %x, 1:i8\ninfer %z";
+//! assert_eq!(format(Kind::Lhs, a)?, "%x:i8 = var\n%z:i8 = add %x, 1:i8\ninfer %z\n\n");
+//! assert!(same(Kind::Lhs, a, b)?);
+//! # Ok::<(), Error>(())
+//! ```
+use crate::raw::{self, Call, Outcome};
+use std::fmt;
+
+/// What a text is read as.
+#[derive(Clone, Copy, Debug, PartialEq, Eq, Hash)]
+#[repr(u32)]
+pub enum Kind {
+    /// Left-hand sides, each ended by `infer`.
+    Lhs = 0,
+    /// Right-hand sides, each ended by `result`.
+    Rhs = 1,
+    /// Replacements, each ended by `cand`, or by `infer` and `result`.
+    Rep = 2,
+}
+
+/// Why and where a text was refused.
+#[derive(Clone, Debug, PartialEq, Eq)]
+pub struct Refusal {
+    shown: String,
+    offset: usize,
+    line: usize,
+    column: usize,
+    input: usize,
+}
+
+impl Refusal {
+    /// Why and where, in four lines without a newline at the end. `Display` writes it as well.
+    pub fn shown(&self) -> &str {
+        &self.shown
+    }
+
+    /// How many bytes were read.
+    pub fn offset(&self) -> usize {
+        self.offset
+    }
+
+    /// The line of the last byte that was read, or of the first of the text if there is none; from 1.
+    pub fn line(&self) -> usize {
+        self.line
+    }
+
+    /// The column of that byte, in bytes and from 1.
+    pub fn column(&self) -> usize {
+        self.column
+    }
+
+    /// Which text of the call was refused: 0 for the first, 1 for the second.
+    pub fn input(&self) -> usize {
+        self.input
+    }
+}
+
+impl fmt::Display for Refusal {
+    fn fmt(&self, f: &mut fmt::Formatter<'_>) -> fmt::Result {
+        f.write_str(&self.shown)
+    }
+}
+
+impl std::error::Error for Refusal {}
+
+/// Why a call gives no answer.
+#[derive(Clone, Debug, PartialEq, Eq)]
+pub enum Error {
+    /// A text spells no list of items of the kind.
+    Refused(Refusal),
+    /// Memory ran out.
+    OutOfMemory,
+}
+
+impl fmt::Display for Error {
+    fn fmt(&self, f: &mut fmt::Formatter<'_>) -> fmt::Result {
+        match self {
+            Error::Refused(refusal) => refusal.fmt(f),
+            Error::OutOfMemory => f.write_str("out of memory"),
+        }
+    }
+}
+
+impl std::error::Error for Error {}
+
+/// The canonical text of each item that the text spells, a newline after each.
+///
+/// # Errors
+///
+/// [`Error::Refused`] if the text spells no list of items of the kind, with the place; [`Error::OutOfMemory`].
+pub fn format(kind: Kind, text: &str) -> Result<String, Error> {
+    written(Call::Format, kind, text, room(text)).map(string)
+}
+
+/// Whether the text is canonical: [`format()`] returns the text itself.
+///
+/// # Errors
+///
+/// As those of [`format()`].
+pub fn check(kind: Kind, text: &str) -> Result<bool, Error> {
+    let outcome = raw::check(kind, text);
+    answer(kind, &outcome, text)
+}
+
+/// Whether the texts spell lists of one length, in which each item is the same graph as the one at its index in the other.
+///
+/// # Errors
+///
+/// As those of [`format()`], of the first text that has one.
+pub fn same(kind: Kind, a: &str, b: &str) -> Result<bool, Error> {
+    let outcome = raw::same(kind, a, b);
+    answer(kind, &outcome, if outcome.input == 0 { a } else { b })
+}
+
+// What the call writes for the text, of which it has no more than two statuses besides these errors.
+pub(crate) fn written(call: Call, kind: Kind, text: &str, room: usize) -> Result<Vec<u8>, Error> {
+    let (outcome, out) = raw::call(call, kind, text.as_bytes(), room);
+    match outcome.status {
+        raw::DONE => Ok(out),
+        raw::REFUSED => Err(refused(&outcome, string(out))),
+        _ => Err(Error::OutOfMemory),
+    }
+}
+
+// The answer to a question; if it has none, the error, which is about that text.
+fn answer(kind: Kind, outcome: &Outcome, text: &str) -> Result<bool, Error> {
+    match outcome.status {
+        raw::DONE => Ok(true),
+        raw::DIFFERENT => Ok(false),
+        raw::REFUSED => {
+            let (again, shown) = raw::call(Call::Format, kind, text.as_bytes(), outcome.length);
+            match again.status {
+                raw::REFUSED => Err(refused(outcome, string(shown))),
+                _ => Err(Error::OutOfMemory),
+            }
+        }
+        _ => Err(Error::OutOfMemory),
+    }
+}
+
+// The first guess at the length of a canonical text.
+fn room(text: &str) -> usize {
+    text.len() + text.len() / 4 + 256
+}
+
+fn string(bytes: Vec<u8>) -> String {
+    String::from_utf8(bytes).expect("the library writes UTF-8")
+}
+
+fn refused(outcome: &Outcome, shown: String) -> Error {
+    Error::Refused(Refusal {
+        shown,
+        offset: outcome.offset,
+        line: outcome.line,
+        column: outcome.column,
+        input: outcome.input as usize,
+    })
+}

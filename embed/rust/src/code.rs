@@ -1,0 +1,158 @@
+//! The byte code of items, as the library reads and writes it. `crates/souper_code/src/lib.rt` describes it.
+//!
+//! A text is parsed by [`read`] and [`decode`], and an item is printed by [`encode`] and [`write`]. The code of a list of items
+//! is the codes of the items, one after the other.
+//!
+//! ```
+//! use souper_ir::ast::LeftHandSide;
+//! use souper_ir::canonical::Kind;
+//! use souper_ir::code;
+//!
+//! let code = code::read(Kind::Lhs, "%unused = var  %x = var  infer %x")?;
+//! let items: Vec<LeftHandSide> = code::decode(&code)?;
+//! assert_eq!(code::encode(&items), code);
+//! assert_eq!(code::write(Kind::Lhs, &code)?, "%x = var\ninfer %x\n\n");
+//! # Ok::<(), Box<dyn std::error::Error>>(())
+//! ```
+mod decoder;
+mod encoder;
+
+use crate::ast::{LeftHandSide, Replacement, RightHandSide};
+use crate::canonical::{self, Kind};
+use crate::raw::{self, Call};
+use decoder::{Decode, Decoder};
+use encoder::Encode;
+use std::fmt;
+
+/// A type of item: [`LeftHandSide`], [`RightHandSide`] or [`Replacement`].
+#[allow(private_bounds)] // no other type is one
+pub trait Item: Decode + Encode {
+    /// The kind of the texts that spell such items.
+    const KIND: Kind;
+}
+
+impl Item for LeftHandSide {
+    const KIND: Kind = Kind::Lhs;
+}
+
+impl Item for RightHandSide {
+    const KIND: Kind = Kind::Rhs;
+}
+
+impl Item for Replacement {
+    const KIND: Kind = Kind::Rep;
+}
+
+/// The bytes are the code of no list of such items.
+#[derive(Clone, Copy, Debug, PartialEq, Eq)]
+pub struct NoCode {
+    offset: usize,
+}
+
+impl NoCode {
+    /// Where the first item begins that is none, in bytes.
+    pub fn offset(&self) -> usize {
+        self.offset
+    }
+}
+
+impl fmt::Display for NoCode {
+    fn fmt(&self, f: &mut fmt::Formatter<'_>) -> fmt::Result {
+        write!(f, "no item begins at byte {} of the code", self.offset)
+    }
+}
+
+impl std::error::Error for NoCode {}
+
+/// Why a code gives no text.
+#[derive(Clone, Copy, Debug, PartialEq, Eq)]
+pub enum Error {
+    /// It is the code of no list of items of the kind.
+    NoCode(NoCode),
+    /// An item is not [well formed](crate::ast): the one of that index, from 0.
+    NotWellFormed {
+        /// The index of the item.
+        index: usize,
+    },
+    /// Memory ran out.
+    OutOfMemory,
+}
+
+impl fmt::Display for Error {
+    fn fmt(&self, f: &mut fmt::Formatter<'_>) -> fmt::Result {
+        match self {
+            Error::NoCode(error) => error.fmt(f),
+            Error::NotWellFormed { index } => write!(f, "item {index} is not well formed"),
+            Error::OutOfMemory => f.write_str("out of memory"),
+        }
+    }
+}
+
+impl std::error::Error for Error {}
+
+/// The code of the items that the text spells, with all their statements.
+///
+/// # Errors
+///
+/// If the text spells no list of items of the kind, or if memory runs out.
+pub fn read(kind: Kind, text: &str) -> Result<Vec<u8>, canonical::Error> {
+    canonical::written(Call::Read, kind, text, 3 * text.len() + 256)
+}
+
+/// The canonical text of each item of the code, a newline after each.
+///
+/// # Errors
+///
+/// If the bytes are no code of items of the kind, if an item is not well formed, or if memory runs out.
+pub fn write(kind: Kind, code: &[u8]) -> Result<String, Error> {
+    let (outcome, out) = raw::call(Call::Write, kind, code, code.len() + 64);
+    match outcome.status {
+        raw::DONE => Ok(String::from_utf8(out).expect("the library writes UTF-8")),
+        raw::NO_CODE => Err(Error::NoCode(NoCode {
+            offset: outcome.offset,
+        })),
+        raw::NOT_WELL_FORMED => Err(Error::NotWellFormed {
+            index: outcome.length,
+        }),
+        _ => Err(Error::OutOfMemory),
+    }
+}
+
+/// The items of a code.
+///
+/// Every length and number is tested, and every operand must be an earlier assignment of its item. Whether the items are
+/// [well formed](crate::ast) otherwise is not tested.
+///
+/// # Errors
+///
+/// If the bytes are no such code.
+pub fn decode<T: Item>(code: &[u8]) -> Result<Vec<T>, NoCode> {
+    let mut decoder = Decoder::new(code);
+    let mut items = Vec::new();
+    while !decoder.is_at_end() {
+        let offset = decoder.offset();
+        items.push(T::decode(&mut decoder).ok_or(NoCode { offset })?);
+    }
+    Ok(items)
+}
+
+/// The code of the items.
+///
+/// An operand with an id of another arena gets a position past the end.
+pub fn encode<T: Item>(items: &[T]) -> Vec<u8> {
+    let mut code = Vec::new();
+    for item in items {
+        item.encode(&mut code);
+    }
+    code
+}
+
+/// The canonical text of one item.
+pub(crate) fn text<T: Item>(item: &T) -> Result<String, Error> {
+    let mut code = Vec::with_capacity(1024);
+    item.encode(&mut code);
+    let mut text = write(T::KIND, &code)?;
+    // What `write` puts after each item.
+    text.pop();
+    Ok(text)
+}

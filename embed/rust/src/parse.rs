@@ -1,0 +1,176 @@
+//! Reads the text of items, from a string or a file.
+//!
+//! ```
+//! use souper_ir::ast::{AssignmentRhs, Operand, Replacement};
+//! use souper_ir::parse::parse_replacements_str;
+//! use std::path::Path;
+//!
+//! let text = "
+//!     ; if 2 < x, then 1 < x
+//!     %x:i32 = var
+//!     %above2 = slt 2, %x
+//!     pc %above2 1
+//!     %above1 = slt 1, %x
+//!     cand %above1 1
+//!
+//!     ; phis of one block
+//!     %bb = block 2
+//!     %p = phi %bb, 1:i32, 2
+//!     %q = phi %bb, 2:i32, 4
+//!     %twice = mul %p, 2
+//!     cand %q %twice
+//! ";
+//! let items = parse_replacements_str(text, Some(Path::new("example.souper")))?;
+//! assert_eq!(items.len(), 2);
+//!
+//! let Replacement::Cand { statements, cand } = &items[1] else { panic!() };
+//! assert_eq!(statements.len(), 4);
+//! let Operand::Value(replaced) = cand.lhs else { panic!() };
+//! let assignment = items[1].assignment(replaced);
+//! assert_eq!(assignment.name, "%q");
+//! let AssignmentRhs::Phi(phi) = &assignment.value else { panic!() };
+//! assert_eq!(items[1].assignment(phi.block.into()).name, "%bb");
+//! # Ok::<(), souper_ir::parse::ParseError>(())
+//! ```
+use crate::ast::{LeftHandSide, Replacement, RightHandSide};
+use crate::canonical::{self, Refusal};
+use crate::code::{self, Item};
+use std::path::{Path, PathBuf};
+use std::{fmt, io};
+
+/// Why a text or a file gives no items.
+///
+/// `Display` and `Debug` show a refused text in four lines without a newline at the end: the name of the file, or `unknown`, with
+/// the line, the column and the message, and then the line with a mark below its byte.
+pub struct ParseError {
+    reason: Box<Reason>,
+}
+
+enum Reason {
+    Refused(Refusal, Option<PathBuf>),
+    Io(io::Error),
+    OutOfMemory,
+    // The library wrote a code that is none, of which the next item begins at that byte.
+    NoCode(usize),
+}
+
+impl ParseError {
+    /// Why and where the text was refused. `None` if a file could not be read, or if memory ran out.
+    pub fn refusal(&self) -> Option<&Refusal> {
+        match &*self.reason {
+            Reason::Refused(refusal, _) => Some(refusal),
+            _ => None,
+        }
+    }
+}
+
+impl fmt::Display for ParseError {
+    fn fmt(&self, f: &mut fmt::Formatter<'_>) -> fmt::Result {
+        match &*self.reason {
+            Reason::Refused(refusal, Some(file)) => {
+                let shown = refusal.shown();
+                let place = shown.strip_prefix("unknown").unwrap_or(shown);
+                write!(f, "{}{place}", file.display())
+            }
+            Reason::Refused(refusal, None) => f.write_str(refusal.shown()),
+            Reason::Io(error) => write!(f, "IO error: {error}"),
+            Reason::OutOfMemory => f.write_str("out of memory"),
+            Reason::NoCode(offset) => write!(f, "no item begins at byte {offset} of the code"),
+        }
+    }
+}
+
+impl fmt::Debug for ParseError {
+    fn fmt(&self, f: &mut fmt::Formatter<'_>) -> fmt::Result {
+        write!(f, "{self}")
+    }
+}
+
+impl std::error::Error for ParseError {}
+
+impl From<io::Error> for ParseError {
+    fn from(error: io::Error) -> Self {
+        Reason::Io(error).into()
+    }
+}
+
+impl From<Reason> for ParseError {
+    fn from(reason: Reason) -> Self {
+        ParseError {
+            reason: Box::new(reason),
+        }
+    }
+}
+
+/// What the functions of this module return.
+pub type Result<T> = std::result::Result<T, ParseError>;
+
+/// The replacements that the text spells. The name of a file is for the error.
+///
+/// # Errors
+///
+/// If the text spells no list of replacements, or if memory runs out.
+pub fn parse_replacements_str(source: &str, filename: Option<&Path>) -> Result<Vec<Replacement>> {
+    items(source, filename)
+}
+
+/// The replacements that the file spells.
+///
+/// # Errors
+///
+/// If the file cannot be read or is not UTF-8, and as those of [`parse_replacements_str`].
+pub fn parse_replacements_file(path: &Path) -> Result<Vec<Replacement>> {
+    items(&std::fs::read_to_string(path)?, Some(path))
+}
+
+/// The left-hand sides that the text spells. The name of a file is for the error.
+///
+/// # Errors
+///
+/// If the text spells no list of left-hand sides, or if memory runs out.
+pub fn parse_left_hand_sides_str(
+    source: &str,
+    filename: Option<&Path>,
+) -> Result<Vec<LeftHandSide>> {
+    items(source, filename)
+}
+
+/// The left-hand sides that the file spells.
+///
+/// # Errors
+///
+/// If the file cannot be read or is not UTF-8, and as those of [`parse_left_hand_sides_str`].
+pub fn parse_left_hand_sides_file(path: &Path) -> Result<Vec<LeftHandSide>> {
+    items(&std::fs::read_to_string(path)?, Some(path))
+}
+
+/// The right-hand sides that the text spells. The name of a file is for the error.
+///
+/// # Errors
+///
+/// If the text spells no list of right-hand sides, or if memory runs out.
+pub fn parse_right_hand_sides_str(
+    source: &str,
+    filename: Option<&Path>,
+) -> Result<Vec<RightHandSide>> {
+    items(source, filename)
+}
+
+/// The right-hand sides that the file spells.
+///
+/// # Errors
+///
+/// If the file cannot be read or is not UTF-8, and as those of [`parse_right_hand_sides_str`].
+pub fn parse_right_hand_sides_file(path: &Path) -> Result<Vec<RightHandSide>> {
+    items(&std::fs::read_to_string(path)?, Some(path))
+}
+
+fn items<T: Item>(source: &str, filename: Option<&Path>) -> Result<Vec<T>> {
+    let code = code::read(T::KIND, source).map_err(|error| match error {
+        canonical::Error::Refused(refusal) => {
+            Reason::Refused(refusal, filename.map(Path::to_path_buf))
+        }
+        canonical::Error::OutOfMemory => Reason::OutOfMemory,
+    })?;
+    code::decode(&code).map_err(|error| Reason::NoCode(error.offset()).into())
+}
