@@ -28,6 +28,17 @@ pub enum Kind {
     Rep = 2,
 }
 
+/// What [`key()`] writes of an item. By default a record is the canonical text and an empty line.
+#[derive(Clone, Copy, Debug, Default, PartialEq, Eq, Hash)]
+pub struct Record {
+    /// Before the text a line `; ` with the key: the SHA-256 of the text, in 64 hexadecimal digits.
+    pub key: bool,
+    /// Names `%0`, `%1` and so on, in the order in which the text has the values.
+    pub renamed: bool,
+    /// A byte 0 in place of the empty line.
+    pub null: bool,
+}
+
 /// Why and where a text was refused.
 #[derive(Clone, Debug, PartialEq, Eq)]
 pub struct Refusal {
@@ -120,6 +131,28 @@ pub fn check(kind: Kind, text: &str) -> Result<bool, Error> {
 pub fn same(kind: Kind, a: &str, b: &str) -> Result<bool, Error> {
     let outcome = raw::same(kind, a, b);
     answer(kind, &outcome, if outcome.input == 0 { a } else { b })
+}
+
+/// The record of each item that the text spells, as the program `souper_items` writes it.
+///
+/// ```
+/// use souper_ir::canonical::{key, Error, Kind, Record};
+///
+/// let record = Record { key: true, renamed: true, ..Record::default() };
+/// let a = key(Kind::Lhs, "%a = var  %b = var  infer %a", record)?;
+/// assert_eq!(a, key(Kind::Lhs, "%c = var  infer %c", record)?);
+/// assert!(a.ends_with("\n%0 = var\ninfer %0\n\n"));
+/// # Ok::<(), Error>(())
+/// ```
+///
+/// # Errors
+///
+/// As those of [`format()`].
+pub fn key(kind: Kind, text: &str, record: Record) -> Result<String, Error> {
+    let flags =
+        u32::from(record.key) | u32::from(record.renamed) << 1 | u32::from(record.null) << 2;
+    let room = room(text) + if record.key { 2 * text.len() } else { 0 };
+    written(Call::Key(flags), kind, text, room).map(string)
 }
 
 // What the call writes for the text, of which it has no more than two statuses besides these errors.

@@ -29,6 +29,14 @@ extern "C" {
     fn souper_format(kind: u32, text: *const u8, n: usize, out: *mut u8, room: usize) -> Outcome;
     fn souper_read(kind: u32, text: *const u8, n: usize, out: *mut u8, room: usize) -> Outcome;
     fn souper_write(kind: u32, code: *const u8, n: usize, out: *mut u8, room: usize) -> Outcome;
+    fn souper_key(
+        kind: u32,
+        flags: u32,
+        text: *const u8,
+        n: usize,
+        out: *mut u8,
+        room: usize,
+    ) -> Outcome;
     fn souper_check(kind: u32, text: *const u8, n: usize) -> Outcome;
     fn souper_same(kind: u32, a: *const u8, n: usize, b: *const u8, m: usize) -> Outcome;
 }
@@ -39,6 +47,8 @@ pub(crate) enum Call {
     Format,
     Read,
     Write,
+    /// With the flags, of which the header has three.
+    Key(u32),
 }
 
 /// The call's outcome, and what it wrote. `room` is the first guess at the length, in bytes; a second call has the right one.
@@ -68,6 +78,7 @@ fn once(call: Call, kind: Kind, input: &[u8], room: usize, out: &mut Vec<u8>) ->
             Call::Format => souper_format(kind, input, n, to, room),
             Call::Read => souper_read(kind, input, n, to, room),
             Call::Write => souper_write(kind, input, n, to, room),
+            Call::Key(flags) => souper_key(kind, flags, input, n, to, room),
         }
     };
     if outcome.status == DONE || outcome.status == REFUSED {

@@ -14,17 +14,23 @@ macro_rules! instructions {
         }
 
         impl Instruction {
-            // The instruction of a number with the operands, if there is one that has so many.
-            pub(crate) fn of_code(number: u8, operands: &[Operand]) -> Option<Self> {
-                match (number, operands) {
-                    $(($number, &[$($($operand),+)?]) => Some(Instruction::$name $({ $($operand),+ })?),)+
+            // The instruction of a number, with operands of which there are `count`, if there is one that has so many.
+            pub(crate) fn of_code(
+                number: u8,
+                count: usize,
+                mut operand: impl FnMut() -> Option<Operand>,
+            ) -> Option<Self> {
+                match number {
+                    $($number if count == <[&str]>::len(&[$($(stringify!($operand)),+)?]) => {
+                        Some(Instruction::$name $({ $($operand: operand()?),+ })?)
+                    })+
                     _ => None,
                 }
             }
 
             // Its number, and what the function makes of its operands.
-            pub(crate) fn with_code<T>(&self, of: impl FnOnce(u8, &[Operand]) -> T) -> T {
-                match *self {
+            pub(crate) fn with_code<T>(&self, of: impl FnOnce(u8, &[&Operand]) -> T) -> T {
+                match self {
                     $(Instruction::$name $({ $($operand),+ })? => of($number, &[$($($operand),+)?]),)+
                 }
             }

@@ -137,15 +137,8 @@ impl<'a> Decoder<'a> {
 
     fn instruction(&mut self) -> Option<Instruction> {
         let number = self.byte()?;
-        let mut operands = [Operand::Constant(Constant {
-            value: 0,
-            r#type: None,
-        }); 3];
-        let operands = operands.get_mut(..self.size()?)?;
-        for operand in operands.iter_mut() {
-            *operand = self.operand()?;
-        }
-        Instruction::of_code(number, operands)
+        let count = self.size()?;
+        Instruction::of_code(number, count, || self.operand())
     }
 
     fn rhs(&mut self) -> Option<AssignmentRhs> {

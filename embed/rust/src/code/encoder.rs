@@ -20,20 +20,20 @@ struct Encoder<'a> {
 }
 
 impl Encoder<'_> {
+    fn put<const N: usize>(&mut self, bytes: [u8; N]) {
+        self.code.extend_from_slice(&bytes);
+    }
+
     fn byte(&mut self, byte: u8) {
         self.code.push(byte);
     }
 
     fn size(&mut self, size: usize) {
-        self.code.extend_from_slice(&(size as u64).to_le_bytes());
-    }
-
-    fn count(&mut self, count: u32) {
-        self.code.extend_from_slice(&count.to_le_bytes());
+        self.put((size as u64).to_le_bytes());
     }
 
     fn number(&mut self, number: i128) {
-        self.code.extend_from_slice(&number.to_le_bytes());
+        self.put(number.to_le_bytes());
     }
 
     fn list<T>(&mut self, list: &[T], element: impl Fn(&mut Self, &T)) {
@@ -47,30 +47,32 @@ impl Encoder<'_> {
         match ty {
             None => self.byte(0),
             Some(ty) => {
-                self.byte(1);
-                self.code.extend_from_slice(&ty.width.to_le_bytes());
+                let [low, high] = ty.width.to_le_bytes();
+                self.put([1, low, high]);
             }
         }
     }
 
-    fn position(&mut self, id: impl Into<Id<Statement>>) {
+    fn position(&self, id: impl Into<Id<Statement>>) -> [u8; 8] {
         let id = id.into();
         let position = match self.statements.get(id) {
             Some(_) => id.index() as u64,
             None => NOWHERE,
         };
-        self.code.extend_from_slice(&position.to_le_bytes());
+        position.to_le_bytes()
     }
 
     fn operand(&mut self, operand: &Operand) {
         match operand {
             Operand::Value(id) => {
-                self.byte(0);
-                self.position(*id);
+                let mut bytes = [0; 9];
+                bytes[1..].copy_from_slice(&self.position(*id));
+                self.put(bytes);
             }
             Operand::Constant(constant) => {
-                self.byte(1);
-                self.number(constant.value);
+                let mut bytes = [1; 17];
+                bytes[1..].copy_from_slice(&constant.value.to_le_bytes());
+                self.put(bytes);
                 self.ty(constant.r#type);
             }
         }
@@ -80,26 +82,30 @@ impl Encoder<'_> {
         self.list(operands, Self::operand);
     }
 
+    fn instruction(&mut self, number: u8, operands: &[&Operand]) {
+        self.put([5, number]);
+        self.size(operands.len());
+        for operand in operands {
+            self.operand(operand);
+        }
+    }
+
     fn rhs(&mut self, rhs: &AssignmentRhs) {
         match rhs {
             AssignmentRhs::Var => self.byte(0),
             AssignmentRhs::Block(block) => {
                 self.byte(1);
-                self.count(block.predecessors);
+                self.put(block.predecessors.to_le_bytes());
             }
             AssignmentRhs::Phi(phi) => {
                 self.byte(2);
-                self.position(phi.block);
+                self.put(self.position(phi.block));
                 self.operands(&phi.values);
             }
             AssignmentRhs::ReservedInst => self.byte(3),
             AssignmentRhs::ReservedConst => self.byte(4),
             AssignmentRhs::Instruction(instruction) => {
-                self.byte(5);
-                instruction.with_code(|number, operands| {
-                    self.byte(number);
-                    self.operands(operands);
-                });
+                instruction.with_code(|number, operands| self.instruction(number, operands));
             }
         }
     }
@@ -162,8 +168,8 @@ impl Encoder<'_> {
             }
             Statement::BlockPc(condition) => {
                 self.byte(2);
-                self.position(condition.block);
-                self.count(condition.predecessor);
+                self.put(self.position(condition.block));
+                self.put(condition.predecessor.to_le_bytes());
                 self.operand(&condition.x);
                 self.operand(&condition.y);
             }
@@ -178,7 +184,7 @@ impl Encoder<'_> {
     }
 
     fn infer(&mut self, infer: &Infer) {
-        self.position(infer.value);
+        self.put(self.position(infer.value));
         self.root_attributes(&infer.attributes);
     }
 

@@ -1,0 +1,69 @@
+//! Records and keys of items.
+mod common;
+
+use common::records;
+use souper_ir::canonical::{format, key, Error, Kind, Record};
+
+const PLAIN: Record = Record {
+    key: false,
+    renamed: false,
+    null: false,
+};
+
+#[test]
+fn a_record_has_the_key_of_its_text() {
+    let text = "%b = var %a = var %c = add %a, %b pc %c 1 infer %c";
+    let record = Record {
+        key: true,
+        renamed: true,
+        null: false,
+    };
+    let expected = "; 5c3aba6388404e1e1b78de05a4f8679dcfca76884a681a5c8b5902c32dcdbf52\n\
+        %0 = var\n%1 = var\n%2 = add %0, %1\npc %2 1\ninfer %2\n\n";
+    assert_eq!(key(Kind::Lhs, text, record).as_deref(), Ok(expected));
+    let null = Record {
+        null: true,
+        ..record
+    };
+    let ended = expected.strip_suffix('\n').unwrap().to_string() + "\0";
+    assert_eq!(key(Kind::Lhs, text, null), Ok(ended));
+}
+
+#[test]
+fn a_plain_record_is_the_canonical_text() {
+    for record in records() {
+        let plain = key(record.kind, &record.text, PLAIN);
+        match plain {
+            Err(error) => {
+                assert!(record.is_refused);
+                assert_eq!(error.to_string(), record.answer);
+            }
+            Ok(plain) if record.kind == Kind::Rhs => {
+                let lines = |text: &str| text.lines().map(str::to_string).collect::<Vec<_>>();
+                let mut expected = lines(&plain);
+                expected.retain(|line| !line.is_empty());
+                assert_eq!(expected, lines(&record.answer));
+            }
+            Ok(plain) => assert_eq!(plain, record.answer),
+        }
+    }
+    println!("Rust: the stored answers as records: 560 passed, 0 failed");
+}
+
+#[test]
+fn many_small_records_are_longer_than_the_first_buffer() {
+    let text = "result 1 ".repeat(1000);
+    let record = Record { key: true, ..PLAIN };
+    let written = key(Kind::Rhs, &text, record).unwrap();
+    assert_eq!(written.lines().count(), 3000);
+    assert!(written.len() > 3 * text.len() + text.len() / 4 + 256);
+    assert_eq!(format(Kind::Rhs, &written), format(Kind::Rhs, &text));
+}
+
+#[test]
+fn a_refused_text_has_no_record() {
+    let Err(Error::Refused(refusal)) = key(Kind::Rep, "%x = var", PLAIN) else {
+        panic!("it is refused")
+    };
+    assert_eq!((refusal.offset(), refusal.line()), (7, 1));
+}
