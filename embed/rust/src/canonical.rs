@@ -157,7 +157,8 @@ pub fn key(kind: Kind, text: &str, record: Record) -> Result<String, Error> {
 
 // What the call writes for the text, of which it has no more than two statuses besides these errors.
 pub(crate) fn written(call: Call, kind: Kind, text: &str, room: usize) -> Result<Vec<u8>, Error> {
-    let (outcome, out) = raw::call(call, kind, text.as_bytes(), room);
+    let mut out = Vec::new();
+    let outcome = raw::call(call, kind, text.as_bytes(), room, &mut out);
     match outcome.status {
         raw::DONE => Ok(out),
         raw::REFUSED => Err(refused(&outcome, string(out))),
@@ -171,8 +172,9 @@ fn answer(kind: Kind, outcome: &Outcome, text: &str) -> Result<bool, Error> {
         raw::DONE => Ok(true),
         raw::DIFFERENT => Ok(false),
         raw::REFUSED => {
-            let (again, shown) = raw::call(Call::Format, kind, text.as_bytes(), outcome.length);
-            match again.status {
+            let mut shown = Vec::new();
+            let input = text.as_bytes();
+            match raw::call(Call::Format, kind, input, outcome.length, &mut shown).status {
                 raw::REFUSED => Err(refused(outcome, string(shown))),
                 _ => Err(Error::OutOfMemory),
             }

@@ -1,6 +1,6 @@
 //! The byte code of items, as the library reads and writes it. `crates/souper_code/src/lib.rt` describes it.
 //!
-//! A text is parsed by [`read`] and [`decode`], and an item is printed by [`encode`] and [`write`]. The code of a list of items
+//! A text is parsed by [`read`] and [`decode`], and an item is printed by [`encode`] and [`write()`]. The code of a list of items
 //! is the codes of the items, one after the other.
 //!
 //! ```
@@ -25,7 +25,6 @@ use encoder::Encode;
 use std::fmt;
 
 /// A type of item: [`LeftHandSide`], [`RightHandSide`] or [`Replacement`].
-#[allow(private_bounds)] // no other type is one
 pub trait Item: Decode + Encode {
     /// The kind of the texts that spell such items.
     const KIND: Kind;
@@ -105,9 +104,16 @@ pub fn read(kind: Kind, text: &str) -> Result<Vec<u8>, canonical::Error> {
 ///
 /// If the bytes are no code of items of the kind, if an item is not well formed, or if memory runs out.
 pub fn write(kind: Kind, code: &[u8]) -> Result<String, Error> {
-    let (outcome, out) = raw::call(Call::Write, kind, code, code.len() + 64);
+    let mut text = Vec::new();
+    write_to(kind, code, &mut text)?;
+    Ok(String::from_utf8(text).expect("the library writes UTF-8"))
+}
+
+// As `write`, to a buffer that may have anything in it.
+pub(crate) fn write_to(kind: Kind, code: &[u8], text: &mut Vec<u8>) -> Result<(), Error> {
+    let outcome = raw::call(Call::Write, kind, code, code.len() + 64, text);
     match outcome.status {
-        raw::DONE => Ok(String::from_utf8(out).expect("the library writes UTF-8")),
+        raw::DONE => Ok(()),
         raw::NO_CODE => Err(Error::NoCode(NoCode {
             offset: outcome.offset,
         })),
@@ -145,14 +151,4 @@ pub fn encode<T: Item>(items: &[T]) -> Vec<u8> {
         item.encode(&mut code);
     }
     code
-}
-
-/// The canonical text of one item.
-pub(crate) fn text<T: Item>(item: &T) -> Result<String, Error> {
-    let mut code = Vec::with_capacity(1024);
-    item.encode(&mut code);
-    let mut text = write(T::KIND, &code)?;
-    // What `write` puts after each item.
-    text.pop();
-    Ok(text)
 }

@@ -51,19 +51,25 @@ pub(crate) enum Call {
     Key(u32),
 }
 
-/// The call's outcome, and what it wrote. `room` is the first guess at the length, in bytes; a second call has the right one.
-pub(crate) fn call(call: Call, kind: Kind, input: &[u8], room: usize) -> (Outcome, Vec<u8>) {
-    let mut out = Vec::new();
-    let outcome = once(call, kind, input, room, &mut out);
+/// The call's outcome. `out` is then what it wrote, whatever it was before. `room` is the first guess at the length, in bytes; if
+/// it is too short, a second call has the right one.
+pub(crate) fn call(
+    call: Call,
+    kind: Kind,
+    input: &[u8],
+    room: usize,
+    out: &mut Vec<u8>,
+) -> Outcome {
+    let outcome = once(call, kind, input, room, out);
     if outcome.status != SHORT {
-        return (outcome, out);
+        return outcome;
     }
-    (once(call, kind, input, outcome.length, &mut out), out)
+    once(call, kind, input, outcome.length, out)
 }
 
-// One call, to a buffer of that length; `out` is empty before, and is what was written.
+// One call, to a buffer of that length.
 fn once(call: Call, kind: Kind, input: &[u8], room: usize, out: &mut Vec<u8>) -> Outcome {
-    assert!(out.is_empty());
+    out.clear();
     if out.try_reserve_exact(room).is_err() {
         return Outcome {
             status: OUT_OF_MEMORY,
