@@ -1,10 +1,10 @@
-//! Walks the items of files through the API that this crate has in common with `souper-ir`, and prints what it finds.
+//! Walks the items of files through the API that this crate has in common with `souper-ir`, and prints them.
 //!
 //!     drop_in lhs|rhs|rep FILE...
 //!
 //! Of each file: a line `file` and its path. Of each item: its statements, with names, operands by index and attributes, its last
 //! lines, a line `=`, its text as `Display` has it, and a line `==`. Of a file that is refused: the error. The source compiles
-//! against either crate, and `embed/rust/compare` compares what it prints.
+//! against either crate, and `embed/rust/compare` compares the outputs.
 use souper_ir::ast::{
     Arena, Assignment, AssignmentRhs, Id, Infer, Instruction, LeftHandSide, Operand, Replacement,
     RightHandSide, RootAttribute, Statement,

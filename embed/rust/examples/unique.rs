@@ -48,7 +48,7 @@ fn main() -> Result<ExitCode, Box<dyn std::error::Error>> {
     let mut out = std::io::stdout().lock();
     for ((path, item), result) in canonical(&items) {
         match result {
-            // What is after the last item of a file.
+            // The rest after the last item of a file.
             Ok(text) if text.is_empty() => continue,
             Ok(text) => {
                 if !seen.contains(&text) {

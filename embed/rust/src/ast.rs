@@ -1,12 +1,12 @@
-//! Items of Souper IR as values: left-hand sides, right-hand sides, replacements, and what they consist of.
+//! Items of Souper IR as values: left-hand sides, right-hand sides, replacements, and their parts.
 //!
 //! The statements of an item are in an [`Arena`], in the order of the text; an operand names an earlier one by its id. Values are
 //! made by [`parse`](crate::parse) or by a builder, and the three items have `Display`.
 //!
-//! An item that was parsed is *well formed*. One that was built or changed is, if of the statements that it needs
+//! A parsed item is *well formed*. An item that was built or changed is well formed if, in the statements that it needs,
 //!
-//! - each operand, block and root has the id of an earlier assignment, and a block's is one of a `block`;
-//! - a phi has a value for each predecessor of its block, and a block path condition has the index of one of them;
+//! - each operand and each block is the id of an earlier assignment of the item, and a block is the id of a `block`;
+//! - a phi has a value for each predecessor of its block, and a block path condition has the index of a predecessor;
 //! - names are `%` and one or more of the characters `0` to `9`, `a` to `z`, `A` to `Z`, `_` and `.`, and no two are the same;
 //! - no width is 0, and no list of bits is empty.
 //!

@@ -1,4 +1,4 @@
-//! Canonical texts, and what follows from them, without values.
+//! Canonical texts, whether texts are canonical or have the same graphs, and keys; without values.
 //!
 //! Two items have the same canonical text if and only if they are the same graph: a one-to-one map between the statements
 //! that they need carries one to the other. Names and the order of path conditions count; the order of other statements
@@ -16,7 +16,7 @@
 use crate::raw::{self, Call, Outcome};
 use std::fmt;
 
-/// What a text is read as.
+/// A kind of items, which a text is read as.
 #[derive(Clone, Copy, Debug, PartialEq, Eq, Hash)]
 #[repr(u32)]
 pub enum Kind {
@@ -28,7 +28,7 @@ pub enum Kind {
     Rep = 2,
 }
 
-/// What [`key()`] writes of an item. By default a record is the canonical text and an empty line.
+/// The form of the records of [`key()`]. By default a record is the canonical text and an empty line.
 #[derive(Clone, Copy, Debug, Default, PartialEq, Eq, Hash)]
 pub struct Record {
     /// Before the text a line `; ` with the key: the SHA-256 of the text, in 64 hexadecimal digits.
@@ -117,7 +117,7 @@ pub fn format(kind: Kind, text: &str) -> Result<String, Error> {
 ///
 /// # Errors
 ///
-/// As those of [`format()`].
+/// As for [`format()`].
 pub fn check(kind: Kind, text: &str) -> Result<bool, Error> {
     let outcome = raw::check(kind, text);
     answer(kind, &outcome, text)
@@ -127,7 +127,7 @@ pub fn check(kind: Kind, text: &str) -> Result<bool, Error> {
 ///
 /// # Errors
 ///
-/// As those of [`format()`], of the first text that has one.
+/// As for [`format()`], about the first text that has an error.
 pub fn same(kind: Kind, a: &str, b: &str) -> Result<bool, Error> {
     let outcome = raw::same(kind, a, b);
     answer(kind, &outcome, if outcome.input == 0 { a } else { b })
@@ -147,7 +147,7 @@ pub fn same(kind: Kind, a: &str, b: &str) -> Result<bool, Error> {
 ///
 /// # Errors
 ///
-/// As those of [`format()`].
+/// As for [`format()`].
 pub fn key(kind: Kind, text: &str, record: Record) -> Result<String, Error> {
     let flags =
         u32::from(record.key) | u32::from(record.renamed) << 1 | u32::from(record.null) << 2;
@@ -155,7 +155,7 @@ pub fn key(kind: Kind, text: &str, record: Record) -> Result<String, Error> {
     written(Call::Key(flags), kind, text, room).map(string)
 }
 
-// What the call writes for the text, of which it has no more than two statuses besides these errors.
+// The bytes that the call writes for a text.
 pub(crate) fn written(call: Call, kind: Kind, text: &str, room: usize) -> Result<Vec<u8>, Error> {
     let mut out = Vec::new();
     let outcome = raw::call(call, kind, text.as_bytes(), room, &mut out);

@@ -68,9 +68,9 @@ impl std::error::Error for NoCode {}
 pub enum Error {
     /// It is the code of no list of items of the kind.
     NoCode(NoCode),
-    /// An item is not [well formed](crate::ast): the one of that index, from 0.
+    /// An item is not [well formed](crate::ast).
     NotWellFormed {
-        /// The index of the item.
+        /// The index of the item, from 0.
         index: usize,
     },
     /// Memory ran out.
@@ -95,7 +95,8 @@ impl std::error::Error for Error {}
 ///
 /// If the text spells no list of items of the kind, or if memory runs out.
 pub fn read(kind: Kind, text: &str) -> Result<Vec<u8>, canonical::Error> {
-    canonical::written(Call::Read, kind, text, 3 * text.len() + 256)
+    // Most codes have one to three times the bytes of their text. The unwritten rest of a large buffer takes no memory.
+    canonical::written(Call::Read, kind, text, 4 * text.len() + 256)
 }
 
 /// The canonical text of each item of the code, a newline after each.

@@ -1,4 +1,4 @@
-//! The text of items. It is their canonical text; what an item does not need is not printed.
+//! `Display` of items: their canonical text, by the library.
 use crate::ast::{LeftHandSide, Replacement, RightHandSide};
 use crate::code::{self, Item};
 use std::cell::Cell;
@@ -33,7 +33,7 @@ fn show_by<T: Item>(item: &T, f: &mut fmt::Formatter<'_>, buffers: &mut Buffers)
     code.clear();
     item.encode(code);
     code::write_to(T::KIND, code, text).map_err(|_| fmt::Error)?;
-    // What the library writes after each item.
+    // The newline that the library writes after each item.
     text.pop();
     f.write_str(std::str::from_utf8(text).map_err(|_| fmt::Error)?)
 }

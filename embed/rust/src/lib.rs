@@ -6,9 +6,9 @@
 //! souper-ir = { package = "souper-ir-proved", path = "embed/rust" }
 //! ```
 //!
-//! Texts are read and printed by `libsouper_c.a`, a library in Rattle. Its contracts are proved: which texts are valid, what their
-//! items are, and that a printed text reads back to the same graph. This crate, which makes values of the library's byte code
-//! and byte code of values, is tested, not proved. The build looks for the library in the folder that `SOUPER_LIB_DIR` names.
+//! Texts are read and printed by `libsouper_c.a`, a library in Rattle. Its contracts are proved: which texts are valid and which
+//! items they spell, and that a printed text reads back to the same graph. This crate turns the library's byte code into values and
+//! values into byte code; it is tested, not proved. The build looks for the library in the folder that `SOUPER_LIB_DIR` names.
 //!
 //! # Read
 //!
@@ -64,14 +64,14 @@
 //!
 //! | `souper-ir` 2.1.0 | This crate |
 //! |---|---|
-//! | `Display` drops path conditions | it prints them, with what they need: the canonical text |
+//! | `Display` drops path conditions | it prints the canonical text, with the path conditions and the statements that they need |
 //! | `Display` prints texts that cannot be read, or panics | it gives `fmt::Error` for an item that is not [well formed](ast), and then `to_string` panics |
 //! | a `blockpc` may name a predecessor that its block has not | the text is refused |
 //! | `cand %1, %2` is refused | it is read, and printed without the comma |
 //! | some messages about numbers out of range are the standard library's of the day; past column 65,535 an error panics | fixed messages; no panic |
 //! | `Parser`, `Parse`, `Peek`: a parser of single nodes | not there: the library reads texts of whole items |
 //! | `Arena` and `Id` are types of the crate `id_arena` | types of the module [`arena`], with the methods that users of the values call |
-//! | the features `parse` and `stringify` | turn nothing on; what they had is always there |
+//! | the features `parse` and `stringify` | accepted, without effect: parsing and printing are always there |
 //! | memory that runs out ends the process | in the library it is an error; where this crate makes values, it ends the process |
 //!
 //! Besides the original, there are [`canonical`] (texts without values), [`code`] (the byte code of items) and

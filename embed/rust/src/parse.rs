@@ -50,7 +50,7 @@ enum Reason {
     Refused(Refusal, Option<PathBuf>),
     Io(io::Error),
     OutOfMemory,
-    // The library wrote a code that is none, of which the next item begins at that byte.
+    // The library wrote a damaged code. No item begins at that byte.
     NoCode(usize),
 }
 
@@ -102,7 +102,7 @@ impl From<Reason> for ParseError {
     }
 }
 
-/// What the functions of this module return.
+/// The result of the functions of this module.
 pub type Result<T> = std::result::Result<T, ParseError>;
 
 /// The replacements that the text spells. The name of a file is for the error.
@@ -118,7 +118,7 @@ pub fn parse_replacements_str(source: &str, filename: Option<&Path>) -> Result<V
 ///
 /// # Errors
 ///
-/// If the file cannot be read or is not UTF-8, and as those of [`parse_replacements_str`].
+/// If the file cannot be read or is not UTF-8, and as for [`parse_replacements_str`].
 pub fn parse_replacements_file(path: &Path) -> Result<Vec<Replacement>> {
     items(&std::fs::read_to_string(path)?, Some(path))
 }
@@ -139,7 +139,7 @@ pub fn parse_left_hand_sides_str(
 ///
 /// # Errors
 ///
-/// If the file cannot be read or is not UTF-8, and as those of [`parse_left_hand_sides_str`].
+/// If the file cannot be read or is not UTF-8, and as for [`parse_left_hand_sides_str`].
 pub fn parse_left_hand_sides_file(path: &Path) -> Result<Vec<LeftHandSide>> {
     items(&std::fs::read_to_string(path)?, Some(path))
 }
@@ -160,7 +160,7 @@ pub fn parse_right_hand_sides_str(
 ///
 /// # Errors
 ///
-/// If the file cannot be read or is not UTF-8, and as those of [`parse_right_hand_sides_str`].
+/// If the file cannot be read or is not UTF-8, and as for [`parse_right_hand_sides_str`].
 pub fn parse_right_hand_sides_file(path: &Path) -> Result<Vec<RightHandSide>> {
     items(&std::fs::read_to_string(path)?, Some(path))
 }

@@ -1,5 +1,4 @@
-//! The calls of `souper.h`, and all code that the compiler does not check. What the header asks of a caller holds here for every
-//! argument.
+//! The calls of `souper.h`, and all unsafe code. The header's demands on a caller hold here for every argument.
 #![allow(unsafe_code)]
 use crate::canonical::Kind;
 
@@ -47,12 +46,12 @@ pub(crate) enum Call {
     Format,
     Read,
     Write,
-    /// With the flags, of which the header has three.
+    /// With the flags of the header.
     Key(u32),
 }
 
-/// The call's outcome. `out` is then what it wrote, whatever it was before. `room` is the first guess at the length, in bytes; if
-/// it is too short, a second call has the right one.
+/// The outcome of the call, whose output replaces the content of `out`. `room` is the first guess at the length, in bytes; if it
+/// is too short, a second call has the right length.
 pub(crate) fn call(
     call: Call,
     kind: Kind,
@@ -89,7 +88,7 @@ fn once(call: Call, kind: Kind, input: &[u8], room: usize, out: &mut Vec<u8>) ->
     };
     if outcome.status == DONE || outcome.status == REFUSED {
         assert!(outcome.length <= room);
-        // SAFETY: with these statuses the call has written so many bytes.
+        // SAFETY: with these statuses the call has written `length` bytes.
         unsafe { out.set_len(outcome.length) }
     }
     outcome

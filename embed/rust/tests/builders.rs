@@ -1,4 +1,4 @@
-//! Items that are built, and what is printed of them.
+//! Items from builders, and their texts.
 use souper_ir::ast::{
     Assignment, AssignmentRhs, Attribute, Block, BlockPc, Constant, Id, Instruction,
     LeftHandSideBuilder, Operand, Pc, Phi, ReplacementBuilder, RootAttribute, Statement, Type,
@@ -111,7 +111,7 @@ fn an_item_that_is_not_well_formed_is_not_printed() {
     let (a, b) = (x.into(), x.into());
     let again = lhs.assignment(Some("%x".into()), None, Instruction::Xor { a, b }, vec![]);
     is_not_printed(&lhs.clone().finish(again, []));
-    // What the item does not need may have the name.
+    // A statement that the item does not need may have the name.
     assert_eq!(lhs.finish(x, []).to_string(), "%x = var\ninfer %x\n");
 
     let mut rep = ReplacementBuilder::default();

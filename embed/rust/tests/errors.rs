@@ -1,4 +1,4 @@
-//! What the functions of `parse` give besides items.
+//! Errors of the functions of `parse`.
 use souper_ir::parse::{
     parse_left_hand_sides_file, parse_left_hand_sides_str, parse_replacements_file,
     parse_right_hand_sides_file, ParseError,

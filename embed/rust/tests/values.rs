@@ -101,7 +101,7 @@ fn a_code_may_be_longer_than_the_first_buffer() {
     let values = vec!["0"; 5000].join(",");
     let text = format!("%b=block 5000 %p=phi %b,{values} infer %p");
     let items = parse_left_hand_sides_str(&text, None).unwrap();
-    assert!(code::encode(&items).len() > 3 * text.len() + 256);
+    assert!(code::encode(&items).len() > 4 * text.len() + 256);
     assert_eq!(format!("{}\n", items[0]), format(Kind::Lhs, &text).unwrap());
 }
 

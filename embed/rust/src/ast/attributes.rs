@@ -1,4 +1,4 @@
-//! What is known of values, and of the roots of items.
+//! Facts about values, and about the roots of items.
 use std::fmt::{self, Write};
 
 /// A fact about the value of an assignment.
@@ -14,7 +14,7 @@ pub enum Attribute {
     NonNegative,
     /// `nonZero`: it is not 0.
     NonZero,
-    /// `hasExternalUses`: what is outside of the item uses it too.
+    /// `hasExternalUses`: instructions outside of the item use it too.
     HasExternalUses,
     /// `signBits`: how many of the upper bits are known to equal the sign.
     SignBits(u8),

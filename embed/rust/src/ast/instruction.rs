@@ -14,7 +14,7 @@ macro_rules! instructions {
         }
 
         impl Instruction {
-            // The instruction of a number, with operands of which there are `count`, if there is one that has so many.
+            // The instruction with the number, if it takes `count` operands.
             pub(crate) fn of_code(
                 number: u8,
                 count: usize,
@@ -28,7 +28,7 @@ macro_rules! instructions {
                 }
             }
 
-            // Its number, and what the function makes of its operands.
+            // Gives the number and the operands to the function.
             pub(crate) fn with_code<T>(&self, of: impl FnOnce(u8, &[&Operand]) -> T) -> T {
                 match self {
                     $(Instruction::$name $({ $($operand),+ })? => of($number, &[$($($operand),+)?]),)+

@@ -10,14 +10,14 @@ pub enum Replacement {
         statements: Arena<Statement>,
         /// The value that is replaced.
         lhs: Infer,
-        /// What replaces it.
+        /// Its replacement.
         rhs: Operand,
     },
     /// Both sides in one `cand` line.
     Cand {
         /// The statements of both.
         statements: Arena<Statement>,
-        /// What is replaced, and by what.
+        /// The line `cand`.
         cand: Cand,
     },
 }
@@ -37,11 +37,11 @@ impl Replacement {
 /// The line `cand`.
 #[derive(Clone, Debug)]
 pub struct Cand {
-    /// What is replaced.
+    /// The replaced operand.
     pub lhs: Operand,
-    /// What replaces it.
+    /// Its replacement.
     pub rhs: Operand,
-    /// What is known of the replaced value.
+    /// Facts about the replaced operand.
     pub attributes: Vec<RootAttribute>,
 }
 
@@ -59,11 +59,11 @@ pub struct LeftHandSide {
 pub struct Infer {
     /// The value that is to be replaced.
     pub value: ValueId,
-    /// What is known of it.
+    /// Facts about it.
     pub attributes: Vec<RootAttribute>,
 }
 
-/// What replaces a value.
+/// The replacement of a value.
 #[derive(Clone, Debug)]
 pub struct RightHandSide {
     /// The statements.

@@ -1,4 +1,4 @@
-//! What a statement uses: values by their ids, and constants.
+//! Operands: ids of values, and constants.
 use super::{Id, Statement};
 use std::fmt;
 
@@ -28,7 +28,7 @@ impl From<BlockId> for Id<Statement> {
     }
 }
 
-/// What an instruction or another statement works on.
+/// An operand of an instruction, a phi, a path condition or a last line.
 #[derive(Copy, Clone, Debug)]
 pub enum Operand {
     /// The value of an earlier assignment.

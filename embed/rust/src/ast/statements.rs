@@ -38,9 +38,9 @@ pub struct Assignment {
     pub name: String,
     /// The type, if the text gives one.
     pub r#type: Option<Type>,
-    /// What is named.
+    /// The right side.
     pub value: AssignmentRhs,
-    /// What is known of the value.
+    /// Facts about the value.
     pub attributes: Vec<Attribute>,
 }
 
@@ -79,10 +79,10 @@ impl From<Instruction> for AssignmentRhs {
     }
 }
 
-/// An input and what is known of it. Nothing here has such a value; the original has the type.
+/// An input and the facts about it. As in the original, nothing else has this type.
 #[derive(Clone, Debug)]
 pub struct Var {
-    /// What is known of the input.
+    /// Facts about the input.
     pub attributes: Vec<Attribute>,
 }
 
@@ -119,7 +119,7 @@ pub struct Phi {
     pub values: Vec<Operand>,
 }
 
-/// A path condition: the item holds for inputs of which `x` equals `y`.
+/// A path condition: the item is for inputs with which `x` equals `y`.
 #[derive(Clone, Debug)]
 pub struct Pc {
     /// What equals `y`.

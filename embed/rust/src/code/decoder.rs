@@ -6,7 +6,7 @@ use crate::ast::{
 };
 use std::mem;
 
-// The smallest codes of elements of lists, in bytes. A list that counts more elements than have room is damaged.
+// The lengths of the smallest elements of lists, in bytes. A list whose length does not fit into the rest is damaged.
 const STATEMENT: usize = 19;
 const OPERAND: usize = 9;
 const BYTE: usize = 1;
@@ -17,7 +17,7 @@ pub trait Decode: Sized {
     fn decode(decoder: &mut Decoder<'_>) -> Option<Self>;
 }
 
-/// What is left of a code, and the statements of the item that is being read. What is damaged reads as `None`.
+/// The unread rest of a code, and the statements of the current item. A damaged code reads as `None`.
 #[derive(Debug)]
 pub struct Decoder<'a> {
     length: usize,

@@ -1,4 +1,4 @@
-//! The stored answers: texts, each with what is written for it.
+//! The stored answers: texts, each with its canonical text or its error.
 use souper_ir::canonical::Kind;
 use std::path::Path;
 
