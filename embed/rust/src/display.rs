@@ -38,21 +38,27 @@ fn show_by<T: Item>(item: &T, f: &mut fmt::Formatter<'_>, buffers: &mut Buffers)
     f.write_str(std::str::from_utf8(text).map_err(|_| fmt::Error)?)
 }
 
-/// The canonical text, which ends with a newline; `fmt::Error` if the item is not [well formed](crate::ast) or memory runs out.
+/// The canonical text, with a newline at the end.
+///
+/// `fmt::Error` if the item is not [well formed](crate::ast) or memory runs out.
 impl fmt::Display for LeftHandSide {
     fn fmt(&self, f: &mut fmt::Formatter<'_>) -> fmt::Result {
         show(self, f)
     }
 }
 
-/// The canonical text, without a newline at the end; `fmt::Error` if the item is not [well formed](crate::ast) or memory runs out.
+/// The canonical text, without a newline at the end.
+///
+/// `fmt::Error` if the item is not [well formed](crate::ast) or memory runs out.
 impl fmt::Display for RightHandSide {
     fn fmt(&self, f: &mut fmt::Formatter<'_>) -> fmt::Result {
         show(self, f)
     }
 }
 
-/// The canonical text, which ends with a newline; `fmt::Error` if the item is not [well formed](crate::ast) or memory runs out.
+/// The canonical text, with a newline at the end.
+///
+/// `fmt::Error` if the item is not [well formed](crate::ast) or memory runs out.
 impl fmt::Display for Replacement {
     fn fmt(&self, f: &mut fmt::Formatter<'_>) -> fmt::Result {
         show(self, f)

@@ -1,19 +1,19 @@
 //! The three types of items, and their last lines.
 use super::{assignment, Arena, Assignment, Operand, RootAttribute, Statement, ValueId};
 
-/// A value, and something that may be taken in its place.
+/// A left-hand side and a right-hand side for it.
 #[derive(Clone, Debug)]
 pub enum Replacement {
-    /// A left-hand side and the right-hand side for it.
+    /// The sides by a line `infer` and a line `result`.
     LhsRhs {
         /// The statements of both.
         statements: Arena<Statement>,
-        /// The value that is replaced.
+        /// The line `infer`, with the value that is to be replaced.
         lhs: Infer,
-        /// Its replacement.
+        /// The operand of the line `result`, which takes its place.
         rhs: Operand,
     },
-    /// Both sides in one `cand` line.
+    /// The sides by one line `cand`.
     Cand {
         /// The statements of both.
         statements: Arena<Statement>,
@@ -39,7 +39,7 @@ impl Replacement {
 pub struct Cand {
     /// The replaced operand.
     pub lhs: Operand,
-    /// Its replacement.
+    /// The operand that takes its place.
     pub rhs: Operand,
     /// Facts about the replaced operand.
     pub attributes: Vec<RootAttribute>,
@@ -50,7 +50,7 @@ pub struct Cand {
 pub struct LeftHandSide {
     /// The statements.
     pub statements: Arena<Statement>,
-    /// The value.
+    /// The line `infer`, with the value.
     pub infer: Infer,
 }
 
@@ -63,7 +63,7 @@ pub struct Infer {
     pub attributes: Vec<RootAttribute>,
 }
 
-/// The replacement of a value.
+/// An operand that may take the place of a value, with the statements that it needs.
 #[derive(Clone, Debug)]
 pub struct RightHandSide {
     /// The statements.
