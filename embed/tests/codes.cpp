@@ -164,6 +164,15 @@ void long_lists() {
     }
 }
 
+// The codes of items of one kind as codes of each.
+void kinds(const std::vector<sample> &all) {
+    for (const sample &from : all) {
+        for (const kind k : {kind::lhs, kind::rhs, kind::rep}) {
+            holds(k, from.code);
+        }
+    }
+}
+
 // Random changes, by bytes and by values.
 
 using generator = std::mt19937_64;
@@ -339,6 +348,7 @@ int main(int argc, char **argv) {
     }
     lengths();
     long_lists();
+    kinds(all);
     memory(each_node(), each_node().code);
     if (argc > 3) {
         write_seeds(all, argv[3]);
