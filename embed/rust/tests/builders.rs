@@ -75,6 +75,16 @@ fn nodes_are_printed() {
     assert_eq!(constant(-1).to_string(), "-1:i8");
     assert_eq!(number(i128::MIN).to_string(), i128::MIN.to_string());
     assert_eq!(Block { predecessors: 3 }.to_string(), "block 3");
+    let bits = RootAttribute::DemandedBits(vec![true, false]);
+    assert_eq!(bits.to_string(), "(demandedBits=10)");
+    assert_eq!(
+        RootAttribute::HarvestedFromUse.to_string(),
+        "(harvestedFromUse)"
+    );
+}
+
+#[test]
+fn attributes_are_printed() {
     let texts = [
         (
             Attribute::KnownBits(vec![None, Some(true), Some(false)]),
@@ -90,13 +100,36 @@ fn nodes_are_printed() {
     ];
     for (attribute, text) in texts {
         assert_eq!(attribute.to_string(), text);
+        let mut lhs = LeftHandSideBuilder::default();
+        let x = lhs.assignment(None, None, AssignmentRhs::Var, vec![attribute]);
+        assert_eq!(
+            lhs.finish(x, []).to_string(),
+            format!("%0 = var {text}\ninfer %0\n")
+        );
     }
-    let bits = RootAttribute::DemandedBits(vec![true, false]);
-    assert_eq!(bits.to_string(), "(demandedBits=10)");
-    assert_eq!(
-        RootAttribute::HarvestedFromUse.to_string(),
-        "(harvestedFromUse)"
-    );
+}
+
+#[test]
+fn right_sides_are_printed() {
+    let texts = [
+        (AssignmentRhs::Var, "var"),
+        (AssignmentRhs::ReservedInst, "reservedinst"),
+        (AssignmentRhs::ReservedConst, "reservedconst"),
+        (
+            Block {
+                predecessors: u32::MAX,
+            }
+            .into(),
+            "block 4294967295",
+        ),
+        (Instruction::Hole.into(), "hole"),
+    ];
+    for (value, text) in texts {
+        let mut rep = ReplacementBuilder::default();
+        let x = rep.assignment(None, None, value, vec![]);
+        let expected = format!("%0 = {text}\ninfer %0\nresult -1\n");
+        assert_eq!(rep.finish(x, number(-1), []).to_string(), expected);
+    }
 }
 
 #[test]

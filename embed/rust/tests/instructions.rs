@@ -25,7 +25,7 @@ fn is_its_variant(word: &str, operands: usize) {
     let AssignmentRhs::Instruction(instruction) = &assignment.value else {
         panic!("it is an instruction")
     };
-    let constant = |number| format!("Constant(Constant {{ value: {number}, r#type: None }})");
+    let constant = |number| format!("Constant(Constant {{ value: {number}, type: None }})");
     let fields = ["a", "b", "c"].iter().zip(numbers);
     let fields: Vec<String> = fields
         .map(|(field, number)| format!("{field}: {}", constant(number)))
