@@ -353,7 +353,7 @@ int main(int argc, char **argv) {
     if (argc > 3) {
         write_seeds(all, argv[3]);
     }
-    random_changes(all, argc > 2 ? std::strtoull(argv[2], nullptr, 10) : 200000);
+    random_changes(all, argc > 2 ? std::strtoull(argv[2], nullptr, 10) : 350000);
     if (has_allocations()) {
         out_of_memory(each_node());
     } else {

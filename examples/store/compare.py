@@ -1,7 +1,7 @@
 #!/usr/bin/env python3
 """Compares what the pipes give with what one process gives. Prints how many cases passed, and how many failed.
 
-RECORDS is what one process writes without keys: souper_items each -z [--rename] KIND FILE...
+RECORDS is what one process writes without keys: souper_items format -z [--rename] KIND FILE...
 
     compare.py texts RECORDS KIND             each text has the characters and the end of a canonical text, and no empty line
     compare.py answers RECORDS ANSWERS        two items have the same text if and only if ANSWERS, of harvest.py, says so

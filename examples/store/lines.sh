@@ -12,8 +12,8 @@
 set -o pipefail
 
 # Writes the keyed records of standard input, and takes all of it, so that what writes to it does not fail.
-each() {
-    "${SOUPER_ITEMS:-souper_items}" each -z --key "$@"
+records() {
+    "${SOUPER_ITEMS:-souper_items}" format -z --key "$@"
     local status=$?
     cat >/dev/null
     return $status
@@ -27,7 +27,7 @@ show() {
 }
 
 while IFS= read -r name || [ -n "$name" ]; do
-    show "$name" </dev/null | each "$@"
+    show "$name" </dev/null | records "$@"
     statuses=("${PIPESTATUS[@]}")
     if [ "${statuses[0]}" -ne 0 ] || [ "${statuses[1]}" -gt 1 ]; then
         echo "lines.sh: $name: not read" >&2

@@ -4,7 +4,7 @@
     load.py redis PREFIX | redis-cli --pipe        a hash PREFIX:KEY for each key, with the fields `text` and `count`
     load.py sqlite | sqlite3 -bail STORE           a table item(key TEXT PRIMARY KEY, text TEXT, count INTEGER)
 
-A record is `; KEY`, a newline, a canonical text, NUL, as `souper_items each -z --key` writes it, or that with its count before
+A record is `; KEY`, a newline, a canonical text, NUL, as `souper_items format -z --key` writes it, or that with its count before
 it, as `uniq -zc` writes it. The count in the store grows by that number, or by 1.
 
 Each key has to be the SHA-256 of its text, and the last record has to be whole. Else the status is 1; then SQLite adds nothing,

@@ -26,4 +26,4 @@ if [ -n "$STORE_HOSTS" ]; then
 fi
 find . -type f -name "*.$kind" -print0 | LC_ALL=C sort -z |
     parallel --null --no-run-if-empty --keep-order --max-args 8 --quote "${where[@]}" \
-        "${SOUPER_ITEMS:-souper_items}" each -z --key "${options[@]}"
+        "${SOUPER_ITEMS:-souper_items}" format -z --key "${options[@]}"

@@ -12,7 +12,7 @@ pub struct Count {
 }
 
 impl<T: WholeItem + Drop> Sink<T> for Count {
-    ghost holds = { λ count items. count.items ≡ length items };
+    ghost holds = { λ first count items. count.items ≡ length items };
 
     fn take(&mut self, _item: T) -> Result<(), AllocError> {
         match self.items.checked_add(1) {

@@ -1,6 +1,5 @@
 //! Records of stored results. `compare/SAMPLE.md` has their form.
 ghost use Rattle.std.specs.Prelude.{◌≡◌, ◌<◌, ◌++◌, ◌∷◌, length, IfSome};
-ghost use Rattle.souper_format.specs.Commands.{kind_of_word};
 ghost use Rattle.replay_answers.specs.Words.{is_refused_by_word, IsHead};
 ghost use Rattle.replay_answers.specs.Records.{IsTaken};
 
@@ -31,17 +30,6 @@ struct Head {
     answer_len: usize,
 }
 
-fn read_kind(word: &str) -> Option<Kind>
-    ensures { result ≡ kind_of_word word.now }
-{
-    match word {
-        "lhs" => Some(Kind::Lhs),
-        "rhs" => Some(Kind::Rhs),
-        "rep" => Some(Kind::Rep),
-        _ => None,
-    }
-}
-
 // Whether the status means that the text is refused.
 fn read_status(word: &str) -> Option<bool>
     ensures { result ≡ is_refused_by_word word.now }
@@ -68,7 +56,7 @@ fn read_head(line: &str) -> Option<Head>
     let (status, rest) = take_word(rest)?;
     let (_class, rest) = take_word(rest)?;
     let (text_len, answer_len) = take_word(rest)?;
-    let kind = read_kind(kind)?;
+    let kind = Kind::from_word(kind)?;
     let is_refused = read_status(status)?;
     let text_len = text_len.parse::<usize>().ok()?;
     let answer_len = answer_len.parse::<usize>().ok()?;

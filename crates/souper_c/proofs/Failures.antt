@@ -1,5 +1,5 @@
 -- What a failure says of a text that a parser refused.
-use Rattle.std.proofs.Common.{◌≡◌, ℕ, ◌≤◌, List, Some, None, length, sym, ◌∙◌, subst, ap, refl, inl, inr, ◌<◌, arith}
+use Rattle.std.proofs.Common.{◌≡◌, ◌⊎◌, ℕ, ◌≤◌, List, Some, None, length, sym, ◌∙◌, subst, ap, refl, inl, inr, ◌<◌, arith}
 use Rattle.std.specs.Prelude.{string_bytes, IsSomeAnd}
 use Rattle.std.proofs.lemmas.Bool.{cases_lt}
 use Rattle.souper_graph.specs.Syntax.Spelling.{ItemType, SpellsNone}
@@ -9,7 +9,7 @@ use Rattle.souper_ir.specs.Errors.{offset_of, line_of, column_of, shown_error, S
 use Rattle.souper_ir.specs.Places.{IsRefusalTextAt}
 use Rattle.souper_ir.specs.declared.parse.ParseError.{ParseError}
 use Rattle.souper_c.specs.Kinds.{type_of_number}
-use Rattle.souper_c.specs.Outcomes.{IsShortFor, BeginsWith, WritesRefusal}
+use Rattle.souper_c.specs.Outcomes.{HasNoPlace, IsShortFor, BeginsWith, WritesRefusal}
 use Rattle.souper_c.specs.Failures.{IsFailure, IsFailureOf, outcome_of, short_outcome}
 use Rattle.souper_c.specs.declared.outcome.SouperOutcome.{SouperOutcome}
 use Rattle.souper_c.specs.declared.inputs.Refusal.{Refusal}
@@ -81,3 +81,10 @@ bytes_are_written old new bytes given o (fits, lacks) is_given is_done =
       | inl l ↦ (let clash : 5 ≡ 0 = sym (ap (λ (o : SouperOutcome). o.status) (lacks l).0) ∙ is_done in absurd (omega (arith, clash)))
       | inr l ↦ (ap (λ (o : SouperOutcome). o.length) (fits l).0 ∙ is_given, (fits l).1)
     ]
+
+-- a refusal that was written has a place, and a buffer that lacks room for it has none
+pub refusal_has_place : (old new : List ℕ) (r : Refusal) (given o : SouperOutcome) → Wrote old new (string_bytes r.shown) given o → given.status ≡ 1 → (o.status ≡ 1) ⊎ HasNoPlace o
+refusal_has_place old new r given o (fits, lacks) is = elim (cases_lt (length old) (length (string_bytes r.shown))) [
+  | inl small ↦ inr (subst HasNoPlace (sym (lacks small).0) (refl, refl, refl))
+  | inr room ↦ inl (ap (λ (x : SouperOutcome). x.status) (fits room).0 ∙ is)
+]

@@ -1,10 +1,8 @@
 -- Definitions. The records of the items that a text spells.
 use Rattle.std.specs.Prelude.{◌≡◌, ℕ, ◌/◌, ◌%◌, List, length, nat_eq, if◌then◌else◌}
-use Rattle.souper_graph.specs.Values.{Item}
-use Rattle.souper_graph.specs.Syntax.Spelling.{ItemType, TextSpells}
 use Rattle.souper_records.specs.declared.layout.Delimiter.TheVariants.{EmptyLine, Nul}
 use Rattle.souper_records.specs.declared.layout.Layout.{Layout}
-use Rattle.souper_records.specs.Records.{records_of}
+use Rattle.souper_records.specs.Records.{AreRecordsOf}
 use Rattle.souper_c.specs.Kinds.{OfType}
 use Rattle.souper_c.specs.declared.outcome.SouperOutcome.{SouperOutcome}
 use Rattle.souper_c.specs.Outcomes.{BeginsWith}
@@ -16,10 +14,6 @@ layout_of flags = record {
   key = nat_eq (flags % 2) 1;
   rename = nat_eq (flags / 2 % 2) 1;
 }
-
--- the source spells items of the type, and the bytes are their records
-abbrev pub AreRecordsOf : Layout → ItemType → List ℕ → List ℕ → Type 0
-AreRecordsOf l k source bytes = (xs : List Item) × TextSpells k source xs × (bytes ≡ records_of l xs)
 
 -- the source spells items of the kind, and the bytes are their records
 abbrev pub RecordsTo : ℕ → ℕ → List ℕ → List ℕ → Type 0

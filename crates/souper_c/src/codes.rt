@@ -25,7 +25,7 @@ struct Codes {
 }
 
 impl<T: WholeItem + Encode + Drop> Sink<T> for Codes {
-    ghost holds = { λ codes items. codes.code.items ≡ code_of_items items };
+    ghost holds = { λ first codes items. codes.code.items ≡ code_of_items items };
 
     fn take(&mut self, item: T) -> Result<(), AllocError> {
         item.encode(&mut self.code)

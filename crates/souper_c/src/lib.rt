@@ -1,4 +1,4 @@
-//! The library for callers that are not Rattle: C, C++ and Rust, by one static library.
+//! The library for callers that are not Rattle: C, C++, Rust and Python, by one static library.
 //!
 //! `embed/souper.h` declares these functions in C, and `docs/EMBEDDING.md` says how to build, link and call them. A call
 //! keeps no memory and has no state of its own. No contract has a condition on its arguments.
@@ -12,7 +12,7 @@ mod records;
 mod tests;
 mod texts;
 
-ghost use Rattle.std.specs.Prelude.{◌≡◌, ◌≢◌, ◌<◌, ◌≤◌, ◌⊎◌, ◌↔◌, None, length};
+ghost use Rattle.std.specs.Prelude.{◌≡◌, ◌≢◌, ◌<◌, ◌≤◌, ◌⊎◌, ◌↔◌, [], None, length};
 ghost use Rattle.std.specs.Str.{IsUtf8};
 ghost use Rattle.souper_graph.specs.Syntax.Tokens.{IsLastGap};
 ghost use Rattle.souper_c.specs.Kinds.{type_of_number, IsKind, OfType};
@@ -154,6 +154,7 @@ pub extern "C" fn souper_key(
     ensures no_place { (result.status ≡ 1) ⊎ HasNoPlace result }
     ensures no_length { 2 ≤ result.status → (result.status ≡ 5) ⊎ (result.length ≡ 0) }
     ensures first { result.input ≡ 0 }
+    ensures gaps { flags < 8 → IsKind kind → IsUtf8 text.now → IsLastGap text.now → (result.status ≡ 0) × (result.length ≡ 0) }
 {
     let layout = match layout_of(flags) {
         Some(layout) => layout,
@@ -205,6 +206,7 @@ pub extern "C" fn souper_write(
     ensures no_place { (7 ≤ result.status) ⊎ HasNoPlace result }
     ensures no_length { (result.status ≡ 2) ⊎ (result.status ≡ 3) → result.length ≡ 0 }
     ensures first { (result.input ≡ 0) × (result.line ≡ 0) × (result.column ≡ 0) }
+    ensures empty { IsKind kind → code.now ≡ [] → (result.status ≡ 0) × (result.length ≡ 0) }
 {
     let kind = match read_kind(kind) {
         Some(kind) => kind,

@@ -1,22 +1,23 @@
 //! The records of the items that a text spells.
 
-ghost use Rattle.std.specs.Prelude.{◌≡◌, ◌<◌, ℕ, Err, IsOk, IfOk, IfErr, IsSome, IfSome, map, string_bytes};
+ghost use Rattle.std.specs.Prelude.{◌≡◌, ◌<◌, ℕ, [], None, Err, IsOk, IsOkAnd, IfOk, IfErr, IsSome, IfSome, string_bytes};
 ghost use Rattle.std.specs.Str.{IsUtf8};
-ghost use Rattle.std.specs.List.{AllByRecursion};
-ghost use Rattle.souper_graph.specs.WellFormed.{WellFormed};
-ghost use Rattle.souper_format.specs.Kinds.{view_items};
-ghost use Rattle.souper_records.specs.Records.{records_of};
+ghost use Rattle.souper_graph.specs.Syntax.Tokens.{IsLastGap};
+ghost use Rattle.souper_ir.specs.Answers.{IsStrError};
+ghost use Rattle.souper_format.specs.Kinds.{item_type_of};
+ghost use Rattle.souper_records.specs.Records.{AreRecordsOf};
 ghost use Rattle.souper_c.specs.Kinds.{IsKind};
 ghost use Rattle.souper_c.specs.Records.{layout_of, RecordsTo};
 ghost use Rattle.souper_c.specs.Failures.{IsFailure};
 ghost use Rattle.souper_c.specs.declared.inputs.Failure.TheVariants.{NotUtf8};
 
-use crate::inputs::{Failure, items};
-use souper_format::items::Items;
-use souper_ir::ast::Item;
+use crate::inputs::{Failure, failure_of, kind_and_source};
+use souper_format::command::Kind;
+use souper_ir::ast::{LeftHandSide, Replacement, RightHandSide};
+use souper_ir::parse::ParseError;
 use souper_records::layout::{Delimiter, Layout};
-use souper_records::records::append_record;
-use std::alloc::{AllocError, Global};
+use souper_records::records::records_of_text;
+use std::alloc::Global;
 
 /// The layout that the flags ask for, if each is known: 1 with the key, 2 with names by the printed order, 4 ended by NUL.
 pub(crate) fn layout_of(flags: u32) -> Option<Layout>
@@ -38,34 +39,26 @@ pub(crate) fn layout_of(flags: u32) -> Option<Layout>
     })
 }
 
-fn records_of<T: Item + Drop>(
+// The records of the items of the kind that the source spells, in the layout.
+fn records_of_source(
     alloc: Global,
     layout: Layout,
-    items: &[T],
-) -> Result<String, AllocError>
-    requires { AllByRecursion WellFormed (map T.view items.now) }
-    ensures { IfOk result (λ out. string_bytes out ≡ records_of layout (map T.view items.now)) }
+    kind: Kind,
+    source: &str,
+) -> Result<String, ParseError>
+    ensures recorded { IfOk result (λ out. AreRecordsOf layout (item_type_of kind) source.now (string_bytes out)) }
+    ensures refused { IfErr result (λ e. IsStrError (item_type_of kind) None source.now e) }
+    ensures gaps { IsLastGap source.now → IsOkAnd result (λ out. string_bytes out ≡ []) }
 {
-    let mut text = String::new(alloc);
-    let mut out = String::new(alloc);
-    for item in items {
-        append_record(alloc, layout, item, &mut text, &mut out)?;
-    }
-    Ok(out)
-}
-
-fn records_of_items(alloc: Global, layout: Layout, items: &Items) -> Result<String, AllocError>
-    requires { AllByRecursion WellFormed (view_items items.now) }
-    ensures { IfOk result (λ out. string_bytes out ≡ records_of layout (view_items items.now)) }
-{
-    match items {
-        Items::Lhs(items) => records_of(alloc, layout, items),
-        Items::Rhs(items) => records_of(alloc, layout, items),
-        Items::Rep(items) => records_of(alloc, layout, items),
+    match kind {
+        Kind::Lhs => records_of_text::<LeftHandSide>(alloc, layout, source, None),
+        Kind::Rhs => records_of_text::<RightHandSide>(alloc, layout, source, None),
+        Kind::Rep => records_of_text::<Replacement>(alloc, layout, source, None),
     }
 }
 
-/// The records of the items of the kind with that number that the bytes spell, in the layout.
+/// The records of the items of the kind with that number that the bytes spell, in the layout. An item's record is made when it has
+/// been read, and the item is dropped.
 pub(crate) fn records(
     alloc: Global,
     kind: u32,
@@ -76,10 +69,11 @@ pub(crate) fn records(
     ensures failed { IfErr result (IsFailure kind bytes.now) }
     ensures text { IsOk result → IsUtf8 bytes.now }
     ensures no_text { IsKind kind → ¬ (IsUtf8 bytes.now) → result ≡ Err NotUtf8 }
+    ensures gaps { IsKind kind → IsUtf8 bytes.now → IsLastGap bytes.now → IsOkAnd result (λ out. string_bytes out ≡ []) }
 {
-    let items = items(alloc, kind, bytes)?;
-    match records_of_items(alloc, layout, &items) {
+    let (kind, source) = kind_and_source(kind, bytes)?;
+    match records_of_source(alloc, layout, kind, source) {
         Ok(records) => Ok(records),
-        Err(_) => Err(Failure::OutOfMemory),
+        Err(error) => Err(failure_of(alloc, &error)),
     }
 }

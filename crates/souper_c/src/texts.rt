@@ -1,6 +1,6 @@
 //! The canonical texts of the items whose code is given.
 
-ghost use Rattle.std.specs.Prelude.{◌≡◌, IfOk, IfErr, string_bytes};
+ghost use Rattle.std.specs.Prelude.{◌≡◌, [], IfOk, IfErr, IsOkAnd, string_bytes};
 ghost use Rattle.souper_format.specs.Kinds.{item_type_of};
 ghost use Rattle.souper_code.specs.Writing.{IsWritten, IsWriteError};
 ghost use Rattle.souper_c.specs.Failures.{outcome_of_stop};
@@ -35,6 +35,7 @@ pub(crate) fn outcome_of_stop(error: WriteError) -> SouperOutcome
 pub(crate) fn texts_of_code(alloc: Global, kind: Kind, code: &[u8]) -> Result<String, WriteError>
     ensures written { IfOk result (λ text. IsWritten (item_type_of kind) code.now (string_bytes text)) }
     ensures stopped { IfErr result (λ e. IsWriteError (item_type_of kind) code.now e) }
+    ensures empty { code.now ≡ [] → IsOkAnd result (λ text. string_bytes text ≡ []) }
 {
     match kind {
         Kind::Lhs => write_items::<LeftHandSide>(alloc, code),

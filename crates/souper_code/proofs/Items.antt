@@ -1,6 +1,6 @@
 -- Reading items to the end of their code.
 use Rattle.std.proofs.Common.{◌≡◌, ◌≢◌, ℕ, ◌≤◌, ◌-◌, List, [], ◌∷◌, ◌++◌, length, flat_map, Result, Err, IfErr, ◌⊎◌, inl, inr, refl, sym, ◌∙◌, ap, subst, append_assoc, arith, rules, length-append}
-use Rattle.std.proofs.lemmas.List.{flat_map_more}
+use Rattle.std.proofs.lemmas.List.{flat_map_more, nil_from_length}
 use Rattle.std.specs.List.{AllByRecursion}
 use Rattle.souper_graph.specs.Values.{Item}
 use Rattle.souper_graph.specs.Syntax.Spelling.{ItemType}
@@ -42,16 +42,16 @@ begins_more k all done left x after has some only xs is =
           (more, same ∙ ap (λ (z : Item). done ++ (z ∷ more)) (sym one.0) ∙ sym (append_assoc done (x ∷ []) more), (rest_is.0.1, one.1))
     ] same rest_is
 
-codable_more : (k : ItemType) (done : List Item) (x : Item) → AllByRecursion (CodableItem k) done → CodableItem k x → AllByRecursion (CodableItem k) (done ++ (x ∷ []))
-codable_more k [] x all one = (one, tt)
-codable_more k (d ∷ ds) x all one = (all.0, codable_more k ds x all.1 one)
+pub all_more : {X : Type 0} (P : X → Type 0) (done : List X) (x : X) → AllByRecursion P done → P x → AllByRecursion P (done ++ (x ∷ []))
+all_more P [] x all one = (one, tt)
+all_more P (d ∷ ds) x all one = (all.0, all_more P ds x all.1 one)
 
 pub read_more : (k : ItemType) (all : List ℕ) (done : List Item) (left : List ℕ) (x : Item) (after : List ℕ) → HasRead k all done left → left ≢ []
     → CodableItem k x → left ≡ code_of x ++ after → IsOnly code_of (CodableItem k) left x after → HasRead k all (done ++ (x ∷ [])) after
 read_more k all done left x after has some fits front only = record {
   read = has.read ∙ ap (λ (t : List ℕ). code_of_items done ++ t) front ∙ sym (append_assoc (code_of_items done) (code_of x) after)
       ∙ ap (λ (t : List ℕ). t ++ after) (flat_map_more code_of [] done x);
-  codable = codable_more k done x has.codable fits;
+  codable = all_more (CodableItem k) done x has.codable fits;
   begins = begins_more k all done left x after has some only;
 }
 
@@ -88,3 +88,11 @@ stopped {V} k all done left r e has some none is =
       | NoCode ↦ λ none. inl (none_read k all done left has some none)
       | OutOfMemory ↦ λ none. inr refl
     ] none)
+
+-- no items have the code of no bytes, and nothing of it is left
+pub of_nothing : (k : ItemType) (all : List ℕ) (done : List Item) (left : List ℕ) → HasRead k all done left → all ≡ [] → (done ≡ []) × (left ≡ [])
+of_nothing k all done left has none =
+    let total : length (code_of_items done ++ left) ≡ 0 = ap length (sym has.read ∙ none) in (
+      nil_from_length done (omega (arith, total, items_are_long done, length-append (code_of_items done) left)),
+      nil_from_length left (omega (arith, total, length-append (code_of_items done) left)),
+    )

@@ -1,4 +1,5 @@
-pub mod Items
+pub mod Few
+mod Items
 pub mod Lists
 pub mod Numbers
 pub mod Statements

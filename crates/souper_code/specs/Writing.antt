@@ -15,7 +15,7 @@ use Rattle.souper_code.specs.declared.write.WriteError.TheVariants.{NoCode, NotW
 abbrev pub IsCodeOf : ItemType → List ℕ → List Item → Type 0
 IsCodeOf k code xs = AllByRecursion (CodableItem k) xs × (code ≡ code_of_items xs)
 
--- and of no other list
+-- the bytes are the code of the items of the type, and of no other list
 abbrev pub IsCodeOfOnly : ItemType → List ℕ → List Item → Type 0
 IsCodeOfOnly k code xs = IsCodeOf k code xs × ((ys : List Item) → IsCodeOf k code ys → xs ≡ ys)
 
@@ -39,7 +39,7 @@ IsPlaceAfter xs p = (length xs ≡ p.index) × (length (code_of_items xs) ≡ p.
 abbrev pub IsWritten : ItemType → List ℕ → List ℕ → Type 0
 IsWritten k code text = (xs : List Item) × IsCodeOfOnly k code xs × AllByRecursion WellFormed xs × (text ≡ texts_of xs)
 
--- the bytes are no code: at the place, after the codes of some items, they do not go on with the code of an item
+-- the bytes are no code: the place is after the codes of some items, and the code of no item follows there
 abbrev pub IsNoCodeAt : ItemType → List ℕ → Place → Type 0
 IsNoCodeAt k code p = IsNoCode k code
     × ((before : List Item) × (rest : List ℕ) × AllByRecursion (CodableItem k) before × (code ≡ code_of_items before ++ rest) × IsPlaceAfter before p × BeginsWithNone k rest)

@@ -1,6 +1,6 @@
 //! The canonical texts of the items whose code is given.
 
-ghost use Rattle.std.specs.Prelude.{◌≡◌, ◌++◌, ◌∷◌, [], List, IfOk, IfErr, OnOk};
+ghost use Rattle.std.specs.Prelude.{◌≡◌, ◌++◌, ◌∷◌, [], List, IfOk, IfErr, IsOkAnd, OnOk};
 ghost use Rattle.std.specs.String.{string_bytes};
 ghost use Rattle.souper_graph.specs.Text.{text_with_newline};
 ghost use Rattle.souper_graph.specs.WellFormed.{WellFormed};
@@ -85,16 +85,20 @@ impl Texts {
     }
 }
 
+// Room for the text of an item, in bytes: most need no more.
+const FIRST_ROOM: usize = 1024;
+
 /// The canonical text of each item whose code the bytes have, a newline after each.
 ///
 /// An item is printed when it has been read, and then dropped.
 pub fn write_items<T: Decode + Drop>(alloc: Global, code: &[u8]) -> Result<String, WriteError>
     ensures written { IfOk result (λ text. IsWritten T.item_type code.now (string_bytes text)) }
     ensures stopped { IfErr result (IsWriteError T.item_type code.now) }
+    ensures empty { code.now ≡ [] → IsOkAnd result (λ text. string_bytes text ≡ []) }
 {
     let mut reader = Reader::new(code);
     let mut texts = Texts {
-        text: String::new(alloc),
+        text: String::with_capacity(alloc, code.len().min(FIRST_ROOM))?,
         ill_formed: None,
     };
     let mut index = 0;

@@ -15,6 +15,20 @@ pub enum Kind {
     Rep,
 }
 
+impl Kind {
+    /// The kind that the word stands for on a command line: `lhs`, `rhs` or `rep`.
+    pub fn from_word(word: &str) -> Option<Kind>
+        ensures { result ≡ kind_of_word word.now }
+    {
+        match word {
+            "lhs" => Some(Kind::Lhs),
+            "rhs" => Some(Kind::Rhs),
+            "rep" => Some(Kind::Rep),
+            _ => None,
+        }
+    }
+}
+
 /// What the program is asked to do.
 #[derive(Debug, PartialEq, Eq, Drop)]
 pub enum Command {
@@ -25,17 +39,6 @@ pub enum Command {
     Same(Kind, String, String),
 }
 
-fn read_kind(word: &str) -> Option<Kind>
-    ensures { result ≡ kind_of_word word.now }
-{
-    match word {
-        "lhs" => Some(Kind::Lhs),
-        "rhs" => Some(Kind::Rhs),
-        "rep" => Some(Kind::Rep),
-        _ => None,
-    }
-}
-
 /// The command that the arguments after the program's name ask for, or `None` if they are no command.
 pub fn read_command(args: Vec<String>) -> Option<Command>
     ensures { result ≡ command_of args.items }
@@ -44,12 +47,12 @@ pub fn read_command(args: Vec<String>) -> Option<Command>
     let word = words.next()?;
     let command = if word.as_str() == "same" {
         let kind = words.next()?;
-        let kind = read_kind(kind.as_str())?;
+        let kind = Kind::from_word(kind.as_str())?;
         let first = words.next()?;
         let second = words.next()?;
         Command::Same(kind, first, second)
     } else {
-        Command::Format(read_kind(word.as_str())?)
+        Command::Format(Kind::from_word(word.as_str())?)
     };
     if words.next().is_some() {
         return None;

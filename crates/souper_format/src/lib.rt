@@ -10,7 +10,7 @@ pub mod command;
 pub mod dispatch;
 pub mod files;
 pub mod items;
-mod report;
+pub mod report;
 pub mod run;
 pub mod same;
 pub mod same_run;

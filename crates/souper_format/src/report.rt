@@ -39,7 +39,8 @@ pub(crate) fn report_fault<E: Write>(alloc: Global, fault: &io::Error, err: &mut
     }
 }
 
-fn line_of_error(alloc: Global, error: &ParseError) -> Result<String, AllocError>
+/// The text that the error shows, and a newline.
+pub fn line_of_error(alloc: Global, error: &ParseError) -> Result<String, AllocError>
     ensures { IfOk result (λ line. IsErrorLine error.now (string_bytes line)) }
 {
     let mut line = error.to_string(alloc)?;

@@ -47,7 +47,7 @@ struct Texts {
 }
 
 impl<T: WholeItem + Drop> Sink<T> for Texts {
-    ghost holds = { λ texts items. string_bytes texts.text ≡ texts_of items };
+    ghost holds = { λ first texts items. string_bytes texts.text ≡ texts_of items };
 
     fn take(&mut self, item: T) -> Result<(), AllocError> {
         append_item(&item, &mut self.text)

@@ -5,12 +5,12 @@ use Rattle.souper_graph.specs.Syntax.Tokens.{Lexeme, Begins}
 use Rattle.souper_graph.specs.Syntax.Spelling.{kinds, ItemType, list_spells, TextSpells}
 use Rattle.souper_ir.specs.Parsing.{Parsing}
 
--- what a sink held before, it holds now with the items after it
-abbrev pub TakesOver : {S : Type 0} → (S → List Item → Type 0) → List Item → S → S → Type 0
-TakesOver holds items old new = (before : List Item) → holds old before → holds new (before ++ items)
+-- what a sink held before, it holds now with the items after it, whatever sink it is compared with
+abbrev pub TakesOver : {S : Type 0} → (S → S → List Item → Type 0) → List Item → S → S → Type 0
+TakesOver {S} holds items old new = (first : S) (before : List Item) → holds first old before → holds first new (before ++ items)
 
 -- the sink took the items that the text spells
-abbrev pub TakesText : {S : Type 0} → (S → List Item → Type 0) → ItemType → List ℕ → S → S → Type 0
+abbrev pub TakesText : {S : Type 0} → (S → S → List Item → Type 0) → ItemType → List ℕ → S → S → Type 0
 TakesText holds k source old new = (items : List Item) × TextSpells k source items × TakesOver holds items old new
 
 -- the tokens that the text begins with spell the items
@@ -18,11 +18,11 @@ abbrev pub PrefixSpells : ItemType → List ℕ → List Item → Type 0
 PrefixSpells k source items = (ts : List (ℕ × Lexeme)) × (rest : List ℕ) × Begins 0 source ts rest × list_spells k items (kinds ts)
 
 -- the sink took the items that tokens spell with which the text begins
-abbrev pub TakesPrefix : {S : Type 0} → (S → List Item → Type 0) → ItemType → List ℕ → S → S → Type 0
+abbrev pub TakesPrefix : {S : Type 0} → (S → S → List Item → Type 0) → ItemType → List ℕ → S → S → Type 0
 TakesPrefix holds k source old new = (items : List Item) × PrefixSpells k source items × TakesOver holds items old new
 
 -- the sink took the items that the parser's first tokens spell
-pub record TakesFirst {S : Type 0} (holds : S → List Item → Type 0) (k : ItemType) (p : Parsing) (old new : S) : Type 0 where
+pub record TakesFirst {S : Type 0} (holds : S → S → List Item → Type 0) (k : ItemType) (p : Parsing) (old new : S) : Type 0 where
   pub items : List Item
   pub used : List (ℕ × Lexeme)
   pub others : List (ℕ × Lexeme)

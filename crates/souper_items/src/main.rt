@@ -18,7 +18,6 @@ use souper_records::run::{
 };
 use souper_records::seen::Seen;
 use souper_stream::StreamItem;
-use std::alloc::Global;
 use std::fs::File;
 use std::io::{BufRead, BufReader, Write};
 use std::process::ExitCode;
@@ -29,72 +28,151 @@ const STANDARD_INPUT: &str = "(standard input)";
 // How many bytes are asked for at a time: as many as a pipe of Linux holds.
 const CAPACITY: usize = 1 << 16;
 
-// Does the task over one stream of items of the type, and returns the status.
-fn run_items<T: StreamItem + Drop, R: BufRead, W: Write, E: Write>(
-    alloc: Global,
-    task: &Task<'_, '_>,
-    seen: &mut Seen,
-    reader: &mut R,
-    name: &str,
-    out: &mut Watched<W>,
-    err: &mut Watched<E>,
-) -> u8 {
-    match task.action {
-        Action::Each(layout) if task.keep_going => {
-            each_going_on_run::<T, R, W, E>(alloc, layout, reader, name, out, err)
-        }
-        Action::Each(layout) => each_run::<T, R, W, E>(alloc, layout, reader, name, out, err),
-        Action::Objects { rename } => {
-            objects_run::<T, R, W, E>(alloc, rename, reader, name, out, err)
-        }
-        Action::Uniq(layout) => {
-            run_uniq::<T, R, W, E>(alloc, task, layout, seen, reader, name, out, err)
-        }
-        Action::Count(layout) => {
-            // The records come at the end.
-            let layout = Layout {
-                key: false,
-                ..layout
-            };
-            let mut sink = Watched::new(io::sink());
-            run_uniq::<T, R, io::Sink, E>(alloc, task, layout, seen, reader, name, &mut sink, err)
-        }
-        Action::Check => check_run::<T, R, E>(alloc, reader, name, err),
-    }
+/// The task, and what stays from file to file.
+#[derive(Drop)]
+struct Session<'s, W, E> {
+    rt: &'s HostRuntime,
+    task: &'s Task<'s, 's>,
+    seen: Seen,
+    out: Watched<W>,
+    err: Watched<E>,
 }
 
-// Writes the record of the first item of each graph, and returns the status.
-fn run_uniq<T: StreamItem + Drop, R: BufRead, W: Write, E: Write>(
-    alloc: Global,
-    task: &Task<'_, '_>,
-    layout: Layout,
-    seen: &mut Seen,
-    reader: &mut R,
-    name: &str,
-    out: &mut Watched<W>,
-    err: &mut Watched<E>,
-) -> u8 {
-    if task.keep_going {
-        uniq_going_on_run::<T, R, W, E>(alloc, layout, seen, reader, name, out, err)
-    } else {
-        uniq_run::<T, R, W, E>(alloc, layout, seen, reader, name, out, err)
+// Each method returns a status of the program.
+impl<W: Write, E: Write> Session<'_, W, E> {
+    // The distinct items of a stream of items of the type.
+    fn uniq<T: StreamItem + Drop, R: BufRead>(
+        &mut self,
+        layout: Layout,
+        reader: &mut R,
+        name: &str,
+    ) -> u8 {
+        let alloc = self.rt.alloc();
+        let (seen, out, err) = (&mut self.seen, &mut self.out, &mut self.err);
+        if self.task.keep_going {
+            uniq_going_on_run::<T, R, W, E>(alloc, layout, seen, reader, name, out, err)
+        } else {
+            uniq_run::<T, R, W, E>(alloc, layout, seen, reader, name, out, err)
+        }
     }
-}
 
-// Does the task over one stream, and returns the status.
-fn run_stream<R: BufRead, W: Write, E: Write>(
-    alloc: Global,
-    task: &Task<'_, '_>,
-    seen: &mut Seen,
-    reader: &mut R,
-    name: &str,
-    out: &mut Watched<W>,
-    err: &mut Watched<E>,
-) -> u8 {
-    match task.kind {
-        Kind::Lhs => run_items::<LeftHandSide, R, W, E>(alloc, task, seen, reader, name, out, err),
-        Kind::Rhs => run_items::<RightHandSide, R, W, E>(alloc, task, seen, reader, name, out, err),
-        Kind::Rep => run_items::<Replacement, R, W, E>(alloc, task, seen, reader, name, out, err),
+    // The same without output: the records come at the end.
+    fn count<T: StreamItem + Drop, R: BufRead>(
+        &mut self,
+        layout: Layout,
+        reader: &mut R,
+        name: &str,
+    ) -> u8 {
+        let alloc = self.rt.alloc();
+        let layout = Layout {
+            key: false,
+            ..layout
+        };
+        let mut out = Watched::new(io::sink());
+        let (seen, err) = (&mut self.seen, &mut self.err);
+        if self.task.keep_going {
+            uniq_going_on_run::<T, R, io::Sink, E>(alloc, layout, seen, reader, name, &mut out, err)
+        } else {
+            uniq_run::<T, R, io::Sink, E>(alloc, layout, seen, reader, name, &mut out, err)
+        }
+    }
+
+    // A stream of items of the type.
+    fn items<T: StreamItem + Drop, R: BufRead>(&mut self, reader: &mut R, name: &str) -> u8 {
+        let alloc = self.rt.alloc();
+        match self.task.action {
+            Action::Each(layout) if self.task.keep_going => each_going_on_run::<T, R, W, E>(
+                alloc,
+                layout,
+                reader,
+                name,
+                &mut self.out,
+                &mut self.err,
+            ),
+            Action::Each(layout) => each_run::<T, R, W, E>(
+                alloc,
+                layout,
+                reader,
+                name,
+                &mut self.out,
+                &mut self.err,
+            ),
+            Action::Objects { rename } => objects_run::<T, R, W, E>(
+                alloc,
+                rename,
+                reader,
+                name,
+                &mut self.out,
+                &mut self.err,
+            ),
+            Action::Uniq(layout) => self.uniq::<T, R>(layout, reader, name),
+            Action::Count(layout) => self.count::<T, R>(layout, reader, name),
+            Action::Check => check_run::<T, R, E>(alloc, reader, name, &mut self.err),
+        }
+    }
+
+    fn stream<R: BufRead>(&mut self, reader: &mut R, name: &str) -> u8 {
+        match self.task.kind {
+            Kind::Lhs => self.items::<LeftHandSide, R>(reader, name),
+            Kind::Rhs => self.items::<RightHandSide, R>(reader, name),
+            Kind::Rep => self.items::<Replacement, R>(reader, name),
+        }
+    }
+
+    fn standard_input(&mut self, meter: &mut Meter<'_>) -> u8 {
+        let reader = self.rt.stdin();
+        match BufReader::with_capacity(self.rt.alloc(), CAPACITY, Metered { reader, meter }) {
+            Ok(mut reader) => self.stream(&mut reader, STANDARD_INPUT),
+            Err(_) => {
+                report_memory(&mut self.err);
+                2
+            }
+        }
+    }
+
+    // A file; `-` is standard input.
+    fn file(&mut self, meter: &mut Meter<'_>, path: &str) -> u8 {
+        if path == "-" {
+            return self.standard_input(meter);
+        }
+        match open(self.rt, meter, path) {
+            Ok(mut reader) => self.stream(&mut reader, path),
+            Err(fault) => {
+                report_fault(self.rt.alloc(), path, &fault, &mut self.err);
+                2
+            }
+        }
+    }
+
+    // The greatest status of the files. It ends after a failed write; what remembers items also ends after status 2.
+    fn files(&mut self, meter: &mut Meter<'_>) -> u8 {
+        if self.task.files.is_empty() {
+            return self.standard_input(meter);
+        }
+        let mut status = 0;
+        for path in self.task.files {
+            if self.out.failed() || status == 2 && self.task.action.remembers() {
+                break;
+            }
+            status = status.max(self.file(meter, path));
+        }
+        status
+    }
+
+    fn run(&mut self) -> u8 {
+        let mut meter = Meter::new(self.rt);
+        let status = self.files(&mut meter);
+        meter.clear();
+        match self.task.action {
+            Action::Count(layout) if status != 2 => status.max(count_run(
+                self.rt.alloc(),
+                layout,
+                &self.seen,
+                &mut self.out,
+                &mut self.err,
+            )),
+            _ => status,
+        }
     }
 }
 
@@ -107,84 +185,17 @@ fn open<'m, 'a>(
     Ok(BufReader::with_capacity(rt.alloc(), CAPACITY, Metered { reader, meter })?)
 }
 
-// Does the task over one file; `-` is standard input.
-fn run_file<W: Write, E: Write>(
-    rt: &HostRuntime,
-    task: &Task<'_, '_>,
-    seen: &mut Seen,
-    meter: &mut Meter<'_>,
-    path: &str,
-    out: &mut Watched<W>,
-    err: &mut Watched<E>,
-) -> u8 {
-    let alloc = rt.alloc();
-    if path == "-" {
-        let reader = rt.stdin();
-        match BufReader::with_capacity(alloc, CAPACITY, Metered { reader, meter }) {
-            Ok(mut reader) => run_stream(alloc, task, seen, &mut reader, STANDARD_INPUT, out, err),
-            Err(_) => {
-                report_memory(err);
-                2
-            }
-        }
-    } else {
-        match open(rt, meter, path) {
-            Ok(mut reader) => run_stream(alloc, task, seen, &mut reader, path, out, err),
-            Err(fault) => {
-                report_fault(alloc, path, &fault, err);
-                2
-            }
-        }
-    }
-}
-
-// Does the task over each file, and returns the greatest status. It ends after a failed write; `uniq` also ends after status 2.
-fn run_files<W: Write, E: Write>(
-    rt: &HostRuntime,
-    task: &Task<'_, '_>,
-    seen: &mut Seen,
-    meter: &mut Meter<'_>,
-    out: &mut Watched<W>,
-    err: &mut Watched<E>,
-) -> u8 {
-    if task.files.is_empty() {
-        return run_file(rt, task, seen, meter, "-", out, err);
-    }
-    let mut status = 0;
-    for path in task.files {
-        if out.failed() || status == 2 && task.action.remembers() {
-            break;
-        }
-        status = status.max(run_file(rt, task, seen, meter, path, out, err));
-    }
-    status
-}
-
-// Does the task, and returns the status.
-fn run<W: Write, E: Write>(
-    rt: &HostRuntime,
-    task: &Task<'_, '_>,
-    out: &mut Watched<W>,
-    err: &mut Watched<E>,
-) -> u8 {
-    let mut seen = Seen::new(rt.alloc());
-    let mut meter = Meter::new(rt);
-    let status = run_files(rt, task, &mut seen, &mut meter, out, err);
-    meter.clear();
-    match task.action {
-        Action::Count(layout) if status != 2 => {
-            status.max(count_run(rt.alloc(), layout, &seen, out, err))
-        }
-        _ => status,
-    }
-}
-
 // Does what the matches ask for, and returns the status.
 fn run_matches(rt: &HostRuntime, matches: &ArgMatches<'_>) -> u8 {
-    let mut out = Watched::new(rt.stdout());
-    let mut err = Watched::new(rt.stderr());
     match read_task(matches) {
-        Some(task) => run(rt, &task, &mut out, &mut err),
+        Some(task) => Session {
+            rt,
+            task: &task,
+            seen: Seen::new(rt.alloc()),
+            out: Watched::new(rt.stdout()),
+            err: Watched::new(rt.stderr()),
+        }
+        .run(),
         None => 2,
     }
 }

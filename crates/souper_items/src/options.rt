@@ -97,12 +97,13 @@ fn writer<'a>(alloc: Global, name: &'a str, about: &'a str) -> Result<Command<'a
         .arg(files_arg(alloc))
 }
 
-fn each<'a>(alloc: Global) -> Result<Command<'a>, AllocError> {
+fn format<'a>(alloc: Global) -> Result<Command<'a>, AllocError> {
     writer(
         alloc,
-        "each",
+        "format",
         "Writes the record of each item: its canonical text and an empty line",
     )?
+    .visible_alias("each")?
     .arg(flag(
         alloc,
         "jsonl",
@@ -128,7 +129,7 @@ fn uniq<'a>(alloc: Global) -> Result<Command<'a>, AllocError> {
 fn check<'a>(alloc: Global) -> Result<Command<'a>, AllocError> {
     Command::new(alloc, "check")
         .about(
-            "Says which files are not what each writes of them without options, and the first line that differs; each file is held in memory",
+            "Says which files are not what format writes of them without options, and the first line that differs; each file is held in memory",
         )
         .arg(kind_arg(alloc))?
         .arg(files_arg(alloc))
@@ -144,18 +145,9 @@ pub(crate) fn grammar<'a>(alloc: Global) -> Result<Command<'a>, AllocError> {
         )
         .subcommand_required(true)
         .arg_required_else_help(true)
-        .subcommand(each(alloc)?)?
+        .subcommand(format(alloc)?)?
         .subcommand(uniq(alloc)?)?
         .subcommand(check(alloc)?)
-}
-
-fn read_kind(word: &str) -> Option<Kind> {
-    match word {
-        "lhs" => Some(Kind::Lhs),
-        "rhs" => Some(Kind::Rhs),
-        "rep" => Some(Kind::Rep),
-        _ => None,
-    }
 }
 
 fn read_layout(options: &ArgMatches<'_>) -> Layout {
@@ -172,10 +164,10 @@ fn read_layout(options: &ArgMatches<'_>) -> Layout {
 
 fn read_action(name: &str, options: &ArgMatches<'_>) -> Option<Action> {
     match name {
-        "each" if options.get_flag("jsonl") => Some(Action::Objects {
+        "format" if options.get_flag("jsonl") => Some(Action::Objects {
             rename: options.get_flag("rename"),
         }),
-        "each" => Some(Action::Each(read_layout(options))),
+        "format" => Some(Action::Each(read_layout(options))),
         "uniq" if options.get_flag("count") => Some(Action::Count(read_layout(options))),
         "uniq" => Some(Action::Uniq(read_layout(options))),
         "check" => Some(Action::Check),
@@ -188,7 +180,7 @@ pub(crate) fn read_task<'m, 'a>(matches: &'m ArgMatches<'a>) -> Option<Task<'m, 
     let (name, options) = matches.subcommand()?;
     let action = read_action(name, options)?;
     Some(Task {
-        kind: read_kind(options.get_str("KIND")?)?,
+        kind: Kind::from_word(options.get_str("KIND")?)?,
         action,
         keep_going: !matches!(action, Action::Check) && options.get_flag("keep-going"),
         files: options.get_strs("FILE").unwrap_or_default(),

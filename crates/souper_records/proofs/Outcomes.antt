@@ -242,10 +242,13 @@ pub objects_wrote : {S : Type 0} (rename : Bool) (name : List ℕ) (idle : S →
 objects_wrote rename name idle wrote one a b out os e w = (texts_wrote idle wrote (piece_lines rename name) one a b out.before out.after os w e).1
 
 -- the records of first items
-pub firsts_wrote : {S : Type 0} (k : ItemType) (l : Layout) (seen : S → Seen) (wrote : S → Option (List ℕ) → S → Option (List ℕ) → Outcome → Type 0) → ((a b : S) (x y : Option (List ℕ)) (o : Outcome) → wrote a x b y o → WritesNewFirsts k l x y (seen a) (seen b) o.items)
-    → (a b : S) (x y : Option (List ℕ)) (os : List Outcome) → WroteEach wrote a x b y os → OfItems (WritesNewFirsts k l x y (seen a) (seen b)) os
-firsts_wrote k l seen wrote one = of_all wrote (λ a x b y os. WritesNewFirsts k l x y (seen a) (seen b) (items_of os)) (λ a x. keeps_none k l x (seen a))
-    (λ a b c x y z o os w rest. keeps_join k l x y z (seen a) (seen b) (seen c) o.items (items_of os) (one a b x y o w) rest)
+pub firsts_wrote : {S : Type 0} (k : ItemType) (l : Layout) (layout : S → Layout) (seen : S → Seen) (wrote : S → Option (List ℕ) → S → Option (List ℕ) → Outcome → Type 0)
+    → ((a b : S) (x y : Option (List ℕ)) (o : Outcome) → wrote a x b y o → (layout b ≡ layout a) × WritesNewFirsts k (layout a) x y (seen a) (seen b) o.items)
+    → (a b : S) (x y : Option (List ℕ)) (os : List Outcome) → WroteEach wrote a x b y os → layout a ≡ l → OfItems (WritesNewFirsts k l x y (seen a) (seen b)) os
+firsts_wrote k l layout seen wrote one = of_all wrote (λ a x b y os. layout a ≡ l → WritesNewFirsts k l x y (seen a) (seen b) (items_of os)) (λ a x is. keeps_none k l x (seen a))
+    (λ a b c x y z o os w rest is.
+    let first = one a b x y o w in
+    keeps_join k l x y z (seen a) (seen b) (seen c) o.items (items_of os) (subst (λ (q : Layout). WritesNewFirsts k q x y (seen a) (seen b) o.items) is first.1) (rest (first.0 ∙ is)))
 
 pub pieces_mapped : (k : ItemType) (file before after : Option (List ℕ)) (one other : List Outcome → Type 0) (err : Stream) (refused : Bool) → ((os : List Outcome) → one os → other os) → WritesPieces k file before after one err refused → WritesPieces k file before after other err refused
 pieces_mapped k file before after one other err refused f w = record {

@@ -25,7 +25,7 @@ use Rattle.souper_format.specs.Streams.{Stream}
 use Rattle.souper_records.specs.declared.layout.Layout.{Layout}
 use Rattle.souper_records.specs.declared.seen.Seen.{Seen}
 use Rattle.souper_records.specs.Records.{record_of_text, record_of, records_of}
-use Rattle.souper_records.specs.Uniques.{text_by, firsts, AreSame, AreFirsts, HasText, HasSeen, WritesFirsts, WritesFirstsUpTo, WritesFirstsBegun, WritesSeenFirsts, WritesNewFirsts}
+use Rattle.souper_records.specs.Uniques.{text_by, firsts, AreSame, AreFirsts, HasText, HasSeen, SeesMore, WritesFirsts, WritesFirstsUpTo, WritesFirstsBegun, WritesSeenFirsts, WritesNewFirsts}
 use Rattle.souper_records.specs.Firsts.{firsts_by}
 use Rattle.souper_records.specs.Counts.{count_of, counts_by, IsCounted}
 use Rattle.souper_records.proofs.Tallies.{index, counts-again, counts-new}
@@ -125,9 +125,8 @@ records_of_new k l before taken s t h j =
 abbrev pub Reached : ItemType → Layout → Option (List ℕ) → Option (List ℕ) → Option (List ℕ) → Option (List ℕ) → Seen → Seen → PartReader → Type 0
 Reached k l before mid old now s t p = (read : List ℕ) × (items : List Item) × HasRead k read items p × Consumes before mid read × WritesNewFirsts k l old now s t items
 
--- the items that were seen in one part
-abbrev pub SeesMore : ItemType → Bool → List Item → Seen → Seen → Type 0
-SeesMore k rename taken s t = (items : List Item) → HasSeen k rename items s → HasSeen k rename (items ++ taken) t
+pub sees_none : (k : ItemType) (rename : Bool) (s : Seen) → SeesMore k rename [] s s
+sees_none k rename s earlier seen = subst (λ (x : List Item). HasSeen k rename x s) (sym (append-nil earlier)) seen
 
 -- the records that were written of one part
 abbrev pub WritesNew : Layout → Option (List ℕ) → Option (List ℕ) → Seen → Seen → Type 0
@@ -155,7 +154,7 @@ keeps_both : (k : ItemType) (l : Layout) (old now new : Option (List ℕ)) (s t 
 keeps_both k l old now new s t u xs ys a more w = keeps_join k l old now new s t u xs ys a (keeps_one k l now new t u ys more w)
 
 pub keeps_none : (k : ItemType) (l : Layout) (old : Option (List ℕ)) (s : Seen) → WritesNewFirsts k l old old s s []
-keeps_none k l old s earlier seen = (subst (λ (x : List Item). HasSeen k l.rename x s) (sym (append-nil earlier)) seen, Appends-nil old)
+keeps_none k l old s earlier seen = (sees_none k l.rename s earlier seen, Appends-nil old)
 
 pub reached_none : (k : ItemType) (l : Layout) (before old : Option (List ℕ)) (s : Seen) (p : PartReader) → HasRead k [] [] p → Reached k l before before old old s s p
 reached_none k l before old s p h = ([], [], h, Consumes-nil before, keeps_none k l old s)
@@ -184,7 +183,7 @@ pub up_to_begun : (k : ItemType) (l : Layout) (earlier : List Item) (file : Opti
 up_to_begun k l earlier file before after out seen e w =
     record { read = w.read; after = after; items = w.items; first = w.first; consumed = w.consumed; begun = w.begun; are_firsts = w.are_firsts; written = w.written }
 
-module _ {S : Type 0} (k : ItemType) (l : Layout) (before mid after now : Option (List ℕ)) (out : Stream) {holds : S → List Item → Type 0} {a b : S} (s t u : Seen) (p : PartReader) (r : Reached k l before mid out.before now s t p) where
+module _ {S : Type 0} (k : ItemType) (l : Layout) (before mid after now : Option (List ℕ)) (out : Stream) {holds : S → S → List Item → Type 0} {a b : S} (s t u : Seen) (p : PartReader) (r : Reached k l before mid out.before now s t p) where
   pub reached_more : (q : PartReader) (ended : Bool) (m : ReadsPart k r.0 r.1 mid after holds a b q ended) → SeesMore k l.rename m.taken t u → WritesNew l now out.after t u → ended ≡ false → Reached k l before after out.before out.after s u q
   reached_more q ended m more w e = (
     r.0 ++ m.more,

@@ -36,7 +36,7 @@ reached_begun k l before mid out p r = record {
   written = r.4;
 }
 
-module _ {S : Type 0} (k : ItemType) (l : Layout) (before mid after now : Option (List ℕ)) (out : Stream) {holds : S → List Item → Type 0} {a b : S} (p : PartReader) (text : List ℕ) (r : Reached k l before mid out.before now p) where
+module _ {S : Type 0} (k : ItemType) (l : Layout) (before mid after now : Option (List ℕ)) (out : Stream) {holds : S → S → List Item → Type 0} {a b : S} (p : PartReader) (text : List ℕ) (r : Reached k l before mid out.before now p) where
   pub reached_more : (q : PartReader) (ended : Bool) (m : ReadsPart k r.0 r.1 mid after holds a b q ended) → text ≡ records_of l m.taken → Appends now out.after text → ended ≡ false → Reached k l before after out.before out.after q
   reached_more q ended m is w e = (
     r.0 ++ m.more,

@@ -11,13 +11,13 @@ use Rattle.souper_ir.specs.Places.{newlines}
 use Rattle.souper_stream.specs.Reading.{AreAll}
 use Rattle.souper_format.specs.Streams.{Stream, IsGiven, IsGivenNothing}
 use Rattle.souper_format.specs.Reporting.{ReportedLine}
-use Rattle.souper_records.specs.Records.{records_of, plain}
+use Rattle.souper_records.specs.Records.{records_of, AreRecordsOf, plain}
 use Rattle.souper_records.specs.Reports.{ReportedMemory, ReportedFault}
 use Rattle.souper_records.specs.Runs.{OnStatus}
 
 -- the text is the plain records of the items that it spells
 abbrev pub IsCanonical : ItemType → List ℕ → Type 0
-IsCanonical k text = (items : List Item) × TextSpells k text items × (text ≡ records_of plain items)
+IsCanonical k text = AreRecordsOf plain k text text
 
 -- the first bytes of the texts differ, or one of the texts has no bytes
 abbrev pub BeginApart : List ℕ → List ℕ → Type 0

@@ -1,11 +1,12 @@
 -- Definitions. The record of an item.
-use Rattle.std.specs.Prelude.{Bool, false, ℕ, List, [], ◌∷◌, ◌++◌, flat_map, codes, nat_eq, if◌then◌else◌}
+use Rattle.std.specs.Prelude.{◌≡◌, Bool, false, ℕ, List, [], ◌∷◌, ◌++◌, flat_map, codes, nat_eq, if◌then◌else◌}
 use Rattle.std.specs.List.{ends_with}
 use Rattle.sha2.specs.Sha256.{sha256}
 use Rattle.hex.specs.Hex.{encode_lower}
 use Rattle.souper_graph.specs.Values.{Item}
 use Rattle.souper_graph.specs.Text.{text_of}
 use Rattle.souper_graph.specs.Renaming.{renamed}
+use Rattle.souper_graph.specs.Syntax.Spelling.{ItemType, TextSpells}
 use Rattle.souper_records.specs.declared.layout.Delimiter.{Delimiter}
 use Rattle.souper_records.specs.declared.layout.Delimiter.TheVariants.{EmptyLine, Nul}
 use Rattle.souper_records.specs.declared.layout.Layout.{Layout}
@@ -42,6 +43,10 @@ record_of l a = record_of_text l (text_of (chosen l.rename a))
 -- the records of items
 abbrev pub records_of : Layout → List Item → List ℕ
 records_of l items = flat_map (record_of l) items
+
+-- the source spells items, and the bytes are their records
+abbrev pub AreRecordsOf : Layout → ItemType → List ℕ → List ℕ → Type 0
+AreRecordsOf l k source bytes = (items : List Item) × TextSpells k source items × (bytes ≡ records_of l items)
 
 -- canonical texts, an empty line after each
 abbrev pub plain : Layout

@@ -50,6 +50,10 @@ HasText k rename a = IsWellFormedOf k a × WellFormed (chosen rename a)
 abbrev pub HasSeen : ItemType → Bool → List Item → Seen → Type 0
 HasSeen k rename items s = AllByRecursion (HasText k rename) items × (map string_bytes s.texts.keys ≡ map (text_by rename) (firsts rename [] items)) × (s.counts.items ≡ counts_by (text_by rename) items)
 
+-- after the items that were seen before, whichever they are, these were seen
+abbrev pub SeesMore : ItemType → Bool → List Item → Seen → Seen → Type 0
+SeesMore k rename items before after = (earlier : List Item) → HasSeen k rename earlier before → HasSeen k rename (earlier ++ items) after
+
 -- All of the stream was read, and it spells items. Of these, those that are the same as no earlier one had their records
 -- written, and nothing else; and all were seen.
 pub record WritesFirsts (k : ItemType) (l : Layout) (earlier : List Item) (before after : Option (List ℕ)) (out : Stream) (seen : Seen) : Type 0 where

@@ -4,12 +4,11 @@ ghost use Rattle.souper_ir.specs.Answers.{IsStrError};
 ghost use Rattle.souper_format.specs.Streams.{stream};
 ghost use Rattle.souper_records.specs.Canonical.{IsCanonical, DifferOnLine, IsOtherLine, ReportedOtherLine, IsCheckRun};
 
-use crate::fixed::Plain;
 use crate::layout::PLAIN;
+use crate::records::records_of_text;
 use crate::report::{report_error, report_fault, report_line, report_memory};
-use crate::sink::Records;
 use souper_format::watched::Watched;
-use souper_ir::parse::{ParseError, WholeItem, parse_into};
+use souper_ir::parse::{ParseError, WholeItem};
 use std::alloc::Global;
 use std::io::{BufRead, ErrorKind, Write};
 use std::{io, str};
@@ -39,7 +38,7 @@ fn differing_line(text: &[u8], other: &[u8]) -> Option<usize>
 /// spells, as [`each`](crate::each::each) writes them in the layout [`PLAIN`]; none if it is canonical. If the text is a beginning of its
 /// canonical text, that is the line on which the rest would begin.
 ///
-/// It fails like [`parse_into`]: the text spells no such items, or memory ran out. The error shows `name` as the name of the text.
+/// It fails like [`parse_into`](souper_ir::parse::parse_into): the text spells no such items, or memory ran out. The error shows `name` as the name of the text.
 pub fn first_other_line<T: WholeItem + Drop>(
     alloc: Global,
     source: &str,
@@ -49,9 +48,8 @@ pub fn first_other_line<T: WholeItem + Drop>(
     ensures other { IfOk result (λ line. IfSome line (IsOtherLine T.item_type source.now)) }
     ensures refused { IfErr result (λ e. IsStrError T.item_type (Some name.now) source.now e) }
 {
-    let mut records = Records::<Plain>::new(alloc, PLAIN);
-    parse_into::<T, Records<Plain>>(alloc, source, Some(name), &mut records)?;
-    Ok(differing_line(source.as_bytes(), records.out.as_bytes()))
+    let records = records_of_text::<T>(alloc, PLAIN, source, Some(name))?;
+    Ok(differing_line(source.as_bytes(), records.as_bytes()))
 }
 
 // Reports on which line the text of this name is not canonical, and returns the status of the program.

@@ -7,7 +7,6 @@ ghost use Rattle.souper_format.specs.Watching.{has_failed};
 ghost use Rattle.souper_records.specs.Eaches.{WritesEach, WritesUpTo, WritesBegun, IfInput, UnlessOutput, IsStopOf};
 ghost use Rattle.souper_records.specs.declared.each.Stop.TheVariants.{Memory};
 
-use crate::fixed::Fixed;
 use crate::layout::Layout;
 use crate::sink::Records;
 use souper_format::watched::Watched;
@@ -16,7 +15,6 @@ use souper_stream::{PartReader, StreamItem};
 use std::alloc::{AllocError, Global};
 use std::io;
 use std::io::{BufRead, ErrorKind, Write};
-use std::marker::Brand;
 
 // Bytes to read before searching for a cut point.
 pub(crate) const CHUNK: usize = 65536;
@@ -53,14 +51,6 @@ impl From<AllocError> for Stop {
     }
 }
 
-// The name of a stream, and the layout of its records.
-#[derive(Clone, Copy)]
-pub(crate) struct Job<'a> {
-    pub(crate) layout: Layout,
-
-    pub(crate) name: &'a str,
-}
-
 pub(crate) fn write_text<W: Write>(text: &String, out: &mut Watched<W>) -> Result<(), Stop>
     ensures written { OnOk result (IsGiven (stream W.contents out.old out.new) (string_bytes text.now)) }
     ensures failed { IfErr result (λ stop. IfInput stop (λ e. ⊥) × UnlessOutput stop (has_failed out.new) ⊥) }
@@ -69,43 +59,6 @@ pub(crate) fn write_text<W: Write>(text: &String, out: &mut Watched<W>) -> Resul
         Ok(()) => Ok(()),
         Err(fault) => Err(Stop::Output(fault)),
     }
-}
-
-// Writes the records in the layout `L.layout`.
-fn each_fixed<L: Fixed, T: StreamItem + Drop, R: BufRead, W: Write>(
-    alloc: Global,
-    job: Job<'_>,
-    reader: &mut R,
-    out: &mut Watched<W>,
-) -> Result<(), Stop>
-    requires { job.layout ≡ L.layout }
-    ensures written { OnOk result (WritesEach T.item_type job.entry.layout (R.remaining reader.old) (R.remaining reader.new) (stream W.contents out.old out.new)) }
-    ensures refused { IfErr result (λ stop. IfInput stop (λ e. kind_of e ≡ ParseErrorKind.Parse
-        → WritesUpTo T.item_type job.entry.layout (Some job.entry.name.now) (R.remaining reader.old) (R.remaining reader.new) (stream W.contents out.old out.new) e)) }
-    ensures input { IfErr result (λ stop. IfInput stop (λ e. kind_of e ≡ ParseErrorKind.Memory → ⊥)) }
-    ensures stopped { IfErr result (λ stop. UnlessOutput stop (has_failed out.new)
-        (WritesBegun T.item_type job.entry.layout (R.remaining reader.old) (stream W.contents out.old out.new))) }
-{
-    let mut parts = PartReader::new(alloc, CHUNK);
-    let mut records = Records::<L>::new(alloc, job.layout);
-    for _turn in 0..u64::MAX {
-        records.out.clear();
-        match parts.read_part::<T, R, Records<L>>(alloc, reader, Some(job.name), &mut records) {
-            Ok(ended) => {
-                write_text(&records.out, out)?;
-                if ended {
-                    return Ok(());
-                }
-            }
-            Err(error) if error.kind() == ParseErrorKind::Parse => {
-                write_text(&records.out, out)?;
-                return Err(Stop::Input(error));
-            }
-            Err(error) => return Err(Stop::from(error)),
-        }
-    }
-    let fault = io::Error::from(ErrorKind::Other);
-    Err(Stop::Input(ParseError::from(fault)))
 }
 
 /// Writes the record of each item of the stream, in order, part by part ([`PartReader`], with 64 KiB).
@@ -127,6 +80,24 @@ pub fn each<T: StreamItem + Drop, R: BufRead, W: Write>(
     ensures stopped { IfErr result (λ stop. UnlessOutput stop (has_failed out.new)
         (WritesBegun T.item_type layout (R.remaining reader.old) (stream W.contents out.old out.new))) }
 {
-    let job = Job { layout, name };
-    each_fixed::<Brand, T, R, W>(alloc, job, reader, out)
+    let mut parts = PartReader::new(alloc, CHUNK);
+    let mut records = Records::new(alloc, layout);
+    for _turn in 0..u64::MAX {
+        records.out.clear();
+        match parts.read_part::<T, R, Records>(alloc, reader, Some(name), &mut records) {
+            Ok(ended) => {
+                write_text(&records.out, out)?;
+                if ended {
+                    return Ok(());
+                }
+            }
+            Err(error) if error.kind() == ParseErrorKind::Parse => {
+                write_text(&records.out, out)?;
+                return Err(Stop::Input(error));
+            }
+            Err(error) => return Err(Stop::from(error)),
+        }
+    }
+    let fault = io::Error::from(ErrorKind::Other);
+    Err(Stop::Input(ParseError::from(fault)))
 }

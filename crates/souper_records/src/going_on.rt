@@ -6,8 +6,7 @@ ghost use Rattle.souper_format.specs.Watching.{has_failed};
 ghost use Rattle.souper_records.specs.Eaches.{IfInput};
 ghost use Rattle.souper_records.specs.Outcomes.{WritesPieces, StopsAfter, OfItems, WritesRecords};
 
-use crate::each::{Job, Stop};
-use crate::fixed::Fixed;
+use crate::each::Stop;
 use crate::layout::Layout;
 use crate::pieces::write_pieces;
 use crate::sink::Records;
@@ -16,27 +15,6 @@ use souper_ir::parse::ParseErrorKind;
 use souper_stream::StreamItem;
 use std::alloc::Global;
 use std::io::{BufRead, Write};
-use std::marker::Brand;
-
-// Writes the records in the layout `L.layout`.
-fn each_fixed<L: Fixed, T: StreamItem + Drop, R: BufRead, W: Write, E: Write>(
-    alloc: Global,
-    job: Job<'_>,
-    reader: &mut R,
-    out: &mut Watched<W>,
-    err: &mut Watched<E>,
-) -> Result<bool, Stop>
-    requires { job.layout ≡ L.layout }
-    ensures written { IfOk result (λ refused. WritesPieces T.item_type (Some job.entry.name.now) (R.remaining reader.old) (R.remaining reader.new)
-        (OfItems (WritesRecords job.entry.layout (stream W.contents out.old out.new))) (stream E.contents err.old err.new) refused) }
-    ensures stopped { IfErr result (λ stop. StopsAfter T.item_type (Some job.entry.name.now) (R.remaining reader.old)
-        (OfItems (WritesRecords job.entry.layout (stream W.contents out.old out.new))) (has_failed out.new) (stream E.contents err.old err.new) stop) }
-    ensures input { IfErr result (λ stop. IfInput stop (λ e. kind_of e ≡ ParseErrorKind.Io)) }
-    ensures stays { has_failed err.old ≡ true → has_failed err.new ≡ true }
-{
-    let mut records = Records::<L>::new(alloc, job.layout);
-    write_pieces::<T, Records<L>, R, W, E>(alloc, job.name, &mut records, reader, out, err)
-}
 
 /// Writes the record of each item of the stream, in order, segment by segment ([`PieceReader`](souper_stream::PieceReader)), and returns
 /// whether a segment was refused. For a refused segment the records of items that it begins with are written, and the refusal is written
@@ -60,6 +38,6 @@ pub fn each_going_on<T: StreamItem + Drop, R: BufRead, W: Write, E: Write>(
     ensures input { IfErr result (λ stop. IfInput stop (λ e. kind_of e ≡ ParseErrorKind.Io)) }
     ensures stays { has_failed err.old ≡ true → has_failed err.new ≡ true }
 {
-    let job = Job { layout, name };
-    each_fixed::<Brand, T, R, W, E>(alloc, job, reader, out, err)
+    let mut records = Records::new(alloc, layout);
+    write_pieces::<T, Records, R, W, E>(alloc, name, &mut records, reader, out, err)
 }

@@ -6,7 +6,6 @@
 pub mod check;
 pub mod counts;
 pub mod each;
-mod fixed;
 pub mod going_on;
 pub mod laws;
 pub mod layout;

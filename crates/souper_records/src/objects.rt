@@ -1,6 +1,5 @@
 //! A JSON object for each item and each refusal of a stream, each on a line of its own.
 ghost use Rattle.std.specs.Prelude.{◌≡◌, ◌++◌, [], true, false, map, flat_map, Option, Some, IfOk, IfErr, OnOk, option_copied};
-ghost use Rattle.std.specs.Coded.{Coded-set};
 ghost use Rattle.std.specs.Io.KnownBytes.{Appends};
 ghost use Rattle.std.specs.String.{string_bytes};
 ghost use Rattle.souper_ir.specs.Errors.{kind_of};
@@ -13,9 +12,7 @@ ghost use Rattle.souper_records.specs.Uniques.{text_by};
 ghost use Rattle.serde_json.specs.View.{view};
 ghost use Rattle.serde_json.specs.Written.{has_float};
 
-use crate::each::{Job, Stop, write_text};
-use crate::fixed::Fixed;
-use crate::layout::{Layout, PLAIN};
+use crate::each::{Stop, write_text};
 use crate::pieces::{PieceSink, Place, write_pieces};
 use crate::records::{append_text, key_of};
 use serde_json::{Value, json};
@@ -24,7 +21,6 @@ use souper_ir::parse::{ParseError, ParseErrorKind, Sink, WholeItem};
 use souper_stream::StreamItem;
 use std::alloc::{AllocError, Global};
 use std::io::{BufRead, Write};
-use std::marker::{Brand, PhantomData};
 
 // A number that may be missing.
 fn number(n: Option<usize>) -> Value
@@ -110,34 +106,33 @@ fn piece_lines(
 
 // A sink that keeps the texts of a segment's items, for their objects.
 #[derive(Drop)]
-struct Objects<L: Fixed> {
+struct Objects {
     alloc: Global,
-    layout: Layout,
+
+    // Whether the texts have names by the printed order.
+    rename: bool,
     texts: Vec<String>,
-    fixed: PhantomData<L>,
-    ghost stays: { layout ≡ L.layout } by { Coded-set layout-code layout L.layout },
 }
 
-impl<L: Fixed> Objects<L> {
-    fn new(alloc: Global, layout: Layout) -> Self
-        requires { layout ≡ L.layout }
-        ensures { result.texts.items ≡ [] }
+impl Objects {
+    fn new(alloc: Global, rename: bool) -> Self
+        ensures rename { result.rename ≡ rename }
+        ensures texts { result.texts.items ≡ [] }
     {
         Objects {
             alloc,
-            layout,
+            rename,
             texts: Vec::new(alloc),
-            fixed: PhantomData::<L>,
         }
     }
 }
 
-impl<L: Fixed, T: WholeItem + Drop> Sink<T> for Objects<L> {
-    ghost holds = { λ objects items. map string_bytes objects.texts.items ≡ map (text_by L.layout.rename) items };
+impl<T: WholeItem + Drop> Sink<T> for Objects {
+    ghost holds = { λ first objects items. (objects.rename ≡ first.rename) × (map string_bytes objects.texts.items ≡ map (text_by first.rename) items) };
 
     fn take(&mut self, item: T) -> Result<(), AllocError> {
         let mut text = String::new(self.alloc);
-        append_text(self.layout.rename, &item, &mut text)?;
+        append_text(self.rename, &item, &mut text)?;
         match self.texts.push(text) {
             Ok(()) => Ok(()),
             Err(_) => Err(AllocError),
@@ -146,10 +141,10 @@ impl<L: Fixed, T: WholeItem + Drop> Sink<T> for Objects<L> {
 }
 
 // Writes the objects of each segment, and drops the texts.
-impl<L: Fixed, T: StreamItem + Drop> PieceSink<T> for Objects<L> {
+impl<T: StreamItem + Drop> PieceSink<T> for Objects {
     ghost marks = { λ objects. 0 };
 
-    ghost wrote = { λ name a x b y o. a.texts.items ≡ [] → (b.texts.items ≡ []) × Appends x y (piece_lines L.layout.rename name o) };
+    ghost wrote = { λ name a x b y o. a.texts.items ≡ [] → (b.rename ≡ a.rename) × (b.texts.items ≡ []) × Appends x y (piece_lines a.rename name o) };
 
     fn mark(&self) -> usize {
         0
@@ -168,26 +163,6 @@ impl<L: Fixed, T: StreamItem + Drop> PieceSink<T> for Objects<L> {
         self.texts.clear();
         Ok(())
     }
-}
-
-// Writes the objects of items in the layout `L.layout`.
-fn write_fixed<L: Fixed, T: StreamItem + Drop, R: BufRead, W: Write, E: Write>(
-    alloc: Global,
-    job: Job<'_>,
-    reader: &mut R,
-    out: &mut Watched<W>,
-    err: &mut Watched<E>,
-) -> Result<bool, Stop>
-    requires { job.layout ≡ L.layout }
-    ensures written { IfOk result (λ refused. WritesPieces T.item_type (Some job.entry.name.now) (R.remaining reader.old) (R.remaining reader.new)
-        (WritesObjects job.entry.layout.rename job.entry.name.now (stream W.contents out.old out.new)) (stream E.contents err.old err.new) refused) }
-    ensures stopped { IfErr result (λ stop. StopsAfter T.item_type (Some job.entry.name.now) (R.remaining reader.old)
-        (WritesObjects job.entry.layout.rename job.entry.name.now (stream W.contents out.old out.new)) (has_failed out.new) (stream E.contents err.old err.new) stop) }
-    ensures input { IfErr result (λ stop. IfInput stop (λ e. kind_of e ≡ ParseErrorKind.Io)) }
-    ensures stays { has_failed err.old ≡ true → has_failed err.new ≡ true }
-{
-    let mut objects = Objects::<L>::new(alloc, job.layout);
-    write_pieces::<T, Objects<L>, R, W, E>(alloc, job.name, &mut objects, reader, out, err)
 }
 
 /// Writes a JSON object for each item of the stream and each refusal, in order, each on a line of its own, and resumes after a refusal
@@ -216,7 +191,6 @@ pub fn write_objects<T: StreamItem + Drop, R: BufRead, W: Write, E: Write>(
     ensures input { IfErr result (λ stop. IfInput stop (λ e. kind_of e ≡ ParseErrorKind.Io)) }
     ensures stays { has_failed err.old ≡ true → has_failed err.new ≡ true }
 {
-    let layout = Layout { rename, ..PLAIN };
-    let job = Job { layout, name };
-    write_fixed::<Brand, T, R, W, E>(alloc, job, reader, out, err)
+    let mut objects = Objects::new(alloc, rename);
+    write_pieces::<T, Objects, R, W, E>(alloc, name, &mut objects, reader, out, err)
 }

@@ -10,7 +10,8 @@ ghost use Rattle.souper_records.specs.Eaches.{IfInput, UnlessOutput};
 ghost use Rattle.souper_records.specs.Outcomes.{Outcome, WritesPiece, WritesPieces, StopsAfter, WroteEach};
 
 use crate::each::Stop;
-use crate::report::{line_of_error, report_line};
+use crate::report::report_line;
+use souper_format::report::line_of_error;
 use souper_format::watched::Watched;
 use souper_ir::parse::{ParseError, ParseErrorKind, Sink};
 use souper_stream::{PieceReader, StreamItem};

@@ -1,13 +1,17 @@
 //! The record of an item.
-ghost use Rattle.std.specs.Prelude.{◌≡◌, ◌++◌, map, flat_map, IfOk, OnOk};
+ghost use Rattle.std.specs.Prelude.{◌≡◌, ◌++◌, [], map, flat_map, IfOk, IfErr, IsOkAnd, OnOk, option_copied};
 ghost use Rattle.std.specs.String.{string_bytes};
 ghost use Rattle.souper_graph.specs.Text.{text_of};
 ghost use Rattle.souper_graph.specs.WellFormed.{WellFormed};
-ghost use Rattle.souper_records.specs.Records.{chosen, key_of, key_line, delimited, record_of_text, record_of};
+ghost use Rattle.souper_graph.specs.Syntax.Tokens.{IsLastGap};
+ghost use Rattle.souper_ir.specs.Answers.{IsStrError};
+ghost use Rattle.souper_records.specs.Records.{chosen, key_of, key_line, delimited, record_of_text, record_of, AreRecordsOf};
 
 use crate::layout::{Delimiter, Layout};
+use crate::sink::Records;
 use sha2::{Digest, Sha256};
 use souper_ir::ast::Item;
+use souper_ir::parse::{ParseError, WholeItem, parse_into};
 use std::alloc::{AllocError, Global};
 
 // Appends the canonical text of the item.
@@ -121,4 +125,23 @@ pub fn append_record<T: Item + Drop>(
     text.clear();
     append_text(layout.rename, item, text)?;
     append_record_of_text(alloc, layout, text.as_str(), out)
+}
+
+/// The records of the items that a text spells, in order. An item's record is made when it has been read, and the item is dropped.
+///
+/// It fails like [`parse_into`]: the text spells no such items, or memory ran out. The error shows `filename` as the name of the text.
+/// A text of white space and comments alone has no records, and never runs out of memory.
+pub fn records_of_text<T: WholeItem + Drop>(
+    alloc: Global,
+    layout: Layout,
+    source: &str,
+    filename: Option<&str>,
+) -> Result<String, ParseError>
+    ensures recorded { IfOk result (λ out. AreRecordsOf layout T.item_type source.now (string_bytes out)) }
+    ensures refused { IfErr result (λ e. IsStrError T.item_type (option_copied filename.entry) source.now e) }
+    ensures gaps { IsLastGap source.now → IsOkAnd result (λ out. string_bytes out ≡ []) }
+{
+    let mut records = Records::new(alloc, layout);
+    parse_into::<T, Records>(alloc, source, filename, &mut records)?;
+    Ok(records.out)
 }

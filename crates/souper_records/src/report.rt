@@ -1,10 +1,10 @@
 //! The lines that report an error, each to a stream that may fail.
 ghost use Rattle.std.specs.Prelude.{◌≡◌, true, false, string_bytes, IfOk};
-ghost use Rattle.souper_format.specs.Reporting.{IsErrorLine};
 ghost use Rattle.souper_format.specs.Streams.{stream, IsGiven};
 ghost use Rattle.souper_format.specs.Watching.{has_failed};
 ghost use Rattle.souper_records.specs.Reports.{named_line, IsNamedLine, ReportedMemory, Reported, ReportedFault, ReportedError};
 
+use souper_format::report::line_of_error;
 use souper_format::watched::Watched;
 use souper_ir::parse::{ParseError, ParseErrorKind};
 use std::alloc::{AllocError, Global};
@@ -52,14 +52,6 @@ pub fn report_fault<E: Write>(alloc: Global, name: &str, fault: &io::Error, err:
         Ok(says) => report(alloc, name, says.as_str(), err),
         Err(_) => report_memory(err),
     }
-}
-
-pub(crate) fn line_of_error(alloc: Global, error: &ParseError) -> Result<String, AllocError>
-    ensures { IfOk result (λ line. IsErrorLine error.now (string_bytes line)) }
-{
-    let mut line = error.to_string(alloc)?;
-    line.push('\n')?;
-    Ok(line)
 }
 
 /// Writes the line.

@@ -1,12 +1,10 @@
 //! A sink that makes the records of items.
 ghost use Rattle.std.specs.Prelude.{◌≡◌, []};
-ghost use Rattle.std.specs.Coded.{Coded-set};
 ghost use Rattle.std.specs.Io.KnownBytes.{Appends};
 ghost use Rattle.std.specs.String.{string_bytes};
 ghost use Rattle.souper_records.specs.Records.{records_of};
 
 use crate::each::{Stop, write_text};
-use crate::fixed::Fixed;
 use crate::layout::Layout;
 use crate::pieces::{PieceSink, Place};
 use crate::records::append_record;
@@ -15,11 +13,10 @@ use souper_ir::parse::{ParseError, Sink, WholeItem};
 use souper_stream::StreamItem;
 use std::alloc::{AllocError, Global};
 use std::io::Write;
-use std::marker::PhantomData;
 
 /// The records of the items that were taken.
 #[derive(Drop)]
-pub(crate) struct Records<L: Fixed> {
+pub(crate) struct Records {
     alloc: Global,
     layout: Layout,
 
@@ -28,27 +25,24 @@ pub(crate) struct Records<L: Fixed> {
 
     /// The records, in order.
     pub(crate) out: String,
-    fixed: PhantomData<L>,
-    ghost stays: { layout ≡ L.layout } by { Coded-set layout-code layout L.layout },
 }
 
-impl<L: Fixed> Records<L> {
+impl Records {
     pub(crate) fn new(alloc: Global, layout: Layout) -> Self
-        requires { layout ≡ L.layout }
-        ensures { string_bytes result.out ≡ [] }
+        ensures layout { result.layout ≡ layout }
+        ensures out { string_bytes result.out ≡ [] }
     {
         Records {
             alloc,
             layout,
             text: String::new(alloc),
             out: String::new(alloc),
-            fixed: PhantomData::<L>,
         }
     }
 }
 
-impl<L: Fixed, T: WholeItem + Drop> Sink<T> for Records<L> {
-    ghost holds = { λ records items. string_bytes records.out ≡ records_of L.layout items };
+impl<T: WholeItem + Drop> Sink<T> for Records {
+    ghost holds = { λ first records items. (records.layout ≡ first.layout) × (string_bytes records.out ≡ records_of first.layout items) };
 
     fn take(&mut self, item: T) -> Result<(), AllocError> {
         append_record(
@@ -62,10 +56,10 @@ impl<L: Fixed, T: WholeItem + Drop> Sink<T> for Records<L> {
 }
 
 // Writes the records of each segment, and drops them.
-impl<L: Fixed, T: StreamItem + Drop> PieceSink<T> for Records<L> {
+impl<T: StreamItem + Drop> PieceSink<T> for Records {
     ghost marks = { λ records. 0 };
 
-    ghost wrote = { λ name a x b y o. string_bytes a.out ≡ [] → (string_bytes b.out ≡ []) × Appends x y (records_of L.layout o.items) };
+    ghost wrote = { λ name a x b y o. string_bytes a.out ≡ [] → (b.layout ≡ a.layout) × (string_bytes b.out ≡ []) × Appends x y (records_of a.layout o.items) };
 
     fn mark(&self) -> usize {
         0

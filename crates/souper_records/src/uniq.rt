@@ -1,6 +1,5 @@
 //! The record of the first item of each graph in streams.
 ghost use Rattle.std.specs.Prelude.{◌≡◌, List, map, flat_map, drop, length, Some, OnOk, IfErr};
-ghost use Rattle.std.specs.Coded.{Coded-set};
 ghost use Rattle.std.specs.String.{string_bytes};
 ghost use Rattle.souper_graph.specs.Values.{Item};
 ghost use Rattle.souper_ir.specs.Errors.{kind_of};
@@ -8,10 +7,9 @@ ghost use Rattle.souper_format.specs.Streams.{stream, IsGiven};
 ghost use Rattle.souper_format.specs.Watching.{has_failed};
 ghost use Rattle.souper_records.specs.Eaches.{IfInput, UnlessOutput};
 ghost use Rattle.souper_records.specs.Records.{record_of_text};
-ghost use Rattle.souper_records.specs.Uniques.{HasSeen, WritesFirsts, WritesFirstsUpTo, WritesFirstsBegun, WritesNewFirsts};
+ghost use Rattle.souper_records.specs.Uniques.{HasSeen, SeesMore, WritesFirsts, WritesFirstsUpTo, WritesFirstsBegun, WritesNewFirsts};
 
-use crate::each::{CHUNK, Job, Stop, write_text};
-use crate::fixed::Fixed;
+use crate::each::{CHUNK, Stop, write_text};
 use crate::layout::Layout;
 use crate::pieces::{PieceSink, Place};
 use crate::records::{append_text, records_of_texts};
@@ -21,39 +19,35 @@ use souper_ir::parse::{ParseError, ParseErrorKind, Sink, WholeItem};
 use souper_stream::{PartReader, StreamItem};
 use std::alloc::{AllocError, Global};
 use std::io::{BufRead, ErrorKind, Write};
-use std::marker::{Brand, PhantomData};
 use std::{io, mem};
 
 // A sink that keeps the text of the first item of each graph.
 #[derive(Drop)]
-pub(crate) struct Firsts<L: Fixed> {
+pub(crate) struct Firsts {
     alloc: Global,
     layout: Layout,
 
     // For the text of one item.
     text: String,
     pub(crate) seen: Seen,
-    fixed: PhantomData<L>,
-    ghost stays: { layout ≡ L.layout } by { Coded-set layout-code layout L.layout },
 }
 
-impl<L: Fixed> Firsts<L> {
+impl Firsts {
     pub(crate) fn new(alloc: Global, layout: Layout, seen: Seen) -> Self
-        requires { layout ≡ L.layout }
-        ensures { result.seen ≡ seen }
+        ensures layout { result.layout ≡ layout }
+        ensures seen { result.seen ≡ seen }
     {
         Firsts {
             alloc,
             layout,
             text: String::new(alloc),
             seen,
-            fixed: PhantomData::<L>,
         }
     }
 }
 
-impl<L: Fixed, T: WholeItem + Drop> Sink<T> for Firsts<L> {
-    ghost holds = { λ firsts items. HasSeen T.item_type L.layout.rename items firsts.seen };
+impl<T: WholeItem + Drop> Sink<T> for Firsts {
+    ghost holds = { λ first firsts items. (firsts.layout ≡ first.layout) × SeesMore T.item_type first.layout.rename items first.seen firsts.seen };
 
     fn take(&mut self, item: T) -> Result<(), AllocError> {
         self.text.clear();
@@ -67,10 +61,10 @@ impl<L: Fixed, T: WholeItem + Drop> Sink<T> for Firsts<L> {
 }
 
 // Writes the records of each segment's first items, which come after the mark.
-impl<L: Fixed, T: StreamItem + Drop> PieceSink<T> for Firsts<L> {
+impl<T: StreamItem + Drop> PieceSink<T> for Firsts {
     ghost marks = { λ firsts. length firsts.seen.texts.keys };
 
-    ghost wrote = { λ name a x b y o. WritesNewFirsts T.item_type L.layout x y a.seen b.seen o.items };
+    ghost wrote = { λ name a x b y o. (b.layout ≡ a.layout) × WritesNewFirsts T.item_type a.layout x y a.seen b.seen o.items };
 
     fn mark(&self) -> usize {
         self.seen.texts.len()
@@ -106,35 +100,46 @@ fn write_texts<W: Write>(
 }
 
 // Writes the records of first items with this sink.
-fn uniq_parts<L: Fixed, T: StreamItem + Drop, R: BufRead, W: Write>(
+fn uniq_parts<T: StreamItem + Drop, R: BufRead, W: Write>(
     alloc: Global,
-    job: Job<'_>,
-    firsts: &mut Firsts<L>,
+    name: &str,
+    firsts: &mut Firsts,
     reader: &mut R,
     out: &mut Watched<W>,
 ) -> Result<(), Stop>
-    requires { job.layout ≡ L.layout }
-    ensures written { OnOk result ((earlier : List Item) → HasSeen T.item_type job.entry.layout.rename earlier firsts.old.seen
-        → WritesFirsts T.item_type job.entry.layout earlier (R.remaining reader.old) (R.remaining reader.new) (stream W.contents out.old out.new) firsts.new.seen) }
+    ensures written { OnOk result ((earlier : List Item) → HasSeen T.item_type firsts.old.layout.rename earlier firsts.old.seen
+        → WritesFirsts T.item_type firsts.old.layout earlier (R.remaining reader.old) (R.remaining reader.new) (stream W.contents out.old out.new) firsts.new.seen) }
     ensures refused { IfErr result (λ stop. IfInput stop (λ e. kind_of e ≡ ParseErrorKind.Parse
-        → (earlier : List Item) → HasSeen T.item_type job.entry.layout.rename earlier firsts.old.seen
-        → WritesFirstsUpTo T.item_type job.entry.layout earlier (Some job.entry.name.now) (R.remaining reader.old) (R.remaining reader.new) (stream W.contents out.old out.new) firsts.new.seen e)) }
+        → (earlier : List Item) → HasSeen T.item_type firsts.old.layout.rename earlier firsts.old.seen
+        → WritesFirstsUpTo T.item_type firsts.old.layout earlier (Some name.now) (R.remaining reader.old) (R.remaining reader.new) (stream W.contents out.old out.new) firsts.new.seen e)) }
     ensures input { IfErr result (λ stop. IfInput stop (λ e. kind_of e ≡ ParseErrorKind.Memory → ⊥)) }
-    ensures stopped { IfErr result (λ stop. UnlessOutput stop (has_failed out.new) ((earlier : List Item) → HasSeen T.item_type job.entry.layout.rename earlier firsts.old.seen
-        → WritesFirstsBegun T.item_type job.entry.layout earlier (R.remaining reader.old) (stream W.contents out.old out.new))) }
+    ensures stopped { IfErr result (λ stop. UnlessOutput stop (has_failed out.new) ((earlier : List Item) → HasSeen T.item_type firsts.old.layout.rename earlier firsts.old.seen
+        → WritesFirstsBegun T.item_type firsts.old.layout earlier (R.remaining reader.old) (stream W.contents out.old out.new))) }
 {
     let mut parts = PartReader::new(alloc, CHUNK);
     for _turn in 0..u64::MAX {
         let start = firsts.seen.texts.len();
-        match parts.read_part::<T, R, Firsts<L>>(alloc, reader, Some(job.name), firsts) {
+        match parts.read_part::<T, R, Firsts>(alloc, reader, Some(name), firsts) {
             Ok(ended) => {
-                write_texts(alloc, job.layout, firsts.seen.texts.as_slice(), start, out)?;
+                write_texts(
+                    alloc,
+                    firsts.layout,
+                    firsts.seen.texts.as_slice(),
+                    start,
+                    out,
+                )?;
                 if ended {
                     return Ok(());
                 }
             }
             Err(error) if error.kind() == ParseErrorKind::Parse => {
-                write_texts(alloc, job.layout, firsts.seen.texts.as_slice(), start, out)?;
+                write_texts(
+                    alloc,
+                    firsts.layout,
+                    firsts.seen.texts.as_slice(),
+                    start,
+                    out,
+                )?;
                 return Err(Stop::Input(error));
             }
             Err(error) => return Err(Stop::from(error)),
@@ -142,31 +147,6 @@ fn uniq_parts<L: Fixed, T: StreamItem + Drop, R: BufRead, W: Write>(
     }
     let fault = io::Error::from(ErrorKind::Other);
     Err(Stop::Input(ParseError::from(fault)))
-}
-
-// Writes the records of first items in the layout `L.layout`.
-fn uniq_fixed<L: Fixed, T: StreamItem + Drop, R: BufRead, W: Write>(
-    alloc: Global,
-    job: Job<'_>,
-    seen: &mut Seen,
-    reader: &mut R,
-    out: &mut Watched<W>,
-) -> Result<(), Stop>
-    requires { job.layout ≡ L.layout }
-    ensures written { OnOk result ((earlier : List Item) → HasSeen T.item_type job.entry.layout.rename earlier seen.old
-        → WritesFirsts T.item_type job.entry.layout earlier (R.remaining reader.old) (R.remaining reader.new) (stream W.contents out.old out.new) seen.new) }
-    ensures refused { IfErr result (λ stop. IfInput stop (λ e. kind_of e ≡ ParseErrorKind.Parse
-        → (earlier : List Item) → HasSeen T.item_type job.entry.layout.rename earlier seen.old
-        → WritesFirstsUpTo T.item_type job.entry.layout earlier (Some job.entry.name.now) (R.remaining reader.old) (R.remaining reader.new) (stream W.contents out.old out.new) seen.new e)) }
-    ensures input { IfErr result (λ stop. IfInput stop (λ e. kind_of e ≡ ParseErrorKind.Memory → ⊥)) }
-    ensures stopped { IfErr result (λ stop. UnlessOutput stop (has_failed out.new) ((earlier : List Item) → HasSeen T.item_type job.entry.layout.rename earlier seen.old
-        → WritesFirstsBegun T.item_type job.entry.layout earlier (R.remaining reader.old) (stream W.contents out.old out.new))) }
-{
-    let taken = mem::replace(seen, Seen::new(alloc));
-    let mut firsts = Firsts::<L>::new(alloc, job.layout, taken);
-    let result = uniq_parts::<L, T, R, W>(alloc, job, &mut firsts, reader, out);
-    *seen = firsts.seen;
-    result
 }
 
 /// Writes the record of each item of the stream that is the same graph as no earlier one, of this stream or of those before: of
@@ -193,6 +173,9 @@ pub fn uniq<T: StreamItem + Drop, R: BufRead, W: Write>(
     ensures stopped { IfErr result (λ stop. UnlessOutput stop (has_failed out.new) ((earlier : List Item) → HasSeen T.item_type layout.rename earlier seen.old
         → WritesFirstsBegun T.item_type layout earlier (R.remaining reader.old) (stream W.contents out.old out.new))) }
 {
-    let job = Job { layout, name };
-    uniq_fixed::<Brand, T, R, W>(alloc, job, seen, reader, out)
+    let taken = mem::replace(seen, Seen::new(alloc));
+    let mut firsts = Firsts::new(alloc, layout, taken);
+    let result = uniq_parts::<T, R, W>(alloc, name, &mut firsts, reader, out);
+    *seen = firsts.seen;
+    result
 }

@@ -8,8 +8,7 @@ ghost use Rattle.souper_records.specs.Eaches.{IfInput};
 ghost use Rattle.souper_records.specs.Outcomes.{WritesPieces, StopsAfter, OfItems};
 ghost use Rattle.souper_records.specs.Uniques.{HasSeen, WritesFirstRecords, WritesSeenFirsts};
 
-use crate::each::{Job, Stop};
-use crate::fixed::Fixed;
+use crate::each::Stop;
 use crate::layout::Layout;
 use crate::pieces::write_pieces;
 use crate::seen::Seen;
@@ -19,41 +18,7 @@ use souper_ir::parse::ParseErrorKind;
 use souper_stream::StreamItem;
 use std::alloc::Global;
 use std::io::{BufRead, Write};
-use std::marker::Brand;
 use std::mem;
-
-// Writes the records of first items in the layout `L.layout`.
-fn uniq_fixed<L: Fixed, T: StreamItem + Drop, R: BufRead, W: Write, E: Write>(
-    alloc: Global,
-    job: Job<'_>,
-    seen: &mut Seen,
-    reader: &mut R,
-    out: &mut Watched<W>,
-    err: &mut Watched<E>,
-) -> Result<bool, Stop>
-    requires { job.layout ≡ L.layout }
-    ensures written { IfOk result (λ refused. (earlier : List Item) → HasSeen T.item_type job.entry.layout.rename earlier seen.old
-        → WritesPieces T.item_type (Some job.entry.name.now) (R.remaining reader.old) (R.remaining reader.new)
-        (OfItems (WritesSeenFirsts T.item_type job.entry.layout earlier (stream W.contents out.old out.new) seen.new)) (stream E.contents err.old err.new) refused) }
-    ensures stopped { IfErr result (λ stop. (earlier : List Item) → HasSeen T.item_type job.entry.layout.rename earlier seen.old
-        → StopsAfter T.item_type (Some job.entry.name.now) (R.remaining reader.old)
-        (OfItems (WritesFirstRecords job.entry.layout earlier (stream W.contents out.old out.new))) (has_failed out.new) (stream E.contents err.old err.new) stop) }
-    ensures input { IfErr result (λ stop. IfInput stop (λ e. kind_of e ≡ ParseErrorKind.Io)) }
-    ensures stays { has_failed err.old ≡ true → has_failed err.new ≡ true }
-{
-    let taken = mem::replace(seen, Seen::new(alloc));
-    let mut firsts = Firsts::<L>::new(alloc, job.layout, taken);
-    let result = write_pieces::<T, Firsts<L>, R, W, E>(
-        alloc,
-        job.name,
-        &mut firsts,
-        reader,
-        out,
-        err,
-    );
-    *seen = firsts.seen;
-    result
-}
 
 /// Writes the record of each item of the stream that is the same graph as no earlier one ([`uniq`](crate::uniq::uniq)), segment by
 /// segment ([`PieceReader`](souper_stream::PieceReader)), and returns whether a segment was refused. For a refused segment this is done
@@ -81,6 +46,9 @@ pub fn uniq_going_on<T: StreamItem + Drop, R: BufRead, W: Write, E: Write>(
     ensures input { IfErr result (λ stop. IfInput stop (λ e. kind_of e ≡ ParseErrorKind.Io)) }
     ensures stays { has_failed err.old ≡ true → has_failed err.new ≡ true }
 {
-    let job = Job { layout, name };
-    uniq_fixed::<Brand, T, R, W, E>(alloc, job, seen, reader, out, err)
+    let taken = mem::replace(seen, Seen::new(alloc));
+    let mut firsts = Firsts::new(alloc, layout, taken);
+    let result = write_pieces::<T, Firsts, R, W, E>(alloc, name, &mut firsts, reader, out, err);
+    *seen = firsts.seen;
+    result
 }

@@ -109,7 +109,7 @@ some_is : (a b : ℕ) → Some a ≡ Some b → a ≡ b
 some_is a b e = cc
 
 -- the offset of any error of the part is in the buffer
-pub offset_held : (k : ItemType) (ended : Bool) (h : Held) {S : Type 0} (holds : S → List Item → Type 0) (old new : S) (e : ParseError) → h.skipped ≤ length h.bytes.items → (kind_of e ≡ Parse → IsRefusedPart k ended (fresh h) holds old new e)
+pub offset_held : (k : ItemType) (ended : Bool) (h : Held) {S : Type 0} (holds : S → S → List Item → Type 0) (old new : S) (e : ParseError) → h.skipped ≤ length h.bytes.items → (kind_of e ≡ Parse → IsRefusedPart k ended (fresh h) holds old new e)
     → IfSome (offset_of e) (λ o. h.skipped + o ≤ length h.bytes.items)
 offset_held k ended h holds old new e within part = under e.cause refl
   where
@@ -126,7 +126,7 @@ offset_held k ended h holds old new e within part = under e.cause refl
         rw at (omega arith)
 
 -- the text read spells no items, whatever follows
-pub part_refused : (k : ItemType) (file : Option (List ℕ)) (ended : Bool) (all : Type 0) {S : Type 0} (holds : S → List Item → Type 0) (old new : S) (read : List ℕ) (items : List Item) (h : Held) (e shown : ParseError)
+pub part_refused : (k : ItemType) (file : Option (List ℕ)) (ended : Bool) (all : Type 0) {S : Type 0} (holds : S → S → List Item → Type 0) (old new : S) (read : List ℕ) (items : List Item) (h : Held) (e shown : ParseError)
     → IsHeld k read items h → (ended ≡ true → all) → IsRefusedPart k ended (fresh h) holds old new e → kind_of e ≡ Parse → kind_of shown ≡ Parse → IsLocatedAfter file h.before h.bytes.items h.skipped e shown
     → IsRefused k file all read items holds old new shown
 part_refused k file ended all holds old new read items h e shown p at_end part kind shown_kind located =

@@ -316,7 +316,7 @@ empty_ended before after old new false line r e = let some = line_some line (inl
 -- ---- the segment that was parsed
 
 -- its refusal
-pub piece_refused : {S : Type 0} (k : ItemType) (file : Option (List ℕ)) (h : Held) (len : ℕ) (holds : S → List Item → Type 0) (old new : S) (text : List ℕ) (e shown : ParseError) → text ≡ take len (fresh h) → len ≤ length (fresh h)
+pub piece_refused : {S : Type 0} (k : ItemType) (file : Option (List ℕ)) (h : Held) (len : ℕ) (holds : S → S → List Item → Type 0) (old new : S) (text : List ℕ) (e shown : ParseError) → text ≡ take len (fresh h) → len ≤ length (fresh h)
     → (kind_of e ≡ Parse → TakesPrefix holds k text old new) → IsStrError k None text e → kind_of shown ≡ Parse → IsLocatedAfter file h.before h.bytes.items h.skipped e shown → RefusesBytes k file h len holds old new shown
 piece_refused k file h len holds old new text e shown is within begun error shown_kind located =
     let kind = located_kind file h.before h.bytes.items h.skipped e shown located shown_kind in
@@ -339,7 +339,7 @@ piece_done k start now ps p q len piece r f scanned ended =
 on_line : (k : ItemType) (start now : Option (List ℕ)) (ps : List (List Line)) (p : PieceReader) (len line : ℕ) (piece : List Line) → IsReady k start now ps p len piece → HasLine p.held len line → IsOnLine (concat (all_lines ps)) (concat piece) line
 on_line k start now ps p len line piece r h = subst (λ (x : List ℕ). IsOnLine (concat (all_lines ps)) x line) r.part (h r.read (concat (all_lines ps)) r.held)
 
-pub piece_refuses : {S : Type 0} (k : ItemType) (file start now : Option (List ℕ)) (ps : List (List Line)) (p q : PieceReader) (len : ℕ) (piece : List Line) (holds : S → List Item → Type 0) (old new : S) (e : ParseError)
+pub piece_refuses : {S : Type 0} (k : ItemType) (file start now : Option (List ℕ)) (ps : List (List Line)) (p q : PieceReader) (len : ℕ) (piece : List Line) (holds : S → S → List Item → Type 0) (old new : S) (e : ParseError)
     → IsReady k start now ps p len piece → Forgets p.held q.held len → q.scanned ≡ p.scanned → q.ended ≡ p.ended → HasLine p.held len q.line → RefusesBytes k file p.held len holds old new e → RefusesPiece k file start now ps holds old new q e
 piece_refuses k file start now ps p q len piece holds old new e r f scanned ended line b = record {
   piece = piece;
@@ -352,7 +352,7 @@ piece_refuses k file start now ps p q len piece holds old new e r f scanned ende
   placed = subst (λ (x : List ℕ). IsPlacedIn file r.read (concat (all_lines ps)) x e) r.part (b.placed r.read (concat (all_lines ps)) r.held);
 }
 
-pub piece_takes : {S : Type 0} (k : ItemType) (start now : Option (List ℕ)) (ps : List (List Line)) (p q : PieceReader) (len : ℕ) (piece : List Line) (holds : S → List Item → Type 0) (old new : S)
+pub piece_takes : {S : Type 0} (k : ItemType) (start now : Option (List ℕ)) (ps : List (List Line)) (p q : PieceReader) (len : ℕ) (piece : List Line) (holds : S → S → List Item → Type 0) (old new : S)
     → IsReady k start now ps p len piece → Forgets p.held q.held len → q.scanned ≡ p.scanned → q.ended ≡ p.ended → HasLine p.held len q.line → TakesText holds k (take len (fresh p.held)) old new → TakesPiece k start now ps holds old new q
 piece_takes k start now ps p q len piece holds old new r f scanned ended line t = record {
   piece = piece;

@@ -37,7 +37,7 @@ pub held_now : (k : ItemType) (read : List ℕ) (items : List Item) (mid after :
 held_now k read items mid after h0 h1 ended more r m = held_more k read more items h0 h1 r m.reads.held m.skipped m.counted
 
 -- no item is complete
-pub turn_idle : {S : Type 0} (k : ItemType) (read : List ℕ) (items : List Item) (mid after : Option (List ℕ)) (holds : S → List Item → Type 0) (old new : S) (h0 h1 : Held) (p : PartReader) (more : List ℕ) (n : ℕ)
+pub turn_idle : {S : Type 0} (k : ItemType) (read : List ℕ) (items : List Item) (mid after : Option (List ℕ)) (holds : S → S → List Item → Type 0) (old new : S) (h0 h1 : Held) (p : PartReader) (more : List ℕ) (n : ℕ)
     → IsHeld k read items h0 → Fills mid after h0 h1 false more → p.held ≡ h1 → n ≡ 0 → TakesText holds k (take n (fresh h1)) old new → AwaitsPart p → p.least ≤ length more → ReadsPart k read items mid after holds old new p false
 turn_idle k read items mid after holds old new h0 h1 p more n r m is none t awaits enough = record {
   more = more;
@@ -54,7 +54,7 @@ seam_taken k h n some (fits, inl none) = absurd (omega arith)
 seam_taken k h n some (fits, inr seam) = seam
 
 -- items were passed to sinks, and their text dropped
-pub turn_forgot : {S : Type 0} (k : ItemType) (read : List ℕ) (items : List Item) (mid after : Option (List ℕ)) (holds : S → List Item → Type 0) (old new : S) (h0 h1 : Held) (p : PartReader) (more : List ℕ) (n : ℕ)
+pub turn_forgot : {S : Type 0} (k : ItemType) (read : List ℕ) (items : List Item) (mid after : Option (List ℕ)) (holds : S → S → List Item → Type 0) (old new : S) (h0 h1 : Held) (p : PartReader) (more : List ℕ) (n : ℕ)
     → IsHeld k read items h0 → Fills mid after h0 h1 false more → Forgets h1 p.held n → 0 < n → IsTaken k false (fresh h1) n → TakesText holds k (take n (fresh h1)) old new → AwaitsPart p → p.least ≤ length more → ReadsPart k read items mid after holds old new p false
 turn_forgot k read items mid after holds old new h0 h1 p more n r m f some taken t awaits enough = record {
   more = more;
@@ -67,7 +67,7 @@ turn_forgot k read items mid after holds old new h0 h1 p more n r m f some taken
 }
 
 -- the stream has ended
-pub turn_ended : {S : Type 0} (k : ItemType) (read : List ℕ) (items : List Item) (mid after : Option (List ℕ)) (holds : S → List Item → Type 0) (old new : S) (h0 h1 : Held) (p : PartReader) (more : List ℕ) (n : ℕ)
+pub turn_ended : {S : Type 0} (k : ItemType) (read : List ℕ) (items : List Item) (mid after : Option (List ℕ)) (holds : S → S → List Item → Type 0) (old new : S) (h0 h1 : Held) (p : PartReader) (more : List ℕ) (n : ℕ)
     → IsHeld k read items h0 → Fills mid after h0 h1 true more → IsTaken k true (fresh h1) n → TakesText holds k (take n (fresh h1)) old new → ReadsPart k read items mid after holds old new p true
 turn_ended k read items mid after holds old new h0 h1 p more n r m taken t = record {
   more = more;
@@ -89,7 +89,7 @@ located_kind file before source skipped e new l kind = under (kind_of e) refl l
     under Memory at same = sym (ap kind_of same) ∙ kind
 
 -- the stream is refused
-pub turn_refused : {S : Type 0} (k : ItemType) (file : Option (List ℕ)) (read : List ℕ) (items : List Item) (mid after : Option (List ℕ)) (holds : S → List Item → Type 0) (old new : S) (h0 h1 : Held) (ended : Bool) (more : List ℕ) (e shown : ParseError)
+pub turn_refused : {S : Type 0} (k : ItemType) (file : Option (List ℕ)) (read : List ℕ) (items : List Item) (mid after : Option (List ℕ)) (holds : S → S → List Item → Type 0) (old new : S) (h0 h1 : Held) (ended : Bool) (more : List ℕ) (e shown : ParseError)
     → IsHeld k read items h0 → Fills mid after h0 h1 ended more → (kind_of e ≡ Parse → IsRefusedPart k ended (fresh h1) holds old new e) → kind_of shown ≡ Parse → IsLocatedAfter file h1.before h1.bytes.items h1.skipped e shown
     → RefusesPart k file read items mid after holds old new shown
 turn_refused k file read items mid after holds old new h0 h1 ended more e shown r m part shown_kind located =
@@ -106,16 +106,16 @@ read_begun k read items p h = held_begun k read items p.held h.0
 -- ---- part after part
 
 -- the text read of a stream, and the items that the sink took
-abbrev pub Reached : {S : Type 0} → ItemType → Option (List ℕ) → Option (List ℕ) → (S → List Item → Type 0) → S → S → PartReader → Type 0
+abbrev pub Reached : {S : Type 0} → ItemType → Option (List ℕ) → Option (List ℕ) → (S → S → List Item → Type 0) → S → S → PartReader → Type 0
 Reached k before mid holds first old p = (read : List ℕ) × (items : List Item) × HasRead k read items p × Consumes before mid read × TakesOver holds items first old
 
-pub reached_none : {S : Type 0} (k : ItemType) (before : Option (List ℕ)) (holds : S → List Item → Type 0) (old : S) (p : PartReader) → HasRead k [] [] p → Reached k before before holds old old p
-reached_none k before holds old p h = ([], [], h, Consumes-nil before, λ items x. subst (λ (y : List Item). holds old y) (sym (append-nil items)) x)
+pub reached_none : {S : Type 0} (k : ItemType) (before : Option (List ℕ)) (holds : S → S → List Item → Type 0) (old : S) (p : PartReader) → HasRead k [] [] p → Reached k before before holds old old p
+reached_none k before holds old p h = ([], [], h, Consumes-nil before, λ first items x. subst (λ (y : List Item). holds first old y) (sym (append-nil items)) x)
 
-over_both : {S : Type 0} (holds : S → List Item → Type 0) (xs ys : List Item) (a b c : S) → TakesOver holds xs a b → TakesOver holds ys b c → TakesOver holds (xs ++ ys) a c
-over_both holds xs ys a b c f g items h = subst (λ (y : List Item). holds c y) (append_assoc items xs ys) (g (items ++ xs) (f items h))
+over_both : {S : Type 0} (holds : S → S → List Item → Type 0) (xs ys : List Item) (a b c : S) → TakesOver holds xs a b → TakesOver holds ys b c → TakesOver holds (xs ++ ys) a c
+over_both holds xs ys a b c f g first items h = subst (λ (y : List Item). holds first c y) (append_assoc items xs ys) (g first (items ++ xs) (f first items h))
 
-pub reached_more : {S : Type 0} (k : ItemType) (before mid after : Option (List ℕ)) (holds : S → List Item → Type 0) (first old new : S) (p q : PartReader) (ended : Bool)
+pub reached_more : {S : Type 0} (k : ItemType) (before mid after : Option (List ℕ)) (holds : S → S → List Item → Type 0) (first old new : S) (p q : PartReader) (ended : Bool)
     (r : Reached k before mid holds first old p) → ReadsPart k r.0 r.1 mid after holds old new q ended → ended ≡ false → Reached k before after holds first new q
 reached_more k before mid after holds first old new p q ended r m e = (
   r.0 ++ m.more,
@@ -125,7 +125,7 @@ reached_more k before mid after holds first old new p q ended r m e = (
   over_both holds r.1 m.taken first old new r.4 m.over,
 )
 
-pub reached_end : {S : Type 0} (k : ItemType) (before mid after : Option (List ℕ)) (holds : S → List Item → Type 0) (first old new : S) (p q : PartReader) (ended : Bool)
+pub reached_end : {S : Type 0} (k : ItemType) (before mid after : Option (List ℕ)) (holds : S → S → List Item → Type 0) (first old new : S) (p q : PartReader) (ended : Bool)
     (r : Reached k before mid holds first old p) → ReadsPart k r.0 r.1 mid after holds old new q ended → ended ≡ true → IsStreamTaken k before after holds first new
 reached_end k before mid after holds first old new p q ended r m e = record {
   read = r.0 ++ m.more;
@@ -139,7 +139,7 @@ pub never_after : (k : ItemType) (before mid : Option (List ℕ)) (read more : L
 never_after k before mid read more h (inl never) = inl never
 never_after k before mid read more h (inr all) = inr (all_after before mid read more h all.0, all.1)
 
-pub reached_refusal : {S : Type 0} (k : ItemType) (file : Option (List ℕ)) (before mid after : Option (List ℕ)) (holds : S → List Item → Type 0) (first old new : S) (p : PartReader) (e : ParseError)
+pub reached_refusal : {S : Type 0} (k : ItemType) (file : Option (List ℕ)) (before mid after : Option (List ℕ)) (holds : S → S → List Item → Type 0) (first old new : S) (p : PartReader) (e : ParseError)
     (r : Reached k before mid holds first old p) → RefusesPart k file r.0 r.1 mid after holds old new e → IsStreamRefused k file before after holds first new e
 reached_refusal k file before mid after holds first old new p e r m =
     let part = m.2 in (

@@ -20,7 +20,7 @@ HasRead k read items p = IsHeld k read items p.held × AwaitsPart p
 
 -- More of the stream was read, and its complete items were passed to the sink: all, if the stream has ended. If it has not, the
 -- part has at least as many bytes as the reader asks for.
-pub record ReadsPart {S : Type 0} (k : ItemType) (read : List ℕ) (items : List Item) (before after : Option (List ℕ)) (holds : S → List Item → Type 0) (old new : S) (p : PartReader) (ended : Bool) : Type 0 where
+pub record ReadsPart {S : Type 0} (k : ItemType) (read : List ℕ) (items : List Item) (before after : Option (List ℕ)) (holds : S → S → List Item → Type 0) (old new : S) (p : PartReader) (ended : Bool) : Type 0 where
   pub more : List ℕ
   pub taken : List Item
   pub consumed : Consumes before after more
@@ -30,5 +30,5 @@ pub record ReadsPart {S : Type 0} (k : ItemType) (read : List ℕ) (items : List
   pub all_read : ended ≡ true → AreAll before more × TextSpells k (read ++ more) (items ++ taken)
 
 -- more of the stream was read, and it is refused
-abbrev pub RefusesPart : {S : Type 0} → ItemType → Option (List ℕ) → List ℕ → List Item → Option (List ℕ) → Option (List ℕ) → (S → List Item → Type 0) → S → S → ParseError → Type 0
+abbrev pub RefusesPart : {S : Type 0} → ItemType → Option (List ℕ) → List ℕ → List Item → Option (List ℕ) → Option (List ℕ) → (S → S → List Item → Type 0) → S → S → ParseError → Type 0
 RefusesPart k file read items before after holds old new e = (more : List ℕ) × Consumes before after more × IsRefused k file (AreAll before more) (read ++ more) items holds old new e

@@ -97,20 +97,20 @@ abbrev pub IsPlacedIn : Option (List ℕ) → List ℕ → List ℕ → List ℕ
 IsPlacedIn file read done piece e = length read + 1 < 2 ^ 64 → (offset : ℕ) × (length done ≤ offset) × (offset ≤ length (done ++ piece)) × IsRefusalAt file read offset e
 
 -- the first `len` unparsed bytes spell no items
-pub record RefusesBytes {S : Type 0} (k : ItemType) (file : Option (List ℕ)) (h : Held) (len : ℕ) (holds : S → List Item → Type 0) (old new : S) (e : ParseError) : Type 0 where
+pub record RefusesBytes {S : Type 0} (k : ItemType) (file : Option (List ℕ)) (h : Held) (len : ℕ) (holds : S → S → List Item → Type 0) (old new : S) (e : ParseError) : Type 0 where
   pub none : SpellsNone k (take len (fresh h))
   pub begun : TakesPrefix holds k (take len (fresh h)) old new
   pub placed : (read done : List ℕ) → HoldsAfter read done h → IsPlacedIn file read done (take len (fresh h)) e
 
 -- the next segment spells items, and the sink took them
-pub record TakesPiece {S : Type 0} (k : ItemType) (start now : Option (List ℕ)) (ps : List (List Line)) (holds : S → List Item → Type 0) (old new : S) (p : PieceReader) : Type 0 where
+pub record TakesPiece {S : Type 0} (k : ItemType) (start now : Option (List ℕ)) (ps : List (List Line)) (holds : S → S → List Item → Type 0) (old new : S) (p : PieceReader) : Type 0 where
   pub piece : List Line
   pub goes_on : HasPieces k start now (ps ++ piece ∷ []) p
   pub on_line : IsOnLine (concat (all_lines ps)) (concat piece) (line_of p)
   pub taken : TakesText holds k (concat piece) old new
 
 -- The next segment spells no items. The sink took items that it begins with. The refusal has and shows its location in the text read.
-pub record RefusesPiece {S : Type 0} (k : ItemType) (file start now : Option (List ℕ)) (ps : List (List Line)) (holds : S → List Item → Type 0) (old new : S) (p : PieceReader) (e : ParseError) : Type 0 where
+pub record RefusesPiece {S : Type 0} (k : ItemType) (file start now : Option (List ℕ)) (ps : List (List Line)) (holds : S → S → List Item → Type 0) (old new : S) (p : PieceReader) (e : ParseError) : Type 0 where
   pub piece : List Line
   pub goes_on : HasPieces k start now (ps ++ piece ∷ []) p
   pub on_line : IsOnLine (concat (all_lines ps)) (concat piece) (line_of p)

@@ -28,7 +28,7 @@ abbrev pub IsTaken : ItemType → Bool → List ℕ → ℕ → Type 0
 IsTaken k ended fresh n = (n ≤ length fresh) × IsComplete k ended fresh n
 
 -- the first `len` bytes spell no items, the error comes from parsing the whole text, and the sink took items that the part begins with
-pub record IsRefusedPart {S : Type 0} (k : ItemType) (ended : Bool) (fresh : List ℕ) (holds : S → List Item → Type 0) (old new : S) (e : ParseError) : Type 0 where
+pub record IsRefusedPart {S : Type 0} (k : ItemType) (ended : Bool) (fresh : List ℕ) (holds : S → S → List Item → Type 0) (old new : S) (e : ParseError) : Type 0 where
   pub len : ℕ
   pub taken : IsTaken k ended fresh len
   pub none : SpellsNone k (take len fresh)
@@ -36,7 +36,7 @@ pub record IsRefusedPart {S : Type 0} (k : ItemType) (ended : Bool) (fresh : Lis
   pub before : TakesPrefix holds k (take len fresh) old new
 
 -- all of a stream was read, it spells items, and the sink took them
-pub record IsStreamTaken {S : Type 0} (k : ItemType) (before after : Option (List ℕ)) (holds : S → List Item → Type 0) (old new : S) : Type 0 where
+pub record IsStreamTaken {S : Type 0} (k : ItemType) (before after : Option (List ℕ)) (holds : S → S → List Item → Type 0) (old new : S) : Type 0 where
   pub read : List ℕ
   pub consumed : Consumes before after read
   pub all_read : AreAll before read
@@ -48,7 +48,7 @@ NeverSpells k all read = ((more : List ℕ) → SpellsNone k (read ++ more)) ⊎
 
 -- The text read of a stream is refused: whatever follows, the whole spells no items. After `items` the sink took further items,
 -- and the text read begins with all of them. The error has and shows its location in the text read.
-pub record IsRefused {S : Type 0} (k : ItemType) (file : Option (List ℕ)) (all : Type 0) (read : List ℕ) (items : List Item) (holds : S → List Item → Type 0) (old new : S) (e : ParseError) : Type 0 where
+pub record IsRefused {S : Type 0} (k : ItemType) (file : Option (List ℕ)) (all : Type 0) (read : List ℕ) (items : List Item) (holds : S → S → List Item → Type 0) (old new : S) (e : ParseError) : Type 0 where
   pub taken : List Item
   pub over : TakesOver holds taken old new
   pub begun : PrefixSpells k read (items ++ taken)
@@ -56,5 +56,5 @@ pub record IsRefused {S : Type 0} (k : ItemType) (file : Option (List ℕ)) (all
   pub placed : length read + 1 < 2 ^ 64 → (offset : ℕ) × (offset ≤ length read) × IsRefusalAt file read offset e
 
 -- the stream was refused
-abbrev pub IsStreamRefused : {S : Type 0} → ItemType → Option (List ℕ) → Option (List ℕ) → Option (List ℕ) → (S → List Item → Type 0) → S → S → ParseError → Type 0
+abbrev pub IsStreamRefused : {S : Type 0} → ItemType → Option (List ℕ) → Option (List ℕ) → Option (List ℕ) → (S → S → List Item → Type 0) → S → S → ParseError → Type 0
 IsStreamRefused k file before after holds old new e = (read : List ℕ) × Consumes before after read × IsRefused k file (AreAll before read) read [] holds old new e

@@ -57,7 +57,7 @@ fn fill<R: BufRead>(reader: &mut R, bytes: &mut Vec<u8>, goal: usize) -> io::Res
 struct Dropped;
 
 impl<T: WholeItem + Drop> Sink<T> for Dropped {
-    ghost holds = { λ dropped items. Unit {0} };
+    ghost holds = { λ first dropped items. Unit {0} };
 
     fn take(&mut self, _item: T) -> std::result::Result<(), AllocError> {
         Ok(())

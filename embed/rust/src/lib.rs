@@ -81,7 +81,7 @@
 //!
 //! # Features
 //!
-//! - `heap` (by default): the heap that the library calls, over `malloc`, `realloc` and `free` of the C library. Without
+//! - `heap` (by default): the heap that the library calls, over a buffer of each thread and `malloc` of the C library. Without
 //!   it, the program links another, such as `embed/heap.c`. A dependency with `default-features = false` names this feature.
 #![deny(unsafe_code)]
 #![warn(missing_docs, missing_debug_implementations)]

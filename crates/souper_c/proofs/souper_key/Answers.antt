@@ -1,7 +1,7 @@
 use Rattle.std.proofs.Common.{rules}
 use Rattle.std.specs.String.{string_bytes}
 use Rattle.souper_c.specs.Records.{RecordsTo}
-use Rattle.souper_c.proofs.Failures.{refusal_is_short, refusal_is_written, bytes_are_written}
+use Rattle.souper_c.proofs.Failures.{refusal_has_place, refusal_is_short, refusal_is_written, bytes_are_written}
 use Rattle.souper_c.proofs.souper_key.Goals as goal
 
 pub returns-in-Ok-clause-recorded : goal.returns-in-Ok-clause-recorded
@@ -18,3 +18,6 @@ pub returns-in-Refused-clause-short : goal.returns-in-Refused-clause-short
 returns-in-Refused-clause-short c =
     refusal_is_short (RecordsTo c.args.flags) c.args.kind c.args.text.now c.args.out.now c.write-in-Refused.new.out c.in-Refused.refusal c.outcome-outcome.result
     c.write-in-Refused.result (search rules) (search rules) (search rules)
+
+pub returns-in-Refused-clause-no_place : goal.returns-in-Refused-clause-no_place
+returns-in-Refused-clause-no_place c = refusal_has_place c.args.out.now c.write-in-Refused.new.out c.in-Refused.refusal c.outcome-outcome.result c.write-in-Refused.result (search rules) (search rules)

@@ -11,7 +11,6 @@ ghost use Rattle.souper_code.specs.Reading.{Gives};
 
 use crate::decode::{DecodeError, Reader};
 use souper_graph::ast::{Instruction, Operand};
-use std::alloc::Global;
 
 fn nullary(number: u8) -> Option<Instruction>
     ensures read { IfSome result (λ i. (number_of i ≡ number) × (operands_of i ≡ [])) }
@@ -123,12 +122,13 @@ fn instruction_of(number: u8, operands: &[Operand]) -> Option<Instruction>
 }
 
 impl Reader<'_> {
-    pub(crate) fn instruction(&mut self, alloc: Global) -> Result<Instruction, DecodeError>
+    #[tactic(auto, using(crate::proofs::Few::few_operands))]
+    pub(crate) fn instruction(&mut self) -> Result<Instruction, DecodeError>
         ensures read { IfOk result (λ i. CodableInstruction i × (self.old.rest.now ≡ code_of_instruction i ++ self.new.rest.now)) }
         ensures only { (i : InstructionNode) (rest : List ℕ) → CodableInstruction i → self.old.rest.now ≡ code_of_instruction i ++ rest → Gives result (λ v. v ≡ i) self.new.rest.now rest }
     {
         let number = self.byte()?;
-        let operands = self.operands(alloc)?;
+        let operands = self.few_operands()?;
         match instruction_of(number, operands.as_slice()) {
             Some(instruction) => Ok(instruction),
             None => Err(DecodeError::NoCode),

@@ -1,6 +1,6 @@
 //! Numbers, types, operands and lists of bits.
 
-ghost use Rattle.std.specs.Prelude.{◌≡◌, ◌≢◌, ◌/◌, ◌%◌, ◌^◌, ◌<◌, ◌++◌, ◌∷◌, ℕ, ℤ, List, Bool, Option, [], length, IfOk, IfErr};
+ghost use Rattle.std.specs.Prelude.{◌≡◌, ◌≢◌, ◌/◌, ◌%◌, ◌^◌, ◌<◌, ◌≤◌, ◌++◌, ◌∷◌, ℕ, ℤ, List, Bool, Option, [], length, IfOk, IfErr};
 ghost use Rattle.std.specs.Int.{w16, w32, w64, from_le_bytes, to_le_bytes};
 ghost use Rattle.souper_graph.specs.declared.ast.operands.«Type».{«Type» as Ty};
 ghost use Rattle.souper_graph.specs.declared.ast.operands.Constant.{Constant as ConstantNode};
@@ -11,6 +11,7 @@ ghost use Rattle.souper_code.specs.Codable.{CodableSize, CodableNumber, CodableT
 ghost use Rattle.souper_code.specs.Reading.{Gives};
 
 use crate::decode::{DecodeError, Reader};
+use arrayvec::ArrayVec;
 use souper_graph::ast::{Constant, Id, Operand, Statement, Type};
 use std::alloc::Global;
 
@@ -177,6 +178,23 @@ impl Reader<'_> {
         for _ in 0..count {
             let operand = self.operand()?;
             operands.push(operand)?;
+        }
+        Ok(operands)
+    }
+
+    /// The operands of an instruction, which has at most three.
+    pub(crate) fn few_operands(&mut self) -> Result<ArrayVec<Operand, 3>, DecodeError>
+        ensures read { IfOk result (λ v. CodableList CodableOperand v.items × (self.old.rest.now ≡ code_of_list code_of_operand v.items ++ self.new.rest.now)) }
+        ensures only { (xs : List OperandNode) (rest : List ℕ) → length xs ≤ 3 → CodableList CodableOperand xs → self.old.rest.now ≡ code_of_list code_of_operand xs ++ rest → Gives result (λ v. v.items ≡ xs) self.new.rest.now rest }
+    {
+        let count = self.size()?;
+        if count > 3 {
+            return Err(DecodeError::NoCode);
+        }
+        let mut operands = ArrayVec::new();
+        for _ in 0..count {
+            let operand = self.operand()?;
+            operands.push(operand);
         }
         Ok(operands)
     }

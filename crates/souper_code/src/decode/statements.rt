@@ -1,6 +1,6 @@
 //! Statements.
 
-ghost use Rattle.std.specs.Prelude.{◌≡◌, ◌++◌, ℕ, List, map, IfOk};
+ghost use Rattle.std.specs.Prelude.{◌≡◌, ◌++◌, ◌∷◌, [], ℕ, List, map, IfOk, OnOk};
 ghost use Rattle.std.specs.String.{string_bytes};
 ghost use Rattle.souper_graph.specs.Values.{PlainPhi, PlainRhs, PlainAssignment, PlainStatement, phi, block_condition};
 ghost use Rattle.souper_graph.specs.View.{view_phi, view_rhs, view_assignment, view_statement};
@@ -14,6 +14,9 @@ use crate::decode::{DecodeError, Reader};
 use souper_graph::ast::{Arena, Assignment, AssignmentRhs, Block, BlockPc, Id, Pc, Phi, Statement};
 use std::alloc::Global;
 use std::str;
+
+// The length of the shortest code of a statement, in bytes.
+const SHORTEST: usize = 19;
 
 impl Reader<'_> {
     fn phi(&mut self, alloc: Global) -> Result<Phi, DecodeError>
@@ -40,7 +43,7 @@ impl Reader<'_> {
             2 => Ok(AssignmentRhs::Phi(self.phi(alloc)?)),
             3 => Ok(AssignmentRhs::ReservedInst),
             4 => Ok(AssignmentRhs::ReservedConst),
-            5 => Ok(AssignmentRhs::Instruction(self.instruction(alloc)?)),
+            5 => Ok(AssignmentRhs::Instruction(self.instruction()?)),
             _ => Err(DecodeError::NoCode),
         }
     }
@@ -67,14 +70,19 @@ impl Reader<'_> {
     {
         let name = self.name(alloc)?;
         let ty = self.ty()?;
-        let value = self.rhs(alloc)?;
-        let attributes = self.attributes(alloc)?;
-        Ok(Assignment {
-            name,
-            ty,
-            value,
-            attributes,
-        })
+        // `let value = self.rhs(alloc)?` would copy the value twice more.
+        match self.rhs(alloc) {
+            Ok(value) => {
+                let attributes = self.attributes(alloc)?;
+                Ok(Assignment {
+                    name,
+                    ty,
+                    value,
+                    attributes,
+                })
+            }
+            Err(error) => Err(error),
+        }
     }
 
     fn pc(&mut self) -> Result<Pc, DecodeError>
@@ -102,16 +110,31 @@ impl Reader<'_> {
         })
     }
 
-    fn statement(&mut self, alloc: Global) -> Result<Statement, DecodeError>
-        ensures read { IfOk result (λ s. CodableStatement (view_statement s) × (self.old.rest.now ≡ code_of_statement (view_statement s) ++ self.new.rest.now)) }
-        ensures only { (x : PlainStatement) (rest : List ℕ) → CodableStatement x → self.old.rest.now ≡ code_of_statement x ++ rest → Gives result (λ s. view_statement s ≡ x) self.new.rest.now rest }
+    // Reads a statement to the end of the arena.
+    fn statement(
+        &mut self,
+        alloc: Global,
+        statements: &mut Arena<Statement>,
+    ) -> Result<(), DecodeError>
+        ensures read { OnOk result ((s : PlainStatement) × CodableStatement s × (map view_statement statements.new ≡ map view_statement statements.old ++ (s ∷ [])) × (self.old.rest.now ≡ code_of_statement s ++ self.new.rest.now)) }
+        ensures only { (x : PlainStatement) (rest : List ℕ) → CodableStatement x → self.old.rest.now ≡ code_of_statement x ++ rest → Gives result (λ _. map view_statement statements.new ≡ map view_statement statements.old ++ (x ∷ [])) self.new.rest.now rest }
     {
         match self.byte()? {
-            0 => Ok(Statement::Assignment(self.assignment(alloc)?)),
-            1 => Ok(Statement::Pc(self.pc()?)),
-            2 => Ok(Statement::BlockPc(self.block_pc()?)),
-            _ => Err(DecodeError::NoCode),
+            0 => {
+                let assignment = self.assignment(alloc)?;
+                statements.alloc(Statement::Assignment(assignment))?;
+            }
+            1 => {
+                let condition = self.pc()?;
+                statements.alloc(Statement::Pc(condition))?;
+            }
+            2 => {
+                let condition = self.block_pc()?;
+                statements.alloc(Statement::BlockPc(condition))?;
+            }
+            _ => return Err(DecodeError::NoCode),
         }
+        Ok(())
     }
 
     pub(crate) fn statements(&mut self, alloc: Global) -> Result<Arena<Statement>, DecodeError>
@@ -120,9 +143,10 @@ impl Reader<'_> {
     {
         let count = self.size()?;
         let mut statements = Arena::new(alloc);
+        // A count that is too large for the code allocates no more than the code could fill.
+        statements.reserve(count.min(self.rest.len() / SHORTEST))?;
         for _ in 0..count {
-            let statement = self.statement(alloc)?;
-            statements.alloc(statement)?;
+            self.statement(alloc, &mut statements)?;
         }
         Ok(statements)
     }

@@ -251,10 +251,10 @@ read_well k vs v p q m r {b} l so h behind =
 
 -- ---- what a sink holds of them
 
-pub takes_one : {S : Type 0} (holds : S → List Item → Type 0) (vs : List Item) (v : Item) (a b c : S) → TakesOver holds vs a b
-    → ((items : List Item) → holds b items → holds c (items ++ v ∷ [])) → TakesOver holds (vs ++ v ∷ []) a c
-takes_one holds vs v a b c so step = λ before held.
-    subst (holds c) (append_assoc before vs (v ∷ [])) (step (before ++ vs) (so before held))
+pub takes_one : {S : Type 0} (holds : S → S → List Item → Type 0) (vs : List Item) (v : Item) (a b c : S) → TakesOver holds vs a b
+    → ((first : S) (items : List Item) → holds first b items → holds first c (items ++ v ∷ [])) → TakesOver holds (vs ++ v ∷ []) a c
+takes_one holds vs v a b c so step = λ first before held.
+    subst (holds first c) (append_assoc before vs (v ∷ [])) (step first (before ++ vs) (so first before held))
 
 pub pushed_some : (vs : List Item) (v : Item) → vs ++ v ∷ [] ≡ [] → ⊥
 pushed_some [] v e = absurd cc
@@ -262,6 +262,6 @@ pushed_some (w ∷ vs) v e = absurd cc
 
 -- ---- what a sink took before a refusal
 
-pub taken_first : {S : Type 0} (holds : S → List Item → Type 0) (k : ItemType) (items : List Item) (f : Option Cause) (p q : Parsing) (old new : S) → ItemsTaken k items p q → TakesOver holds items old new
+pub taken_first : {S : Type 0} (holds : S → S → List Item → Type 0) (k : ItemType) (items : List Item) (f : Option Cause) (p q : Parsing) (old new : S) → ItemsTaken k items p q → TakesOver holds items old new
     → IfRefused f (TakesFirst holds k p old new)
 taken_first holds k items f p q old new so taken = refused_for f (record { items = items; used = so.used; others = q.tokens; parts = so.parts; spelled = so.spelled; taken = taken })

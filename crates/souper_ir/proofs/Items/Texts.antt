@@ -79,7 +79,7 @@ begins_prefix (t ∷ ts) us n bs rest h =
     let r = begins_prefix ts us (t.0 + length (spelling t.1)) h.after rest h.more in
     (r.0, record { gap = h.gap; after = h.after; stands = h.stands; offset_is = h.offset_is; more = r.1 })
 
-prefix_taken : {S : Type 0} (holds : S → List Item → Type 0) (k : ItemType) (bs : List ℕ) (p : Parsing) (old new : S) → AreTokensOf bs p.tokens p.faulty → TakesFirst holds k p old new → TakesPrefix holds k bs old new
+prefix_taken : {S : Type 0} (holds : S → S → List Item → Type 0) (k : ItemType) (bs : List ℕ) (p : Parsing) (old new : S) → AreTokensOf bs p.tokens p.faulty → TakesFirst holds k p old new → TakesPrefix holds k bs old new
 prefix_taken holds k bs p old new h t =
     let b = begins_prefix t.used t.others 0 bs h.rest (subst (λ (x : List (ℕ × Lexeme)). Begins 0 bs x h.rest) t.parts h.front) in
     (t.items, (t.used, b.0, b.1, t.spelled), t.taken)
@@ -100,7 +100,7 @@ located_kind file bs e new l kind = under (kind_of e) refl l
     under Parse at same = at
     under Memory at same = sym (ap kind_of same) ∙ kind
 
-pub taken_before : {S : Type 0} (holds : S → List Item → Type 0) (k : ItemType) (file : Option (List ℕ)) (bs : List ℕ) (e new : ParseError) (p : Parsing) (old now : S)
+pub taken_before : {S : Type 0} (holds : S → S → List Item → Type 0) (k : ItemType) (file : Option (List ℕ)) (bs : List ℕ) (e new : ParseError) (p : Parsing) (old now : S)
     → AreTokensOf bs p.tokens p.faulty → IsLocated file bs e new → IfRefused (cause_of e) (TakesFirst holds k p old now) → kind_of new ≡ Parse → TakesPrefix holds k bs old now
 taken_before holds k file bs e new p old now h l first kind =
     let c = parse_cause e (located_kind file bs e new l kind) in

@@ -8,20 +8,20 @@ use std::alloc::AllocError;
 
 /// What takes the items of a text one at a time, in order: a `Vec` keeps them.
 ///
-/// An implementor states when it holds a list of items. It owes that, if it held a list and took an item, it holds the
-/// list with that item at its end.
+/// An implementor states when it holds a list of items, compared with what it was at first, so that it can say which part of it
+/// stays. It owes that, if it held a list and took an item, it holds the list with that item at its end.
 pub trait Sink<T: WholeItem> {
-    // The sink holds the items.
-    ghost holds: { Self → List Item → Type 0 };
+    // Compared with the first sink, the second holds the items.
+    ghost holds: { Self → Self → List Item → Type 0 };
 
     /// Takes the next item. The error is out of memory, and ends the parse; what the sink holds then is not specified.
     fn take(&mut self, item: T) -> Result<(), AllocError>
         requires { WellFormed (T.view item) }
-        ensures { OnOk result ((items : List Item) → holds self.old items → holds self.new (items ++ T.view item ∷ [])) };
+        ensures { OnOk result ((first : Self) (items : List Item) → holds first self.old items → holds first self.new (items ++ T.view item ∷ [])) };
 }
 
 impl<T: WholeItem + Drop> Sink<T> for Vec<T> {
-    ghost holds = { λ v items. map T.view v.items ≡ items };
+    ghost holds = { λ first v items. map T.view v.items ≡ items };
 
     fn take(&mut self, item: T) -> Result<(), AllocError> {
         match self.push(item) {

@@ -17,7 +17,7 @@ struct Texts {
 }
 
 impl<T: WholeItem + Drop> Sink<T> for Texts {
-    ghost holds = { λ texts items. Unit {0} };
+    ghost holds = { λ first texts items. Unit {0} };
 
     fn take(&mut self, item: T) -> Result<(), AllocError> {
         match item.append_text(&mut self.text) {

@@ -18,7 +18,7 @@ struct Count {
 }
 
 impl<T: WholeItem + Drop> Sink<T> for Count {
-    ghost holds = { λ count items. Unit {0} };
+    ghost holds = { λ first count items. Unit {0} };
 
     fn take(&mut self, _item: T) -> Result<(), AllocError> {
         self.items = self.items.saturating_add(1);

@@ -1,7 +1,8 @@
-use Rattle.std.proofs.Common.{rules, ◌≢◌, List, [], ◌∷◌, ◌++◌, arith, length-append, subst}
+use Rattle.std.proofs.Common.{rules, ◌≢◌, List, [], ◌∷◌, ◌++◌, ◌∙◌, ap, arith, length-append, subst}
 use Rattle.souper_graph.specs.Values.{Item}
+use Rattle.souper_graph.specs.Text.{texts_of}
 use Rattle.souper_code.specs.Writing.{IsCodeOfOnly, BeginsWithNone}
-use Rattle.souper_code.proofs.Items.{read_more, all_read, none_read, offset_is, count_is}
+use Rattle.souper_code.proofs.Items.{read_more, all_read, none_read, offset_is, count_is, of_nothing}
 use Rattle.souper_code.proofs.write.write_items.Goals as goal
 
 pub returns-in-Err-NoCode-clause-stopped : goal.returns-in-Err-NoCode-clause-stopped
@@ -36,6 +37,12 @@ returns-in-None-clause-written g c =
     let (done, known) = c.loop-reader.invariant in
     let judged = rw c.in-None.is at known.judged in
     (done, all_read _ _ done _ known.read (search rules), judged.0, judged.1)
+
+pub returns-in-None-clause-empty : goal.returns-in-None-clause-empty
+returns-in-None-clause-empty g c = λ none.
+    let (done, known) = c.loop-reader.invariant in
+    let judged = rw c.in-None.is at known.judged in
+    judged.1 ∙ ap texts_of (of_nothing _ _ done _ known.read none).0
 
 pub returns-in-Some-clause-stopped : goal.returns-in-Some-clause-stopped
 returns-in-Some-clause-stopped g c =

@@ -7,7 +7,7 @@ use Rattle.souper_ir.proofs.parse.item.parse_str.Goals as goal
 pub returns-clause-spelled : goal.returns-clause-spelled
 returns-clause-spelled g c =
     let taken = c.in_ok-parse_into.ensures.taken in
-    let held : map g.T.Item.view c.parse_into.new.sink.items ≡ taken.0 = taken.2 [] (ap (map g.T.Item.view) c.new-items.ensures.items) in
+    let held : map g.T.Item.view c.parse_into.new.sink.items ≡ taken.0 = taken.2 c.new-items.result [] (ap (map g.T.Item.view) c.new-items.ensures.items) in
     subst (λ (x : List Item). TextSpells g.T.Item.item_type c.args.source.now x) (sym held) taken.1
 
 pub returns-clause-each_closed : goal.returns-clause-each_closed
