@@ -55,7 +55,7 @@ enum {
 enum {
     SOUPER_KEY = 1,    /* before each text a line `; ` and the SHA-256 of the text in hexadecimal digits */
     SOUPER_RENAME = 2, /* names %0, %1, .. in printed order */
-    SOUPER_NULL = 4    /* a byte 0 after each text in place of the empty line */
+    SOUPER_NULL = 4    /* a byte 0 after each text in place of the newline */
 };
 
 /* What a call did. What is not named for the status is 0. */
@@ -97,7 +97,7 @@ SOUPER_CALL SouperOutcome souper_read(uint32_t kind, const uint8_t *text, size_t
  * The other bytes of `out` are as before; unless the status is DONE, all of them. */
 SOUPER_CALL SouperOutcome souper_write(uint32_t kind, const uint8_t *code, size_t code_length, uint8_t *out, size_t out_length);
 
-/* Writes the record of each item that the text spells to the beginning of `out`: its canonical text and an empty line, and what
+/* Writes the record of each item that the text spells to the beginning of `out`: its canonical text and a newline, and what
  * the flags add or change. The program souper_items writes the same records.
  *
  * NO_FLAGS: a flag is none of the three. The other statuses, and the other bytes of `out`: as for souper_format. */

@@ -493,7 +493,7 @@ enum class flags : std::uint32_t {
     none = 0,
     key = SOUPER_KEY,       ///< before each text a line `; ` and the SHA-256 of the text in hexadecimal digits
     rename = SOUPER_RENAME, ///< names %0, %1, .. in printed order
-    null = SOUPER_NULL      ///< a byte 0 after each text in place of the empty line
+    null = SOUPER_NULL      ///< a byte 0 after each text in place of the newline
 };
 
 constexpr flags operator|(flags a, flags b) noexcept {
@@ -1215,7 +1215,7 @@ inline item canonical(kind k, const item &one) {
 }
 
 /// The records of the items that the text spells, one after the other, as the program souper_items writes them: each is the
-/// canonical text and an empty line, and what the flags add or change.
+/// canonical text and a newline, and what the flags add or change.
 inline std::string key(kind k, std::string_view text, flags f = flags::key) {
     return detail::output<std::string>([&](std::string &out, error &e) { return try_key(k, text, f, out, e); });
 }

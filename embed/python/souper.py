@@ -1116,7 +1116,7 @@ def records(
 ) -> str:
     """The record of each item that the text spells, as the program ``souper_items`` writes it.
 
-    A record is the canonical text and an empty line; with `nul`, a NUL in place of the empty line.
+    A record is the canonical text and a newline; with `nul`, a NUL in place of that newline.
     With `key` it begins with a comment line that has the key. With `rename` the values are named
     ``%0``, ``%1``, .. in printed order, so that items which differ in names alone have one record.
 

@@ -149,7 +149,7 @@ class Answers(unittest.TestCase):
             self.assertEqual([souper.key(kind, item) for item in items], keys, record)
             whole = "".join(f"; {key}\n{text}\0" for key, text in zip(keys, texts))
             self.assertEqual(souper.records(kind, record.text, key=True, nul=True), whole, record)
-            lines = "".join(text.removesuffix("\n") + "\n\n" for text in texts)
+            lines = "".join(text + "\n" for text in texts)
             self.assertEqual(souper.records(kind, record.text), lines, record)
 
     def test_renamed_records(self) -> None:

@@ -44,7 +44,7 @@ std::string joined(const std::vector<souper::record> &records, bool with_null) {
     std::string all;
     for (const auto &record : records) {
         all += "; " + record.key + "\n" + record.text;
-        all += with_null ? std::string(1, '\0') : record.text.back() == '\n' ? "\n" : "\n\n";
+        all += with_null ? std::string(1, '\0') : "\n";
     }
     return all;
 }

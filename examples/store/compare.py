@@ -7,7 +7,7 @@ RECORDS is what one process writes without keys: souper_items format -z [--renam
     compare.py answers RECORDS ANSWERS        two items have the same text if and only if ANSWERS, of harvest.py, says so
     compare.py renamed RECORDS ANSWERS        the same, up to names
     compare.py keyed RECORDS FILE             FILE has the records with their keys
-    compare.py unkeyed RECORDS FILE           FILE has the texts, each with a newline at its end and an empty line after it
+    compare.py unkeyed RECORDS FILE           FILE has the texts, a newline after each
     compare.py unique RECORDS FILE            FILE has the records with their keys, each once, in the order of the keys
     compare.py firsts RECORDS FILE            FILE has the first record of each text, in order
     compare.py counted RECORDS FILE           the same, each after a comment line that says how often its text is there
@@ -140,7 +140,7 @@ def cases(task, records, *words):
     if task == "counted":
         return same_as((b"; count %d\n%s\0" % (count, text) for text, count in collections.Counter(texts).items()), *words)
     if task == "unkeyed":
-        return same_as((text.removesuffix(b"\n") + b"\n\n" for text in texts), *words)
+        return same_as((text + b"\n" for text in texts), *words)
     if task == "objects":
         return are_objects(texts, *words)
     if task == "unique":

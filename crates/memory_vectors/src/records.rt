@@ -19,7 +19,7 @@ struct Want<'a> {
 }
 
 const KEYED: Layout = Layout {
-    delimiter: Delimiter::EmptyLine,
+    delimiter: Delimiter::Newline,
     key: true,
     rename: true,
 };

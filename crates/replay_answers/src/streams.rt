@@ -41,18 +41,6 @@ fn made_of<T: StreamItem + Drop>(alloc: Global, text: &str) -> io::Result<Made> 
     })
 }
 
-// Whether the records are the texts. After a right-hand side a record has one empty line more.
-fn are_as_stored(kind: Kind, records: &[u8], texts: &str) -> bool {
-    match (kind, str::from_utf8(records)) {
-        (_, Err(_)) => false,
-        (Kind::Rhs, Ok(records)) => {
-            let lines = records.lines().filter(|line| !line.is_empty());
-            lines.eq(texts.lines())
-        }
-        (_, Ok(records)) => records == texts,
-    }
-}
-
 // True if the records of the text are the stored texts, or it is refused as stored.
 fn is_as_stored(alloc: Global, stored: &Record<'_>) -> io::Result<bool> {
     let made = match stored.kind {
@@ -65,7 +53,7 @@ fn is_as_stored(alloc: Global, stored: &Record<'_>) -> io::Result<bool> {
         Ok(made.status == 1 && shown == Some(stored.answer.as_bytes()))
     } else {
         let is_silent = made.status == 0 && made.err.is_empty();
-        Ok(is_silent && are_as_stored(stored.kind, made.out.as_slice(), stored.answer))
+        Ok(is_silent && made.out.as_slice() == stored.answer.as_bytes())
     }
 }
 

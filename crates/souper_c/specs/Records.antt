@@ -1,6 +1,6 @@
 -- Definitions. The records of the items that a text spells.
 use Rattle.std.specs.Prelude.{◌≡◌, ℕ, ◌/◌, ◌%◌, List, length, nat_eq, if◌then◌else◌}
-use Rattle.souper_records.specs.declared.layout.Delimiter.TheVariants.{EmptyLine, Nul}
+use Rattle.souper_records.specs.declared.layout.Delimiter.TheVariants.{Newline, Nul}
 use Rattle.souper_records.specs.declared.layout.Layout.{Layout}
 use Rattle.souper_records.specs.Records.{AreRecordsOf}
 use Rattle.souper_c.specs.Kinds.{OfType}
@@ -10,7 +10,7 @@ use Rattle.souper_c.specs.Outcomes.{BeginsWith}
 -- the layout that the lowest three bits of the flags ask for: 1 with the key, 2 renamed, 4 ended by NUL
 abbrev pub layout_of : ℕ → Layout
 layout_of flags = record {
-  delimiter = if nat_eq (flags / 4 % 2) 1 then Nul else EmptyLine;
+  delimiter = if nat_eq (flags / 4 % 2) 1 then Nul else Newline;
   key = nat_eq (flags % 2) 1;
   rename = nat_eq (flags / 2 % 2) 1;
 }

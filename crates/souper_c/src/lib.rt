@@ -126,10 +126,11 @@ pub extern "C" fn souper_read(
     }
 }
 
-/// Writes the record of each item that `text` spells to the beginning of `out`: its canonical text, and an empty line after it.
+/// Writes the record of each item that `text` spells to the beginning of `out`: its canonical text, and a newline after it, as [`souper_format`]
+/// writes them.
 ///
 /// The flags are the sum of 1, for a line before each text with its key (`; ` and the SHA-256 of the text in hexadecimal digits),
-/// 2, for names by the printed order (`%0`, `%1`, and so on), and 4, for a NUL in place of the empty line. With 1 and 2, two items
+/// 2, for names by the printed order (`%0`, `%1`, and so on), and 4, for a NUL in place of that newline. With 1 and 2, two items
 /// have the same key if and only if they are the same graph up to names, unless two texts have the same SHA-256. The program
 /// `souper_items` writes the same records.
 ///

@@ -32,7 +32,7 @@ pub(crate) fn layout_of(flags: u32) -> Option<Layout>
         delimiter: if flags / 4 % 2 == 1 {
             Delimiter::Nul
         } else {
-            Delimiter::EmptyLine
+            Delimiter::Newline
         },
         key: flags % 2 == 1,
         rename: flags / 2 % 2 == 1,

@@ -101,7 +101,7 @@ fn format<'a>(alloc: Global) -> Result<Command<'a>, AllocError> {
     writer(
         alloc,
         "format",
-        "Writes the record of each item: its canonical text and an empty line",
+        "Writes the record of each item: its canonical text and a newline",
     )?
     .visible_alias("each")?
     .arg(flag(
@@ -129,7 +129,7 @@ fn uniq<'a>(alloc: Global) -> Result<Command<'a>, AllocError> {
 fn check<'a>(alloc: Global) -> Result<Command<'a>, AllocError> {
     Command::new(alloc, "check")
         .about(
-            "Says which files are not what format writes of them without options, and the first line that differs; each file is held in memory",
+            "Says which files are not canonical, and the first line that differs from what souper_fmt writes; each file is held in memory",
         )
         .arg(kind_arg(alloc))?
         .arg(files_arg(alloc))
@@ -155,7 +155,7 @@ fn read_layout(options: &ArgMatches<'_>) -> Layout {
         delimiter: if options.get_flag("null") {
             Delimiter::Nul
         } else {
-            Delimiter::EmptyLine
+            Delimiter::Newline
         },
         key: options.get_flag("key"),
         rename: options.get_flag("rename"),

@@ -9,6 +9,7 @@ use Rattle.souper_graph.specs.Values.{Item}
 use Rattle.souper_graph.specs.Syntax.Spelling.{ItemType, TextSpells, SpellsNone}
 use Rattle.souper_ir.proofs.Items.Lists.{text_alone}
 use Rattle.souper_ir.specs.Places.{newlines}
+use Rattle.souper_graph.specs.Text.{texts_of}
 use Rattle.souper_records.specs.Records.{records_of, plain}
 use Rattle.souper_records.specs.Canonical.{IsCanonical, BeginApart, DifferOnLine, IsOtherLine, ReportedOtherLine, IsWhole, IsCheckRun}
 use Rattle.souper_records.specs.Reports.{ReportedError}
@@ -45,10 +46,14 @@ differ_not text other line (same, rest, more, first, second, h, is) e =
 
 -- ---- canonical texts
 
--- whether it is, and on which line it first differs, from what `out` differs in, which has its records
-module _ (k : ItemType) (source out : List ℕ) (items : List Item) (spelled : TextSpells k source items) (is : out ≡ records_of plain items) where
+-- plain records are canonical texts, a newline after each
+pub plain_texts : (items : List Item) → records_of plain items ≡ texts_of items
+plain_texts items = refl
+
+-- whether it is, and on which line it first differs, from what `out` differs in, which has its canonical texts
+module _ (k : ItemType) (source out : List ℕ) (items : List Item) (spelled : TextSpells k source items) (is : out ≡ texts_of items) where
   out_if : IsCanonical k source → source ≡ out
-  out_if (others, spells, canonical) = canonical ∙ ap (records_of plain) (text_alone k source others items spells spelled) ∙ sym is
+  out_if (others, spells, canonical) = canonical ∙ ap texts_of (text_alone k source others items spells spelled) ∙ sym is
 
   pub canonical_if : (r : Option ℕ) → IfNone r (source ≡ out) → IfSome r (DifferOnLine source out) → (IsNone r → IsCanonical k source) × (IsCanonical k source → IsNone r)
   canonical_if None same differs = ((λ none. (items, spelled, same ∙ is)), (λ h. refl))
@@ -61,7 +66,7 @@ module _ (k : ItemType) (source out : List ℕ) (items : List Item) (spelled : T
 -- a text that differs is not canonical
 pub other_not : (k : ItemType) (source : List ℕ) (line : ℕ) → IsOtherLine k source line → IsCanonical k source → ⊥
 other_not k source line (items, spelled, differs) (others, spells, canonical) =
-    differ_not source (records_of plain items) line differs (canonical ∙ ap (records_of plain) (text_alone k source others items spells spelled))
+    differ_not source (texts_of items) line differs (canonical ∙ ap texts_of (text_alone k source others items spells spelled))
 
 pub none_canonical : (k : ItemType) (source : List ℕ) → SpellsNone k source → IsCanonical k source → ⊥
 none_canonical k source none h = none h.0 h.1

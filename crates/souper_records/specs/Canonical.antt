@@ -1,6 +1,7 @@
 -- Definitions. Canonical texts, and what each status of a run that looks for them says.
 use Rattle.std.specs.Prelude.{◌≡◌, ◌⊎◌, ℕ, ◌+◌, List, [], ◌∷◌, ◌++◌, Option, Some, false, codes, decimal}
 use Rattle.std.specs.Io.KnownBytes.{Consumes}
+use Rattle.souper_graph.specs.Text.{texts_of}
 use Rattle.souper_graph.specs.Values.{Item}
 use Rattle.souper_graph.specs.Syntax.Spelling.{ItemType, TextSpells}
 use Rattle.souper_ir.specs.Answers.{IsStrError}
@@ -10,14 +11,14 @@ use Rattle.souper_ir.specs.Errors.{kind_of}
 use Rattle.souper_ir.specs.Places.{newlines}
 use Rattle.souper_stream.specs.Reading.{AreAll}
 use Rattle.souper_format.specs.Streams.{Stream, IsGiven, IsGivenNothing}
+use Rattle.souper_format.specs.Formatted.{IsFormatted}
 use Rattle.souper_format.specs.Reporting.{ReportedLine}
-use Rattle.souper_records.specs.Records.{records_of, AreRecordsOf, plain}
 use Rattle.souper_records.specs.Reports.{ReportedMemory, ReportedFault}
 use Rattle.souper_records.specs.Runs.{OnStatus}
 
--- the text is the plain records of the items that it spells
+-- the text is what the formatter writes of it: the canonical texts of the items that it spells, a newline after each
 abbrev pub IsCanonical : ItemType → List ℕ → Type 0
-IsCanonical k text = AreRecordsOf plain k text text
+IsCanonical k text = IsFormatted k text text
 
 -- the first bytes of the texts differ, or one of the texts has no bytes
 abbrev pub BeginApart : List ℕ → List ℕ → Type 0
@@ -31,9 +32,9 @@ abbrev pub DifferOnLine : List ℕ → List ℕ → ℕ → Type 0
 DifferOnLine text other line = (same : List ℕ) × (rest : List ℕ) × (more : List ℕ)
     × (text ≡ same ++ rest) × (other ≡ same ++ more) × BeginApart rest more × (line ≡ newlines same + 1)
 
--- the text differs from the plain records of the items that it spells, on this line first
+-- the text differs from the canonical texts of the items that it spells, on this line first
 abbrev pub IsOtherLine : ItemType → List ℕ → ℕ → Type 0
-IsOtherLine k text line = (items : List Item) × TextSpells k text items × DifferOnLine text (records_of plain items) line
+IsOtherLine k text line = (items : List Item) × TextSpells k text items × DifferOnLine text (texts_of items) line
 
 -- the line that says on which line a text is not canonical
 abbrev pub other_line : List ℕ → ℕ → List ℕ

@@ -1,6 +1,5 @@
 -- Definitions. The record of an item.
-use Rattle.std.specs.Prelude.{◌≡◌, Bool, false, ℕ, List, [], ◌∷◌, ◌++◌, flat_map, codes, nat_eq, if◌then◌else◌}
-use Rattle.std.specs.List.{ends_with}
+use Rattle.std.specs.Prelude.{◌≡◌, Bool, false, ℕ, List, [], ◌∷◌, ◌++◌, flat_map, codes, if◌then◌else◌}
 use Rattle.sha2.specs.Sha256.{sha256}
 use Rattle.hex.specs.Hex.{encode_lower}
 use Rattle.souper_graph.specs.Values.{Item}
@@ -8,20 +7,16 @@ use Rattle.souper_graph.specs.Text.{text_of}
 use Rattle.souper_graph.specs.Renaming.{renamed}
 use Rattle.souper_graph.specs.Syntax.Spelling.{ItemType, TextSpells}
 use Rattle.souper_records.specs.declared.layout.Delimiter.{Delimiter}
-use Rattle.souper_records.specs.declared.layout.Delimiter.TheVariants.{EmptyLine, Nul}
+use Rattle.souper_records.specs.declared.layout.Delimiter.TheVariants.{Newline, Nul}
 use Rattle.souper_records.specs.declared.layout.Layout.{Layout}
 
 -- the item, or the item with names by its printed order
 abbrev pub chosen : Bool → Item → Item
 chosen rename a = if rename then renamed a else a
 
--- the text, with a newline at its end
-abbrev pub closed : List ℕ → List ℕ
-closed text = if ends_with nat_eq text (codes "\n") then text else text ++ codes "\n"
-
 -- the text, and what ends its record
 abbrev pub delimited : Delimiter → List ℕ → List ℕ
-delimited EmptyLine text = closed text ++ codes "\n"
+delimited Newline text = text ++ codes "\n"
 delimited Nul text = text ++ 0 ∷ []
 
 -- the key of a text
@@ -48,6 +43,6 @@ records_of l items = flat_map (record_of l) items
 abbrev pub AreRecordsOf : Layout → ItemType → List ℕ → List ℕ → Type 0
 AreRecordsOf l k source bytes = (items : List Item) × TextSpells k source items × (bytes ≡ records_of l items)
 
--- canonical texts, an empty line after each
+-- canonical texts, a newline after each
 abbrev pub plain : Layout
-plain = record { delimiter = EmptyLine; key = false; rename = false }
+plain = record { delimiter = Newline; key = false; rename = false }

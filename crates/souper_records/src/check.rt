@@ -34,9 +34,8 @@ fn differing_line(text: &[u8], other: &[u8]) -> Option<usize>
     }
 }
 
-/// The line of the text, counted from 1, on which it first differs from its canonical text, which is the records of the items that it
-/// spells, as [`each`](crate::each::each) writes them in the layout [`PLAIN`]; none if it is canonical. If the text is a beginning of its
-/// canonical text, that is the line on which the rest would begin.
+/// The line of the text, counted from 1, on which it first differs from what [`format_text`](souper_format::items::format_text) returns
+/// for it; none if it is canonical. If the text is a beginning of that, it is the line on which the rest would begin.
 ///
 /// It fails like [`parse_into`](souper_ir::parse::parse_into): the text spells no such items, or memory ran out. The error shows `name` as the name of the text.
 pub fn first_other_line<T: WholeItem + Drop>(
@@ -69,7 +68,7 @@ fn report_other_line<E: Write>(alloc: Global, name: &str, line: usize, err: &mut
 }
 
 /// Reads the whole stream, and returns the status of the program: whether it is canonical ([`first_other_line`]). The stream and its
-/// records are held in memory.
+/// canonical text are held in memory.
 ///
 /// - 0: it is, and nothing was written to `err`.
 /// - 1: it is not, and a line was written to `err` that says so, with the name and the number of the first line that differs:

@@ -3,8 +3,8 @@
 /// What ends a record.
 #[derive(Clone, Copy, Debug, PartialEq, Eq)]
 pub enum Delimiter {
-    /// An empty line, after a newline if the text has none at its end.
-    EmptyLine,
+    /// A newline. The text of a left-hand side or of a replacement ends in a newline itself, so an empty line is after it.
+    Newline,
 
     /// A NUL character, which no canonical text has.
     Nul,
@@ -24,9 +24,9 @@ pub struct Layout {
     pub rename: bool,
 }
 
-/// Canonical texts, an empty line after each.
+/// Canonical texts, a newline after each: what [`format_text`](souper_format::items::format_text) writes.
 pub const PLAIN: Layout = Layout {
-    delimiter: Delimiter::EmptyLine,
+    delimiter: Delimiter::Newline,
     key: false,
     rename: false,
 };

@@ -69,13 +69,7 @@ fn append_delimited(delimiter: Delimiter, text: &str, out: &mut String) -> Resul
     out.push_str(text)?;
     match delimiter {
         Delimiter::Nul => out.push_str("\0"),
-        Delimiter::EmptyLine => {
-            if text.as_bytes().ends_with(b"\n") {
-                out.push_str("\n")
-            } else {
-                out.push_str("\n\n")
-            }
-        }
+        Delimiter::Newline => out.push_str("\n"),
     }
 }
 

@@ -28,14 +28,14 @@ pub enum Kind {
     Rep = 2,
 }
 
-/// The form of the records of [`key()`]. By default a record is the canonical text and an empty line.
+/// The form of the records of [`key()`]. By default a record is the canonical text and a newline.
 #[derive(Clone, Copy, Debug, Default, PartialEq, Eq, Hash)]
 pub struct Record {
     /// Before the text a line `; ` with the key: the SHA-256 of the text, in 64 hexadecimal digits.
     pub key: bool,
     /// Names `%0`, `%1` and so on, in the order in which the text has the values.
     pub renamed: bool,
-    /// A byte 0 in place of the empty line.
+    /// A byte 0 in place of that newline.
     pub null: bool,
 }
 

@@ -29,11 +29,11 @@ fn is_lhs_told(rt: &impl Abort, alloc: Global, source: &[u8], want: (u8, &str)) 
 }
 
 #[test]
-fn records_are_canonical(rt: HostRuntime) {
+fn formatted_texts_are_canonical(rt: HostRuntime) {
     is_lhs_told(&rt, rt.alloc(), b"", (0, ""));
     let source = b"%x = var\ninfer %x\n\n%y = var\ninfer %y\n\n";
     is_lhs_told(&rt, rt.alloc(), source, (0, ""));
-    let source = b"result 1:i8\n\nresult 2:i8\n\n";
+    let source = b"result 1:i8\nresult 2:i8\n";
     is_told::<RightHandSide>(&rt, rt.alloc(), source, (0, ""));
 }
 
@@ -61,7 +61,9 @@ fn first_line_that_differs_is_told(rt: HostRuntime) {
         is_lhs_told(&rt, rt.alloc(), source.as_bytes(), (1, line));
     }
     let want = (1, "a.opt:2: not canonical\n");
-    is_told::<RightHandSide>(&rt, rt.alloc(), b"result 1:i8\n", want);
+    is_told::<RightHandSide>(&rt, rt.alloc(), b"result 1:i8\n\n", want);
+    let want = (1, "a.opt:1: not canonical\n");
+    is_told::<RightHandSide>(&rt, rt.alloc(), b"result 1:i8", want);
 }
 
 #[test]

@@ -80,7 +80,7 @@ fn items_around_refused_ones_are_written(rt: HostRuntime) {
 #[test]
 fn items_before_a_refused_one_of_the_line_are_written(rt: HostRuntime) {
     let source = "result 1 result 2 result result\nresult 3\nresult 4";
-    let want = "result 1\n\nresult 2\n\nresult 3\n\nresult 4\n\n";
+    let want = "result 1\nresult 2\nresult 3\nresult 4\n";
     let report =
         "a.opt:1:25: expected an integer literal\n     |\n   1 | result 1 result 2 result result\n     |                         ^\n";
     each_text::<RightHandSide>(&rt, rt.alloc(), source, (1, want, report));

@@ -13,13 +13,13 @@ fn has_records(rt: &impl Abort, alloc: Global, layout: Layout, source: &str, tex
 }
 
 #[test]
-fn record_is_the_text_and_an_empty_line(rt: HostRuntime) {
+fn record_is_the_text_and_a_newline(rt: HostRuntime) {
     let alloc = rt.alloc();
     let text = "%x = var\ninfer %x\n\n";
     has_records(&rt, alloc, PLAIN, "%x = var infer %x", text);
     // The text of a right-hand side has no newline at its end.
     let source = "result 1:i8 result 2:i8";
-    let want = (0, "result 1:i8\n\nresult 2:i8\n\n", "");
+    let want = (0, "result 1:i8\nresult 2:i8\n", "");
     runs::<RightHandSide>(&rt, alloc, Command::Each(PLAIN), (source, 9), want);
     let source = "%x = var cand %x 1 ; one";
     let want = (0, "%x = var\ncand %x 1\n\n", "");
@@ -60,7 +60,7 @@ fn key_is_that_of_the_text(rt: HostRuntime) {
     let text = "%x = var\ninfer %x\n";
     has_key(&rt, rt.alloc(), text, key);
     let layout = Layout {
-        delimiter: Delimiter::EmptyLine,
+        delimiter: Delimiter::Newline,
         key: true,
         rename: false,
     };
@@ -74,7 +74,7 @@ fn key_is_that_of_the_text(rt: HostRuntime) {
 #[test]
 fn names_are_those_of_the_printed_order(rt: HostRuntime) {
     let layout = Layout {
-        delimiter: Delimiter::EmptyLine,
+        delimiter: Delimiter::Newline,
         key: false,
         rename: true,
     };

@@ -12,7 +12,7 @@ use std::io::{BufReader, Write};
 use std::process::Abort;
 
 const RENAMED: Layout = Layout {
-    delimiter: Delimiter::EmptyLine,
+    delimiter: Delimiter::Newline,
     key: false,
     rename: true,
 };
@@ -79,7 +79,7 @@ fn first_of_each_graph_is_written(rt: HostRuntime) {
     let text = "%0 = var\ninfer %0\n\n";
     writes_of::<LeftHandSide>(&rt, rt.alloc(), RENAMED, source, text);
     let source = "result 1:i8 result 2:i8 result 1:i8 result 1:i16";
-    let text = "result 1:i8\n\nresult 2:i8\n\nresult 1:i16\n\n";
+    let text = "result 1:i8\nresult 2:i8\nresult 1:i16\n";
     writes_of::<RightHandSide>(&rt, rt.alloc(), PLAIN, source, text);
 }
 
