@@ -10,6 +10,8 @@ mod checks;
 #[cfg(test)]
 mod comparison;
 #[cfg(test)]
+mod differences;
+#[cfg(test)]
 mod faulty;
 #[cfg(test)]
 mod program;
