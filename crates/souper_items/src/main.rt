@@ -106,7 +106,7 @@ impl<W: Write, E: Write> Session<'_, W, E> {
                 &mut self.err,
             ),
             Action::Uniq(layout) => self.uniq::<T, R>(layout, reader, name),
-            Action::Count(layout) => self.count::<T, R>(layout, reader, name),
+            Action::Count(layout, _) => self.count::<T, R>(layout, reader, name),
             Action::Check => check_run::<T, R, E>(alloc, reader, name, &mut self.err),
         }
     }
@@ -164,9 +164,10 @@ impl<W: Write, E: Write> Session<'_, W, E> {
         let status = self.files(&mut meter);
         meter.clear();
         match self.task.action {
-            Action::Count(layout) if status != 2 => status.max(count_run(
+            Action::Count(layout, summary) if status != 2 => status.max(count_run(
                 self.rt.alloc(),
                 layout,
+                summary,
                 &self.seen,
                 &mut self.out,
                 &mut self.err,

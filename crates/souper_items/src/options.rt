@@ -2,7 +2,7 @@
 
 use clap::{Arg, ArgAction, ArgMatches, Command};
 use souper_format::command::Kind;
-use souper_records::layout::{Delimiter, Layout};
+use souper_records::layout::{Delimiter, Layout, Summary};
 use std::alloc::{AllocError, Global};
 
 static KINDS: [&str; 3] = ["lhs", "rhs", "rep"];
@@ -19,8 +19,8 @@ pub(crate) enum Action {
     /// The record of the first of each graph is written.
     Uniq(Layout),
 
-    /// The same after all streams, with counts.
-    Count(Layout),
+    /// The same after all streams, of the graphs and with the counts that are asked for.
+    Count(Layout, Summary),
 
     /// Whether the stream is canonical is found out.
     Check,
@@ -29,7 +29,7 @@ pub(crate) enum Action {
 impl Action {
     /// Whether the output for an item depends on the items before it.
     pub(crate) fn remembers(self) -> bool {
-        matches!(self, Action::Uniq(_) | Action::Count(_))
+        matches!(self, Action::Uniq(_) | Action::Count(..))
     }
 }
 
@@ -123,7 +123,13 @@ fn uniq<'a>(alloc: Global) -> Result<Command<'a>, AllocError> {
         "count",
         "Write the records at the end, each after a comment line that says how many items are the same graph",
     )
-    .short('c'))
+    .short('c'))?
+    .arg(flag(
+        alloc,
+        "repeated",
+        "Write the records at the end, only of graphs that more than one item has",
+    )
+    .short('d'))
 }
 
 fn check<'a>(alloc: Global) -> Result<Command<'a>, AllocError> {
@@ -162,14 +168,26 @@ fn read_layout(options: &ArgMatches<'_>) -> Layout {
     }
 }
 
+fn read_uniq(options: &ArgMatches<'_>) -> Action {
+    let layout = read_layout(options);
+    let summary = Summary {
+        counts: options.get_flag("count"),
+        repeated: options.get_flag("repeated"),
+    };
+    if summary.counts || summary.repeated {
+        Action::Count(layout, summary)
+    } else {
+        Action::Uniq(layout)
+    }
+}
+
 fn read_action(name: &str, options: &ArgMatches<'_>) -> Option<Action> {
     match name {
         "format" if options.get_flag("jsonl") => Some(Action::Objects {
             rename: options.get_flag("rename"),
         }),
         "format" => Some(Action::Each(read_layout(options))),
-        "uniq" if options.get_flag("count") => Some(Action::Count(read_layout(options))),
-        "uniq" => Some(Action::Uniq(read_layout(options))),
+        "uniq" => Some(read_uniq(options)),
         "check" => Some(Action::Check),
         _ => None,
     }

@@ -10,11 +10,12 @@ use Rattle.souper_format.specs.Streams.{Stream, IsGiven, IsGivenNothing}
 use Rattle.souper_format.specs.Reporting.{ReportedLine}
 use Rattle.souper_records.specs.declared.run.TheConstants.{BROKEN_PIPE}
 use Rattle.souper_records.specs.declared.layout.Layout.{Layout}
+use Rattle.souper_records.specs.declared.layout.Summary.{Summary}
 use Rattle.souper_records.specs.Eaches.{WritesEach, WritesUpTo, WritesBegun}
 use Rattle.souper_records.specs.declared.each.Stop.{Stop}
 use Rattle.souper_records.specs.declared.each.Stop.TheVariants.{Input, Output, Memory}
 use Rattle.souper_records.specs.declared.seen.Seen.{Seen}
-use Rattle.souper_records.specs.Uniques.{WritesFirsts, WritesFirstsUpTo, WritesFirstsBegun, WritesFirstRecords, WritesSeenFirsts, counted_records, WritesCountsBegun}
+use Rattle.souper_records.specs.Uniques.{WritesFirsts, WritesFirstsUpTo, WritesFirstsBegun, WritesFirstRecords, WritesSeenFirsts, summary_of, WritesSummaryBegun}
 use Rattle.souper_records.specs.Objects.{WritesObjects, WritesAllObjects}
 use Rattle.souper_records.specs.Outcomes.{Outcome, refusals_of, AreReported, AreReportedThen, WritesPieces, ReadsPieces, OfItems, WritesRecords}
 use Rattle.souper_records.specs.Reports.{IsMemoryLine, IsFaultLine, Reported, ReportedMemory, ReportedFault, ReportedError}
@@ -109,11 +110,11 @@ IsUniqGoingOnRun k l earlier name before after out seen err status = IsPiecesRun
     (OfItems (WritesSeenFirsts k l earlier out seen))
     (OfItems (WritesFirstRecords l earlier out)) out err status
 
--- What the status of writing the records of items with counts says: 0, all were written, and nothing was reported; 2, memory ran out
+-- What the status of writing the records of the distinct items says: 0, all were written, and nothing was reported; 2, memory ran out
 -- after some were written, or the output has failed, and that was reported; 141, the output is a pipe that nobody reads.
-abbrev pub IsCountRun : Layout → List Item → Stream → Stream → ℕ → Type 0
-IsCountRun l items out err status = OnStatus status
-    (IsGiven out (counted_records l items) × IsGivenNothing err)
+abbrev pub IsCountRun : Layout → Summary → List Item → Stream → Stream → ℕ → Type 0
+IsCountRun l s items out err status = OnStatus status
+    (IsGiven out (summary_of l s items) × IsGivenNothing err)
     ⊥
-    ((WritesCountsBegun l items out × ReportedMemory err) ⊎ ((out.failed ≡ true) × ReportedFault output_name err))
+    ((WritesSummaryBegun l s items out × ReportedMemory err) ⊎ ((out.failed ≡ true) × ReportedFault output_name err))
     ((out.failed ≡ true) × IsGivenNothing err)

@@ -1,6 +1,6 @@
 -- Definitions. The first item of each graph.
-use Rattle.std.specs.Prelude.{◌≡◌, ℕ, ◌+◌, ◌^◌, ◌<◌, ◌≤◌, Bool, true, false, List, [], ◌++◌, length, map, flat_map, take, codes, decimal, Option}
-use Rattle.std.specs.List.{AllByRecursion}
+use Rattle.std.specs.Prelude.{◌≡◌, ℕ, ◌+◌, ◌^◌, ◌<◌, ◌≤◌, Bool, true, false, List, [], ◌++◌, length, map, flat_map, take, codes, decimal, Option, nat_le, not, ◌||◌, if◌then◌else◌}
+use Rattle.std.specs.List.{AllByRecursion, filter}
 use Rattle.std.specs.Io.KnownBytes.{Consumes, Appends}
 use Rattle.std.specs.String.{string_bytes}
 use Rattle.souper_graph.specs.Values.{Item}
@@ -16,8 +16,9 @@ use Rattle.souper_ir.specs.Sinks.{PrefixSpells}
 use Rattle.souper_stream.specs.Reading.{AreAll, NeverSpells}
 use Rattle.souper_format.specs.Streams.{Stream, IsGiven}
 use Rattle.souper_records.specs.declared.layout.Layout.{Layout}
+use Rattle.souper_records.specs.declared.layout.Summary.{Summary}
 use Rattle.souper_records.specs.declared.seen.Seen.{Seen}
-use Rattle.souper_records.specs.Records.{chosen, record_of, records_of}
+use Rattle.souper_records.specs.Records.{chosen, record_of_text, record_of, records_of}
 use Rattle.souper_records.specs.Firsts.{firsts_by, NoTwo, HoldsOfOne}
 use Rattle.souper_records.specs.Counts.{count_of, counts_by}
 
@@ -108,14 +109,30 @@ WritesNewFirsts k l old new before after items = (earlier : List Item) → HasSe
 abbrev pub count_line : ℕ → List ℕ
 count_line n = codes "; count " ++ (decimal n ++ codes "\n")
 
--- the record of a first item among these, after how many have its text
-abbrev pub counted_record : Layout → List Item → Item → List ℕ
-counted_record l items a = count_line (count_of (text_by l.rename) items a) ++ record_of l a
+-- whether a graph that so many items have has a record
+abbrev pub is_listed : Summary → ℕ → Bool
+is_listed s n = not s.repeated || nat_le 2 n
 
--- the counted records of all first items
-abbrev pub counted_records : Layout → List Item → List ℕ
-counted_records l items = flat_map (counted_record l items) (firsts l.rename [] items)
+-- the record of a graph whose items have this text and are so many, after their number if it is asked for
+abbrev pub counted_record : Layout → Summary → List ℕ → ℕ → List ℕ
+counted_record l s text n = (if s.counts then count_line n else []) ++ record_of_text l text
+
+-- the same, or nothing if the graph has no record
+abbrev pub summary_of_text : Layout → Summary → List ℕ → ℕ → List ℕ
+summary_of_text l s text n = if is_listed s n then counted_record l s text n else []
+
+-- the first item of each graph that has a record
+abbrev pub listed : Layout → Summary → List Item → List Item
+listed l s items = filter (λ a. is_listed s (count_of (text_by l.rename) items a)) (firsts l.rename [] items)
+
+-- the record of a first item among these
+abbrev pub summary_of_item : Layout → Summary → List Item → Item → List ℕ
+summary_of_item l s items a = counted_record l s (text_by l.rename a) (count_of (text_by l.rename) items a)
+
+-- the records of all graphs that have one
+abbrev pub summary_of : Layout → Summary → List Item → List ℕ
+summary_of l s items = flat_map (summary_of_item l s items) (listed l s items)
 
 -- the first of these records were written, each whole, and nothing else
-abbrev pub WritesCountsBegun : Layout → List Item → Stream → Type 0
-WritesCountsBegun l items out = (n : ℕ) × IsGiven out (flat_map (counted_record l items) (take n (firsts l.rename [] items)))
+abbrev pub WritesSummaryBegun : Layout → Summary → List Item → Stream → Type 0
+WritesSummaryBegun l s items out = (n : ℕ) × IsGiven out (flat_map (summary_of_item l s items) (take n (listed l s items)))

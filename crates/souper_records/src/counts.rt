@@ -1,4 +1,4 @@
-//! The record of the first item of each graph, with how many items have its text.
+//! The records of the distinct items, after all were read.
 ghost use Rattle.std.specs.Prelude.{◌≡◌, ◌⊎◌, ◌++◌, ℕ, List, [], slice_index_or, OnOk, IfErr};
 ghost use Rattle.std.specs.String.{string_bytes};
 ghost use Rattle.souper_graph.specs.Syntax.Spelling.{ItemType};
@@ -6,30 +6,49 @@ ghost use Rattle.souper_graph.specs.Values.{Item};
 ghost use Rattle.souper_format.specs.Streams.{stream, IsGiven};
 ghost use Rattle.souper_format.specs.Watching.{has_failed};
 ghost use Rattle.souper_records.specs.Eaches.{IfInput, UnlessOutput};
-ghost use Rattle.souper_records.specs.Records.{record_of_text};
-ghost use Rattle.souper_records.specs.Uniques.{HasSeen, count_line, counted_records, WritesCountsBegun};
+ghost use Rattle.souper_records.specs.Uniques.{HasSeen, is_listed, count_line, summary_of_text, summary_of, WritesSummaryBegun};
 
 use crate::each::{CHUNK, Stop, write_text};
-use crate::layout::Layout;
+use crate::layout::{Layout, Summary};
 use crate::records::append_record_of_text;
 use crate::seen::Seen;
 use souper_format::watched::Watched;
 use std::alloc::{AllocError, Global};
 use std::io::Write;
 
-// Appends the record of an item whose text this is, after a comment line with the count.
-fn append_counted(
+// Whether a graph that so many items have has a record.
+fn is_listed(summary: Summary, count: u64) -> bool
+    ensures { result ≡ is_listed summary count }
+{
+    !summary.repeated || count >= 2
+}
+
+// Appends a comment line with the count.
+fn append_count(alloc: Global, count: u64, out: &mut String) -> Result<(), AllocError>
+    ensures { OnOk result (string_bytes out.new ≡ string_bytes out.old ++ count_line count) }
+{
+    out.push_str("; count ")?;
+    out.push_str(count.to_string(alloc)?.as_str())?;
+    out.push_str("\n")
+}
+
+// Appends what is written of a graph whose items have this text and are so many.
+fn append_summary(
     alloc: Global,
     layout: Layout,
+    summary: Summary,
     text: &str,
     count: u64,
     out: &mut String,
 ) -> Result<(), AllocError>
-    ensures { OnOk result (string_bytes out.new ≡ string_bytes out.old ++ (count_line count ++ record_of_text layout text.now)) }
+    ensures { OnOk result (string_bytes out.new ≡ string_bytes out.old ++ summary_of_text layout summary text.now count) }
 {
-    out.push_str("; count ")?;
-    out.push_str(count.to_string(alloc)?.as_str())?;
-    out.push_str("\n")?;
+    if !is_listed(summary, count) {
+        return Ok(());
+    }
+    if summary.counts {
+        append_count(alloc, count, out)?;
+    }
     append_record_of_text(alloc, layout, text, out)
 }
 
@@ -57,28 +76,31 @@ fn write_many<W: Write>(records: &mut String, out: &mut Watched<W>) -> Result<()
     Ok(())
 }
 
-/// Writes the record of the first item of each graph that was seen, in order, each after a comment line that says how many items
-/// have its text, which are the items of the same graph: `; count 3`. A count is at most `u64::MAX`.
+/// Writes the record of the first item of each graph that was seen, in order; with `repeated`, of the graphs that more than one item has.
+/// With `counts` each comes after a comment line that says how many items have its text, which are the items of the same graph:
+/// `; count 3`. A count is at most `u64::MAX`.
 ///
 /// The layout is that with which the items were seen. If memory runs out, records of the first ones were written. After an error of the
 /// output `out` has failed, and nothing is known of the bytes written. There is no other error.
 pub fn write_counts<W: Write>(
     alloc: Global,
     layout: Layout,
+    summary: Summary,
     seen: &Seen,
     out: &mut Watched<W>,
 ) -> Result<(), Stop>
     ensures written { OnOk result ((k : ItemType) (items : List Item) → HasSeen k layout.rename items seen.now
-        → IsGiven (stream W.contents out.old out.new) (counted_records layout items)) }
+        → IsGiven (stream W.contents out.old out.new) (summary_of layout summary items)) }
     ensures input { IfErr result (λ stop. IfInput stop (λ e. ⊥)) }
     ensures stopped { IfErr result (λ stop. UnlessOutput stop (has_failed out.new) ((k : ItemType) (items : List Item) → HasSeen k layout.rename items seen.now
-        → WritesCountsBegun layout items (stream W.contents out.old out.new))) }
+        → WritesSummaryBegun layout summary items (stream W.contents out.old out.new))) }
 {
     let texts = seen.texts.as_slice();
     let mut records = String::new(alloc);
     for index in 0..texts.len() {
         let count = count_at(&seen.counts, index);
-        append_counted(alloc, layout, texts[index].as_str(), count, &mut records)?;
+        let text = texts[index].as_str();
+        append_summary(alloc, layout, summary, text, count, &mut records)?;
         write_many(&mut records, out)?;
     }
     write_text(&records, out)

@@ -24,6 +24,16 @@ pub struct Layout {
     pub rename: bool,
 }
 
+/// Which graphs have their records written after all items were read, and whether with counts.
+#[derive(Clone, Copy, Debug, PartialEq, Eq)]
+pub struct Summary {
+    /// Whether a comment line before each record says how many items are the same graph: `; count 3`.
+    pub counts: bool,
+
+    /// Whether only graphs that more than one item has have a record.
+    pub repeated: bool,
+}
+
 /// Canonical texts, a newline after each: what [`format_text`](souper_format::items::format_text) writes.
 pub const PLAIN: Layout = Layout {
     delimiter: Delimiter::Newline,

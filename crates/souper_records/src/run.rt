@@ -10,7 +10,7 @@ ghost use Rattle.souper_records.specs.Runs.{EndsWithFault, IsEnd, IsStop, IsPiec
 use crate::counts::write_counts;
 use crate::each::{Stop, each};
 use crate::going_on::each_going_on;
-use crate::layout::Layout;
+use crate::layout::{Layout, Summary};
 use crate::objects::write_objects;
 use crate::report::{report_error, report_fault, report_memory};
 use crate::seen::Seen;
@@ -205,7 +205,7 @@ pub fn uniq_going_on_run<T: StreamItem + Drop, R: BufRead, W: Write, E: Write>(
     end_pieces(alloc, name, pieces, out, err)
 }
 
-/// Writes the records of the items that were seen to `out`, with counts ([`write_counts`]), and returns the status of the program.
+/// Writes the records of the distinct items that were seen to `out` ([`write_counts`]), and returns the status of the program.
 ///
 /// - 0: done, and nothing was written to `err`.
 /// - 2: `out` failed or memory ran out, and a line that says so was written to `err`. Unless `out` failed, the records of the first ones
@@ -216,14 +216,15 @@ pub fn uniq_going_on_run<T: StreamItem + Drop, R: BufRead, W: Write, E: Write>(
 pub fn count_run<W: Write, E: Write>(
     alloc: Global,
     layout: Layout,
+    summary: Summary,
     seen: &Seen,
     out: &mut Watched<W>,
     err: &mut Watched<E>,
 ) -> u8
     ensures { (k : ItemType) (items : List Item) → HasSeen k layout.rename items seen.now
-        → IsCountRun layout items (stream W.contents out.old out.new) (stream E.contents err.old err.new) result }
+        → IsCountRun layout summary items (stream W.contents out.old out.new) (stream E.contents err.old err.new) result }
 {
-    match write_counts(alloc, layout, seen, out) {
+    match write_counts(alloc, layout, summary, seen, out) {
         Ok(()) => end(alloc, 0, out, err),
         Err(Stop::Input(_)) => unreachable!(),
         Err(Stop::Output(fault)) => report_output(alloc, &fault, err),

@@ -3,13 +3,18 @@ use crate::checks::{equal, text};
 use crate::records::support::{Command, run_to};
 use souper_format::watched::Watched;
 use souper_ir::ast::LeftHandSide;
-use souper_records::layout::PLAIN;
+use souper_records::layout::{PLAIN, Summary};
 use souper_records::run::{BROKEN_PIPE, count_run, uniq_run};
 use souper_records::seen::Seen;
 use std::alloc::Global;
 use std::io;
 use std::io::{BufReader, ErrorKind, Write};
 use std::process::Abort;
+
+const COUNTS: Summary = Summary {
+    counts: true,
+    repeated: false,
+};
 
 // A pipe that is read up to this many bytes.
 #[derive(Drop)]
@@ -98,6 +103,6 @@ fn closed_pipe_has_no_counts(rt: HostRuntime) {
         &mut sink,
         &mut err,
     );
-    let status = count_run(alloc, PLAIN, &seen, &mut out, &mut err);
+    let status = count_run(alloc, PLAIN, COUNTS, &seen, &mut out, &mut err);
     equal(&rt, (first, status, text(&reported)), (0, BROKEN_PIPE, ""));
 }

@@ -1,8 +1,8 @@
 //! The first item of each graph.
-use crate::checks::{Ran, equal, text};
+use crate::checks::{equal, text};
 use souper_format::watched::Watched;
 use souper_ir::ast::{LeftHandSide, RightHandSide};
-use souper_records::layout::{Delimiter, Layout, PLAIN};
+use souper_records::layout::{Delimiter, Layout, PLAIN, Summary};
 use souper_records::run::{count_run, uniq_run};
 use souper_records::seen::Seen;
 use souper_stream::StreamItem;
@@ -130,18 +130,25 @@ fn many_items_are_written_once(rt: HostRuntime) {
     writes::<LeftHandSide>(&rt, rt.alloc(), PLAIN, streams.as_slice(), records.as_str());
 }
 
-// The counts of what was seen are this.
-fn has_counts(rt: &impl Abort, alloc: Global, seen: &Seen, want: Ran<'_>) {
+// This is written at the end of what was seen.
+fn has_summary(
+    rt: &impl Abort,
+    alloc: Global,
+    (counts, repeated): (bool, bool),
+    seen: &Seen,
+    want: &str,
+) {
+    let summary = Summary { counts, repeated };
     let mut written = Vec::new(alloc);
     let mut reported = Vec::new(alloc);
     let mut out = Watched::new(&mut written);
     let mut err = Watched::new(&mut reported);
-    let status = count_run(alloc, RENAMED, seen, &mut out, &mut err);
-    equal(rt, (status, text(&written), text(&reported)), want);
+    let status = count_run(alloc, RENAMED, summary, seen, &mut out, &mut err);
+    equal(rt, (status, text(&written), text(&reported)), (0, want, ""));
 }
 
 #[test]
-fn counts_are_those_of_all_streams(rt: HostRuntime) {
+fn summary_is_that_of_all_streams(rt: HostRuntime) {
     let alloc = rt.alloc();
     let mut seen = Seen::new(alloc);
     let mut sink = Watched::new(io::sink());
@@ -153,5 +160,11 @@ fn counts_are_those_of_all_streams(rt: HostRuntime) {
     let second = uniq::<LeftHandSide, io::Sink>(&rt, alloc, RENAMED, &mut seen, source, &mut sink);
     equal(&rt, (first, second), (0, 0));
     let text = "; count 4\n%0 = var\ninfer %0\n\n; count 1\n%0:i8 = var\ninfer %0\n\n";
-    has_counts(&rt, alloc, &seen, (0, text, ""));
+    has_summary(&rt, alloc, (true, false), &seen, text);
+    let text = "; count 4\n%0 = var\ninfer %0\n\n";
+    has_summary(&rt, alloc, (true, true), &seen, text);
+    has_summary(&rt, alloc, (false, true), &seen, "%0 = var\ninfer %0\n\n");
+    let text = "%0 = var\ninfer %0\n\n%0:i8 = var\ninfer %0\n\n";
+    has_summary(&rt, alloc, (false, false), &seen, text);
+    has_summary(&rt, alloc, (true, true), &Seen::new(alloc), "");
 }

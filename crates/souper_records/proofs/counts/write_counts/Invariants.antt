@@ -5,4 +5,4 @@ use Rattle.souper_records.proofs.Writers.{inner_bytes}
 use Rattle.souper_records.proofs.counts.write_counts.Given as goal
 
 abbrev pub invariant-loop-index : goal.invariant-loop-index
-invariant-loop-index g l = IsWritten l.fn.layout (inner_bytes g.W.Write.contents l.fn.out) (inner_bytes g.W.Write.contents l.out) l.fn.seen.texts.keys l.fn.seen.counts.items l.index (string_bytes l.records)
+invariant-loop-index g l = IsWritten (l.fn.layout, l.fn.summary) (inner_bytes g.W.Write.contents l.fn.out) (inner_bytes g.W.Write.contents l.out) l.fn.seen.texts.keys l.fn.seen.counts.items l.index (string_bytes l.records)
