@@ -1,12 +1,17 @@
 //! Items of Souper IR for a store: their records, and whether files are canonical.
 #![tactic(auto)]
 
+mod differ;
 mod options;
 mod progress;
+mod rewrite;
+mod terminal;
 
 use clap::ArgMatches;
-use options::{Action, Task, grammar, read_task};
+use differ::check_diff;
+use options::{Action, Color, Task, grammar, read_task};
 use progress::{Meter, Metered};
+use rewrite::rewrite;
 use souper_format::command::Kind;
 use souper_format::watched::Watched;
 use souper_ir::ast::{LeftHandSide, Replacement, RightHandSide};
@@ -19,11 +24,15 @@ use souper_records::run::{
 use souper_records::seen::Seen;
 use souper_stream::StreamItem;
 use std::fs::File;
-use std::io::{BufRead, BufReader, Write};
+use std::io::{BufRead, BufReader, IsTerminal, Write};
 use std::process::ExitCode;
 use std::{env, io};
+use terminal::{Style, Terminal};
 
 const STANDARD_INPUT: &str = "(standard input)";
+
+const WRITE_USAGE: &[u8] =
+    b"error: the argument '--write' needs files, and standard input is none\n";
 
 // How many bytes are asked for at a time: as many as a pipe of Linux holds.
 const CAPACITY: usize = 1 << 16;
@@ -107,7 +116,16 @@ impl<W: Write, E: Write> Session<'_, W, E> {
             ),
             Action::Uniq(layout) => self.uniq::<T, R>(layout, reader, name),
             Action::Count(layout, _) => self.count::<T, R>(layout, reader, name),
-            Action::Check => check_run::<T, R, E>(alloc, reader, name, &mut self.err),
+            Action::Check { diff: false } => check_run::<T, R, E>(
+                alloc,
+                reader,
+                name,
+                &mut self.err,
+            ),
+            Action::Check { diff: true } => {
+                check_diff::<T, R, W, E>(alloc, reader, name, &mut self.out, &mut self.err)
+            }
+            Action::Write { .. } => 2,
         }
     }
 
@@ -130,8 +148,20 @@ impl<W: Write, E: Write> Session<'_, W, E> {
         }
     }
 
+    fn rewrite(&mut self, rename: bool, path: &str) -> u8 {
+        let (rt, err) = (self.rt, &mut self.err);
+        match self.task.kind {
+            Kind::Lhs => rewrite::<LeftHandSide, E>(rt, rename, path, err),
+            Kind::Rhs => rewrite::<RightHandSide, E>(rt, rename, path, err),
+            Kind::Rep => rewrite::<Replacement, E>(rt, rename, path, err),
+        }
+    }
+
     // A file; `-` is standard input.
     fn file(&mut self, meter: &mut Meter<'_>, path: &str) -> u8 {
+        if let Action::Write { rename } = self.task.action {
+            return self.rewrite(rename, path);
+        }
         if path == "-" {
             return self.standard_input(meter);
         }
@@ -186,19 +216,42 @@ fn open<'m, 'a>(
     Ok(BufReader::with_capacity(rt.alloc(), CAPACITY, Metered { reader, meter })?)
 }
 
+// Whether the user wants colors at a terminal.
+fn wants_color(rt: &HostRuntime) -> bool {
+    let is_refused = env::var(rt, "NO_COLOR").is_ok_and(|value| !value.is_empty());
+    let is_dumb = env::var(rt, "TERM").is_ok_and(|name| name.as_str() == "dumb");
+    !is_refused && !is_dumb
+}
+
+fn style(rt: &HostRuntime, color: Color) -> Style {
+    match (color, rt.stderr().is_terminal()) {
+        (Color::Always, _) => Style::Color,
+        (Color::Auto, true) if wants_color(rt) => Style::Color,
+        (_, true) => Style::Clean,
+        (_, false) => Style::Bytes,
+    }
+}
+
 // Does what the matches ask for, and returns the status.
 fn run_matches(rt: &HostRuntime, matches: &ArgMatches<'_>) -> u8 {
-    match read_task(matches) {
-        Some(task) => Session {
-            rt,
-            task: &task,
-            seen: Seen::new(rt.alloc()),
-            out: Watched::new(rt.stdout()),
-            err: Watched::new(rt.stderr()),
-        }
-        .run(),
-        None => 2,
+    let task = match read_task(matches) {
+        Some(task) => task,
+        None => return 2,
+    };
+    let terminal = Terminal::new(rt.alloc(), rt.stderr(), style(rt, task.color));
+    let mut err = Watched::new(terminal);
+    if !task.has_files() {
+        let _ = err.write_all(WRITE_USAGE);
+        return 2;
     }
+    Session {
+        rt,
+        task: &task,
+        seen: Seen::new(rt.alloc()),
+        out: Watched::new(rt.stdout()),
+        err,
+    }
+    .run()
 }
 
 // Reads the command line and does what it asks for.

@@ -7,6 +7,17 @@ use std::alloc::{AllocError, Global};
 
 static KINDS: [&str; 3] = ["lhs", "rhs", "rep"];
 
+static COLORS: [&str; 3] = ["auto", "always", "never"];
+
+/// When errors have colors.
+#[derive(Clone, Copy)]
+pub(crate) enum Color {
+    /// At a terminal that has them.
+    Auto,
+    Always,
+    Never,
+}
+
 /// The command for the items of a stream.
 #[derive(Clone, Copy)]
 pub(crate) enum Action {
@@ -22,8 +33,11 @@ pub(crate) enum Action {
     /// The same after all streams, of the graphs and with the counts that are asked for.
     Count(Layout, Summary),
 
-    /// Whether the stream is canonical is found out.
-    Check,
+    /// Each file is rewritten by its canonical text, or by that with names by the printed order.
+    Write { rename: bool },
+
+    /// Whether the stream is canonical is found out, and if asked for, what would change.
+    Check { diff: bool },
 }
 
 impl Action {
@@ -42,22 +56,58 @@ pub(crate) struct Task<'m, 'a> {
     /// Whether reading resumes after a refusal.
     pub(crate) keep_going: bool,
 
+    pub(crate) color: Color,
+
     /// The paths, of which `-` is standard input. If there are none, standard input is read.
     pub(crate) files: &'m [&'a str],
+}
+
+const HELP: &str = "\
+Status: 0, done; 1, a file is invalid or not canonical; 2, usage, I/O or memory;
+141, standard output is a pipe that nobody reads.
+`souper_items COMMAND --help` has the options of a command.";
+
+const FORMAT_EXAMPLE: &str = "Example: souper_items format --key lhs a.lhs b.lhs > records";
+
+const UNIQ_EXAMPLE: &str = "Example: souper_items uniq --rename --count lhs *.lhs";
+
+const CHECK_EXAMPLE: &str = "Example: souper_items check --diff lhs *.lhs | patch -p1";
+
+impl Task<'_, '_> {
+    /// Whether there are files to write to, if any are to be written to.
+    pub(crate) fn has_files(&self) -> bool {
+        match self.action {
+            Action::Write { .. } => !self.files.is_empty()
+                && self.files.iter().all(|path| *path != "-"),
+            _ => true,
+        }
+    }
 }
 
 fn kind_arg<'a>(alloc: Global) -> Arg<'a> {
     Arg::new(alloc, "KIND")
         .required(true)
         .value_parser(KINDS.as_slice())
-        .help("What the items are: left-hand sides, right-hand sides or replacements")
+        .hide_possible_values(true)
+        .help("lhs (left-hand sides), rhs (right-hand sides) or rep (replacements)")
 }
 
 fn files_arg<'a>(alloc: Global) -> Arg<'a> {
     Arg::new(alloc, "FILE")
         .num_args(0..)
         .action(ArgAction::Append)
-        .help("The files to read; without any, or for `-`, standard input")
+        .help("The files; without any, or for `-`, standard input")
+}
+
+fn color_arg<'a>(alloc: Global) -> Arg<'a> {
+    Arg::new(alloc, "color")
+        .long("color")
+        .value_name("WHEN")
+        .value_parser(COLORS.as_slice())
+        .default_value("auto")
+        .hide_default_value(true)
+        .hide_possible_values(true)
+        .help("Color errors: auto (the default), always or never")
 }
 
 fn flag<'a>(alloc: Global, name: &'a str, help: &'a str) -> Arg<'a> {
@@ -80,7 +130,7 @@ fn writer<'a>(alloc: Global, name: &'a str, about: &'a str) -> Result<Command<'a
         .arg(flag(
             alloc,
             "key",
-            "Begin each record with a comment line that has the SHA-256 of its text",
+            "Begin each record with a comment: the SHA-256 of its text",
         ))?
         .arg(flag(
             alloc,
@@ -90,9 +140,10 @@ fn writer<'a>(alloc: Global, name: &'a str, about: &'a str) -> Result<Command<'a
         .arg(flag(
             alloc,
             "keep-going",
-            "Go on after an item that is refused, at the next line that begins an item; the status is then 1",
+            "Go on after an invalid item; the status is then 1",
         )
         .short('k'))?
+        .arg(color_arg(alloc))?
         .arg(kind_arg(alloc))?
         .arg(files_arg(alloc))
 }
@@ -101,42 +152,53 @@ fn format<'a>(alloc: Global) -> Result<Command<'a>, AllocError> {
     writer(
         alloc,
         "format",
-        "Writes the record of each item: its canonical text and a newline",
+        "Writes the record of each item: its canonical text",
     )?
     .visible_alias("each")?
-    .arg(flag(
-        alloc,
-        "jsonl",
-        "Write a JSON object on a line of its own for each item (text, key, file, line) and each refusal (file, offset, line, column, message), and keep going",
+    .arg(
+        flag(
+            alloc,
+            "json",
+            "Write a line of JSON for each item and each parse error",
+        )
+        .alias("jsonl")?
+        .conflicts_with("null")?,
+    )?
+    .arg(
+        flag(alloc, "write", "Rewrite each file by its canonical text")
+            .short('w')
+            .conflicts_with_all(["null", "key", "json", "keep-going"].as_slice())?,
     )
-    .conflicts_with("null")?)
+    .map(|command| command.after_help(FORMAT_EXAMPLE))
 }
 
 fn uniq<'a>(alloc: Global) -> Result<Command<'a>, AllocError> {
     writer(
         alloc,
         "uniq",
-        "Writes the record of the first item of each graph in all files; the texts of these items are held in memory",
+        "Writes the record of the first item of each graph in all files",
     )?
     .arg(flag(
         alloc,
         "count",
-        "Write the records at the end, each after a comment line that says how many items are the same graph",
+        "Write at the end, each after a comment: how often its graph is there",
     )
     .short('c'))?
     .arg(flag(
         alloc,
         "repeated",
-        "Write the records at the end, only of graphs that more than one item has",
+        "Write at the end, only graphs that more than one item has",
     )
     .short('d'))
+    .map(|command| command.after_help(UNIQ_EXAMPLE))
 }
 
 fn check<'a>(alloc: Global) -> Result<Command<'a>, AllocError> {
     Command::new(alloc, "check")
-        .about(
-            "Says which files are not canonical, and the first line that differs from what souper_fmt writes; each file is held in memory",
-        )
+        .about("Says which files are not canonical, and the first line that is not")
+        .after_help(CHECK_EXAMPLE)
+        .arg(flag(alloc, "diff", "Write what would change, as a unified diff"))?
+        .arg(color_arg(alloc))?
         .arg(kind_arg(alloc))?
         .arg(files_arg(alloc))
 }
@@ -146,9 +208,7 @@ pub(crate) fn grammar<'a>(alloc: Global) -> Result<Command<'a>, AllocError> {
     Command::new(alloc, "souper_items")
         .version("1.0.0")
         .about("Records of Souper IR items for a store")
-        .after_help(
-            "Status: 0, done; 1, a file is refused or not canonical; 2, usage, I/O or memory; 141, standard output is a pipe that nobody reads.",
-        )
+        .after_help(HELP)
         .subcommand_required(true)
         .arg_required_else_help(true)
         .subcommand(format(alloc)?)?
@@ -168,6 +228,25 @@ fn read_layout(options: &ArgMatches<'_>) -> Layout {
     }
 }
 
+fn read_format(options: &ArgMatches<'_>) -> Action {
+    let rename = options.get_flag("rename");
+    if options.get_flag("write") {
+        Action::Write { rename }
+    } else if options.get_flag("json") {
+        Action::Objects { rename }
+    } else {
+        Action::Each(read_layout(options))
+    }
+}
+
+fn read_color(options: &ArgMatches<'_>) -> Color {
+    match options.get_str("color") {
+        Some("always") => Color::Always,
+        Some("never") => Color::Never,
+        _ => Color::Auto,
+    }
+}
+
 fn read_uniq(options: &ArgMatches<'_>) -> Action {
     let layout = read_layout(options);
     let summary = Summary {
@@ -183,12 +262,11 @@ fn read_uniq(options: &ArgMatches<'_>) -> Action {
 
 fn read_action(name: &str, options: &ArgMatches<'_>) -> Option<Action> {
     match name {
-        "format" if options.get_flag("jsonl") => Some(Action::Objects {
-            rename: options.get_flag("rename"),
-        }),
-        "format" => Some(Action::Each(read_layout(options))),
+        "format" => Some(read_format(options)),
         "uniq" => Some(read_uniq(options)),
-        "check" => Some(Action::Check),
+        "check" => Some(Action::Check {
+            diff: options.get_flag("diff"),
+        }),
         _ => None,
     }
 }
@@ -200,7 +278,8 @@ pub(crate) fn read_task<'m, 'a>(matches: &'m ArgMatches<'a>) -> Option<Task<'m, 
     Some(Task {
         kind: Kind::from_word(options.get_str("KIND")?)?,
         action,
-        keep_going: !matches!(action, Action::Check) && options.get_flag("keep-going"),
+        keep_going: !matches!(action, Action::Check { .. }) && options.get_flag("keep-going"),
+        color: read_color(options),
         files: options.get_strs("FILE").unwrap_or_default(),
     })
 }

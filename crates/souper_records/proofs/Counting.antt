@@ -41,21 +41,23 @@ joined_more l (u ∷ ts) (n ∷ ns) (suc i) t less is =
 -- what is written of elements one by one is what is written of those that a test leaves
 flat-filter : {A : Type 0} (p : A → Bool) (f : A → List ℕ) (xs : List A) → flat_map (λ a. if p a then f a else []) xs ≡ flat_map f (filter p xs)
 flat-filter p f [] = refl
-flat-filter p f (a ∷ xs) = step (p a)
+flat-filter p f (a ∷ xs) = step (p a) (flat-filter p f xs)
   where
-    step : (b : Bool) → (if b then f a else []) ++ flat_map (λ c. if p c then f c else []) xs ≡ flat_map f (cond b (a ∷ filter p xs) (filter p xs))
-    step true = ap (λ (x : List ℕ). f a ++ x) (flat-filter p f xs)
-    step false = flat-filter p f xs
+    step : (b : Bool) → flat_map (λ c. if p c then f c else []) xs ≡ flat_map f (filter p xs)
+        → (if b then f a else []) ++ flat_map (λ c. if p c then f c else []) xs ≡ flat_map f (cond b (a ∷ filter p xs) (filter p xs))
+    step true h = ap (λ (x : List ℕ). f a ++ x) h
+    step false h = h
 
 -- the elements that a test leaves of the first ones are first ones of those that it leaves
 filter-take : {A : Type 0} (p : A → Bool) (n : ℕ) (xs : List A) → (m : ℕ) × (filter p (take n xs) ≡ take m (filter p xs))
 filter-take p zero xs = (0, refl)
 filter-take p (suc n) [] = (0, refl)
-filter-take p (suc n) (a ∷ xs) = step (p a)
+filter-take p (suc n) (a ∷ xs) = step (p a) (filter-take p n xs)
   where
-    step : (b : Bool) → (m : ℕ) × (cond b (a ∷ filter p (take n xs)) (filter p (take n xs)) ≡ take m (cond b (a ∷ filter p xs) (filter p xs)))
-    step true = let r = filter-take p n xs in (suc r.0, ap (λ x. a ∷ x) r.1)
-    step false = filter-take p n xs
+    step : (b : Bool) → (m : ℕ) × (filter p (take n xs) ≡ take m (filter p xs))
+        → (m : ℕ) × (cond b (a ∷ filter p (take n xs)) (filter p (take n xs)) ≡ take m (cond b (a ∷ filter p xs) (filter p xs)))
+    step true (m, h) = (suc m, ap (λ x. a ∷ x) h)
+    step false h = h
 
 -- what is written of an item
 abbrev of_item : Asked → List Item → Item → List ℕ

@@ -18,7 +18,7 @@ use Rattle.souper_format.specs.Streams.{Stream, IsGiven}
 use Rattle.souper_records.specs.declared.layout.Layout.{Layout}
 use Rattle.souper_records.specs.declared.layout.Summary.{Summary}
 use Rattle.souper_records.specs.declared.seen.Seen.{Seen}
-use Rattle.souper_records.specs.Records.{chosen, record_of_text, record_of, records_of}
+use Rattle.souper_records.specs.Records.{chosen, record_of_text, records_of}
 use Rattle.souper_records.specs.Firsts.{firsts_by, NoTwo, HoldsOfOne}
 use Rattle.souper_records.specs.Counts.{count_of, counts_by}
 

@@ -63,7 +63,7 @@ pub(crate) fn report_line<E: Write>(line: &String, err: &mut Watched<E>)
 }
 
 /// Reports an error of the stream of this name, and returns the status of the program: 1 if the stream is refused, else 2.
-pub(crate) fn report_error<E: Write>(
+pub fn report_error<E: Write>(
     alloc: Global,
     name: &str,
     error: &ParseError,

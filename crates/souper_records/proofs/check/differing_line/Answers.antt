@@ -1,4 +1,4 @@
-use Rattle.std.proofs.Common.{◌<◌, ◌≤◌, length, drop, sym, arith}
+use Rattle.std.proofs.Common.{◌<◌, ◌≤◌, length, drop, arith}
 use Rattle.souper_records.specs.Canonical.{BeginApart}
 use Rattle.souper_records.proofs.Checking.{apart_after, apart_before, apart_at, differ_at}
 use Rattle.souper_records.proofs.check.differing_line.Goals as goal

@@ -1,0 +1,56 @@
+//! What would change in files that are not canonical.
+
+use souper_diff::unified::unified;
+use souper_format::watched::Watched;
+use souper_ir::parse::{ParseErrorKind, WholeItem};
+use souper_records::check::check_run;
+use souper_records::layout::PLAIN;
+use souper_records::records::records_of_text;
+use souper_records::report::{report_fault, report_memory};
+use souper_records::run::report_output;
+use std::alloc::{AllocError, Global};
+use std::io::{BufRead, Write};
+
+// The unified diff from the text to its canonical text; empty if it has none.
+fn diff<T: WholeItem + Drop>(
+    alloc: Global,
+    name: &str,
+    bytes: &[u8],
+) -> Result<String, AllocError> {
+    let source = str::from_utf8(bytes).unwrap_or("");
+    match records_of_text::<T>(alloc, PLAIN, source, Some(name)) {
+        Ok(text) => unified(alloc, name, source, text.as_str()),
+        Err(error) if error.kind() == ParseErrorKind::Parse => Ok(String::new(alloc)),
+        Err(_) => Err(AllocError),
+    }
+}
+
+/// As [`check_run`], and writes the diff to `out`.
+pub(crate) fn check_diff<T: WholeItem + Drop, R: BufRead, W: Write, E: Write>(
+    alloc: Global,
+    reader: &mut R,
+    name: &str,
+    out: &mut Watched<W>,
+    err: &mut Watched<E>,
+) -> u8 {
+    let mut bytes = Vec::new(alloc);
+    if let Err(fault) = reader.read_to_end(&mut bytes) {
+        report_fault(alloc, name, &fault, err);
+        return 2;
+    }
+    let status = check_run::<T, &[u8], E>(alloc, &mut bytes.as_slice(), name, err);
+    if status != 1 {
+        return status;
+    }
+    let diff = match diff::<T>(alloc, name, &bytes) {
+        Ok(diff) => diff,
+        Err(_) => {
+            report_memory(err);
+            return 2;
+        }
+    };
+    match out.write_all(diff.as_bytes()).and_then(|()| out.flush()) {
+        Ok(()) => 1,
+        Err(fault) => report_output(alloc, &fault, err),
+    }
+}
