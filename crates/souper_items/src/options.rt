@@ -154,6 +154,7 @@ fn format<'a>(alloc: Global) -> Result<Command<'a>, AllocError> {
         "format",
         "Writes the record of each item: its canonical text",
     )?
+    .after_help(FORMAT_EXAMPLE)
     .visible_alias("each")?
     .arg(
         flag(
@@ -167,9 +168,11 @@ fn format<'a>(alloc: Global) -> Result<Command<'a>, AllocError> {
     .arg(
         flag(alloc, "write", "Rewrite each file by its canonical text")
             .short('w')
-            .conflicts_with_all(["null", "key", "json", "keep-going"].as_slice())?,
+            .conflicts_with("null")?
+            .conflicts_with("key")?
+            .conflicts_with("json")?
+            .conflicts_with("keep-going")?,
     )
-    .map(|command| command.after_help(FORMAT_EXAMPLE))
 }
 
 fn uniq<'a>(alloc: Global) -> Result<Command<'a>, AllocError> {
@@ -178,6 +181,7 @@ fn uniq<'a>(alloc: Global) -> Result<Command<'a>, AllocError> {
         "uniq",
         "Writes the record of the first item of each graph in all files",
     )?
+    .after_help(UNIQ_EXAMPLE)
     .arg(flag(
         alloc,
         "count",
@@ -190,7 +194,6 @@ fn uniq<'a>(alloc: Global) -> Result<Command<'a>, AllocError> {
         "Write at the end, only graphs that more than one item has",
     )
     .short('d'))
-    .map(|command| command.after_help(UNIQ_EXAMPLE))
 }
 
 fn check<'a>(alloc: Global) -> Result<Command<'a>, AllocError> {
