@@ -185,7 +185,7 @@ fn uniq<'a>(alloc: Global) -> Result<Command<'a>, AllocError> {
     .arg(flag(
         alloc,
         "count",
-        "Write at the end, each after a comment: how often its graph is there",
+        "Write at the end, each after a comment with its count",
     )
     .short('c'))?
     .arg(flag(
