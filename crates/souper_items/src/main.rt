@@ -238,8 +238,13 @@ fn run_matches(rt: &HostRuntime, matches: &ArgMatches<'_>) -> u8 {
         Some(task) => task,
         None => return 2,
     };
-    let terminal = Terminal::new(rt.alloc(), rt.stderr(), style(rt, task.color));
-    let mut err = Watched::new(terminal);
+    let mut err = match Terminal::new(rt.alloc(), rt.stderr(), style(rt, task.color)) {
+        Ok(terminal) => Watched::new(terminal),
+        Err(_) => {
+            report_memory(&mut Watched::new(rt.stderr()));
+            return 2;
+        }
+    };
     if !task.has_files() {
         let _ = err.write_all(WRITE_USAGE);
         return 2;

@@ -15,6 +15,9 @@ const RESET: &str = "\x1b[0m";
 // What the second line of a parse error is, and its fourth begins with.
 const FRAME: &str = "     |";
 
+// The line for out of memory is shorter, so that it takes no allocation.
+const ROOM: usize = 64;
+
 /// How lines are shown.
 #[derive(Clone, Copy, PartialEq, Eq)]
 pub(crate) enum Style {
@@ -49,26 +52,30 @@ pub(crate) struct Terminal<W> {
 }
 
 impl<W: Write> Terminal<W> {
-    pub(crate) fn new(alloc: Global, inner: W, style: Style) -> Terminal<W> {
-        Terminal {
+    pub(crate) fn new(alloc: Global, inner: W, style: Style) -> Result<Terminal<W>, AllocError>
+    where
+        W: Drop,
+    {
+        Ok(Terminal {
             inner,
             style,
-            line: Vec::new(alloc),
-            shown: String::new(alloc),
+            line: Vec::with_capacity(alloc, ROOM)?,
+            shown: String::with_capacity(alloc, ROOM)?,
             part: Part::Message,
-        }
+        })
     }
 
     // Shows the line, and forgets it.
     fn show(&mut self) -> io::Result<()> {
         self.shown.clear();
         let shown = &mut self.shown;
-        self.part = match str::from_utf8(&self.line) {
-            Ok(line) if self.style == Style::Color => append_colored(self.part, line, shown)?,
-            Ok(line) => append_clean(line, self.part, shown)?,
-            Err(_) => append_ascii(&self.line, shown)?,
+        let next = match str::from_utf8(&self.line) {
+            Ok(line) if self.style == Style::Color => append_colored(self.part, line, shown),
+            Ok(line) => append_clean(line, self.part, shown),
+            Err(_) => append_ascii(&self.line, shown),
         };
         self.line.clear();
+        self.part = next?;
         self.shown.push('\n')?;
         self.inner.write_all(self.shown.as_bytes())
     }
