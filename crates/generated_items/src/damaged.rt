@@ -1,9 +1,16 @@
 //! Laws of any text: texts of items in which some characters are others.
+ghost use Rattle.std.specs.Prelude.{ℕ, List, [], Option};
+ghost use Rattle.souper_graph.specs.Syntax.Spelling.{ItemType};
+ghost use Rattle.souper_reader.specs.Parts.{HasParts};
+
 use crate::generator::{Generated, Generator};
 use crate::law::{Broken, law};
+use crate::recovered::recovered;
 use crate::texts::{formatted, joined, streamed};
 use souper_ir::parse::parse_into;
+use souper_reader::ItemReader;
 use std::alloc::Global;
+use std::io::BufReader;
 
 // The bytes to insert.
 const CHARACTERS: &[u8; 41] = b"%%%  \n\n=:,()[;-_.0123456789abdefiklnprsux";
@@ -41,6 +48,48 @@ fn is_placed<T: Generated>(alloc: Global, text: &str) -> Result<(), Broken> {
     }
 }
 
+// The items and errors of a text that is read with reads of a random size.
+fn recover<T: Generated>(
+    alloc: Global,
+    generator: &mut Generator,
+    parts: ItemReader,
+    text: &str,
+) -> Result<String, Broken>
+    requires { (k : ItemType) (start : Option (List ℕ)) → HasParts k start start [] parts }
+{
+    let capacity = 1 + generator.below(60);
+    match BufReader::with_capacity(alloc, capacity, text.as_bytes()) {
+        Ok(mut reader) => recovered::<T, BufReader<&[u8]>>(alloc, parts, &mut reader),
+        Err(_) => Err(Broken::Memory),
+    }
+}
+
+// Reading by chunks gives the items and errors of the segments, and of a valid text the items of the whole.
+fn recovers<T: Generated>(
+    alloc: Global,
+    generator: &mut Generator,
+    text: &str,
+    whole: Option<&str>,
+) -> Result<(), Broken> {
+    let min_chunk = generator.below(300);
+    let chunks = recover::<T>(alloc, generator, ItemReader::new(alloc, min_chunk), text)?;
+    let min_chunk = generator.below(300);
+    let reader = ItemReader::by_segments(alloc, min_chunk);
+    let segments = recover::<T>(alloc, generator, reader, text)?;
+    law(
+        alloc,
+        chunks == segments,
+        "chunks have the items and errors of their segments",
+        text,
+    )?;
+    law(
+        alloc,
+        whole.is_none_or(|whole| whole == chunks.as_str()),
+        "the segments of a valid text have its items",
+        text,
+    )
+}
+
 /// Tries the laws of any text on a damaged list.
 pub(crate) fn check<T: Generated>(
     alloc: Global,
@@ -58,6 +107,7 @@ pub(crate) fn check<T: Generated>(
         "a stream is read as its text is",
         text.as_str(),
     )?;
+    recovers::<T>(alloc, generator, text.as_str(), whole.as_deref())?;
     if let Some(once) = whole {
         let twice = formatted::<T>(alloc, once.as_str())?;
         law(

@@ -8,6 +8,7 @@ mod damaged;
 mod generator;
 mod items;
 mod law;
+mod recovered;
 mod texts;
 
 use generator::{Generated, Generator};

@@ -7,7 +7,7 @@ use souper_format::items::read_items;
 use souper_format::same::same;
 use souper_ir::parse::parse_into;
 use souper_ir::stringify::TextError;
-use souper_stream::{StreamItem, read_chunks_into};
+use souper_reader::{StreamItem, read_chunks_into};
 use std::alloc::Global;
 use std::io::BufReader;
 
@@ -54,7 +54,7 @@ pub(crate) fn streamed<T: StreamItem + Drop>(
     text: &str,
 ) -> Result<Option<String>, Broken> {
     let capacity = 1 + generator.below(60);
-    let least = generator.below(200);
+    let min_chunk = generator.below(200);
     let mut items: Vec<T> = Vec::new(alloc);
     let mut reader = match BufReader::with_capacity(alloc, capacity, text.as_bytes()) {
         Ok(reader) => reader,
@@ -62,7 +62,7 @@ pub(crate) fn streamed<T: StreamItem + Drop>(
     };
     match read_chunks_into::<T, BufReader<&[u8]>, Vec<T>>(
         alloc,
-        least,
+        min_chunk,
         &mut reader,
         None,
         &mut items,

@@ -1,0 +1,14 @@
+mod Nodes
+mod EndLines
+mod Parting
+mod Texts
+mod Parted
+mod Scan
+pub mod Bytes
+mod LineLists
+mod Scanning
+pub mod SegmentLaws
+mod Buffers
+mod Refusing
+pub mod Passing
+pub mod Reached

@@ -1,0 +1,5 @@
+pub mod Lines
+pub mod Segments
+pub mod Reading
+pub mod Buffering
+pub mod Parts

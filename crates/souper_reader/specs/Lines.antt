@@ -1,0 +1,84 @@
+-- Definitions. Which tokens begin a statement or one of an item's last lines.
+use Rattle.std.specs.Prelude.{◌≡◌, ◌↔◌, ◌||◌, Bool, true, false, ℕ, ◌+◌, List, [], ◌∷◌, ◌++◌, take, codes, bytes_eq}
+use Rattle.souper_graph.specs.Syntax.Tokens.{Lexeme, ident, val_name, equals, colon}
+use Rattle.souper_graph.specs.Syntax.Spelling.{ItemType, left_hand_side, right_hand_side, replacement}
+use Rattle.souper_lexer.specs.TokenReading.{lexed_of}
+use Rattle.souper_ir.specs.NodeReadings.{is_name}
+use Rattle.souper_ir.specs.Places.{newlines}
+use Rattle.souper_reader.specs.declared.lines.ScanState.{ScanState}
+
+-- the word begins one of an item's last lines
+abbrev pub last_word : List ℕ → Bool
+last_word w = bytes_eq w (codes "infer") || (bytes_eq w (codes "result") || bytes_eq w (codes "cand"))
+
+-- the word begins a path condition, or one of an item's last lines
+abbrev pub line_word : List ℕ → Bool
+line_word w = last_word w || (bytes_eq w (codes "pc") || bytes_eq w (codes "blockpc"))
+
+-- the word begins the line that an item of the type ends with
+abbrev pub end_word : ItemType → List ℕ → Bool
+end_word left_hand_side w = bytes_eq w (codes "infer")
+end_word right_hand_side w = bytes_eq w (codes "result")
+end_word replacement w = bytes_eq w (codes "result") || bytes_eq w (codes "cand")
+
+-- the token is a word that begins the line that an item of the type ends with
+abbrev pub is_end_word : ItemType → Lexeme → Bool
+is_end_word k (ident w) = end_word k w
+is_end_word k _ = false
+
+-- the first token is such a word
+abbrev pub ends_first : ItemType → List Lexeme → Bool
+ends_first k (ident w ∷ ts) = end_word k w
+ends_first k _ = false
+
+-- what follows a name that is defined: its type, or the equals sign
+abbrev pub defines : List Lexeme → Bool
+defines (equals ∷ ts) = true
+defines (colon ∷ ts) = true
+defines _ = false
+
+-- the tokens begin with a statement, or with one of an item's last lines
+abbrev pub starts_line : List Lexeme → Bool
+starts_line (ident w ∷ ts) = line_word w
+starts_line (val_name n ∷ ts) = defines ts
+starts_line _ = false
+
+-- at none of these tokens does a statement or one of an item's last lines begin
+abbrev pub NoStart : List Lexeme → Type 0
+NoStart [] = Unit {0}
+NoStart (t ∷ ts) = (starts_line (t ∷ ts) ≡ false) × NoStart ts
+
+-- of the statements and last lines that begin in the tokens, the last is a line that an item of the type ends with
+pub record LastEnds (k : ItemType) (ts : List Lexeme) : Type 0 where
+  pub before : List Lexeme
+  pub word : List ℕ
+  pub after : List Lexeme
+  pub whole : ts ≡ before ++ ident word ∷ after
+  pub ends : end_word k word ≡ true
+  pub quiet : NoStart after
+
+-- the token shows that a line begins: it is the word of one, or it defines the name before it, if there is one
+abbrev pub shows_line : Bool → Lexeme → Bool
+shows_line named (ident w) = line_word w
+shows_line named equals = named
+shows_line named colon = named
+shows_line named _ = false
+
+-- the last token is a name; if there is none, the one before them is, or not
+abbrev pub last_is_name : Bool → List Lexeme → Bool
+last_is_name named [] = named
+last_is_name named (t ∷ ts) = last_is_name (is_name t) ts
+
+-- the state says of these tokens whether the last is a name, and whether the last statement or last line that begins in them ends an item
+pub record IsStateAfter (k : ItemType) (ts : List Lexeme) (s : ScanState) : Type 0 where
+  pub named : s.after_name ≡ last_is_name false ts
+  pub ends : (s.ends_item ≡ true) ↔ LastEnds k ts
+
+-- the offset of the first token, or 0 if there is none
+abbrev pub first_offset : List (ℕ × Lexeme) → ℕ
+first_offset [] = 0
+first_offset (t ∷ ts) = t.0
+
+-- the 1-based line of the first token of a segment, after the parsed text `done`
+abbrev pub first_line : List ℕ → List ℕ → ℕ
+first_line done piece = newlines (done ++ take (first_offset (lexed_of 0 piece).tokens) piece) + 1

@@ -1,0 +1,128 @@
+-- Definitions. The reading of a stream by parts: each is some of its segments, and a part that spells no items is one segment.
+use Rattle.std.specs.Prelude.{◌≡◌, ◌⊎◌, ℕ, ◌+◌, ◌-◌, ◌^◌, ◌<◌, ◌≤◌, Bool, true, false, List, [], ◌∷◌, ◌++◌, length, take, Option}
+use Rattle.std.specs.List.{AllByRecursion}
+use Rattle.std.specs.Io.KnownBytes.{Consumes}
+use Rattle.souper_graph.specs.Syntax.Spelling.{ItemType, TextSpells, SpellsNone}
+use Rattle.souper_graph.specs.Values.{Item}
+use Rattle.souper_ir.specs.declared.parse.error.ParseError.{ParseError}
+use Rattle.souper_ir.specs.Errors.{IsRefusalAt}
+use Rattle.souper_ir.specs.Joining.{IsLines}
+use Rattle.souper_ir.specs.Sinks.{PrefixSpells, TakesPrefix}
+use Rattle.souper_reader.specs.declared.buffer.Buffer.{Buffer}
+use Rattle.souper_reader.specs.declared.reader.ItemReader.{ItemReader}
+use Rattle.souper_reader.specs.Buffering.{unparsed, Buffers, Drops, KeepsOneLine}
+use Rattle.souper_reader.specs.Lines.{first_line}
+use Rattle.souper_reader.specs.Segments.{Line, concat, IsLine, AreLines, HasNoCut, IsCut, AreCut, all_lines, AreParts, IsFirstSegment}
+use Rattle.souper_reader.specs.Reading.{AreAll, NeverSpells}
+
+-- the first `len` bytes of the lines are whole segments: a cut point is after them, or the stream has ended
+pub record IsChunk (k : ItemType) (ended : Bool) (ls : List Line) (len : ℕ) : Type 0 where
+  pub front : List Line
+  pub back : List Line
+  pub whole : ls ≡ front ++ back
+  pub len_is : length (concat front) ≡ len
+  pub cut : IsCut k front back ⊎ ((back ≡ []) × (ended ≡ true))
+
+-- the parts, and the lines of the next, if there are any
+abbrev pub and_next : List (List Line) → List Line → List (List Line)
+and_next ps [] = ps
+and_next ps (l ∷ ls) = ps ++ (l ∷ ls) ∷ []
+
+-- These parts of a stream were read and parsed, and these lines are buffered after them.
+pub record HasRead (k : ItemType) (start now : Option (List ℕ)) (ps : List (List Line)) (ls : List Line) (b : Buffer) (ended : Bool) (rejected : ℕ) : Type 0 where
+  pub read : List ℕ
+  pub consumed : Consumes start now read
+  pub buffers : Buffers read (concat (all_lines ps)) b
+  pub rest : unparsed b ≡ concat ls
+  pub lines : AreLines (all_lines ps ++ ls)
+  pub cut : AreCut k (and_next ps ls)
+  pub whole : ended ≡ false → AllByRecursion IsLine (all_lines ps ++ ls)
+  pub some : ended ≡ false → ls ≡ [] → ps ≡ []
+  pub all_read : ended ≡ true → AreAll start read
+  pub chunk : 0 < rejected → IsChunk k ended ls rejected
+  pub one_line : rejected ≡ 0 → KeepsOneLine b
+
+-- these parts of a stream were read and parsed
+abbrev pub HasParts : ItemType → Option (List ℕ) → Option (List ℕ) → List (List Line) → ItemReader → Type 0
+HasParts k start now ps r = (ls : List Line) × HasRead k start now ps ls r.buffer r.ended r.rejected
+
+-- the stream has ended, and these are its parts
+abbrev pub HasAll : ItemType → Option (List ℕ) → Option (List ℕ) → List (List Line) → Type 0
+HasAll k start now ps = (read : List ℕ) × Consumes start now read × AreAll start read × AreParts k read ps
+
+-- the next chunk has this length; without one the stream has ended
+abbrev pub IsNext : ItemType → Option (List ℕ) → Option (List ℕ) → List (List Line) → ItemReader → ℕ → Type 0
+IsNext k start now ps r len = (ls : List Line) × HasRead k start now ps ls r.buffer r.ended r.rejected × (len ≡ 0 → HasAll k start now ps) × (0 < len → IsChunk k r.ended ls len)
+
+-- The line of a part, after the parsed text `done`. Numbers have 64 bits.
+abbrev pub IsOnLine : List ℕ → List ℕ → ℕ → Type 0
+IsOnLine done part line = length (done ++ part) + 1 < 2 ^ 64 → line ≡ first_line done part
+
+-- the line of the first `len` unparsed bytes
+abbrev pub HasLine : Buffer → ℕ → ℕ → Type 0
+HasLine b len line = (read done : List ℕ) → Buffers read done b → IsOnLine done (take len (unparsed b)) line
+
+-- `r.line()`
+abbrev pub line_of : ItemReader → ℕ
+line_of r = r.line
+
+-- the refusal of a part, after the parsed text `done`, has and shows its location in the text read
+abbrev pub IsPlacedIn : Option (List ℕ) → List ℕ → List ℕ → List ℕ → ParseError → Type 0
+IsPlacedIn file read done part e = length read + 1 < 2 ^ 64 → (offset : ℕ) × (length done ≤ offset) × (offset ≤ length (done ++ part)) × IsRefusalAt file read offset e
+
+-- the buffer, of which `len` bytes more are parsed
+abbrev pub advanced : Buffer → ℕ → Buffer
+advanced b len = record { bytes = b.bytes; parsed = b.parsed + len; before = b.before }
+
+-- the first `len` unparsed bytes were parsed, and so many are left of their chunk; if none are, parsed lines were dropped
+pub record Passes (old : Buffer) (ended : Bool) (new : ItemReader) (len rejected : ℕ) : Type 0 where
+  pub ended_is : new.ended ≡ ended
+  pub rejected_is : new.rejected ≡ rejected
+  pub kept : 0 < rejected → new.buffer ≡ advanced old len
+  pub dropped : rejected ≡ 0 → Drops (advanced old len) new.buffer
+
+-- the first segment of a chunk was parsed, which has this length
+pub record PassesSegment (k : ItemType) (old : Buffer) (ended : Bool) (chunk : ℕ) (new : ItemReader) (len : ℕ) : Type 0 where
+  pub first : (ls : List Line) → take chunk (unparsed old) ≡ concat ls → AreLines ls → IsFirstSegment k ls len
+  pub some : 0 < len
+  pub within : len ≤ chunk
+  pub passes : Passes old ended new len (chunk - len)
+  pub line : HasLine old len new.line
+
+-- the first `len` unparsed bytes spell no items
+pub record RefusesBytes {S : Type 0} (k : ItemType) (file : Option (List ℕ)) (b : Buffer) (len : ℕ) (holds : S → S → List Item → Type 0) (old new : S) (e : ParseError) : Type 0 where
+  pub none : SpellsNone k (take len (unparsed b))
+  pub begun : TakesPrefix holds k (take len (unparsed b)) old new
+  pub placed : (read done : List ℕ) → Buffers read done b → IsPlacedIn file read done (take len (unparsed b)) e
+
+-- a sink that held nothing holds the items
+abbrev pub Holds : {S : Type 0} → (S → S → List Item → Type 0) → List Item → S → S → Type 0
+Holds {S} holds items old new = (first : S) → holds first old [] → holds first new items
+
+-- the next part spells items, and the sink took them
+pub record TakesPart {S : Type 0} (k : ItemType) (start now : Option (List ℕ)) (ps : List (List Line)) (holds : S → S → List Item → Type 0) (old new : S) (r : ItemReader) : Type 0 where
+  pub part : List Line
+  pub goes_on : HasParts k start now (ps ++ part ∷ []) r
+  pub on_line : IsOnLine (concat (all_lines ps)) (concat part) (line_of r)
+  pub items : List Item
+  pub spelled : TextSpells k (concat part) items
+  pub taken : Holds holds items old new
+
+-- The next segment spells no items: whatever follows the text read, the whole stream spells none. The sink took items that the segment
+-- begins with. The refusal has and shows its location in the text read.
+pub record RefusesPart {S : Type 0} (k : ItemType) (file start now : Option (List ℕ)) (ps : List (List Line)) (holds : S → S → List Item → Type 0) (old new : S) (r : ItemReader) (e : ParseError) : Type 0 where
+  pub part : List Line
+  pub goes_on : HasParts k start now (ps ++ part ∷ []) r
+  pub on_line : IsOnLine (concat (all_lines ps)) (concat part) (line_of r)
+  pub segment : HasNoCut k part
+  pub none : SpellsNone k (concat part)
+  pub items : List Item
+  pub begun : PrefixSpells k (concat part) items
+  pub taken : Holds holds items old new
+  pub read : List ℕ
+  pub after : List ℕ
+  pub consumed : Consumes start now read
+  pub whole : read ≡ concat (all_lines (ps ++ part ∷ [])) ++ after
+  pub ends : IsLines (concat part) ⊎ (after ≡ [])
+  pub never : NeverSpells k (AreAll start read) read
+  pub placed : IsPlacedIn file read (concat (all_lines ps)) (concat part) e

@@ -1,0 +1,78 @@
+//! Where a text is cut.
+ghost use Rattle.std.specs.Prelude.{◌≡◌, ◌<◌, List, true, IfOk};
+ghost use Rattle.souper_reader.specs.Lines.{starts_line};
+ghost use Rattle.souper_reader.specs.Segments.{Line, concat, tokens_of, AreLines, EndsItem, CutsAt, IsFirstSegment};
+
+use crate::item::StreamItem;
+use crate::lines::{ScanState, first_line_len, last_line_start, scan_line, starts_line};
+use std::io::ErrorKind;
+use std::{io, str};
+
+// Whether the lines, which are UTF-8, end an item.
+fn ends_item<T: StreamItem>(lines: &[u8]) -> bool
+    ensures { result ≡ true → (ls : List Line) → lines.now ≡ concat ls → AreLines ls → EndsItem T.item_type ls }
+{
+    let mut rest = lines;
+    let mut state = ScanState::new();
+    while !rest.is_empty() {
+        let (line, after) = rest.split_at(first_line_len(rest));
+        match str::from_utf8(line) {
+            Ok(line) => state = scan_line::<T>(line, state),
+            Err(_) => return false,
+        }
+        rest = after;
+    }
+    state.ends_item
+}
+
+// Whether the line, which is UTF-8, begins with a statement, or is one of an item's last lines.
+fn starts(line: &[u8]) -> bool
+    ensures { result ≡ true → starts_line (tokens_of line.now) ≡ true }
+{
+    match str::from_utf8(line) {
+        Ok(line) => starts_line(line),
+        Err(_) => false,
+    }
+}
+
+/// The offset of the last cut point of the text, in bytes. 0 if none is found: an item is seen to end at a line of its own alone.
+pub(crate) fn last_cut<T: StreamItem>(text: &[u8]) -> usize
+    ensures { 0 < result → (ls : List Line) → text.now ≡ concat ls → AreLines ls → CutsAt T.item_type ls result }
+{
+    let mut end = text.len();
+    // The offset of the nearest line after it that starts, or 0.
+    let mut next = 0;
+    while end > 0 {
+        let start = last_line_start(&text[..end]);
+        let line = &text[start..end];
+        if next > 0 && ends_item::<T>(line) && ends_item::<T>(&text[start..next]) {
+            return next;
+        }
+        if starts(line) {
+            next = start;
+        }
+        end = start;
+    }
+    0
+}
+
+/// The length of the first segment of the text, in bytes. The error says that the bytes are not UTF-8, up to the line after it.
+pub(crate) fn segment_len<T: StreamItem>(text: &[u8]) -> io::Result<usize>
+    ensures { IfOk result (λ len. (ls : List Line) → text.now ≡ concat ls → AreLines ls → IsFirstSegment T.item_type ls len) }
+{
+    let mut rest = text;
+    let mut state = ScanState::new();
+    while !rest.is_empty() {
+        let (line, after) = rest.split_at(first_line_len(rest));
+        let line = match str::from_utf8(line) {
+            Ok(line) => line,
+            Err(_) => return Err(io::Error::from(ErrorKind::InvalidData)),
+        };
+        if state.ends_item && starts_line(line) {
+            return Ok(text.len() - rest.len());
+        }
+        state = scan_line::<T>(line, state);
+        rest = after;
+    }
+    Ok(text.len() - rest.len())
+}

@@ -1,0 +1,176 @@
+//! The lines of a text, and which of them begin or end an item.
+ghost use Rattle.std.specs.Prelude.{◌≡◌, ◌≤◌, ◌<◌, ◌∷◌, ◌++◌, List, [], length, take, drop, true};
+ghost use Rattle.souper_graph.specs.Syntax.Tokens.{Lexeme};
+ghost use Rattle.souper_graph.specs.Syntax.Spelling.{kinds, ItemType};
+ghost use Rattle.souper_lexer.specs.TokenReading.{lexed_of};
+ghost use Rattle.souper_lexer.specs.TokenView.{lexeme_of, Yields};
+ghost use Rattle.souper_ir.specs.NodeReadings.{is_name};
+ghost use Rattle.souper_reader.specs.Lines.{last_word, line_word, is_end_word, shows_line, defines, starts_line, first_offset, IsStateAfter};
+ghost use Rattle.souper_reader.specs.Segments.{tokens_of, IsFirstLine, IsLastLineAt};
+
+use crate::item::StreamItem;
+use memchr::{memchr, memrchr};
+use souper_lexer::{Fault, Lexer, Token};
+
+fn is_last_word(word: &str) -> bool
+    ensures { result ≡ last_word word.now }
+{
+    word == "infer" || (word == "result" || word == "cand")
+}
+
+// Whether the word begins a path condition, or one of an item's last lines.
+fn is_line_word(word: &str) -> bool
+    ensures { result ≡ line_word word.now }
+{
+    is_last_word(word) || (word == "pc" || word == "blockpc")
+}
+
+// Whether the token shows that a line begins: at its word, or at what defines the name before it.
+fn shows_line(named: bool, token: Token<'_>) -> bool
+    ensures { result ≡ shows_line named (lexeme_of token.entry) }
+{
+    match token {
+        Token::Ident(word) => is_line_word(word),
+        Token::Eq => named,
+        Token::Colon => named,
+        _ => false,
+    }
+}
+
+fn is_name(token: Token<'_>) -> bool
+    ensures { result ≡ is_name (lexeme_of token.entry) }
+{
+    match token {
+        Token::ValName(_) => true,
+        _ => false,
+    }
+}
+
+// The next token. It is lexed as the parser lexes it, so that a program has one caller of `Lexer::next_token`.
+fn next_token<'a>(lexer: &mut Lexer<'a>) -> Result<Option<(usize, Token<'a>)>, Fault>
+    ensures { Yields lexer.old result lexer.new }
+{
+    let (mut ahead, mut offset) = (None, 0);
+    lexer.lex(&mut ahead, &mut offset)?;
+    Ok(ahead)
+}
+
+/// The offset of the first token of the text, in bytes; 0 if there is none.
+pub(crate) fn first_offset(text: &str) -> usize
+    ensures offset { result ≡ first_offset (lexed_of 0 text.now).tokens }
+    ensures within { result ≤ length text.now }
+{
+    let (mut ahead, mut offset) = (None, 0);
+    let _ = Lexer::new(text).lex(&mut ahead, &mut offset);
+    offset
+}
+
+// Whether the token is a word that begins a terminator.
+fn is_end_word<T: StreamItem>(token: Token<'_>) -> bool
+    ensures { result ≡ is_end_word T.item_type (lexeme_of token.entry) }
+{
+    match token {
+        Token::Ident(word) => T::ends_with(word),
+        _ => false,
+    }
+}
+
+/// The scanner state after a sequence of tokens.
+#[derive(Clone, Copy)]
+pub(crate) struct ScanState {
+    /// Whether the last token is a name.
+    pub after_name: bool,
+
+    /// Whether, of the statements and last lines that begin in them, the last is a terminator.
+    pub ends_item: bool,
+}
+
+impl ScanState {
+    /// The state after no tokens.
+    pub(crate) fn new() -> ScanState
+        ensures { (k : ItemType) → IsStateAfter k [] result }
+    {
+        ScanState {
+            after_name: false,
+            ends_item: false,
+        }
+    }
+}
+
+// The state after the remaining tokens, up to a fault, given the state before them.
+fn scan<T: StreamItem>(lexer: &mut Lexer<'_>, before: ScanState) -> ScanState
+    ensures { (ts : List Lexeme) → IsStateAfter T.item_type ts before → IsStateAfter T.item_type (ts ++ kinds lexer.old.tokens) result }
+{
+    let (mut after_name, mut ends_item) = (before.after_name, before.ends_item);
+    'tokens: loop {
+        let token = match next_token(lexer) {
+            Ok(Some((_, token))) => token,
+            _ => return ScanState {
+                after_name,
+                ends_item,
+            },
+        };
+        if shows_line(after_name, token) {
+            ends_item = is_end_word::<T>(token);
+        }
+        after_name = is_name(token);
+    }
+}
+
+/// The state after the tokens of the line, up to a fault, given the state before them.
+pub(crate) fn scan_line<T: StreamItem>(line: &str, before: ScanState) -> ScanState
+    ensures { (ts : List Lexeme) → IsStateAfter T.item_type ts before → IsStateAfter T.item_type (ts ++ tokens_of line.now) result }
+{
+    scan::<T>(&mut Lexer::new(line), before)
+}
+
+// Whether the token, after a name, says that the name is defined.
+fn defines(token: Token<'_>) -> bool
+    ensures { result ≡ defines (lexeme_of token.entry ∷ []) }
+{
+    match token {
+        Token::Eq => true,
+        Token::Colon => true,
+        _ => false,
+    }
+}
+
+/// Whether the line begins with a statement, or is one of an item's last lines.
+pub(crate) fn starts_line(line: &str) -> bool
+    ensures { result ≡ starts_line (tokens_of line.now) }
+{
+    let mut lexer = Lexer::new(line);
+    let first = match next_token(&mut lexer) {
+        Ok(Some((_, token))) => token,
+        _ => return false,
+    };
+    match first {
+        Token::Ident(word) => is_line_word(word),
+        Token::ValName(_) => match next_token(&mut lexer) {
+            Ok(Some((_, token))) => defines(token),
+            _ => false,
+        },
+        _ => false,
+    }
+}
+
+/// The length of the first line of the text, with its newline.
+pub(crate) fn first_line_len(text: &[u8]) -> usize
+    ensures { IsFirstLine text.now result }
+{
+    match memchr(b'\n', text) {
+        Some(index) => index + 1,
+        None => text.len(),
+    }
+}
+
+/// The offset of the last line of the text, in bytes.
+pub(crate) fn last_line_start(text: &[u8]) -> usize
+    requires { 0 < length text.now }
+    ensures { IsLastLineAt text.now result }
+{
+    match memrchr(b'\n', &text[..text.len() - 1]) {
+        Some(index) => index + 1,
+        None => 0,
+    }
+}
