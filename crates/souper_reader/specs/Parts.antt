@@ -74,7 +74,7 @@ IsPlacedIn file read done part e = length read + 1 < 2 ^ 64 → (offset : ℕ) �
 abbrev pub advanced : Buffer → ℕ → Buffer
 advanced b len = record { bytes = b.bytes; parsed = b.parsed + len; before = b.before }
 
--- the first `len` unparsed bytes were parsed, and so many are left of their chunk; if none are, parsed lines were dropped
+-- the first `len` unparsed bytes were parsed, and `rejected` bytes are left of their chunk; if none are, parsed lines were dropped
 pub record Passes (old : Buffer) (ended : Bool) (new : ItemReader) (len rejected : ℕ) : Type 0 where
   pub ended_is : new.ended ≡ ended
   pub rejected_is : new.rejected ≡ rejected

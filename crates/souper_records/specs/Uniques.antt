@@ -109,11 +109,11 @@ WritesNewFirsts k l old new before after items = (earlier : List Item) → HasSe
 abbrev pub count_line : ℕ → List ℕ
 count_line n = codes "; count " ++ (decimal n ++ codes "\n")
 
--- whether a graph that so many items have has a record
+-- whether a graph with this count has a record
 abbrev pub is_listed : Summary → ℕ → Bool
 is_listed s n = not s.repeated || nat_le 2 n
 
--- the record of a graph whose items have this text and are so many, after their number if it is asked for
+-- the record of a graph with this text and count, after a line with the count if it is asked for
 abbrev pub counted_record : Layout → Summary → List ℕ → ℕ → List ℕ
 counted_record l s text n = (if s.counts then count_line n else []) ++ record_of_text l text
 

@@ -16,7 +16,7 @@ use souper_format::watched::Watched;
 use std::alloc::{AllocError, Global};
 use std::io::Write;
 
-// Whether a graph that so many items have has a record.
+// Whether a graph with this count has a record.
 fn is_listed(summary: Summary, count: u64) -> bool
     ensures { result ≡ is_listed summary count }
 {
@@ -32,7 +32,7 @@ fn append_count(alloc: Global, count: u64, out: &mut String) -> Result<(), Alloc
     out.push_str("\n")
 }
 
-// Appends what is written of a graph whose items have this text and are so many.
+// Appends the record of a graph with this text and count, if it has one.
 fn append_summary(
     alloc: Global,
     layout: Layout,
