@@ -161,8 +161,8 @@ pub struct ItemReader {
 }
 
 impl ItemReader {
-    /// A reader at the start of a stream. `min_chunk` is the chunk size in bytes (at least 1): a cut point is looked for when the buffer
-    /// has grown by `min_chunk` bytes, and by the line after them. If none is found, it is looked for again when the buffer has doubled.
+    /// A reader at the start of a stream. `min_chunk` is the chunk size in bytes: a cut point is looked for when the buffer has
+    /// grown by `min_chunk` bytes, and by the line after them. If none is found, it is looked for again when the buffer has doubled.
     /// With a small chunk size items are passed to the sink sooner; with a larger one reading takes less time.
     pub fn new(alloc: Global, min_chunk: usize) -> ItemReader
         ensures { (k : ItemType) (start : Option (List ℕ)) → HasParts k start start [] result }
