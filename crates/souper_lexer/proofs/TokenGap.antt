@@ -1,12 +1,15 @@
 -- How reading passes over a gap, unit by unit.
-use Rattle.std.proofs.Common.{◌≡◌, ℕ, zero, suc, ◌+◌, ◌<◌, ◌≤◌, ◌≢◌, true, false, cond, eqb, List, [], ◌∷◌, ◌++◌, length, get_or, drop, Option, Some, slice_get, sym, refl, ap, ◌∙◌, arith}
+use Rattle.std.proofs.Common.{◌≡◌, ℕ, zero, suc, ◌+◌, ◌<◌, ◌≤◌, ◌≢◌, true, false, cond, eqb, List, [], ◌∷◌, ◌++◌, length, get_or, drop, Option, Some, slice_get, sym, refl, ap, ◌∙◌, arith, add-one}
 use Rattle.std.specs.Prelude.{if◌then◌else◌}
 use Rattle.std.specs.Str.{chars}
 use Rattle.std.specs.Char.{is_whitespace, len_utf8}
 use Rattle.std.proofs.lemmas.Str.{chars-append, chars-IsAscii, IsUtf8-from_ascii}
 use Rattle.std.proofs.lemmas.Str.Ascii.{IsAscii-cons, IsAscii-nil}
 use Rattle.std.proofs.lemmas.List.{at_drop_more}
+use Rattle.std.proofs.Math.Seq.{drop-length}
+use Rattle.std.proofs.lemmas.Bool.{false_from_ne_true}
 use Rattle.std.proofs.lemmas.Bool.Decides.{nat_tests}
+use Rattle.memchr.specs.Find.{Nowhere, NoneBefore, Passes, is_byte}
 use Rattle.souper_lexer.specs.TokenReading.{inside, remark, first_space, space_len, after_from, after_gap}
 
 -- the first character, if it is ASCII
@@ -55,6 +58,23 @@ remark_all [] zero h = remark_nil
 remark_all [] (suc n) h = remark_nil
 remark_all (b ∷ bs) zero h = remark_end b bs (h (omega arith))
 remark_all (b ∷ bs) (suc n) h = remark_all bs n (λ l. h (omega arith))
+
+-- a comment's bytes before its newline are passed over
+pub remark_before : (bs : List ℕ) (n : ℕ) → n ≤ length bs → Nowhere (Passes (is_byte 10) bs) 0 n → after_from remark (drop n bs) ≡ after_from remark bs
+remark_before bs zero l none = refl
+remark_before bs (suc n) l none =
+    let step : after_from remark (drop (suc n) bs) ≡ after_from remark (drop n bs) = rw add-one at (remark_more bs n (omega arith) (false_from_ne_true _ (none n (omega arith) (omega arith)))) in
+    step ∙ remark_before bs n (omega arith) (λ k lo hi. none k lo (omega arith))
+
+-- a comment without a newline has the rest of the text
+pub remark_without : (bs : List ℕ) → Nowhere (Passes (is_byte 10) bs) 0 (length bs) → after_gap [] ≡ after_from remark bs
+remark_without bs none = remark_nil ∙ sym (ap (after_from remark) (drop-length bs)) ∙ remark_before bs (length bs) (omega arith) none
+
+-- after a comment its newline is left
+pub remark_found : (bs : List ℕ) (n : ℕ) → NoneBefore (Passes (is_byte 10) bs) 0 (length bs) n → Passes (is_byte 10) bs n → after_gap (drop n bs) ≡ after_from remark bs
+remark_found bs n before here =
+    let high = before.high in
+    remark_all bs n (λ l. grind (arith, nat_tests)) ∙ remark_before bs n (omega arith) before.before
 
 -- a gap by the text's first byte
 white_control : (b : ℕ) → 9 ≤ b → b ≤ 13 → is_whitespace b ≡ true

@@ -13,6 +13,7 @@ ghost use Rattle.souper_graph.specs.Syntax.Tokens.{Lexeme, ident, val_name, int,
 ghost use Rattle.souper_lexer.specs.TokenReading.{remark, space_len, after_from, after_gap, run_of, after_run, found, lexed_of, Lexed, bits_at, word_at, name_at, mark_of, longer_at, front_of};
 ghost use Rattle.souper_lexer.specs.TokenView.{lexeme_of, is_in, Reads, Takes, BeginsWith, Yields, Lexes};
 
+use memchr::memchr;
 use std::fmt;
 use std::marker::Model;
 
@@ -143,18 +144,17 @@ fn front_len(text: &str, class: Class) -> usize
     n
 }
 
-// The rest of the text after a comment whose `;` has been taken: the newline and the text after it, or nothing.
-#[tactic(auto, using(crate::proofs::TokenGap::remark_more, crate::proofs::TokenGap::remark_all))]
+// The rest of the text after a comment whose `;` has been taken: the newline and the text after it, or nothing. The search is not
+// inlined, since most gaps have no comment.
+#[inline(never)]
 fn after_comment(text: &str) -> &str
     ensures rest { after_gap result.now ≡ after_from remark text.now }
     ensures len { length result.now ≤ length text.now }
 {
-    let bytes = text.as_bytes();
-    let mut n = 0;
-    while n < bytes.len() && bytes[n] != b'\n' {
-        n += 1;
+    match memchr(b'\n', text.as_bytes()) {
+        Some(n) => &text[n..],
+        None => "",
     }
-    &text[n..]
 }
 
 // The length in bytes of the white space character that the text begins with, or 0.
