@@ -55,7 +55,7 @@ pub struct Parser<'a> {
     statements: Arena<Statement>,
     // The names that they define.
     names: Names<'a>,
-    // Is asked before the map: most uses are of a value that was defined last.
+    // Is asked before the map: most uses are of a value that was looked up or defined last.
     recent: Recent,
     failed: Option<Failure>,
 }
@@ -88,7 +88,7 @@ impl<'a> Parser<'a> {
             offset: 0,
             statements: Arena::new(alloc),
             names: Names::new(alloc),
-            recent: Recent::new(),
+            recent: Recent::new(alloc),
             failed: None,
         }
     }
@@ -377,9 +377,10 @@ impl<'a> Parser<'a> {
 
     /// The value of a name.
     #[inline(always)]
-    pub(crate) fn value_named(&self, name: &str) -> Option<ValueId>
-        requires { self.now.failed ≡ None }
-        ensures { result ≡ position_of self.now.scope name.now }
+    pub(crate) fn value_named(&mut self, name: &str) -> Option<ValueId>
+        requires { self.old.failed ≡ None }
+        ensures value { result ≡ position_of self.old.scope name.now }
+        ensures kept { self.new ≡ self.old }
     {
         if let Some(value) = self.recent.get(name) {
             if is_named(&self.statements, value, name) {
@@ -387,7 +388,10 @@ impl<'a> Parser<'a> {
             }
         }
         match self.entry(name) {
-            Some((value, _)) => Some(value),
+            Some((value, _)) => {
+                self.recent.put(name, value);
+                Some(value)
+            }
             None => None,
         }
     }
@@ -443,6 +447,7 @@ impl<'a> Parser<'a> {
         };
         match self.names.enter(name, value, predecessors) {
             Ok(_) => {
+                self.recent.make_room(self.statements.len());
                 self.recent.put(name, value);
                 Ok(())
             }
@@ -474,6 +479,7 @@ impl<'a> Parser<'a> {
         ensures empty { self.new ≡ record self.old { scope = [] } }
     {
         self.names.clear();
+        self.recent.clear();
         // So no more than half of the room stays unused.
         if self.statements.len() < ROOM / 2 {
             self.statements.shrink_to_fit();
