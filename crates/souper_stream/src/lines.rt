@@ -12,6 +12,7 @@ ghost use Rattle.souper_stream.specs.Reading.{IsTaken};
 ghost use Rattle.souper_stream.specs.Seams.{IsEndLine, IsSeam};
 
 use crate::ends::StreamItem;
+use memchr::memmem;
 use souper_lexer::{Fault, Lexer, Token};
 
 fn is_last_word(word: &str) -> bool
@@ -220,6 +221,18 @@ pub(crate) fn lines_len(bytes: &[u8], end: usize) -> usize
     len
 }
 
+// Whether the word is in the text, be it of another token or of a comment, and an item of the type ends with a line that it begins.
+fn has_end_word<T: StreamItem>(text: &str, word: &str) -> bool {
+    T::ends_with(word) && memmem::find(text.as_bytes(), word.as_bytes()).is_some()
+}
+
+// Whether a line that an item of the type ends with may be in the text.
+fn may_end<T: StreamItem>(text: &str) -> bool {
+    has_end_word::<T>(text, "infer")
+        || has_end_word::<T>(text, "result")
+        || has_end_word::<T>(text, "cand")
+}
+
 /// The length of lines that the text begins with, after which an item has ended and a line of the next begins: of all such
 /// that are found line by line, the most. 0 if none is found.
 pub(crate) fn complete_len<T: StreamItem>(text: &str) -> usize
@@ -227,6 +240,10 @@ pub(crate) fn complete_len<T: StreamItem>(text: &str) -> usize
     ensures boundary { IsCharBoundary text.now result }
     ensures seam { 0 < result → IsSeam T.item_type (take result text.now) (drop result text.now) }
 {
+    // In the middle of a large item no line is looked at.
+    if !may_end::<T>(text) {
+        return 0;
+    }
     let bytes = text.as_bytes();
     let mut end = lines_len(bytes, bytes.len());
     let mut next = None;
