@@ -104,6 +104,9 @@ fn encode_statement(statement: &Statement, out: &mut Vec<u8>) -> Result<(), Allo
     }
 }
 
+// About what the code of a statement takes, in bytes, if its operands are two values.
+const USUAL_LEN: usize = 48;
+
 /// Appends the number of statements, and the statements.
 #[tactic(auto, using(crate::proofs::Statements::code_among_all), unfolding(crate::proofs::Statements::code_among))]
 pub(crate) fn encode_statements(
@@ -112,6 +115,7 @@ pub(crate) fn encode_statements(
 ) -> Result<(), AllocError>
     ensures { OnOk result (out.new.items ≡ out.old.items ++ code_of_statements (map view_statement statements.now)) }
 {
+    out.reserve(statements.len().saturating_mul(USUAL_LEN))?;
     encode_size(statements.len(), out)?;
     for (_, statement) in statements.iter() {
         encode_statement(statement, out)?;
