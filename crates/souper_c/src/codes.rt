@@ -14,7 +14,7 @@ ghost use Rattle.souper_c.specs.declared.inputs.Failure.TheVariants.{NotUtf8};
 use crate::inputs::{Failure, failure_of, kind_and_source};
 use souper_code::encode::Encode;
 use souper_format::command::Kind;
-use souper_ir::ast::{LeftHandSide, Replacement, RightHandSide};
+use souper_ir::ast::{Arena, LeftHandSide, Replacement, RightHandSide, Statement};
 use souper_ir::parse::{ParseError, Sink, WholeItem, parse_into};
 use std::alloc::{AllocError, Global};
 
@@ -29,6 +29,11 @@ impl<T: WholeItem + Encode + Drop> Sink<T> for Codes {
 
     fn take(&mut self, item: T) -> Result<(), AllocError> {
         item.encode(&mut self.code)
+    }
+
+    fn take_over(&mut self, mut item: T) -> Result<Option<Arena<Statement>>, AllocError> {
+        item.encode(&mut self.code)?;
+        Ok(item.take_statements())
     }
 }
 

@@ -8,7 +8,7 @@ ghost use Rattle.souper_ir.specs.Answers.{IsStrError};
 ghost use Rattle.souper_graph.specs.Syntax.Tokens.{IsLastGap};
 ghost use Rattle.souper_format.specs.Formatted.{IsFormatted, SpellsRenumbered};
 
-use souper_ir::ast::Item;
+use souper_ir::ast::{Arena, Item, Statement};
 use souper_ir::parse::{ParseError, Sink, WholeItem, parse_into};
 use std::alloc::{AllocError, Global};
 
@@ -44,13 +44,33 @@ pub(crate) fn are_same_graph<T: Item>(alloc: Global, a: &T, b: &T) -> Result<boo
 #[derive(Drop)]
 struct Texts {
     text: String,
+
+    // For the text of one item.
+    item: String,
+}
+
+impl Texts {
+    // An empty buffer takes the text of an item at once, and an error leaves `text` as it was.
+    fn append<T: Item>(&mut self, item: &T) -> Result<(), AllocError>
+        requires { WellFormed (T.view item.now) }
+        ensures { OnOk result (string_bytes self.new.text ≡ string_bytes self.old.text ++ text_with_newline (T.view item.now)) }
+    {
+        self.item.clear();
+        append_item(item, &mut self.item)?;
+        self.text.push_str(&self.item)
+    }
 }
 
 impl<T: WholeItem + Drop> Sink<T> for Texts {
     ghost holds = { λ first texts items. string_bytes texts.text ≡ texts_of items };
 
     fn take(&mut self, item: T) -> Result<(), AllocError> {
-        append_item(&item, &mut self.text)
+        self.append(&item)
+    }
+
+    fn take_over(&mut self, mut item: T) -> Result<Option<Arena<Statement>>, AllocError> {
+        self.append(&item)?;
+        Ok(item.take_statements())
     }
 }
 
@@ -68,6 +88,7 @@ pub(crate) fn texts_of_source<T: WholeItem + Drop>(
 {
     let mut texts = Texts {
         text: String::new(alloc),
+        item: String::new(alloc),
     };
     parse_into::<T, Texts>(alloc, source, filename, &mut texts)?;
     Ok(texts.text)

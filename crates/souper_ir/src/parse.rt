@@ -14,6 +14,7 @@ mod place;
 mod recent;
 mod rhs;
 mod sink;
+mod spare;
 mod statements;
 mod tokens;
 mod traits;

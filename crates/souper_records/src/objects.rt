@@ -1,7 +1,8 @@
 //! A JSON object for each item and each refusal of a stream, each on a line of its own.
-ghost use Rattle.std.specs.Prelude.{◌≡◌, ◌++◌, [], true, false, map, flat_map, Option, Some, IfOk, IfErr, OnOk, option_copied};
+ghost use Rattle.std.specs.Prelude.{◌≡◌, ◌++◌, ◌∷◌, [], true, false, map, flat_map, Option, Some, IfOk, IfErr, OnOk, option_copied};
 ghost use Rattle.std.specs.Io.KnownBytes.{Appends};
 ghost use Rattle.std.specs.String.{string_bytes};
+ghost use Rattle.souper_graph.specs.WellFormed.{WellFormed};
 ghost use Rattle.souper_ir.specs.Errors.{kind_of};
 ghost use Rattle.souper_format.specs.Streams.{stream};
 ghost use Rattle.souper_format.specs.Watching.{has_failed};
@@ -14,9 +15,10 @@ ghost use Rattle.serde_json.specs.Written.{has_float};
 
 use crate::each::{Stop, write_text};
 use crate::pieces::{PieceSink, Place, write_pieces};
-use crate::records::{append_text, key_of};
+use crate::records::{append_last_text, key_of};
 use serde_json::{Value, json};
 use souper_format::watched::Watched;
+use souper_ir::ast::{Arena, Statement};
 use souper_ir::parse::{ParseError, ParseErrorKind, Sink, WholeItem};
 use souper_stream::StreamItem;
 use std::alloc::{AllocError, Global};
@@ -125,18 +127,32 @@ impl Objects {
             texts: Vec::new(alloc),
         }
     }
+
+    // The item is dropped then.
+    fn push_text<T: WholeItem + Drop>(&mut self, item: &mut T) -> Result<(), AllocError>
+        requires { WellFormed (T.view item.old) }
+        ensures { OnOk result ((self.new.rename ≡ self.old.rename)
+            × (map string_bytes self.new.texts.items ≡ map string_bytes self.old.texts.items ++ text_by self.old.rename (T.view item.old) ∷ [])) }
+    {
+        let mut text = String::new(self.alloc);
+        append_last_text(self.rename, item, &mut text)?;
+        match self.texts.push(text) {
+            Ok(()) => Ok(()),
+            Err(_) => Err(AllocError),
+        }
+    }
 }
 
 impl<T: WholeItem + Drop> Sink<T> for Objects {
     ghost holds = { λ first objects items. (objects.rename ≡ first.rename) × (map string_bytes objects.texts.items ≡ map (text_by first.rename) items) };
 
-    fn take(&mut self, item: T) -> Result<(), AllocError> {
-        let mut text = String::new(self.alloc);
-        append_text(self.rename, &item, &mut text)?;
-        match self.texts.push(text) {
-            Ok(()) => Ok(()),
-            Err(_) => Err(AllocError),
-        }
+    fn take(&mut self, mut item: T) -> Result<(), AllocError> {
+        self.push_text(&mut item)
+    }
+
+    fn take_over(&mut self, mut item: T) -> Result<Option<Arena<Statement>>, AllocError> {
+        self.push_text(&mut item)?;
+        Ok(item.take_statements())
     }
 }
 

@@ -2,6 +2,7 @@
 ghost use Rattle.std.specs.Prelude.{◌≡◌, ◌++◌, [], map, flat_map, IfOk, IfErr, IsOkAnd, OnOk, option_copied};
 ghost use Rattle.std.specs.String.{string_bytes};
 ghost use Rattle.souper_graph.specs.Text.{text_of};
+ghost use Rattle.souper_graph.specs.Renaming.{renamed};
 ghost use Rattle.souper_graph.specs.WellFormed.{WellFormed};
 ghost use Rattle.souper_graph.specs.Syntax.Tokens.{IsLastGap};
 ghost use Rattle.souper_ir.specs.Answers.{IsStrError};
@@ -43,6 +44,35 @@ pub(crate) fn append_text<T: Item + Drop>(
         Ok(copy) => append_canonical(&copy, out),
         Err(_) => Err(AllocError),
     }
+}
+
+// Appends the canonical text of the item with names by its printed order. The item is dropped then, so it is renamed in place.
+fn append_renamed<T: Item + Drop>(item: &mut T, out: &mut String) -> Result<(), AllocError>
+    requires { WellFormed (T.view item.old) }
+    ensures text { OnOk result (string_bytes out.new ≡ string_bytes out.old ++ text_of (renamed (T.view item.old))) }
+    ensures well_formed { OnOk result (WellFormed (renamed (T.view item.old))) }
+{
+    match item.rename() {
+        Ok(true) => append_canonical(item, out),
+        Ok(false) => append_text(true, item, out),
+        Err(_) => Err(AllocError),
+    }
+}
+
+// As `append_text`, of an item that is dropped then.
+pub(crate) fn append_last_text<T: Item + Drop>(
+    rename: bool,
+    item: &mut T,
+    out: &mut String,
+) -> Result<(), AllocError>
+    requires { WellFormed (T.view item.old) }
+    ensures text { OnOk result (string_bytes out.new ≡ string_bytes out.old ++ text_of (chosen rename (T.view item.old))) }
+    ensures well_formed { OnOk result (WellFormed (chosen rename (T.view item.old))) }
+{
+    if rename {
+        return append_renamed(item, out);
+    }
+    append_canonical(item, out)
 }
 
 /// The key of a canonical text in a store: its SHA-256, in 64 hexadecimal digits.

@@ -1,14 +1,16 @@
 //! A sink that makes the records of items.
-ghost use Rattle.std.specs.Prelude.{◌≡◌, []};
+ghost use Rattle.std.specs.Prelude.{◌≡◌, ◌++◌, [], OnOk};
 ghost use Rattle.std.specs.Io.KnownBytes.{Appends};
 ghost use Rattle.std.specs.String.{string_bytes};
-ghost use Rattle.souper_records.specs.Records.{records_of};
+ghost use Rattle.souper_graph.specs.WellFormed.{WellFormed};
+ghost use Rattle.souper_records.specs.Records.{record_of, records_of};
 
 use crate::each::{Stop, write_text};
 use crate::layout::Layout;
 use crate::pieces::{PieceSink, Place};
-use crate::records::append_record;
+use crate::records::{append_last_text, append_record_of_text};
 use souper_format::watched::Watched;
+use souper_ir::ast::{Arena, Statement};
 use souper_ir::parse::{ParseError, Sink, WholeItem};
 use souper_stream::StreamItem;
 use std::alloc::{AllocError, Global};
@@ -39,19 +41,29 @@ impl Records {
             out: String::new(alloc),
         }
     }
+
+    // The item is dropped then.
+    fn append<T: WholeItem + Drop>(&mut self, item: &mut T) -> Result<(), AllocError>
+        requires { WellFormed (T.view item.old) }
+        ensures { OnOk result ((self.new.layout ≡ self.old.layout)
+            × (string_bytes self.new.out ≡ string_bytes self.old.out ++ record_of self.old.layout (T.view item.old))) }
+    {
+        self.text.clear();
+        append_last_text(self.layout.rename, item, &mut self.text)?;
+        append_record_of_text(self.alloc, self.layout, self.text.as_str(), &mut self.out)
+    }
 }
 
 impl<T: WholeItem + Drop> Sink<T> for Records {
     ghost holds = { λ first records items. (records.layout ≡ first.layout) × (string_bytes records.out ≡ records_of first.layout items) };
 
-    fn take(&mut self, item: T) -> Result<(), AllocError> {
-        append_record(
-            self.alloc,
-            self.layout,
-            &item,
-            &mut self.text,
-            &mut self.out,
-        )
+    fn take(&mut self, mut item: T) -> Result<(), AllocError> {
+        self.append(&mut item)
+    }
+
+    fn take_over(&mut self, mut item: T) -> Result<Option<Arena<Statement>>, AllocError> {
+        self.append(&mut item)?;
+        Ok(item.take_statements())
     }
 }
 

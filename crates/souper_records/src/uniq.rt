@@ -1,7 +1,8 @@
 //! The record of the first item of each graph in streams.
-ghost use Rattle.std.specs.Prelude.{◌≡◌, List, map, flat_map, drop, length, Some, OnOk, IfErr};
+ghost use Rattle.std.specs.Prelude.{◌≡◌, ◌++◌, ◌∷◌, [], List, map, flat_map, drop, length, Some, OnOk, IfErr};
 ghost use Rattle.std.specs.String.{string_bytes};
 ghost use Rattle.souper_graph.specs.Values.{Item};
+ghost use Rattle.souper_graph.specs.WellFormed.{WellFormed};
 ghost use Rattle.souper_ir.specs.Errors.{kind_of};
 ghost use Rattle.souper_format.specs.Streams.{stream, IsGiven};
 ghost use Rattle.souper_format.specs.Watching.{has_failed};
@@ -12,9 +13,10 @@ ghost use Rattle.souper_records.specs.Uniques.{HasSeen, SeesMore, WritesFirsts, 
 use crate::each::{CHUNK, Stop, write_text};
 use crate::layout::Layout;
 use crate::pieces::{PieceSink, Place};
-use crate::records::{append_text, records_of_texts};
+use crate::records::{append_last_text, records_of_texts};
 use crate::seen::Seen;
 use souper_format::watched::Watched;
+use souper_ir::ast::{Arena, Statement};
 use souper_ir::parse::{ParseError, ParseErrorKind, Sink, WholeItem};
 use souper_stream::{PartReader, StreamItem};
 use std::alloc::{AllocError, Global};
@@ -44,19 +46,35 @@ impl Firsts {
             seen,
         }
     }
+
+    // Keeps the text of the item, if it is the first of its graph, and counts it. The item is dropped then.
+    fn see<T: WholeItem + Drop>(&mut self, item: &mut T) -> Result<(), AllocError>
+        requires { WellFormed (T.view item.old) }
+        ensures { OnOk result ((first : Self) (items : List Item)
+            → (self.old.layout ≡ first.layout) × SeesMore T.item_type first.layout.rename items first.seen self.old.seen
+            → (self.new.layout ≡ first.layout) × SeesMore T.item_type first.layout.rename (items ++ T.view item.old ∷ []) first.seen self.new.seen) }
+    {
+        self.text.clear();
+        append_last_text(self.layout.rename, item, &mut self.text)?;
+        let text = String::from_str(self.alloc, self.text.as_str())?;
+        let index = match self.seen.texts.insert_full(text) {
+            Ok((index, _)) => index,
+            Err(_) => return Err(AllocError),
+        };
+        self.seen.count(index)
+    }
 }
 
 impl<T: WholeItem + Drop> Sink<T> for Firsts {
     ghost holds = { λ first firsts items. (firsts.layout ≡ first.layout) × SeesMore T.item_type first.layout.rename items first.seen firsts.seen };
 
-    fn take(&mut self, item: T) -> Result<(), AllocError> {
-        self.text.clear();
-        append_text(self.layout.rename, &item, &mut self.text)?;
-        let text = String::from_str(self.alloc, self.text.as_str())?;
-        match self.seen.texts.insert_full(text) {
-            Ok((index, _)) => self.seen.count(index),
-            Err(_) => Err(AllocError),
-        }
+    fn take(&mut self, mut item: T) -> Result<(), AllocError> {
+        self.see(&mut item)
+    }
+
+    fn take_over(&mut self, mut item: T) -> Result<Option<Arena<Statement>>, AllocError> {
+        self.see(&mut item)?;
+        Ok(item.take_statements())
     }
 }
 

@@ -86,6 +86,18 @@ impl<T: Drop> Arena<T> {
         self.items.shrink_to_fit();
     }
 
+    /// Removes all items. Their room stays.
+    pub fn clear(&mut self)
+        ensures { self.new ≡ [] }
+    {
+        self.items.clear();
+    }
+
+    /// The number of items that there is room for.
+    pub fn capacity(&self) -> usize {
+        self.items.capacity()
+    }
+
     /// The number of items.
     pub fn len(&self) -> usize
         ensures { result ≡ length self.now }
@@ -103,7 +115,8 @@ impl<T: Drop> Arena<T> {
         }
     }
 
-    pub(crate) fn allocator(&self) -> Global {
+    /// The allocator of the items.
+    pub fn allocator(&self) -> Global {
         *self.items.allocator()
     }
 

@@ -1,6 +1,6 @@
 //! What left-hand sides, right-hand sides and replacements have in common.
 
-ghost use Rattle.std.specs.Prelude.{◌≡◌, ◌↔◌, map, IfOk, IfErr, OnOk, OnErr, IsTrue};
+ghost use Rattle.std.specs.Prelude.{◌≡◌, ◌↔◌, true, false, map, IfOk, IfErr, OnOk, OnErr, IsTrue};
 ghost use Rattle.std.specs.String.{string_bytes};
 ghost use Rattle.souper_graph.specs.Values.{Item as PlainItem};
 ghost use Rattle.souper_graph.specs.View.{view_statement, view_left_hand_side, view_right_hand_side, view_replacement};
@@ -59,6 +59,16 @@ pub trait Item {
         ensures refused { IfErr result (λ error. IsFaultOf (view self.now) error) }
         ensures named { IfOk result (λ copy. IsRenamed (view self.now) (view copy)) };
 
+    /// Names the statements of the text as `renamed` names those of its copy, and returns true; or returns false, and changes nothing.
+    /// After an error some names may be others.
+    fn rename(&mut self) -> Result<bool, TextError>
+        ensures refused { IfErr result (λ error. IsFaultOf (view self.old) error) }
+        ensures named { IfOk result (λ is_named. is_named ≡ true → IsRenamed (view self.old) (view self.new)) }
+        ensures kept { IfOk result (λ is_named. is_named ≡ false → self.new ≡ self.old) }
+    {
+        Ok(false)
+    }
+
     /// Whether the item is well formed, by the conditions of [`Replacement::is_well_formed`].
     fn is_well_formed(&self) -> Result<bool, AllocError>
         ensures { IfOk result (λ answer. IsTrue answer ↔ WellFormed (view self.now)) };
@@ -100,6 +110,11 @@ impl Item for LeftHandSide {
         LeftHandSide::renamed(self)
     }
 
+    fn rename(&mut self) -> Result<bool, TextError> {
+        LeftHandSide::rename(self)?;
+        Ok(true)
+    }
+
     fn is_well_formed(&self) -> Result<bool, AllocError> {
         LeftHandSide::is_well_formed(self)
     }
@@ -136,6 +151,11 @@ impl Item for RightHandSide {
 
     fn renamed(&self) -> Result<Self, TextError> {
         RightHandSide::renamed(self)
+    }
+
+    fn rename(&mut self) -> Result<bool, TextError> {
+        RightHandSide::rename(self)?;
+        Ok(true)
     }
 
     fn is_well_formed(&self) -> Result<bool, AllocError> {
@@ -186,6 +206,11 @@ impl Item for Replacement {
 
     fn renamed(&self) -> Result<Self, TextError> {
         Replacement::renamed(self)
+    }
+
+    fn rename(&mut self) -> Result<bool, TextError> {
+        Replacement::rename(self)?;
+        Ok(true)
     }
 
     fn is_well_formed(&self) -> Result<bool, AllocError> {

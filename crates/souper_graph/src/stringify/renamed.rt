@@ -1,16 +1,17 @@
 //! Copies of items in which the needed statements are named by their printed order.
 
-ghost use Rattle.std.specs.Prelude.{◌≡◌, map, IfOk, IfErr};
+ghost use Rattle.std.specs.Prelude.{◌≡◌, map, IfOk, IfErr, OnOk};
 ghost use Rattle.std.specs.String.{string_bytes};
 ghost use Rattle.souper_graph.specs.View.{view_statement, view_left_hand_side, view_right_hand_side, view_replacement};
 ghost use Rattle.souper_graph.specs.Order.{Distinct};
 ghost use Rattle.souper_graph.specs.Faults.{IsFaultOf};
-ghost use Rattle.souper_graph.specs.Renaming.{with_name, named_from, with_statements, IsRenamed};
+ghost use Rattle.souper_graph.specs.Renaming.{with_name, name_of_index, named_from, with_statements, IsRenamed};
 ghost use Rattle.souper_graph.specs.PartsView.{view_parts};
 ghost use Rattle.souper_graph.specs.declared.stringify.errors.TextError.TheVariants.{OutOfMemory};
 
 use crate::ast::{Arena, Id, LeftHandSide, Parts, Replacement, RightHandSide, Statement};
 use crate::stringify::errors::TextError;
+use std::alloc::AllocError;
 
 impl LeftHandSide {
     /// A copy in which the statements of the text are named `%0`, `%1`, and so on, by their index in its order.
@@ -28,6 +29,17 @@ impl LeftHandSide {
             infer: self.infer.clone()?,
         })
     }
+
+    /// Names the statements of the text as [`renamed`](Self::renamed) names those of its copy.
+    ///
+    /// Fails like [`print_order`](Self::print_order). After an error some names may be others.
+    pub fn rename(&mut self) -> Result<(), TextError>
+        ensures refused { IfErr result (λ error. IsFaultOf (view_left_hand_side self.old) error) }
+        ensures named { OnOk result (IsRenamed (view_left_hand_side self.old) (view_left_hand_side self.new)) }
+    {
+        let order = self.print_order()?;
+        set_names(&mut self.statements, &order.ids)
+    }
 }
 
 impl RightHandSide {
@@ -42,6 +54,17 @@ impl RightHandSide {
             statements: self.parts().renamed_statements()?,
             result: self.result,
         })
+    }
+
+    /// Names the statements of the text as [`renamed`](Self::renamed) names those of its copy.
+    ///
+    /// Fails like [`print_order`](Self::print_order). After an error some names may be others.
+    pub fn rename(&mut self) -> Result<(), TextError>
+        ensures refused { IfErr result (λ error. IsFaultOf (view_right_hand_side self.old) error) }
+        ensures named { OnOk result (IsRenamed (view_right_hand_side self.old) (view_right_hand_side self.new)) }
+    {
+        let order = self.print_order()?;
+        set_names(&mut self.statements, &order.ids)
     }
 }
 
@@ -66,6 +89,20 @@ impl Replacement {
             },
         })
     }
+
+    /// Names the statements of the text as [`renamed`](Self::renamed) names those of its copy.
+    ///
+    /// Fails like [`print_order`](Self::print_order). After an error some names may be others.
+    pub fn rename(&mut self) -> Result<(), TextError>
+        ensures refused { IfErr result (λ error. IsFaultOf (view_replacement self.old) error) }
+        ensures named { OnOk result (IsRenamed (view_replacement self.old) (view_replacement self.new)) }
+    {
+        let order = self.print_order()?;
+        match self {
+            Replacement::LhsRhs { statements, .. } => set_names(statements, &order.ids),
+            Replacement::Cand { statements, .. } => set_names(statements, &order.ids),
+        }
+    }
 }
 
 impl Parts<'_> {
@@ -87,22 +124,31 @@ fn named_statements(
     ensures named { Distinct ids.now → IfOk result (λ copy. map view_statement copy ≡ named_from ids.now 0 (map view_statement statements.now)) }
     ensures memory { IfErr result (λ error. error ≡ OutOfMemory) }
 {
-    let alloc = statements.allocator();
     let mut copy = statements.clone()?;
-    for (index, id) in ids.iter().enumerate() {
-        let name = format!(in alloc; "%{index}")?;
-        if let Some(statement) = copy.get_mut(*id) {
-            set_name(statement, name);
-        }
-    }
+    set_names(&mut copy, ids)?;
     Ok(copy)
 }
 
-// A path condition has no name.
-fn set_name(statement: &mut Statement, name: String)
-    ensures { view_statement statement.new ≡ with_name (string_bytes name) (view_statement statement.old) }
+// Names each statement in the list by its index there.
+fn set_names(statements: &mut Arena<Statement>, ids: &[Id<Statement>]) -> Result<(), TextError>
+    ensures named { Distinct ids.now → OnOk result (map view_statement statements.new ≡ named_from ids.now 0 (map view_statement statements.old)) }
+    ensures memory { IfErr result (λ error. error ≡ OutOfMemory) }
+{
+    for (index, id) in ids.iter().enumerate() {
+        if let Some(statement) = statements.get_mut(*id) {
+            set_name(statement, index)?;
+        }
+    }
+    Ok(())
+}
+
+// Names an assignment by the index. A path condition has no name.
+fn set_name(statement: &mut Statement, index: usize) -> Result<(), AllocError>
+    ensures { OnOk result (view_statement statement.new ≡ with_name (name_of_index index) (view_statement statement.old)) }
 {
     if let Statement::Assignment(assignment) = statement {
-        assignment.name = name;
+        assignment.name.clear();
+        write!(assignment.name, "%{index}")?;
     }
+    Ok(())
 }

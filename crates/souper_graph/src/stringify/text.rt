@@ -1,6 +1,6 @@
 //! The canonical text of items.
 
-ghost use Rattle.std.specs.Prelude.{◌≡◌, ◌≤◌, ◌++◌, length, flat_map, IfOk, IfErr, OnOk, OnErr};
+ghost use Rattle.std.specs.Prelude.{◌≡◌, ◌≤◌, ◌++◌, [], length, flat_map, IfOk, IfErr, OnOk, OnErr};
 ghost use Rattle.std.specs.Fmt.{DisplaysOnOk, DisplaysStyledOnOk};
 ghost use Rattle.souper_graph.specs.Shown.{ShowsLines};
 ghost use Rattle.std.specs.String.{string_bytes};
@@ -31,11 +31,32 @@ impl Parts<'_> {
         Ok(())
     }
 
+    // Puts the text of the item into a buffer that is empty. An error leaves it so.
+    fn put_text(&self, out: &mut String) -> Result<(), TextError>
+        requires { string_bytes out.old ≡ [] }
+        ensures refused { IfErr result (λ error. IsFaultOf (view_parts self.now) error) }
+        ensures printed { (k : ItemType) (a : Item) → view_parts self.now ≡ a → IsEndingOf k a.ending → OnOk result (IsItemText k a (string_bytes out.new)) }
+        ensures kept { OnErr result (string_bytes out.new ≡ []) }
+    {
+        let order = self.print_order()?;
+        match self.append_by(&order, out) {
+            Ok(()) => Ok(()),
+            Err(error) => {
+                out.clear();
+                Err(error)
+            }
+        }
+    }
+
+    // Into an empty buffer the text is put at once. Else it is made apart, so that an error leaves the buffer as it was.
     fn append_text(&self, out: &mut String) -> Result<(), TextError>
         ensures refused { IfErr result (λ error. IsFaultOf (view_parts self.now) error) }
         ensures appended { (k : ItemType) (a : Item) → view_parts self.now ≡ a → IsEndingOf k a.ending → OnOk result (AppendsItemText k a (string_bytes out.old) (string_bytes out.new)) }
         ensures kept { OnErr result (string_bytes out.new ≡ string_bytes out.old) }
     {
+        if out.is_empty() {
+            return self.put_text(out);
+        }
         let text = self.to_text()?;
         out.push_str(&text)?;
         Ok(())
@@ -45,9 +66,8 @@ impl Parts<'_> {
         ensures refused { IfErr result (λ error. IsFaultOf (view_parts self.now) error) }
         ensures printed { (k : ItemType) (a : Item) → view_parts self.now ≡ a → IsEndingOf k a.ending → IfOk result (λ text. IsItemText k a (string_bytes text)) }
     {
-        let order = self.print_order()?;
         let mut text = String::new(self.statements.allocator());
-        self.append_by(&order, &mut text)?;
+        self.put_text(&mut text)?;
         Ok(text)
     }
 }

@@ -236,6 +236,12 @@ nothing_seen k vs p q m so e h =
 pub still_sound : (k : ItemType) (vs : List Item) (p q : Parsing) → ItemsTaken k vs p q → p.faulty ≡ false → p.failed ≡ None → (q.faulty ≡ false) × (q.failed ≡ None)
 still_sound k vs p q so f l = (ap (λ (x : Parsing). x.faulty) so.state ∙ f, ap (λ (x : Parsing). x.failed) so.state ∙ l)
 
+-- nothing is in scope after a look
+pub still_empty : (k : ItemType) (vs : List Item) (p q m : Parsing) {b : Bool} → ItemsTaken k vs p q → IsRead (peek_at is_any q) b q m → m.scope ≡ []
+still_empty k vs p q m {b} so h =
+    let seen = peeked is_any q m b h.0 in
+    ap (λ (x : Parsing). x.scope) seen.0 ∙ (ap (λ (x : Parsing). x.scope) so.state ∙ so.empty)
+
 -- an item was read after a look
 pub read_behind : (k : ItemType) (v : Item) (q m r : Parsing) {b : Bool} → IsRead (peek_at is_any q) b q m → Took (item_spells_after k) item_continues (λ s. []) v m r → Took (item_spells_after k) item_continues (λ s. []) v q r
 read_behind k v q m r {b} h took =

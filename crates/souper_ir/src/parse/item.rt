@@ -27,9 +27,12 @@ use crate::parse::sink::Sink;
 use crate::parse::statements::{attributes, block_pc, entered_heading, pc};
 use crate::parse::tokens::{token_comes, word_comes};
 use crate::parse::traits::Parse;
-use souper_graph::ast::{Assignment, Item, LeftHandSide, Replacement, RightHandSide};
+use souper_graph::ast::{
+    Arena, Assignment, Item, LeftHandSide, Replacement, RightHandSide, Statement,
+};
 use souper_lexer::Token;
 use std::alloc::Global;
+use std::mem;
 
 // What the next token begins.
 #[derive(Clone, Copy)]
@@ -89,7 +92,7 @@ fn enter_assignment(parser: &mut Parser<'_>) -> Read<()>
     match rhs(parser) {
         Ok(value) => {
             let attributes = attributes(parser)?;
-            let Ok(text) = String::from_str(parser.alloc(), name) else {
+            let Ok(text) = parser.copy_name(name) else {
                 return Err(parser.want_memory());
             };
             let assignment = Assignment {
@@ -119,12 +122,23 @@ fn statements(parser: &mut Parser<'_>) -> Read<()>
     }
 }
 
+// The statements, in whose place none are left.
+fn emptied(statements: &mut Arena<Statement>) -> Arena<Statement> {
+    let alloc = statements.allocator();
+    mem::replace(statements, Arena::new(alloc))
+}
+
 /// An item that is read from a text: a left-hand side, a right-hand side or a replacement.
 pub trait WholeItem: Item + Sized {
     /// Takes the tokens of an item. The scope is empty after it.
     fn item(parser: &mut Parser<'_>) -> Result<Self>
         ensures ok { IfOk result (λ v. Took (item_spells_after Self.item_type) item_continues (λ s. []) (Self.view v) parser.old parser.new) }
         ensures err { IfErr result (λ e. Refusal (item_spells_after Self.item_type) item_continues e parser.old parser.new) };
+
+    /// Takes the statements out of an item that is to be dropped, if its type allows it. No clause says what is left.
+    fn take_statements(&mut self) -> Option<Arena<Statement>> {
+        None
+    }
 }
 
 impl WholeItem for LeftHandSide {
@@ -134,6 +148,10 @@ impl WholeItem for LeftHandSide {
         let statements = parser.finish();
         Ok(LeftHandSide { statements, infer })
     }
+
+    fn take_statements(&mut self) -> Option<Arena<Statement>> {
+        Some(emptied(&mut self.statements))
+    }
 }
 
 impl WholeItem for RightHandSide {
@@ -142,6 +160,10 @@ impl WholeItem for RightHandSide {
         let result = result(parser)?;
         let statements = parser.finish();
         Ok(RightHandSide { statements, result })
+    }
+
+    fn take_statements(&mut self) -> Option<Arena<Statement>> {
+        Some(emptied(&mut self.statements))
     }
 }
 
@@ -162,6 +184,14 @@ impl WholeItem for Replacement {
             let cand = cand(parser)?;
             let statements = parser.finish();
             Ok(Replacement::Cand { statements, cand })
+        }
+    }
+
+    fn take_statements(&mut self) -> Option<Arena<Statement>> {
+        match self {
+            Replacement::LhsRhs { statements, .. } | Replacement::Cand { statements, .. } => {
+                Some(emptied(statements))
+            }
         }
     }
 }
@@ -224,6 +254,17 @@ impl Parse for Replacement {
     }
 }
 
+// The next item, read into the memory of one that was dropped, if there is one.
+#[inline(always)]
+fn next_item<T: WholeItem>(parser: &mut Parser<'_>, dropped: Option<Arena<Statement>>) -> Result<T>
+    requires { parser.old.scope ≡ [] }
+    ensures ok { IfOk result (λ v. Took (item_spells_after T.item_type) item_continues (λ s. []) (T.view v) parser.old parser.new) }
+    ensures err { IfErr result (λ e. Refusal (item_spells_after T.item_type) item_continues e parser.old parser.new) }
+{
+    parser.reuse(dropped);
+    T::item(parser)
+}
+
 // Passes the items up to the end of the text to the sink.
 fn items<T: WholeItem, S: Sink<T>>(parser: &mut Parser<'_>, sink: &mut S) -> Result<()>
     requires scope { parser.old.scope ≡ [] }
@@ -234,12 +275,13 @@ fn items<T: WholeItem, S: Sink<T>>(parser: &mut Parser<'_>, sink: &mut S) -> Res
     // The end of the text needs no memory.
     ensures ended { (parser.old.tokens ≡ []) → (parser.old.faulty ≡ false) → (parser.old.failed ≡ None) → IsOkAnd result (λ _. sink.new ≡ sink.old) }
 {
+    let mut dropped = None;
     while token_comes(parser)? {
-        let item = T::item(parser)?;
-        match sink.take(item) {
-            Ok(()) => {}
+        let item = next_item::<T>(parser, dropped)?;
+        dropped = match sink.take_over(item) {
+            Ok(statements) => statements,
             Err(_) => return Err(parser.want_memory().into()),
-        }
+        };
     }
     Ok(())
 }

@@ -20,6 +20,7 @@ use crate::parse::error::{ParseError, ReadError};
 use crate::parse::message::Message;
 use crate::parse::names::{Entry, Names};
 use crate::parse::recent::Recent;
+use crate::parse::spare::Spare;
 use crate::parse::tokens::{Mark, byte_of};
 use souper_graph::ast::{Arena, Assignment, AssignmentRhs, BlockId, Id, Statement, ValueId};
 use souper_lexer::{Lexer, Token};
@@ -57,6 +58,8 @@ pub struct Parser<'a> {
     names: Names<'a>,
     // Is asked before the map: most uses are of a value that was looked up or defined last.
     recent: Recent,
+    // The memory of names that are dropped.
+    spare: Spare,
     failed: Option<Failure>,
 }
 
@@ -89,6 +92,7 @@ impl<'a> Parser<'a> {
             statements: Arena::new(alloc),
             names: Names::new(alloc),
             recent: Recent::new(alloc),
+            spare: Spare::new(alloc),
             failed: None,
         }
     }
@@ -480,10 +484,30 @@ impl<'a> Parser<'a> {
     {
         self.names.clear();
         self.recent.clear();
-        // So no more than half of the room stays unused.
-        if self.statements.len() < ROOM / 2 {
+        // So no more than half of the room stays unused, unless the last item came back, so that this one is likely to be dropped too.
+        if self.statements.len() < ROOM / 2 && !self.spare.is_used() {
             self.statements.shrink_to_fit();
         }
         mem::replace(&mut self.statements, Arena::new(self.alloc))
+    }
+
+    /// A copy of a name, for its definition.
+    #[inline(always)]
+    pub(crate) fn copy_name(&mut self, name: &str) -> std::result::Result<String, AllocError>
+        ensures copied { IfOk result (λ text. string_bytes text ≡ name.now) }
+        ensures kept { self.new ≡ self.old }
+    {
+        self.spare.copy(self.alloc, name)
+    }
+
+    /// Uses the memory of the statements of the last item for the next, if they came back.
+    pub(crate) fn reuse(&mut self, statements: Option<Arena<Statement>>)
+        requires { self.old.scope ≡ [] }
+        ensures { self.new ≡ self.old }
+    {
+        match statements {
+            Some(statements) => self.statements = self.spare.recycle(self.alloc, statements),
+            None => self.spare.clear(),
+        }
     }
 }

@@ -4,6 +4,7 @@ ghost use Rattle.souper_graph.specs.Values.{Item};
 ghost use Rattle.souper_graph.specs.WellFormed.{WellFormed};
 
 use crate::parse::item::WholeItem;
+use souper_graph::ast::{Arena, Statement};
 use std::alloc::AllocError;
 
 /// What takes the items of a text one at a time, in order: a `Vec` keeps them.
@@ -18,6 +19,17 @@ pub trait Sink<T: WholeItem> {
     fn take(&mut self, item: T) -> Result<(), AllocError>
         requires { WellFormed (T.view item) }
         ensures { OnOk result ((first : Self) (items : List Item) → holds first self.old items → holds first self.new (items ++ T.view item ∷ [])) };
+
+    /// Takes the next item, as [`take`](Sink::take) does. A sink that drops it may return its statements
+    /// ([`WholeItem::take_statements`]), so that the next item is read into their memory. Then an item that it keeps may have room for up
+    /// to 64 statements.
+    fn take_over(&mut self, item: T) -> Result<Option<Arena<Statement>>, AllocError>
+        requires { WellFormed (T.view item) }
+        ensures { OnOk result ((first : Self) (items : List Item) → holds first self.old items → holds first self.new (items ++ T.view item ∷ [])) }
+    {
+        self.take(item)?;
+        Ok(None)
+    }
 }
 
 impl<T: WholeItem + Drop> Sink<T> for Vec<T> {

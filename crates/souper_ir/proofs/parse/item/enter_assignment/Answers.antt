@@ -1,4 +1,4 @@
-use Rattle.std.proofs.Common.{None, ◌≡◌, sym, subst}
+use Rattle.std.proofs.Common.{None, ◌≡◌, ◌∙◌, sym, subst}
 use Rattle.std.proofs.lemmas.Result.{err_from_is_err_and, on_ok_weaker}
 use Rattle.std.specs.Prelude.{map}
 use Rattle.souper_graph.specs.Syntax.Spelling.{position_of}
@@ -39,14 +39,14 @@ pub define-requires-clause-fresh : goal.define-requires-clause-fresh
 define-requires-clause-fresh c =
     let a : PlainAssignment = record { name = c.in_ok-name.name.now; ty = c.in_ok-name.ty; value = view_rhs c.in-Ok.value; attributes = map view_attribute c.in_ok-attributes-in-Ok.attributes.items } in
     let t = parts_taken a c.args.parser.now c.entered_heading.new.parser c.rhs.new.parser c.attributes.new.parser c.in_ok-name.ensures c.in-Ok.ensures c.in_ok-attributes-in-Ok.ensures.ok in
-    subst (λ (p : Parsing). position_of p.scope c.in_ok-name.name.now ≡ None) (sym t.state) t.spelled.name_is_new
+    subst (λ (p : Parsing). position_of p.scope c.in_ok-name.name.now ≡ None) (sym t.state ∙ sym c.in-Ok-copy_name.ensures.kept) t.spelled.name_is_new
 
-pub returns-in-Ok-from_str-clause-ok : goal.returns-in-Ok-from_str-clause-ok
-returns-in-Ok-from_str-clause-ok c =
+pub returns-in-Ok-copy_name-clause-ok : goal.returns-in-Ok-copy_name-clause-ok
+returns-in-Ok-copy_name-clause-ok c =
     let here = c.args.parser.now in
     let a : PlainAssignment = record { name = c.in_ok-name.name.now; ty = c.in_ok-name.ty; value = view_rhs c.in-Ok.value; attributes = map view_attribute c.in_ok-attributes-in-Ok.attributes.items } in
     let t = parts_taken a here c.entered_heading.new.parser c.rhs.new.parser c.attributes.new.parser c.in_ok-name.ensures c.in-Ok.ensures c.in_ok-attributes-in-Ok.ensures.ok in
     on_ok_weaker c.define.result
     (entered (assigned a) here c.attributes.new.parser c.define.new.self
     (assignment_taken a here here here c.attributes.new.parser (no_pc_seen here here c.requires) (no_block_pc_seen here here c.requires) t))
-    (rw c.in-Ok-from_str.ensures.ok at c.define.ensures.ok)
+    (rw (c.in-Ok-copy_name.ensures.copied, c.in-Ok-copy_name.ensures.kept) at c.define.ensures.ok)

@@ -8,12 +8,12 @@ use Rattle.souper_records.specs.Counts.{IsCounted}
 use Rattle.souper_records.specs.Uniques.{text_by, HasSeen}
 use Rattle.souper_records.proofs.Checking.{over_ok}
 use Rattle.souper_records.proofs.Seeing.{seen_one}
-use Rattle.souper_records.proofs.uniq.FirstsSink.take.Goals as goal
+use Rattle.souper_records.proofs.uniq.Firsts.see.Goals as goal
 
-pub returns-in-Ok : goal.returns-in-Ok
-returns-in-Ok g c =
+pub returns : goal.returns
+returns g c =
     let k = g.T.Item.item_type in
-    let a = g.T.Item.view c.args.item in
+    let a = g.T.Item.view c.args.item.now in
     let old = c.args.self.now.seen in
     let new = c.count.new.self in
     over_ok c.count.result (IsCounted old.counts.items c.in-Ok.index new.counts.items) _
@@ -21,12 +21,12 @@ returns-in-Ok g c =
     let stays = held.0 in
     let rename = first.layout.rename in
     let is : string_bytes c.in_ok-text.text ≡ text_by rename a =
-    c.in_ok-text.ensures.ok ∙ c.as_str.ensures.value ∙ c.in_ok-append_text.ensures.text ∙ (λ i. c.clear.ensures.bytes i ++ text_by (stays i).rename a) in (
+    c.in_ok-text.ensures.ok ∙ c.as_str.ensures.value ∙ c.in_ok-append_last_text.ensures.text ∙ (λ i. c.clear.ensures.bytes i ++ text_by (stays i).rename a) in (
       stays,
       λ earlier seen.
           subst (λ (xs : List Item). HasSeen k rename xs new) (append_assoc earlier items (a ∷ []))
           (seen_one k rename (earlier ++ items) a old new c.in_ok-text.text (held.1 earlier seen)
-          ((c.requires, g.met.T.Item.ends c.args.item), subst (λ (x : Layout). WellFormed (chosen x.rename a)) stays c.in_ok-append_text.ensures.well_formed) is
+          ((c.requires, g.met.T.Item.ends c.args.item.now), subst (λ (x : Layout). WellFormed (chosen x.rename a)) stays c.in_ok-append_last_text.ensures.well_formed) is
           (ap (λ t. t.keys) c.count.ensures.texts ∙ c.in-Ok.ensures.keys) (subst (λ (n : ℕ). IsCounted old.counts.items n new.counts.items) c.in-Ok.ensures.index counted)),
     ))
     c.count.ensures.counted
