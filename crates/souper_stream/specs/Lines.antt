@@ -69,9 +69,10 @@ abbrev pub last_is_name : Bool → List Lexeme → Bool
 last_is_name named [] = named
 last_is_name named (t ∷ ts) = last_is_name (is_name t) ts
 
--- the state says of these tokens whether the last is a name, and whether the last statement or last line that begins in them ends an item
+-- The state says of these tokens whether the last statement or last line that begins in them ends an item. If it does, the state also
+-- says whether the last token is a name.
 pub record IsStateAfter (k : ItemType) (ts : List Lexeme) (s : ScanState) : Type 0 where
-  pub named : s.after_name ≡ last_is_name false ts
+  pub named : s.ends_item ≡ true → s.after_name ≡ last_is_name false ts
   pub ends : (s.ends_item ≡ true) ↔ LastEnds k ts
 
 -- the offset of the first token, or 0 if there is none
@@ -82,3 +83,15 @@ first_offset (t ∷ ts) = t.0
 -- the 1-based line of the first token of a segment, after the parsed text `done`
 abbrev pub first_line : List ℕ → List ℕ → ℕ
 first_line done piece = newlines (done ++ take (first_offset (lexed_of 0 piece).tokens) piece) + 1
+
+-- the bytes begin with the first
+abbrev pub IsFront : List ℕ → List ℕ → Type 0
+IsFront front bs = (rest : List ℕ) × (bs ≡ front ++ rest)
+
+-- the word is nowhere in the bytes
+abbrev pub IsAbsent : List ℕ → List ℕ → Type 0
+IsAbsent w bs = (front back : List ℕ) → bs ≡ front ++ (w ++ back) → ⊥
+
+-- no word that an item of the type ends with is in the bytes
+abbrev pub IsQuiet : ItemType → List ℕ → Type 0
+IsQuiet k bs = (w : List ℕ) → end_word k w ≡ true → IsAbsent w bs

@@ -1,19 +1,20 @@
 //! Where lines begin in a text, and where items end.
-ghost use Rattle.std.specs.Prelude.{◌≡◌, ◌↔◌, ◌≤◌, ◌<◌, ◌∷◌, ◌++◌, ℕ, List, [], length, take, drop, true, false, IsCharBoundary};
+ghost use Rattle.std.specs.Prelude.{◌≡◌, ◌↔◌, ◌≤◌, ◌<◌, ◌∷◌, ◌++◌, ℕ, List, [], length, take, drop, true, false, IsCharBoundary, IsUtf8};
 ghost use Rattle.souper_graph.specs.Syntax.Tokens.{Lexeme};
 ghost use Rattle.souper_graph.specs.Syntax.Spelling.{kinds, ItemType};
 ghost use Rattle.souper_lexer.specs.TokenReading.{lexed_of};
 ghost use Rattle.souper_lexer.specs.TokenView.{lexeme_of, Yields};
 ghost use Rattle.souper_ir.specs.NodeReadings.{is_name};
 ghost use Rattle.souper_ir.specs.Joining.{IsLines};
-ghost use Rattle.souper_stream.specs.Lines.{last_word, line_word, is_end_word, ends_first, shows_line, defines, starts_line, first_offset, NoStart, IsStateAfter};
+ghost use Rattle.souper_stream.specs.Lines.{last_word, line_word, is_end_word, ends_first, shows_line, defines, starts_line, first_offset, end_word, NoStart, IsStateAfter, IsFront, IsAbsent, IsQuiet};
 ghost use Rattle.souper_stream.specs.Pieces.{tokens_of};
 ghost use Rattle.souper_stream.specs.Reading.{IsTaken};
 ghost use Rattle.souper_stream.specs.Seams.{IsEndLine, IsSeam};
 
 use crate::ends::StreamItem;
-use memchr::memmem;
+use memchr::{memmem, memrchr};
 use souper_lexer::{Fault, Lexer, Token};
+use std::str;
 
 fn is_last_word(word: &str) -> bool
     ensures { result ≡ last_word word.now }
@@ -214,11 +215,46 @@ pub(crate) fn lines_len(bytes: &[u8], end: usize) -> usize
     ensures bound { result ≤ end }
     ensures lines { IsLines (take result bytes.now) }
 {
-    let mut len = end;
-    while len > 0 && bytes[len - 1] != b'\n' {
-        len -= 1;
+    match memrchr(b'\n', &bytes[..end]) {
+        Some(index) => index + 1,
+        None => 0,
     }
-    len
+}
+
+// The bytes before the first occurrence of the word, if an item of the type ends with a line that it begins; else all.
+fn before_word<'a, T: StreamItem>(bytes: &'a [u8], word: &str) -> &'a [u8]
+    ensures front { IsFront result.now bytes.now }
+    ensures none { end_word T.item_type word.now ≡ true → IsAbsent word.now result.now }
+{
+    if !T::ends_with(word) {
+        return bytes;
+    }
+    match memmem::find(bytes, word.as_bytes()) {
+        Some(index) => &bytes[..index],
+        None => bytes,
+    }
+}
+
+// The most bytes that are searched at once: an item may end with a word that is nowhere in the buffer, and another that comes soon.
+const WINDOW: usize = 512;
+
+/// The length of lines that the bytes begin with, in which the words that items of the type end with do not occur, be it in a token or
+/// in a comment. 0 if they are not UTF-8: the line at fault is then found line by line.
+pub(crate) fn quiet_len<T: StreamItem>(bytes: &[u8]) -> usize
+    ensures bound { result ≤ length bytes.now }
+    ensures lines { IsLines (take result bytes.now) }
+    ensures utf8 { IsUtf8 (take result bytes.now) }
+    ensures quiet { IsQuiet T.item_type (take result bytes.now) }
+{
+    let window = &bytes[..bytes.len().min(WINDOW)];
+    let quiet = before_word::<T>(window, "infer");
+    let quiet = before_word::<T>(quiet, "result");
+    let quiet = before_word::<T>(quiet, "cand");
+    let len = lines_len(quiet, quiet.len());
+    match str::from_utf8(&quiet[..len]) {
+        Ok(_) => len,
+        Err(_) => 0,
+    }
 }
 
 // Whether the word is in the text, be it of another token or of a comment, and an item of the type ends with a line that it begins.

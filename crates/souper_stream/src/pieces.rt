@@ -5,11 +5,11 @@ ghost use Rattle.souper_ir.specs.Errors.{kind_of};
 ghost use Rattle.souper_ir.specs.Sinks.{TakesText};
 ghost use Rattle.souper_stream.specs.Holding.{fresh, Forgets};
 ghost use Rattle.souper_stream.specs.Pieces.{Line};
-ghost use Rattle.souper_stream.specs.PieceReading.{HasLines, Passes, ReadsLine, HasPieces, HasLine, line_of, IsNext, RefusesBytes, TakesPiece, RefusesPiece, HasAll};
+ghost use Rattle.souper_stream.specs.PieceReading.{HasLines, Passes, ReadsLine, ReadsQuiet, HasPieces, HasLine, line_of, IsNext, RefusesBytes, TakesPiece, RefusesPiece, HasAll};
 
 use crate::ends::StreamItem;
 use crate::held::{Held, newline_count};
-use crate::lines::{ScanState, first_offset, scan_line, starts_line};
+use crate::lines::{ScanState, first_offset, quiet_len, scan_line, starts_line};
 use crate::parts::{place, read_error};
 use souper_ir::parse::{ParseError, ParseErrorKind, Result, Sink, parse_into};
 use std::alloc::Global;
@@ -32,6 +32,26 @@ fn read_line<R: BufRead>(reader: &mut R, bytes: &mut Vec<u8>) -> io::Result<bool
 {
     let len = reader.read_until(b'\n', bytes)?;
     Ok(len == 0 || bytes[bytes.len() - 1] != b'\n')
+}
+
+// Reads the buffered lines in which no item of the type can end, up to the first other line. Returns whether the input has ended.
+fn read_quiet_lines<T: StreamItem, R: BufRead>(
+    reader: &mut R,
+    bytes: &mut Vec<u8>,
+) -> io::Result<bool>
+    ensures { IfOk result (λ ended. (lines : List ℕ) × ReadsQuiet T.item_type (R.remaining reader.old) (R.remaining reader.new) bytes.old.items bytes.new.items ended lines) }
+{
+    let buffered = match reader.fill_buf() {
+        Ok(buffered) => buffered,
+        Err(fault) if fault.kind() == ErrorKind::Interrupted => return Ok(false),
+        Err(fault) => return Err(fault),
+    };
+    let has_ended = buffered.is_empty();
+    let lines = &buffered[..quiet_len::<T>(buffered)];
+    bytes.extend_from_slice(lines)?;
+    let len = lines.len();
+    reader.consume(len);
+    Ok(has_ended)
 }
 
 // Whether the segment ends before the line, and the state after the line, which is the first of the next segment if this one ends.
@@ -120,6 +140,19 @@ impl PieceReader {
         self.line
     }
 
+    // Reads lines of the segment in which no item can end, if none ends before them.
+    fn pass_quiet_lines<T: StreamItem, R: BufRead>(&mut self, reader: &mut R) -> io::Result<()>
+        requires within { self.old.held.skipped ≤ vec_len self.old.held.bytes }
+        ensures within { OnOk result (self.new.held.skipped ≤ vec_len self.new.held.bytes) }
+        ensures passed { OnOk result ((start : Option (List ℕ)) (ps : List (List Line)) → HasPieces T.item_type start (R.remaining reader.old) ps self.old
+            → HasPieces T.item_type start (R.remaining reader.new) ps self.new) }
+    {
+        if !self.ended && !self.scanned.ends_item {
+            self.ended = read_quiet_lines::<T, R>(reader, &mut self.held.bytes)?;
+        }
+        Ok(())
+    }
+
     // Reads up to the end of the next segment, and returns its length in bytes, which is 0 if the stream has ended.
     fn next_len<T: StreamItem, R: BufRead>(&mut self, reader: &mut R) -> io::Result<usize>
         requires within { self.old.held.skipped ≤ vec_len self.old.held.bytes }
@@ -127,6 +160,7 @@ impl PieceReader {
             → IsNext T.item_type start (R.remaining reader.new) ps self.new len) }
     {
         for _turn in 0..u64::MAX {
+            self.pass_quiet_lines::<T, R>(reader)?;
             let start = self.held.bytes.len() - self.held.skipped;
             if self.ended {
                 self.scanned = ScanState::new();

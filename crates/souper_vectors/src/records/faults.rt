@@ -45,6 +45,29 @@ fn failed_read_is_reported(rt: HostRuntime) {
     did(&rt, run, (2, "", READ_ERROR));
 }
 
+// With error recovery a segment is written as soon as it ends.
+#[test]
+fn segments_are_written_before_a_failed_read(rt: HostRuntime) {
+    let source = BrokenReader {
+        rest: b"%x = var\ninfer %x\n%y = var\ninfer %y\n%z = var\n",
+    };
+    let mut reader = BufReader::with_capacity(rt.alloc(), 64, source).expect(&rt, "memory");
+    let run = run_over::<LeftHandSide, BufReader<BrokenReader<'_>>>(
+        rt.alloc(),
+        Command::EachGoingOn,
+        &mut reader,
+    );
+    did(
+        &rt,
+        run,
+        (
+            2,
+            "%x = var\ninfer %x\n\n%y = var\ninfer %y\n\n",
+            READ_ERROR,
+        ),
+    );
+}
+
 // The status of a run that is refused and whose report fails after this number of calls, and whether the report failed.
 fn failed_report(rt: &impl Abort, alloc: Global, after: usize) -> (u8, bool) {
     let mut reader = BufReader::new(alloc, b"infer %x\n".as_slice()).expect(rt, "memory");
@@ -84,14 +107,10 @@ fn bytes_that_are_no_text_are_reported(rt: HostRuntime) {
 }
 
 // A run in which one read is interrupted.
-fn is_tried_again(rt: &impl Abort, alloc: Global, after: usize) {
+fn is_tried_again(rt: &impl Abort, alloc: Global, command: Command, capacity: usize, after: usize) {
     let source = FaultyReader::new(b"%x = var\ninfer %x\n", 5, after);
-    let mut reader = BufReader::with_capacity(alloc, 3, source).expect(rt, "memory");
-    let run = run_over::<LeftHandSide, BufReader<FaultyReader<'_>>>(
-        alloc,
-        Command::Each(PLAIN),
-        &mut reader,
-    );
+    let mut reader = BufReader::with_capacity(alloc, capacity, source).expect(rt, "memory");
+    let run = run_over::<LeftHandSide, BufReader<FaultyReader<'_>>>(alloc, command, &mut reader);
     did(rt, run, (0, "%x = var\ninfer %x\n\n", ""));
 }
 
@@ -99,7 +118,15 @@ fn is_tried_again(rt: &impl Abort, alloc: Global, after: usize) {
 #[test]
 fn interrupted_read_is_tried_again(rt: HostRuntime) {
     for after in 0..8 {
-        is_tried_again(&rt, rt.alloc(), after);
+        is_tried_again(&rt, rt.alloc(), Command::Each(PLAIN), 3, after);
+    }
+}
+
+#[test]
+fn interrupted_read_is_tried_again_in_recovery(rt: HostRuntime) {
+    for after in 0..8 {
+        is_tried_again(&rt, rt.alloc(), Command::EachGoingOn, 3, after);
+        is_tried_again(&rt, rt.alloc(), Command::EachGoingOn, 64, after);
     }
 }
 

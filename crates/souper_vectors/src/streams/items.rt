@@ -1,13 +1,14 @@
 //! Items of streams: the same items as in the whole texts, whatever the sizes of the reads and of the chunks.
 use crate::cases::formatted::FORMATTED;
 use crate::cases::{joined_texts, read_cases};
-use crate::checks::{is_text, is_text_in};
+use crate::checks::{equal_in, is_text, is_text_in};
 use souper_format::command::Kind;
 use souper_ir::ast::{Item, LeftHandSide, Replacement, RightHandSide};
 use souper_ir::parse::{ParseError, Sink, WholeItem, parse_into};
 use souper_stream::{StreamItem, read_chunks_into, read_into};
 use std::alloc::{AllocError, Global};
-use std::io::BufReader;
+use std::io;
+use std::io::{BufReader, ErrorKind, Read};
 use std::process::Abort;
 
 // The texts of the items, a line of its own after each.
@@ -103,4 +104,53 @@ fn long_stream_is_read_in_chunks(rt: HostRuntime) {
     let whole = of_whole::<LeftHandSide>(&rt, rt.alloc(), source.as_str());
     let text = of_chunks(&rt, rt.alloc(), source.as_str());
     is_text(&rt, text, whole.as_str());
+}
+
+// A stream that does not end: 16 bytes are read at a time, and after the last a read fails.
+#[derive(Drop)]
+struct Endless<'a> {
+    rest: &'a [u8],
+}
+
+impl Read for Endless<'_> {
+    fn read(&mut self, buf: &mut [u8]) -> io::Result<usize> {
+        if self.rest.is_empty() {
+            return Err(io::Error::from(ErrorKind::Other));
+        }
+        let most = buf.len().min(16);
+        self.rest.read(&mut buf[..most])
+    }
+}
+
+// Of a hundred such items in a stream that does not end, most are passed to the sink.
+fn most_are_early<T: StreamItem + Drop>(rt: &impl Abort, alloc: Global, item: &str) {
+    let mut source = String::new(alloc);
+    for _ in 0..100 {
+        source.push_str(item).expect(rt, "memory");
+    }
+    let endless = Endless {
+        rest: source.as_bytes(),
+    };
+    let mut texts = Texts {
+        text: String::new(alloc),
+    };
+    let mut reader = BufReader::with_capacity(alloc, 16, endless).expect(rt, "memory");
+    let read = read_chunks_into::<T, BufReader<Endless<'_>>, Texts>(
+        alloc,
+        1,
+        &mut reader,
+        None,
+        &mut texts,
+    );
+    let whole = of_whole::<T>(rt, alloc, source.as_str());
+    let is_early = read.is_err() && 2 * texts.text.len() > whole.len();
+    equal_in(rt, is_early, true, item);
+}
+
+#[test]
+fn items_do_not_wait_for_the_end(rt: HostRuntime) {
+    most_are_early::<LeftHandSide>(&rt, rt.alloc(), "%0:i8 = var\ninfer %0\n");
+    most_are_early::<RightHandSide>(&rt, rt.alloc(), "%0:i8 = reservedconst\nresult %0\n");
+    most_are_early::<Replacement>(&rt, rt.alloc(), "%0:i8 = var\ninfer %0\nresult 1:i8\n");
+    most_are_early::<Replacement>(&rt, rt.alloc(), "%0:i8 = var\ncand %0, 1:i8\n");
 }
