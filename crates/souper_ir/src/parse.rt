@@ -5,6 +5,7 @@ mod error;
 mod files;
 mod item;
 mod last_lines;
+mod memory;
 mod message;
 mod names;
 mod numbers;
@@ -25,8 +26,9 @@ pub use error::{Before, ParseError, ParseErrorKind};
 pub use files::{parse_left_hand_sides_file, parse_replacements_file, parse_right_hand_sides_file};
 pub use item::{
     WholeItem, parse_into, parse_left_hand_sides_str, parse_replacements_str,
-    parse_right_hand_sides_str,
+    parse_right_hand_sides_str, parse_with_memory,
 };
+pub use memory::Memory;
 pub use parser::{Parser, Result};
 pub use sink::Sink;
 pub use traits::{Parse, Peek};

@@ -6,6 +6,7 @@ use Rattle.souper_graph.specs.Syntax.Tokens.{IsOneLine}
 use Rattle.souper_graph.specs.Syntax.Spelling.{ItemType, SpellsNone}
 use Rattle.souper_graph.specs.Values.{Item}
 use Rattle.souper_ir.specs.declared.parse.error.ParseError.{ParseError}
+use Rattle.souper_ir.specs.declared.parse.memory.Memory.{Memory}
 use Rattle.souper_ir.specs.Errors.{IsRefusalAt}
 use Rattle.souper_ir.specs.Joining.{IsLines}
 use Rattle.souper_ir.specs.Sinks.{TakesText, TakesPrefix}
@@ -73,9 +74,9 @@ HasPieces k start now ps p = (ls : List Line) × HasBegun k start now ps ls p
 abbrev pub HasAll : ItemType → Option (List ℕ) → Option (List ℕ) → List (List Line) → Type 0
 HasAll k start now ps = (read : List ℕ) × Consumes start now read × AreAll start read × ArePieces k read ps
 
--- the reader with another buffer, and another line
-abbrev pub holding : PieceReader → Held → ℕ → PieceReader
-holding p h line = record { held = h; scanned = p.scanned; ended = p.ended; line = line }
+-- the reader with another buffer, another line and other memory
+abbrev pub holding : PieceReader → Held → ℕ → Memory → PieceReader
+holding p h line memory = record { held = h; scanned = p.scanned; ended = p.ended; line = line; memory = memory }
 
 -- the next segment is `len` bytes long, and dropping them advances the reader past it
 pub record IsReady (k : ItemType) (start now : Option (List ℕ)) (ps : List (List Line)) (p : PieceReader) (len : ℕ) (piece : List Line) : Type 0 where
@@ -84,7 +85,7 @@ pub record IsReady (k : ItemType) (start now : Option (List ℕ)) (ps : List (Li
   pub held : HoldsAfter read (concat (all_lines ps)) p.held
   pub within : len ≤ length (fresh p.held)
   pub part : take len (fresh p.held) ≡ concat piece
-  pub then : (h : Held) (line : ℕ) → HoldsAfter read (concat (all_lines ps) ++ take len (fresh p.held)) h → fresh h ≡ drop len (fresh p.held) → HasPieces k start now (ps ++ piece ∷ []) (holding p h line)
+  pub then : (h : Held) (line : ℕ) (memory : Memory) → HoldsAfter read (concat (all_lines ps) ++ take len (fresh p.held)) h → fresh h ≡ drop len (fresh p.held) → HasPieces k start now (ps ++ piece ∷ []) (holding p h line memory)
 
 -- the stream has ended, or the next segment was read
 abbrev pub IsNext : ItemType → Option (List ℕ) → Option (List ℕ) → List (List Line) → PieceReader → ℕ → Type 0

@@ -11,7 +11,7 @@ use crate::ends::StreamItem;
 use crate::held::{Held, newline_count};
 use crate::lines::{ScanState, first_offset, quiet_len, scan_line, starts_line};
 use crate::parts::{place, read_error};
-use souper_ir::parse::{ParseError, ParseErrorKind, Result, Sink, parse_into};
+use souper_ir::parse::{Memory, ParseError, ParseErrorKind, Result, Sink, parse_with_memory};
 use std::alloc::Global;
 use std::io::{BufRead, ErrorKind};
 use std::{io, str};
@@ -69,6 +69,7 @@ fn pass_line<T: StreamItem>(line: &[u8], before: ScanState) -> io::Result<(bool,
 // Passes the items of the next segment, the first `len` unparsed bytes of the buffer, to the sink.
 fn parse_piece<T: StreamItem + Drop, S: Sink<T>>(
     alloc: Global,
+    memory: &mut Memory,
     held: &Held,
     len: usize,
     filename: Option<&str>,
@@ -81,7 +82,7 @@ fn parse_piece<T: StreamItem + Drop, S: Sink<T>>(
 {
     let fresh = &held.bytes[held.skipped..];
     let text = utf8(&fresh[..len])?;
-    match parse_into::<T, S>(alloc, text, None, sink) {
+    match parse_with_memory::<T, S>(alloc, memory, text, None, sink) {
         Ok(()) => Ok(()),
         Err(error) => Err(place(alloc, held, error, filename)),
     }
@@ -117,6 +118,9 @@ pub struct PieceReader {
 
     // The line of the first token of the last segment.
     line: usize,
+
+    // The memory of items that were dropped.
+    memory: Memory,
 }
 
 impl PieceReader {
@@ -129,6 +133,7 @@ impl PieceReader {
             scanned: ScanState::new(),
             ended: false,
             line: 1,
+            memory: Memory::new(alloc),
         }
     }
 
@@ -198,7 +203,7 @@ impl PieceReader {
         ensures refused { IfErr result (λ e. kind_of e ≡ ParseErrorKind.Parse → RefusesBytes T.item_type (option_copied filename.entry) self.old.held len S.holds sink.old sink.new e) }
     {
         self.line = first_line(&self.held, len)?;
-        let parsed = parse_piece::<T, S>(alloc, &self.held, len, filename, sink);
+        let parsed = parse_piece::<T, S>(alloc, &mut self.memory, &self.held, len, filename, sink);
         self.held.forget(alloc, len)?;
         parsed
     }

@@ -1,11 +1,11 @@
 //! Whole items.
 
-ghost use Rattle.std.specs.Prelude.{◌≡◌, List, map, false, None, IfOk, OnOk, IfErr, IsOkAnd, option_copied, []};
+ghost use Rattle.std.specs.Prelude.{◌≡◌, ℕ, List, length, map, false, None, IfOk, OnOk, IfErr, IsOkAnd, option_copied, []};
 ghost use Rattle.std.specs.List.{AllByRecursion};
 ghost use Rattle.souper_graph.specs.View.{view_left_hand_side, view_right_hand_side, view_replacement};
 ghost use Rattle.souper_graph.specs.WellFormed.{WellFormed, EachClosed};
 ghost use Rattle.souper_graph.specs.Values.{Item as PlainItem};
-ghost use Rattle.souper_graph.specs.Syntax.Tokens.{IsLastGap, IsLexeme};
+ghost use Rattle.souper_graph.specs.Syntax.Tokens.{Lexeme, AreTokensOf, IsTextOf, IsLastGap, IsLexeme};
 ghost use Rattle.souper_graph.specs.Syntax.Spelling.{kinds, ItemType, left_hand_side, right_hand_side, replacement, statement_spells, item_spells_after, TextSpells};
 ghost use Rattle.souper_ir.specs.Errors.{error_of, widened, kind_of};
 ghost use Rattle.souper_ir.specs.Continuation.{statement_continues, item_continues};
@@ -21,6 +21,7 @@ ghost use Rattle.souper_ir.specs.Sinks.{TakesOver, TakesText, TakesPrefix, Takes
 
 use crate::parse::error::ParseErrorKind;
 use crate::parse::last_lines::{cand, infer, result};
+use crate::parse::memory::Memory;
 use crate::parse::parser::{Parser, Read, Result};
 use crate::parse::rhs::rhs;
 use crate::parse::sink::Sink;
@@ -265,8 +266,12 @@ fn next_item<T: WholeItem>(parser: &mut Parser<'_>, dropped: Option<Arena<Statem
     T::item(parser)
 }
 
-// Passes the items up to the end of the text to the sink.
-fn items<T: WholeItem, S: Sink<T>>(parser: &mut Parser<'_>, sink: &mut S) -> Result<()>
+// Passes the items up to the end of the text to the sink. `dropped` are the statements of the item before, if it came back.
+fn items<T: WholeItem, S: Sink<T>>(
+    dropped: &mut Option<Arena<Statement>>,
+    parser: &mut Parser<'_>,
+    sink: &mut S,
+) -> Result<()>
     requires scope { parser.old.scope ≡ [] }
     requires lexemes { AllByRecursion IsLexeme (kinds parser.old.tokens) }
     ensures ok { OnOk result ((items : List PlainItem) × SpellsAll T.item_type items parser.old × TakesOver S.holds items sink.old sink.new) }
@@ -275,15 +280,40 @@ fn items<T: WholeItem, S: Sink<T>>(parser: &mut Parser<'_>, sink: &mut S) -> Res
     // The end of the text needs no memory.
     ensures ended { (parser.old.tokens ≡ []) → (parser.old.faulty ≡ false) → (parser.old.failed ≡ None) → IsOkAnd result (λ _. sink.new ≡ sink.old) }
 {
-    let mut dropped = None;
     while token_comes(parser)? {
-        let item = next_item::<T>(parser, dropped)?;
-        dropped = match sink.take_over(item) {
+        let item = next_item::<T>(parser, dropped.take())?;
+        *dropped = match sink.take_over(item) {
             Ok(statements) => statements,
             Err(_) => return Err(parser.want_memory().into()),
         };
     }
     Ok(())
+}
+
+// Passes the items of a new parser's text to the sink.
+#[inline(always)]
+fn whole_text<T: WholeItem, S: Sink<T>>(
+    alloc: Global,
+    source: &str,
+    filename: Option<&str>,
+    dropped: &mut Option<Arena<Statement>>,
+    parser: &mut Parser<'_>,
+    sink: &mut S,
+) -> Result<()>
+    requires tokens { AreTokensOf source.now parser.old.tokens parser.old.faulty }
+    requires only { (ts : List (ℕ × Lexeme)) → IsTextOf source.now ts → (parser.old.tokens ≡ ts) × (parser.old.faulty ≡ false) }
+    requires len { parser.old.len ≡ length source.now }
+    requires scope { parser.old.scope ≡ [] }
+    requires live { parser.old.failed ≡ None }
+    ensures taken { OnOk result (TakesText S.holds T.item_type source.now sink.old sink.new) }
+    ensures refused { IfErr result (λ e. IsStrError T.item_type (option_copied filename.entry) source.now e) }
+    ensures before { IfErr result (λ e. kind_of e ≡ ParseErrorKind.Parse → TakesPrefix S.holds T.item_type source.now sink.old sink.new) }
+    ensures gaps { IsLastGap source.now → IsOkAnd result (λ _. sink.new ≡ sink.old) }
+{
+    match items::<T, S>(dropped, parser, sink) {
+        Ok(()) => Ok(()),
+        Err(error) => Err(error.locate(alloc, source, filename)),
+    }
 }
 
 /// Passes the items of a text to a sink, one at a time and in order, so that they need not be in memory together.
@@ -304,10 +334,32 @@ pub fn parse_into<T: WholeItem, S: Sink<T>>(
     ensures gaps { IsLastGap source.now → IsOkAnd result (λ _. sink.new ≡ sink.old) }
 {
     let mut parser = Parser::new(alloc, source);
-    match items::<T, S>(&mut parser, sink) {
-        Ok(()) => Ok(()),
-        Err(error) => Err(error.locate(alloc, source, filename)),
-    }
+    whole_text::<T, S>(alloc, source, filename, &mut None, &mut parser, sink)
+}
+
+/// [`parse_into`] for many short texts, one after the other: the items are read into the memory of items that the sink gave back before,
+/// of this text or of those before it.
+pub fn parse_with_memory<T: WholeItem, S: Sink<T>>(
+    alloc: Global,
+    memory: &mut Memory,
+    source: &str,
+    filename: Option<&str>,
+    sink: &mut S,
+) -> Result<()>
+    ensures taken { OnOk result (TakesText S.holds T.item_type source.now sink.old sink.new) }
+    ensures refused { IfErr result (λ e. IsStrError T.item_type (option_copied filename.entry) source.now e) }
+    ensures before { IfErr result (λ e. kind_of e ≡ ParseErrorKind.Parse → TakesPrefix S.holds T.item_type source.now sink.old sink.new) }
+    ensures gaps { IsLastGap source.now → IsOkAnd result (λ _. sink.new ≡ sink.old) }
+{
+    let Memory {
+        recent,
+        spare,
+        mut statements,
+    } = mem::replace(memory, Memory::new(alloc));
+    let mut parser = Parser::reusing(alloc, source, recent, spare);
+    let parsed = whole_text::<T, S>(alloc, source, filename, &mut statements, &mut parser, sink);
+    *memory = parser.into_memory(statements);
+    parsed
 }
 
 /// The items of a text.

@@ -17,6 +17,7 @@ ghost use Rattle.souper_ir.specs.Places.{IsDirectRefusalText};
 ghost use Rattle.souper_ir.specs.Reading.{Fails, FailsForMemory, Gives, IsRead, cause_of, look_at, take_at};
 
 use crate::parse::error::{ParseError, ReadError};
+use crate::parse::memory::Memory;
 use crate::parse::message::Message;
 use crate::parse::names::{Entry, Names};
 use crate::parse::recent::Recent;
@@ -84,6 +85,18 @@ impl<'a> Parser<'a> {
         ensures scope { result.scope ≡ [] }
         ensures live { result.failed ≡ None }
     {
+        Parser::reusing(alloc, source, Recent::new(alloc), Spare::new(alloc))
+    }
+
+    /// The same, with the memory of a parser before it.
+    #[inline(always)]
+    pub(crate) fn reusing(alloc: Global, source: &'a str, recent: Recent, spare: Spare) -> Self
+        ensures tokens { AreTokensOf source.now result.tokens result.faulty }
+        ensures only { (ts : List (ℕ × Lexeme)) → IsTextOf source.now ts → (result.tokens ≡ ts) × (result.faulty ≡ false) }
+        ensures len { result.len ≡ length source.now }
+        ensures scope { result.scope ≡ [] }
+        ensures live { result.failed ≡ None }
+    {
         Parser {
             alloc,
             lexer: Lexer::new(source),
@@ -91,8 +104,8 @@ impl<'a> Parser<'a> {
             offset: 0,
             statements: Arena::new(alloc),
             names: Names::new(alloc),
-            recent: Recent::new(alloc),
-            spare: Spare::new(alloc),
+            recent,
+            spare,
             failed: None,
         }
     }
@@ -508,6 +521,37 @@ impl<'a> Parser<'a> {
         match statements {
             Some(statements) => self.statements = self.spare.recycle(self.alloc, statements),
             None => self.spare.clear(),
+        }
+    }
+
+    /// Ends a text: returns its memory, for the next one. `dropped` are the statements of the last item, if it came back.
+    pub(crate) fn into_memory(self, dropped: Option<Arena<Statement>>) -> Memory {
+        let Parser {
+            alloc,
+            mut recent,
+            mut spare,
+            statements,
+            failed,
+            ..
+        } = self;
+        recent.clear();
+        // An item that was refused is dropped too.
+        let dropped = if failed.is_some() && spare.is_used() {
+            Some(statements)
+        } else {
+            dropped
+        };
+        let statements = match dropped {
+            Some(statements) => Some(spare.recycle(alloc, statements)),
+            None => {
+                spare.clear();
+                None
+            }
+        };
+        Memory {
+            recent,
+            spare,
+            statements,
         }
     }
 }

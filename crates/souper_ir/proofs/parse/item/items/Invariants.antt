@@ -4,11 +4,11 @@ use Rattle.souper_ir.specs.ItemRuns.{ItemsTaken}
 use Rattle.souper_ir.specs.Sinks.{TakesOver}
 use Rattle.souper_ir.proofs.parse.item.items.Given as goal
 
-abbrev pub invariant-loop-dropped : goal.invariant-loop-dropped
-invariant-loop-dropped g l = (items : List Item)
+abbrev pub invariant-loop-parser : goal.invariant-loop-parser
+invariant-loop-parser g l = (items : List Item)
     × ItemsTaken g.T.Item.item_type items l.fn.parser l.parser
     × TakesOver g.S.Sink.holds items l.fn.sink l.sink
     × (items ≡ [] → l.sink ≡ l.fn.sink)
 
-abbrev pub decreases-loop-dropped : goal.decreases-loop-dropped
-decreases-loop-dropped g l = length l.parser.tokens
+abbrev pub decreases-loop-parser : goal.decreases-loop-parser
+decreases-loop-parser g l = length l.parser.tokens

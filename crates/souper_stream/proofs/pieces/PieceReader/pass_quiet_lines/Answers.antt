@@ -6,7 +6,7 @@ use Rattle.souper_stream.proofs.pieces.PieceReader.pass_quiet_lines.Goals as goa
 pub returns-in_ok-self-clause-passed : goal.returns-in_ok-self-clause-passed
 returns-in_ok-self-clause-passed g c = λ start ps had.
     let p = c.args.self.now in
-    let q : PieceReader = record { held = record { bytes = c.read_quiet_lines.new.bytes; skipped = p.held.skipped; before = p.held.before }; scanned = p.scanned; ended = c.in_ok-self.field-0; line = p.line } in
+    let q : PieceReader = record { held = record { bytes = c.read_quiet_lines.new.bytes; skipped = p.held.skipped; before = p.held.before }; scanned = p.scanned; ended = c.in_ok-self.field-0; line = p.line; memory = p.memory } in
     let m = c.in_ok-self.ensures in
     let going : p.ended ≡ false = c.if-not-self.true in
     let none : p.scanned.ends_item ≡ false = c.if-not-self-2.true in

@@ -1,0 +1,35 @@
+use Rattle.std.proofs.Common.{[]}
+use Rattle.std.specs.Prelude.{option_copied}
+use Rattle.souper_ir.proofs.Items.Texts.{all_spelled, gap_text, located_answer, taken_before}
+use Rattle.souper_ir.proofs.Items.WellFormed.{text_lexemes}
+use Rattle.souper_ir.proofs.parse.item.whole_text.Goals as goal
+
+pub items-requires-clause-lexemes : goal.items-requires-clause-lexemes
+items-requires-clause-lexemes g c = text_lexemes c.args.source.now c.args.parser.now.tokens c.args.parser.now.faulty c.requires.tokens
+
+pub returns-in-Ok-clause-taken : goal.returns-in-Ok-clause-taken
+returns-in-Ok-clause-taken g c = (
+  c.in-Ok.ensures.ok.0,
+  all_spelled g.T.Item.item_type _ c.args.source.now c.args.parser.now c.requires.tokens c.in-Ok.ensures.ok.1,
+  c.in-Ok.ensures.ok.2,
+)
+
+pub returns-in-Ok-clause-gaps : goal.returns-in-Ok-clause-gaps
+returns-in-Ok-clause-gaps g c = λ h.
+    let none = c.requires.only [] (gap_text c.args.source.now h) in
+    c.in-Ok.ensures.ended none.0 none.1 c.requires.live
+
+pub returns-in-Err-clause-gaps : goal.returns-in-Err-clause-gaps
+returns-in-Err-clause-gaps g c = λ h.
+    let none = c.requires.only [] (gap_text c.args.source.now h) in
+    absurd (c.in-Err.ensures.ended none.0 none.1 c.requires.live)
+
+pub returns-in-Err-clause-refused : goal.returns-in-Err-clause-refused
+returns-in-Err-clause-refused g c =
+    located_answer g.T.Item.item_type (option_copied c.args.filename) c.args.source.now c.in-Err.error c.locate.result c.args.parser.now c.items.new.parser
+    c.requires.live c.requires.len c.requires.only c.in-Err.ensures.err c.locate.ensures
+
+pub returns-in-Err-clause-before : goal.returns-in-Err-clause-before
+returns-in-Err-clause-before g c =
+    taken_before g.S.Sink.holds g.T.Item.item_type (option_copied c.args.filename) c.args.source.now c.in-Err.error c.locate.result c.args.parser.now c.args.sink.now c.items.new.sink
+    c.requires.tokens c.locate.ensures c.in-Err.ensures.first
