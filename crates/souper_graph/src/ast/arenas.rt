@@ -1,6 +1,6 @@
 //! Lists of items in which each item keeps its position.
 
-ghost use Rattle.std.specs.Prelude.{◌≡◌, ◌++◌, ◌∷◌, [], length, slice_get, IfOk, OnErr, option_copied};
+ghost use Rattle.std.specs.Prelude.{◌≡◌, ◌≤◌, ◌++◌, ◌∷◌, [], length, slice_get, IfOk, OnErr, option_copied};
 ghost use Rattle.std.specs.List.{enumerate_from};
 ghost use Rattle.std.specs.Option.{option_copied_mut};
 ghost use Rattle.std.specs.Borrow.{sem};
@@ -93,8 +93,10 @@ impl<T: Drop> Arena<T> {
         self.items.clear();
     }
 
-    /// The number of items that there is room for.
-    pub fn capacity(&self) -> usize {
+    /// The number of items that there is room for, those that are there among them.
+    pub fn capacity(&self) -> usize
+        ensures { length self.now ≤ result }
+    {
         self.items.capacity()
     }
 
