@@ -352,11 +352,10 @@ pub fn parse_with_memory<T: WholeItem, S: Sink<T>>(
     ensures gaps { IsLastGap source.now → IsOkAnd result (λ _. sink.new ≡ sink.old) }
 {
     let Memory {
-        recent,
         spare,
         mut statements,
     } = mem::replace(memory, Memory::new(alloc));
-    let mut parser = Parser::reusing(alloc, source, recent, spare);
+    let mut parser = Parser::reusing(alloc, source, spare);
     let parsed = whole_text::<T, S>(alloc, source, filename, &mut statements, &mut parser, sink);
     *memory = parser.into_memory(statements);
     parsed

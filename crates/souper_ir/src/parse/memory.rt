@@ -1,6 +1,5 @@
 //! The memory of items that were dropped, kept from text to text.
 
-use crate::parse::recent::Recent;
 use crate::parse::spare::Spare;
 use souper_graph::ast::{Arena, Statement};
 use std::alloc::Global;
@@ -8,10 +7,9 @@ use std::alloc::Global;
 /// The memory of items that a sink gave back ([`Sink::take_over`](crate::parse::Sink::take_over)):
 /// [`parse_with_memory`](crate::parse::parse_with_memory) reads the items of the next text into it.
 ///
-/// It keeps room for at most 64 statements (16 KiB), at most 64 names of at most 64 bytes, and a table of 512 bytes.
+/// It keeps room for at most 64 statements (16 KiB), and at most 64 names of at most 64 bytes.
 #[derive(Debug, Drop)]
 pub struct Memory {
-    pub(crate) recent: Recent,
     pub(crate) spare: Spare,
     // Room for statements, if the last item was dropped.
     pub(crate) statements: Option<Arena<Statement>>,
@@ -21,7 +19,6 @@ impl Memory {
     /// Nothing is kept. It takes no memory.
     pub fn new(alloc: Global) -> Memory {
         Memory {
-            recent: Recent::new(alloc),
             spare: Spare::new(alloc),
             statements: None,
         }

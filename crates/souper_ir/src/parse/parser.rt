@@ -57,7 +57,7 @@ pub struct Parser<'a> {
     statements: Arena<Statement>,
     // The names that they define.
     names: Names<'a>,
-    // Is asked before the map: most uses are of a value that was looked up or defined last.
+    // Is asked before the map: most uses are of a value that was defined last.
     recent: Recent,
     // The memory of names that are dropped.
     spare: Spare,
@@ -85,12 +85,12 @@ impl<'a> Parser<'a> {
         ensures scope { result.scope ≡ [] }
         ensures live { result.failed ≡ None }
     {
-        Parser::reusing(alloc, source, Recent::new(alloc), Spare::new(alloc))
+        Parser::reusing(alloc, source, Spare::new(alloc))
     }
 
     /// The same, with the memory of a parser before it.
     #[inline(always)]
-    pub(crate) fn reusing(alloc: Global, source: &'a str, recent: Recent, spare: Spare) -> Self
+    pub(crate) fn reusing(alloc: Global, source: &'a str, spare: Spare) -> Self
         ensures tokens { AreTokensOf source.now result.tokens result.faulty }
         ensures only { (ts : List (ℕ × Lexeme)) → IsTextOf source.now ts → (result.tokens ≡ ts) × (result.faulty ≡ false) }
         ensures len { result.len ≡ length source.now }
@@ -104,7 +104,7 @@ impl<'a> Parser<'a> {
             offset: 0,
             statements: Arena::new(alloc),
             names: Names::new(alloc),
-            recent,
+            recent: Recent::new(),
             spare,
             failed: None,
         }
@@ -394,10 +394,9 @@ impl<'a> Parser<'a> {
 
     /// The value of a name.
     #[inline(always)]
-    pub(crate) fn value_named(&mut self, name: &str) -> Option<ValueId>
-        requires { self.old.failed ≡ None }
-        ensures value { result ≡ position_of self.old.scope name.now }
-        ensures kept { self.new ≡ self.old }
+    pub(crate) fn value_named(&self, name: &str) -> Option<ValueId>
+        requires { self.now.failed ≡ None }
+        ensures { result ≡ position_of self.now.scope name.now }
     {
         if let Some(value) = self.recent.get(name) {
             if is_named(&self.statements, value, name) {
@@ -405,10 +404,7 @@ impl<'a> Parser<'a> {
             }
         }
         match self.entry(name) {
-            Some((value, _)) => {
-                self.recent.put(name, value);
-                Some(value)
-            }
+            Some((value, _)) => Some(value),
             None => None,
         }
     }
@@ -464,7 +460,6 @@ impl<'a> Parser<'a> {
         };
         match self.names.enter(name, value, predecessors) {
             Ok(_) => {
-                self.recent.make_room(self.statements.len());
                 self.recent.put(name, value);
                 Ok(())
             }
@@ -496,7 +491,6 @@ impl<'a> Parser<'a> {
         ensures empty { self.new ≡ record self.old { scope = [] } }
     {
         self.names.clear();
-        self.recent.clear();
         // So no more than half of the room stays unused, unless the last item came back, so that this one is likely to be dropped too.
         if self.statements.len() < ROOM / 2 && !self.spare.is_used() {
             self.statements.shrink_to_fit();
@@ -528,13 +522,11 @@ impl<'a> Parser<'a> {
     pub(crate) fn into_memory(self, dropped: Option<Arena<Statement>>) -> Memory {
         let Parser {
             alloc,
-            mut recent,
             mut spare,
             statements,
             failed,
             ..
         } = self;
-        recent.clear();
         // An item that was refused is dropped too.
         let dropped = if failed.is_some() && spare.is_used() {
             Some(statements)
@@ -548,10 +540,6 @@ impl<'a> Parser<'a> {
                 None
             }
         };
-        Memory {
-            recent,
-            spare,
-            statements,
-        }
+        Memory { spare, statements }
     }
 }
