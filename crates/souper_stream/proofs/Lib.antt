@@ -9,7 +9,7 @@ pub mod Bytes
 mod Forgetting
 mod Keeping
 mod Lined
-mod Quiet
 pub mod Turns
 mod PieceTurns
 pub mod PieceLaws
+mod WithoutEnd

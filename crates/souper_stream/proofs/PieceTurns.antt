@@ -19,7 +19,7 @@ use Rattle.souper_stream.specs.declared.pieces.PieceReader.{PieceReader}
 use Rattle.souper_stream.specs.Holding.{fresh, HoldsAfter, Forgets}
 use Rattle.souper_stream.specs.Lines.{IsStateAfter}
 use Rattle.souper_stream.specs.Pieces.{Line, concat, IsLine, IsLastLine, AreLines, EndsPiece, StartsPiece, IsUncut, AreCut, all_lines}
-use Rattle.souper_stream.specs.PieceReading.{ReadsLine, ReadsQuiet, HasLines, Passes, and_next, HasBegun, HasPieces, HasAll, holding, HasLine, IsOnLine, IsReady, IsNext, RefusesBytes, IsPlacedIn, TakesPiece, RefusesPiece}
+use Rattle.souper_stream.specs.PieceReading.{ReadsLine, ReadsWithoutEnd, HasLines, Passes, and_next, HasBegun, HasPieces, HasAll, holding, HasLine, IsOnLine, IsReady, IsNext, RefusesBytes, IsPlacedIn, TakesPiece, RefusesPiece}
 use Rattle.souper_stream.specs.Reading.{AreAll}
 use Rattle.souper_stream.proofs.Nodes.{all_append}
 use Rattle.souper_stream.proofs.Bytes.{all_after}
@@ -27,7 +27,7 @@ use Rattle.souper_stream.proofs.Forgetting.{after_none, parts_read, fresh_more, 
 use Rattle.souper_stream.proofs.Keeping.{str_offset}
 use Rattle.souper_stream.proofs.Turns.{located_kind}
 use Rattle.souper_stream.proofs.Lined.{concat-append, no_lines, ends_some}
-use Rattle.souper_stream.proofs.Quiet.{split, quiet_lines}
+use Rattle.souper_stream.proofs.WithoutEnd.{split, lines_without_end}
 
 -- ---- lists of lines and of segments
 
@@ -216,7 +216,7 @@ module _ (k : ItemType) (start mid after : Option (List ℕ)) (ps : List (List L
       left : drop (length (fresh p.held)) (fresh q.held) ≡ line
       left = ap (λ (x : List ℕ). drop (length (fresh p.held)) x) fresh_now ∙ drop-append_seam (fresh p.held) line
 
--- ---- quiet lines
+-- ---- lines without an end
 
 are_lines_all : (ls : List Line) → AllByRecursion IsLine ls → AreLines ls
 are_lines_all [] h = tt
@@ -233,9 +233,9 @@ empty_front [] more e = refl
 empty_front (x ∷ ls) more e = absurd cc
 
 -- the segment continues with lines in which no item ends
-pub turn_quiet : (k : ItemType) (start mid after : Option (List ℕ)) (ps : List (List Line)) (p q : PieceReader) (lines : List ℕ) → ReadsQuiet k mid after p.held.bytes.items q.held.bytes.items q.ended lines → q.held.skipped ≡ p.held.skipped → q.held.before ≡ p.held.before → q.scanned ≡ p.scanned
+pub turn_without_end : (k : ItemType) (start mid after : Option (List ℕ)) (ps : List (List Line)) (p q : PieceReader) (lines : List ℕ) → ReadsWithoutEnd k mid after p.held.bytes.items q.held.bytes.items q.ended lines → q.held.skipped ≡ p.held.skipped → q.held.before ≡ p.held.before → q.scanned ≡ p.scanned
     → p.ended ≡ false → p.scanned.ends_item ≡ false → HasPieces k start mid ps p → HasPieces k start after ps q
-turn_quiet k start mid after ps p q lines r skipped counted scanned going none (ls, h) =
+turn_without_end k start mid after ps p q lines r skipped counted scanned going none (ls, h) =
     let s = split lines r.whole in
     let done = concat (all_lines ps) in
     let whole : AllByRecursion IsLine (all_lines ps ++ (ls ++ s.lines)) = subst (λ (x : List Line). AllByRecursion IsLine x) (append_assoc (all_lines ps) ls s.lines) (all_append IsLine (all_lines ps ++ ls) s.lines (h.whole going) s.each) in (
@@ -245,7 +245,7 @@ turn_quiet k start mid after ps p q lines r skipped counted scanned going none (
         consumed = Consumes-trans start mid after h.read lines h.consumed r.consumed;
         held = after_more h.read lines done p.held q.held h.held r.held skipped counted;
         next = subst (λ (x : ScanState). HasLines k (fresh q.held) x (ls ++ s.lines)) (sym scanned)
-            (subst (λ (x : List ℕ). HasLines k x p.scanned (ls ++ s.lines)) (sym (fresh_more h.read lines done p.held q.held h.held r.held skipped)) (quiet_lines k (fresh p.held) lines p.scanned ls s h.next none r.utf8 r.quiet));
+            (subst (λ (x : List ℕ). HasLines k x p.scanned (ls ++ s.lines)) (sym (fresh_more h.read lines done p.held q.held h.held r.held skipped)) (lines_without_end k (fresh p.held) lines p.scanned ls s h.next none r.utf8 r.none));
         lines = are_lines_all (all_lines ps ++ (ls ++ s.lines)) whole;
         cut = next_longer_all k ps ls s.lines (h.none going) h.cut;
         uncut = h.uncut;

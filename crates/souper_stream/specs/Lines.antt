@@ -84,14 +84,10 @@ first_offset (t ∷ ts) = t.0
 abbrev pub first_line : List ℕ → List ℕ → ℕ
 first_line done piece = newlines (done ++ take (first_offset (lexed_of 0 piece).tokens) piece) + 1
 
--- the bytes begin with the first
-abbrev pub IsFront : List ℕ → List ℕ → Type 0
-IsFront front bs = (rest : List ℕ) × (bs ≡ front ++ rest)
-
 -- the word is nowhere in the bytes
 abbrev pub IsAbsent : List ℕ → List ℕ → Type 0
 IsAbsent w bs = (front back : List ℕ) → bs ≡ front ++ (w ++ back) → ⊥
 
 -- no word that an item of the type ends with is in the bytes
-abbrev pub IsQuiet : ItemType → List ℕ → Type 0
-IsQuiet k bs = (w : List ℕ) → end_word k w ≡ true → IsAbsent w bs
+abbrev pub NoEndWord : ItemType → List ℕ → Type 0
+NoEndWord k bs = (w : List ℕ) → end_word k w ≡ true → IsAbsent w bs

@@ -14,7 +14,7 @@ use Rattle.souper_stream.specs.declared.held.Held.{Held}
 use Rattle.souper_stream.specs.declared.lines.ScanState.{ScanState}
 use Rattle.souper_stream.specs.declared.pieces.PieceReader.{PieceReader}
 use Rattle.souper_stream.specs.Holding.{fresh, HoldsAfter}
-use Rattle.souper_stream.specs.Lines.{IsQuiet, IsStateAfter, first_line}
+use Rattle.souper_stream.specs.Lines.{IsStateAfter, NoEndWord, first_line}
 use Rattle.souper_stream.specs.Pieces.{Line, concat, IsLine, AreLines, tokens_of_lines, EndsPiece, StartsPiece, IsUncut, AreCut, all_lines, ArePieces}
 use Rattle.souper_stream.specs.Reading.{AreAll}
 
@@ -27,12 +27,12 @@ pub record ReadsLine (before after : Option (List ℕ)) (old new : List ℕ) (en
   pub all_read : ended ≡ true → AreAll before line
 
 -- Lines were read in which no word is that an item of the type ends with. If the input has ended, none were left to read.
-pub record ReadsQuiet (k : ItemType) (before after : Option (List ℕ)) (old new : List ℕ) (ended : Bool) (lines : List ℕ) : Type 0 where
+pub record ReadsWithoutEnd (k : ItemType) (before after : Option (List ℕ)) (old new : List ℕ) (ended : Bool) (lines : List ℕ) : Type 0 where
   pub held : new ≡ old ++ lines
   pub consumed : Consumes before after lines
   pub whole : IsLines lines
   pub utf8 : IsUtf8 lines
-  pub quiet : IsQuiet k lines
+  pub none : NoEndWord k lines
   pub all_read : ended ≡ true → AreAll before lines
 
 -- the bytes are these lines of a segment, and `s` is the state after their tokens

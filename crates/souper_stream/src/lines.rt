@@ -1,12 +1,13 @@
 //! Where lines begin in a text, and where items end.
 ghost use Rattle.std.specs.Prelude.{◌≡◌, ◌↔◌, ◌≤◌, ◌<◌, ◌∷◌, ◌++◌, ℕ, List, [], length, take, drop, true, false, IsCharBoundary, IsUtf8};
+ghost use Rattle.std.specs.Io.{StartsWith};
 ghost use Rattle.souper_graph.specs.Syntax.Tokens.{Lexeme};
 ghost use Rattle.souper_graph.specs.Syntax.Spelling.{kinds, ItemType};
 ghost use Rattle.souper_lexer.specs.TokenReading.{lexed_of};
 ghost use Rattle.souper_lexer.specs.TokenView.{lexeme_of, Yields};
 ghost use Rattle.souper_ir.specs.NodeReadings.{is_name};
 ghost use Rattle.souper_ir.specs.Joining.{IsLines};
-ghost use Rattle.souper_stream.specs.Lines.{last_word, line_word, is_end_word, ends_first, shows_line, defines, starts_line, first_offset, end_word, NoStart, IsStateAfter, IsFront, IsAbsent, IsQuiet};
+ghost use Rattle.souper_stream.specs.Lines.{last_word, line_word, is_end_word, ends_first, shows_line, defines, starts_line, first_offset, end_word, NoStart, IsStateAfter, IsAbsent, NoEndWord};
 ghost use Rattle.souper_stream.specs.Pieces.{tokens_of};
 ghost use Rattle.souper_stream.specs.Reading.{IsTaken};
 ghost use Rattle.souper_stream.specs.Seams.{IsEndLine, IsSeam};
@@ -223,7 +224,7 @@ pub(crate) fn lines_len(bytes: &[u8], end: usize) -> usize
 
 // The bytes before the first occurrence of the word, if an item of the type ends with a line that it begins; else all.
 fn before_word<'a, T: StreamItem>(bytes: &'a [u8], word: &str) -> &'a [u8]
-    ensures front { IsFront result.now bytes.now }
+    ensures front { StartsWith bytes.now result.now }
     ensures none { end_word T.item_type word.now ≡ true → IsAbsent word.now result.now }
 {
     if !T::ends_with(word) {
@@ -235,38 +236,33 @@ fn before_word<'a, T: StreamItem>(bytes: &'a [u8], word: &str) -> &'a [u8]
     }
 }
 
+// The bytes before the words that items of the type end with, be they in a token or in a comment.
+fn before_end_words<T: StreamItem>(bytes: &[u8]) -> &[u8]
+    ensures front { StartsWith bytes.now result.now }
+    ensures none { NoEndWord T.item_type result.now }
+{
+    let bytes = before_word::<T>(bytes, "infer");
+    let bytes = before_word::<T>(bytes, "result");
+    before_word::<T>(bytes, "cand")
+}
+
 // The most bytes that are searched at once: an item may end with a word that is nowhere in the buffer, and another that comes soon.
 const WINDOW: usize = 512;
 
-/// The length of lines that the bytes begin with, in which the words that items of the type end with do not occur, be it in a token or
-/// in a comment. 0 if they are not UTF-8: the line at fault is then found line by line.
-pub(crate) fn quiet_len<T: StreamItem>(bytes: &[u8]) -> usize
+/// The length of lines that the bytes begin with, in which the words that items of the type end with do not occur. 0 if they are not
+/// UTF-8: the line at fault is then found line by line.
+pub(crate) fn len_without_end<T: StreamItem>(bytes: &[u8]) -> usize
     ensures bound { result ≤ length bytes.now }
     ensures lines { IsLines (take result bytes.now) }
     ensures utf8 { IsUtf8 (take result bytes.now) }
-    ensures quiet { IsQuiet T.item_type (take result bytes.now) }
+    ensures none { NoEndWord T.item_type (take result bytes.now) }
 {
-    let window = &bytes[..bytes.len().min(WINDOW)];
-    let quiet = before_word::<T>(window, "infer");
-    let quiet = before_word::<T>(quiet, "result");
-    let quiet = before_word::<T>(quiet, "cand");
-    let len = lines_len(quiet, quiet.len());
-    match str::from_utf8(&quiet[..len]) {
+    let front = before_end_words::<T>(&bytes[..bytes.len().min(WINDOW)]);
+    let len = lines_len(front, front.len());
+    match str::from_utf8(&front[..len]) {
         Ok(_) => len,
         Err(_) => 0,
     }
-}
-
-// Whether the word is in the text, be it of another token or of a comment, and an item of the type ends with a line that it begins.
-fn has_end_word<T: StreamItem>(text: &str, word: &str) -> bool {
-    T::ends_with(word) && memmem::find(text.as_bytes(), word.as_bytes()).is_some()
-}
-
-// Whether a line that an item of the type ends with may be in the text.
-fn may_end<T: StreamItem>(text: &str) -> bool {
-    has_end_word::<T>(text, "infer")
-        || has_end_word::<T>(text, "result")
-        || has_end_word::<T>(text, "cand")
 }
 
 /// The length of lines that the text begins with, after which an item has ended and a line of the next begins: of all such
@@ -276,11 +272,11 @@ pub(crate) fn complete_len<T: StreamItem>(text: &str) -> usize
     ensures boundary { IsCharBoundary text.now result }
     ensures seam { 0 < result → IsSeam T.item_type (take result text.now) (drop result text.now) }
 {
+    let bytes = text.as_bytes();
     // In the middle of a large item no line is looked at.
-    if !may_end::<T>(text) {
+    if before_end_words::<T>(bytes).len() == bytes.len() {
         return 0;
     }
-    let bytes = text.as_bytes();
     let mut end = lines_len(bytes, bytes.len());
     let mut next = None;
     while end > 0 {

@@ -5,11 +5,11 @@ ghost use Rattle.souper_ir.specs.Errors.{kind_of};
 ghost use Rattle.souper_ir.specs.Sinks.{TakesText};
 ghost use Rattle.souper_stream.specs.Holding.{fresh, Forgets};
 ghost use Rattle.souper_stream.specs.Pieces.{Line};
-ghost use Rattle.souper_stream.specs.PieceReading.{HasLines, Passes, ReadsLine, ReadsQuiet, HasPieces, HasLine, line_of, IsNext, RefusesBytes, TakesPiece, RefusesPiece, HasAll};
+ghost use Rattle.souper_stream.specs.PieceReading.{HasLines, Passes, ReadsLine, ReadsWithoutEnd, HasPieces, HasLine, line_of, IsNext, RefusesBytes, TakesPiece, RefusesPiece, HasAll};
 
 use crate::ends::StreamItem;
 use crate::held::{Held, newline_count};
-use crate::lines::{ScanState, first_offset, quiet_len, scan_line, starts_line};
+use crate::lines::{ScanState, first_offset, len_without_end, scan_line, starts_line};
 use crate::parts::{place, read_error};
 use souper_ir::parse::{Memory, ParseError, ParseErrorKind, Result, Sink, parse_with_memory};
 use std::alloc::Global;
@@ -34,12 +34,12 @@ fn read_line<R: BufRead>(reader: &mut R, bytes: &mut Vec<u8>) -> io::Result<bool
     Ok(len == 0 || bytes[bytes.len() - 1] != b'\n')
 }
 
-// Reads the buffered lines in which no item of the type can end, up to the first other line. Returns whether the input has ended.
-fn read_quiet_lines<T: StreamItem, R: BufRead>(
+// Reads buffered lines in which no item of the type can end. Returns whether the input has ended.
+fn read_without_end<T: StreamItem, R: BufRead>(
     reader: &mut R,
     bytes: &mut Vec<u8>,
 ) -> io::Result<bool>
-    ensures { IfOk result (λ ended. (lines : List ℕ) × ReadsQuiet T.item_type (R.remaining reader.old) (R.remaining reader.new) bytes.old.items bytes.new.items ended lines) }
+    ensures { IfOk result (λ ended. (lines : List ℕ) × ReadsWithoutEnd T.item_type (R.remaining reader.old) (R.remaining reader.new) bytes.old.items bytes.new.items ended lines) }
 {
     let buffered = match reader.fill_buf() {
         Ok(buffered) => buffered,
@@ -47,7 +47,7 @@ fn read_quiet_lines<T: StreamItem, R: BufRead>(
         Err(fault) => return Err(fault),
     };
     let has_ended = buffered.is_empty();
-    let lines = &buffered[..quiet_len::<T>(buffered)];
+    let lines = &buffered[..len_without_end::<T>(buffered)];
     bytes.extend_from_slice(lines)?;
     let len = lines.len();
     reader.consume(len);
@@ -146,14 +146,14 @@ impl PieceReader {
     }
 
     // Reads lines of the segment in which no item can end, if none ends before them.
-    fn pass_quiet_lines<T: StreamItem, R: BufRead>(&mut self, reader: &mut R) -> io::Result<()>
+    fn pass_without_end<T: StreamItem, R: BufRead>(&mut self, reader: &mut R) -> io::Result<()>
         requires within { self.old.held.skipped ≤ vec_len self.old.held.bytes }
         ensures within { OnOk result (self.new.held.skipped ≤ vec_len self.new.held.bytes) }
         ensures passed { OnOk result ((start : Option (List ℕ)) (ps : List (List Line)) → HasPieces T.item_type start (R.remaining reader.old) ps self.old
             → HasPieces T.item_type start (R.remaining reader.new) ps self.new) }
     {
         if !self.ended && !self.scanned.ends_item {
-            self.ended = read_quiet_lines::<T, R>(reader, &mut self.held.bytes)?;
+            self.ended = read_without_end::<T, R>(reader, &mut self.held.bytes)?;
         }
         Ok(())
     }
@@ -165,7 +165,7 @@ impl PieceReader {
             → IsNext T.item_type start (R.remaining reader.new) ps self.new len) }
     {
         for _turn in 0..u64::MAX {
-            self.pass_quiet_lines::<T, R>(reader)?;
+            self.pass_without_end::<T, R>(reader)?;
             let start = self.held.bytes.len() - self.held.skipped;
             if self.ended {
                 self.scanned = ScanState::new();

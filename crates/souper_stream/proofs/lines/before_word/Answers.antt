@@ -1,6 +1,6 @@
 use Rattle.std.proofs.Common.{List, ℕ, ◌+◌, length, subst}
 use Rattle.memchr.specs.Find.{Nowhere, NoneBefore, OccursAt}
-use Rattle.souper_stream.proofs.Quiet.{front_take, end_word_some, absent_none, absent_before}
+use Rattle.souper_stream.proofs.WithoutEnd.{front_take, end_word_some, absent_none, absent_before}
 use Rattle.souper_stream.proofs.lines.before_word.Goals as goal
 
 pub returns-in-Some-clause-front : goal.returns-in-Some-clause-front

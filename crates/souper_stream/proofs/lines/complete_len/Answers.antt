@@ -40,8 +40,8 @@ returns-in-loop-end-clause-seam g c = λ some.
     seam_at g.T.Item.item_type c.args.text.now c.loop-end.end c.lines_len-start.result c.in-Some.next (omega arith) start lines
     (subst (λ (x : List ℕ). IsEndLine g.T.Item.item_type x) c.range.ensures.value (c.is_end_line-in-loop-end.ensures c.if-is_end_line-2.true))
 
-pub returns-then-not-may_end-clause-boundary : goal.returns-then-not-may_end-clause-boundary
-returns-then-not-may_end-clause-boundary g c = IsCharBoundary-start c.args.text.now c.utf8.text
+pub returns-then-before_end_words-bytes-clause-boundary : goal.returns-then-before_end_words-bytes-clause-boundary
+returns-then-before_end_words-bytes-clause-boundary g c = IsCharBoundary-start c.args.text.now c.utf8.text
 
 pub returns-clause-boundary : goal.returns-clause-boundary
 returns-clause-boundary g c = IsCharBoundary-start c.args.text.now c.utf8.text

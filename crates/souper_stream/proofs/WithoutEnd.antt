@@ -3,7 +3,10 @@ use Rattle.std.proofs.Common.{◌≡◌, inl, inr, ℕ, ◌+◌, ◌<◌, ◌≤
 use Rattle.std.specs.Prelude.{◌==◌, codes, bytes_eq}
 use Rattle.std.specs.List.{AllByRecursion}
 use Rattle.std.proofs.Math.Seq.{take-append_seam, drop-append_seam}
-use Rattle.std.proofs.lemmas.List.{take-append-le}
+use Rattle.std.proofs.lemmas.List.{take-take}
+use Rattle.std.specs.Io.{StartsWith}
+use Rattle.std.proofs.KnownBytes.{starts_with_rest}
+use Rattle.std.proofs.Transfers.{starts_with_of_append}
 use Rattle.std.proofs.lemmas.Str.{IsUtf8-take, IsUtf8-drop}
 use Rattle.std.specs.Str.{IsCharBoundary}
 use Rattle.memchr.specs.Find.{Nowhere, NoneBefore, OccursAt}
@@ -14,7 +17,7 @@ use Rattle.souper_lexer.specs.TokenReading.{lexed_of}
 use Rattle.souper_lexer.proofs.TokenLaws.{tokens_law}
 use Rattle.souper_ir.specs.Joining.{IsLines}
 use Rattle.souper_stream.specs.declared.lines.ScanState.{ScanState}
-use Rattle.souper_stream.specs.Lines.{end_word, is_end_word, IsFront, IsAbsent, IsQuiet}
+use Rattle.souper_stream.specs.Lines.{end_word, is_end_word, IsAbsent, NoEndWord}
 use Rattle.souper_stream.specs.Pieces.{Line, concat, IsLine, tokens_of}
 use Rattle.souper_stream.specs.PieceReading.{HasLines}
 use Rattle.souper_stream.proofs.Nodes.{is_not, word_means}
@@ -25,18 +28,17 @@ use Rattle.souper_stream.proofs.Lined.{one_more}
 
 -- ---- words that are nowhere in bytes
 
-pub front_front : (a b c : List ℕ) → IsFront a b → IsFront b c → IsFront a c
-front_front a b c (r, e) (q, f) = (r ++ q, f ∙ ap (λ (x : List ℕ). x ++ q) e ∙ append_assoc a r q)
+pub front_take : (n : ℕ) (bs : List ℕ) → StartsWith bs (take n bs)
+front_take n bs = starts_with_of_append bs (take n bs) (drop n bs) (sym (take-append-drop n bs))
 
-pub front_take : (n : ℕ) (bs : List ℕ) → IsFront (take n bs) bs
-front_take n bs = (drop n bs, sym (take-append-drop n bs))
+-- what holds of the first bytes of a front holds of the first bytes of the whole
+pub of_front : (P : List ℕ → Type 0) (n : ℕ) (front bs : List ℕ) → StartsWith bs front → n ≤ length front → P (take n front) → P (take n bs)
+of_front P n front bs starts within = subst P (sym (ap (λ (x : List ℕ). take n x) starts) ∙ take-take n (length front) bs within)
 
-pub front_same : (n : ℕ) (a b : List ℕ) → IsFront a b → n ≤ length a → take n b ≡ take n a
-front_same n a b (rest, e) within = ap (λ (x : List ℕ). take n x) e ∙ take-append-le n a rest within
-
-pub absent_front : (w a bs : List ℕ) → IsFront a bs → IsAbsent w bs → IsAbsent w a
-absent_front w a bs (rest, e) h front back here =
-    h front (back ++ rest) (e ∙ ap (λ (x : List ℕ). x ++ rest) here ∙ append_assoc front (w ++ back) rest ∙ ap (λ (x : List ℕ). front ++ x) (append_assoc w back rest))
+pub absent_front : (w front bs : List ℕ) → StartsWith bs front → IsAbsent w bs → IsAbsent w front
+absent_front w xs bs starts h front back here =
+    let rest = drop (length xs) bs in
+    h front (back ++ rest) (starts_with_rest bs xs starts ∙ ap (λ (x : List ℕ). x ++ rest) here ∙ append_assoc front (w ++ back) rest ∙ ap (λ (x : List ℕ). front ++ x) (append_assoc w back rest))
 
 absent_back : (w a b : List ℕ) → IsAbsent w (a ++ b) → IsAbsent w b
 absent_back w a b h front back here = h (a ++ front) back (ap (λ (x : List ℕ). a ++ x) here ∙ sym (append_assoc a front (w ++ back)))
@@ -69,10 +71,10 @@ end_word_some replacement [] h = absurd cc
 end_word_some k (c ∷ w) h = omega arith
 
 -- the words that items end with
-pub quiet_words : (k : ItemType) (bs : List ℕ) → (end_word k (codes "infer") ≡ true → IsAbsent (codes "infer") bs) → (end_word k (codes "result") ≡ true → IsAbsent (codes "result") bs) → (end_word k (codes "cand") ≡ true → IsAbsent (codes "cand") bs) → IsQuiet k bs
-quiet_words left_hand_side bs a b c w h = subst (λ (x : List ℕ). IsAbsent x bs) (sym (word_means w (codes "infer") h)) (a refl)
-quiet_words right_hand_side bs a b c w h = subst (λ (x : List ℕ). IsAbsent x bs) (sym (word_means w (codes "result") h)) (b refl)
-quiet_words replacement bs a b c w h = under (bytes_eq w (codes "result")) refl
+pub no_end_words : (k : ItemType) (bs : List ℕ) → (end_word k (codes "infer") ≡ true → IsAbsent (codes "infer") bs) → (end_word k (codes "result") ≡ true → IsAbsent (codes "result") bs) → (end_word k (codes "cand") ≡ true → IsAbsent (codes "cand") bs) → NoEndWord k bs
+no_end_words left_hand_side bs a b c w h = subst (λ (x : List ℕ). IsAbsent x bs) (sym (word_means w (codes "infer") h)) (a refl)
+no_end_words right_hand_side bs a b c w h = subst (λ (x : List ℕ). IsAbsent x bs) (sym (word_means w (codes "result") h)) (b refl)
+no_end_words replacement bs a b c w h = under (bytes_eq w (codes "result")) refl
   where
     under : (is : Bool) → bytes_eq w (codes "result") ≡ is → IsAbsent w bs
     under true e = subst (λ (x : List ℕ). IsAbsent x bs) (sym (word_means w (codes "result") e)) (b refl)
@@ -82,7 +84,7 @@ quiet_words replacement bs a b c w h = under (bytes_eq w (codes "result")) refl
 
 -- ---- tokens
 
-no_end_first : (k : ItemType) (t : Lexeme) (gap after bs : List ℕ) → bs ≡ gap ++ (spelling t ++ after) → IsQuiet k bs → is_end_word k t ≡ false
+no_end_first : (k : ItemType) (t : Lexeme) (gap after bs : List ℕ) → bs ≡ gap ++ (spelling t ++ after) → NoEndWord k bs → is_end_word k t ≡ false
 no_end_first k (ident w) gap after bs e q = is_not (end_word k w) (λ h. q w h gap after e)
 no_end_first k (val_name n) gap after bs e q = refl
 no_end_first k (known_bits w) gap after bs e q = refl
@@ -94,7 +96,7 @@ no_end_first k open_paren gap after bs e q = refl
 no_end_first k close_paren gap after bs e q = refl
 no_end_first k open_bracket gap after bs e q = refl
 
-no_end_tokens : (k : ItemType) (ts : List (ℕ × Lexeme)) (n : ℕ) (bs rest : List ℕ) → Begins n bs ts rest → IsQuiet k bs → NoEnd k (kinds ts)
+no_end_tokens : (k : ItemType) (ts : List (ℕ × Lexeme)) (n : ℕ) (bs rest : List ℕ) → Begins n bs ts rest → NoEndWord k bs → NoEnd k (kinds ts)
 no_end_tokens k [] n bs rest h q = tt
 no_end_tokens k (t ∷ ts) n bs rest h q = (
   no_end_first k t.1 h.gap h.after bs h.stands.text q,
@@ -144,11 +146,11 @@ utf8_lines (l ∷ ls) h u =
       utf8_lines ls h.1 (subst (λ (x : List ℕ). IsUtf8 x) (drop-append_seam l (concat ls)) (IsUtf8-drop xs (length l) u b)),
     )
 
-no_end_lines : (k : ItemType) (ls : List Line) → AllByRecursion IsUtf8 ls → IsQuiet k (concat ls) → AllByRecursion (λ l. NoEnd k (tokens_of l)) ls
+no_end_lines : (k : ItemType) (ls : List Line) → AllByRecursion IsUtf8 ls → NoEndWord k (concat ls) → AllByRecursion (λ l. NoEnd k (tokens_of l)) ls
 no_end_lines k [] u q = tt
 no_end_lines k (l ∷ ls) u q =
     let all = tokens_law l u.0 in (
-      no_end_tokens k (lexed_of 0 l).tokens 0 l all.rest all.front (λ w e. absent_front w l (l ++ concat ls) (concat ls, refl) (q w e)),
+      no_end_tokens k (lexed_of 0 l).tokens 0 l all.rest all.front (λ w e. absent_front w l (l ++ concat ls) (take-append_seam l (concat ls)) (q w e)),
       no_end_lines k ls u.1 (λ w e. absent_back w l (concat ls) (q w e)),
     )
 
@@ -159,15 +161,15 @@ more_lines k piece s ls (l ∷ more) h going u q =
     let rest = more_lines k (piece ++ l) s (ls ++ l ∷ []) more next going u.1 q.1 in
     subst (λ (x : List ℕ). HasLines k x s (ls ++ l ∷ more)) (append_assoc piece l (concat more)) (subst (λ (x : List Line). HasLines k ((piece ++ l) ++ concat more) s x) (append_assoc ls (l ∷ []) more) rest)
 
--- the segment continues with quiet lines
-pub quiet_lines : (k : ItemType) (piece bs : List ℕ) (s : ScanState) (ls : List Line) (lines : Split bs) → HasLines k piece s ls → s.ends_item ≡ false → IsUtf8 bs → IsQuiet k bs → HasLines k (piece ++ bs) s (ls ++ lines.lines)
-quiet_lines k piece bs s ls lines h going u q =
+-- the segment continues with lines without an end
+pub lines_without_end : (k : ItemType) (piece bs : List ℕ) (s : ScanState) (ls : List Line) (lines : Split bs) → HasLines k piece s ls → s.ends_item ≡ false → IsUtf8 bs → NoEndWord k bs → HasLines k (piece ++ bs) s (ls ++ lines.lines)
+lines_without_end k piece bs s ls lines h going u q =
     let each = utf8_lines lines.lines lines.each (subst (λ (x : List ℕ). IsUtf8 x) lines.whole u) in
-    let none = no_end_lines k lines.lines each (subst (λ (x : List ℕ). IsQuiet k x) lines.whole q) in
+    let none = no_end_lines k lines.lines each (subst (λ (x : List ℕ). NoEndWord k x) lines.whole q) in
     subst (λ (x : List ℕ). HasLines k (piece ++ x) s (ls ++ lines.lines)) (sym lines.whole) (more_lines k piece s ls lines.lines h going each none)
 
-pub quiet_none : (k : ItemType) → IsQuiet k []
-quiet_none k w e front back h = let some = end_word_some k w e in let n = ap length h ∙ length-append front (w ++ back) in let m = length-append w back in absurd (omega arith)
+pub no_end_nil : (k : ItemType) → NoEndWord k []
+no_end_nil k w e front back h = let some = end_word_some k w e in let n = ap length h ∙ length-append front (w ++ back) in let m = length-append w back in absurd (omega arith)
 
-pub quiet_front : (k : ItemType) (a bs : List ℕ) → IsFront a bs → IsQuiet k bs → IsQuiet k a
-quiet_front k a bs f q w e = absent_front w a bs f (q w e)
+pub no_end_front : (k : ItemType) (front bs : List ℕ) → StartsWith bs front → NoEndWord k bs → NoEndWord k front
+no_end_front k front bs starts h w e = absent_front w front bs starts (h w e)
