@@ -68,6 +68,47 @@ fn segments_are_written_before_a_failed_read(rt: HostRuntime) {
     );
 }
 
+// A reader that ends once: a read after it fails.
+#[derive(Drop)]
+struct EndsOnce<'a> {
+    rest: &'a [u8],
+    ended: bool,
+}
+
+impl Read for EndsOnce<'_> {
+    fn read(&mut self, buf: &mut [u8]) -> io::Result<usize> {
+        if self.ended {
+            return Err(io::Error::from(ErrorKind::BrokenPipe));
+        }
+        self.ended = self.rest.is_empty();
+        self.rest.read(buf)
+    }
+}
+
+fn ends_once(rt: &impl Abort, alloc: Global, command: Command, text: &str, capacity: usize) {
+    let source = EndsOnce {
+        rest: text.as_bytes(),
+        ended: false,
+    };
+    let mut reader = BufReader::with_capacity(alloc, capacity, source).expect(rt, "memory");
+    let run = run_over::<LeftHandSide, BufReader<EndsOnce<'_>>>(alloc, command, &mut reader);
+    did(rt, run, (0, "%x = var\ninfer %x\n\n", ""));
+}
+
+#[test]
+fn end_is_read_once(rt: HostRuntime) {
+    for text in [
+        "%x = var\ninfer %x\n",
+        "%x = var\ninfer %x",
+        "%x = var\ninfer %x\n; a comment\n",
+    ] {
+        for capacity in [3, 64] {
+            ends_once(&rt, rt.alloc(), Command::Each(PLAIN), text, capacity);
+            ends_once(&rt, rt.alloc(), Command::EachGoingOn, text, capacity);
+        }
+    }
+}
+
 // The status of a run that is refused and whose report fails after this number of calls, and whether the report failed.
 fn failed_report(rt: &impl Abort, alloc: Global, after: usize) -> (u8, bool) {
     let mut reader = BufReader::new(alloc, b"infer %x\n".as_slice()).expect(rt, "memory");
