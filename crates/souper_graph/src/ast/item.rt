@@ -60,7 +60,7 @@ pub trait Item {
         ensures named { IfOk result (λ copy. IsRenamed (view self.now) (view copy)) };
 
     /// Names the statements of the text as `renamed` names those of its copy, and returns true; or returns false, and changes nothing.
-    /// After an error some names may be others.
+    /// After an error some names may be others. The buffers of the names stay.
     fn rename(&mut self) -> Result<bool, TextError>
         ensures refused { IfErr result (λ error. IsFaultOf (view self.old) error) }
         ensures named { IfOk result (λ is_named. is_named ≡ true → IsRenamed (view self.old) (view self.new)) }

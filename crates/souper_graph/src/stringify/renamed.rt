@@ -32,13 +32,13 @@ impl LeftHandSide {
 
     /// Names the statements of the text as [`renamed`](Self::renamed) names those of its copy.
     ///
-    /// Fails like [`print_order`](Self::print_order). After an error some names may be others.
+    /// Fails like [`print_order`](Self::print_order). After an error some names may be others. The buffers of the names stay.
     pub fn rename(&mut self) -> Result<(), TextError>
         ensures refused { IfErr result (λ error. IsFaultOf (view_left_hand_side self.old) error) }
         ensures named { OnOk result (IsRenamed (view_left_hand_side self.old) (view_left_hand_side self.new)) }
     {
         let order = self.print_order()?;
-        set_names(&mut self.statements, &order.ids)
+        write_names(&mut self.statements, &order.ids)
     }
 }
 
@@ -58,13 +58,13 @@ impl RightHandSide {
 
     /// Names the statements of the text as [`renamed`](Self::renamed) names those of its copy.
     ///
-    /// Fails like [`print_order`](Self::print_order). After an error some names may be others.
+    /// Fails like [`print_order`](Self::print_order). After an error some names may be others. The buffers of the names stay.
     pub fn rename(&mut self) -> Result<(), TextError>
         ensures refused { IfErr result (λ error. IsFaultOf (view_right_hand_side self.old) error) }
         ensures named { OnOk result (IsRenamed (view_right_hand_side self.old) (view_right_hand_side self.new)) }
     {
         let order = self.print_order()?;
-        set_names(&mut self.statements, &order.ids)
+        write_names(&mut self.statements, &order.ids)
     }
 }
 
@@ -92,15 +92,15 @@ impl Replacement {
 
     /// Names the statements of the text as [`renamed`](Self::renamed) names those of its copy.
     ///
-    /// Fails like [`print_order`](Self::print_order). After an error some names may be others.
+    /// Fails like [`print_order`](Self::print_order). After an error some names may be others. The buffers of the names stay.
     pub fn rename(&mut self) -> Result<(), TextError>
         ensures refused { IfErr result (λ error. IsFaultOf (view_replacement self.old) error) }
         ensures named { OnOk result (IsRenamed (view_replacement self.old) (view_replacement self.new)) }
     {
         let order = self.print_order()?;
         match self {
-            Replacement::LhsRhs { statements, .. } => set_names(statements, &order.ids),
-            Replacement::Cand { statements, .. } => set_names(statements, &order.ids),
+            Replacement::LhsRhs { statements, .. } => write_names(statements, &order.ids),
+            Replacement::Cand { statements, .. } => write_names(statements, &order.ids),
         }
     }
 }
@@ -124,26 +124,41 @@ fn named_statements(
     ensures named { Distinct ids.now → IfOk result (λ copy. map view_statement copy ≡ named_from ids.now 0 (map view_statement statements.now)) }
     ensures memory { IfErr result (λ error. error ≡ OutOfMemory) }
 {
+    let alloc = statements.allocator();
     let mut copy = statements.clone()?;
-    set_names(&mut copy, ids)?;
+    for (index, id) in ids.iter().enumerate() {
+        let name = format!(in alloc; "%{index}")?;
+        if let Some(statement) = copy.get_mut(*id) {
+            set_name(statement, name);
+        }
+    }
     Ok(copy)
 }
 
-// Names each statement in the list by its index there.
-fn set_names(statements: &mut Arena<Statement>, ids: &[Id<Statement>]) -> Result<(), TextError>
+// A path condition has no name.
+fn set_name(statement: &mut Statement, name: String)
+    ensures { view_statement statement.new ≡ with_name (string_bytes name) (view_statement statement.old) }
+{
+    if let Statement::Assignment(assignment) = statement {
+        assignment.name = name;
+    }
+}
+
+// Names each statement in the list by its index there, in place. The buffers of the names stay.
+fn write_names(statements: &mut Arena<Statement>, ids: &[Id<Statement>]) -> Result<(), TextError>
     ensures named { Distinct ids.now → OnOk result (map view_statement statements.new ≡ named_from ids.now 0 (map view_statement statements.old)) }
     ensures memory { IfErr result (λ error. error ≡ OutOfMemory) }
 {
     for (index, id) in ids.iter().enumerate() {
         if let Some(statement) = statements.get_mut(*id) {
-            set_name(statement, index)?;
+            write_name(statement, index)?;
         }
     }
     Ok(())
 }
 
-// Names an assignment by the index. A path condition has no name.
-fn set_name(statement: &mut Statement, index: usize) -> Result<(), AllocError>
+// A path condition has no name.
+fn write_name(statement: &mut Statement, index: usize) -> Result<(), AllocError>
     ensures { OnOk result (view_statement statement.new ≡ with_name (name_of_index index) (view_statement statement.old)) }
 {
     if let Statement::Assignment(assignment) = statement {

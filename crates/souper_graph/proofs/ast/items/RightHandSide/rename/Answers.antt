@@ -6,5 +6,5 @@ use Rattle.souper_graph.proofs.ast.items.RightHandSide.rename.Goals as goal
 pub returns-clause-named : goal.returns-clause-named
 returns-clause-named c =
     let order = c.in_ok-order.order in
-    ok-named (view_right_hand_side c.args.self.now) (map view_statement c.set_names.new.statements) order.ids.items c.deref.result.now order.lead order.turns c.set_names.result
-    c.in_ok-order.ensures.ordered c.deref.ensures.value (omega (arith, c.deref.ensures.len)) c.set_names.ensures.named
+    ok-named (view_right_hand_side c.args.self.now) (map view_statement c.write_names.new.statements) order.ids.items c.deref.result.now order.lead order.turns c.write_names.result
+    c.in_ok-order.ensures.ordered c.deref.ensures.value (omega (arith, c.deref.ensures.len)) c.write_names.ensures.named

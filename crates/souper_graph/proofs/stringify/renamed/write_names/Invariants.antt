@@ -2,7 +2,7 @@ use Rattle.std.proofs.Common.{◌≡◌, map, take}
 use Rattle.souper_graph.specs.View.{view_statement}
 use Rattle.souper_graph.specs.Order.{Distinct}
 use Rattle.souper_graph.specs.Renaming.{named_from}
-use Rattle.souper_graph.proofs.stringify.renamed.set_names.Given as goal
+use Rattle.souper_graph.proofs.stringify.renamed.write_names.Given as goal
 
 -- the first ones of the list are named
 abbrev pub invariant-loop-index : goal.invariant-loop-index
