@@ -28,11 +28,7 @@ fn append_canonical<T: Item>(item: &T, out: &mut String) -> Result<(), AllocErro
 }
 
 // Appends the canonical text of the item, or of the item with names by its printed order.
-pub(crate) fn append_text<T: Item + Drop>(
-    rename: bool,
-    item: &T,
-    out: &mut String,
-) -> Result<(), AllocError>
+fn append_text<T: Item + Drop>(rename: bool, item: &T, out: &mut String) -> Result<(), AllocError>
     requires { WellFormed (T.view item.now) }
     ensures text { OnOk result (string_bytes out.new ≡ string_bytes out.old ++ text_of (chosen rename (T.view item.now))) }
     ensures well_formed { OnOk result (WellFormed (chosen rename (T.view item.now))) }

@@ -134,7 +134,7 @@ fn is_end_word<T: StreamItem>(token: Token<'_>) -> bool
 /// The scanner state after a sequence of tokens.
 #[derive(Clone, Copy)]
 pub(crate) struct ScanState {
-    /// Whether the last token is a name.
+    /// Whether the last token is a name, if `ends_item` is true. Else it is not used.
     pub after_name: bool,
 
     /// Whether, of the statements and last lines that begin in them, the last begins with a word that an item ends with.

@@ -110,7 +110,7 @@ fn first_line(held: &Held, len: usize) -> io::Result<usize>
 pub struct PieceReader {
     held: Held,
 
-    // The state after the tokens of the segment.
+    // The state after the tokens of the segment. The lines that are taken at once leave it as it is.
     scanned: ScanState,
 
     // Whether the input has ended.

@@ -337,8 +337,8 @@ pub fn parse_into<T: WholeItem, S: Sink<T>>(
     whole_text::<T, S>(alloc, source, filename, &mut None, &mut parser, sink)
 }
 
-/// [`parse_into`] for many short texts, one after the other: the items are read into the memory of items that the sink gave back before,
-/// of this text or of those before it.
+/// [`parse_into`] for many short texts, one after the other: the items are read into the memory of items that a sink gave back before
+/// ([`Sink::take_over`]), of this text or of those before it.
 pub fn parse_with_memory<T: WholeItem, S: Sink<T>>(
     alloc: Global,
     memory: &mut Memory,

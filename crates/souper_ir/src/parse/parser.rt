@@ -528,10 +528,9 @@ impl<'a> Parser<'a> {
             ..
         } = self;
         // An item that was refused is dropped too.
-        let dropped = if failed.is_some() && spare.is_used() {
-            Some(statements)
-        } else {
-            dropped
+        let dropped = match dropped {
+            None if failed.is_some() && spare.is_used() => Some(statements),
+            dropped => dropped,
         };
         let statements = match dropped {
             Some(statements) => Some(spare.recycle(alloc, statements)),

@@ -75,7 +75,7 @@ impl Spare {
         }
     }
 
-    /// Gives back what is kept.
+    /// Gives back the names that are kept.
     pub(crate) fn clear(&mut self) {
         if self.used {
             self.names.clear();
