@@ -1,5 +1,6 @@
 //! Texts that are read, and the texts of their items.
 mod formatted;
 mod kept;
+mod memory;
 mod orders;
 mod renaming;

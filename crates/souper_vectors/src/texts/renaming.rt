@@ -16,22 +16,25 @@ fn text_of<I: Item + Drop>(rt: &impl Abort, item: &I) -> String {
     item.to_text().expect(rt, "a text")
 }
 
-// The text of the renamed first item, which is well formed, and renamed to itself.
-fn text_of_first<I: Item + Drop>(rt: &impl Abort, items: &[I]) -> String {
-    let copy = renamed(rt, items.first().expect(rt, "an item"));
+// The text of the renamed first item, which is well formed, and renamed to itself. The item itself, renamed in place, has this text.
+fn text_of_first<I: Item + Drop>(rt: &impl Abort, mut items: Vec<I>) -> String {
+    let item = items.get_mut(0).expect(rt, "an item");
+    let copy = renamed(rt, &*item);
     equal(rt, copy.is_well_formed().expect(rt, "memory"), true);
     let text = text_of(rt, &copy);
     let again = renamed(rt, &copy);
     is_text(rt, text_of(rt, &again), text.as_str());
+    equal(rt, item.rename().expect(rt, "a renamed item"), true);
+    is_text(rt, text_of(rt, &*item), text.as_str());
     text
 }
 
 // The text of the renamed first item of the case.
 fn text_of_renamed(rt: &impl Abort, alloc: Global, case: &Case<'_>) -> String {
     match items(rt, alloc, case.kind, case.text, case.lines) {
-        Items::Lhs(items) => text_of_first(rt, &items),
-        Items::Rhs(items) => text_of_first(rt, &items),
-        Items::Rep(items) => text_of_first(rt, &items),
+        Items::Lhs(items) => text_of_first(rt, items),
+        Items::Rhs(items) => text_of_first(rt, items),
+        Items::Rep(items) => text_of_first(rt, items),
     }
 }
 
