@@ -199,7 +199,7 @@ module _ (k : ItemType) (ts : List Lexeme) (s new : ScanState) (t : Lexeme) (h :
           record { named = named_now; ends = (λ yes. r.0 (h.ends.0 (sym e ∙ yes)), λ x. e ∙ h.ends.1 (r.1 x)) }
       under false going = none_before going (e ∙ going ∙ sym (is_not (is_end_word k t) (λ word. (let shown = end_shows k s.after_name t word in cc))))
 
--- tokens without a word that an item ends with, where none has ended before them
+-- tokens without an end word, where no item has ended before them
 pub state_kept : (k : ItemType) (ts us : List Lexeme) (s : ScanState) → IsStateAfter k ts s → s.ends_item ≡ false → NoEnd k us → IsStateAfter k (ts ++ us) s
 state_kept k ts [] s h going none = subst (λ (x : List Lexeme). IsStateAfter k x s) (sym (append-nil ts)) h
 state_kept k ts (u ∷ us) s h going none = subst (λ (x : List Lexeme). IsStateAfter k x s) (append_assoc ts (u ∷ []) us) (state_kept k (ts ++ u ∷ []) us s step going none.1)

@@ -1,4 +1,4 @@
--- Lines in which no word is that an item of the type ends with: no item ends in them.
+-- Lines without an end word of the item type: no item ends in them.
 use Rattle.std.proofs.Common.{◌≡◌, inl, inr, ℕ, ◌+◌, ◌<◌, ◌≤◌, Bool, true, false, List, [], ◌∷◌, ◌++◌, length, take, drop, IsUtf8, eqb-true, refl, sym, ap, ◌∙◌, subst, arith, append_assoc, append-nil, length-append, take-append-drop, length-take}
 use Rattle.std.specs.Prelude.{◌==◌, codes, bytes_eq}
 use Rattle.std.specs.List.{AllByRecursion}

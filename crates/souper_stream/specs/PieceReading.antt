@@ -26,7 +26,7 @@ pub record ReadsLine (before after : Option (List ℕ)) (old new : List ℕ) (en
   pub part : ended ≡ true → IsOneLine line
   pub all_read : ended ≡ true → AreAll before line
 
--- Lines were read in which no word is that an item of the type ends with. If the input has ended, none were left to read.
+-- lines without an end word of the item type were read; if the input has ended, none were left to read
 pub record ReadsWithoutEnd (k : ItemType) (before after : Option (List ℕ)) (old new : List ℕ) (ended : Bool) (lines : List ℕ) : Type 0 where
   pub held : new ≡ old ++ lines
   pub consumed : Consumes before after lines

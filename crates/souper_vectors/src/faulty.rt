@@ -1,4 +1,4 @@
-//! A reader and a writer that fail at one call.
+//! Readers and a writer that fail.
 use std::io;
 use std::io::{ErrorKind, Read, Write};
 
@@ -38,6 +38,30 @@ impl<'a> FaultyReader<'a> {
 impl Read for FaultyReader<'_> {
     fn read(&mut self, buf: &mut [u8]) -> io::Result<usize> {
         self.fault.call()?;
+        let most = buf.len().min(self.most);
+        self.rest.read(&mut buf[..most])
+    }
+}
+
+/// Reads at most a number of bytes per call. After the last byte each read fails.
+#[derive(Drop)]
+pub struct BrokenReader<'a> {
+    rest: &'a [u8],
+    most: usize,
+}
+
+impl<'a> BrokenReader<'a> {
+    /// A reader of these bytes.
+    pub fn new(rest: &'a [u8], most: usize) -> BrokenReader<'a> {
+        BrokenReader { rest, most }
+    }
+}
+
+impl Read for BrokenReader<'_> {
+    fn read(&mut self, buf: &mut [u8]) -> io::Result<usize> {
+        if self.rest.is_empty() {
+            return Err(io::Error::from(ErrorKind::BrokenPipe));
+        }
         let most = buf.len().min(self.most);
         self.rest.read(&mut buf[..most])
     }

@@ -1,6 +1,6 @@
 //! Reads and writes that fail.
 use crate::checks::equal;
-use crate::faulty::{FaultyReader, FaultyWriter};
+use crate::faulty::{BrokenReader, FaultyReader, FaultyWriter};
 use crate::records::support::{Command, did, headed, run_over, run_to};
 use souper_format::watched::Watched;
 use souper_ir::ast::LeftHandSide;
@@ -16,26 +16,9 @@ const READ_ERROR: &str = "souper_items: a.opt: ";
 // How the line of a failed write begins.
 const WRITE_ERROR: &str = "souper_items: write error: ";
 
-// A reader whose reads fail for good after these bytes.
-#[derive(Drop)]
-struct BrokenReader<'a> {
-    rest: &'a [u8],
-}
-
-impl Read for BrokenReader<'_> {
-    fn read(&mut self, buf: &mut [u8]) -> io::Result<usize> {
-        if self.rest.is_empty() {
-            return Err(io::Error::from(ErrorKind::BrokenPipe));
-        }
-        self.rest.read(buf)
-    }
-}
-
 #[test]
 fn failed_read_is_reported(rt: HostRuntime) {
-    let source = BrokenReader {
-        rest: b"%x = var\ninfer %x\n%y = var\n",
-    };
+    let source = BrokenReader::new(b"%x = var\ninfer %x\n%y = var\n", 3);
     let mut reader = BufReader::with_capacity(rt.alloc(), 3, source).expect(&rt, "memory");
     let run = run_over::<LeftHandSide, BufReader<BrokenReader<'_>>>(
         rt.alloc(),
@@ -48,9 +31,7 @@ fn failed_read_is_reported(rt: HostRuntime) {
 // With error recovery a segment is written as soon as it ends.
 #[test]
 fn segments_are_written_before_a_failed_read(rt: HostRuntime) {
-    let source = BrokenReader {
-        rest: b"%x = var\ninfer %x\n%y = var\ninfer %y\n%z = var\n",
-    };
+    let source = BrokenReader::new(b"%x = var\ninfer %x\n%y = var\ninfer %y\n%z = var\n", 64);
     let mut reader = BufReader::with_capacity(rt.alloc(), 64, source).expect(&rt, "memory");
     let run = run_over::<LeftHandSide, BufReader<BrokenReader<'_>>>(
         rt.alloc(),

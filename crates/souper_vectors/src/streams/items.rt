@@ -2,13 +2,13 @@
 use crate::cases::formatted::FORMATTED;
 use crate::cases::{joined_texts, read_cases};
 use crate::checks::{equal_in, is_text, is_text_in};
+use crate::faulty::BrokenReader;
 use souper_format::command::Kind;
 use souper_ir::ast::{Item, LeftHandSide, Replacement, RightHandSide};
 use souper_ir::parse::{ParseError, Sink, WholeItem, parse_into};
 use souper_stream::{StreamItem, read_chunks_into, read_into};
 use std::alloc::{AllocError, Global};
-use std::io;
-use std::io::{BufReader, ErrorKind, Read};
+use std::io::BufReader;
 use std::process::Abort;
 
 // The texts of the items, a line of its own after each.
@@ -106,36 +106,18 @@ fn long_stream_is_read_in_chunks(rt: HostRuntime) {
     is_text(&rt, text, whole.as_str());
 }
 
-// A stream that does not end: 16 bytes are read at a time, and after the last a read fails.
-#[derive(Drop)]
-struct Endless<'a> {
-    rest: &'a [u8],
-}
-
-impl Read for Endless<'_> {
-    fn read(&mut self, buf: &mut [u8]) -> io::Result<usize> {
-        if self.rest.is_empty() {
-            return Err(io::Error::from(ErrorKind::Other));
-        }
-        let most = buf.len().min(16);
-        self.rest.read(&mut buf[..most])
-    }
-}
-
-// Of a hundred such items in a stream that does not end, most are passed to the sink.
+// Of a hundred such items in a stream that does not end, read 16 bytes at a time, most are passed to the sink.
 fn most_are_early<T: StreamItem + Drop>(rt: &impl Abort, alloc: Global, item: &str) {
     let mut source = String::new(alloc);
     for _ in 0..100 {
         source.push_str(item).expect(rt, "memory");
     }
-    let endless = Endless {
-        rest: source.as_bytes(),
-    };
+    let endless = BrokenReader::new(source.as_bytes(), 16);
     let mut texts = Texts {
         text: String::new(alloc),
     };
     let mut reader = BufReader::with_capacity(alloc, 16, endless).expect(rt, "memory");
-    let read = read_chunks_into::<T, BufReader<Endless<'_>>, Texts>(
+    let read = read_chunks_into::<T, BufReader<BrokenReader<'_>>, Texts>(
         alloc,
         1,
         &mut reader,

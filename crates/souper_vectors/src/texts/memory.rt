@@ -15,21 +15,24 @@ struct Dropped {
     text: String,
 }
 
-impl<T: WholeItem + Drop> Sink<T> for Dropped {
-    ghost holds = { λ first dropped items. Unit {0} };
-
-    fn take(&mut self, item: T) -> Result<(), AllocError> {
+impl Dropped {
+    fn append<T: WholeItem>(&mut self, item: &T) -> Result<(), AllocError> {
         match item.append_text(&mut self.text) {
             Ok(()) => self.text.push_str("\n--\n"),
             Err(_) => Err(AllocError),
         }
     }
+}
+
+impl<T: WholeItem + Drop> Sink<T> for Dropped {
+    ghost holds = { λ first dropped items. Unit {0} };
+
+    fn take(&mut self, item: T) -> Result<(), AllocError> {
+        self.append(&item)
+    }
 
     fn take_over(&mut self, mut item: T) -> Result<Option<Arena<Statement>>, AllocError> {
-        match item.append_text(&mut self.text) {
-            Ok(()) => self.text.push_str("\n--\n")?,
-            Err(_) => return Err(AllocError),
-        }
+        self.append(&item)?;
         Ok(item.take_statements())
     }
 }
