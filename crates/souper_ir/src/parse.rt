@@ -7,6 +7,7 @@ mod item;
 mod last_lines;
 mod memory;
 mod message;
+mod missed;
 mod names;
 mod numbers;
 mod operands;
