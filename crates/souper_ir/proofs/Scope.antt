@@ -2,3 +2,4 @@
 pub mod Names
 pub mod Growing
 pub mod Entered
+pub mod Tables

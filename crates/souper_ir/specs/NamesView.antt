@@ -6,36 +6,40 @@ use Rattle.std.specs.Cmp.Lexicographic.{slice_cmp}
 use Rattle.std.specs.Ordering.{nat_cmp}
 use Rattle.souper_graph.specs.Syntax.Optional.{◌>>=◌}
 use Rattle.souper_ir.specs.declared.parse.names.Names.{Names}
+use Rattle.souper_ir.specs.TableView.{NameEntry, or_else, last_entry}
 use Rattle.souper_graph.specs.Values.{PlainAssignment, PlainStatement, assigned}
 use Rattle.souper_graph.specs.Syntax.Spelling.{Scope, predecessors_if_block}
-
--- a position, and the number of predecessors of the block there
-abbrev pub NameEntry : Type 0
-NameEntry = ℕ × Option ℕ
 
 abbrev pub NameMap : Type 0
 NameMap = BTreeMap (Bor (List ℕ)) NameEntry
 
 -- the entry of a name
-abbrev pub entry_in : NameMap → List ℕ → Option NameEntry
-entry_in names n = get_by (λ (k : Bor (List ℕ)). slice_cmp nat_cmp n k.now) names
+abbrev pub entry_in_map : NameMap → List ℕ → Option NameEntry
+entry_in_map entries n = get_by (λ (k : Bor (List ℕ)). slice_cmp nat_cmp n k.now) entries
+
+-- the entry of a name: the table is asked first
+abbrev pub entry_in : Names → List ℕ → Option NameEntry
+entry_in names n = or_else (last_entry names.few n) (entry_in_map names.entries n)
 
 -- the name has this entry now, and the others have theirs
-abbrev pub Adds : NameMap → NameMap → List ℕ → NameEntry → Type 0
+abbrev pub AddsToMap : NameMap → NameMap → List ℕ → NameEntry → Type 0
+AddsToMap old new n e = (m : List ℕ) → entry_in_map new m ≡ (if bytes_eq n m then Some e else entry_in_map old m)
+
+abbrev pub Adds : Names → Names → List ℕ → NameEntry → Type 0
 Adds old new n e = (m : List ℕ) → entry_in new m ≡ (if bytes_eq n m then Some e else entry_in old m)
 
 -- the name that was entered last has this entry
-abbrev pub IsLast : Option (Bor (List ℕ) × ℕ × Option ℕ) → NameMap → Type 0
+abbrev pub IsLast : Option (Bor (List ℕ) × ℕ × Option ℕ) → Names → Type 0
 IsLast None names = Unit {0}
 IsLast (Some x) names = entry_in names x.0.now ≡ Some (x.1, x.2)
 
 -- each assignment is entered under its name, with its position; so no two have one name
-abbrev pub AreEntered : NameMap → Scope → Type 0
+abbrev pub AreEntered : Names → Scope → Type 0
 AreEntered names s = (i : ℕ) (a : PlainAssignment) → slice_get s i ≡ Some (assigned a) → entry_in names a.name ≡ Some (i, predecessors_if_block a.value)
 
 pub record AreNames (names : Names) (s : Scope) : Type 0 where
-  pub entered : AreEntered names.entries s
-  pub last : IsLast names.last names.entries
+  pub entered : AreEntered names s
+  pub last : IsLast names.last names
 
 abbrev pub defines : Option PlainStatement → List ℕ → Bool
 defines (Some (assigned a)) n = bytes_eq a.name n

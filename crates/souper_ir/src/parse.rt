@@ -18,6 +18,7 @@ mod rhs;
 mod sink;
 mod spare;
 mod statements;
+mod table;
 mod tokens;
 mod traits;
 mod unstyled;

@@ -13,17 +13,19 @@ use Rattle.souper_graph.specs.Syntax.Spelling.{Scope, predecessors_if_block, ent
 use Rattle.souper_ir.specs.declared.parse.parser.Failure.{Failure}
 use Rattle.souper_ir.specs.FailureView.{cause_of_failure}
 use Rattle.souper_ir.specs.Laws.Peeks.{some_is}
-use Rattle.souper_ir.specs.NamesView.{NameEntry, NameMap, entry_in, Adds, AreEntered, defines, is_named, entry_in_scope}
+use Rattle.souper_ir.specs.NamesView.{NameMap, entry_in, AddsToMap, Adds, AreEntered, defines, is_named, entry_in_scope}
+use Rattle.souper_ir.specs.declared.parse.names.Names.{Names}
+use Rattle.souper_ir.specs.TableView.{NameEntry}
 use Rattle.souper_ir.specs.NodeReadings.{new_name_at}
 use Rattle.souper_ir.specs.Parsing.{Parsing}
 use Rattle.souper_ir.proofs.Scope.Names.{no_entry}
 use Rattle.souper_ir.proofs.Scope.Growing.{entry_stands, get_push}
 
 pub inserted : (old new : NameMap) (key : Bor (List ℕ)) (e : NameEntry)
-    → UpdatesBy (λ (x y : Bor (List ℕ)). slice_cmp nat_cmp x.now y.now) (λ (k : Bor (List ℕ)). slice_cmp nat_cmp key.now k.now) old new (Some e) → Adds old new key.now e
+    → UpdatesBy (λ (x y : Bor (List ℕ)). slice_cmp nat_cmp x.now y.now) (λ (k : Bor (List ℕ)). slice_cmp nat_cmp key.now k.now) old new (Some e) → AddsToMap old new key.now e
 inserted old new key e up m = btree_map_updates_str key.now old new (Some e) up m
 
-has_itself : (n : List ℕ) → bytes_eq n n ≡ true
+pub has_itself : (n : List ℕ) → bytes_eq n n ≡ true
 has_itself n = (bytes_eq-Decides n n).1 refl
 
 -- the name of an assignment has an entry
@@ -43,13 +45,13 @@ has_entry k (block_condition p ∷ s) zero a h = absurd cc
 has_entry k (block_condition p ∷ s) (suc i) a h = has_entry (suc k) s i a h
 
 -- an entry in scope is entered
-known : (names : NameMap) (s : Scope) (n : List ℕ) (e : NameEntry) → AreEntered names s → entry_of s n ≡ Some e → entry_in names n ≡ Some e
+known : (names : Names) (s : Scope) (n : List ℕ) (e : NameEntry) → AreEntered names s → entry_of s n ≡ Some e → entry_in names n ≡ Some e
 known names s n e are h =
     let r = entry_stands s n e.0 e.1 h in
     subst (λ (m : List ℕ). entry_in names m ≡ Some e) r.3 (are e.0 r.0 r.1 ∙ ap (λ (p : Option ℕ). Some (e.0, p)) r.2)
 
 -- an assignment in scope is the entry of its name
-entry_here : (names : NameMap) (s : Scope) (i : ℕ) (a : PlainAssignment) → AreEntered names s → slice_get s i ≡ Some (assigned a) → entry_of s a.name ≡ Some (i, predecessors_if_block a.value)
+entry_here : (names : Names) (s : Scope) (i : ℕ) (a : PlainAssignment) → AreEntered names s → slice_get s i ≡ Some (assigned a) → entry_of s a.name ≡ Some (i, predecessors_if_block a.value)
 entry_here names s i a are h =
     let e = has_entry 0 s i a h in
     e.1 ∙ sym (known names s a.name e.0 are e.1) ∙ are i a h
@@ -71,13 +73,13 @@ stood : (s : Scope) (i : ℕ) (a : PlainAssignment) → slice_get s i ≡ Some (
 stood s i a h = rw h (has_itself a.name)
 
 -- the position of a name, if the statement there defines it
-pub position_is : (names : NameMap) (s : Scope) (i : ℕ) (n : List ℕ) → AreEntered names s → is_named s i n ≡ true → Some i ≡ position_of s n
+pub position_is : (names : Names) (s : Scope) (i : ℕ) (n : List ℕ) → AreEntered names s → is_named s i n ≡ true → Some i ≡ position_of s n
 position_is names s i n are h =
     let r = stands s i n h in
     subst (λ (m : List ℕ). Some i ≡ position_of s m) r.2 (rw (entry_here names s i r.0 are r.1) refl)
 
 -- the entry of a name: what was entered, if the statement there defines it
-pub entry_is : (names : NameMap) (s : Scope) (n : List ℕ) (o : Option NameEntry) → AreEntered names s → entry_in names n ≡ o → entry_in_scope s o n ≡ entry_of s n
+pub entry_is : (names : Names) (s : Scope) (n : List ℕ) (o : Option NameEntry) → AreEntered names s → entry_in names n ≡ o → entry_in_scope s o n ≡ entry_of s n
 entry_is names s n None are is = by_entry (entry_of s n) refl
   where
     by_entry : (o : Option NameEntry) → entry_of s n ≡ o → None ≡ o
@@ -103,14 +105,14 @@ entry_is names s n (Some e) are is = by_test (is_named s e.0 n) refl
     by_test false h = by_entry (entry_of s n) h refl
 
 -- whether a name is in scope, by what was entered
-pub is_new : (names : NameMap) (s : Scope) (n : List ℕ) (o : Option NameEntry) → AreEntered names s → entry_in names n ≡ o → is_some (entry_in_scope s o n) ≡ false → position_of s n ≡ None
+pub is_new : (names : Names) (s : Scope) (n : List ℕ) (o : Option NameEntry) → AreEntered names s → entry_in names n ≡ o → is_some (entry_in_scope s o n) ≡ false → position_of s n ≡ None
 is_new names s n o are is h = by_entry (entry_of s n) (rw (entry_is names s n o are is) at h)
   where
     by_entry : (e : Option NameEntry) → is_some e ≡ false → option_map (λ (x : NameEntry). x.0) e ≡ None
     by_entry None h = refl
     by_entry (Some e) h = absurd cc
 
-pub is_old : (names : NameMap) (s : Scope) (n : List ℕ) (o : Option NameEntry) → AreEntered names s → entry_in names n ≡ o → is_some (entry_in_scope s o n) ≡ true → (i : ℕ) × (position_of s n ≡ Some i)
+pub is_old : (names : Names) (s : Scope) (n : List ℕ) (o : Option NameEntry) → AreEntered names s → entry_in names n ≡ o → is_some (entry_in_scope s o n) ≡ true → (i : ℕ) × (position_of s n ≡ Some i)
 is_old names s n o are is h = by_entry (entry_of s n) (rw (entry_is names s n o are is) at h)
   where
     by_entry : (e : Option NameEntry) → is_some e ≡ true → (i : ℕ) × (option_map (λ (x : NameEntry). x.0) e ≡ Some i)
@@ -126,7 +128,7 @@ unfolding new_name_at
 not_begun n p i h = rw h refl
 
 -- a new name may be entered with any position
-pub enters : (old new : NameMap) (s : Scope) (n : List ℕ) (e : NameEntry) → AreEntered old s → Adds old new n e → position_of s n ≡ None → AreEntered new s
+pub enters : (old new : Names) (s : Scope) (n : List ℕ) (e : NameEntry) → AreEntered old s → Adds old new n e → position_of s n ≡ None → AreEntered new s
 enters old new s n e are adds fresh i a h = adds a.name ∙ by_name (bytes_eq n a.name) refl
   where
     by_name : (b : Bool) → bytes_eq n a.name ≡ b → (if b then Some e else entry_in old a.name) ≡ Some (i, predecessors_if_block a.value)
@@ -136,7 +138,7 @@ enters old new s n e are adds fresh i a h = adds a.name ∙ by_name (bytes_eq n 
     by_name false other = are i a h
 
 -- one more definition, of a new name
-pub names_push : (old new : NameMap) (s : Scope) (a : PlainAssignment) (v : ℕ) (predecessors : Option ℕ) → AreEntered old s → Adds old new a.name (v, predecessors)
+pub names_push : (old new : Names) (s : Scope) (a : PlainAssignment) (v : ℕ) (predecessors : Option ℕ) → AreEntered old s → Adds old new a.name (v, predecessors)
     → position_of s a.name ≡ None → v ≡ length s → predecessors ≡ predecessors_if_block a.value → AreEntered new (s ++ assigned a ∷ [])
 names_push old new s a v predecessors are adds fresh last same i b h = by_place (get_push s (assigned a) (assigned b) i h)
   where
@@ -148,7 +150,7 @@ names_push old new s a v predecessors are adds fresh last same i b h = by_place 
         (adds a.name ∙ rw (has_itself a.name, last, same, now.0) refl)
 
 -- one more path condition
-pub names_pass : (names : NameMap) (s : Scope) (x : PlainStatement) → AreEntered names s → is_condition x ≡ true → AreEntered names (s ++ x ∷ [])
+pub names_pass : (names : Names) (s : Scope) (x : PlainStatement) → AreEntered names s → is_condition x ≡ true → AreEntered names (s ++ x ∷ [])
 names_pass names s x are c i a h = by_place (get_push s x (assigned a) i h)
   where
     by_place : (slice_get s i ≡ Some (assigned a)) ⊎ ((i ≡ length s) × (x ≡ assigned a)) → entry_in names a.name ≡ Some (i, predecessors_if_block a.value)

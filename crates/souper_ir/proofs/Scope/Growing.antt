@@ -8,7 +8,8 @@ use Rattle.souper_graph.specs.Faults.{IsAssigned, IsBlockRhs, IsBlock, IsMet, Ar
 use Rattle.souper_graph.specs.WellFormed.{predecessors_of_rhs, predecessors_of, AgreesRhs, AgreesWithBlock, Closed}
 use Rattle.souper_graph.specs.Syntax.Spelling.{Scope, predecessors_if_block, entry_from, entry_of, position_of}
 use Rattle.souper_ir.specs.Laws.Peeks.{some_is}
-use Rattle.souper_ir.proofs.Scope.Names.{Entry, or_else, entry_push, entry_pass, no_entry}
+use Rattle.souper_ir.specs.TableView.{NameEntry, or_else}
+use Rattle.souper_ir.proofs.Scope.Names.{entry_push, entry_pass, no_entry}
 
 -- ---- names
 
@@ -59,8 +60,8 @@ Named s = (p : ℕ) (a : PlainAssignment) → slice_get s p ≡ Some (assigned a
 pub nothing_named : Named []
 nothing_named p v e = absurd cc
 
-pub get_push : (ss : Scope) (s t : PlainStatement) (p : ℕ) → slice_get (ss ++ s ∷ []) p ≡ Some t → (slice_get ss p ≡ Some t) ⊎ ((p ≡ length ss) × (s ≡ t))
-get_push [] s t zero e = inr (refl, cc)
+pub get_push : {A : Type 0} (ss : List A) (s t : A) (p : ℕ) → slice_get (ss ++ s ∷ []) p ≡ Some t → (slice_get ss p ≡ Some t) ⊎ ((p ≡ length ss) × (s ≡ t))
+get_push [] s t zero e = inr (refl, some_is e)
 get_push [] s t (suc p) e = absurd cc
 get_push (x ∷ ss) s t zero e = inl e
 get_push (x ∷ ss) s t (suc p) e = deeper (get_push ss s t p e)
@@ -69,7 +70,7 @@ get_push (x ∷ ss) s t (suc p) e = deeper (get_push ss s t p e)
     deeper (inl h) = inl h
     deeper (inr h) = inr (ap suc h.0, h.1)
 
-or_some : (o : Option Entry) (e : Entry) (d : Option Entry) → o ≡ Some e → or_else o d ≡ Some e
+or_some : (o : Option NameEntry) (e : NameEntry) (d : Option NameEntry) → o ≡ Some e → or_else o d ≡ Some e
 or_some o e d h = rw h refl
 
 pub named_push : (ss : Scope) (a : PlainAssignment) → Named ss → position_of ss a.name ≡ None → Named (ss ++ assigned a ∷ [])

@@ -4,16 +4,9 @@ use Rattle.std.specs.Prelude.{bytes_eq, option_map, if◌then◌else◌}
 use Rattle.souper_graph.specs.Values.{PlainAssignment, PlainStatement, assigned, condition, block_condition}
 use Rattle.souper_graph.specs.Uses.{is_condition}
 use Rattle.souper_graph.specs.Syntax.Spelling.{Scope, predecessors_if_block, entry_from}
+use Rattle.souper_ir.specs.TableView.{NameEntry, or_else}
 
--- a position, and the number of predecessors of the block there
-abbrev pub Entry : Type 0
-Entry = ℕ × Option ℕ
-
-abbrev pub or_else : Option Entry → Option Entry → Option Entry
-or_else None o = o
-or_else (Some i) o = Some i
-
-found_or : (b : Bool) (k : Entry) (o p q : Option Entry) → or_else o p ≡ q → or_else (if b then Some k else o) p ≡ (if b then Some k else q)
+found_or : (b : Bool) (k : NameEntry) (o p q : Option NameEntry) → or_else o p ≡ q → or_else (if b then Some k else o) p ≡ (if b then Some k else q)
 found_or true k o p q e = refl
 found_or false k o p q e = e
 
@@ -37,10 +30,10 @@ pub entry_pass : (k : ℕ) (ss : Scope) (s : PlainStatement) (n : List ℕ) → 
 entry_pass k [] (assigned a) n h = absurd cc
 entry_pass k [] (condition p) n h = refl
 entry_pass k [] (block_condition p) n h = refl
-entry_pass k (assigned b ∷ ss) s n h = ap (λ (o : Option Entry). if bytes_eq b.name n then Some (k, predecessors_if_block b.value) else o) (entry_pass (suc k) ss s n h)
+entry_pass k (assigned b ∷ ss) s n h = ap (λ (o : Option NameEntry). if bytes_eq b.name n then Some (k, predecessors_if_block b.value) else o) (entry_pass (suc k) ss s n h)
 entry_pass k (condition p ∷ ss) s n h = entry_pass (suc k) ss s n h
 entry_pass k (block_condition p ∷ ss) s n h = entry_pass (suc k) ss s n h
 
-pub no_entry : (o : Option Entry) → option_map (λ (e : Entry). e.0) o ≡ None → o ≡ None
+pub no_entry : (o : Option NameEntry) → option_map (λ (e : NameEntry). e.0) o ≡ None → o ≡ None
 no_entry None h = refl
 no_entry (Some e) h = absurd cc

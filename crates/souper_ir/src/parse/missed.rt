@@ -1,18 +1,19 @@
-//! The values that look-ups missed in the table of recent values.
+//! A second table of values, for look-ups that miss the table of recent values.
 
 use souper_graph::ast::{Id, ValueId};
 use std::alloc::Global;
 
 /// A table of values by a hash of their names, for an item in which many look-ups miss the table of recent values. It is asked before the
-/// map of all names.
+/// names of the item.
 ///
-/// It takes no memory until some hundred look-ups have gone to the map, and grows as more do: they have paid for its room. A slot has one
-/// value of the item, or position 0 if none was put: the name of the value has to be compared. Two names of one slot drive each other out,
-/// and a look-up that misses goes to the map. So no text makes a look-up take more than one comparison longer than one in the map.
+/// It takes no memory until 257 look-ups have missed it, and grows as more do: they have paid for its room. Then it has what they looked
+/// up, and what is defined. A slot has one value of the item, or position 0 if none was put: the name of the value has to be compared. Two
+/// names of one slot drive each other out, and the names are asked where a look-up misses. So no text makes a look-up take more than one
+/// comparison longer than one in the names.
 #[derive(Debug, Drop)]
 pub(crate) struct Missed {
     alloc: Global,
-    // The look-ups that went to the map since the table grew.
+    // The look-ups that missed since the table grew.
     misses: usize,
     values: Vec<ValueId>,
 }
@@ -20,8 +21,8 @@ pub(crate) struct Missed {
 // The number of slots at first.
 const FIRST: usize = 1024;
 
-// A table grows after one miss for four slots and this number.
-const FEW: usize = 256;
+// A table grows after more look-ups than these and one for every four slots have missed it.
+const MISSES: usize = 256;
 
 // 2 to the 64th over the golden ratio: the highest bits of a product with it depend on all bits of a number (Knuth's multiplicative
 // hashing).
@@ -101,12 +102,13 @@ impl Missed {
         }
     }
 
-    /// Puts a value that was found in the map. The item has that many statements so far.
+    /// Puts a value that a look-up missed. The item has that many statements so far.
     #[inline(always)]
     pub(crate) fn put_missed(&mut self, name: &str, value: ValueId, statements: usize) {
         self.misses = self.misses.saturating_add(1);
         let slots = self.values.len();
-        if self.misses > slots / 4 + FEW && slots / 2 < statements {
+        // So it has at most eight slots a statement, if it is not at its first size.
+        if self.misses > slots / 4 + MISSES && slots / 2 < statements {
             self.grow();
         }
         self.put(name, value);

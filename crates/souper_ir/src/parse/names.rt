@@ -1,5 +1,6 @@
 //! The names of an item.
 
+use crate::parse::table::{NameTable, slot_of};
 use souper_graph::ast::ValueId;
 use std::alloc::{AllocError, Global};
 use std::collections::BTreeMap;
@@ -10,19 +11,23 @@ pub(crate) type Entry = (ValueId, Option<u32>);
 /// Each name of an item with its entry.
 #[derive(Debug, Drop)]
 pub(crate) struct Names<'a> {
+    // The entries of a small item. Otherwise it is empty.
+    few: NameTable<'a>,
+    // The entries of any other item.
     entries: BTreeMap<&'a str, Entry>,
     // The name that was entered last, with its entry.
     last: Option<(&'a str, ValueId, Option<u32>)>,
 }
 
 impl<'a> Names<'a> {
-    ghost use Rattle.std.specs.Prelude.{◌≡◌, [], IfOk, OnOk};
-    ghost use Rattle.souper_ir.specs.NamesView.{AreNames, IsLast, entry_in, Adds};
+    ghost use Rattle.std.specs.Prelude.{◌≡◌, ℕ, List, [], Some, IfOk, OnOk};
+    ghost use Rattle.souper_ir.specs.NamesView.{AreNames, IsLast, entry_in, entry_in_map, Adds, AddsToMap};
 
     pub(crate) fn new(alloc: Global) -> Self
         ensures { AreNames result [] }
     {
         Names {
+            few: NameTable::new(alloc),
             entries: BTreeMap::new(alloc),
             last: None,
         }
@@ -30,21 +35,69 @@ impl<'a> Names<'a> {
 
     /// The entry of a name.
     pub(crate) fn get(&self, name: &str) -> Option<Entry>
-        ensures { result ≡ entry_in self.now.entries name.now }
+        ensures { result ≡ entry_in self.now name.now }
     {
-        self.entries.get(name).copied()
+        match self.few.get(slot_of(name), name) {
+            Some(entry) => Some(entry),
+            None => self.entries.get(name).copied(),
+        }
     }
 
     /// Enters a name, and returns the entry that it had.
+    #[inline(always)]
     pub(crate) fn insert(
         &mut self,
         name: &'a str,
         value: ValueId,
         predecessors: Option<u32>,
     ) -> Result<Option<Entry>, AllocError>
-        ensures replaced { IfOk result (λ replaced. replaced ≡ entry_in self.old.entries name.now) }
-        ensures entered { OnOk result (Adds self.old.entries self.new.entries name.now (value, predecessors)) }
-        ensures last { OnOk result (IsLast self.new.last self.new.entries) }
+        ensures replaced { IfOk result (λ replaced. replaced ≡ entry_in self.old name.now) }
+        ensures entered { OnOk result (Adds self.old self.new name.now (value, predecessors)) }
+        ensures last { OnOk result (IsLast self.new.last self.new) }
+    {
+        if self.entries.is_empty() {
+            return self.insert_into_table(name, value, predecessors);
+        }
+        self.leave_table()?;
+        self.insert_into_map(name, value, predecessors)
+    }
+
+    // The same, where the map is empty: into the table, if it has room.
+    #[inline(never)]
+    fn insert_into_table(
+        &mut self,
+        name: &'a str,
+        value: ValueId,
+        predecessors: Option<u32>,
+    ) -> Result<Option<Entry>, AllocError>
+        requires { (n : List ℕ) → entry_in_map self.old.entries n ≡ None }
+        ensures replaced { IfOk result (λ replaced. replaced ≡ entry_in self.old name.now) }
+        ensures entered { OnOk result (Adds self.old self.new name.now (value, predecessors)) }
+        ensures last { OnOk result (IsLast self.new.last self.new) }
+    {
+        let slot = slot_of(name);
+        if !self.few.has_room(slot) {
+            self.move_names()?;
+            return self.insert_into_map(name, value, predecessors);
+        }
+        let replaced = self.few.get(slot, name);
+        self.few.put(slot, name, (value, predecessors))?;
+        self.last = Some((name, value, predecessors));
+        Ok(replaced)
+    }
+
+    // Enters a name into the map, and returns the entry that it had there.
+    #[inline(never)]
+    fn insert_into_map(
+        &mut self,
+        name: &'a str,
+        value: ValueId,
+        predecessors: Option<u32>,
+    ) -> Result<Option<Entry>, AllocError>
+        ensures replaced { IfOk result (λ replaced. replaced ≡ entry_in_map self.old.entries name.now) }
+        ensures entered { OnOk result (AddsToMap self.old.entries self.new.entries name.now (value, predecessors)) }
+        ensures last { OnOk result (self.new.last ≡ Some (name.entry, value, predecessors)) }
+        ensures few { self.new.few ≡ self.old.few }
     {
         match self.entries.insert(name, (value, predecessors)) {
             Ok(replaced) => {
@@ -55,7 +108,33 @@ impl<'a> Names<'a> {
         }
     }
 
-    /// Enters a name. The map is not searched if this is what was entered last.
+    // Empties the table: its entries are in the map then.
+    #[inline(always)]
+    fn leave_table(&mut self) -> Result<(), AllocError>
+        ensures empty { OnOk result (self.new.few ≡ []) }
+        ensures same { OnOk result ((n : List ℕ) → entry_in self.new n ≡ entry_in self.old n) }
+    {
+        if self.few.len() > 0 {
+            self.move_names()?;
+        }
+        Ok(())
+    }
+
+    #[cold]
+    #[inline(never)]
+    fn move_names(&mut self) -> Result<(), AllocError>
+        ensures empty { OnOk result (self.new.few ≡ []) }
+        ensures same { OnOk result ((n : List ℕ) → entry_in self.new n ≡ entry_in self.old n) }
+    {
+        for index in 0..self.few.len() {
+            let (name, (value, predecessors)) = self.few.nth(index);
+            self.insert_into_map(name, value, predecessors)?;
+        }
+        self.few.clear();
+        Ok(())
+    }
+
+    /// Enters a name. The names are not searched if this is what was entered last.
     #[inline(always)]
     pub(crate) fn enter(
         &mut self,
@@ -63,9 +142,9 @@ impl<'a> Names<'a> {
         value: ValueId,
         predecessors: Option<u32>,
     ) -> Result<(), AllocError>
-        requires { IsLast self.old.last self.old.entries }
-        ensures entered { OnOk result (Adds self.old.entries self.new.entries name.now (value, predecessors)) }
-        ensures last { OnOk result (IsLast self.new.last self.new.entries) }
+        requires { IsLast self.old.last self.old }
+        ensures entered { OnOk result (Adds self.old self.new name.now (value, predecessors)) }
+        ensures last { OnOk result (IsLast self.new.last self.new) }
     {
         if let Some((last, of, count)) = self.last {
             if of == value && count == predecessors && last == name {
@@ -82,6 +161,7 @@ impl<'a> Names<'a> {
     pub(crate) fn clear(&mut self)
         ensures { AreNames self.new [] }
     {
+        self.few.clear();
         self.entries.clear();
         self.last = None;
     }

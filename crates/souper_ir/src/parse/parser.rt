@@ -58,9 +58,9 @@ pub struct Parser<'a> {
     statements: Arena<Statement>,
     // The names that they define.
     names: Names<'a>,
-    // Is asked before the map: most uses are of a value that was defined last.
+    // Is asked before the names: most uses are of a value that was defined last.
     recent: Recent,
-    // Is asked after it, in a large item.
+    // Is asked after it, in an item in which many look-ups miss it.
     missed: Missed,
     // The memory of names that are dropped.
     spare: Spare,
@@ -430,13 +430,13 @@ impl<'a> Parser<'a> {
     {
         match self.if_named(self.missed.get(name), name) {
             Some(value) => Some(value),
-            None => self.value_in_map(name),
+            None => self.value_in_scope(name),
         }
     }
 
-    // The value of a name that both tables lack.
+    // The value of a name that both tables of values lack.
     #[inline(always)]
-    fn value_in_map(&mut self, name: &str) -> Option<ValueId>
+    fn value_in_scope(&mut self, name: &str) -> Option<ValueId>
         requires { self.old.failed ≡ None }
         ensures value { result ≡ position_of self.old.scope name.now }
         ensures kept { self.new ≡ self.old }
@@ -467,7 +467,7 @@ impl<'a> Parser<'a> {
             Ok(None) => Ok(()),
             Ok(replaced) => {
                 if in_scope(&self.statements, replaced, name).is_some() {
-                    // The map lacks the earlier definition now, so the cause is set first.
+                    // The names lack the earlier definition now, so the cause is set first.
                     let offset = self.offset;
                     self.failed = Some(Failure::Refused(offset));
                     return Err(self.fail_at(offset, Message::CannotRedefine(name)));
@@ -501,7 +501,7 @@ impl<'a> Parser<'a> {
                 self.missed.put(name, value);
                 Ok(())
             }
-            // The map lacks the definition, so the cause is set first.
+            // The names lack the definition, so the cause is set first.
             Err(_) => {
                 self.failed = Some(Failure::Memory);
                 Err(ReadError::Memory)

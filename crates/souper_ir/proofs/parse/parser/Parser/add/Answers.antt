@@ -9,7 +9,7 @@ invariant_of-self c = record {
   offset = c.self.invariant.offset;
   failed = c.self.invariant.failed;
   names = λ live. let are = c.self.invariant.names live in record {
-    entered = rw (c.in-Ok.ensures.grows, map-append) (names_pass c.self.inside.names.entries (map view_statement c.self.inside.statements) (view_statement c.args.condition) are.entered c.requires.unnamed);
+    entered = rw (c.in-Ok.ensures.grows, map-append) (names_pass c.self.inside.names (map view_statement c.self.inside.statements) (view_statement c.args.condition) are.entered c.requires.unnamed);
     last = are.last;
   };
 }

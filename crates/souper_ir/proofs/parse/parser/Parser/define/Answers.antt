@@ -11,7 +11,7 @@ invariant_of-self-in-Ok-enter c = record {
   offset = c.self.invariant.offset;
   failed = c.self.invariant.failed;
   names = λ live. record {
-    entered = rw (c.in-Ok.ensures.grows, c.into.ensures, map-append) (names_push c.self.inside.names.entries c.enter.new.self.entries (map view_statement c.self.inside.statements) (view_assignment c.args.assignment) _ _
+    entered = rw (c.in-Ok.ensures.grows, c.into.ensures, map-append) (names_push c.self.inside.names c.enter.new.self (map view_statement c.self.inside.statements) (view_assignment c.args.assignment) _ _
         (c.self.invariant.names live).entered
         (rw c.requires.named c.in-Ok-enter.ensures.entered)
         (rw c.requires.named (subst (λ (p : Parsing). position_of p.scope c.args.name.now ≡ None) (sym c.self.view_is) c.requires.fresh))

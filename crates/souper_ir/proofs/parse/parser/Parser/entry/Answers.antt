@@ -11,4 +11,4 @@ pub returns : goal.returns
 returns c =
     let are = c.self.invariant.names (live_inside c.self.inside.failed (subst (λ (p : Parsing). p.failed ≡ None) (sym c.self.view_is) c.requires)) in
     c.in_scope.ensures ∙ subst (λ (p : Parsing). entry_in_scope (map view_statement c.self.inside.statements) c.get.result c.args.name.now ≡ entry_of p.scope c.args.name.now) c.self.view_is
-    (entry_is c.self.inside.names.entries (map view_statement c.self.inside.statements) c.args.name.now c.get.result are.entered (sym c.get.ensures))
+    (entry_is c.self.inside.names (map view_statement c.self.inside.statements) c.args.name.now c.get.result are.entered (sym c.get.ensures))

@@ -10,4 +10,4 @@ pub returns-in-Some : goal.returns-in-Some
 returns-in-Some c =
     let are = c.self.invariant.names (live_inside c.self.inside.failed (subst (λ (p : Parsing). p.failed ≡ None) (sym c.self.view_is) c.requires)) in
     subst (λ (p : Parsing). position_of p.scope c.args.name.now ≡ Some c.in-Some.value) c.self.view_is
-    (sym (position_is c.self.inside.names.entries (map view_statement c.self.inside.statements) c.in-Some.value c.args.name.now are.entered (sym c.if-is_named.ensures)))
+    (sym (position_is c.self.inside.names (map view_statement c.self.inside.statements) c.in-Some.value c.args.name.now are.entered (sym c.if-is_named.ensures)))
