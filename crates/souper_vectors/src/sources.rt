@@ -105,6 +105,19 @@ pub fn chain(rt: &impl Abort, alloc: Global, doublings: u32) -> String {
     text
 }
 
+/// Definitions whose names have this end: a block and its phi, and `count` sums of the value before and of one halfway back.
+pub fn sums(rt: &impl Abort, alloc: Global, count: u32, end: &str) -> String {
+    let mut text = String::new(alloc);
+    let line = format!(in alloc; "%b{end} = block 2\n%x0{end} = phi %b{end}, 0, 1\n");
+    push(rt, &mut text, line.expect(rt, "memory"));
+    for k in 1..=count {
+        let (before, half) = (k - 1, k / 2);
+        let line = format!(in alloc; "%x{k}{end} = add %x{before}{end}, %x{half}{end}\n");
+        push(rt, &mut text, line.expect(rt, "memory"));
+    }
+    text
+}
+
 /// A thousand definitions, from `%0` to `%999`, a line each.
 pub fn thousand(rt: &impl Abort, alloc: Global) -> String {
     let mut lines = String::new(alloc);

@@ -2,5 +2,6 @@
 mod formatted;
 mod kept;
 mod memory;
+mod names;
 mod orders;
 mod renaming;
