@@ -16,6 +16,8 @@ mod items;
 #[cfg(test)]
 mod met;
 #[cfg(test)]
+mod names;
+#[cfg(test)]
 mod parsers;
 #[cfg(test)]
 mod records;

@@ -17,8 +17,8 @@ fn fails(rt: &impl Abort, alloc: Global, error: Option<ParseError>) -> Result<()
     Ok(())
 }
 
-// The parser returns out of memory from every call.
-fn stays_failed(rt: &impl Abort, alloc: Global, parser: &mut Parser<'_>) -> Result<(), Fail> {
+/// The parser returns out of memory from every call.
+pub fn stays_failed(rt: &impl Abort, alloc: Global, parser: &mut Parser<'_>) -> Result<(), Fail> {
     fails(rt, alloc, LeftHandSide::parse(parser).err())?;
     fails(rt, alloc, Statement::peek(parser).err())?;
     fails(rt, alloc, <Vec<Assignment>>::parse(parser).err())?;

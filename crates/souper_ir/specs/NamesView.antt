@@ -19,7 +19,7 @@ entry_in_map entries n = get_by (λ (k : Bor (List ℕ)). slice_cmp nat_cmp n k.
 
 -- the entry of a name: the table is asked first
 abbrev pub entry_in : Names → List ℕ → Option NameEntry
-entry_in names n = or_else (last_entry names.few n) (entry_in_map names.entries n)
+entry_in names n = or_else (last_entry names.table n) (entry_in_map names.entries n)
 
 -- the name has this entry now, and the others have theirs
 abbrev pub AddsToMap : NameMap → NameMap → List ℕ → NameEntry → Type 0

@@ -3,11 +3,12 @@
 mod attributes;
 mod error;
 mod files;
+mod hash;
+mod heads;
 mod item;
 mod last_lines;
 mod memory;
 mod message;
-mod missed;
 mod names;
 mod numbers;
 mod operands;

@@ -105,14 +105,19 @@ pub fn chain(rt: &impl Abort, alloc: Global, doublings: u32) -> String {
     text
 }
 
-/// Definitions whose names have this end: a block and its phi, and `count` sums of the value before and of one halfway back.
-pub fn sums(rt: &impl Abort, alloc: Global, count: u32, end: &str) -> String {
+/// Definitions whose names start and end with these words: a block and its phi, and `count` sums of the value before and of one halfway back.
+pub fn sums(rt: &impl Abort, alloc: Global, count: u32, words: (&str, &str)) -> String {
+    let (start, end) = words;
     let mut text = String::new(alloc);
-    let line = format!(in alloc; "%b{end} = block 2\n%x0{end} = phi %b{end}, 0, 1\n");
+    let line = format!(in alloc;
+        "%{start}b{end} = block 2\n%{start}x0{end} = phi %{start}b{end}, 0, 1\n"
+    );
     push(rt, &mut text, line.expect(rt, "memory"));
     for k in 1..=count {
         let (before, half) = (k - 1, k / 2);
-        let line = format!(in alloc; "%x{k}{end} = add %x{before}{end}, %x{half}{end}\n");
+        let line = format!(in alloc;
+            "%{start}x{k}{end} = add %{start}x{before}{end}, %{start}x{half}{end}\n"
+        );
         push(rt, &mut text, line.expect(rt, "memory"));
     }
     text

@@ -1,6 +1,7 @@
 //! The names of an item.
 
-use crate::parse::table::{NameTable, slot_of};
+use crate::parse::hash::hash_of;
+use crate::parse::table::NameTable;
 use souper_graph::ast::ValueId;
 use std::alloc::{AllocError, Global};
 use std::collections::BTreeMap;
@@ -8,12 +9,16 @@ use std::collections::BTreeMap;
 /// A value and, if it is a block, its number of predecessors.
 pub(crate) type Entry = (ValueId, Option<u32>);
 
+// The most entries in a slot before a new name. The name may be entered once more, as a block with its count. So no text makes a look-up in
+// the table compare its name with more than 17 entries.
+const MOST: usize = 15;
+
 /// Each name of an item with its entry.
 #[derive(Debug, Drop)]
 pub(crate) struct Names<'a> {
-    // The entries of a small item. Otherwise it is empty.
-    few: NameTable<'a>,
-    // The entries of any other item.
+    // The entries, until a slot has too many.
+    table: NameTable<'a>,
+    // All entries from then on. Otherwise it is empty.
     entries: BTreeMap<&'a str, Entry>,
     // The name that was entered last, with its entry.
     last: Option<(&'a str, ValueId, Option<u32>)>,
@@ -27,7 +32,7 @@ impl<'a> Names<'a> {
         ensures { AreNames result [] }
     {
         Names {
-            few: NameTable::new(alloc),
+            table: NameTable::new(alloc),
             entries: BTreeMap::new(alloc),
             last: None,
         }
@@ -37,7 +42,7 @@ impl<'a> Names<'a> {
     pub(crate) fn get(&self, name: &str) -> Option<Entry>
         ensures { result ≡ entry_in self.now name.now }
     {
-        match self.few.get(slot_of(name), name) {
+        match self.table.get(hash_of(name), name) {
             Some(entry) => Some(entry),
             None => self.entries.get(name).copied(),
         }
@@ -62,7 +67,7 @@ impl<'a> Names<'a> {
         self.insert_into_map(name, value, predecessors)
     }
 
-    // The same, where the map is empty: into the table, if it has room.
+    // The same, where the map is empty: into the table, if the slot of the name does not have too many entries. Otherwise all go to the map.
     #[inline(never)]
     fn insert_into_table(
         &mut self,
@@ -75,13 +80,13 @@ impl<'a> Names<'a> {
         ensures entered { OnOk result (Adds self.old self.new name.now (value, predecessors)) }
         ensures last { OnOk result (IsLast self.new.last self.new) }
     {
-        let slot = slot_of(name);
-        if !self.few.has_room(slot) {
+        let hash = hash_of(name);
+        let (replaced, compared) = self.table.find(hash, name);
+        if compared > MOST {
             self.move_names()?;
             return self.insert_into_map(name, value, predecessors);
         }
-        let replaced = self.few.get(slot, name);
-        self.few.put(slot, name, (value, predecessors))?;
+        self.table.put(hash, name, (value, predecessors))?;
         self.last = Some((name, value, predecessors));
         Ok(replaced)
     }
@@ -97,7 +102,7 @@ impl<'a> Names<'a> {
         ensures replaced { IfOk result (λ replaced. replaced ≡ entry_in_map self.old.entries name.now) }
         ensures entered { OnOk result (AddsToMap self.old.entries self.new.entries name.now (value, predecessors)) }
         ensures last { OnOk result (self.new.last ≡ Some (name.entry, value, predecessors)) }
-        ensures few { self.new.few ≡ self.old.few }
+        ensures table { self.new.table ≡ self.old.table }
     {
         match self.entries.insert(name, (value, predecessors)) {
             Ok(replaced) => {
@@ -108,13 +113,13 @@ impl<'a> Names<'a> {
         }
     }
 
-    // Empties the table: its entries are in the map then.
+    // Empties the table: its entries are in the map then. Only if they could not be moved before, both have entries.
     #[inline(always)]
     fn leave_table(&mut self) -> Result<(), AllocError>
-        ensures empty { OnOk result (self.new.few ≡ []) }
+        ensures empty { OnOk result (self.new.table ≡ []) }
         ensures same { OnOk result ((n : List ℕ) → entry_in self.new n ≡ entry_in self.old n) }
     {
-        if self.few.len() > 0 {
+        if self.table.len() > 0 {
             self.move_names()?;
         }
         Ok(())
@@ -123,14 +128,14 @@ impl<'a> Names<'a> {
     #[cold]
     #[inline(never)]
     fn move_names(&mut self) -> Result<(), AllocError>
-        ensures empty { OnOk result (self.new.few ≡ []) }
+        ensures empty { OnOk result (self.new.table ≡ []) }
         ensures same { OnOk result ((n : List ℕ) → entry_in self.new n ≡ entry_in self.old n) }
     {
-        for index in 0..self.few.len() {
-            let (name, (value, predecessors)) = self.few.nth(index);
+        for index in 0..self.table.len() {
+            let (name, (value, predecessors)) = self.table.nth(index);
             self.insert_into_map(name, value, predecessors)?;
         }
-        self.few.clear();
+        self.table.clear();
         Ok(())
     }
 
@@ -161,7 +166,7 @@ impl<'a> Names<'a> {
     pub(crate) fn clear(&mut self)
         ensures { AreNames self.new [] }
     {
-        self.few.clear();
+        self.table.clear();
         self.entries.clear();
         self.last = None;
     }

@@ -19,7 +19,6 @@ ghost use Rattle.souper_ir.specs.Reading.{Fails, FailsForMemory, Gives, IsRead, 
 use crate::parse::error::{ParseError, ReadError};
 use crate::parse::memory::Memory;
 use crate::parse::message::Message;
-use crate::parse::missed::Missed;
 use crate::parse::names::{Entry, Names};
 use crate::parse::recent::Recent;
 use crate::parse::spare::Spare;
@@ -60,8 +59,6 @@ pub struct Parser<'a> {
     names: Names<'a>,
     // Is asked before the names: most uses are of a value that was defined last.
     recent: Recent,
-    // Is asked after it, in an item in which many look-ups miss it.
-    missed: Missed,
     // The memory of names that are dropped.
     spare: Spare,
     failed: Option<Failure>,
@@ -108,7 +105,6 @@ impl<'a> Parser<'a> {
             statements: Arena::new(alloc),
             names: Names::new(alloc),
             recent: Recent::new(),
-            missed: Missed::new(alloc),
             spare,
             failed: None,
         }
@@ -396,54 +392,21 @@ impl<'a> Parser<'a> {
         in_scope(&self.statements, self.names.get(name), name)
     }
 
-    // The value in a slot of a table, if its name is this one.
-    #[inline(always)]
-    fn if_named(&self, slot: Option<ValueId>, name: &str) -> Option<ValueId>
-        requires { self.now.failed ≡ None }
-        ensures { IfSome result (λ value. position_of self.now.scope name.now ≡ Some value) }
-    {
-        match slot {
-            Some(value) if is_named(&self.statements, value, name) => Some(value),
-            _ => None,
-        }
-    }
-
     /// The value of a name.
     #[inline(always)]
-    pub(crate) fn value_named(&mut self, name: &str) -> Option<ValueId>
-        requires { self.old.failed ≡ None }
-        ensures value { result ≡ position_of self.old.scope name.now }
-        ensures kept { self.new ≡ self.old }
+    pub(crate) fn value_named(&self, name: &str) -> Option<ValueId>
+        requires { self.now.failed ≡ None }
+        ensures { result ≡ position_of self.now.scope name.now }
     {
-        match self.if_named(self.recent.get(name), name) {
-            Some(value) => Some(value),
-            None => self.older_value(name),
+        if let Some(value) = self.recent.get(name) {
+            if is_named(&self.statements, value, name) {
+                return Some(value);
+            }
         }
-    }
-
-    // The value of a name that the table of recent values lacks.
-    #[inline(never)]
-    fn older_value(&mut self, name: &str) -> Option<ValueId>
-        requires { self.old.failed ≡ None }
-        ensures value { result ≡ position_of self.old.scope name.now }
-        ensures kept { self.new ≡ self.old }
-    {
-        match self.if_named(self.missed.get(name), name) {
-            Some(value) => Some(value),
-            None => self.value_in_scope(name),
+        match self.entry(name) {
+            Some((value, _)) => Some(value),
+            None => None,
         }
-    }
-
-    // The value of a name that both tables of values lack.
-    #[inline(always)]
-    fn value_in_scope(&mut self, name: &str) -> Option<ValueId>
-        requires { self.old.failed ≡ None }
-        ensures value { result ≡ position_of self.old.scope name.now }
-        ensures kept { self.new ≡ self.old }
-    {
-        let (value, _) = self.entry(name)?;
-        self.missed.put_missed(name, value, self.statements.len());
-        Some(value)
     }
 
     /// The block of a name, and its number of predecessors.
@@ -498,7 +461,6 @@ impl<'a> Parser<'a> {
         match self.names.enter(name, value, predecessors) {
             Ok(_) => {
                 self.recent.put(name, value);
-                self.missed.put(name, value);
                 Ok(())
             }
             // The names lack the definition, so the cause is set first.
@@ -529,7 +491,6 @@ impl<'a> Parser<'a> {
         ensures empty { self.new ≡ record self.old { scope = [] } }
     {
         self.names.clear();
-        self.missed.clear();
         // So no more than half of the room stays unused, unless the last item came back, so that this one is likely to be dropped too.
         if self.statements.len() < ROOM / 2 && !self.spare.is_used() {
             self.statements.shrink_to_fit();

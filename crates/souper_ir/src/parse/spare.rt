@@ -12,7 +12,8 @@ pub(crate) struct Spare {
     used: bool,
 }
 
-// No room for more statements is kept, nor more names, nor one with more bytes. So what is kept is small, whatever items there were.
+// The most statements whose room is kept, the most names, and the most bytes of a name. So the memory that is kept is small, whatever items
+// there were.
 const MOST: usize = 64;
 
 impl Spare {

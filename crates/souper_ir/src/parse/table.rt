@@ -1,8 +1,11 @@
-//! A table of the names of a small item.
-ghost use Rattle.std.specs.Prelude.{◌≡◌, ◌<◌, ◌^◌, ◌++◌, ◌∷◌, [], length, OnOk};
+//! A table of the names of an item.
+ghost use Rattle.std.specs.Prelude.{◌≡◌, ◌<◌, ◌++◌, ◌∷◌, [], length, IfOk, OnOk};
 ghost use Rattle.std.specs.List.{slice_get};
-ghost use Rattle.souper_ir.specs.TableView.{slot, before_last, last_entry};
+ghost use Rattle.souper_ir.specs.HashView.{name_hash};
+ghost use Rattle.souper_ir.specs.TableView.{last_entry};
 
+use crate::parse::hash::hash_of;
+use crate::parse::heads::Heads;
 use crate::parse::names::Entry;
 use std::alloc::{AllocError, Global};
 use std::marker::Model;
@@ -14,17 +17,15 @@ struct Known<'a> {
     entry: Entry,
     // The number of entries up to the last one before it in its slot, or 0.
     before: usize,
-    // Its number in the chain of its slot.
-    number: usize,
 }
 
 /// The entries that were put, in order: a hash table with separate chaining, in which the entries of a slot are a chain from the last to the
-/// first.
+/// first. It grows with its entries.
 #[derive(Debug, Drop)]
 pub(crate) struct NameTable<'a> {
+    alloc: Global,
     known: Vec<Known<'a>>,
-    // For each slot, the number of entries up to the last one in it, or 0.
-    heads: [usize; 64],
+    heads: Heads,
 }
 
 impl<'a> Model for NameTable<'a> {
@@ -38,46 +39,11 @@ impl<'a> Model for NameTable<'a> {
     ghost invariant = { IsTable };
 }
 
-/// The slot of a name, by its length, its last bytes, its second and the one in its middle: names often share their first bytes or their
-/// last ones. With these factors the numbers from 0 to 63 have slots of their own.
-#[inline(always)]
-pub(crate) fn slot_of(name: &str) -> usize
-    ensures value { result ≡ slot name.now }
-    ensures within { result < 64 }
-{
-    let bytes = name.as_bytes();
-    let len = bytes.len();
-    if len < 2 {
-        return 0;
-    }
-    let last = usize::from(bytes[len - 2]) * 10 + usize::from(bytes[len - 1]);
-    let middle = usize::from(bytes[1]) * 5 + usize::from(bytes[len / 2]) * 59;
-    let third = usize::from(bytes[len.saturating_sub(3)]) * 3;
-    (len % 64 * 18 + last + middle + third + before_last(bytes)) % 64
-}
-
-// The part of the five bytes before the last three, of a name that has them.
-#[inline(always)]
-fn before_last(bytes: &[u8]) -> usize
-    ensures value { result ≡ before_last bytes.now }
-    ensures within { result < 2 ^ 16 }
-{
-    let len = bytes.len();
-    if len < 8 {
-        return 0;
-    }
-    let first = usize::from(bytes[len - 8]) * 19 + usize::from(bytes[len - 7]) * 17;
-    let then = usize::from(bytes[len - 6]) * 13 + usize::from(bytes[len - 5]) * 11;
-    first + then + usize::from(bytes[len - 4]) * 7
-}
-
 // The entries that there is room for after the first.
 const ROOM: usize = 16;
 
-// The most entries, and the most in a slot: no text makes a look-up compare its name with more.
-const MOST: usize = 64;
-
-const LONGEST: usize = 8;
+// The most entries whose room is kept for the next item.
+const KEPT: usize = 64;
 
 impl<'a> NameTable<'a> {
     /// An empty table. It takes no memory.
@@ -85,8 +51,9 @@ impl<'a> NameTable<'a> {
         ensures { result ≡ [] }
     {
         NameTable {
+            alloc,
             known: Vec::new(alloc),
-            heads: [0; 64],
+            heads: Heads::new(alloc),
         }
     }
 
@@ -99,6 +66,7 @@ impl<'a> NameTable<'a> {
     }
 
     /// The name and the entry at the index.
+    #[inline(always)]
     pub(crate) fn nth(&self, index: usize) -> (&'a str, Entry)
         requires { index < length self.now }
         ensures { slice_get self.now index ≡ Some (result.0.now, result.1) }
@@ -107,89 +75,112 @@ impl<'a> NameTable<'a> {
         (known.name, known.entry)
     }
 
-    /// The last entry of a name, whose slot this is.
+    /// The last entry of a name, whose hash this is.
     #[inline(always)]
-    pub(crate) fn get(&self, at: usize, name: &str) -> Option<Entry>
-        requires slot { at ≡ slot name.now }
-        requires within { at < 64 }
+    pub(crate) fn get(&self, hash: u64, name: &str) -> Option<Entry>
+        requires { hash ≡ name_hash name.now }
         ensures { result ≡ last_entry self.now name.now }
     {
-        let mut count = self.heads[at];
+        self.find(hash, name).0
+    }
+
+    /// The last entry of a name, whose hash this is, and the number of entries of other names that it was compared with first.
+    #[inline(always)]
+    pub(crate) fn find(&self, hash: u64, name: &str) -> (Option<Entry>, usize)
+        requires { hash ≡ name_hash name.now }
+        ensures { result.0 ≡ last_entry self.now name.now }
+    {
+        let mut compared: usize = 0;
+        let mut count = self.heads.get(hash);
         while count > 0 {
             let known = &self.known[count - 1];
             if known.name == name {
-                return Some(known.entry);
+                return (Some(known.entry), compared);
             }
+            compared = compared.saturating_add(1);
             count = known.before;
         }
-        None
+        (None, compared)
     }
 
+    /// Puts an entry of a name, whose hash this is.
+    #[inline(always)]
+    pub(crate) fn put(&mut self, hash: u64, name: &'a str, entry: Entry) -> Result<(), AllocError>
+        requires { hash ≡ name_hash name.now }
+        ensures { OnOk result (self.new ≡ self.old ++ (name.now, entry) ∷ []) }
+    {
+        self.make_room()?;
+        self.push(hash, name, entry)
+    }
+
+    // Makes room for one more entry, and for as many slots as there are entries.
     #[inline(always)]
     fn make_room(&mut self) -> Result<(), AllocError>
         ensures { self.new ≡ self.old }
     {
-        if self.known.is_empty() {
-            self.known.reserve(ROOM)?;
+        match self.known.len() {
+            0 => self.known.reserve(ROOM),
+            entries if entries >= self.heads.len() => self.grow(),
+            _ => Ok(()),
         }
+    }
+
+    // An empty table with room for this number of entries, and twice as many slots.
+    fn with_room(alloc: Global, entries: usize) -> Result<Self, AllocError>
+        ensures { IfOk result (λ table. table ≡ []) }
+    {
+        Ok(NameTable {
+            alloc,
+            known: Vec::with_capacity(alloc, entries)?,
+            heads: Heads::with_slots(alloc, entries.saturating_mul(2))?,
+        })
+    }
+
+    // Makes the table anew with four times as many slots as entries, and puts the entries into it.
+    #[cold]
+    #[inline(never)]
+    fn grow(&mut self) -> Result<(), AllocError>
+        ensures { self.new ≡ self.old }
+    {
+        let mut table = NameTable::with_room(self.alloc, self.len().saturating_mul(2))?;
+        for index in 0..self.len() {
+            let (name, entry) = self.nth(index);
+            table.push(hash_of(name), name, entry)?;
+        }
+        *self = table;
         Ok(())
     }
 
-    // The number of entries in a slot.
+    // Puts an entry of a name, whose hash this is, without more room for slots.
     #[inline(always)]
-    fn chain_len(&self, at: usize) -> usize
-        requires { at < 64 }
-    {
-        match self.heads[at] {
-            0 => 0,
-            count => match self.known.get(count - 1) {
-                Some(last) => last.number,
-                None => 0,
-            },
-        }
-    }
-
-    /// Whether one more entry may be put into a slot.
-    #[inline(always)]
-    pub(crate) fn has_room(&self, at: usize) -> bool
-        requires { at < 64 }
-    {
-        self.known.len() < MOST && self.chain_len(at) < LONGEST
-    }
-
-    /// Puts an entry of a name, whose slot this is.
-    #[inline(always)]
-    pub(crate) fn put(&mut self, at: usize, name: &'a str, entry: Entry) -> Result<(), AllocError>
-        requires slot { at ≡ slot name.now }
-        requires within { at < 64 }
+    fn push(&mut self, hash: u64, name: &'a str, entry: Entry) -> Result<(), AllocError>
+        requires { hash ≡ name_hash name.now }
         ensures { OnOk result (self.new ≡ self.old ++ (name.now, entry) ∷ []) }
     {
-        let number = self.chain_len(at).saturating_add(1);
-        self.make_room()?;
-        let before = self.heads[at];
         let known = Known {
             name,
             entry,
-            before,
-            number,
+            before: self.heads.get(hash),
         };
         match self.known.push(known) {
             Ok(()) => {
-                self.heads[at] = self.known.len();
+                self.heads.put(hash, self.known.len());
                 Ok(())
             }
             Err(_) => Err(AllocError),
         }
     }
 
-    /// Takes all entries out.
+    /// Takes all entries out. The memory of a large table is given back.
     #[inline(always)]
     pub(crate) fn clear(&mut self)
         ensures { self.new ≡ [] }
     {
-        if !self.known.is_empty() {
+        if self.known.len() > KEPT {
+            *self = NameTable::new(self.alloc);
+        } else if !self.known.is_empty() {
             self.known.clear();
-            self.heads = [0; 64];
+            self.heads = Heads::new(self.alloc);
         }
     }
 }

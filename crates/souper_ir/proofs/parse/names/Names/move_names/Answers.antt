@@ -16,9 +16,9 @@ nth-value-requires c =
 
 pub loop-index-preserved : goal.loop-index-preserved
 loop-index-preserved c = (
-  c.in_ok-insert_into_map.ensures.few ∙ c.loop-index.invariant.0,
-  λ n. ap (λ (xs : List (List ℕ × NameEntry)). or_else (last_entry (drop (c.loop-index.index + 1) xs) n) (entry_in_map c.insert_into_map.new.self.entries n)) c.in_ok-insert_into_map.ensures.few
-      ∙ moves c.loop-index.self.few c.loop-index.index (c.nth-value.result.0.now, c.nth-value.result.1) c.loop-index.self.entries c.insert_into_map.new.self.entries c.nth-value.ensures c.in_ok-insert_into_map.ensures.entered n
+  c.in_ok-insert_into_map.ensures.table ∙ c.loop-index.invariant.0,
+  λ n. ap (λ (xs : List (List ℕ × NameEntry)). or_else (last_entry (drop (c.loop-index.index + 1) xs) n) (entry_in_map c.insert_into_map.new.self.entries n)) c.in_ok-insert_into_map.ensures.table
+      ∙ moves c.loop-index.self.table c.loop-index.index (c.nth-value.result.0.now, c.nth-value.result.1) c.loop-index.self.entries c.insert_into_map.new.self.entries c.nth-value.ensures c.in_ok-insert_into_map.ensures.entered n
       ∙ c.loop-index.invariant.1 n,
 )
 
@@ -28,4 +28,4 @@ returns-clause-same c n =
     let end = c.len-index-end.ensures in
     let ended = c.loop-index-test.false in
     rw c.clear.ensures
-    (sym (ap (λ (xs : List (List ℕ × NameEntry)). or_else (last_entry xs n) (entry_in_map c.loop-index.self.entries n)) (drop_of_length-le c.loop-index.self.few (omega arith))) ∙ c.loop-index.invariant.1 n)
+    (sym (ap (λ (xs : List (List ℕ × NameEntry)). or_else (last_entry xs n) (entry_in_map c.loop-index.self.entries n)) (drop_of_length-le c.loop-index.self.table (omega arith))) ∙ c.loop-index.invariant.1 n)

@@ -4,6 +4,3 @@ use Rattle.souper_ir.proofs.parse.table.NameTable.make_room.Goals as goal
 
 pub invariant_of-self : goal.invariant_of-self
 invariant_of-self c = same_table c.self.inside _ c.reserve.ensures.items refl c.self.invariant
-
-pub invariant_of-self-in_err-reserve : goal.invariant_of-self-in_err-reserve
-invariant_of-self-in_err-reserve c = same_table c.self.inside _ c.reserve.ensures.items refl c.self.invariant

@@ -4,10 +4,10 @@ use Rattle.souper_graph.specs.View.{view_statement}
 use Rattle.souper_graph.specs.Syntax.Spelling.{position_of}
 use Rattle.souper_ir.specs.Parsing.{Parsing}
 use Rattle.souper_ir.proofs.Scope.Entered.{position_is, live_inside}
-use Rattle.souper_ir.proofs.parse.parser.Parser.if_named.Goals as goal
+use Rattle.souper_ir.proofs.parse.parser.Parser.value_named.Goals as goal
 
-pub returns-in-Some : goal.returns-in-Some
-returns-in-Some c =
+pub returns-then-is_named : goal.returns-then-is_named
+returns-then-is_named c =
     let are = c.self.invariant.names (live_inside c.self.inside.failed (subst (λ (p : Parsing). p.failed ≡ None) (sym c.self.view_is) c.requires)) in
-    subst (λ (p : Parsing). position_of p.scope c.args.name.now ≡ Some c.in-Some.value) c.self.view_is
-    (sym (position_is c.self.inside.names (map view_statement c.self.inside.statements) c.in-Some.value c.args.name.now are.entered (sym c.if-is_named.ensures)))
+    subst (λ (p : Parsing). Some c.in-Some.value ≡ position_of p.scope c.args.name.now) c.self.view_is
+    (position_is c.self.inside.names (map view_statement c.self.inside.statements) c.in-Some.value c.args.name.now are.entered (sym c.if-is_named.ensures))
