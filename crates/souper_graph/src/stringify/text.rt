@@ -31,7 +31,7 @@ impl Parts<'_> {
         Ok(())
     }
 
-    // Puts the text of the item into a buffer that is empty. An error leaves it so.
+    // Puts the text of the item into a buffer that is empty. An error leaves it so, and a buffer that had no memory gives its memory back.
     fn put_text(&self, out: &mut String) -> Result<(), TextError>
         requires { string_bytes out.old ≡ [] }
         ensures refused { IfErr result (λ error. IsFaultOf (view_parts self.now) error) }
@@ -39,10 +39,14 @@ impl Parts<'_> {
         ensures kept { OnErr result (string_bytes out.new ≡ []) }
     {
         let order = self.print_order()?;
+        let had_memory = out.capacity() > 0;
         match self.append_by(&order, out) {
             Ok(()) => Ok(()),
             Err(error) => {
                 out.clear();
+                if !had_memory {
+                    out.shrink_to_fit();
+                }
                 Err(error)
             }
         }
