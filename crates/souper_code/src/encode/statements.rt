@@ -115,7 +115,8 @@ pub(crate) fn encode_statements(
 ) -> Result<(), AllocError>
     ensures { OnOk result (out.new.items ≡ out.old.items ++ code_of_statements (map view_statement statements.now)) }
 {
-    out.reserve(statements.len().saturating_mul(USUAL_LEN))?;
+    // Without this room the code grows as it is written.
+    let _ = out.reserve(statements.len().saturating_mul(USUAL_LEN));
     encode_size(statements.len(), out)?;
     for (_, statement) in statements.iter() {
         encode_statement(statement, out)?;
