@@ -8,7 +8,7 @@ use std::alloc::{AllocError, Global};
 use std::marker::Model;
 
 /// For each slot, the number of entries up to the last one in it, or 0.
-#[derive(Debug, Drop)]
+#[derive(Drop)]
 pub(crate) struct Heads {
     // Of a small table, whose heads take no memory of their own.
     few: [usize; 64],

@@ -5,16 +5,28 @@ use crate::parse::table::NameTable;
 use souper_graph::ast::ValueId;
 use std::alloc::{AllocError, Global};
 use std::collections::BTreeMap;
+use std::fmt;
 
 /// A value and, if it is a block, its number of predecessors.
 pub(crate) type Entry = (ValueId, Option<u32>);
 
-// The most entries in a slot before a new name. The name may be entered once more, as a block with its count. So no text makes a look-up in
-// the table compare its name with more than 17 entries.
-const MOST: usize = 15;
+// The most entries in a slot before a new name, in a table of less than 64 entries and in a larger one. A name may be entered once more, as
+// a block with its count.
+const MOST_OF_FEW: usize = 7;
+const MOST: usize = 11;
+
+/// What a search for a name found.
+#[derive(Clone, Copy)]
+pub(crate) struct Found {
+    /// The entry of the name.
+    pub(crate) entry: Option<Entry>,
+    hash: u64,
+    // Whether the slot of the name has too many entries for one more.
+    is_crowded: bool,
+}
 
 /// Each name of an item with its entry.
-#[derive(Debug, Drop)]
+#[derive(Drop)]
 pub(crate) struct Names<'a> {
     // The entries, until a slot has too many.
     table: NameTable<'a>,
@@ -25,8 +37,9 @@ pub(crate) struct Names<'a> {
 }
 
 impl<'a> Names<'a> {
-    ghost use Rattle.std.specs.Prelude.{◌≡◌, ℕ, List, [], Some, IfOk, OnOk};
-    ghost use Rattle.souper_ir.specs.NamesView.{AreNames, IsLast, entry_in, entry_in_map, Adds, AddsToMap};
+    ghost use Rattle.std.specs.Prelude.{◌≡◌, ℕ, List, [], Some, OnOk};
+    ghost use Rattle.souper_ir.specs.HashView.{name_hash};
+    ghost use Rattle.souper_ir.specs.NamesView.{AreNames, IsLast, entry_in, Adds, AddsToMap};
 
     pub(crate) fn new(alloc: Global) -> Self
         ensures { AreNames result [] }
@@ -38,105 +51,93 @@ impl<'a> Names<'a> {
         }
     }
 
+    /// Searches for a name.
+    #[inline(always)]
+    pub(crate) fn find(&self, name: &str) -> Found
+        ensures entry { result.entry ≡ entry_in self.now name.now }
+        ensures hash { result.hash ≡ name_hash name.now }
+    {
+        let hash = hash_of(name);
+        let (in_table, compared) = self.table.find(hash, name);
+        let entry = match in_table {
+            Some(entry) => Some(entry),
+            None => self.entries.get(name).copied(),
+        };
+        let is_crowded = compared > MOST || (compared > MOST_OF_FEW && self.table.len() < 64);
+        Found {
+            entry,
+            hash,
+            is_crowded,
+        }
+    }
+
     /// The entry of a name.
     pub(crate) fn get(&self, name: &str) -> Option<Entry>
         ensures { result ≡ entry_in self.now name.now }
     {
-        match self.table.get(hash_of(name), name) {
-            Some(entry) => Some(entry),
-            None => self.entries.get(name).copied(),
-        }
+        self.find(name).entry
     }
 
-    /// Enters a name, and returns the entry that it had.
+    /// Enters a name, for which this was found. The entries go to the map once the slot of a name has too many.
     #[inline(always)]
-    pub(crate) fn insert(
+    pub(crate) fn put(
         &mut self,
+        found: Found,
         name: &'a str,
         value: ValueId,
         predecessors: Option<u32>,
-    ) -> Result<Option<Entry>, AllocError>
-        ensures replaced { IfOk result (λ replaced. replaced ≡ entry_in self.old name.now) }
+    ) -> Result<(), AllocError>
+        requires { found.hash ≡ name_hash name.now }
         ensures entered { OnOk result (Adds self.old self.new name.now (value, predecessors)) }
         ensures last { OnOk result (IsLast self.new.last self.new) }
     {
-        if self.entries.is_empty() {
-            return self.insert_into_table(name, value, predecessors);
+        if found.is_crowded || !self.entries.is_empty() {
+            return self.put_into_map(name, value, predecessors);
         }
-        self.leave_table()?;
-        self.insert_into_map(name, value, predecessors)
-    }
-
-    // The same, where the map is empty: into the table, if the slot of the name does not have too many entries. Otherwise all go to the map.
-    #[inline(never)]
-    fn insert_into_table(
-        &mut self,
-        name: &'a str,
-        value: ValueId,
-        predecessors: Option<u32>,
-    ) -> Result<Option<Entry>, AllocError>
-        requires { (n : List ℕ) → entry_in_map self.old.entries n ≡ None }
-        ensures replaced { IfOk result (λ replaced. replaced ≡ entry_in self.old name.now) }
-        ensures entered { OnOk result (Adds self.old self.new name.now (value, predecessors)) }
-        ensures last { OnOk result (IsLast self.new.last self.new) }
-    {
-        let hash = hash_of(name);
-        let (replaced, compared) = self.table.find(hash, name);
-        if compared > MOST {
-            self.move_names()?;
-            return self.insert_into_map(name, value, predecessors);
-        }
-        self.table.put(hash, name, (value, predecessors))?;
+        self.table.put(found.hash, name, (value, predecessors))?;
         self.last = Some((name, value, predecessors));
-        Ok(replaced)
-    }
-
-    // Enters a name into the map, and returns the entry that it had there.
-    #[inline(never)]
-    fn insert_into_map(
-        &mut self,
-        name: &'a str,
-        value: ValueId,
-        predecessors: Option<u32>,
-    ) -> Result<Option<Entry>, AllocError>
-        ensures replaced { IfOk result (λ replaced. replaced ≡ entry_in_map self.old.entries name.now) }
-        ensures entered { OnOk result (AddsToMap self.old.entries self.new.entries name.now (value, predecessors)) }
-        ensures last { OnOk result (self.new.last ≡ Some (name.entry, value, predecessors)) }
-        ensures table { self.new.table ≡ self.old.table }
-    {
-        match self.entries.insert(name, (value, predecessors)) {
-            Ok(replaced) => {
-                self.last = Some((name, value, predecessors));
-                Ok(replaced)
-            }
-            Err(_) => Err(AllocError),
-        }
-    }
-
-    // Empties the table: its entries are in the map then. Only if they could not be moved before, both have entries.
-    #[inline(always)]
-    fn leave_table(&mut self) -> Result<(), AllocError>
-        ensures empty { OnOk result (self.new.table ≡ []) }
-        ensures same { OnOk result ((n : List ℕ) → entry_in self.new n ≡ entry_in self.old n) }
-    {
-        if self.table.len() > 0 {
-            self.move_names()?;
-        }
         Ok(())
     }
 
-    #[cold]
+    // The same, where all entries go to the map, or are there.
     #[inline(never)]
+    fn put_into_map(
+        &mut self,
+        name: &'a str,
+        value: ValueId,
+        predecessors: Option<u32>,
+    ) -> Result<(), AllocError>
+        ensures entered { OnOk result (Adds self.old self.new name.now (value, predecessors)) }
+        ensures last { OnOk result (IsLast self.new.last self.new) }
+    {
+        self.move_names()?;
+        self.insert(name, (value, predecessors))?;
+        self.last = Some((name, value, predecessors));
+        Ok(())
+    }
+
+    // Moves the entries of the table to the map.
     fn move_names(&mut self) -> Result<(), AllocError>
         ensures empty { OnOk result (self.new.table ≡ []) }
         ensures same { OnOk result ((n : List ℕ) → entry_in self.new n ≡ entry_in self.old n) }
     {
         for index in 0..self.table.len() {
-            let (name, (value, predecessors)) = self.table.nth(index);
-            self.insert_into_map(name, value, predecessors)?;
+            let (name, entry) = self.table.nth(index);
+            self.insert(name, entry)?;
         }
         self.table.clear();
         Ok(())
+    }
+
+    // Inserts an entry into the map.
+    fn insert(&mut self, name: &'a str, entry: Entry) -> Result<(), AllocError>
+        ensures entered { OnOk result (AddsToMap self.old.entries self.new.entries name.now entry) }
+        ensures table { self.new.table ≡ self.old.table }
+    {
+        match self.entries.insert(name, entry) {
+            Ok(_) => Ok(()),
+            Err(_) => Err(AllocError),
+        }
     }
 
     /// Enters a name. The names are not searched if this is what was entered last.
@@ -156,10 +157,22 @@ impl<'a> Names<'a> {
                 return Ok(());
             }
         }
-        match self.insert(name, value, predecessors) {
-            Ok(_) => Ok(()),
-            Err(error) => Err(error),
-        }
+        self.enter_again(name, value, predecessors)
+    }
+
+    // Enters a name that may have an entry.
+    #[inline(never)]
+    fn enter_again(
+        &mut self,
+        name: &'a str,
+        value: ValueId,
+        predecessors: Option<u32>,
+    ) -> Result<(), AllocError>
+        ensures entered { OnOk result (Adds self.old self.new name.now (value, predecessors)) }
+        ensures last { OnOk result (IsLast self.new.last self.new) }
+    {
+        let found = self.find(name);
+        self.put(found, name, value, predecessors)
     }
 
     /// Takes all names out.
@@ -169,5 +182,40 @@ impl<'a> Names<'a> {
         self.table.clear();
         self.entries.clear();
         self.last = None;
+    }
+}
+
+// The names, each with its last entry, in the order of these entries.
+#[derive(Clone, Copy)]
+struct Listed<'a, 'b>(&'b Names<'a>);
+
+impl fmt::Debug for Listed<'_, '_> {
+    fn fmt<W: fmt::Write>(&self, f: &mut fmt::Formatter<W>) -> fmt::Result {
+        let names = self.0;
+        let mut map = f.debug_map();
+        for index in 0..names.table.len() {
+            let (name, entry) = names.table.nth(index);
+            // A block has two entries, and the first has no count.
+            if names.table.get(hash_of(name), name) == Some(entry) {
+                map.entry(&name, &entry);
+            }
+        }
+        for (name, entry) in &names.entries {
+            // Only if the entries could not be moved, both have some.
+            if names.table.get(hash_of(name), name).is_none() {
+                map.entry(name, entry);
+            }
+        }
+        map.finish()
+    }
+}
+
+/// Shows one map, wherever the entries are.
+impl fmt::Debug for Names<'_> {
+    fn fmt<W: fmt::Write>(&self, f: &mut fmt::Formatter<W>) -> fmt::Result {
+        f.debug_struct("Names")
+            .field("entries", &Listed(self))
+            .field("last", &self.last)
+            .finish()
     }
 }

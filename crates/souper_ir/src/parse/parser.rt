@@ -27,7 +27,7 @@ use souper_graph::ast::{Arena, Assignment, AssignmentRhs, BlockId, Id, Statement
 use souper_lexer::{Lexer, Token};
 use std::alloc::{AllocError, Global};
 use std::marker::Model;
-use std::mem;
+use std::{fmt, mem};
 
 /// The result of parsing.
 pub type Result<T> = std::result::Result<T, ParseError>;
@@ -45,7 +45,7 @@ enum Failure {
 /// A parser of a text, with one token of lookahead.
 ///
 /// After a refusal it stays failed: every later call returns an error at the same offset, or out of memory.
-#[derive(Debug, Drop)]
+#[derive(Drop)]
 pub struct Parser<'a> {
     alloc: Global,
     lexer: Lexer<'a>,
@@ -74,6 +74,22 @@ impl<'a> Model for Parser<'a> {
     ghost view = { parsing_of };
 
     ghost invariant = { IsParser };
+}
+
+/// Shows the state, without the memory that is kept for the next item. It takes no memory.
+impl fmt::Debug for Parser<'_> {
+    fn fmt<W: fmt::Write>(&self, f: &mut fmt::Formatter<W>) -> fmt::Result {
+        f.debug_struct("Parser")
+            .field("alloc", &self.alloc)
+            .field("lexer", &self.lexer)
+            .field("ahead", &self.ahead)
+            .field("offset", &self.offset)
+            .field("statements", &self.statements)
+            .field("names", &self.names)
+            .field("recent", &self.recent)
+            .field("failed", &self.failed)
+            .finish()
+    }
 }
 
 impl<'a> Parser<'a> {
@@ -419,24 +435,20 @@ impl<'a> Parser<'a> {
     }
 
     /// Begins the definition of a name, which has to be new: enters it with the position of the next statement.
-    #[inline(always)]
+    #[inline(never)]
     #[tactic(auto, unfolding(crate::specs::NodeReadings::new_name_at))]
     pub(crate) fn begin(&mut self, name: &'a str) -> Read<()>
         requires { self.old.failed ≡ None }
         ensures { Gives (λ u. u) (widened result) (new_name_at name.now self.old) self.old self.new }
     {
+        let found = self.names.find(name);
+        if in_scope(&self.statements, found.entry, name).is_some() {
+            return Err(self.refuse(Message::CannotRedefine(name)));
+        }
         let next = self.statements.next_id().into();
-        match self.names.insert(name, next, None) {
-            Ok(None) => Ok(()),
-            Ok(replaced) => {
-                if in_scope(&self.statements, replaced, name).is_some() {
-                    // The names lack the earlier definition now, so the cause is set first.
-                    let offset = self.offset;
-                    self.failed = Some(Failure::Refused(offset));
-                    return Err(self.fail_at(offset, Message::CannotRedefine(name)));
-                }
-                Ok(())
-            }
+        match self.names.put(found, name, next, None) {
+            Ok(()) => Ok(()),
+            // Some names may have no entry now, so the cause is set first.
             Err(_) => {
                 self.failed = Some(Failure::Memory);
                 Err(ReadError::Memory)

@@ -11,7 +11,7 @@ use std::alloc::{AllocError, Global};
 use std::marker::Model;
 
 // A name with its entry.
-#[derive(Clone, Copy, Debug)]
+#[derive(Clone, Copy)]
 struct Known<'a> {
     name: &'a str,
     entry: Entry,
@@ -21,7 +21,7 @@ struct Known<'a> {
 
 /// The entries that were put, in order: a hash table with separate chaining, in which the entries of a slot are a chain from the last to the
 /// first. It grows with its entries.
-#[derive(Debug, Drop)]
+#[derive(Drop)]
 pub(crate) struct NameTable<'a> {
     alloc: Global,
     known: Vec<Known<'a>>,

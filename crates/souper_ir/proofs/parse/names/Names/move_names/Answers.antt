@@ -8,17 +8,17 @@ use Rattle.souper_ir.proofs.parse.names.Names.move_names.Goals as goal
 pub loop-index-init : goal.loop-index-init
 loop-index-init c = (refl, λ n. refl)
 
-pub nth-value-requires : goal.nth-value-requires
-nth-value-requires c =
+pub nth-entry-requires : goal.nth-entry-requires
+nth-entry-requires c =
     let few = ap (λ (xs : List (List ℕ × NameEntry)). length xs) c.loop-index.invariant.0 in
     let end = c.len-index-end.ensures in
     let within = c.loop-index-test.true in omega arith
 
 pub loop-index-preserved : goal.loop-index-preserved
 loop-index-preserved c = (
-  c.in_ok-insert_into_map.ensures.table ∙ c.loop-index.invariant.0,
-  λ n. ap (λ (xs : List (List ℕ × NameEntry)). or_else (last_entry (drop (c.loop-index.index + 1) xs) n) (entry_in_map c.insert_into_map.new.self.entries n)) c.in_ok-insert_into_map.ensures.table
-      ∙ moves c.loop-index.self.table c.loop-index.index (c.nth-value.result.0.now, c.nth-value.result.1) c.loop-index.self.entries c.insert_into_map.new.self.entries c.nth-value.ensures c.in_ok-insert_into_map.ensures.entered n
+  c.in_ok-insert.ensures.table ∙ c.loop-index.invariant.0,
+  λ n. ap (λ (xs : List (List ℕ × NameEntry)). or_else (last_entry (drop (c.loop-index.index + 1) xs) n) (entry_in_map c.insert.new.self.entries n)) c.in_ok-insert.ensures.table
+      ∙ moves c.loop-index.self.table c.loop-index.index (c.nth-entry.result.0.now, c.nth-entry.result.1) c.loop-index.self.entries c.insert.new.self.entries c.nth-entry.ensures c.in_ok-insert.ensures.entered n
       ∙ c.loop-index.invariant.1 n,
 )
 

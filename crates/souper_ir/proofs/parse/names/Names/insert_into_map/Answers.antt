@@ -1,5 +1,0 @@
-use Rattle.souper_ir.proofs.Scope.Entered.{inserted}
-use Rattle.souper_ir.proofs.parse.names.Names.insert_into_map.Goals as goal
-
-pub returns-in-Ok-clause-entered : goal.returns-in-Ok-clause-entered
-returns-in-Ok-clause-entered c = inserted c.args.self.now.entries c.insert.new.self c.args.name (c.args.value, c.args.predecessors) c.in-Ok.ensures.updates
