@@ -188,7 +188,7 @@ module _ (k : ItemType) (start mid after : Option (List ℕ)) (ps : List (List L
         held = held_now;
         within = let n = length-append (fresh p.held) line in let m = ap length fresh_now in omega arith;
         part = part ∙ h.next.whole;
-        then = λ held line_is memory after_is rest. (
+        then = λ held owed line_is memory after_is rest. (
           line ∷ [],
           record {
             read = h.read ++ line;
@@ -267,7 +267,7 @@ turn_last k start now ps ls p q h ended held_is nothing ended_now = (
       held = subst (λ (x : Held). HoldsAfter h.read (concat (all_lines ps)) x) (sym held_is) h.held;
       within = let n = ap (λ (x : Held). length (fresh x)) held_is in omega arith;
       part = part ∙ h.next.whole;
-      then = λ held line_is memory after_is rest. (
+      then = λ held owed line_is memory after_is rest. (
         [],
         record {
           read = h.read;
@@ -372,8 +372,8 @@ piece_refused k file h len holds old new text e shown is within begun error show
 pub piece_done : (k : ItemType) (start now : Option (List ℕ)) (ps : List (List Line)) (p q : PieceReader) (len : ℕ) (piece : List Line) → IsReady k start now ps p len piece → Forgets p.held q.held len → q.scanned ≡ p.scanned → q.ended ≡ p.ended → HasPieces k start now (ps ++ piece ∷ []) q
 piece_done k start now ps p q len piece r f scanned ended =
     let a = after_forgot r.read (concat (all_lines ps)) p.held q.held len r.held r.within f in
-    let same : holding p q.held q.line q.memory ≡ q = (λ i. record { held = q.held; scanned = sym scanned i; ended = sym ended i; line = q.line; memory = q.memory }) in
-    subst (λ (x : PieceReader). HasPieces k start now (ps ++ piece ∷ []) x) same (r.then q.held q.line q.memory a.0 a.1)
+    let same : holding p q.held q.owed q.line q.memory ≡ q = (λ i. record { held = q.held; scanned = sym scanned i; ended = sym ended i; owed = q.owed; line = q.line; memory = q.memory }) in
+    subst (λ (x : PieceReader). HasPieces k start now (ps ++ piece ∷ []) x) same (r.then q.held q.owed q.line q.memory a.0 a.1)
 
 -- its line in the stream
 on_line : (k : ItemType) (start now : Option (List ℕ)) (ps : List (List Line)) (p : PieceReader) (len line : ℕ) (piece : List Line) → IsReady k start now ps p len piece → HasLine p.held len line → IsOnLine (concat (all_lines ps)) (concat piece) line

@@ -74,9 +74,9 @@ HasPieces k start now ps p = (ls : List Line) × HasBegun k start now ps ls p
 abbrev pub HasAll : ItemType → Option (List ℕ) → Option (List ℕ) → List (List Line) → Type 0
 HasAll k start now ps = (read : List ℕ) × Consumes start now read × AreAll start read × ArePieces k read ps
 
--- the reader with another buffer, another line and other memory
-abbrev pub holding : PieceReader → Held → ℕ → Memory → PieceReader
-holding p h line memory = record { held = h; scanned = p.scanned; ended = p.ended; line = line; memory = memory }
+-- the reader with another buffer, other numbers and other memory
+abbrev pub holding : PieceReader → Held → ℕ → ℕ → Memory → PieceReader
+holding p h owed line memory = record { held = h; scanned = p.scanned; ended = p.ended; owed = owed; line = line; memory = memory }
 
 -- the next segment is `len` bytes long, and dropping them advances the reader past it
 pub record IsReady (k : ItemType) (start now : Option (List ℕ)) (ps : List (List Line)) (p : PieceReader) (len : ℕ) (piece : List Line) : Type 0 where
@@ -85,7 +85,7 @@ pub record IsReady (k : ItemType) (start now : Option (List ℕ)) (ps : List (Li
   pub held : HoldsAfter read (concat (all_lines ps)) p.held
   pub within : len ≤ length (fresh p.held)
   pub part : take len (fresh p.held) ≡ concat piece
-  pub then : (h : Held) (line : ℕ) (memory : Memory) → HoldsAfter read (concat (all_lines ps) ++ take len (fresh p.held)) h → fresh h ≡ drop len (fresh p.held) → HasPieces k start now (ps ++ piece ∷ []) (holding p h line memory)
+  pub then : (h : Held) (owed line : ℕ) (memory : Memory) → HoldsAfter read (concat (all_lines ps) ++ take len (fresh p.held)) h → fresh h ≡ drop len (fresh p.held) → HasPieces k start now (ps ++ piece ∷ []) (holding p h owed line memory)
 
 -- the stream has ended, or the next segment was read
 abbrev pub IsNext : ItemType → Option (List ℕ) → Option (List ℕ) → List (List Line) → PieceReader → ℕ → Type 0

@@ -246,8 +246,8 @@ fn before_end_words<T: StreamItem>(bytes: &[u8]) -> &[u8]
     before_word::<T>(bytes, "cand")
 }
 
-// The most bytes that are searched at once: an item may end with a word that is nowhere in the buffer, and another that comes soon.
-const WINDOW: usize = 512;
+/// The most bytes that are searched at once: an item may end with a word that is nowhere in the buffer, and another that comes soon.
+pub(crate) const WINDOW: usize = 512;
 
 /// The length of lines that the bytes begin with, in which the words that items of the type end with do not occur. 0 if they are not
 /// UTF-8: the line at fault is then found line by line.

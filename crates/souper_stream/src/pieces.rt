@@ -9,7 +9,7 @@ ghost use Rattle.souper_stream.specs.PieceReading.{HasLines, Passes, ReadsLine, 
 
 use crate::ends::StreamItem;
 use crate::held::{Held, newline_count};
-use crate::lines::{ScanState, first_offset, len_without_end, scan_line, starts_line};
+use crate::lines::{ScanState, WINDOW, first_offset, len_without_end, scan_line, starts_line};
 use crate::parts::{place, read_error};
 use souper_ir::parse::{Memory, ParseError, ParseErrorKind, Result, Sink, parse_with_memory};
 use std::alloc::Global;
@@ -34,24 +34,29 @@ fn read_line<R: BufRead>(reader: &mut R, bytes: &mut Vec<u8>) -> io::Result<bool
     Ok(len == 0 || bytes[bytes.len() - 1] != b'\n')
 }
 
-// Reads buffered lines in which no item of the type can end. Returns whether the input has ended.
+// The number of bytes to search for which it is worth to take one byte without lexing it.
+const WORTH: usize = 16;
+
+// Reads buffered lines in which no item of the type can end. Returns whether the input has ended, and how many of the bytes that were
+// searched the lines are not worth.
 fn read_without_end<T: StreamItem, R: BufRead>(
     reader: &mut R,
     bytes: &mut Vec<u8>,
-) -> io::Result<bool>
-    ensures { IfOk result (λ ended. (lines : List ℕ) × ReadsWithoutEnd T.item_type (R.remaining reader.old) (R.remaining reader.new) bytes.old.items bytes.new.items ended lines) }
+) -> io::Result<(bool, usize)>
+    ensures { IfOk result (λ r. (lines : List ℕ) × ReadsWithoutEnd T.item_type (R.remaining reader.old) (R.remaining reader.new) bytes.old.items bytes.new.items r.0 lines) }
 {
     let buffered = match reader.fill_buf() {
         Ok(buffered) => buffered,
-        Err(fault) if fault.kind() == ErrorKind::Interrupted => return Ok(false),
+        Err(fault) if fault.kind() == ErrorKind::Interrupted => return Ok((false, 0)),
         Err(fault) => return Err(fault),
     };
     let has_ended = buffered.is_empty();
+    let searched = buffered.len().min(WINDOW);
     let lines = &buffered[..len_without_end::<T>(buffered)];
     bytes.extend_from_slice(lines)?;
     let len = lines.len();
     reader.consume(len);
-    Ok(has_ended)
+    Ok((has_ended, searched.saturating_sub(len.saturating_mul(WORTH))))
 }
 
 // Whether the segment ends before the line, and the state after the line, which is the first of the next segment if this one ends.
@@ -116,6 +121,10 @@ pub struct PieceReader {
     // Whether the input has ended.
     ended: bool,
 
+    // The number of bytes to read line by line before lines are searched again. So the searches take a small part of the time, wherever
+    // the words are that items end with.
+    owed: usize,
+
     // The line of the first token of the last segment.
     line: usize,
 
@@ -132,6 +141,7 @@ impl PieceReader {
             held: Held::new(alloc),
             scanned: ScanState::new(),
             ended: false,
+            owed: 0,
             line: 1,
             memory: Memory::new(alloc),
         }
@@ -145,15 +155,17 @@ impl PieceReader {
         self.line
     }
 
-    // Reads lines of the segment in which no item can end, if none ends before them.
+    // Reads lines of the segment in which no item can end, if none ends before them, and if the searches before are paid for.
     fn pass_without_end<T: StreamItem, R: BufRead>(&mut self, reader: &mut R) -> io::Result<()>
         requires within { self.old.held.skipped ≤ vec_len self.old.held.bytes }
         ensures within { OnOk result (self.new.held.skipped ≤ vec_len self.new.held.bytes) }
         ensures passed { OnOk result ((start : Option (List ℕ)) (ps : List (List Line)) → HasPieces T.item_type start (R.remaining reader.old) ps self.old
             → HasPieces T.item_type start (R.remaining reader.new) ps self.new) }
     {
-        if !self.ended && !self.scanned.ends_item {
-            self.ended = read_without_end::<T, R>(reader, &mut self.held.bytes)?;
+        if !self.ended && !self.scanned.ends_item && self.owed == 0 {
+            let (ended, owed) = read_without_end::<T, R>(reader, &mut self.held.bytes)?;
+            self.ended = ended;
+            self.owed = owed;
         }
         Ok(())
     }
@@ -176,8 +188,11 @@ impl PieceReader {
             if fresh.len() == start {
                 continue;
             }
-            let (is_cut, scanned) = pass_line::<T>(&fresh[start..], self.scanned)?;
+            let line = &fresh[start..];
+            let len = line.len();
+            let (is_cut, scanned) = pass_line::<T>(line, self.scanned)?;
             self.scanned = scanned;
+            self.owed = self.owed.saturating_sub(len);
             if is_cut {
                 return Ok(start);
             }

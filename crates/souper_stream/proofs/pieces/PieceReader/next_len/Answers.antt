@@ -10,7 +10,7 @@ returns-then-self g c = λ start ps had.
     let k = g.T.Item.item_type in
     let now = g.R.Read.remaining c.pass_without_end.new.reader in
     let p = c.pass_without_end.new.self in
-    let q : PieceReader = record { held = p.held; scanned = c.new-self.result; ended = p.ended; line = p.line; memory = p.memory } in
+    let q : PieceReader = record { held = p.held; scanned = c.new-self.result; ended = p.ended; owed = p.owed; line = p.line; memory = p.memory } in
     let b = c.in_ok-pass_without_end.ensures.passed start ps (c.loop-turn.invariant.pieces start ps had) in
     subst (λ (n : ℕ). IsNext k start now ps q n) (fresh_len p.held c.len.result c.len.ensures) (turn_last k start now ps b.0 p q b.1 c.if-self.true refl (c.new-self.ensures k) c.if-self.true)
 
@@ -19,7 +19,7 @@ returns-then-is_cut g c = λ start ps had.
     let k = g.T.Item.item_type in
     let rem = g.R.Read.remaining in
     let p = c.pass_without_end.new.self in
-    let q : PieceReader = record { held = record { bytes = c.read_line.new.bytes; skipped = p.held.skipped; before = p.held.before }; scanned = c.in_ok-is_cut.scanned; ended = c.in_ok-self.field-0; line = p.line; memory = p.memory } in
+    let q : PieceReader = record { held = record { bytes = c.read_line.new.bytes; skipped = p.held.skipped; before = p.held.before }; scanned = c.in_ok-is_cut.scanned; ended = c.in_ok-self.field-0; owed = c.saturating_sub-self.result; line = p.line; memory = p.memory } in
     let m = c.in_ok-self.ensures in
     let t : Turn (rem c.pass_without_end.new.reader) (rem c.read_line.new.reader) p q m.0 = record { reads = m.1; skipped = refl; counted = refl; going = c.if-self.false } in
     let at : c.len.result ≡ length p.held.bytes.items = omega (arith, c.len.ensures, p.held.bytes.ok) in
@@ -32,7 +32,7 @@ pub loop-turn-preserved-then-fresh-start : goal.loop-turn-preserved-then-fresh-s
 loop-turn-preserved-then-fresh-start g c =
     let rem = g.R.Read.remaining in
     let p = c.pass_without_end.new.self in
-    let q : PieceReader = record { held = record { bytes = c.read_line.new.bytes; skipped = p.held.skipped; before = p.held.before }; scanned = p.scanned; ended = c.in_ok-self.field-0; line = p.line; memory = p.memory } in
+    let q : PieceReader = record { held = record { bytes = c.read_line.new.bytes; skipped = p.held.skipped; before = p.held.before }; scanned = p.scanned; ended = c.in_ok-self.field-0; owed = p.owed; line = p.line; memory = p.memory } in
     let m = c.in_ok-self.ensures in
     let t : Turn (rem c.pass_without_end.new.reader) (rem c.read_line.new.reader) p q m.0 = record { reads = m.1; skipped = refl; counted = refl; going = c.if-self.false } in
     let at : c.len.result ≡ length p.held.bytes.items = omega (arith, c.len.ensures, p.held.bytes.ok) in
@@ -49,7 +49,7 @@ pub loop-turn-preserved : goal.loop-turn-preserved
 loop-turn-preserved g c =
     let rem = g.R.Read.remaining in
     let p = c.pass_without_end.new.self in
-    let q : PieceReader = record { held = record { bytes = c.read_line.new.bytes; skipped = p.held.skipped; before = p.held.before }; scanned = c.in_ok-is_cut.scanned; ended = c.in_ok-self.field-0; line = p.line; memory = p.memory } in
+    let q : PieceReader = record { held = record { bytes = c.read_line.new.bytes; skipped = p.held.skipped; before = p.held.before }; scanned = c.in_ok-is_cut.scanned; ended = c.in_ok-self.field-0; owed = c.saturating_sub-self.result; line = p.line; memory = p.memory } in
     let m = c.in_ok-self.ensures in
     let t : Turn (rem c.pass_without_end.new.reader) (rem c.read_line.new.reader) p q m.0 = record { reads = m.1; skipped = refl; counted = refl; going = c.if-self.false } in
     let at : c.len.result ≡ length p.held.bytes.items = omega (arith, c.len.ensures, p.held.bytes.ok) in
