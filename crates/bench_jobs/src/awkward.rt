@@ -50,7 +50,7 @@ pub(crate) fn run(session: &mut Session, count: u64) -> anyhow::Result<()> {
             append(session, plain, &symbols, 0)?;
             let text = session.take_text();
             session.each::<LeftHandSide>(PLAIN, false, text.as_str())?;
-            session.format(Kind::Lhs, text.as_str());
+            session.format(Kind::Lhs, text.as_str())?;
             session.texts.text = text;
         }
         for _ in 0..2 {
@@ -58,7 +58,7 @@ pub(crate) fn run(session: &mut Session, count: u64) -> anyhow::Result<()> {
             append(session, plain, &numbers, 4)?;
             let text = session.take_text();
             session.each::<LeftHandSide>(PLAIN, false, text.as_str())?;
-            session.format(Kind::Lhs, text.as_str());
+            session.format(Kind::Lhs, text.as_str())?;
             session.texts.text = text;
         }
 
@@ -66,7 +66,7 @@ pub(crate) fn run(session: &mut Session, count: u64) -> anyhow::Result<()> {
         append(session, spaced, &words, 0)?;
         let text = session.take_text();
         session.each::<Replacement>(PLAIN, false, text.as_str())?;
-        session.format(Kind::Rep, text.as_str());
+        session.format(Kind::Rep, text.as_str())?;
         session.texts.text = text;
 
         session.texts.text.clear();

@@ -26,24 +26,28 @@ fn make_item(session: &mut Session) -> anyhow::Result<()> {
     Ok(())
 }
 
-fn format(session: &mut Session) {
-    if let Ok(text) = format_text(session.alloc, Kind::Lhs, session.texts.text.as_str(), None) {
-        session.out.add(text.as_bytes());
+fn format(session: &mut Session) -> anyhow::Result<()> {
+    match format_text(session.alloc, Kind::Lhs, session.texts.text.as_str(), None) {
+        Ok(text) => session.out.add(text.as_bytes()),
+        Err(error) => session.failed(&error)?,
     }
+    Ok(())
 }
 
-fn key(session: &mut Session) {
+fn key(session: &mut Session) -> anyhow::Result<()> {
     let source = session.texts.text.as_str();
-    if let Ok(text) = records_of_text::<LeftHandSide>(session.alloc, LAYOUT, source, None) {
-        session.out.add(text.as_bytes());
+    match records_of_text::<LeftHandSide>(session.alloc, LAYOUT, source, None) {
+        Ok(text) => session.out.add(text.as_bytes()),
+        Err(error) => session.failed(&error)?,
     }
+    Ok(())
 }
 
 // The code of the text, and the text of that code.
 fn code(session: &mut Session) -> anyhow::Result<()> {
     let items = match parse_left_hand_sides_str(session.alloc, session.texts.text.as_str(), None) {
         Ok(items) => items,
-        Err(_) => return Ok(()),
+        Err(error) => return Ok(session.failed(&error)?),
     };
     let mut code = Vec::new(session.alloc);
     for item in items.iter() {
@@ -101,8 +105,9 @@ fn build(session: &mut Session) -> anyhow::Result<()> {
         values.push(last)?;
     }
     let item = builder.finish(last, Vec::new(session.alloc));
-    if let Ok(text) = item.to_text() {
-        session.out.add(text.as_bytes());
+    match item.to_text() {
+        Ok(text) => session.out.add(text.as_bytes()),
+        Err(error) => session.failed(&error)?,
     }
     Ok(())
 }
@@ -112,8 +117,8 @@ pub(crate) fn run(session: &mut Session, count: u64) -> anyhow::Result<()> {
     for _ in 0..count {
         for _ in 0..1000 {
             make_item(session)?;
-            format(session);
-            key(session);
+            format(session)?;
+            key(session)?;
             code(session)?;
             build(session)?;
         }

@@ -26,7 +26,7 @@ pub(crate) fn run(session: &mut Session, count: u64) -> anyhow::Result<()> {
             Kind::Rep => session.each::<Replacement>(PLAIN, false, text.as_str())?,
             _ => session.each::<LeftHandSide>(PLAIN, false, text.as_str())?,
         }
-        session.format(kind, text.as_str());
+        session.format(kind, text.as_str())?;
         session.texts.text = text;
     }
     Ok(())

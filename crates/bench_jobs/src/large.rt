@@ -43,7 +43,7 @@ pub(crate) fn run(session: &mut Session, count: u64) -> anyhow::Result<()> {
                 session.texts.item(&shape, names)?;
                 let text = session.take_text();
                 session.each::<LeftHandSide>(PLAIN, false, text.as_str())?;
-                session.format(Kind::Lhs, text.as_str());
+                session.format(Kind::Lhs, text.as_str())?;
                 session.texts.text = text;
             }
         }

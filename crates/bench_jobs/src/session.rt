@@ -15,6 +15,7 @@ use souper_records::run::{
 use souper_records::seen::Seen;
 use souper_stream::StreamItem;
 use std::alloc::{AllocError, Global};
+use std::fmt::Display;
 use std::io::{BufReader, Write};
 use std::{io, mem};
 
@@ -97,11 +98,19 @@ impl Session {
     }
 
     /// Formats the items of the text, which is in memory.
-    pub(crate) fn format(&mut self, kind: Kind, text: &str) {
+    pub(crate) fn format(&mut self, kind: Kind, text: &str) -> Result<(), AllocError> {
         match format_text(self.alloc, kind, text, None) {
             Ok(text) => self.out.add(text.as_bytes()),
-            Err(_) => self.err.number(1),
+            Err(error) => self.failed(&error)?,
         }
+        Ok(())
+    }
+
+    /// Adds the text of an error.
+    pub(crate) fn failed<E: Display>(&mut self, error: &E) -> Result<(), AllocError> {
+        let shown = error.to_string(self.alloc)?;
+        self.err.add(shown.as_bytes());
+        Ok(())
     }
 
     /// Writes the records of the first items of their graphs in one text, and resumes after a refusal.
@@ -114,7 +123,7 @@ impl Session {
         });
         let mut seen = Seen::new(self.alloc);
         let mut reader = BufReader::with_capacity(self.alloc, CAPACITY, text.as_bytes())?;
-        uniq_going_on_run::<LeftHandSide, BufReader<&[u8]>, Output<'_>, Output<'_>>(
+        let status = uniq_going_on_run::<LeftHandSide, BufReader<&[u8]>, Output<'_>, Output<'_>>(
             self.alloc,
             layout,
             &mut seen,
@@ -123,6 +132,7 @@ impl Session {
             &mut out,
             &mut err,
         );
+        self.out.number(u64::from(status));
         Ok(())
     }
 
@@ -140,7 +150,7 @@ impl Session {
             digest: &mut self.err,
         });
         let mut reader = BufReader::with_capacity(self.alloc, CAPACITY, text.as_bytes())?;
-        uniq_run::<LeftHandSide, BufReader<&[u8]>, Output<'_>, Output<'_>>(
+        let status = uniq_run::<LeftHandSide, BufReader<&[u8]>, Output<'_>, Output<'_>>(
             self.alloc,
             layout,
             seen,
@@ -149,6 +159,7 @@ impl Session {
             &mut out,
             &mut err,
         );
+        self.out.number(u64::from(status));
         Ok(())
     }
 
@@ -164,7 +175,8 @@ impl Session {
             counts: true,
             repeated: false,
         };
-        count_run(self.alloc, layout, summary, seen, &mut out, &mut err);
+        let status = count_run(self.alloc, layout, summary, seen, &mut out, &mut err);
+        self.out.number(u64::from(status));
     }
 
     /// Writes JSON lines of the items of the text, as a stream.
@@ -176,7 +188,7 @@ impl Session {
             digest: &mut self.err,
         });
         let mut reader = BufReader::with_capacity(self.alloc, CAPACITY, text.as_bytes())?;
-        objects_run::<LeftHandSide, BufReader<&[u8]>, Output<'_>, Output<'_>>(
+        let status = objects_run::<LeftHandSide, BufReader<&[u8]>, Output<'_>, Output<'_>>(
             self.alloc,
             false,
             &mut reader,
@@ -184,6 +196,7 @@ impl Session {
             &mut out,
             &mut err,
         );
+        self.out.number(u64::from(status));
         Ok(())
     }
 

@@ -1,10 +1,11 @@
 //! A store: the distinct items of many files, JSON lines, whether files are canonical, and a walk over replacements.
+use crate::digest::Digest;
 use crate::random::Random;
 use crate::session::Session;
 use crate::texts::Shape;
 use souper_format::command::Kind;
 use souper_format::items::format_text;
-use souper_ir::ast::{AssignmentRhs, Replacement, Statement};
+use souper_ir::ast::{AssignmentRhs, Id, Operand, Replacement, Statement};
 use souper_ir::parse::parse_replacements_str;
 use souper_records::layout::{Delimiter, Layout};
 use souper_records::seen::Seen;
@@ -21,8 +22,8 @@ const LAYOUT: Layout = Layout {
     rename: true,
 };
 
-// A file in which few graphs occur many times, with other names.
-fn make_file(session: &mut Session, graphs: u64) -> anyhow::Result<()> {
+// A file in which few graphs occur many times, with other names. The base says which graphs.
+fn make_file(session: &mut Session, base: u64, graphs: u64) -> anyhow::Result<()> {
     session.texts.text.clear();
     for _ in 0..FILE {
         if session.texts.text.len() >= FILE {
@@ -30,7 +31,7 @@ fn make_file(session: &mut Session, graphs: u64) -> anyhow::Result<()> {
         }
         let bits = session.texts.random.next();
         let random = session.texts.random;
-        session.texts.random = Random::new(bits % graphs.max(1));
+        session.texts.random = Random::new(base.wrapping_add(bits % graphs.max(1)));
         let shape = Shape::small(Kind::Lhs, session.texts.statements());
         let names = session.lists.pick(bits >> 40 & 1 == 1);
         session.texts.item(&shape, names)?;
@@ -43,8 +44,9 @@ fn make_file(session: &mut Session, graphs: u64) -> anyhow::Result<()> {
 fn find_distinct(session: &mut Session, count: u64) -> anyhow::Result<()> {
     let mut seen = Seen::new(session.alloc);
     let graphs = count.min(1 << 20) * 40;
+    let base = session.texts.random.next();
     for _ in 0..count {
-        make_file(session, graphs)?;
+        make_file(session, base, graphs)?;
         let text = session.take_text();
         session.distinct(LAYOUT, &mut seen, text.as_str())?;
         session.texts.text = text;
@@ -63,19 +65,40 @@ fn write_objects(session: &mut Session) -> anyhow::Result<()> {
 
 // Whether the canonical texts of the file that was made are canonical.
 fn check(session: &mut Session) -> anyhow::Result<()> {
-    if let Ok(text) = format_text(session.alloc, Kind::Lhs, session.texts.text.as_str(), None) {
-        session.check(text.as_str())?;
+    match format_text(session.alloc, Kind::Lhs, session.texts.text.as_str(), None) {
+        Ok(text) => session.check(text.as_str())?,
+        Err(error) => session.failed(&error)?,
     }
     Ok(())
 }
 
-fn operand_count(statement: &Statement) -> usize {
-    match statement.as_assignment() {
-        Some(assignment) => match &assignment.value {
-            AssignmentRhs::Instruction(instruction) => instruction.operands().len(),
-            _ => 0,
-        },
-        None => 2,
+fn add_operand(digest: &mut Digest, operand: Operand) {
+    match operand {
+        Operand::Value(value) => digest.number(Id::from(value).index() as u64),
+        Operand::Constant(constant) => digest.add(&constant.value.to_be_bytes()),
+    }
+}
+
+// Adds what the statement is, and its operands.
+fn add_statement(digest: &mut Digest, statement: &Statement) {
+    match statement {
+        Statement::Assignment(assignment) => {
+            digest.add(assignment.name.as_bytes());
+            if let AssignmentRhs::Instruction(instruction) = &assignment.value {
+                digest.add(instruction.instruction_name().as_bytes());
+                for operand in instruction.operands() {
+                    add_operand(digest, operand);
+                }
+            }
+        }
+        Statement::Pc(pc) => {
+            add_operand(digest, pc.x);
+            add_operand(digest, pc.y);
+        }
+        Statement::BlockPc(pc) => {
+            add_operand(digest, pc.x);
+            add_operand(digest, pc.y);
+        }
     }
 }
 
@@ -92,29 +115,26 @@ fn walk(session: &mut Session) -> anyhow::Result<()> {
         None,
     ) {
         Ok(items) => items,
-        Err(_) => return Ok(()),
+        Err(error) => return Ok(session.failed(&error)?),
     };
-    let mut sum: u64 = 0;
     for item in items.iter() {
         let statements = match item {
             Replacement::LhsRhs { statements, .. } => statements,
             Replacement::Cand { statements, .. } => statements,
         };
         for (_, statement) in statements.iter() {
-            sum = sum
-                .wrapping_mul(5)
-                .wrapping_add(operand_count(statement) as u64);
+            add_statement(&mut session.out, statement);
         }
     }
-    session.out.number(sum);
     Ok(())
 }
 
 /// Takes some files of about 128 KiB for each of the jobs.
 pub(crate) fn run(session: &mut Session, count: u64) -> anyhow::Result<()> {
     find_distinct(session, count)?;
-    for _ in 0..count / 2 {
-        make_file(session, 1 << 40)?;
+    for _ in 0..count / 2 + count % 2 {
+        let base = session.texts.random.next();
+        make_file(session, base, 1 << 40)?;
         write_objects(session)?;
         check(session)?;
         walk(session)?;
