@@ -56,7 +56,10 @@ fn read_without_end<T: StreamItem, R: BufRead>(
     bytes.extend_from_slice(lines)?;
     let len = lines.len();
     reader.consume(len);
-    Ok((has_ended, searched.saturating_sub(len.saturating_mul(WORTH))))
+    Ok((
+        has_ended,
+        searched.saturating_sub(len.saturating_mul(WORTH)),
+    ))
 }
 
 // Whether the segment ends before the line, and the state after the line, which is the first of the next segment if this one ends.

@@ -13,6 +13,7 @@ pub(crate) type Entry = (ValueId, Option<u32>);
 // The most entries in a slot before a new name, in a table of less than 64 entries and in a larger one. A name may be entered once more, as
 // a block with its count.
 const MOST_OF_FEW: usize = 7;
+
 const MOST: usize = 11;
 
 /// What a search for a name found.
