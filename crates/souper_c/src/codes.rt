@@ -28,7 +28,8 @@ impl<T: WholeItem + Encode + Drop> Sink<T> for Codes {
     ghost holds = { λ first codes items. codes.code.items ≡ code_of_items items };
 
     fn take(&mut self, item: T) -> Result<(), AllocError> {
-        item.encode(&mut self.code)
+        Sink::<T>::take_over(self, item)?;
+        Ok(())
     }
 
     fn take_over(&mut self, mut item: T) -> Result<Option<Arena<Statement>>, AllocError> {

@@ -65,7 +65,8 @@ impl<T: WholeItem + Drop> Sink<T> for Texts {
     ghost holds = { λ first texts items. string_bytes texts.text ≡ texts_of items };
 
     fn take(&mut self, item: T) -> Result<(), AllocError> {
-        self.append(&item)
+        Sink::<T>::take_over(self, item)?;
+        Ok(())
     }
 
     fn take_over(&mut self, mut item: T) -> Result<Option<Arena<Statement>>, AllocError> {

@@ -146,8 +146,9 @@ impl Objects {
 impl<T: WholeItem + Drop> Sink<T> for Objects {
     ghost holds = { λ first objects items. (objects.rename ≡ first.rename) × (map string_bytes objects.texts.items ≡ map (text_by first.rename) items) };
 
-    fn take(&mut self, mut item: T) -> Result<(), AllocError> {
-        self.push_text(&mut item)
+    fn take(&mut self, item: T) -> Result<(), AllocError> {
+        Sink::<T>::take_over(self, item)?;
+        Ok(())
     }
 
     fn take_over(&mut self, mut item: T) -> Result<Option<Arena<Statement>>, AllocError> {

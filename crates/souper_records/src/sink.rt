@@ -57,8 +57,9 @@ impl Records {
 impl<T: WholeItem + Drop> Sink<T> for Records {
     ghost holds = { λ first records items. (records.layout ≡ first.layout) × (string_bytes records.out ≡ records_of first.layout items) };
 
-    fn take(&mut self, mut item: T) -> Result<(), AllocError> {
-        self.append(&mut item)
+    fn take(&mut self, item: T) -> Result<(), AllocError> {
+        Sink::<T>::take_over(self, item)?;
+        Ok(())
     }
 
     fn take_over(&mut self, mut item: T) -> Result<Option<Arena<Statement>>, AllocError> {

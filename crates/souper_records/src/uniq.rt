@@ -68,8 +68,9 @@ impl Firsts {
 impl<T: WholeItem + Drop> Sink<T> for Firsts {
     ghost holds = { λ first firsts items. (firsts.layout ≡ first.layout) × SeesMore T.item_type first.layout.rename items first.seen firsts.seen };
 
-    fn take(&mut self, mut item: T) -> Result<(), AllocError> {
-        self.see(&mut item)
+    fn take(&mut self, item: T) -> Result<(), AllocError> {
+        Sink::<T>::take_over(self, item)?;
+        Ok(())
     }
 
     fn take_over(&mut self, mut item: T) -> Result<Option<Arena<Statement>>, AllocError> {
