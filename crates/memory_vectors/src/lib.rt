@@ -22,6 +22,8 @@ mod parsers;
 #[cfg(test)]
 mod records;
 #[cfg(test)]
+mod reused;
+#[cfg(test)]
 mod runs;
 #[cfg(test)]
 mod texts;

@@ -11,6 +11,8 @@ pub mod counting;
 pub mod pairs;
 #[cfg(test)]
 mod parsers;
+#[cfg(test)]
+mod shown;
 pub mod sinks;
 #[cfg(test)]
 mod tokens;

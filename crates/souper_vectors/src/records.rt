@@ -1,4 +1,5 @@
 //! The functions of the program for stores: the records of items.
+mod appended;
 mod checks;
 mod closed;
 mod faults;

@@ -16,16 +16,24 @@ const READ_ERROR: &str = "souper_items: a.opt: ";
 // How the line of a failed write begins.
 const WRITE_ERROR: &str = "souper_items: write error: ";
 
-#[test]
-fn failed_read_is_reported(rt: HostRuntime) {
-    let source = BrokenReader::new(b"%x = var\ninfer %x\n%y = var\n", 3);
-    let mut reader = BufReader::with_capacity(rt.alloc(), 3, source).expect(&rt, "memory");
+// A run over a reader that has at most this number of bytes per read, and then fails.
+fn fails(rt: &impl Abort, alloc: Global, most: usize) {
+    let source = BrokenReader::new(b"%x = var\ninfer %x\n%y = var\n", most);
+    let mut reader = BufReader::with_capacity(alloc, 3, source).expect(rt, "memory");
     let run = run_over::<LeftHandSide, BufReader<BrokenReader<'_>>>(
-        rt.alloc(),
+        alloc,
         Command::Each(PLAIN),
         &mut reader,
     );
-    did(&rt, run, (2, "", READ_ERROR));
+    did(rt, run, (2, "", READ_ERROR));
+}
+
+#[test]
+fn failed_read_is_reported(rt: HostRuntime) {
+    // All 27 bytes at the first read, and 3 at each.
+    for most in [27, 3] {
+        fails(&rt, rt.alloc(), most);
+    }
 }
 
 // With error recovery a segment is written as soon as it ends.

@@ -1,5 +1,5 @@
-//! Items with few names and with many. The parser's table of names has up to 15 entries in a slot before a new name, and grows with 65
-//! entries and with 257; a block has two.
+//! Items with few names and with many. The parser's table of names has up to 7 entries in a slot before a new name, or 11 if there are 64 in
+//! all, and grows with 65 entries and with 257; a block has two.
 use crate::checks::equal_in;
 use crate::sources::sums;
 use crate::texts::kept::formats_as;
@@ -46,8 +46,39 @@ fn names_of_items_of_many_sizes_are_found(rt: HostRuntime) {
         "_that_ends_as_all_the_others_of_this_item",
     );
     for words in [("", ""), ("", "_like_the_others"), of_one_slot] {
-        for count in [8, 9, 10, 11, 12, 13, 57, 58, 59, 60, 61, 249, 251] {
+        for count in [
+            2, 3, 4, 5, 6, 7, 8, 9, 10, 11, 12, 13, 57, 58, 59, 60, 61, 249, 251,
+        ] {
             names_are_found(&rt, rt.alloc(), count, words);
         }
+    }
+}
+
+// A name that has the slot of the others.
+fn alike(rt: &impl Abort, alloc: Global, index: u32) -> String {
+    format!(in alloc;
+        "%a_name_that_starts_and_{index}_that_ends_as_all_the_others_of_this_item"
+    ).expect(rt, "memory")
+}
+
+// Names of one slot after many others. The last ones find the others in the map.
+#[test]
+fn names_of_one_slot_after_others_are_found(rt: HostRuntime) {
+    let alloc = rt.alloc();
+    let mut definitions = sums(&rt, alloc, 70, ("", ""));
+    for index in 0..14u32 {
+        let name = alike(&rt, alloc, index);
+        let line = format!(in alloc; "{name} = block 2\n").expect(&rt, "memory");
+        definitions.push_str(line.as_str()).expect(&rt, "memory");
+    }
+    for index in 0..15u32 {
+        let name = alike(&rt, alloc, index);
+        let again = format!(in alloc; "{name} = var\ninfer %x70").expect(&rt, "memory");
+        let used = format!(in alloc; "%p = phi {name}, 1, %x0\ninfer %p").expect(&rt, "memory");
+        let refused = (
+            is_refused(&rt, alloc, definitions.as_str(), again.as_str()),
+            is_refused(&rt, alloc, definitions.as_str(), used.as_str()),
+        );
+        equal_in(&rt, refused, (index < 14, index == 14), name.as_str());
     }
 }

@@ -1,0 +1,167 @@
+//! Memory that is used again: items that are renamed in place, texts that are read into the memory of the items before them, and buffers.
+use crate::met::{Met, completed_if, equal, strictly};
+use crate::texts::{TWO_ITEMS, TWO_TEXTS, is_out_of_memory, is_text, left_hand_side_text};
+use souper_code::encode::Encode;
+use souper_ir::ast::{Arena, Item, LeftHandSide, Statement};
+use souper_ir::parse::{
+    Memory, Sink, WholeItem, parse_left_hand_sides_str, parse_replacements_str, parse_with_memory,
+};
+use souper_ir::stringify::TextError;
+use std::alloc::{AllocError, Global};
+use std::process::Abort;
+use std::test::Fail;
+
+// Renames an item in place.
+fn renaming(rt: &impl Abort, alloc: Global) -> Result<Met, Fail> {
+    let source = "%b = var\n%a = var\n%c = add %a, %b\ninfer %c";
+    let Ok(mut items) = parse_left_hand_sides_str(alloc, source, None) else {
+        return Ok(Met::Unreached);
+    };
+    let item = items.first_mut().ok_or("no item")?;
+    match item.rename() {
+        Ok(()) => {
+            let met = completed_if(alloc, true);
+            let want = "%0 = var\n%1 = var\n%2 = add %0, %1\ninfer %2\n";
+            is_text(rt, left_hand_side_text(item), want)?;
+            Ok(met)
+        }
+        Err(error) => {
+            equal(rt, error, TextError::OutOfMemory);
+            Ok(Met::Refused)
+        }
+    }
+}
+
+#[test]
+fn renaming_in_place(rt: HostRuntime) -> Result<(), Fail> {
+    strictly(renaming(&rt, rt.alloc())?)
+}
+
+// The texts of the items, which are dropped.
+#[derive(Drop)]
+struct Dropped {
+    text: String,
+}
+
+impl<T: WholeItem + Drop> Sink<T> for Dropped {
+    ghost holds = { λ first dropped items. Unit {0} };
+
+    fn take(&mut self, item: T) -> Result<(), AllocError> {
+        Sink::<T>::take_over(self, item)?;
+        Ok(())
+    }
+
+    fn take_over(&mut self, mut item: T) -> Result<Option<Arena<Statement>>, AllocError> {
+        match item.append_text(&mut self.text) {
+            Ok(()) => Ok(item.take_statements()),
+            Err(_) => Err(AllocError),
+        }
+    }
+}
+
+const FIRST: &str = "%a = var\n%b = add %a, 1\ninfer %b\n\n%c = var\ninfer %c";
+
+const FIRST_TEXTS: &str = "%a = var\n%b = add %a, 1\ninfer %b\n%c = var\ninfer %c\n";
+
+const SECOND: &str = "%a_longer_name = var\n%d = var\n%e = add %d, %a_longer_name\ninfer %e\n";
+
+const SECOND_TEXTS: &str =
+    "%d = var\n%a_longer_name = var\n%e = add %d, %a_longer_name\ninfer %e\n";
+
+// Reads a text with the memory, and returns what became of it.
+fn read_with(
+    rt: &impl Abort,
+    alloc: Global,
+    memory: &mut Memory,
+    source: &str,
+    want: &str,
+) -> Result<Met, Fail> {
+    let mut dropped = Dropped {
+        text: String::new(alloc),
+    };
+    match parse_with_memory::<LeftHandSide, Dropped>(alloc, memory, source, None, &mut dropped) {
+        Ok(()) => {
+            let met = completed_if(alloc, true);
+            equal(rt, dropped.text.as_str(), want);
+            Ok(met)
+        }
+        Err(error) => is_out_of_memory(rt, alloc, &error),
+    }
+}
+
+// Reads a text, and another into the memory of its items, and the first again.
+fn reading_again(rt: &impl Abort, alloc: Global) -> Result<Met, Fail> {
+    let mut memory = Memory::new(alloc);
+    for (source, want) in [
+        (FIRST, FIRST_TEXTS),
+        (SECOND, SECOND_TEXTS),
+        (FIRST, FIRST_TEXTS),
+    ] {
+        match read_with(rt, alloc, &mut memory, source, want)? {
+            Met::Completed => {}
+            // What is kept of a text that was refused serves the next.
+            Met::Refused => {
+                read_with(rt, alloc, &mut memory, SECOND, SECOND_TEXTS)?;
+                return Ok(Met::Refused);
+            }
+            other => return Ok(other),
+        }
+    }
+    Ok(Met::Completed)
+}
+
+#[test]
+fn reading_into_memory_of_before(rt: HostRuntime) -> Result<(), Fail> {
+    strictly(reading_again(&rt, rt.alloc())?)
+}
+
+// Encodes an item into a buffer with just the room that its code takes: no request for memory can fail the call.
+fn encoding(rt: &impl Abort, alloc: Global) -> Result<Met, Fail> {
+    let source = "%x = var\n%y = var\n%z = var\ninfer %z";
+    let Ok(items) = parse_left_hand_sides_str(alloc, source, None) else {
+        return Ok(Met::Unreached);
+    };
+    let item = items.first().ok_or("no item")?;
+    let mut code = Vec::new(alloc);
+    if item.encode(&mut code).is_err() {
+        return Ok(Met::Unreached);
+    }
+    let Ok(mut out) = Vec::with_capacity(alloc, code.len()) else {
+        return Ok(Met::Unreached);
+    };
+    let encoded = item.encode(&mut out).is_ok();
+    let met = completed_if(alloc, encoded);
+    equal(rt, (encoded, out.as_slice()), (true, code.as_slice()));
+    Ok(met)
+}
+
+#[test]
+fn encoding_into_a_buffer_with_room(rt: HostRuntime) -> Result<(), Fail> {
+    strictly(encoding(&rt, rt.alloc())?)
+}
+
+// Appends a text to a buffer without memory. If it cannot be appended, the buffer has no memory still.
+fn appending(rt: &impl Abort, alloc: Global) -> Result<Met, Fail> {
+    let Ok(items) = parse_replacements_str(alloc, TWO_ITEMS, None) else {
+        return Ok(Met::Unreached);
+    };
+    let item = items.first().ok_or("no item")?;
+    let mut out = String::new(alloc);
+    match item.append_text(&mut out) {
+        Ok(()) => {
+            let met = completed_if(alloc, true);
+            equal(rt, out.as_str(), TWO_TEXTS[0]);
+            Ok(met)
+        }
+        Err(error) => {
+            equal(rt, error, TextError::OutOfMemory);
+            equal(rt, (out.as_str(), out.capacity()), ("", 0));
+            Ok(Met::Refused)
+        }
+    }
+}
+
+#[test]
+fn appending_to_an_empty_buffer(rt: HostRuntime) -> Result<(), Fail> {
+    strictly(appending(&rt, rt.alloc())?)
+}
