@@ -16,7 +16,7 @@ const MANY: &str = "\
 %43=var %44=var %45=var %46=var %47=var %48=var %49=var %50=var %51=var %52=var %53=var %54=var %55=var %56=var \
 %57=var %58=var %59=var %60=var %61=var %62=var %63=var %64=var %65=var infer %65";
 
-// 17 names that have one slot: all leave the table with the ninth.
+// 17 names that have one slot: all leave the table with the fifth.
 const OF_ONE_SLOT: &str = "\
 %a_name_that_starts_as_a_and_that_ends_as_all_the_others=var \
 %a_name_that_starts_as_b_and_that_ends_as_all_the_others=var \

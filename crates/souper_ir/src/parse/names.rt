@@ -10,11 +10,11 @@ use std::fmt;
 /// A value and, if it is a block, its number of predecessors.
 pub(crate) type Entry = (ValueId, Option<u32>);
 
-// The most entries in a slot before a new name, in a table of less than 64 entries and in a larger one. A name may be entered once more, as
-// a block with its count.
-const MOST_OF_FEW: usize = 7;
-
-const MOST: usize = 11;
+// The most entries in a slot before a new name, in a table with this number of entries. They are few, so that no text makes a look-up
+// compare many names, and names that were not made for it have fewer.
+fn most(entries: usize) -> usize {
+    (entries / 16).min(8) + 3
+}
 
 /// What a search for a name found.
 #[derive(Clone, Copy)]
@@ -64,11 +64,10 @@ impl<'a> Names<'a> {
             Some(entry) => Some(entry),
             None => self.entries.get(name).copied(),
         };
-        let is_crowded = compared > MOST || (compared > MOST_OF_FEW && self.table.len() < 64);
         Found {
             entry,
             hash,
-            is_crowded,
+            is_crowded: compared > most(self.table.len()),
         }
     }
 

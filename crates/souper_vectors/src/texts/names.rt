@@ -1,5 +1,5 @@
-//! Items with few names and with many. The parser's table of names has up to 7 entries in a slot before a new name, or 11 if there are 64 in
-//! all, and grows with 65 entries and with 257; a block has two.
+//! Items with few names and with many. The parser's table of names has up to 3 entries in a slot before a new name, and one more for each 16
+//! of all, up to 11. It grows with 65 entries and with 257; a block has two.
 use crate::checks::equal_in;
 use crate::sources::sums;
 use crate::texts::kept::formats_as;
