@@ -249,19 +249,21 @@ fn before_end_words<T: StreamItem>(bytes: &[u8]) -> &[u8]
 /// The most bytes that are searched at once: an item may end with a word that is nowhere in the buffer, and another that comes soon.
 pub(crate) const WINDOW: usize = 512;
 
-/// The length of lines that the bytes begin with, in which the words that items of the type end with do not occur. 0 if they are not
-/// UTF-8: the line at fault is then found line by line.
-pub(crate) fn len_without_end<T: StreamItem>(bytes: &[u8]) -> usize
-    ensures bound { result ≤ length bytes.now }
-    ensures lines { IsLines (take result bytes.now) }
-    ensures utf8 { IsUtf8 (take result bytes.now) }
-    ensures none { NoEndWord T.item_type (take result bytes.now) }
+/// The length of lines that the bytes begin with, in which the words that items of the type end with do not occur, and whether such a word
+/// was found after them. 0 if the lines are not UTF-8: the line at fault is then found line by line.
+pub(crate) fn len_without_end<T: StreamItem>(bytes: &[u8]) -> (usize, bool)
+    ensures bound { result.0 ≤ length bytes.now }
+    ensures lines { IsLines (take result.0 bytes.now) }
+    ensures utf8 { IsUtf8 (take result.0 bytes.now) }
+    ensures none { NoEndWord T.item_type (take result.0 bytes.now) }
 {
-    let front = before_end_words::<T>(&bytes[..bytes.len().min(WINDOW)]);
+    let window = &bytes[..bytes.len().min(WINDOW)];
+    let front = before_end_words::<T>(window);
+    let is_found = front.len() < window.len();
     let len = lines_len(front, front.len());
     match str::from_utf8(&front[..len]) {
-        Ok(_) => len,
-        Err(_) => 0,
+        Ok(_) => (len, is_found),
+        Err(_) => (0, is_found),
     }
 }
 

@@ -34,11 +34,11 @@ fn read_line<R: BufRead>(reader: &mut R, bytes: &mut Vec<u8>) -> io::Result<bool
     Ok(len == 0 || bytes[bytes.len() - 1] != b'\n')
 }
 
-// The number of bytes to search for which it is worth to take one byte without lexing it.
+// The number of searched bytes that one byte of lines which are not lexed is worth.
 const WORTH: usize = 16;
 
-// Reads buffered lines in which no item of the type can end. Returns whether the input has ended, and how many of the bytes that were
-// searched the lines are not worth.
+// Reads buffered lines in which no item of the type can end. Returns whether the input has ended, and how many bytes to read line by line
+// before the next search: as many as were searched, less what the lines are worth, and the next line, if an item may end there.
 fn read_without_end<T: StreamItem, R: BufRead>(
     reader: &mut R,
     bytes: &mut Vec<u8>,
@@ -52,14 +52,11 @@ fn read_without_end<T: StreamItem, R: BufRead>(
     };
     let has_ended = buffered.is_empty();
     let searched = buffered.len().min(WINDOW);
-    let lines = &buffered[..len_without_end::<T>(buffered)];
-    bytes.extend_from_slice(lines)?;
-    let len = lines.len();
+    let (len, is_found) = len_without_end::<T>(buffered);
+    bytes.extend_from_slice(&buffered[..len])?;
     reader.consume(len);
-    Ok((
-        has_ended,
-        searched.saturating_sub(len.saturating_mul(WORTH)),
-    ))
+    let owed = searched.saturating_sub(len.saturating_mul(WORTH));
+    Ok((has_ended, owed.max(usize::from(is_found))))
 }
 
 // Whether the segment ends before the line, and the state after the line, which is the first of the next segment if this one ends.

@@ -1,5 +1,5 @@
-use Rattle.std.proofs.Common.{◌≡◌, ◌≤◌, inl, ℕ, [], length, take, refl, sym, ◌∙◌, subst, append-nil, length-take-le, eqb-true}
-use Rattle.std.specs.Io.BufRead.{FillKeeps, DropsConsumable}
+use Rattle.std.proofs.Common.{◌≡◌, ◌≤◌, inl, ℕ, [], length, take, refl, sym, ◌∙◌, subst, append-nil, eqb-true}
+use Rattle.std.specs.Io.BufRead.{FillKeeps}
 use Rattle.std.proofs.KnownBytes.{Consumes-nil, Consumes-kept}
 use Rattle.std.proofs.BufReadLemmas.{Consumes_shown}
 use Rattle.std.proofs.lemmas.Str.{IsUtf8-nil}
@@ -22,22 +22,20 @@ returns-in-Err g c = (
 
 pub returns : goal.returns
 returns g c =
-    let n = c.len_without_end.result in
+    let n = c.len_without_end-len.result.0 in
     let buffered = c.in-Ok.buffered.now in
     let lines = take n buffered in
     let rested = c.fill_buf.follows.lender-at-none in
     let filled = subst (FillKeeps _ (g.R.Read.remaining rested) (g.R.BufRead.consumable_len rested)) c.in-Ok.is c.fill_buf.follows.holds-at-none in
-    let bound : n ≤ length buffered = c.len_without_end.ensures.bound in
-    let amount : length lines ≡ n = length-take-le n buffered bound in
-    let drops = subst (λ (m : ℕ). DropsConsumable (g.R.Read.remaining rested) (g.R.Read.remaining c.consume.new.self) (g.R.BufRead.consumable_len rested) m) amount c.consume.ensures.bytes in
-    let moved = Consumes_shown (g.R.Read.remaining c.args.reader.now) _ _ _ buffered n bound c.in-Ok.ensures.front c.in-Ok.ensures.end filled.0 filled.1 drops in (
+    let bound : n ≤ length buffered = c.len_without_end-len.ensures.bound in
+    let moved = Consumes_shown (g.R.Read.remaining c.args.reader.now) _ _ _ buffered n bound c.in-Ok.ensures.front c.in-Ok.ensures.end filled.0 filled.1 c.consume.ensures.bytes in (
       lines,
       record {
         held = c.in_ok-extend_from_slice.ensures.items;
         consumed = moved.0;
-        whole = c.len_without_end.ensures.lines;
-        utf8 = c.len_without_end.ensures.utf8;
-        none = c.len_without_end.ensures.none;
+        whole = c.len_without_end-len.ensures.lines;
+        utf8 = c.len_without_end-len.ensures.utf8;
+        none = c.len_without_end-len.ensures.none;
         all_read = λ e. all_shown (g.R.Read.remaining c.args.reader.now) buffered n (eqb-true (length buffered) 0 (sym c.is_empty-has_ended.ensures ∙ e)) c.in-Ok.ensures.end;
       },
     )
