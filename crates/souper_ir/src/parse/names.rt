@@ -62,6 +62,7 @@ impl<'a> Names<'a> {
         let (in_table, compared) = self.table.find(hash, name);
         let entry = match in_table {
             Some(entry) => Some(entry),
+            None if self.entries.is_empty() => None,
             None => self.entries.get(name).copied(),
         };
         Found {
