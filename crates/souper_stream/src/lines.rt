@@ -236,34 +236,33 @@ fn before_word<'a, T: StreamItem>(bytes: &'a [u8], word: &str) -> &'a [u8]
     }
 }
 
-// The bytes before the words that items of the type end with, be they in a token or in a comment.
-fn before_end_words<T: StreamItem>(bytes: &[u8]) -> &[u8]
-    ensures front { StartsWith bytes.now result.now }
-    ensures none { NoEndWord T.item_type result.now }
+// The bytes before the words that items of the type end with, be they in a token or in a comment, and how many bytes were searched for
+// the first of the words.
+fn before_end_words<T: StreamItem>(bytes: &[u8]) -> (&[u8], usize)
+    ensures front { StartsWith bytes.now result.0.now }
+    ensures none { NoEndWord T.item_type result.0.now }
 {
     let bytes = before_word::<T>(bytes, "infer");
     let bytes = before_word::<T>(bytes, "result");
-    before_word::<T>(bytes, "cand")
+    (before_word::<T>(bytes, "cand"), bytes.len())
 }
 
-/// The most bytes that are searched at once: an item may end with a word that is nowhere in the buffer, and another that comes soon.
-pub(crate) const WINDOW: usize = 512;
+// The most bytes that are searched at once: an item may end with a word that is nowhere in the buffer, and another that comes soon.
+const WINDOW: usize = 512;
 
-/// The length of lines that the bytes begin with, in which the words that items of the type end with do not occur, and whether such a word
-/// was found after them. 0 if the lines are not UTF-8: the line at fault is then found line by line.
-pub(crate) fn len_without_end<T: StreamItem>(bytes: &[u8]) -> (usize, bool)
+/// The length of lines that the bytes begin with, in which the words that items of the type end with do not occur, and how many bytes were
+/// searched for such a word. 0 if the lines are not UTF-8: the line at fault is then found line by line.
+pub(crate) fn len_without_end<T: StreamItem>(bytes: &[u8]) -> (usize, usize)
     ensures bound { result.0 ≤ length bytes.now }
     ensures lines { IsLines (take result.0 bytes.now) }
     ensures utf8 { IsUtf8 (take result.0 bytes.now) }
     ensures none { NoEndWord T.item_type (take result.0 bytes.now) }
 {
-    let window = &bytes[..bytes.len().min(WINDOW)];
-    let front = before_end_words::<T>(window);
-    let is_found = front.len() < window.len();
+    let (front, searched) = before_end_words::<T>(&bytes[..bytes.len().min(WINDOW)]);
     let len = lines_len(front, front.len());
     match str::from_utf8(&front[..len]) {
-        Ok(_) => (len, is_found),
-        Err(_) => (0, is_found),
+        Ok(_) => (len, searched),
+        Err(_) => (0, searched),
     }
 }
 
@@ -276,7 +275,7 @@ pub(crate) fn complete_len<T: StreamItem>(text: &str) -> usize
 {
     let bytes = text.as_bytes();
     // In the middle of a large item no line is looked at.
-    if before_end_words::<T>(bytes).len() == bytes.len() {
+    if before_end_words::<T>(bytes).0.len() == bytes.len() {
         return 0;
     }
     let mut end = lines_len(bytes, bytes.len());

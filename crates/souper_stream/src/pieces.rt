@@ -9,7 +9,7 @@ ghost use Rattle.souper_stream.specs.PieceReading.{HasLines, Passes, ReadsLine, 
 
 use crate::ends::StreamItem;
 use crate::held::{Held, newline_count};
-use crate::lines::{ScanState, WINDOW, first_offset, len_without_end, scan_line, starts_line};
+use crate::lines::{ScanState, first_offset, len_without_end, scan_line, starts_line};
 use crate::parts::{place, read_error};
 use souper_ir::parse::{Memory, ParseError, ParseErrorKind, Result, Sink, parse_with_memory};
 use std::alloc::Global;
@@ -34,11 +34,13 @@ fn read_line<R: BufRead>(reader: &mut R, bytes: &mut Vec<u8>) -> io::Result<bool
     Ok(len == 0 || bytes[bytes.len() - 1] != b'\n')
 }
 
-// The number of searched bytes that one byte of lines which are not lexed is worth.
+// What a search costs before its first byte, and what a line is worth that is not lexed, for each of its bytes: in bytes that are searched.
+const START: usize = 64;
+
 const WORTH: usize = 16;
 
 // Reads buffered lines in which no item of the type can end. Returns whether the input has ended, and how many bytes to read line by line
-// before the next search: as many as were searched, less what the lines are worth, and the next line, if an item may end there.
+// before the next search: what this search costs more than the lines are worth.
 fn read_without_end<T: StreamItem, R: BufRead>(
     reader: &mut R,
     bytes: &mut Vec<u8>,
@@ -51,12 +53,11 @@ fn read_without_end<T: StreamItem, R: BufRead>(
         Err(fault) => return Err(fault),
     };
     let has_ended = buffered.is_empty();
-    let searched = buffered.len().min(WINDOW);
-    let (len, is_found) = len_without_end::<T>(buffered);
+    let (len, searched) = len_without_end::<T>(buffered);
     bytes.extend_from_slice(&buffered[..len])?;
     reader.consume(len);
-    let owed = searched.saturating_sub(len.saturating_mul(WORTH));
-    Ok((has_ended, owed.max(usize::from(is_found))))
+    let cost = searched.saturating_add(START);
+    Ok((has_ended, cost.saturating_sub(len.saturating_mul(WORTH))))
 }
 
 // Whether the segment ends before the line, and the state after the line, which is the first of the next segment if this one ends.
