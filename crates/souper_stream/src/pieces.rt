@@ -35,7 +35,7 @@ fn read_line<R: BufRead>(reader: &mut R, bytes: &mut Vec<u8>) -> io::Result<bool
 }
 
 // What a search costs before its first byte, and what a line is worth that is not lexed, for each of its bytes: in bytes that are searched.
-const START: usize = 64;
+const START: usize = 256;
 
 const WORTH: usize = 16;
 
