@@ -13,9 +13,9 @@ use Rattle.souper_graph.specs.Syntax.Spelling.{Scope, predecessors_if_block, ent
 use Rattle.souper_ir.specs.declared.parse.parser.Failure.{Failure}
 use Rattle.souper_ir.specs.FailureView.{cause_of_failure}
 use Rattle.souper_ir.specs.Laws.Peeks.{some_is}
-use Rattle.souper_ir.specs.NamesView.{NameMap, entry_in, AddsToMap, Adds, AreEntered, defines, is_named, entry_in_scope}
+use Rattle.souper_ir.specs.NamesView.{NameMap, entry_in, entry_in_map, AddsToMap, Adds, AreEntered, defines, is_named, entry_in_scope}
 use Rattle.souper_ir.specs.declared.parse.names.Names.{Names}
-use Rattle.souper_ir.specs.TableView.{NameEntry}
+use Rattle.souper_ir.specs.TableView.{NameEntry, or_else, last_entry}
 use Rattle.souper_ir.specs.NodeReadings.{new_name_at}
 use Rattle.souper_ir.specs.Parsing.{Parsing}
 use Rattle.souper_ir.proofs.Scope.Names.{no_entry}
@@ -118,6 +118,12 @@ is_old names s n o are is h = by_entry (entry_of s n) (rw (entry_is names s n o 
     by_entry : (e : Option NameEntry) → is_some e ≡ true → (i : ℕ) × (option_map (λ (x : NameEntry). x.0) e ≡ Some i)
     by_entry None h = absurd cc
     by_entry (Some e) h = (e.0, refl)
+
+-- the same, by the table alone
+pub is_old_in_table : (names : Names) (s : Scope) (n : List ℕ) (o : Option NameEntry) → AreEntered names s → o ≡ last_entry names.table n → is_some (entry_in_scope s o n) ≡ true → (i : ℕ) × (position_of s n ≡ Some i)
+is_old_in_table names s n None are is h = absurd cc
+is_old_in_table names s n (Some e) are is h =
+    is_old names s n (Some e) are (ap (λ (o : Option NameEntry). or_else o (entry_in_map names.entries n)) (sym is)) h
 
 pub begun : (n : List ℕ) (p : Parsing) → position_of p.scope n ≡ None → new_name_at n p ≡ Some (tt, p)
 unfolding new_name_at

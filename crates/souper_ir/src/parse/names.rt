@@ -16,10 +16,10 @@ fn most(entries: usize) -> usize {
     (entries / 16).min(8) + 3
 }
 
-/// What a search for a name found.
+/// What a search of the table for a name found.
 #[derive(Clone, Copy)]
 pub(crate) struct Found {
-    /// The entry of the name.
+    /// The entry of the name in the table. If the names are in the map, there is none.
     pub(crate) entry: Option<Entry>,
     hash: u64,
     // Whether the slot of the name has too many entries for one more.
@@ -38,9 +38,10 @@ pub(crate) struct Names<'a> {
 }
 
 impl<'a> Names<'a> {
-    ghost use Rattle.std.specs.Prelude.{◌≡◌, ℕ, List, [], Some, OnOk};
+    ghost use Rattle.std.specs.Prelude.{◌≡◌, ℕ, List, [], Some, IfOk, OnOk};
     ghost use Rattle.souper_ir.specs.HashView.{name_hash};
-    ghost use Rattle.souper_ir.specs.NamesView.{AreNames, IsLast, entry_in, Adds, AddsToMap};
+    ghost use Rattle.souper_ir.specs.TableView.{last_entry};
+    ghost use Rattle.souper_ir.specs.NamesView.{AreNames, IsLast, entry_in, entry_in_map, Adds, AddsToMap};
 
     pub(crate) fn new(alloc: Global) -> Self
         ensures { AreNames result [] }
@@ -52,19 +53,14 @@ impl<'a> Names<'a> {
         }
     }
 
-    /// Searches for a name.
+    /// Searches the table for a name.
     #[inline(always)]
     pub(crate) fn find(&self, name: &str) -> Found
-        ensures entry { result.entry ≡ entry_in self.now name.now }
+        ensures entry { result.entry ≡ last_entry self.now.table name.now }
         ensures hash { result.hash ≡ name_hash name.now }
     {
         let hash = hash_of(name);
-        let (in_table, compared) = self.table.find(hash, name);
-        let entry = match in_table {
-            Some(entry) => Some(entry),
-            None if self.entries.is_empty() => None,
-            None => self.entries.get(name).copied(),
-        };
+        let (entry, compared) = self.table.find(hash, name);
         Found {
             entry,
             hash,
@@ -76,10 +72,14 @@ impl<'a> Names<'a> {
     pub(crate) fn get(&self, name: &str) -> Option<Entry>
         ensures { result ≡ entry_in self.now name.now }
     {
-        self.find(name).entry
+        match self.table.get(hash_of(name), name) {
+            Some(entry) => Some(entry),
+            None => self.entries.get(name).copied(),
+        }
     }
 
-    /// Enters a name, for which this was found. The entries go to the map once the slot of a name has too many.
+    /// Enters a name, for which this was found, and returns the entry that it had. The entries go to the map once the slot of a name has
+    /// too many.
     #[inline(always)]
     pub(crate) fn put(
         &mut self,
@@ -87,8 +87,10 @@ impl<'a> Names<'a> {
         name: &'a str,
         value: ValueId,
         predecessors: Option<u32>,
-    ) -> Result<(), AllocError>
-        requires { found.hash ≡ name_hash name.now }
+    ) -> Result<Option<Entry>, AllocError>
+        requires entry { found.entry ≡ last_entry self.old.table name.now }
+        requires hash { found.hash ≡ name_hash name.now }
+        ensures replaced { IfOk result (λ replaced. replaced ≡ entry_in self.old name.now) }
         ensures entered { OnOk result (Adds self.old self.new name.now (value, predecessors)) }
         ensures last { OnOk result (IsLast self.new.last self.new) }
     {
@@ -97,7 +99,7 @@ impl<'a> Names<'a> {
         }
         self.table.put(found.hash, name, (value, predecessors))?;
         self.last = Some((name, value, predecessors));
-        Ok(())
+        Ok(found.entry)
     }
 
     // The same, where all entries go to the map, or are there.
@@ -107,14 +109,15 @@ impl<'a> Names<'a> {
         name: &'a str,
         value: ValueId,
         predecessors: Option<u32>,
-    ) -> Result<(), AllocError>
+    ) -> Result<Option<Entry>, AllocError>
+        ensures replaced { IfOk result (λ replaced. replaced ≡ entry_in self.old name.now) }
         ensures entered { OnOk result (Adds self.old self.new name.now (value, predecessors)) }
         ensures last { OnOk result (IsLast self.new.last self.new) }
     {
         self.move_names()?;
-        self.insert(name, (value, predecessors))?;
+        let replaced = self.insert(name, (value, predecessors))?;
         self.last = Some((name, value, predecessors));
-        Ok(())
+        Ok(replaced)
     }
 
     // Moves the entries of the table to the map.
@@ -130,13 +133,14 @@ impl<'a> Names<'a> {
         Ok(())
     }
 
-    // Inserts an entry into the map.
-    fn insert(&mut self, name: &'a str, entry: Entry) -> Result<(), AllocError>
+    // Inserts an entry into the map, and returns the name's entry before.
+    fn insert(&mut self, name: &'a str, entry: Entry) -> Result<Option<Entry>, AllocError>
+        ensures replaced { IfOk result (λ replaced. replaced ≡ entry_in_map self.old.entries name.now) }
         ensures entered { OnOk result (AddsToMap self.old.entries self.new.entries name.now entry) }
         ensures table { self.new.table ≡ self.old.table }
     {
         match self.entries.insert(name, entry) {
-            Ok(_) => Ok(()),
+            Ok(replaced) => Ok(replaced),
             Err(_) => Err(AllocError),
         }
     }
@@ -173,7 +177,8 @@ impl<'a> Names<'a> {
         ensures last { OnOk result (IsLast self.new.last self.new) }
     {
         let found = self.find(name);
-        self.put(found, name, value, predecessors)
+        self.put(found, name, value, predecessors)?;
+        Ok(())
     }
 
     /// Takes all names out.

@@ -447,7 +447,16 @@ impl<'a> Parser<'a> {
         }
         let next = self.statements.next_id().into();
         match self.names.put(found, name, next, None) {
-            Ok(()) => Ok(()),
+            Ok(None) => Ok(()),
+            Ok(replaced) => {
+                if in_scope(&self.statements, replaced, name).is_some() {
+                    // The names lack the earlier definition now, so the cause is set first.
+                    let offset = self.offset;
+                    self.failed = Some(Failure::Refused(offset));
+                    return Err(self.fail_at(offset, Message::CannotRedefine(name)));
+                }
+                Ok(())
+            }
             // Some names may have no entry now, so the cause is set first.
             Err(_) => {
                 self.failed = Some(Failure::Memory);
