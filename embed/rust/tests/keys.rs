@@ -38,12 +38,6 @@ fn a_plain_record_is_the_canonical_text() {
                 assert!(record.is_refused);
                 assert_eq!(error.to_string(), record.answer);
             }
-            Ok(plain) if record.kind == Kind::Rhs => {
-                let lines = |text: &str| text.lines().map(str::to_string).collect::<Vec<_>>();
-                let mut expected = lines(&plain);
-                expected.retain(|line| !line.is_empty());
-                assert_eq!(expected, lines(&record.answer));
-            }
             Ok(plain) => assert_eq!(plain, record.answer),
         }
     }
@@ -55,7 +49,8 @@ fn many_small_records_are_longer_than_the_first_buffer() {
     let text = "result 1 ".repeat(1000);
     let record = Record { key: true, ..PLAIN };
     let written = key(Kind::Rhs, &text, record).unwrap();
-    assert_eq!(written.lines().count(), 3000);
+    // A line with the key, and one with the result: the text of a right-hand side ends without a newline, so no empty line follows.
+    assert_eq!(written.lines().count(), 2000);
     assert!(written.len() > 3 * text.len() + text.len() / 4 + 256);
     assert_eq!(format(Kind::Rhs, &written), format(Kind::Rhs, &text));
 }
