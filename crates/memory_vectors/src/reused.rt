@@ -68,24 +68,26 @@ const SECOND: &str = "%a_longer_name = var\n%d = var\n%e = add %d, %a_longer_nam
 const SECOND_TEXTS: &str =
     "%d = var\n%a_longer_name = var\n%e = add %d, %a_longer_name\ninfer %e\n";
 
-// Reads a text with the memory, and returns what became of it.
+// Reads a text with the memory, and returns whether there was memory for it.
 fn read_with(
     rt: &impl Abort,
     alloc: Global,
     memory: &mut Memory,
     source: &str,
     want: &str,
-) -> Result<Met, Fail> {
+) -> Result<bool, Fail> {
     let mut dropped = Dropped {
         text: String::new(alloc),
     };
     match parse_with_memory::<LeftHandSide, Dropped>(alloc, memory, source, None, &mut dropped) {
         Ok(()) => {
-            let met = completed_if(alloc, true);
             equal(rt, dropped.text.as_str(), want);
-            Ok(met)
+            Ok(true)
         }
-        Err(error) => is_out_of_memory(rt, alloc, &error),
+        Err(error) => {
+            is_out_of_memory(rt, alloc, &error)?;
+            Ok(false)
+        }
     }
 }
 
@@ -97,17 +99,13 @@ fn reading_again(rt: &impl Abort, alloc: Global) -> Result<Met, Fail> {
         (SECOND, SECOND_TEXTS),
         (FIRST, FIRST_TEXTS),
     ] {
-        match read_with(rt, alloc, &mut memory, source, want)? {
-            Met::Completed => {}
-            // What is kept of a text that was refused serves the next.
-            Met::Refused => {
-                read_with(rt, alloc, &mut memory, SECOND, SECOND_TEXTS)?;
-                return Ok(Met::Refused);
-            }
-            other => return Ok(other),
+        if !read_with(rt, alloc, &mut memory, source, want)? {
+            // What is kept of a text without memory serves the next.
+            read_with(rt, alloc, &mut memory, SECOND, SECOND_TEXTS)?;
+            return Ok(Met::Refused);
         }
     }
-    Ok(Met::Completed)
+    Ok(completed_if(alloc, true))
 }
 
 #[test]
