@@ -100,7 +100,7 @@ fn reading_again(rt: &impl Abort, alloc: Global) -> Result<Met, Fail> {
         (FIRST, FIRST_TEXTS),
     ] {
         if !read_with(rt, alloc, &mut memory, source, want)? {
-            // What is kept of a text without memory serves the next.
+            // What is kept when memory ran out serves the next text.
             read_with(rt, alloc, &mut memory, SECOND, SECOND_TEXTS)?;
             return Ok(Met::Refused);
         }

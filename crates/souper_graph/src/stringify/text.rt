@@ -31,7 +31,8 @@ impl Parts<'_> {
         Ok(())
     }
 
-    // Puts the text of the item into a buffer that is empty. An error leaves it so, and a buffer that had no memory gives its memory back.
+    // Puts the text of the item into a buffer that is empty. An error leaves it so: a buffer that had no memory gives its memory back, another
+    // keeps what it has grown to.
     fn put_text(&self, out: &mut String) -> Result<(), TextError>
         requires { string_bytes out.old ≡ [] }
         ensures refused { IfErr result (λ error. IsFaultOf (view_parts self.now) error) }

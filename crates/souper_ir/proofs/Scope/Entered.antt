@@ -125,6 +125,15 @@ is_old_in_table names s n None are is h = absurd cc
 is_old_in_table names s n (Some e) are is h =
     is_old names s n (Some e) are (ap (λ (o : Option NameEntry). or_else o (entry_in_map names.entries n)) (sym is)) h
 
+or_none : (o : Option NameEntry) → or_else o None ≡ o
+or_none None = refl
+or_none (Some e) = refl
+
+-- the same of a name that is new, if the map is empty
+pub is_new_in_table : (names : Names) (s : Scope) (n : List ℕ) (o : Option NameEntry) → AreEntered names s → names.entries.entries ≡ [] → o ≡ last_entry names.table n → is_some (entry_in_scope s o n) ≡ false → position_of s n ≡ None
+is_new_in_table names s n o are empty is h =
+    is_new names s n o are (ap (λ (e : Option NameEntry). or_else (last_entry names.table n) e) (let none : entry_in_map names.entries n ≡ None = rw empty refl in none) ∙ or_none (last_entry names.table n) ∙ sym is) h
+
 pub begun : (n : List ℕ) (p : Parsing) → position_of p.scope n ≡ None → new_name_at n p ≡ Some (tt, p)
 unfolding new_name_at
 begun n p h = rw h refl

@@ -22,8 +22,8 @@ pub(crate) struct Found {
     /// The entry of the name in the table. If the names are in the map, there is none.
     pub(crate) entry: Option<Entry>,
     hash: u64,
-    // Whether the slot of the name has too many entries for one more.
-    is_crowded: bool,
+    /// Whether the name is to be entered into the map: the entries are there, or too many have its slot.
+    pub(crate) is_for_map: bool,
 }
 
 /// Each name of an item with its entry.
@@ -38,7 +38,7 @@ pub(crate) struct Names<'a> {
 }
 
 impl<'a> Names<'a> {
-    ghost use Rattle.std.specs.Prelude.{◌≡◌, ℕ, List, [], Some, IfOk, OnOk};
+    ghost use Rattle.std.specs.Prelude.{◌≡◌, ℕ, List, [], Some, false, IfOk, OnOk};
     ghost use Rattle.souper_ir.specs.HashView.{name_hash};
     ghost use Rattle.souper_ir.specs.TableView.{last_entry};
     ghost use Rattle.souper_ir.specs.NamesView.{AreNames, IsLast, entry_in, entry_in_map, Adds, AddsToMap};
@@ -58,13 +58,14 @@ impl<'a> Names<'a> {
     pub(crate) fn find(&self, name: &str) -> Found
         ensures entry { result.entry ≡ last_entry self.now.table name.now }
         ensures hash { result.hash ≡ name_hash name.now }
+        ensures table { result.is_for_map ≡ false → self.now.entries.entries ≡ [] }
     {
         let hash = hash_of(name);
         let (entry, compared) = self.table.find(hash, name);
         Found {
             entry,
             hash,
-            is_crowded: compared > most(self.table.len()),
+            is_for_map: compared > most(self.table.len()) || !self.entries.is_empty(),
         }
     }
 
@@ -78,33 +79,27 @@ impl<'a> Names<'a> {
         }
     }
 
-    /// Enters a name, for which this was found, and returns the entry that it had. The entries go to the map once the slot of a name has
-    /// too many.
+    /// Enters a name, for which this was found, into the table.
     #[inline(always)]
-    pub(crate) fn put(
+    pub(crate) fn put_into_table(
         &mut self,
         found: Found,
         name: &'a str,
         value: ValueId,
         predecessors: Option<u32>,
-    ) -> Result<Option<Entry>, AllocError>
-        requires entry { found.entry ≡ last_entry self.old.table name.now }
-        requires hash { found.hash ≡ name_hash name.now }
-        ensures replaced { IfOk result (λ replaced. replaced ≡ entry_in self.old name.now) }
+    ) -> Result<(), AllocError>
+        requires { found.hash ≡ name_hash name.now }
         ensures entered { OnOk result (Adds self.old self.new name.now (value, predecessors)) }
         ensures last { OnOk result (IsLast self.new.last self.new) }
     {
-        if found.is_crowded || !self.entries.is_empty() {
-            return self.put_into_map(name, value, predecessors);
-        }
         self.table.put(found.hash, name, (value, predecessors))?;
         self.last = Some((name, value, predecessors));
-        Ok(found.entry)
+        Ok(())
     }
 
-    // The same, where all entries go to the map, or are there.
+    /// Enters a name into the map, to which all entries go, and returns the entry that it had.
     #[inline(never)]
-    fn put_into_map(
+    pub(crate) fn put_into_map(
         &mut self,
         name: &'a str,
         value: ValueId,
@@ -177,8 +172,11 @@ impl<'a> Names<'a> {
         ensures last { OnOk result (IsLast self.new.last self.new) }
     {
         let found = self.find(name);
-        self.put(found, name, value, predecessors)?;
-        Ok(())
+        if found.is_for_map {
+            self.put_into_map(name, value, predecessors)?;
+            return Ok(());
+        }
+        self.put_into_table(found, name, value, predecessors)
     }
 
     /// Takes all names out.

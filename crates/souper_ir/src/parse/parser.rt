@@ -445,8 +445,30 @@ impl<'a> Parser<'a> {
         if in_scope(&self.statements, found.entry, name).is_some() {
             return Err(self.refuse(Message::CannotRedefine(name)));
         }
+        if found.is_for_map {
+            return self.begin_in_map(name);
+        }
         let next = self.statements.next_id().into();
-        match self.names.put(found, name, next, None) {
+        match self.names.put_into_table(found, name, next, None) {
+            Ok(()) => Ok(()),
+            // The names may lack some entry now, so the cause is set first.
+            Err(_) => {
+                self.failed = Some(Failure::Memory);
+                Err(ReadError::Memory)
+            }
+        }
+    }
+
+    // The same, where the name goes to the map.
+    #[cold]
+    #[inline(never)]
+    #[tactic(auto, unfolding(crate::specs::NodeReadings::new_name_at))]
+    fn begin_in_map(&mut self, name: &'a str) -> Read<()>
+        requires { self.old.failed ≡ None }
+        ensures { Gives (λ u. u) (widened result) (new_name_at name.now self.old) self.old self.new }
+    {
+        let next = self.statements.next_id().into();
+        match self.names.put_into_map(name, next, None) {
             Ok(None) => Ok(()),
             Ok(replaced) => {
                 if in_scope(&self.statements, replaced, name).is_some() {
@@ -457,7 +479,7 @@ impl<'a> Parser<'a> {
                 }
                 Ok(())
             }
-            // Some names may have no entry now, so the cause is set first.
+            // The names may lack some entry now, so the cause is set first.
             Err(_) => {
                 self.failed = Some(Failure::Memory);
                 Err(ReadError::Memory)

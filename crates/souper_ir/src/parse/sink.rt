@@ -22,7 +22,7 @@ pub trait Sink<T: WholeItem> {
 
     /// Takes the next item, as [`take`](Sink::take) does. A sink that drops it may return its statements
     /// ([`WholeItem::take_statements`]), so that the next item is read into their memory. An item that comes then and is kept may have
-    /// room for up to 64 statements, and for up to 64 bytes in each name.
+    /// room for up to 64 statements, and for up to 128 bytes in each name.
     fn take_over(&mut self, item: T) -> Result<Option<Arena<Statement>>, AllocError>
         requires { WellFormed (T.view item) }
         ensures { OnOk result ((first : Self) (items : List Item) → holds first self.old items → holds first self.new (items ++ T.view item ∷ [])) }
