@@ -1,5 +1,5 @@
 -- The bytes of a reader, from read to read.
-use Rattle.std.proofs.Common.{◌≡◌, ℕ, ◌+◌, ◌-◌, ◌<◌, Bool, true, false, not, length, take, drop, get_or, get_or-append-add, eqb-true, length-append, subst, arith, List, [], ◌∷◌, ◌++◌, Option, Some, None, refl, sym, ap, ◌∙◌, append_assoc}
+use Rattle.std.proofs.Common.{◌≡◌, ℕ, ◌+◌, ◌-◌, ◌<◌, Bool, true, false, not, length, take, drop, get_or, get_or-append-add, eqb-true, length-append, subst, arith, List, [], ◌∷◌, ◌++◌, Option, Some, None, refl, sym, ap, ◌∙◌, append_assoc, zero-le}
 use Rattle.std.specs.Prelude.{IfSome, All, ◌==◌, slice_index_or, if◌then◌else◌}
 use Rattle.std.specs.Io.{StartsWith, StopsAt, appended_bytes}
 use Rattle.std.specs.Io.BufRead.{take_through}
@@ -106,3 +106,9 @@ line_reads before after old new len last starts consumed stops longer some last_
     all (Some xs) b h =
         let same : line ≡ take_through 10 xs = ap (λ (x : List ℕ). drop (length old) x) b ∙ drop-append_seam old (take_through 10 xs) in
         sym (same ∙ through_all xs (subst (λ (x : List ℕ). IsOneLine x) same h))
+
+-- at the end of the input the buffer is empty
+pub all_shown : (known : Option (List ℕ)) (shown : List ℕ) (n : ℕ) → length shown ≡ 0 → IfSome known (λ xs. length shown ≡ 0 → xs ≡ []) → AreAll known (take n shown)
+all_shown None shown n none h = tt
+all_shown (Some xs) [] n none h = h refl ∙ sym (take_all n [] zero-le)
+all_shown (Some xs) (c ∷ shown) n none h = absurd (omega arith)

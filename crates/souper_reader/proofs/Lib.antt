@@ -7,6 +7,7 @@ mod Scan
 pub mod Bytes
 mod LineLists
 mod Scanning
+mod WithoutEnd
 pub mod SegmentLaws
 mod Buffers
 mod Refusing

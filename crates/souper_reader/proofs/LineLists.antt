@@ -11,9 +11,10 @@ use Rattle.souper_lexer.proofs.TokenLaws.{text_tokens, one_reading}
 use Rattle.souper_ir.specs.Joining.{IsLines, moved}
 use Rattle.souper_ir.specs.Laws.Steps.{kinds-append}
 use Rattle.souper_ir.proofs.Items.Joining.{newline_last, kinds_moved}
-use Rattle.souper_ir.proofs.Items.Parting.{lines_end, tokens_part}
+use Rattle.souper_ir.proofs.Items.Parting.{Within, Beyond, parted_twice, lines_end, tokens_part}
 use Rattle.souper_reader.specs.Segments.{Line, concat, IsLine, IsLastLine, AreLines, tokens_of, tokens_of_lines, IsFirstLine, IsLastLineAt}
 use Rattle.souper_reader.proofs.Nodes.{is_not}
+use Rattle.souper_reader.proofs.Parted.{Parted, snoc_parted}
 use Rattle.souper_reader.proofs.Texts.{lines_append, no_text}
 
 -- ---- lists
@@ -162,6 +163,35 @@ first_len l [] n (inr h) f = under f.line
         (subst (λ (x : List ℕ). IsOneLine x) (sym (append-nil l) ∙ parts_of n (l ++ []) ∙ ap (λ (x : List ℕ). x ++ drop n (l ++ [])) k.2 ∙ append_assoc k.0 (10 ∷ []) (drop n (l ++ []))) h.0))
 first_len l [] n (inl h) f = whole l [] n h f
 first_len l (m ∷ ls) n h f = whole l (m ∷ ls) n h.0 f
+
+-- whole lines with which lines begin are the first of them
+no_line_beyond : (l front more : List ℕ) → IsLastLine l → l ≡ (front ++ 10 ∷ []) ++ more → 0 < length more → ⊥
+no_line_beyond l front more (inr h) e some = no_newline front more (subst (λ (x : List ℕ). IsOneLine x) (e ∙ append_assoc front (10 ∷ []) more) h.0)
+no_line_beyond l front more (inl h) e some = under (snoc_parted (front ++ 10 ∷ []) more h.0 10 (sym h.2 ∙ e))
+  where
+    under : (more ≡ []) ⊎ Parted (front ++ 10 ∷ []) more h.0 10 → ⊥
+    under (inl none) = let n = ap length none in omega arith
+    under (inr p) = no_newline front p.mid (subst (λ (x : List ℕ). IsOneLine x) (p.rest_is ∙ append_assoc front (10 ∷ []) p.mid) h.1)
+
+first_last : (l : Line) (ls : List Line) → AreLines (l ∷ ls) → IsLastLine l
+first_last l [] h = h
+first_last l (m ∷ ls) h = inl h.0
+
+pub lines_split : (ls : List Line) (a b : List ℕ) → AreLines ls → concat ls ≡ a ++ b → IsLines a → (xs : List Line) × (ys : List Line) × (ls ≡ xs ++ ys) × (concat xs ≡ a)
+lines_split ls [] b lines e h = ([], ls, refl, refl)
+lines_split [] (c ∷ a) b lines e h = let n = ap length e in absurd (omega arith)
+lines_split (l ∷ ls) (c ∷ a) b lines e h = under (parted_twice l (concat ls) (c ∷ a) b e) (λ (left : List ℕ) second more. lines_split ls left b (lines_back (l ∷ []) ls lines) second more)
+  where
+    beyond : (more : List ℕ) → l ≡ (c ∷ a) ++ more → 0 < length more → IsLines (c ∷ a) → ⊥
+    beyond more f some (inl none) = cc
+    beyond more f some (inr end) = no_line_beyond l end.0 more (first_last l ls lines) (f ∙ ap (λ (x : List ℕ). x ++ more) end.1) some
+
+    under : Within l (concat ls) (c ∷ a) b ⊎ Beyond l (concat ls) (c ∷ a) b → ((left : List ℕ) → concat ls ≡ left ++ b → IsLines left → (xs : List Line) × (ys : List Line) × (ls ≡ xs ++ ys) × (concat xs ≡ left))
+        → (xs : List Line) × (ys : List Line) × (l ∷ ls ≡ xs ++ ys) × (concat xs ≡ c ∷ a)
+    under (inl w) rest =
+        let r = rest w.left w.second (lines_end l w.left (subst (λ (x : List ℕ). IsLines x) w.first h)) in
+        (l ∷ r.0, r.1, ap (λ (x : List Line). l ∷ x) r.2, ap (λ (x : List ℕ). l ++ x) r.3 ∙ sym w.first)
+    under (inr b) rest = absurd (beyond b.more b.first b.some h)
 
 -- ---- the last line
 

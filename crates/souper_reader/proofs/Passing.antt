@@ -1,6 +1,5 @@
 -- The reader of a stream: more is read, and parts are parsed.
-use Rattle.std.proofs.Common.{◌≡◌, ◌⊎◌, inl, inr, ℕ, ◌-◌, ◌<◌, ◌≤◌, Bool, true, false, List, [], ◌∷◌, ◌++◌, length, take, drop, Option, refl, sym, ap, ◌∙◌, subst, arith, append_assoc, append-nil, length-append}
-use Rattle.std.specs.Prelude.{zero, suc}
+use Rattle.std.proofs.Common.{◌≡◌, ◌⊎◌, inl, inr, ℕ, ◌+◌, ◌-◌, ◌<◌, ◌≤◌, Bool, true, false, List, [], ◌∷◌, ◌++◌, length, take, drop, Option, refl, sym, ap, ◌∙◌, subst, arith, append_assoc, append-nil, length-append}
 use Rattle.std.specs.List.{AllByRecursion}
 use Rattle.std.proofs.lemmas.List.{take-append-le, length-take}
 use Rattle.std.proofs.Math.Seq.{take-append_seam, drop-append_seam}
@@ -9,15 +8,17 @@ use Rattle.souper_graph.specs.Values.{Item}
 use Rattle.souper_graph.specs.Syntax.Tokens.{Lexeme, ident, IsOneLine}
 use Rattle.souper_graph.specs.Syntax.Spelling.{ItemType, TextSpells, SpellsNone}
 use Rattle.souper_ir.specs.declared.parse.error.ParseError.{ParseError}
+use Rattle.souper_ir.specs.declared.parse.error.ParseErrorKind.TheVariants.{Parse}
+use Rattle.souper_ir.specs.Errors.{kind_of}
 use Rattle.souper_ir.specs.Joining.{IsLines}
 use Rattle.souper_ir.specs.Sinks.{TakesText, PrefixSpells}
 use Rattle.souper_ir.proofs.Items.Parting.{Within, Beyond, parted_twice}
 use Rattle.souper_reader.specs.declared.buffer.Buffer.{Buffer}
 use Rattle.souper_reader.specs.declared.reader.ItemReader.{ItemReader}
-use Rattle.souper_reader.specs.Buffering.{unparsed, Buffers}
+use Rattle.souper_reader.specs.Buffering.{held, unparsed, Buffers, IsEmpty, KeepsOneLine}
 use Rattle.souper_reader.specs.Lines.{starts_line, NoStart}
 use Rattle.souper_reader.specs.Segments.{Line, concat, IsLine, AreLines, tokens_of_lines, EndsItem, Starts, HasNoCut, IsCut, AreCut, all_lines, AreParts, CutsAt, IsFirstSegment}
-use Rattle.souper_reader.specs.Parts.{IsChunk, and_next, HasRead, HasParts, IsNext, HasLine, IsOnLine, IsPlacedIn, advanced, Passes, PassesSegment, RefusesBytes, Holds, TakesPart, RefusesPart}
+use Rattle.souper_reader.specs.Parts.{IsChunk, and_next, HasRead, HasParts, IsNext, HasLine, IsOnLine, Advances, Holds, TakesPart, RefusesPart}
 use Rattle.souper_reader.specs.Reading.{AreAll, ReadsMore, EndsInLine, NeverSpells}
 use Rattle.souper_reader.proofs.Nodes.{all_append}
 use Rattle.souper_reader.proofs.Bytes.{all_after}
@@ -25,7 +26,8 @@ use Rattle.souper_reader.proofs.Parting.{quiet_rest, quiet_starts}
 use Rattle.souper_reader.proofs.LineLists.{concat-append, tokens-append, lines-append, are_front, lines_front, lines_back, lines_of, no_bytes, lines_whole, lines_exist}
 use Rattle.souper_reader.proofs.Scanning.{first_some}
 use Rattle.souper_reader.proofs.SegmentLaws.{lines_start, none_with}
-use Rattle.souper_reader.proofs.Buffers.{buffers_none, parts_read, unparsed_more, buffers_more, buffers_advanced, buffers_dropped}
+use Rattle.souper_reader.proofs.Buffers.{buffers_none, parts_read, held_more, unparsed_more, buffers_more, buffers_placed}
+use Rattle.souper_reader.proofs.Refusing.{RefusesText}
 
 -- ---- lists of lines and of parts
 
@@ -65,21 +67,22 @@ next_longer k ps (x ∷ ls) ms none h = cut_longer k ps x ls ms h
 
 -- ---- nothing was read
 
-pub read_none : (k : ItemType) (start : Option (List ℕ)) (r : ItemReader) → r.buffer.bytes.items ≡ [] → r.buffer.parsed ≡ 0 → r.buffer.before.bytes ≡ 0 → r.buffer.before.lines ≡ 0 → r.ended ≡ false → r.rejected ≡ 0 → HasParts k start start [] r
-read_none k start r none zero_is b l ended rejected = (
+pub read_none : (k : ItemType) (start : Option (List ℕ)) (r : ItemReader) → IsEmpty r.buffer → r.ended ≡ false → r.rejected ≡ 0 → HasParts k start start [] r
+read_none k start r empty ended rejected = (
   [],
   record {
     read = [];
     consumed = Consumes-nil start;
-    buffers = buffers_none r.buffer none zero_is b l;
-    rest = (λ i. drop (zero_is i) (none i));
+    buffers = buffers_none r.buffer empty;
+    rest = (λ i. drop (empty.parsed_is i) (drop (empty.start_is i) (empty.bytes_are i)));
     lines = tt;
     cut = tt;
     whole = λ e. tt;
     some = λ e f. refl;
     all_read = λ e. absurd cc;
     chunk = λ some. absurd (omega arith);
-    one_line = λ e. subst (λ (x : List ℕ). IsOneLine x) (λ i. take (sym zero_is i - 1) (sym none i)) tt;
+    one_line = subst (λ (x : List ℕ). IsOneLine x) (sym (λ i. take (empty.parsed_is i - 1) (drop (empty.start_is i) (empty.bytes_are i)))) tt;
+    drained = λ e. empty.start_is;
   },
 )
 
@@ -90,18 +93,20 @@ empty_front [] ys e = refl
 empty_front (x ∷ xs) ys e = absurd cc
 
 pub read_more : (k : ItemType) (start mid after : Option (List ℕ)) (ps : List (List Line)) (p q : ItemReader) (more : List ℕ) → HasParts k start mid ps p → p.ended ≡ false → p.rejected ≡ 0
-    → ReadsMore mid after p.buffer.bytes.items q.buffer.bytes.items q.ended more → (q.ended ≡ false → EndsInLine more) → q.buffer.parsed ≡ p.buffer.parsed → q.buffer.before ≡ p.buffer.before → q.rejected ≡ 0 → HasParts k start after ps q
-read_more k start mid after ps p q more (ls, h) going none m ends parsed before rejected =
+    → ReadsMore mid after p.buffer.bytes.items q.buffer.bytes.items q.ended more → (q.ended ≡ false → EndsInLine more) → q.buffer.start ≡ p.buffer.start → q.buffer.parsed ≡ p.buffer.parsed → q.buffer.before ≡ p.buffer.before → q.rejected ≡ 0 → HasParts k start after ps q
+read_more k start mid after ps p q more (ls, h) going none m ends first parsed before rejected =
     let new = lines_exist more in
     let ms = new.0 in
     let reads = h.whole going in
-    let within = h.buffers.within in (
+    let within = h.buffers.within in
+    let done = concat (all_lines ps) in
+    let holds = held_more h.read more done p.buffer q.buffer h.buffers m.held first parsed in (
       ls ++ ms,
       record {
         read = h.read ++ more;
         consumed = Consumes-trans start mid after h.read more h.consumed m.consumed;
-        buffers = buffers_more h.read more (concat (all_lines ps)) p.buffer q.buffer h.buffers m.held parsed before;
-        rest = unparsed_more h.read more (concat (all_lines ps)) p.buffer q.buffer h.buffers m.held parsed ∙ (λ i. h.rest i ++ new.2 i) ∙ sym (concat-append ls ms);
+        buffers = buffers_more h.read more done p.buffer q.buffer h.buffers m.held first parsed before;
+        rest = unparsed_more h.read more done p.buffer q.buffer h.buffers m.held first parsed ∙ (λ i. h.rest i ++ new.2 i) ∙ sym (concat-append ls ms);
         lines = subst (λ (x : List Line). AreLines x) (append_assoc (all_lines ps) ls ms) (lines-append (all_lines ps ++ ls) ms reads new.1);
         cut = next_longer k ps ls ms (h.some going) h.cut;
         whole = λ e. subst (λ (x : List Line). AllByRecursion IsLine x) (append_assoc (all_lines ps) ls ms)
@@ -109,7 +114,8 @@ read_more k start mid after ps p q more (ls, h) going none m ends parsed before 
         some = λ e f. h.some going (empty_front ls ms f);
         all_read = λ e. all_after start mid h.read more h.consumed (m.all_read e);
         chunk = λ some. absurd (omega arith);
-        one_line = λ e. subst (λ (x : List ℕ). IsOneLine x) (sym ((λ i. take (parsed i - 1) (m.held i)) ∙ take-append-le (p.buffer.parsed - 1) p.buffer.bytes.items more (omega arith))) (h.one_line none);
+        one_line = subst (λ (x : List ℕ). IsOneLine x) (sym ((λ i. take (parsed i - 1) (holds i)) ∙ take-append-le (p.buffer.parsed - 1) (held p.buffer) more (omega arith))) h.one_line;
+        drained = λ e. first ∙ h.drained none;
       },
     )
 
@@ -157,7 +163,7 @@ part_cut k ended ps (l ∷ front) [] some h c = subst (λ (x : List Line). AreCu
 part_cut k ended ps (l ∷ front) (m ∷ back) some h (inl c) = cut_split k ps l front (m ∷ back) h c.0 c.1
 part_cut k ended ps (l ∷ front) (m ∷ back) some h (inr none) = let bad : m ∷ back ≡ [] = none.0 in absurd cc
 
-module _ (k : ItemType) (start now : Option (List ℕ)) (ps : List (List Line)) (ls front back : List Line) (r q : ItemReader) (len rejected : ℕ) (m : ℕ) (h : HasRead k start now ps ls r.buffer r.ended m) (x : FirstPart k r.ended ls front back len) (passes : Passes r.buffer r.ended q len rejected) where
+module _ (k : ItemType) (start now : Option (List ℕ)) (ps : List (List Line)) (ls front back : List Line) (r q : ItemReader) (len rejected : ℕ) (m : ℕ) (h : HasRead k start now ps ls r.buffer r.ended m) (x : FirstPart k r.ended ls front back len) (advances : Advances r.buffer r.ended q len rejected) where
   text : unparsed r.buffer ≡ concat front ++ concat back
   text = h.rest ∙ ap concat x.whole ∙ concat-append front back
 
@@ -170,37 +176,27 @@ module _ (k : ItemType) (start now : Option (List ℕ)) (ps : List (List Line)) 
   lines_are : all_lines (ps ++ front ∷ []) ++ back ≡ all_lines ps ++ ls
   lines_are = ap (λ (y : List Line). y ++ back) (all_lines_snoc ps front) ∙ append_assoc (all_lines ps) front back ∙ ap (λ (y : List Line). all_lines ps ++ y) (sym x.whole)
 
-  within : len ≤ length (unparsed r.buffer)
+  pub within : len ≤ length (unparsed r.buffer)
   within = omega (arith, ap length text ∙ length-append (concat front) (concat back), x.len_is)
-
-  buffers_now : (n : ℕ) → n ≡ rejected → Buffers h.read (concat (all_lines (ps ++ front ∷ []))) q.buffer × (unparsed q.buffer ≡ concat back)
-  buffers_now n e =
-      let a = buffers_advanced h.read (concat (all_lines ps)) r.buffer len h.buffers within in
-      let done : concat (all_lines ps) ++ take len (unparsed r.buffer) ≡ concat (all_lines (ps ++ front ∷ [])) = ap (λ (y : List ℕ). concat (all_lines ps) ++ y) part_text ∙ sym (done_more ps front) in
-      let held : Buffers h.read (concat (all_lines (ps ++ front ∷ []))) (advanced r.buffer len) = subst (λ (y : List ℕ). Buffers h.read y (advanced r.buffer len)) done a.0 in
-      under n e held (a.1 ∙ rest_text)
-    where
-      under : (n : ℕ) → n ≡ rejected → Buffers h.read (concat (all_lines (ps ++ front ∷ []))) (advanced r.buffer len) → unparsed (advanced r.buffer len) ≡ concat back → Buffers h.read (concat (all_lines (ps ++ front ∷ []))) q.buffer × (unparsed q.buffer ≡ concat back)
-      under zero e held rest = let d = buffers_dropped h.read (concat (all_lines (ps ++ front ∷ []))) (advanced r.buffer len) q.buffer held (passes.dropped (sym e)) in (d.0, d.1 ∙ rest)
-      under (suc n) e held rest = let same = passes.kept (omega arith) in (subst (λ (b : Buffer). Buffers h.read (concat (all_lines (ps ++ front ∷ []))) b) (sym same) held, ap unparsed same ∙ rest)
 
   pub passed : (0 < rejected → IsChunk k r.ended back rejected) → HasRead k start now (ps ++ front ∷ []) back q.buffer q.ended q.rejected
   passed chunk =
-      let b = buffers_now rejected refl in
-      let ended = passes.ended_is in
-      let left = passes.rejected_is in
+      let done : concat (all_lines ps) ++ take len (unparsed r.buffer) ≡ concat (all_lines (ps ++ front ∷ [])) = ap (λ (y : List ℕ). concat (all_lines ps) ++ y) part_text ∙ sym (done_more ps front) in
+      let ended = advances.ended_is in
+      let left = advances.rejected_is in
       record {
         read = h.read;
         consumed = h.consumed;
-        buffers = b.0;
-        rest = b.1;
+        buffers = subst (λ (y : List ℕ). Buffers h.read y q.buffer) done (advances.buffers h.read (concat (all_lines ps)) h.buffers);
+        rest = advances.rest ∙ rest_text;
         lines = subst (λ (y : List Line). AreLines y) (sym lines_are) h.lines;
         cut = part_cut k r.ended ps front back (let n = x.len_is in let m = x.some in omega arith) (subst (λ (y : List Line). AreCut k (and_next ps y)) x.whole h.cut) x.cut;
         whole = λ e. subst (λ (y : List Line). AllByRecursion IsLine y) (sym lines_are) (h.whole (sym ended ∙ e));
         some = λ e none. absurd (going (sym ended ∙ e) none x.cut);
         all_read = λ e. h.all_read (sym ended ∙ e);
         chunk = λ some. subst (λ (n : ℕ). IsChunk k q.ended back n) (sym left) (subst (λ (b : Bool). IsChunk k b back rejected) (sym ended) (chunk (omega arith)));
-        one_line = λ none. (passes.dropped (sym left ∙ none)).one_line;
+        one_line = advances.one_line;
+        drained = λ none. advances.drained (sym left ∙ none);
       }
     where
       going : r.ended ≡ false → back ≡ [] → IsCut k front back ⊎ ((back ≡ []) × (r.ended ≡ true)) → ⊥
@@ -325,22 +321,24 @@ never_after k start now ps part back q h none = under q.ended refl
 pub holds_after : {S : Type 0} (holds : S → S → List Item → Type 0) (items : List Item) (old mid new : S) → Holds holds [] old mid → Holds holds items mid new → Holds holds items old new
 holds_after holds items old mid new a b first h = b first (a first h)
 
-pub begin_chunk : (k : ItemType) (start now : Option (List ℕ)) (ps : List (List Line)) (r : ItemReader) (len : ℕ) → IsNext k start now ps r len → 0 < len → (ls : List Line) × HasRead k start now ps ls r.buffer r.ended len
-begin_chunk k start now ps r len n some =
+-- a chunk is to be read segment by segment
+pub begin_chunk : (k : ItemType) (start now : Option (List ℕ)) (ps : List (List Line)) (r q : ItemReader) (len : ℕ) → IsNext k start now ps r len → 0 < len → q.buffer ≡ r.buffer → q.ended ≡ r.ended → q.rejected ≡ len → HasParts k start now ps q
+begin_chunk k start now ps r q len n some buffer ended rejected =
     let h = n.1 in (
       n.0,
       record {
         read = h.read;
         consumed = h.consumed;
-        buffers = h.buffers;
-        rest = h.rest;
+        buffers = subst (λ (b : Buffer). Buffers h.read (concat (all_lines ps)) b) (sym buffer) h.buffers;
+        rest = ap unparsed buffer ∙ h.rest;
         lines = h.lines;
         cut = h.cut;
-        whole = h.whole;
-        some = h.some;
-        all_read = h.all_read;
-        chunk = n.3;
-        one_line = λ e. absurd (omega arith);
+        whole = λ e. h.whole (sym ended ∙ e);
+        some = λ e. h.some (sym ended ∙ e);
+        all_read = λ e. h.all_read (sym ended ∙ e);
+        chunk = λ e. subst (λ (m : ℕ). IsChunk k q.ended n.0 m) (sym rejected) (subst (λ (b : Bool). IsChunk k b n.0 len) (sym ended) (n.3 some));
+        one_line = subst (λ (b : Buffer). KeepsOneLine b) (sym buffer) h.one_line;
+        drained = λ e. absurd (omega (arith, rejected, e, some));
       },
     )
 
@@ -350,13 +348,13 @@ chunk_within k ended ls len b rest c =
     let n = c.len_is in
     omega arith
 
-module _ (k : ItemType) (start now : Option (List ℕ)) (ps : List (List Line)) (ls front back : List Line) (r q : ItemReader) (len rejected : ℕ) (m : ℕ) (h : HasRead k start now ps ls r.buffer r.ended m) (x : FirstPart k r.ended ls front back len) (passes : Passes r.buffer r.ended q len rejected)
+module _ (k : ItemType) (start now : Option (List ℕ)) (ps : List (List Line)) (ls front back : List Line) (r q : ItemReader) (len rejected : ℕ) (m : ℕ) (h : HasRead k start now ps ls r.buffer r.ended m) (x : FirstPart k r.ended ls front back len) (advances : Advances r.buffer r.ended q len rejected)
     (left : 0 < rejected → IsChunk k r.ended back rejected) (line : HasLine r.buffer len q.line) where
   now_read : HasRead k start now (ps ++ front ∷ []) back q.buffer q.ended q.rejected
-  now_read = passed k start now ps ls front back r q len rejected m h x passes left
+  now_read = passed k start now ps ls front back r q len rejected m h x advances left
 
   text_is : take len (unparsed r.buffer) ≡ concat front
-  text_is = part_text k start now ps ls front back r q len rejected m h x passes
+  text_is = part_text k start now ps ls front back r q len rejected m h x advances
 
   line_is : IsOnLine (concat (all_lines ps)) (concat front) q.line
   line_is = subst (λ (y : List ℕ). IsOnLine (concat (all_lines ps)) y q.line) text_is (line h.read (concat (all_lines ps)) h.buffers)
@@ -371,10 +369,11 @@ module _ (k : ItemType) (start now : Option (List ℕ)) (ps : List (List Line)) 
     taken = λ first y. t.2 first [] y;
   }
 
-  pub part_refused : {S : Type 0} (holds : S → S → List Item → Type 0) (old new : S) (file : Option (List ℕ)) (e : ParseError) → HasNoCut k front → RefusesBytes k file r.buffer len holds old new e → RefusesPart k file start now ps holds old new q e
+  pub part_refused : {S : Type 0} (holds : S → S → List Item → Type 0) (old new : S) (file : Option (List ℕ)) (e : ParseError) → HasNoCut k front → kind_of e ≡ Parse → RefusesText k file r.buffer len holds old new e → RefusesPart k file start now ps holds old new q e
   unfolding now_read passed
-  part_refused holds old new file e uncut b =
+  part_refused holds old new file e uncut kind b =
       let none : SpellsNone k (concat front) = subst (λ (y : List ℕ). SpellsNone k y) text_is b.none in
+      let done : List ℕ = concat (all_lines ps) in
       record {
         part = front;
         goes_on = (back, now_read);
@@ -390,7 +389,12 @@ module _ (k : ItemType) (start now : Option (List ℕ)) (ps : List (List Line)) 
         whole = parts_read h.read (concat (all_lines (ps ++ front ∷ []))) q.buffer now_read.buffers;
         ends = ends x.cut;
         never = never_after k start now ps front back q now_read none;
-        placed = subst (λ (y : List ℕ). IsPlacedIn file h.read (concat (all_lines ps)) y e) text_is (b.placed h.read (concat (all_lines ps)) h.buffers);
+        placed = λ small. (
+          length done + b.offset,
+          omega arith,
+          omega (arith, b.within, x.len_is, length-append done (concat front)),
+          buffers_placed file h.read done r.buffer len b.offset e h.buffers x.some (within k start now ps ls front back r q len rejected m h x advances) (bytes_end (ends x.cut)) b.within kind b.placed small,
+        );
       }
     where
       ends : IsCut k front back ⊎ ((back ≡ []) × (r.ended ≡ true)) → IsLines (concat front) ⊎ (unparsed q.buffer ≡ [])
@@ -399,34 +403,45 @@ module _ (k : ItemType) (start now : Option (List ℕ)) (ps : List (List Line)) 
           inl (lines_of front (lines_front front back (starts_not_none back cut.1) (lines_back (all_lines ps) (front ++ back) lines)))
       ends (inr end) = inr (now_read.rest ∙ ap concat end.0)
 
+      bytes_end : IsLines (concat front) ⊎ (unparsed q.buffer ≡ []) → IsLines (take len (unparsed r.buffer)) ⊎ (drop len (unparsed r.buffer) ≡ [])
+      bytes_end (inl lines) = inl (subst (λ (y : List ℕ). IsLines y) (sym text_is) lines)
+      bytes_end (inr none) = inr (sym advances.rest ∙ none)
+
 -- the next chunk
-pub chunk_taken : (k : ItemType) (start now : Option (List ℕ)) (ps : List (List Line)) (r q : ItemReader) (len : ℕ) {S : Type 0} (holds : S → S → List Item → Type 0) (old new : S) → IsNext k start now ps r len → 0 < len → Passes r.buffer r.ended q len 0 → HasLine r.buffer len q.line
+pub chunk_taken : (k : ItemType) (start now : Option (List ℕ)) (ps : List (List Line)) (r q : ItemReader) (len : ℕ) {S : Type 0} (holds : S → S → List Item → Type 0) (old new : S) → IsNext k start now ps r len → 0 < len → Advances r.buffer r.ended q len 0 → HasLine r.buffer len q.line
     → TakesText holds k (take len (unparsed r.buffer)) old new → TakesPart k start now ps holds old new q
-chunk_taken k start now ps r q len holds old new n some passes line t =
+chunk_taken k start now ps r q len holds old new n some advances line t =
     let c = n.3 some in
-    part_taken k start now ps n.0 c.front c.back r q len 0 r.rejected n.1 (chunk_part k r.ended n.0 len c some) passes (λ s. absurd (omega arith)) line holds old new t
+    part_taken k start now ps n.0 c.front c.back r q len 0 r.rejected n.1 (chunk_part k r.ended n.0 len c some) advances (λ s. absurd (omega arith)) line holds old new t
 
 -- the first segment of a chunk
-module _ (k : ItemType) (start now : Option (List ℕ)) (ps : List (List Line)) (r q : ItemReader) (chunk len : ℕ) (begun : (ls : List Line) × HasRead k start now ps ls r.buffer r.ended chunk) (some : 0 < chunk) (s : PassesSegment k r.buffer r.ended chunk q len) where
-  whole_chunk : IsChunk k r.ended begun.0 chunk
-  whole_chunk = begun.1.chunk some
+module _ (k : ItemType) (start now : Option (List ℕ)) (ps : List (List Line)) (r q : ItemReader) (len : ℕ) (some : 0 < r.rejected) (s : SegmentOf k (unparsed r.buffer) r.rejected len) (advances : Advances r.buffer r.ended q len (r.rejected - len)) (line : HasLine r.buffer len q.line) (had : HasParts k start now ps r) where
+  abbrev ls : List Line
+  ls = had.0
 
-  front_is : take chunk (unparsed r.buffer) ≡ concat whole_chunk.front
+  whole_chunk : IsChunk k r.ended ls r.rejected
+  whole_chunk = had.1.chunk some
+
+  front_is : take r.rejected (unparsed r.buffer) ≡ concat whole_chunk.front
   front_is =
       let c = whole_chunk in
-      let text : unparsed r.buffer ≡ concat c.front ++ concat c.back = begun.1.rest ∙ ap concat c.whole ∙ concat-append c.front c.back in
+      let text : unparsed r.buffer ≡ concat c.front ++ concat c.back = had.1.rest ∙ ap concat c.whole ∙ concat-append c.front c.back in
       (λ i. take (sym c.len_is i) (text i)) ∙ take-append_seam (concat c.front) (concat c.back)
 
   first : IsFirstSegment k whole_chunk.front len
-  first = s.first whole_chunk.front front_is (are_front whole_chunk.front whole_chunk.back (subst (λ (x : List Line). AreLines x) whole_chunk.whole (lines_back (all_lines ps) begun.0 begun.1.lines)))
+  first = s.first whole_chunk.front front_is (are_front whole_chunk.front whole_chunk.back (subst (λ (x : List Line). AreLines x) whole_chunk.whole (lines_back (all_lines ps) ls had.1.lines)))
+
+  part : FirstPart k r.ended ls first.front (first.back ++ whole_chunk.back) len
+  part = segment_part k r.ended ls r.rejected len whole_chunk first s.some
+
+  left : 0 < r.rejected - len → IsChunk k r.ended (first.back ++ whole_chunk.back) (r.rejected - len)
+  left = segment_left k r.ended ls r.rejected len whole_chunk first s.some
 
   pub segment_taken : {S : Type 0} (holds : S → S → List Item → Type 0) (old new : S) → TakesText holds k (take len (unparsed r.buffer)) old new → TakesPart k start now ps holds old new q
-  segment_taken holds old new t =
-      part_taken k start now ps begun.0 first.front (first.back ++ whole_chunk.back) r q len (chunk - len) chunk begun.1 (segment_part k r.ended begun.0 chunk len whole_chunk first s.some) s.passes (segment_left k r.ended begun.0 chunk len whole_chunk first s.some) s.line holds old new t
+  segment_taken holds old new t = part_taken k start now ps ls first.front (first.back ++ whole_chunk.back) r q len (r.rejected - len) r.rejected had.1 part advances left line holds old new t
 
-  pub segment_refused : {S : Type 0} (holds : S → S → List Item → Type 0) (old new : S) (file : Option (List ℕ)) (e : ParseError) → RefusesBytes k file r.buffer len holds old new e → RefusesPart k file start now ps holds old new q e
-  segment_refused holds old new file e b =
-      part_refused k start now ps begun.0 first.front (first.back ++ whole_chunk.back) r q len (chunk - len) chunk begun.1 (segment_part k r.ended begun.0 chunk len whole_chunk first s.some) s.passes (segment_left k r.ended begun.0 chunk len whole_chunk first s.some) s.line holds old new file e first.uncut b
+  pub segment_refused : {S : Type 0} (holds : S → S → List Item → Type 0) (old new : S) (file : Option (List ℕ)) (e : ParseError) → kind_of e ≡ Parse → RefusesText k file r.buffer len holds old new e → RefusesPart k file start now ps holds old new q e
+  segment_refused holds old new file e kind b = part_refused k start now ps ls first.front (first.back ++ whole_chunk.back) r q len (r.rejected - len) r.rejected had.1 part advances left line holds old new file e first.uncut kind b
 
 -- a sink that held nothing before items were taken back
 pub taken_after : {S : Type 0} (k : ItemType) (start now : Option (List ℕ)) (ps : List (List Line)) (holds : S → S → List Item → Type 0) (old mid new : S) (q : ItemReader) → Holds holds [] old mid → TakesPart k start now ps holds mid new q → TakesPart k start now ps holds old new q

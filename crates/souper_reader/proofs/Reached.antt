@@ -2,6 +2,7 @@
 use Rattle.std.proofs.Common.{◌≡◌, ◌⊎◌, inl, inr, ℕ, List, [], ◌∷◌, ◌++◌, length, Option, refl, sym, ap, ◌∙◌, subst, arith, append_assoc, append-nil, length-append}
 use Rattle.std.specs.Prelude.{map}
 use Rattle.std.specs.List.{AllByRecursion}
+use Rattle.std.specs.Io.KnownBytes.{Consumes}
 use Rattle.souper_graph.specs.Values.{Item}
 use Rattle.souper_graph.specs.WellFormed.{WellFormed}
 use Rattle.souper_graph.specs.Syntax.Spelling.{ItemType, TextSpells, SpellsNone}
@@ -10,12 +11,14 @@ use Rattle.souper_ir.specs.Joining.{IsLines}
 use Rattle.souper_ir.specs.Sinks.{TakesOver, PrefixSpells}
 use Rattle.souper_reader.specs.declared.reader.ItemReader.{ItemReader}
 use Rattle.souper_reader.specs.Segments.{Line, concat, AreLines, EndsItem, AreCut, all_lines, PartsSpell}
+use Rattle.souper_reader.specs.Buffering.{unparsed}
 use Rattle.souper_reader.specs.Reading.{IsStreamTaken, IsStreamRefused}
-use Rattle.souper_reader.specs.Parts.{and_next, HasRead, HasParts, HasAll, TakesPart, RefusesPart}
+use Rattle.souper_reader.specs.Parts.{and_next, HasParts, HasAll, TakesPart, RefusesPart}
 use Rattle.souper_reader.proofs.LineLists.{all_are_lines, lines_front, lines_of}
 use Rattle.souper_reader.proofs.Texts.{none_spelled, prefix_after, prefix_longer}
 use Rattle.souper_reader.proofs.Scanning.{ends_some}
 use Rattle.souper_reader.proofs.SegmentLaws.{spells_by_parts}
+use Rattle.souper_reader.proofs.Buffers.{parts_read}
 use Rattle.souper_reader.proofs.Passing.{all_lines_snoc, done_more}
 
 -- ---- items that are passed on
@@ -93,28 +96,42 @@ reached_end k before mid after holds first old p r a = record {
   taken = (r.items, (spells_by_parts k a.0 r.parts r.items a.3).1 r.spelled, r.over);
 }
 
--- the parts before a part are whole lines that spell their items
-done_spells : (k : ItemType) (start now : Option (List ℕ)) (ps : List (List Line)) (p ls : List Line) (r : ItemReader) (items : List Item) → HasRead k start now (ps ++ p ∷ []) ls r.buffer r.ended r.rejected → (p ≡ [] → ⊥) → PartsSpell k ps items → IsLines (concat (all_lines ps)) × TextSpells k (concat (all_lines ps)) items
-done_spells k start now ps p ls r items h some spelled =
-    let lines = subst (λ (x : List Line). AreLines x) (ap (λ (x : List Line). x ++ ls) (all_lines_snoc ps p) ∙ append_assoc (all_lines ps) p ls) h.lines in
-    let whole = lines_front (all_lines ps) (p ++ ls) (more p some) lines in
-    (lines_of (all_lines ps) whole, (spells_by_parts k (concat (all_lines ps)) ps items (record { whole = refl; lines = all_are_lines (all_lines ps) whole; cut = cut_front ls h.cut })).1 spelled)
+-- ---- what a stream begins with
+
+ends_not_none : (k : ItemType) (y : List Line) → EndsItem k y → y ≡ [] → ⊥
+ends_not_none k y en e = ends_some k (subst (λ (z : List Line). EndsItem k z) e en)
+
+cut_front : (k : ItemType) (qs : List (List Line)) (x : List Line) (xs : List (List Line)) → AreCut k (qs ++ x ∷ xs) → AreCut k qs
+cut_front k [] x xs c = tt
+cut_front k (q ∷ []) x xs c = ends_not_none k q c.0
+cut_front k (q ∷ (s ∷ qs)) x xs c = (c.0, c.1, cut_front k (s ∷ qs) x xs c.2)
+
+-- parts before others are whole lines that spell their items
+parts_spell : (k : ItemType) (ps : List (List Line)) (more : List Line) (items : List Item) → (more ≡ [] → ⊥) → AreLines (all_lines ps ++ more) → AreCut k ps → PartsSpell k ps items → IsLines (concat (all_lines ps)) × TextSpells k (concat (all_lines ps)) items
+parts_spell k ps more items some lines cut spelled =
+    let whole = lines_front (all_lines ps) more some lines in
+    (lines_of (all_lines ps) whole, (spells_by_parts k (concat (all_lines ps)) ps items (record { whole = refl; lines = all_are_lines (all_lines ps) whole; cut = cut })).1 spelled)
+
+pub prefix_of : (k : ItemType) (text : List ℕ) (items : List Item) → TextSpells k text items → PrefixSpells k text items
+prefix_of k text items t = (t.0, t.1.0, t.1.1, t.2)
+
+-- a stream begins with the parts that were read of it, and with their items, if they spell any
+pub parts_begin : (k : ItemType) (start now : Option (List ℕ)) (ps : List (List Line)) (r : ItemReader) → HasParts k start now ps r → (read : List ℕ) × (rest : List ℕ) × Consumes start now read × (read ≡ concat (all_lines ps) ++ rest) × ((items : List Item) → PartsSpell k ps items → PrefixSpells k read items)
+parts_begin k start now ps r (ls, h) = (h.read, unparsed r.buffer, h.consumed, parts_read h.read done r.buffer h.buffers, λ items spelled. under items spelled ls h.rest h.lines h.cut)
   where
-    more : (p : List Line) → (p ≡ [] → ⊥) → p ++ ls ≡ [] → ⊥
-    more [] s e = s refl
-    more (x ∷ p) s e = cc
+    done : List ℕ
+    done = concat (all_lines ps)
 
-    front : (qs : List (List Line)) (x : List Line) (xs : List (List Line)) → AreCut k (qs ++ x ∷ xs) → AreCut k qs
-    front [] x xs c = tt
-    front (q ∷ []) x xs c = λ e. ends_not_none q c.0 e
-      where
-        ends_not_none : (y : List Line) → EndsItem k y → y ≡ [] → ⊥
-        ends_not_none y en e = ends_some k (subst (λ (z : List Line). EndsItem k z) e en)
-    front (q ∷ (s ∷ qs)) x xs c = (c.0, c.1, front (s ∷ qs) x xs c.2)
+    read_is : (ls : List Line) → unparsed r.buffer ≡ concat ls → h.read ≡ done ++ concat ls
+    read_is ls e = parts_read h.read done r.buffer h.buffers ∙ ap (λ (x : List ℕ). done ++ x) e
 
-    cut_front : (ls : List Line) → AreCut k (and_next (ps ++ p ∷ []) ls) → AreCut k ps
-    cut_front [] c = front ps p [] c
-    cut_front (l ∷ ls) c = front ps p ((l ∷ ls) ∷ []) (subst (λ (x : List (List Line)). AreCut k x) (append_assoc ps (p ∷ []) ((l ∷ ls) ∷ [])) c)
+    under : (items : List Item) → PartsSpell k ps items → (ls : List Line) → unparsed r.buffer ≡ concat ls → AreLines (all_lines ps ++ ls) → AreCut k (and_next ps ls) → PrefixSpells k h.read items
+    under items spelled [] e lines cut =
+        let whole : h.read ≡ done = read_is [] e ∙ append-nil done in
+        prefix_of k h.read items ((spells_by_parts k h.read ps items (record { whole = whole; lines = subst (λ (x : List Line). AreLines x) (append-nil (all_lines ps)) lines; cut = cut })).1 spelled)
+    under items spelled (l ∷ ls) e lines cut =
+        let d = parts_spell k ps (l ∷ ls) items (λ x. cc) lines (cut_front k ps (l ∷ ls) [] cut) spelled in
+        subst (λ (x : List ℕ). PrefixSpells k x items) (sym (read_is (l ∷ ls) e)) (prefix_longer k done (concat (l ∷ ls)) items d.0 (prefix_of k done items d.1))
 
 -- a refused part has lines, since no lines spell no items
 refused_some : (k : ItemType) (p : List Line) → SpellsNone k (concat p) → p ≡ [] → ⊥
@@ -124,20 +141,40 @@ begun_longer : (k : ItemType) (part after : List ℕ) (items : List Item) → Is
 begun_longer k part after items (inl lines) h = prefix_longer k part after items lines h
 begun_longer k part after items (inr none) h = subst (λ (x : List ℕ). PrefixSpells k x items) (sym (ap (λ (x : List ℕ). part ++ x) none ∙ append-nil part)) h
 
+-- a text that is refused after parts that spell items begins with these, and with the ones that the refused part begins with
+pub refusal_begun : {S : Type 0} (k : ItemType) (file start now : Option (List ℕ)) (ps : List (List Line)) (holds : S → S → List Item → Type 0) (old new : S) (q : ItemReader) (e : ParseError) (t : RefusesPart k file start now ps holds old new q e) (items : List Item) → PartsSpell k ps items
+    → PrefixSpells k t.read (items ++ t.items)
+refusal_begun k file start now ps holds old new q e t items spelled =
+    let (ls, h) = t.goes_on in
+    let lines = subst (λ (x : List Line). AreLines x) (ap (λ (x : List Line). x ++ ls) (all_lines_snoc ps t.part) ∙ append_assoc (all_lines ps) t.part ls) h.lines in
+    let done = parts_spell k ps (t.part ++ ls) items (more t.part ls (refused_some k t.part t.none)) lines (cut_before ls h.cut) spelled in
+    let text : concat (all_lines (ps ++ t.part ∷ [])) ++ t.after ≡ concat (all_lines ps) ++ (concat t.part ++ t.after) =
+    ap (λ (x : List ℕ). x ++ t.after) (done_more ps t.part) ∙ append_assoc (concat (all_lines ps)) (concat t.part) t.after in
+    subst (λ (x : List ℕ). PrefixSpells k x (items ++ t.items)) (sym (t.whole ∙ text)) (prefix_after k (concat (all_lines ps)) (concat t.part ++ t.after) items t.items done.0 done.1 (begun_longer k (concat t.part) t.after t.items t.ends t.begun))
+  where
+    more : (p ls : List Line) → (p ≡ [] → ⊥) → p ++ ls ≡ [] → ⊥
+    more [] ls s e = s refl
+    more (x ∷ p) ls s e = cc
+
+    cut_before : (ls : List Line) → AreCut k (and_next (ps ++ t.part ∷ []) ls) → AreCut k ps
+    cut_before [] c = cut_front k ps t.part [] c
+    cut_before (l ∷ ls) c = cut_front k ps t.part ((l ∷ ls) ∷ []) (subst (λ (x : List (List Line)). AreCut k x) (append_assoc ps (t.part ∷ []) ((l ∷ ls) ∷ [])) c)
+
 -- the stream is refused
 pub reached_refusal : {S V : Type 0} (k : ItemType) (file : Option (List ℕ)) (before mid after : Option (List ℕ)) (holds : S → S → List Item → Type 0) (keeps : V → V → List Item → Type 0) (first old new : S) (empty full : V) (p q : ItemReader) (e : ParseError) (taken : List Item)
     (r : Reached k before mid holds first old p) (t : RefusesPart k file before after r.parts keeps empty full q e) → (keeps empty full t.items → taken ≡ t.items) → keeps empty empty [] → TakesOver holds taken old new → IsStreamRefused k file before after holds first new e
-reached_refusal k file before mid after holds keeps first old new empty full p q e taken r t are none over =
-    let had = t.goes_on in
-    let done = done_spells k before after r.parts t.part had.0 q r.items had.1 (refused_some k t.part t.none) r.spelled in
-    let text : concat (all_lines (r.parts ++ t.part ∷ [])) ++ t.after ≡ concat (all_lines r.parts) ++ (concat t.part ++ t.after) =
-    ap (λ (x : List ℕ). x ++ t.after) (done_more r.parts t.part) ∙ append_assoc (concat (all_lines r.parts)) (concat t.part) t.after in
-    record {
-      read = t.read;
-      consumed = t.consumed;
-      taken = r.items ++ t.items;
-      over = over_both holds r.items t.items first old new r.over (subst (λ (x : List Item). TakesOver holds x old new) (are (t.taken empty none)) over);
-      begun = subst (λ (x : List ℕ). PrefixSpells k x (r.items ++ t.items)) (sym (t.whole ∙ text)) (prefix_after k (concat (all_lines r.parts)) (concat t.part ++ t.after) r.items t.items done.0 done.1 (begun_longer k (concat t.part) t.after t.items t.ends t.begun));
-      never = t.never;
-      placed = λ small. (let at = t.placed small in let whole = ap length (t.whole ∙ text) ∙ length-append (concat (all_lines r.parts)) (concat t.part ++ t.after) in let part = length-append (concat t.part) t.after in let both = length-append (concat (all_lines r.parts)) (concat t.part) in let within = at.2 in (at.0, omega arith, at.3));
-    }
+reached_refusal k file before mid after holds keeps first old new empty full p q e taken r t are none over = record {
+  read = t.read;
+  consumed = t.consumed;
+  taken = r.items ++ t.items;
+  over = over_both holds r.items t.items first old new r.over (subst (λ (x : List Item). TakesOver holds x old new) (are (t.taken empty none)) over);
+  begun = refusal_begun k file before after r.parts keeps empty full q e t r.items r.spelled;
+  never = t.never;
+  placed = λ small.
+      let at = t.placed small in
+      let whole = ap length t.whole ∙ length-append (concat (all_lines (r.parts ++ t.part ∷ []))) t.after in
+      let part = ap length (done_more r.parts t.part) ∙ length-append (concat (all_lines r.parts)) (concat t.part) in
+      let both = length-append (concat (all_lines r.parts)) (concat t.part) in
+      let within = at.2 in
+      (at.0, omega arith, at.3);
+}

@@ -7,7 +7,7 @@ use Rattle.souper_ir.specs.NodeReadings.{is_name}
 use Rattle.souper_reader.specs.declared.lines.ScanState.{ScanState}
 use Rattle.souper_reader.specs.Lines.{last_word, is_end_word, defines, shows_line, last_is_name, NoStart, LastEnds, IsStateAfter}
 use Rattle.souper_reader.proofs.Nodes.{is_not, or_left}
-use Rattle.souper_reader.proofs.EndLines.{end_is_last}
+use Rattle.souper_reader.proofs.EndLines.{end_is_last, NoEnd}
 use Rattle.souper_reader.proofs.Parted.{Parted, snoc_parted}
 
 -- no token shows that a line begins; before the first is a name, or not
@@ -156,18 +156,49 @@ no_tokens k h = under h.before h.whole
     under (y ∷ before) x = cc
 
 pub new_state : (k : ItemType) (s : ScanState) → s.after_name ≡ false → s.ends_item ≡ false → IsStateAfter k [] s
-new_state k s n e = record { named = n; ends = (λ yes. absurd cc, λ h. absurd (no_tokens k h)) }
+new_state k s n e = record { named = λ yes. n; ends = (λ yes. absurd cc, λ h. absurd (no_tokens k h)) }
 
 module _ (k : ItemType) (ts : List Lexeme) (s new : ScanState) (t : Lexeme) (h : IsStateAfter k ts s) (name : new.after_name ≡ is_name t) where
+  named_now : new.ends_item ≡ true → new.after_name ≡ last_is_name false (ts ++ t ∷ [])
+  named_now ended = name ∙ sym (names_more false ts t)
+
+  -- if no item ends before the token, one ends with it at the word of an item's end alone
+  none_before : s.ends_item ≡ false → new.ends_item ≡ is_end_word k t → IsStateAfter k (ts ++ t ∷ []) new
+  none_before going e = record { named = named_now; ends = (λ yes. last_token_ends k ts t (sym e ∙ yes), λ x. under (last_or_before k ts t x)) }
+    where
+      under : (is_end_word k t ≡ true) ⊎ IsBefore k ts t → new.ends_item ≡ true
+      under (inl word) = e ∙ word
+      under (inr b) = let yes = h.ends.1 b.ends in absurd cc
+
   pub scanned_shown : shows_line s.after_name t ≡ true → new.ends_item ≡ is_end_word k t → IsStateAfter k (ts ++ t ∷ []) new
-  scanned_shown shows e =
-      let r = shown_more k ts t (ap (λ (b : Bool). shows_line b t) (sym h.named) ∙ shows) in
-      record { named = name ∙ sym (names_more false ts t); ends = (λ yes. r.0 (sym e ∙ yes), λ x. e ∙ r.1 x) }
+  scanned_shown shows e = under s.ends_item refl
+    where
+      under : (b : Bool) → s.ends_item ≡ b → IsStateAfter k (ts ++ t ∷ []) new
+      under true before =
+          let r = shown_more k ts t (ap (λ (b : Bool). shows_line b t) (sym (h.named before)) ∙ shows) in
+          record { named = named_now; ends = (λ yes. r.0 (sym e ∙ yes), λ x. e ∙ r.1 x) }
+      under false going = none_before going e
 
   pub scanned_other : shows_line s.after_name t ≡ false → new.ends_item ≡ s.ends_item → IsStateAfter k (ts ++ t ∷ []) new
-  scanned_other shows e =
-      let r = other_more k ts t (ap (λ (b : Bool). shows_line b t) (sym h.named) ∙ shows) in
-      record { named = name ∙ sym (names_more false ts t); ends = (λ yes. r.0 (h.ends.0 (sym e ∙ yes)), λ x. e ∙ h.ends.1 (r.1 x)) }
+  scanned_other shows e = under s.ends_item refl
+    where
+      under : (b : Bool) → s.ends_item ≡ b → IsStateAfter k (ts ++ t ∷ []) new
+      under true before =
+          let r = other_more k ts t (ap (λ (b : Bool). shows_line b t) (sym (h.named before)) ∙ shows) in
+          record { named = named_now; ends = (λ yes. r.0 (h.ends.0 (sym e ∙ yes)), λ x. e ∙ h.ends.1 (r.1 x)) }
+      under false going = none_before going (e ∙ going ∙ sym (is_not (is_end_word k t) (λ word. (let shown = end_shows k s.after_name t word in cc))))
+
+-- tokens without an end word, where no item has ended before them
+pub state_kept : (k : ItemType) (ts us : List Lexeme) (s : ScanState) → IsStateAfter k ts s → s.ends_item ≡ false → NoEnd k us → IsStateAfter k (ts ++ us) s
+state_kept k ts [] s h going none = subst (λ (x : List Lexeme). IsStateAfter k x s) (sym (append-nil ts)) h
+state_kept k ts (u ∷ us) s h going none = subst (λ (x : List Lexeme). IsStateAfter k x s) (append_assoc ts (u ∷ []) us) (state_kept k (ts ++ u ∷ []) us s step going none.1)
+  where
+    under : (is_end_word k u ≡ true) ⊎ IsBefore k ts u → s.ends_item ≡ true
+    under (inl word) = let other = none.0 in absurd cc
+    under (inr b) = h.ends.1 b.ends
+
+    step : IsStateAfter k (ts ++ u ∷ []) s
+    step = record { named = λ yes. absurd cc; ends = (λ yes. absurd cc, λ x. under (last_or_before k ts u x)) }
 
 -- the tokens before, and those that were looked at, and the state after them
 pub record ScannedSoFar (k : ItemType) (ts : List Lexeme) (all rest : List (ℕ × Lexeme)) (s : ScanState) : Type 0 where

@@ -1,5 +1,5 @@
 -- Definitions. The reading of a stream by parts: each is some of its segments, and a part that spells no items is one segment.
-use Rattle.std.specs.Prelude.{◌≡◌, ◌⊎◌, ℕ, ◌+◌, ◌-◌, ◌^◌, ◌<◌, ◌≤◌, Bool, true, false, List, [], ◌∷◌, ◌++◌, length, take, Option}
+use Rattle.std.specs.Prelude.{◌≡◌, ◌⊎◌, ℕ, ◌+◌, ◌^◌, ◌<◌, ◌≤◌, Bool, true, false, List, [], ◌∷◌, ◌++◌, length, take, drop, Option}
 use Rattle.std.specs.List.{AllByRecursion}
 use Rattle.std.specs.Io.KnownBytes.{Consumes}
 use Rattle.souper_graph.specs.Syntax.Spelling.{ItemType, TextSpells, SpellsNone}
@@ -7,12 +7,12 @@ use Rattle.souper_graph.specs.Values.{Item}
 use Rattle.souper_ir.specs.declared.parse.error.ParseError.{ParseError}
 use Rattle.souper_ir.specs.Errors.{IsRefusalAt}
 use Rattle.souper_ir.specs.Joining.{IsLines}
-use Rattle.souper_ir.specs.Sinks.{PrefixSpells, TakesPrefix}
+use Rattle.souper_ir.specs.Sinks.{PrefixSpells, TakesOver}
 use Rattle.souper_reader.specs.declared.buffer.Buffer.{Buffer}
 use Rattle.souper_reader.specs.declared.reader.ItemReader.{ItemReader}
-use Rattle.souper_reader.specs.Buffering.{unparsed, Buffers, Drops, KeepsOneLine}
+use Rattle.souper_reader.specs.Buffering.{unparsed, Buffers, KeepsOneLine}
 use Rattle.souper_reader.specs.Lines.{first_line}
-use Rattle.souper_reader.specs.Segments.{Line, concat, IsLine, AreLines, HasNoCut, IsCut, AreCut, all_lines, AreParts, IsFirstSegment}
+use Rattle.souper_reader.specs.Segments.{Line, concat, IsLine, AreLines, HasNoCut, IsCut, AreCut, all_lines, AreParts}
 use Rattle.souper_reader.specs.Reading.{AreAll, NeverSpells}
 
 -- the first `len` bytes of the lines are whole segments: a cut point is after them, or the stream has ended
@@ -40,7 +40,8 @@ pub record HasRead (k : ItemType) (start now : Option (List ℕ)) (ps : List (Li
   pub some : ended ≡ false → ls ≡ [] → ps ≡ []
   pub all_read : ended ≡ true → AreAll start read
   pub chunk : 0 < rejected → IsChunk k ended ls rejected
-  pub one_line : rejected ≡ 0 → KeepsOneLine b
+  pub one_line : KeepsOneLine b
+  pub drained : rejected ≡ 0 → b.start ≡ 0
 
 -- these parts of a stream were read and parsed
 abbrev pub HasParts : ItemType → Option (List ℕ) → Option (List ℕ) → List (List Line) → ItemReader → Type 0
@@ -70,30 +71,14 @@ line_of r = r.line
 abbrev pub IsPlacedIn : Option (List ℕ) → List ℕ → List ℕ → List ℕ → ParseError → Type 0
 IsPlacedIn file read done part e = length read + 1 < 2 ^ 64 → (offset : ℕ) × (length done ≤ offset) × (offset ≤ length (done ++ part)) × IsRefusalAt file read offset e
 
--- the buffer, of which `len` bytes more are parsed
-abbrev pub advanced : Buffer → ℕ → Buffer
-advanced b len = record { bytes = b.bytes; parsed = b.parsed + len; before = b.before }
-
--- the first `len` unparsed bytes were parsed, and `rejected` bytes are left of their chunk; if none are, parsed lines were dropped
-pub record Passes (old : Buffer) (ended : Bool) (new : ItemReader) (len rejected : ℕ) : Type 0 where
+-- The first `len` unparsed bytes were parsed, and `rejected` bytes are left of their chunk. If none are, what is not needed was dropped.
+pub record Advances (old : Buffer) (ended : Bool) (new : ItemReader) (len rejected : ℕ) : Type 0 where
   pub ended_is : new.ended ≡ ended
   pub rejected_is : new.rejected ≡ rejected
-  pub kept : 0 < rejected → new.buffer ≡ advanced old len
-  pub dropped : rejected ≡ 0 → Drops (advanced old len) new.buffer
-
--- the first segment of a chunk was parsed, which has this length
-pub record PassesSegment (k : ItemType) (old : Buffer) (ended : Bool) (chunk : ℕ) (new : ItemReader) (len : ℕ) : Type 0 where
-  pub first : (ls : List Line) → take chunk (unparsed old) ≡ concat ls → AreLines ls → IsFirstSegment k ls len
-  pub some : 0 < len
-  pub within : len ≤ chunk
-  pub passes : Passes old ended new len (chunk - len)
-  pub line : HasLine old len new.line
-
--- the first `len` unparsed bytes spell no items
-pub record RefusesBytes {S : Type 0} (k : ItemType) (file : Option (List ℕ)) (b : Buffer) (len : ℕ) (holds : S → S → List Item → Type 0) (old new : S) (e : ParseError) : Type 0 where
-  pub none : SpellsNone k (take len (unparsed b))
-  pub begun : TakesPrefix holds k (take len (unparsed b)) old new
-  pub placed : (read done : List ℕ) → Buffers read done b → IsPlacedIn file read done (take len (unparsed b)) e
+  pub buffers : (read done : List ℕ) → Buffers read done old → Buffers read (done ++ take len (unparsed old)) new.buffer
+  pub rest : unparsed new.buffer ≡ drop len (unparsed old)
+  pub one_line : KeepsOneLine new.buffer
+  pub drained : rejected ≡ 0 → new.buffer.start ≡ 0
 
 -- a sink that held nothing holds the items
 abbrev pub Holds : {S : Type 0} → (S → S → List Item → Type 0) → List Item → S → S → Type 0
@@ -126,3 +111,16 @@ pub record RefusesPart {S : Type 0} (k : ItemType) (file start now : Option (Lis
   pub ends : IsLines (concat part) ⊎ (after ≡ [])
   pub never : NeverSpells k (AreAll start read) read
   pub placed : IsPlacedIn file read (concat (all_lines ps)) (concat part) e
+
+-- a chunk was left as it was, and the sink took items
+pub record LeavesChunk {S : Type 0} (r q : ItemReader) (holds : S → S → List Item → Type 0) (old new : S) : Type 0 where
+  pub buffer_is : q.buffer ≡ r.buffer
+  pub ended_is : q.ended ≡ r.ended
+  pub items : List Item
+  pub begun : TakesOver holds items old new
+
+-- the next chunk is to be read segment by segment, and the sink has no items of it
+pub record Rejects {S : Type 0} (k : ItemType) (before after : Option (List ℕ)) (r q : ItemReader) (holds : S → S → List Item → Type 0) (old new : S) : Type 0 where
+  pub some : 0 < q.rejected
+  pub goes_on : (start : Option (List ℕ)) (ps : List (List Line)) → HasParts k start before ps r → HasParts k start after ps q
+  pub none : Holds holds [] old new

@@ -1,7 +1,7 @@
 //! The buffer of a stream.
-ghost use Rattle.std.specs.Prelude.{◌≡◌, ◌+◌, ◌<◌, ◌≤◌, [], length, vec_len, OnOk};
+ghost use Rattle.std.specs.Prelude.{◌≡◌, ◌+◌, ◌<◌, ◌≤◌, length, take, vec_len, OnOk};
 ghost use Rattle.souper_ir.specs.Places.{newlines};
-ghost use Rattle.souper_reader.specs.Buffering.{unparsed, Drops};
+ghost use Rattle.souper_reader.specs.Buffering.{held, unparsed, IsEmpty, Passes, Drains};
 
 use crate::lines::last_line_start;
 use souper_ir::parse::Before;
@@ -10,13 +10,16 @@ use std::alloc::{AllocError, Global};
 /// The buffer of a stream.
 #[derive(Drop)]
 pub(crate) struct Buffer {
-    /// Parsed lines, of the stream's last chunk or the line before it, and the bytes that were read after them.
+    /// Lines that are not needed any more, then the last parsed line, if there is one, and the bytes that were read after it.
     pub(crate) bytes: Vec<u8>,
 
-    /// The number of parsed bytes.
+    /// The offset of the last parsed line.
+    pub(crate) start: usize,
+
+    /// The number of parsed bytes from there on.
     pub(crate) parsed: usize,
 
-    /// The numbers of bytes and lines before the buffer.
+    /// The numbers of bytes and lines before that line.
     pub(crate) before: Before,
 }
 
@@ -50,39 +53,54 @@ pub(crate) fn newline_count(bytes: &[u8]) -> usize
 
 impl Buffer {
     pub(crate) fn new(alloc: Global) -> Buffer
-        ensures bytes { result.bytes.items ≡ [] }
-        ensures parsed { result.parsed ≡ 0 }
-        ensures bytes_before { result.before.bytes ≡ 0 }
-        ensures lines_before { result.before.lines ≡ 0 }
+        ensures { IsEmpty result }
     {
         Buffer {
             bytes: Vec::new(alloc),
+            start: 0,
             parsed: 0,
             before: Before { bytes: 0, lines: 0 },
         }
     }
 
-    /// The bytes that are not parsed.
-    pub(crate) fn unparsed(&self) -> &[u8]
-        requires { self.now.parsed ≤ vec_len self.now.bytes }
-        ensures { result.now ≡ unparsed self.now }
+    /// The bytes from the last parsed line on, up to the first `len` that are not parsed.
+    pub(crate) fn held(&self, len: usize) -> &[u8]
+        requires { self.now.start + self.now.parsed + len ≤ vec_len self.now.bytes }
+        ensures { result.now ≡ take (self.now.parsed + len) (held self.now) }
     {
-        &self.bytes[self.parsed..]
+        &self.bytes[self.start..self.start + self.parsed + len]
     }
 
-    /// Drops the parsed lines but the last, which locations of errors may need.
-    pub(crate) fn drain(&mut self, alloc: Global) -> Result<(), AllocError>
-        requires some { 0 < self.old.parsed }
-        requires within { self.old.parsed ≤ vec_len self.old.bytes }
-        ensures { OnOk result (Drops self.old self.new) }
+    /// The bytes that are not parsed.
+    pub(crate) fn unparsed(&self) -> &[u8]
+        requires { self.now.start + self.now.parsed ≤ vec_len self.now.bytes }
+        ensures { result.now ≡ unparsed self.now }
     {
-        let start = last_line_start(&self.bytes[..self.parsed]);
-        let rest = self.bytes[start..].to_vec(alloc)?;
-        let lines = newline_count(&self.bytes[..start]);
-        self.before.bytes = self.before.bytes.saturating_add(start);
-        self.before.lines = self.before.lines.saturating_add(lines);
-        self.parsed -= start;
-        self.bytes = rest;
+        &self.bytes[self.start + self.parsed..]
+    }
+
+    /// `len` bytes more are parsed. Of all parsed lines the last is still needed, for the locations of errors.
+    pub(crate) fn pass(&mut self, len: usize)
+        requires some { 0 < len }
+        requires within { self.old.start + self.old.parsed + len ≤ vec_len self.old.bytes }
+        ensures { Passes self.old len self.new }
+    {
+        let lines = self.held(len);
+        let line = last_line_start(lines);
+        let count = newline_count(&lines[..line]);
+        self.before.bytes = self.before.bytes.saturating_add(line);
+        self.before.lines = self.before.lines.saturating_add(count);
+        self.start += line;
+        self.parsed = self.parsed + len - line;
+    }
+
+    /// Drops the lines that are not needed any more.
+    pub(crate) fn drain(&mut self, alloc: Global) -> Result<(), AllocError>
+        requires { self.old.start ≤ vec_len self.old.bytes }
+        ensures { OnOk result (Drains self.old self.new) }
+    {
+        self.bytes = self.bytes[self.start..].to_vec(alloc)?;
+        self.start = 0;
         Ok(())
     }
 }

@@ -1,10 +1,13 @@
 //! Where a text is cut.
 ghost use Rattle.std.specs.Prelude.{◌≡◌, ◌<◌, List, true, IfOk};
-ghost use Rattle.souper_reader.specs.Lines.{starts_line};
+ghost use Rattle.souper_reader.specs.Lines.{starts_line, PassesOver};
 ghost use Rattle.souper_reader.specs.Segments.{Line, concat, tokens_of, AreLines, EndsItem, CutsAt, IsFirstSegment};
 
 use crate::item::StreamItem;
-use crate::lines::{ScanState, first_line_len, last_line_start, scan_line, starts_line};
+use crate::lines::{
+    ScanState, before_end_words, first_line_len, last_line_start, len_without_end, scan_line,
+    starts_line,
+};
 use std::io::ErrorKind;
 use std::{io, str};
 
@@ -39,6 +42,10 @@ fn starts(line: &[u8]) -> bool
 pub(crate) fn last_cut<T: StreamItem>(text: &[u8]) -> usize
     ensures { 0 < result → (ls : List Line) → text.now ≡ concat ls → AreLines ls → CutsAt T.item_type ls result }
 {
+    // In the middle of a large item no line is lexed.
+    if before_end_words::<T>(text).0.len() == text.len() {
+        return 0;
+    }
     let mut end = text.len();
     // The offset of the nearest line after it that starts, or 0.
     let mut next = 0;
@@ -56,12 +63,36 @@ pub(crate) fn last_cut<T: StreamItem>(text: &[u8]) -> usize
     0
 }
 
+// What a search costs before its first byte, and what a line is worth that is not lexed, for each of its bytes: in bytes that are searched.
+const START: usize = 256;
+
+const WORTH: usize = 16;
+
+// Passes over lines in which no item of the type can end, if none ends before them and nothing is owed. Returns the bytes after them, and
+// what is owed then: what the search cost more than the lines are worth.
+fn pass_without_end<T: StreamItem>(bytes: &[u8], before: ScanState, owed: usize) -> (&[u8], usize)
+    ensures { PassesOver T.item_type before bytes.now result.0.now }
+{
+    if before.ends_item || owed > 0 {
+        return (bytes, owed);
+    }
+    let (len, searched) = len_without_end::<T>(bytes);
+    let cost = searched.saturating_add(START);
+    (
+        &bytes[len..],
+        cost.saturating_sub(len.saturating_mul(WORTH)),
+    )
+}
+
 /// The length of the first segment of the text, in bytes. The error says that the bytes are not UTF-8, up to the line after it.
 pub(crate) fn segment_len<T: StreamItem>(text: &[u8]) -> io::Result<usize>
     ensures { IfOk result (λ len. (ls : List Line) → text.now ≡ concat ls → AreLines ls → IsFirstSegment T.item_type ls len) }
 {
     let mut rest = text;
     let mut state = ScanState::new();
+    // The number of bytes to scan line by line before the next search. So searches take a small part of the time, wherever the words are
+    // that items end with.
+    let mut owed: usize = 0;
     while !rest.is_empty() {
         let (line, after) = rest.split_at(first_line_len(rest));
         let line = match str::from_utf8(line) {
@@ -72,7 +103,7 @@ pub(crate) fn segment_len<T: StreamItem>(text: &[u8]) -> io::Result<usize>
             return Ok(text.len() - rest.len());
         }
         state = scan_line::<T>(line, state);
-        rest = after;
+        (rest, owed) = pass_without_end::<T>(after, state, owed.saturating_sub(line.len()));
     }
     Ok(text.len() - rest.len())
 }

@@ -1,16 +1,19 @@
 //! The lines of a text, and which of them begin or end an item.
-ghost use Rattle.std.specs.Prelude.{◌≡◌, ◌≤◌, ◌<◌, ◌∷◌, ◌++◌, List, [], length, take, drop, true};
+ghost use Rattle.std.specs.Prelude.{◌≡◌, ◌≤◌, ◌<◌, ◌∷◌, ◌++◌, List, [], length, take, drop, true, IsUtf8};
+ghost use Rattle.std.specs.Io.{StartsWith};
 ghost use Rattle.souper_graph.specs.Syntax.Tokens.{Lexeme};
 ghost use Rattle.souper_graph.specs.Syntax.Spelling.{kinds, ItemType};
 ghost use Rattle.souper_lexer.specs.TokenReading.{lexed_of};
 ghost use Rattle.souper_lexer.specs.TokenView.{lexeme_of, Yields};
 ghost use Rattle.souper_ir.specs.NodeReadings.{is_name};
-ghost use Rattle.souper_reader.specs.Lines.{last_word, line_word, is_end_word, shows_line, defines, starts_line, first_offset, IsStateAfter};
+ghost use Rattle.souper_ir.specs.Joining.{IsLines};
+ghost use Rattle.souper_reader.specs.Lines.{last_word, line_word, is_end_word, shows_line, defines, starts_line, first_offset, end_word, IsStateAfter, IsAbsent, NoEndWord};
 ghost use Rattle.souper_reader.specs.Segments.{tokens_of, IsFirstLine, IsLastLineAt};
 
 use crate::item::StreamItem;
-use memchr::{memchr, memrchr};
+use memchr::{memchr, memmem, memrchr};
 use souper_lexer::{Fault, Lexer, Token};
+use std::str;
 
 fn is_last_word(word: &str) -> bool
     ensures { result ≡ last_word word.now }
@@ -78,7 +81,7 @@ fn is_end_word<T: StreamItem>(token: Token<'_>) -> bool
 /// The scanner state after a sequence of tokens.
 #[derive(Clone, Copy)]
 pub(crate) struct ScanState {
-    /// Whether the last token is a name.
+    /// Whether the last token is a name, if `ends_item` is true. Else it is not used.
     pub after_name: bool,
 
     /// Whether, of the statements and last lines that begin in them, the last is a terminator.
@@ -172,5 +175,60 @@ pub(crate) fn last_line_start(text: &[u8]) -> usize
     match memrchr(b'\n', &text[..text.len() - 1]) {
         Some(index) => index + 1,
         None => 0,
+    }
+}
+
+// The length of the whole lines that the bytes begin with.
+fn lines_len(bytes: &[u8]) -> usize
+    ensures bound { result ≤ length bytes.now }
+    ensures lines { IsLines (take result bytes.now) }
+{
+    match memrchr(b'\n', bytes) {
+        Some(index) => index + 1,
+        None => 0,
+    }
+}
+
+// The bytes before the first occurrence of the word, if an item of the type ends with a line that it begins; else all.
+fn before_word<'a, T: StreamItem>(bytes: &'a [u8], word: &str) -> &'a [u8]
+    ensures front { StartsWith bytes.now result.now }
+    ensures none { end_word T.item_type word.now ≡ true → IsAbsent word.now result.now }
+{
+    if !T::ends_with(word) {
+        return bytes;
+    }
+    match memmem::find(bytes, word.as_bytes()) {
+        Some(index) => &bytes[..index],
+        None => bytes,
+    }
+}
+
+/// The bytes before the words that items of the type end with, be they in a token or in a comment, and how many bytes were searched for
+/// the first of the words.
+pub(crate) fn before_end_words<T: StreamItem>(bytes: &[u8]) -> (&[u8], usize)
+    ensures front { StartsWith bytes.now result.0.now }
+    ensures none { NoEndWord T.item_type result.0.now }
+{
+    let bytes = before_word::<T>(bytes, "infer");
+    let bytes = before_word::<T>(bytes, "result");
+    (before_word::<T>(bytes, "cand"), bytes.len())
+}
+
+// The most bytes that are searched at once: an item may end with a word that is nowhere in the buffer, and another that comes soon.
+const WINDOW: usize = 512;
+
+/// The length of lines that the bytes begin with, in which the words that items of the type end with do not occur, and how many bytes were
+/// searched for such a word. 0 if the lines are not UTF-8: the line at fault is then found line by line.
+pub(crate) fn len_without_end<T: StreamItem>(bytes: &[u8]) -> (usize, usize)
+    ensures bound { result.0 ≤ length bytes.now }
+    ensures lines { IsLines (take result.0 bytes.now) }
+    ensures utf8 { IsUtf8 (take result.0 bytes.now) }
+    ensures none { NoEndWord T.item_type (take result.0 bytes.now) }
+{
+    let (front, searched) = before_end_words::<T>(&bytes[..bytes.len().min(WINDOW)]);
+    let len = lines_len(front);
+    match str::from_utf8(&front[..len]) {
+        Ok(_) => (len, searched),
+        Err(_) => (0, searched),
     }
 }

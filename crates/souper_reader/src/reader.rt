@@ -1,41 +1,53 @@
 //! The reader of a stream: chunks of whole segments, and the segments of a chunk that spells no items.
-ghost use Rattle.std.specs.Prelude.{◌≡◌, ◌+◌, ◌<◌, ◌≤◌, ℕ, List, [], length, take, true, false, Option, IfOk, IfErr, IfSome, OnOk, vec_len, option_copied, IsUtf8};
+ghost use Rattle.std.specs.Prelude.{◌≡◌, ◌+◌, ◌<◌, ◌≤◌, ℕ, List, [], length, take, true, false, Option, IfOk, IfErr, IfSome, IfNone, OnOk, vec_len, option_copied, IsUtf8};
 ghost use Rattle.souper_graph.specs.Syntax.Spelling.{ItemType};
 ghost use Rattle.souper_graph.specs.Values.{Item};
 ghost use Rattle.souper_ir.specs.Errors.{kind_of, offset_of, IsLocatedAfter};
 ghost use Rattle.souper_ir.specs.Sinks.{TakesOver, TakesText};
-ghost use Rattle.souper_reader.specs.Buffering.{unparsed};
+ghost use Rattle.souper_reader.specs.Buffering.{held, unparsed};
 ghost use Rattle.souper_reader.specs.Segments.{Line};
 ghost use Rattle.souper_reader.specs.Reading.{ReadsMore, ReadsLine, EndsInLine};
-ghost use Rattle.souper_reader.specs.Parts.{Passes, PassesSegment, HasParts, HasAll, HasLine, line_of, IsNext, TakesPart, RefusesPart, RefusesBytes};
+ghost use Rattle.souper_reader.specs.Parts.{Advances, LeavesChunk, Rejects, HasParts, HasAll, HasLine, line_of, IsNext, TakesPart, RefusesPart};
 
 use crate::buffer::{Buffer, newline_count};
 use crate::cuts::{last_cut, segment_len};
 use crate::item::StreamItem;
 use crate::lines::first_offset;
 use crate::sink::ChunkSink;
-use souper_ir::parse::{ParseError, ParseErrorKind, Result, Sink, parse_into};
+use souper_ir::parse::{Memory, ParseError, ParseErrorKind, Result, Sink, parse_with_memory};
 use std::alloc::{AllocError, Global};
 use std::io::{BufRead, ErrorKind};
 use std::{io, str};
 
-// Read size in bytes.
-const BLOCK: usize = 4096;
+// The most bytes that are taken at once of what a reader has buffered.
+const BLOCK: usize = 65536;
 
-// Reads blocks until `goal` bytes are buffered, or until the input has ended. Returns whether it has ended.
+// Takes bytes of what the reader has buffered, and returns whether the input has ended.
+fn read_block<R: BufRead>(reader: &mut R, bytes: &mut Vec<u8>) -> io::Result<bool>
+    ensures { IfOk result (λ ended. (more : List ℕ) × ReadsMore (R.remaining reader.old) (R.remaining reader.new) bytes.old.items bytes.new.items ended more) }
+{
+    let shown = match reader.fill_buf() {
+        Ok(shown) => shown,
+        Err(fault) if fault.kind() == ErrorKind::Interrupted => return Ok(false),
+        Err(fault) => return Err(fault),
+    };
+    let has_ended = shown.is_empty();
+    let len = shown.len().min(BLOCK);
+    bytes.extend_from_slice(&shown[..len])?;
+    reader.consume(len);
+    Ok(has_ended)
+}
+
+// Reads until `goal` bytes are buffered, or until the input has ended. Returns whether it has ended.
 fn fill_blocks<R: BufRead>(reader: &mut R, bytes: &mut Vec<u8>, goal: usize) -> io::Result<bool>
     ensures { IfOk result (λ ended. (more : List ℕ) × ReadsMore (R.remaining reader.old) (R.remaining reader.new) bytes.old.items bytes.new.items ended more) }
 {
-    let mut block = [0u8; BLOCK];
     for _turn in 0..u64::MAX {
         if bytes.len() >= goal {
             return Ok(false);
         }
-        match reader.read(&mut block) {
-            Ok(0) => return Ok(true),
-            Ok(count) => bytes.extend_from_slice(&block[..count])?,
-            Err(fault) if fault.kind() == ErrorKind::Interrupted => {}
-            Err(fault) => return Err(fault),
+        if read_block(reader, bytes)? {
+            return Ok(true);
         }
     }
     Err(io::Error::from(ErrorKind::Other))
@@ -81,52 +93,32 @@ fn utf8(bytes: &[u8]) -> io::Result<&str>
     }
 }
 
-// Gives a parse error of the unparsed bytes its location in the stream.
-fn place(alloc: Global, buffer: &Buffer, error: ParseError, filename: Option<&str>) -> ParseError
-    requires { IfSome (offset_of error) (λ offset. buffer.now.parsed + offset ≤ length buffer.now.bytes.items) }
-    ensures located { kind_of result ≡ ParseErrorKind.Parse → IsLocatedAfter (option_copied filename.entry) buffer.now.before buffer.now.bytes.items buffer.now.parsed error result }
-    ensures memory { kind_of error ≡ ParseErrorKind.Memory → kind_of result ≡ ParseErrorKind.Memory }
+// Gives an error of the first `len` unparsed bytes its location in the stream.
+fn place(
+    alloc: Global,
+    buffer: &Buffer,
+    len: usize,
+    error: ParseError,
+    filename: Option<&str>,
+) -> ParseError
+    requires within { buffer.now.start + buffer.now.parsed + len ≤ vec_len buffer.now.bytes }
+    requires offset { IfSome (offset_of error) (λ offset. offset ≤ len) }
+    ensures { kind_of result ≡ ParseErrorKind.Parse → IsLocatedAfter (option_copied filename.entry) buffer.now.before (take (buffer.now.parsed + len) (held buffer.now)) buffer.now.parsed error result }
 {
-    if error.kind() != ParseErrorKind::Parse {
-        return error;
-    }
-    match str::from_utf8(&buffer.bytes) {
-        Ok(source) => { error.locate_after(alloc, buffer.before, source, buffer.parsed, filename) }
+    match str::from_utf8(buffer.held(len)) {
+        Ok(source) => error.locate_after(alloc, buffer.before, source, buffer.parsed, filename),
         Err(_) => ParseError::from(io::Error::from(ErrorKind::InvalidData)),
     }
 }
 
-// Passes the items of the first `len` unparsed bytes to the sink.
-fn parse_part<T: StreamItem + Drop, S: Sink<T>>(
-    alloc: Global,
-    buffer: &Buffer,
-    len: usize,
-    filename: Option<&str>,
-    sink: &mut S,
-) -> Result<()>
-    requires parsed { buffer.now.parsed ≤ vec_len buffer.now.bytes }
-    requires within { len ≤ length (unparsed buffer.now) }
-    ensures taken { OnOk result (TakesText S.holds T.item_type (take len (unparsed buffer.now)) sink.old sink.new) }
-    ensures refused { IfErr result (λ e. kind_of e ≡ ParseErrorKind.Parse → RefusesBytes T.item_type (option_copied filename.entry) buffer.now len S.holds sink.old sink.new e) }
-    ensures begun { IfErr result (λ e. (kind_of e ≡ ParseErrorKind.Memory → ⊥) → (items : List Item) × TakesOver S.holds items sink.old sink.new) }
+// The 1-based line of the first token of the text, with which the unparsed bytes begin.
+fn first_line(buffer: &Buffer, text: &str) -> usize
+    requires { buffer.now.start + buffer.now.parsed ≤ vec_len buffer.now.bytes }
+    ensures { text.now ≡ take (length text.now) (unparsed buffer.now) → HasLine buffer.now (length text.now) result }
 {
-    let text = utf8(&buffer.unparsed()[..len])?;
-    match parse_into::<T, S>(alloc, text, None, sink) {
-        Ok(()) => Ok(()),
-        Err(error) => Err(place(alloc, buffer, error, filename)),
-    }
-}
-
-// The 1-based line of the first token of the first `len` unparsed bytes.
-fn first_line(buffer: &Buffer, len: usize) -> io::Result<usize>
-    requires parsed { buffer.now.parsed ≤ vec_len buffer.now.bytes }
-    requires within { len ≤ length (unparsed buffer.now) }
-    ensures { IfOk result (HasLine buffer.now len) }
-{
-    let text = utf8(&buffer.unparsed()[..len])?;
     let gap = &text.as_bytes()[..first_offset(text)];
-    let lines = newline_count(&buffer.bytes[..buffer.parsed]).saturating_add(newline_count(gap));
-    Ok(buffer.before.lines.saturating_add(lines).saturating_add(1))
+    let lines = newline_count(buffer.held(0)).saturating_add(newline_count(gap));
+    buffer.before.lines.saturating_add(lines).saturating_add(1)
 }
 
 /// Reads a stream part by part.
@@ -158,6 +150,9 @@ pub struct ItemReader {
 
     // The line of the first token of the last part.
     line: usize,
+
+    // The memory of items that were dropped.
+    memory: Memory,
 }
 
 impl ItemReader {
@@ -175,6 +170,7 @@ impl ItemReader {
             ended: false,
             rejected: 0,
             line: 1,
+            memory: Memory::new(alloc),
         }
     }
 
@@ -198,7 +194,7 @@ impl ItemReader {
 
     // Reads up to the end of the next chunk, and returns its length in bytes, which is 0 if the stream has ended.
     fn next_chunk<T: StreamItem, R: BufRead>(&mut self, reader: &mut R) -> io::Result<usize>
-        requires parsed { self.old.buffer.parsed ≤ vec_len self.old.buffer.bytes }
+        requires parsed { self.old.buffer.start + self.old.buffer.parsed ≤ vec_len self.old.buffer.bytes }
         requires none { self.old.rejected ≡ 0 }
         ensures { IfOk result (λ len. (start : Option (List ℕ)) (ps : List (List Line)) → HasParts T.item_type start (R.remaining reader.old) ps self.old
             → IsNext T.item_type start (R.remaining reader.new) ps self.new len) }
@@ -225,11 +221,11 @@ impl ItemReader {
         rejected: usize,
     ) -> std::result::Result<(), AllocError>
         requires some { 0 < len }
-        requires within { self.old.buffer.parsed + len ≤ vec_len self.old.buffer.bytes }
-        ensures passed { OnOk result (Passes self.old.buffer self.old.ended self.new len rejected) }
+        requires within { self.old.buffer.start + self.old.buffer.parsed + len ≤ vec_len self.old.buffer.bytes }
+        ensures advanced { OnOk result (Advances self.old.buffer self.old.ended self.new len rejected) }
         ensures line { self.new.line ≡ self.old.line }
     {
-        self.buffer.parsed += len;
+        self.buffer.pass(len);
         self.rejected = rejected;
         if rejected == 0 {
             self.buffer.drain(alloc)?;
@@ -239,51 +235,88 @@ impl ItemReader {
     }
 
     // Passes the items of the next chunk, which has `len` bytes, to the sink. An error that is not out of memory leaves the chunk.
-    fn read_chunk<T: StreamItem + Drop, S: Sink<T>>(
+    fn parse_chunk<T: StreamItem + Drop, S: Sink<T>>(
         &mut self,
         alloc: Global,
         len: usize,
-        filename: Option<&str>,
         sink: &mut S,
     ) -> Result<()>
         requires some { 0 < len }
-        requires parsed { self.old.buffer.parsed ≤ vec_len self.old.buffer.bytes }
-        requires within { len ≤ length (unparsed self.old.buffer) }
-        ensures passed { OnOk result (Passes self.old.buffer self.old.ended self.new len 0 × HasLine self.old.buffer len self.new.line) }
+        requires within { self.old.buffer.start + self.old.buffer.parsed + len ≤ vec_len self.old.buffer.bytes }
+        ensures advanced { OnOk result (Advances self.old.buffer self.old.ended self.new len 0 × HasLine self.old.buffer len self.new.line) }
         ensures taken { OnOk result (TakesText S.holds T.item_type (take len (unparsed self.old.buffer)) sink.old sink.new) }
-        ensures left { IfErr result (λ e. (kind_of e ≡ ParseErrorKind.Memory → ⊥) → (self.new ≡ self.old) × ((items : List Item) × TakesOver S.holds items sink.old sink.new)) }
+        ensures left { IfErr result (λ e. (kind_of e ≡ ParseErrorKind.Memory → ⊥) → LeavesChunk self.old self.new S.holds sink.old sink.new) }
     {
-        let line = first_line(&self.buffer, len)?;
-        parse_part::<T, S>(alloc, &self.buffer, len, filename, sink)?;
+        let text = utf8(&self.buffer.unparsed()[..len])?;
+        let line = first_line(&self.buffer, text);
+        parse_with_memory::<T, S>(alloc, &mut self.memory, text, None, sink)?;
         self.line = line;
         self.pass(alloc, len, 0)?;
         Ok(())
     }
 
-    // Passes the items of the first segment of a chunk of `chunk` bytes to the sink, and returns true.
+    // Passes the items of the next chunk to the sink, and returns true; false if the stream has ended. If the chunk spells no items, or is
+    // to be read segment by segment, it returns none, and the sink has no items of it.
+    fn read_chunk<T: StreamItem + Drop, R: BufRead, S: ChunkSink<T>>(
+        &mut self,
+        alloc: Global,
+        reader: &mut R,
+        sink: &mut S,
+    ) -> Result<Option<bool>>
+        requires none { self.old.rejected ≡ 0 }
+        requires had { (start : Option (List ℕ)) × (ps : List (List Line)) × HasParts T.item_type start (R.remaining reader.old) ps self.old }
+        ensures read { IfOk result (λ done. IfSome done (λ more. more ≡ true → (start : Option (List ℕ)) (ps : List (List Line)) → HasParts T.item_type start (R.remaining reader.old) ps self.old
+            → TakesPart T.item_type start (R.remaining reader.new) ps S.holds sink.old sink.new self.new)) }
+        ensures ended { IfOk result (λ done. IfSome done (λ more. more ≡ false → (start : Option (List ℕ)) (ps : List (List Line)) → HasParts T.item_type start (R.remaining reader.old) ps self.old
+            → HasAll T.item_type start (R.remaining reader.new) ps × (sink.new ≡ sink.old))) }
+        ensures rejected { IfOk result (λ done. IfNone done (Rejects T.item_type (R.remaining reader.old) (R.remaining reader.new) self.old self.new S.holds sink.old sink.new)) }
+        ensures failed { IfErr result (λ e. kind_of e ≡ ParseErrorKind.Parse → ⊥) }
+    {
+        let len = match self.next_chunk::<T, R>(reader) {
+            Ok(0) => return Ok(Some(false)),
+            Ok(len) => len,
+            Err(fault) => return Err(read_error(fault)),
+        };
+        if self.by_segments {
+            self.rejected = len;
+            return Ok(None);
+        }
+        match self.parse_chunk::<T, S>(alloc, len, sink) {
+            Ok(()) => Ok(Some(true)),
+            Err(error) if error.kind() == ParseErrorKind::Memory => Err(error),
+            Err(_) => {
+                sink.rollback();
+                self.rejected = len;
+                Ok(None)
+            }
+        }
+    }
+
+    // Passes the items of the first segment of the rejected bytes to the sink, and returns true.
     fn read_segment<T: StreamItem + Drop, S: Sink<T>>(
         &mut self,
         alloc: Global,
-        chunk: usize,
         filename: Option<&str>,
         sink: &mut S,
     ) -> Result<bool>
-        requires some { 0 < chunk }
-        requires parsed { self.old.buffer.parsed ≤ vec_len self.old.buffer.bytes }
-        requires within { chunk ≤ length (unparsed self.old.buffer) }
-        ensures taken { IfOk result (λ more. (more ≡ true) × ((len : ℕ) × PassesSegment T.item_type self.old.buffer self.old.ended chunk self.new len
-            × TakesText S.holds T.item_type (take len (unparsed self.old.buffer)) sink.old sink.new)) }
-        ensures refused { IfErr result (λ e. kind_of e ≡ ParseErrorKind.Parse → (len : ℕ) × PassesSegment T.item_type self.old.buffer self.old.ended chunk self.new len
-            × RefusesBytes T.item_type (option_copied filename.entry) self.old.buffer len S.holds sink.old sink.new e) }
+        requires some { 0 < self.old.rejected }
+        requires within { self.old.buffer.start + self.old.buffer.parsed + self.old.rejected ≤ vec_len self.old.buffer.bytes }
+        ensures more { IfOk result (λ more. more ≡ true) }
+        ensures taken { IfOk result (λ more. (start now : Option (List ℕ)) (ps : List (List Line)) → HasParts T.item_type start now ps self.old
+            → TakesPart T.item_type start now ps S.holds sink.old sink.new self.new) }
+        ensures refused { IfErr result (λ e. kind_of e ≡ ParseErrorKind.Parse → (start now : Option (List ℕ)) (ps : List (List Line)) → HasParts T.item_type start now ps self.old
+            → RefusesPart T.item_type (option_copied filename.entry) start now ps S.holds sink.old sink.new self.new e) }
     {
-        let len = segment_len::<T>(&self.buffer.unparsed()[..chunk])?;
-        self.line = first_line(&self.buffer, len)?;
-        let parsed = parse_part::<T, S>(alloc, &self.buffer, len, filename, sink);
-        self.pass(alloc, len, chunk - len)?;
-        match parsed {
+        let rejected = self.rejected;
+        let len = segment_len::<T>(&self.buffer.unparsed()[..rejected])?;
+        let text = utf8(&self.buffer.unparsed()[..len])?;
+        self.line = first_line(&self.buffer, text);
+        let parsed = match parse_with_memory::<T, S>(alloc, &mut self.memory, text, None, sink) {
             Ok(()) => Ok(true),
-            Err(error) => Err(error),
-        }
+            Err(error) => Err(place(alloc, &self.buffer, len, error, filename)),
+        };
+        self.pass(alloc, len, rejected - len)?;
+        parsed
     }
 
     /// Reads the next part of the stream, and passes its items to the sink, in order. Returns false if the stream has ended, and
@@ -315,25 +348,11 @@ impl ItemReader {
             → RefusesPart T.item_type (option_copied filename.entry) start (R.remaining reader.new) ps S.holds sink.old sink.new self.new e) }
     {
         if self.rejected > 0 {
-            return self.read_segment::<T, S>(alloc, self.rejected, filename, sink);
+            return self.read_segment::<T, S>(alloc, filename, sink);
         }
-        let len = match self.next_chunk::<T, R>(reader) {
-            Ok(0) => return Ok(false),
-            Ok(len) => len,
-            Err(fault) => return Err(read_error(fault)),
-        };
-        if self.by_segments {
-            return self.read_segment::<T, S>(alloc, len, filename, sink);
-        }
-        match self.read_chunk::<T, S>(alloc, len, filename, sink) {
-            Ok(()) => Ok(true),
-            Err(error) => match error.kind() {
-                ParseErrorKind::Memory => Err(error),
-                _ => {
-                    sink.rollback();
-                    self.read_segment::<T, S>(alloc, len, filename, sink)
-                }
-            },
+        match self.read_chunk::<T, R, S>(alloc, reader, sink)? {
+            Some(more) => Ok(more),
+            None => self.read_segment::<T, S>(alloc, filename, sink),
         }
     }
 }

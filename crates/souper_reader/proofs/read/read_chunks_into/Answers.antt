@@ -3,8 +3,14 @@ use Rattle.std.specs.Prelude.{map, option_copied}
 use Rattle.std.specs.List.{AllByRecursion}
 use Rattle.souper_graph.specs.Values.{Item}
 use Rattle.souper_graph.specs.WellFormed.{WellFormed}
-use Rattle.souper_reader.proofs.Reached.{reached_more, reached_end, reached_refusal}
+use Rattle.souper_reader.proofs.Reached.{reached_none, reached_more, reached_end, reached_refusal}
 use Rattle.souper_reader.proofs.read.read_chunks_into.Goals as goal
+
+pub loop-turn-init : goal.loop-turn-init
+loop-turn-init g c =
+    let k = g.T.Item.item_type in
+    let start = g.R.Read.remaining c.args.reader.now in
+    record { reached = reached_none k start g.S.Sink.holds c.args.sink.now c.new-parts.result (c.new-parts.ensures k start); none = c.new.ensures.items }
 
 pub pass_on-requires : goal.pass_on-requires
 pass_on-requires g c =

@@ -5,5 +5,5 @@ use Rattle.souper_reader.proofs.reader.ItemReader.new.Goals as goal
 
 pub returns : goal.returns
 returns c = λ k start.
-    let r : ItemReader = record { buffer = c.new.result; min_chunk = c.args.min_chunk; goal = c.args.min_chunk; by_segments = false; ended = false; rejected = 0; line = 1 } in
-    read_none k start r c.new.ensures.bytes c.new.ensures.parsed c.new.ensures.bytes_before c.new.ensures.lines_before refl refl
+    let r : ItemReader = record { buffer = c.new.result; min_chunk = c.args.min_chunk; goal = c.args.min_chunk; by_segments = false; ended = false; rejected = 0; line = 1; memory = c.new-2.result } in
+    read_none k start r c.new.ensures refl refl

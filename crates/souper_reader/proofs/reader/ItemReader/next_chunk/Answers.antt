@@ -13,10 +13,10 @@ returns-then-cut-gt0 g c = λ start ps had.
     let k = g.T.Item.item_type in
     let rem = g.R.Read.remaining in
     let p = c.loop-turn.self in
-    let q : ItemReader = record { buffer = record { bytes = c.fill.new.bytes; parsed = p.buffer.parsed; before = p.buffer.before }; min_chunk = p.min_chunk; goal = p.goal; by_segments = p.by_segments; ended = c.in_ok-self.field-0; rejected = p.rejected; line = p.line } in
+    let q : ItemReader = record { buffer = record { bytes = c.fill.new.bytes; start = p.buffer.start; parsed = p.buffer.parsed; before = p.buffer.before }; min_chunk = p.min_chunk; goal = p.goal; by_segments = p.by_segments; ended = c.in_ok-self.field-0; rejected = p.rejected; line = p.line; memory = p.memory } in
     let m = c.in_ok-self.ensures in
     let more : HasParts k start (rem c.fill.new.reader) ps q =
-    read_more k start (rem c.loop-turn.reader) (rem c.fill.new.reader) ps p q m.0 (c.loop-turn.invariant.parts start ps had) c.if-self.false c.loop-turn.invariant.none m.1 m.2 refl refl c.loop-turn.invariant.none in
+    read_more k start (rem c.loop-turn.reader) (rem c.fill.new.reader) ps p q m.0 (c.loop-turn.invariant.parts start ps had) c.if-self.false c.loop-turn.invariant.none m.1 m.2 refl refl refl c.loop-turn.invariant.none in
     next_cut k start (rem c.fill.new.reader) ps q c.last_cut-cut.result more c.if-cut-gt0.true (λ ls e lines. c.last_cut-cut.ensures c.if-cut-gt0.true ls (c.unparsed-in-loop-turn.ensures ∙ e) lines)
 
 pub loop-turn-preserved : goal.loop-turn-preserved
@@ -24,11 +24,11 @@ loop-turn-preserved g c =
     let k = g.T.Item.item_type in
     let rem = g.R.Read.remaining in
     let p = c.loop-turn.self in
-    let q : ItemReader = record { buffer = record { bytes = c.fill.new.bytes; parsed = p.buffer.parsed; before = p.buffer.before }; min_chunk = p.min_chunk; goal = p.goal; by_segments = p.by_segments; ended = c.in_ok-self.field-0; rejected = p.rejected; line = p.line } in
+    let q : ItemReader = record { buffer = record { bytes = c.fill.new.bytes; start = p.buffer.start; parsed = p.buffer.parsed; before = p.buffer.before }; min_chunk = p.min_chunk; goal = p.goal; by_segments = p.by_segments; ended = c.in_ok-self.field-0; rejected = p.rejected; line = p.line; memory = p.memory } in
     let m = c.in_ok-self.ensures in
     let within = c.loop-turn.invariant.parsed in
     record {
       parsed = omega (arith, within, ap length m.1.held ∙ length-append p.buffer.bytes.items m.0, p.buffer.bytes.ok, c.fill.new.bytes.ok);
       none = c.loop-turn.invariant.none;
-      parts = λ start ps had. read_more k start (rem c.loop-turn.reader) (rem c.fill.new.reader) ps p q m.0 (c.loop-turn.invariant.parts start ps had) c.if-self.false c.loop-turn.invariant.none m.1 m.2 refl refl c.loop-turn.invariant.none;
+      parts = λ start ps had. read_more k start (rem c.loop-turn.reader) (rem c.fill.new.reader) ps p q m.0 (c.loop-turn.invariant.parts start ps had) c.if-self.false c.loop-turn.invariant.none m.1 m.2 refl refl refl c.loop-turn.invariant.none;
     }

@@ -1,5 +1,5 @@
 -- The same parts were parsed as before.
-use Rattle.std.proofs.Common.{◌≡◌, ◌≤◌, List}
+use Rattle.std.proofs.Common.{◌≡◌, ◌≤◌, ◌+◌, List}
 use Rattle.std.specs.Prelude.{ℕ, Option, vec_len}
 use Rattle.souper_reader.specs.Segments.{Line}
 use Rattle.souper_reader.specs.Parts.{HasParts}
@@ -7,7 +7,7 @@ use Rattle.souper_reader.proofs.reader.ItemReader.next_chunk.Given as goal
 
 abbrev pub invariant-loop-turn : goal.invariant-loop-turn
 invariant-loop-turn g l = record {
-  parsed : l.self.buffer.parsed ≤ vec_len l.self.buffer.bytes;
+  parsed : l.self.buffer.start + l.self.buffer.parsed ≤ vec_len l.self.buffer.bytes;
   none : l.self.rejected ≡ 0;
   parts : (start : Option (List ℕ)) (ps : List (List Line)) → HasParts g.T.Item.item_type start (g.R.Read.remaining l.fn.reader) ps l.fn.self → HasParts g.T.Item.item_type start (g.R.Read.remaining l.reader) ps l.self;
 }
