@@ -1,14 +1,14 @@
 //! Laws of any text: texts of items in which some characters are others.
 ghost use Rattle.std.specs.Prelude.{ℕ, List, [], Option};
 ghost use Rattle.souper_graph.specs.Syntax.Spelling.{ItemType};
-ghost use Rattle.souper_reader.specs.Parts.{HasParts};
+ghost use Rattle.souper_stream.specs.Parts.{HasParts};
 
 use crate::generator::{Generated, Generator};
 use crate::law::{Broken, law};
 use crate::recovered::recovered;
 use crate::texts::{formatted, joined, streamed};
 use souper_ir::parse::parse_into;
-use souper_reader::ItemReader;
+use souper_stream::ItemReader;
 use std::alloc::Global;
 use std::io::BufReader;
 

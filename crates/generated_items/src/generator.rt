@@ -10,7 +10,7 @@ use souper_ir::ast::{
     Infer, Instruction, LeftHandSide, Operand, Pc, Phi, Replacement, RightHandSide, RootAttribute,
     Statement, Type, ValueId,
 };
-use souper_reader::StreamItem;
+use souper_stream::StreamItem;
 use std::alloc::{AllocError, Global};
 
 /// An item that can be made at random.

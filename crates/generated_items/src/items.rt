@@ -3,7 +3,7 @@ use crate::law::{Broken, law, there};
 use souper_ir::ast::Id;
 use souper_ir::parse::parse_into;
 use souper_ir::stringify::{Order, TextError};
-use souper_reader::StreamItem;
+use souper_stream::StreamItem;
 use std::alloc::Global;
 
 // The text, or `None` if the item has a bad id.

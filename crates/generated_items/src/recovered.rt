@@ -1,12 +1,12 @@
 //! A stream whose reading recovers after invalid segments.
 ghost use Rattle.std.specs.Prelude.{ℕ, List, [], Option};
 ghost use Rattle.souper_graph.specs.Syntax.Spelling.{ItemType};
-ghost use Rattle.souper_reader.specs.Parts.{HasParts};
+ghost use Rattle.souper_stream.specs.Parts.{HasParts};
 
 use crate::law::Broken;
 use souper_ir::parse::{ParseErrorKind, Sink, WholeItem};
 use souper_ir::stringify::TextError;
-use souper_reader::{ChunkSink, ItemReader, StreamItem};
+use souper_stream::{ChunkSink, ItemReader, StreamItem};
 use std::alloc::{AllocError, Global};
 use std::io::BufRead;
 

@@ -7,7 +7,7 @@ use souper_format::items::read_items;
 use souper_format::same::same;
 use souper_ir::parse::parse_into;
 use souper_ir::stringify::TextError;
-use souper_reader::{StreamItem, read_chunks_into};
+use souper_stream::{StreamItem, read_chunks_into};
 use std::alloc::Global;
 use std::io::BufReader;
 

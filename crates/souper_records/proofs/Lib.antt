@@ -1,6 +1,5 @@
 mod Writers
 mod Stops
-mod Turns
 mod Checking
 mod Firsts
 mod Tallies

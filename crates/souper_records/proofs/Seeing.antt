@@ -2,10 +2,10 @@
 use Rattle.std.proofs.Common.{◌≡◌, ◌⊎◌, inl, inr, ℕ, ◌+◌, ◌-◌, ◌^◌, ◌<◌, ◌≤◌, Bool, true, false, not, List, [], ◌∷◌, ◌++◌, map, length, drop, Option, refl, sym, ap, ◌∙◌, subst, arith, append_assoc, append-nil, slice_set, slice_index_or}
 use Rattle.std.specs.Prelude.{String, Result, Ok, Err, OnOk, flat_map, min, bytes_eq, ◌||◌, if◌then◌else◌}
 use Rattle.std.specs.List.{list_any, position_or_len, AllByRecursion}
-use Rattle.std.specs.Io.KnownBytes.{Consumes, Appends}
+use Rattle.std.specs.Io.KnownBytes.{Appends}
 use Rattle.std.specs.String.{string_bytes, string_eq}
 use Rattle.indexmap.specs.IndexSet.{insert_key}
-use Rattle.std.proofs.KnownBytes.{Consumes-nil, Consumes-trans, Appends-nil, Appends-trans}
+use Rattle.std.proofs.KnownBytes.{Appends-nil, Appends-trans}
 use Rattle.std.proofs.Math.Seq.{drop-append_seam}
 use Rattle.std.proofs.lemmas.List.{map-append, length-map, drop-map}
 use Rattle.std.proofs.lemmas.List.Folds.{flat_map-map}
@@ -15,17 +15,12 @@ use Rattle.souper_graph.specs.Renaming.{renamed}
 use Rattle.souper_graph.specs.Syntax.Spelling.{ItemType}
 use Rattle.souper_graph.proofs.Sameness.Renumbered.{ordered}
 use Rattle.souper_graph.proofs.Sameness.Renaming.{graph-renamed, renamed-graph}
-use Rattle.souper_ir.specs.declared.parse.error.ParseError.{ParseError}
 use Rattle.souper_ir.proofs.Items.OneText.{one_text}
-use Rattle.souper_stream.specs.declared.parts.PartReader.{PartReader}
-use Rattle.souper_stream.specs.Parts.{HasRead, ReadsPart, RefusesPart}
-use Rattle.souper_stream.proofs.Bytes.{all_after}
-use Rattle.souper_stream.proofs.Turns.{read_begun, never_after}
 use Rattle.souper_format.specs.Streams.{Stream}
 use Rattle.souper_records.specs.declared.layout.Layout.{Layout}
 use Rattle.souper_records.specs.declared.seen.Seen.{Seen}
 use Rattle.souper_records.specs.Records.{record_of_text, record_of, records_of}
-use Rattle.souper_records.specs.Uniques.{text_by, firsts, AreSame, AreFirsts, HasText, HasSeen, SeesMore, WritesFirsts, WritesFirstsUpTo, WritesFirstsBegun, WritesSeenFirsts, WritesNewFirsts}
+use Rattle.souper_records.specs.Uniques.{text_by, firsts, AreSame, AreFirsts, HasText, HasSeen, SeesTexts, WritesSeenFirsts, WritesNewFirsts}
 use Rattle.souper_records.specs.Firsts.{firsts_by}
 use Rattle.souper_records.specs.Counts.{count_of, counts_by, IsCounted}
 use Rattle.souper_records.proofs.Tallies.{index, counts-again, counts-new}
@@ -122,20 +117,78 @@ records_of_new : (k : ItemType) (l : Layout) (before taken : List Item) (s t : S
 records_of_new k l before taken s t h j =
     ap (flat_map (record_of_text l)) (new_texts k l.rename before taken s t h j) ∙ flat_map-map (record_of_text l) (text_by l.rename) (firsts l.rename before taken)
 
-abbrev pub Reached : ItemType → Layout → Option (List ℕ) → Option (List ℕ) → Option (List ℕ) → Option (List ℕ) → Seen → Seen → PartReader → Type 0
-Reached k l before mid old now s t p = (read : List ℕ) × (items : List Item) × HasRead k read items p × Consumes before mid read × WritesNewFirsts k l old now s t items
+-- texts of items that were seen one after the other
+no_items : {A B : Type 0} (f : A → B) (xs : List A) → map f xs ≡ [] → xs ≡ []
+no_items f [] e = refl
+no_items f (x ∷ xs) e = absurd cc
 
-pub sees_none : (k : ItemType) (rename : Bool) (s : Seen) → SeesMore k rename [] s s
-sees_none k rename s earlier seen = subst (λ (x : List Item). HasSeen k rename x s) (sym (append-nil earlier)) seen
+pub sees_none : (s : Seen) → SeesTexts [] s s
+sees_none s k rename earlier items seen texts e = subst (λ (x : List Item). HasSeen k rename x s) (sym (ap (λ (x : List Item). earlier ++ x) (no_items (text_by rename) items e) ∙ append-nil earlier)) seen
+
+-- elements whose images are in two parts
+record Split {A B : Type 0} (f : A → B) (items : List A) (xs ys : List B) : Type 0 where
+  pub front : List A
+  pub back : List A
+  pub whole : items ≡ front ++ back
+  pub first : map f front ≡ xs
+  pub second : map f back ≡ ys
+
+split : {A B : Type 0} (f : A → B) (items : List A) (xs ys : List B) → map f items ≡ xs ++ ys → Split f items xs ys
+split f items [] ys e = record { front = []; back = items; whole = refl; first = refl; second = e }
+split f [] (x ∷ xs) ys e = absurd cc
+split f (a ∷ items) (x ∷ xs) ys e =
+    let head : f a ≡ x = cc in
+    let rest = split f items xs ys cc in
+    record { front = a ∷ rest.front; back = rest.back; whole = ap (λ (l : List _). a ∷ l) rest.whole; first = (λ i. head i ∷ rest.first i); second = rest.second }
+
+all_first : (P : Item → Type 0) (xs ys : List Item) → AllByRecursion P (xs ++ ys) → AllByRecursion P xs
+all_first P [] ys h = tt
+all_first P (x ∷ xs) ys h = (h.0, all_first P xs ys h.1)
+
+all_parts : (P : Item → Type 0) (xs ys : List Item) → AllByRecursion P (xs ++ ys) → AllByRecursion P ys
+all_parts P [] ys h = h
+all_parts P (x ∷ xs) ys h = all_parts P xs ys h.1
+
+pub sees_both : (xs ys : List (List ℕ)) (s t u : Seen) → SeesTexts xs s t → SeesTexts ys t u → SeesTexts (xs ++ ys) s u
+sees_both xs ys s t u a b k rename earlier items seen texts e =
+    let parts = split (text_by rename) items xs ys e in
+    let all = subst (λ (x : List Item). AllByRecursion (HasText k rename) x) parts.whole texts in
+    let mid = a k rename earlier parts.front seen (all_first (HasText k rename) parts.front parts.back all) parts.first in
+    let last = b k rename (earlier ++ parts.front) parts.back mid (all_parts (HasText k rename) parts.front parts.back all) parts.second in
+    subst (λ (x : List Item). HasSeen k rename x u) (append_assoc earlier parts.front parts.back ∙ ap (λ (x : List Item). earlier ++ x) (sym parts.whole)) last
+
+pub sees_one : (s u : Seen) (t : String _) → u.texts.keys ≡ insert_key string_eq s.texts.keys t → IsCounted s.counts.items (position_or_len (string_eq t) s.texts.keys) u.counts.items → SeesTexts (string_bytes t ∷ []) s u
+sees_one s u t keys counted k rename earlier [] seen texts e = absurd cc
+sees_one s u t keys counted k rename earlier (a ∷ []) seen texts e = seen_one k rename earlier a s u t seen texts.0 (let is : string_bytes t ≡ text_by rename a = cc in is) keys counted
+sees_one s u t keys counted k rename earlier (a ∷ (b ∷ items)) seen texts e = absurd cc
+
+-- of these texts all but the rest were seen
+pub record SeenTexts {M : Type 0} (all rest : List (String M)) (s t : Seen) : Type 0 where
+  pub done : List (String M)
+  pub whole : all ≡ done ++ rest
+  pub sees : SeesTexts (map string_bytes done) s t
+
+pub seen_texts_none : {M : Type 0} (all : List (String M)) (s : Seen) → SeenTexts all all s s
+seen_texts_none all s = record { done = []; whole = refl; sees = sees_none s }
+
+pub seen_texts_more : {M : Type 0} (all rest next : List (String M)) (text : String M) (s t u : Seen) → SeenTexts all rest s t → rest ≡ text ∷ next → SeesTexts (string_bytes text ∷ []) t u → SeenTexts all next s u
+seen_texts_more all rest next text s t u p e one = record {
+  done = p.done ++ text ∷ [];
+  whole = p.whole ∙ ap (λ (x : List (String _)). p.done ++ x) e ∙ sym (append_assoc p.done (text ∷ []) next);
+  sees = subst (λ (x : List (List ℕ)). SeesTexts x s u) (sym (map-append string_bytes p.done (text ∷ []))) (sees_both (map string_bytes p.done) (string_bytes text ∷ []) s t u p.sees one);
+}
+
+pub seen_texts_all : {M : Type 0} (all rest : List (String M)) (s t : Seen) → SeenTexts all rest s t → rest ≡ [] → SeesTexts (map string_bytes all) s t
+seen_texts_all all rest s t p e = subst (λ (x : List (String _)). SeesTexts (map string_bytes x) s t) (sym (p.whole ∙ ap (λ (x : List (String _)). p.done ++ x) e ∙ append-nil p.done)) p.sees
 
 -- the records that were written of one part
 abbrev pub WritesNew : Layout → Option (List ℕ) → Option (List ℕ) → Seen → Seen → Type 0
 WritesNew l now new s t = Appends now new (flat_map (record_of_text l) (map string_bytes (drop (length s.texts.keys) t.texts.keys)))
 
 -- of one part
-pub keeps_one : (k : ItemType) (l : Layout) (now new : Option (List ℕ)) (t u : Seen) (ys : List Item) → SeesMore k l.rename ys t u → WritesNew l now new t u → WritesNewFirsts k l now new t u ys
-keeps_one k l now new t u ys more w = λ earlier seen.
-    let later = more earlier seen in
+pub keeps_one : (k : ItemType) (l : Layout) (now new : Option (List ℕ)) (t u : Seen) (ys : List Item) → AllByRecursion (HasText k l.rename) ys → SeesTexts (map (text_by l.rename) ys) t u → WritesNew l now new t u → WritesNewFirsts k l now new t u ys
+keeps_one k l now new t u ys texts more w = λ earlier seen.
+    let later = more k l.rename earlier ys seen texts refl in
     (later, subst (Appends now new) (records_of_new k l earlier ys t u seen later) w)
 
 -- of one part after another
@@ -150,84 +203,8 @@ keeps_join k l old now new s t u xs ys a b = λ earlier seen.
           (Appends-trans old now new (records_of l (firsts l.rename earlier xs)) (records_of l (firsts l.rename (earlier ++ xs) ys)) so_far.1 part.1)),
     )
 
-keeps_both : (k : ItemType) (l : Layout) (old now new : Option (List ℕ)) (s t u : Seen) (xs ys : List Item) → WritesNewFirsts k l old now s t xs → SeesMore k l.rename ys t u → WritesNew l now new t u → WritesNewFirsts k l old new s u (xs ++ ys)
-keeps_both k l old now new s t u xs ys a more w = keeps_join k l old now new s t u xs ys a (keeps_one k l now new t u ys more w)
-
 pub keeps_none : (k : ItemType) (l : Layout) (old : Option (List ℕ)) (s : Seen) → WritesNewFirsts k l old old s s []
-keeps_none k l old s earlier seen = (sees_none k l.rename s earlier seen, Appends-nil old)
-
-pub reached_none : (k : ItemType) (l : Layout) (before old : Option (List ℕ)) (s : Seen) (p : PartReader) → HasRead k [] [] p → Reached k l before before old old s s p
-reached_none k l before old s p h = ([], [], h, Consumes-nil before, keeps_none k l old s)
-
-all_parts : (P : Item → Type 0) (xs ys : List Item) → AllByRecursion P (xs ++ ys) → AllByRecursion P ys
-all_parts P [] ys h = h
-all_parts P (x ∷ xs) ys h = all_parts P xs ys h.1
-
--- the records of the first ones among the items that were read so far, which the stream begins with
-pub reached_begun : (k : ItemType) (l : Layout) (before mid : Option (List ℕ)) (out : Stream) (s t : Seen) (p : PartReader) → Reached k l before mid out.before out.after s t p → (earlier : List Item) → HasSeen k l.rename earlier s → WritesFirstsBegun k l earlier before out
-reached_begun k l before mid out s t p r earlier seen =
-    let both = r.4 earlier seen in
-    record {
-      read = r.0;
-      after = mid;
-      items = r.1;
-      first = firsts l.rename earlier r.1;
-      consumed = r.3;
-      begun = read_begun k r.0 r.1 p r.2;
-      are_firsts = are_firsts k l.rename earlier r.1 seen.0 (all_parts (HasText k l.rename) earlier r.1 both.0.0);
-      written = both.1;
-    }
-
--- so it is with those up to a refusal
-pub up_to_begun : (k : ItemType) (l : Layout) (earlier : List Item) (file : Option (List ℕ)) (before after : Option (List ℕ)) (out : Stream) (seen : Seen) (e : ParseError) → WritesFirstsUpTo k l earlier file before after out seen e → WritesFirstsBegun k l earlier before out
-up_to_begun k l earlier file before after out seen e w =
-    record { read = w.read; after = after; items = w.items; first = w.first; consumed = w.consumed; begun = w.begun; are_firsts = w.are_firsts; written = w.written }
-
-module _ {S : Type 0} (k : ItemType) (l : Layout) (before mid after now : Option (List ℕ)) (out : Stream) {holds : S → S → List Item → Type 0} {a b : S} (s t u : Seen) (p : PartReader) (r : Reached k l before mid out.before now s t p) where
-  pub reached_more : (q : PartReader) (ended : Bool) (m : ReadsPart k r.0 r.1 mid after holds a b q ended) → SeesMore k l.rename m.taken t u → WritesNew l now out.after t u → ended ≡ false → Reached k l before after out.before out.after s u q
-  reached_more q ended m more w e = (
-    r.0 ++ m.more,
-    r.1 ++ m.taken,
-    m.goes_on e,
-    Consumes-trans before mid after r.0 m.more r.3 m.consumed,
-    keeps_both k l out.before now out.after s t u r.1 m.taken r.4 more w,
-  )
-
-  pub reached_end : (q : PartReader) (ended : Bool) (m : ReadsPart k r.0 r.1 mid after holds a b q ended) → SeesMore k l.rename m.taken t u → WritesNew l now out.after t u → ended ≡ true
-      → (earlier : List Item) → HasSeen k l.rename earlier s → WritesFirsts k l earlier before after out u
-  reached_end q ended m more w e earlier seen =
-      let both = keeps_both k l out.before now out.after s t u r.1 m.taken r.4 more w earlier seen in
-      let items = r.1 ++ m.taken in
-      record {
-        read = r.0 ++ m.more;
-        items = items;
-        first = firsts l.rename earlier items;
-        consumed = Consumes-trans before mid after r.0 m.more r.3 m.consumed;
-        all_read = all_after before mid r.0 m.more r.3 (m.all_read e).0;
-        spelled = (m.all_read e).1;
-        are_firsts = are_firsts k l.rename earlier items seen.0 (all_parts (HasText k l.rename) earlier items both.0.0);
-        written = both.1;
-        seen_now = both.0;
-      }
-
-  pub reached_refusal : (file : Option (List ℕ)) (e : ParseError) (m : RefusesPart k file r.0 r.1 mid after holds a b e) → SeesMore k l.rename m.2.taken t u → WritesNew l now out.after t u
-      → (earlier : List Item) → HasSeen k l.rename earlier s → WritesFirstsUpTo k l earlier file before after out u e
-  reached_refusal file e m more w earlier seen =
-      let part = m.2 in
-      let both = keeps_both k l out.before now out.after s t u r.1 part.taken r.4 more w earlier seen in
-      let items = r.1 ++ part.taken in
-      record {
-        read = r.0 ++ m.0;
-        items = items;
-        first = firsts l.rename earlier items;
-        consumed = Consumes-trans before mid after r.0 m.0 r.3 m.1;
-        never = never_after k before mid r.0 m.0 r.3 part.never;
-        begun = part.begun;
-        are_firsts = are_firsts k l.rename earlier items seen.0 (all_parts (HasText k l.rename) earlier items both.0.0);
-        written = both.1;
-        seen_now = both.0;
-        placed = part.placed;
-      }
+keeps_none k l old s earlier seen = (subst (λ (x : List Item). HasSeen k l.rename x s) (sym (append-nil earlier)) seen, Appends-nil old)
 
 -- the first items of the items that were seen
 pub first_records : (k : ItemType) (l : Layout) (out : Stream) (s t : Seen) (earlier items : List Item) → HasSeen k l.rename earlier s → WritesNewFirsts k l out.before out.after s t items → WritesSeenFirsts k l earlier out t items

@@ -4,9 +4,9 @@ use Rattle.souper_ir.specs.declared.parse.error.ParseError.{ParseError}
 use Rattle.souper_ir.specs.declared.parse.error.ParseErrorKind.{ParseErrorKind}
 use Rattle.souper_ir.specs.declared.parse.error.ParseErrorKind.TheVariants.{Io, Parse, Memory}
 use Rattle.souper_ir.specs.Errors.{OnKind, kind_of}
-use Rattle.souper_records.specs.declared.each.Stop.{Stop}
-use Rattle.souper_records.specs.declared.each.Stop.TheVariants.{Input, Output, Memory as MemoryStop}
-use Rattle.souper_records.specs.Eaches.{IsStopOf, UnlessOutput}
+use Rattle.souper_records.specs.declared.stop.Stop.{Stop}
+use Rattle.souper_records.specs.declared.stop.Stop.TheVariants.{Input, Output, Memory as MemoryStop}
+use Rattle.souper_records.specs.Stops.{IsStopOf, UnlessOutput}
 
 -- the output is not the cause of an error of the input
 pub stop_known : (e : ParseError) (stop : Stop) (failed : Bool) (P : Type 0) → IsStopOf e stop → P → UnlessOutput stop failed P

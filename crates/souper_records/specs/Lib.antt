@@ -1,5 +1,5 @@
 pub mod Records
-pub mod Eaches
+pub mod Stops
 pub mod Reports
 pub mod Outcomes
 pub mod Objects

@@ -1,18 +1,14 @@
 -- Definitions. The JSON objects of items and of refusals.
-use Rattle.std.specs.Prelude.{◌≡◌, Bool, false, ℕ, List, [], ◌++◌, flat_map, codes, Option, None, Some}
-use Rattle.std.specs.Io.KnownBytes.{Consumes}
+use Rattle.std.specs.Prelude.{Bool, ℕ, List, [], ◌++◌, flat_map, codes, Option, None, Some}
 use Rattle.serde_json.specs.Data.{Data, null, number, unsigned, string, object, member, no_members}
 use Rattle.serde_json.specs.Written.{compact_text}
 use Rattle.souper_graph.specs.Values.{Item}
-use Rattle.souper_graph.specs.Syntax.Spelling.{ItemType, TextSpells}
 use Rattle.souper_ir.specs.declared.parse.error.ParseError.{ParseError}
 use Rattle.souper_ir.specs.Errors.{offset_of, line_of, column_of, message_of}
-use Rattle.souper_stream.specs.Pieces.{ArePieces}
-use Rattle.souper_stream.specs.Reading.{AreAll}
 use Rattle.souper_format.specs.Streams.{Stream, IsGiven}
 use Rattle.souper_records.specs.Records.{key_of}
 use Rattle.souper_records.specs.Uniques.{text_by}
-use Rattle.souper_records.specs.Outcomes.{Outcome, AreOutcomes, pieces_of, items_of, any_refused}
+use Rattle.souper_records.specs.Outcomes.{Outcome}
 
 -- the object of an item that has this text, in the stream of this name, on this line
 abbrev pub item_object : List ℕ → ℕ → List ℕ → Data
@@ -52,26 +48,14 @@ abbrev pub refusal_line : List ℕ → Option ParseError → List ℕ
 refusal_line name None = []
 refusal_line name (Some e) = object_line (refusal_object name e)
 
--- the lines of a segment: of its items, or of the ones that it begins with, and of its refusal, if it is refused
-abbrev pub piece_lines : Bool → List ℕ → Outcome → List ℕ
-piece_lines rename name o = flat_map (item_line rename name o.line) o.items ++ refusal_line name o.refusal
+-- the lines of a part: of its items, or of the ones that it begins with, and of its refusal, if it is refused
+abbrev pub part_lines : Bool → List ℕ → Outcome → List ℕ
+part_lines rename name o = flat_map (item_line rename name o.line) o.items ++ refusal_line name o.refusal
 
--- the lines of all segments
+-- the lines of all parts
 abbrev pub objects_of : Bool → List ℕ → List Outcome → List ℕ
-objects_of rename name os = flat_map (piece_lines rename name) os
+objects_of rename name os = flat_map (part_lines rename name) os
 
--- the lines of the segments were written, and nothing else
+-- the lines of the parts were written, and nothing else
 abbrev pub WritesObjects : Bool → List ℕ → Stream → List Outcome → Type 0
 WritesObjects rename name out os = IsGiven out (objects_of rename name os)
-
--- all of the stream was read, it spells items, and their lines were written, and nothing else
-pub record WritesAllObjects (k : ItemType) (rename : Bool) (name : List ℕ) (before after : Option (List ℕ)) (out : Stream) : Type 0 where
-  pub read : List ℕ
-  pub outcomes : List Outcome
-  pub consumed : Consumes before after read
-  pub all_read : AreAll before read
-  pub pieces : ArePieces k read (pieces_of outcomes)
-  pub are : AreOutcomes k (Some name) before [] outcomes
-  pub none : any_refused outcomes ≡ false
-  pub spelled : TextSpells k read (items_of outcomes)
-  pub written : WritesObjects rename name out outcomes

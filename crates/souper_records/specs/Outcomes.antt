@@ -1,5 +1,5 @@
--- Definitions. The outcomes of the segments of a stream whose reading resumes after a refusal: their output and reports.
-use Rattle.std.specs.Prelude.{◌≡◌, ℕ, Bool, false, List, [], ◌∷◌, ◌++◌, map, flat_map, filter_map, is_some, Option, None, Some}
+-- Definitions. The outcomes of the parts of a stream: their output and reports.
+use Rattle.std.specs.Prelude.{◌≡◌, ◌⊎◌, ℕ, Bool, true, false, List, [], ◌∷◌, ◌++◌, map, flat_map, filter_map, is_some, Option, None, Some}
 use Rattle.std.specs.List.{list_any}
 use Rattle.std.specs.Io.KnownBytes.{Consumes}
 use Rattle.souper_graph.specs.Values.{Item}
@@ -8,51 +8,53 @@ use Rattle.souper_ir.specs.declared.parse.error.ParseError.{ParseError}
 use Rattle.souper_ir.specs.declared.parse.error.ParseErrorKind.TheVariants.{Parse}
 use Rattle.souper_ir.specs.Errors.{kind_of}
 use Rattle.souper_ir.specs.Sinks.{PrefixSpells}
-use Rattle.souper_stream.specs.Pieces.{Line, concat, all_lines, ArePieces}
-use Rattle.souper_stream.specs.declared.pieces.PieceReader.{PieceReader}
-use Rattle.souper_stream.specs.PieceReading.{IsPlacedIn, IsOnLine, HasPieces}
-use Rattle.souper_stream.specs.Reading.{AreAll}
+use Rattle.souper_stream.specs.Segments.{Line, concat, all_lines, HasNoCut, AreParts, PartsSpell}
+use Rattle.souper_stream.specs.declared.reader.ItemReader.{ItemReader}
+use Rattle.souper_stream.specs.Parts.{IsPlacedIn, IsOnLine, HasParts}
+use Rattle.souper_stream.specs.Reading.{AreAll, NeverSpells}
 use Rattle.souper_format.specs.Streams.{Stream, IsGiven, IsGivenNothing}
 use Rattle.souper_format.specs.Reporting.{IsErrorLine, ReportedLine}
 use Rattle.souper_records.specs.declared.layout.Layout.{Layout}
-use Rattle.souper_records.specs.declared.each.Stop.{Stop}
-use Rattle.souper_records.specs.Eaches.{UnlessOutput}
+use Rattle.souper_records.specs.declared.parts.Source.{Source}
+use Rattle.souper_records.specs.declared.stop.Stop.{Stop}
+use Rattle.souper_records.specs.Stops.{UnlessOutput}
 use Rattle.souper_records.specs.Records.{records_of}
 
--- the outcome of a segment: the line of its first token, its items, or the ones that it begins with, and its refusal, if it is refused
+-- the outcome of a part: the line of its first token, its items, or the ones that it begins with, and its refusal, if it is refused
 pub record Outcome : Type 0 where
-  pub piece : List Line
+  pub part : List Line
   pub line : ℕ
   pub items : List Item
   pub refusal : Option ParseError
 
--- a refused segment, after the parsed text `done`; the refusal has and shows its location in the text read of the stream
-pub record IsRefusedPiece (k : ItemType) (file start : Option (List ℕ)) (done piece : List ℕ) (items : List Item) (e : ParseError) : Type 0 where
+-- A refused part, after the parsed text `done`. It is one segment. The refusal has and shows its location in the text read of the stream.
+pub record IsRefusedPart (k : ItemType) (file start : Option (List ℕ)) (done : List ℕ) (part : List Line) (items : List Item) (e : ParseError) : Type 0 where
   pub kind : kind_of e ≡ Parse
-  pub none : SpellsNone k piece
-  pub begun : PrefixSpells k piece items
+  pub segment : HasNoCut k part
+  pub none : SpellsNone k (concat part)
+  pub begun : PrefixSpells k (concat part) items
   pub now : Option (List ℕ)
   pub read : List ℕ
   pub consumed : Consumes start now read
-  pub placed : IsPlacedIn file read done piece e
+  pub placed : IsPlacedIn file read done (concat part) e
 
--- the segment spells the items, or it was refused
-abbrev pub IsOutcome : ItemType → Option (List ℕ) → Option (List ℕ) → List ℕ → List ℕ → List Item → Option ParseError → Type 0
-IsOutcome k file start done piece items None = TextSpells k piece items
-IsOutcome k file start done piece items (Some e) = IsRefusedPiece k file start done piece items e
+-- the part spells the items, or it was refused
+abbrev pub IsOutcome : ItemType → Option (List ℕ) → Option (List ℕ) → List ℕ → List Line → List Item → Option ParseError → Type 0
+IsOutcome k file start done part items None = TextSpells k (concat part) items
+IsOutcome k file start done part items (Some e) = IsRefusedPart k file start done part items e
 
--- the outcome of a segment, given the parsed text `done` before it
+-- the outcome of a part, given the parsed text `done` before it
 pub record IsOutcomeAfter (k : ItemType) (file start : Option (List ℕ)) (done : List ℕ) (o : Outcome) : Type 0 where
-  pub on_line : IsOnLine done (concat o.piece) o.line
-  pub is : IsOutcome k file start done (concat o.piece) o.items o.refusal
+  pub on_line : IsOnLine done (concat o.part) o.line
+  pub is : IsOutcome k file start done o.part o.items o.refusal
 
--- the outcome of each segment, given the segments before it
+-- the outcome of each part, given the parts before it
 abbrev pub AreOutcomes : ItemType → Option (List ℕ) → Option (List ℕ) → List (List Line) → List Outcome → Type 0
 AreOutcomes k file start before [] = Unit {0}
-AreOutcomes k file start before (o ∷ os) = IsOutcomeAfter k file start (concat (all_lines before)) o × AreOutcomes k file start (before ++ o.piece ∷ []) os
+AreOutcomes k file start before (o ∷ os) = IsOutcomeAfter k file start (concat (all_lines before)) o × AreOutcomes k file start (before ++ o.part ∷ []) os
 
-abbrev pub pieces_of : List Outcome → List (List Line)
-pieces_of os = map (λ (o : Outcome). o.piece) os
+abbrev pub parts_of : List Outcome → List (List Line)
+parts_of os = map (λ (o : Outcome). o.part) os
 
 abbrev pub items_of : List Outcome → List Item
 items_of os = flat_map (λ (o : Outcome). o.items) os
@@ -77,52 +79,80 @@ AreReported err (e ∷ es) = err.failed ≡ false → (text : List ℕ) × AreEr
 abbrev pub AreReportedThen : Stream → List ParseError → (List ℕ → Type 0) → Type 0
 AreReportedThen err es P = err.failed ≡ false → (text : List ℕ) × (line : List ℕ) × AreErrorLines es text × P line × IsGiven err (text ++ line)
 
--- the report of one segment
-abbrev pub ReportsPiece : Stream → Option ParseError → Type 0
-ReportsPiece err None = IsGivenNothing err
-ReportsPiece err (Some e) = ReportedLine err e
+-- the report of one part
+abbrev pub ReportsPart : Stream → Option ParseError → Type 0
+ReportsPart err None = IsGivenNothing err
+ReportsPart err (Some e) = ReportedLine err e
 
--- the next segment was read, its outcome was written, and its refusal was reported, if it was refused
-pub record WritesPiece (k : ItemType) (file start now : Option (List ℕ)) (ps : List (List Line)) (written : Outcome → Type 0) (err : Stream) (refused : Bool) (p : PieceReader) : Type 0 where
-  pub outcome : Outcome
-  pub had : HasPieces k start now (ps ++ outcome.piece ∷ []) p
-  pub is : IsOutcomeAfter k file start (concat (all_lines ps)) outcome
-  pub any : refused ≡ is_some outcome.refusal
-  pub are_written : written outcome
-  pub reported : ReportsPiece err outcome.refusal
+-- the stream is read from its beginning
+abbrev pub Begins : Source → Type 0
+Begins source = ((k : ItemType) (start : Option (List ℕ)) → HasParts k start start [] source.parts)
 
--- all of the stream was read: the outcome of each segment was written, and each refusal was reported, in order
-pub record WritesPieces (k : ItemType) (file before after : Option (List ℕ)) (written : List Outcome → Type 0) (err : Stream) (refused : Bool) : Type 0 where
-  pub read : List ℕ
-  pub outcomes : List Outcome
-  pub consumed : Consumes before after read
-  pub all_read : AreAll before read
-  pub pieces : ArePieces k read (pieces_of outcomes)
-  pub are : AreOutcomes k file before [] outcomes
-  pub are_written : written outcomes
-  pub reported : AreReported err (refusals_of outcomes)
-  pub any : refused ≡ any_refused outcomes
-
--- the stream begins with these segments
-pub record ReadsPieces (k : ItemType) (file before : Option (List ℕ)) (outcomes : List Outcome) : Type 0 where
+-- The text of a stream that was read so far: these parts, the last of which is refused, and more. Whatever follows, the stream spells no
+-- items. If the parts before spell items, the text begins with these and the ones of the last.
+pub record IsRefusedAfter (k : ItemType) (start now : Option (List ℕ)) (ps : List (List Line)) (o : Outcome) : Type 0 where
   pub read : List ℕ
   pub rest : List ℕ
-  pub now : Option (List ℕ)
-  pub consumed : Consumes before now read
-  pub whole : read ≡ concat (all_lines (pieces_of outcomes)) ++ rest
-  pub are : AreOutcomes k file before [] outcomes
+  pub consumed : Consumes start now read
+  pub whole : read ≡ concat (all_lines (ps ++ o.part ∷ [])) ++ rest
+  pub never : NeverSpells k (AreAll start read) read
+  pub begun : (items : List Item) → PartsSpell k ps items → PrefixSpells k read (items ++ o.items)
 
--- reading or writing stopped after these segments: their refusals were reported, and unless the output is the cause their outcomes
--- were written; if it is, it has failed
-abbrev pub StopsAfter : ItemType → Option (List ℕ) → Option (List ℕ) → (List Outcome → Type 0) → Bool → Stream → Stop → Type 0
-StopsAfter k file before written failed err stop = (os : List Outcome) × ReadsPieces k file before os × AreReported err (refusals_of os) × UnlessOutput stop failed (written os)
+-- the next part was read, its outcome was written, and its refusal was reported, if it was refused
+pub record WritesPart (k : ItemType) (file start now : Option (List ℕ)) (ps : List (List Line)) (written : Outcome → Type 0) (err : Stream) (refused : Bool) (r : ItemReader) : Type 0 where
+  pub outcome : Outcome
+  pub had : HasParts k start now (ps ++ outcome.part ∷ []) r
+  pub is : IsOutcomeAfter k file start (concat (all_lines ps)) outcome
+  pub any : refused ≡ is_some outcome.refusal
+  pub after : refused ≡ true → IsRefusedAfter k start now ps outcome
+  pub are_written : written outcome
+  pub reported : ReportsPart err outcome.refusal
+
+-- The stream begins with parts that have these outcomes. If none of them is refused, it begins with their items.
+pub record ReadsParts (k : ItemType) (name : List ℕ) (before now : Option (List ℕ)) (outcomes : List Outcome) : Type 0 where
+  pub read : List ℕ
+  pub rest : List ℕ
+  pub consumed : Consumes before now read
+  pub whole : read ≡ concat (all_lines (parts_of outcomes)) ++ rest
+  pub are : AreOutcomes k (Some name) before [] outcomes
+  pub begun : any_refused outcomes ≡ false → PrefixSpells k read (items_of outcomes)
+
+-- of these outcomes the last alone is refused, and the text read begins with their items
+pub record EndsRefused (k : ItemType) (read : List ℕ) (outcomes : List Outcome) : Type 0 where
+  pub front : List Outcome
+  pub last : Outcome
+  pub whole : outcomes ≡ front ++ last ∷ []
+  pub none : any_refused front ≡ false
+  pub begun : PrefixSpells k read (items_of outcomes)
+
+-- The stream was read to its end, or without recovery to its first refusal: the outcome of each part was written, and each refusal was
+-- reported, in order. If a part was refused, the stream spells no items, whatever follows the text read; if none was, it spells their items.
+pub record WritesParts (k : ItemType) (name : List ℕ) (recover : Bool) (before after : Option (List ℕ)) (written : List Outcome → Type 0) (err : Stream) (refused : Bool) : Type 0 where
+  pub outcomes : List Outcome
+  pub reads : ReadsParts k name before after outcomes
+  pub any : refused ≡ any_refused outcomes
+  pub ended : (recover ≡ true) ⊎ (refused ≡ false) → AreAll before reads.read × AreParts k reads.read (parts_of outcomes)
+  pub spelled : refused ≡ false → TextSpells k reads.read (items_of outcomes)
+  pub never : refused ≡ true → NeverSpells k (AreAll before reads.read) reads.read
+  pub stopped : recover ≡ false → refused ≡ true → EndsRefused k reads.read outcomes
+  pub are_written : written outcomes
+  pub reported : AreReported err (refusals_of outcomes)
+
+-- the stream begins with parts that have these outcomes; without recovery none of them is refused, or the last alone
+abbrev pub IsBegun : ItemType → List ℕ → Bool → Option (List ℕ) → List Outcome → Type 0
+IsBegun k name recover before os = (now : Option (List ℕ)) × (r : ReadsParts k name before now os) × (recover ≡ false → (any_refused os ≡ false) ⊎ EndsRefused k r.read os)
+
+-- reading or writing stopped after these parts: their refusals were reported, and unless the output is the cause their outcomes were
+-- written; if it is, it has failed
+abbrev pub StopsAfter : ItemType → List ℕ → Bool → Option (List ℕ) → (List Outcome → Type 0) → Bool → Stream → Stop → Type 0
+StopsAfter k name recover before written failed err stop = (os : List Outcome) × IsBegun k name recover before os × AreReported err (refusals_of os) × UnlessOutput stop failed (written os)
 
 -- one outcome after the other was written: a state and what the output had, at first and after each
 abbrev pub WroteEach : {S : Type 0} → (S → Option (List ℕ) → S → Option (List ℕ) → Outcome → Type 0) → S → Option (List ℕ) → S → Option (List ℕ) → List Outcome → Type 0
 WroteEach wrote a x b y [] = (b ≡ a) × (y ≡ x)
 WroteEach {S = S} wrote a x b y (o ∷ os) = (c : S) × (z : Option (List ℕ)) × wrote a x c z o × WroteEach wrote c z b y os
 
--- the items of the outcomes were written, also the ones that refused segments begin with
+-- the items of the outcomes were written, also the ones that refused parts begin with
 abbrev pub OfItems : (List Item → Type 0) → List Outcome → Type 0
 OfItems written os = written (items_of os)
 

@@ -1,24 +1,21 @@
 -- Definitions. What each status of a run over a stream says of the stream and of the writers.
-use Rattle.std.specs.Prelude.{◌≡◌, ◌⊎◌, ℕ, zero, suc, Bool, true, if◌then◌else◌, List, Option, Some, Result, Ok, Err, codes}
+use Rattle.std.specs.Prelude.{◌≡◌, ◌⊎◌, ℕ, zero, suc, Bool, true, false, if◌then◌else◌, List, Option, Result, Ok, Err, codes}
 use Rattle.std.specs.declared.io.Error.{Error}
 use Rattle.std.specs.declared.io.ErrorKind.TheVariants.{BrokenPipe}
 use Rattle.std.specs.IoError.{error_kind}
 use Rattle.souper_graph.specs.Values.{Item}
 use Rattle.souper_graph.specs.Syntax.Spelling.{ItemType}
-use Rattle.souper_ir.specs.declared.parse.ParseError.{ParseError}
 use Rattle.souper_format.specs.Streams.{Stream, IsGiven, IsGivenNothing}
-use Rattle.souper_format.specs.Reporting.{ReportedLine}
 use Rattle.souper_records.specs.declared.run.TheConstants.{BROKEN_PIPE}
 use Rattle.souper_records.specs.declared.layout.Layout.{Layout}
 use Rattle.souper_records.specs.declared.layout.Summary.{Summary}
-use Rattle.souper_records.specs.Eaches.{WritesEach, WritesUpTo, WritesBegun}
-use Rattle.souper_records.specs.declared.each.Stop.{Stop}
-use Rattle.souper_records.specs.declared.each.Stop.TheVariants.{Input, Output, Memory}
 use Rattle.souper_records.specs.declared.seen.Seen.{Seen}
-use Rattle.souper_records.specs.Uniques.{WritesFirsts, WritesFirstsUpTo, WritesFirstsBegun, WritesFirstRecords, WritesSeenFirsts, summary_of, WritesSummaryBegun}
-use Rattle.souper_records.specs.Objects.{WritesObjects, WritesAllObjects}
-use Rattle.souper_records.specs.Outcomes.{Outcome, refusals_of, AreReported, AreReportedThen, WritesPieces, ReadsPieces, OfItems, WritesRecords}
-use Rattle.souper_records.specs.Reports.{IsMemoryLine, IsFaultLine, Reported, ReportedMemory, ReportedFault, ReportedError}
+use Rattle.souper_records.specs.declared.stop.Stop.{Stop}
+use Rattle.souper_records.specs.declared.stop.Stop.TheVariants.{Input, Output, Memory}
+use Rattle.souper_records.specs.Uniques.{WritesFirstRecords, WritesSeenFirsts, summary_of, WritesSummaryBegun}
+use Rattle.souper_records.specs.Objects.{WritesObjects}
+use Rattle.souper_records.specs.Outcomes.{Outcome, refusals_of, AreReported, AreReportedThen, WritesParts, IsBegun, OfItems, WritesRecords}
+use Rattle.souper_records.specs.Reports.{IsMemoryLine, IsFaultLine, ReportedMemory, ReportedFault, ReportedError}
 
 -- a fact for each of the four statuses
 abbrev pub OnStatus : ℕ → Type 0 → Type 0 → Type 0 → Type 0 → Type 0
@@ -50,10 +47,10 @@ IsStop name (Input e) err status = ReportedError name err status e
 IsStop name (Output fault) err status = EndsWithFault fault err status
 IsStop name Memory err status = (status ≡ 2) × ReportedMemory err
 
--- all segments were written, and perhaps some were refused, or why not all were was reported
-abbrev pub IsPiecesEnd : List ℕ → Result Bool Stop → Stream → Stream → ℕ → Type 0
-IsPiecesEnd name (Ok refused) out err status = IsEnd (if refused then 1 else 0) out err status
-IsPiecesEnd name (Err stop) out err status = IsGivenNothing out × IsStop name stop err status
+-- all parts were written, and perhaps some were refused, or why not all were was reported
+abbrev pub IsPartsEnd : List ℕ → Result Bool Stop → Stream → Stream → ℕ → Type 0
+IsPartsEnd name (Ok refused) out err status = IsEnd (if refused then 1 else 0) out err status
+IsPartsEnd name (Err stop) out err status = IsGivenNothing out × IsStop name stop err status
 
 -- Why a run stopped with status 2, and the line that was reported last: a read failed or memory ran out, and `known` holds of the
 -- output; or the output has failed.
@@ -61,52 +58,27 @@ abbrev pub HasStopped : List ℕ → Type 0 → Stream → ((List ℕ → Type 0
 HasStopped name known out reported = (known × (reported (IsFaultLine name) ⊎ reported IsMemoryLine))
     ⊎ ((out.failed ≡ true) × reported (IsFaultLine output_name))
 
--- What the status of writing the record of each item says: 0, all were written, and nothing was reported; 1, the stream is refused,
--- and that was reported; 2, the run has stopped, and that was reported: unless the output has failed, records of items that the stream
--- begins with were written; 141, the output is a pipe that nobody reads.
-abbrev pub IsEachRun : ItemType → Layout → List ℕ → Option (List ℕ) → Option (List ℕ) → Stream → Stream → ℕ → Type 0
-IsEachRun k l name before after out err status = OnStatus status
-    (WritesEach k l before after out × IsGivenNothing err)
-    ((e : ParseError) × WritesUpTo k l (Some name) before after out e × ReportedLine err e)
-    (HasStopped name (WritesBegun k l before out) out (Reported err))
-    ((out.failed ≡ true) × IsGivenNothing err)
+-- What the status of a run over a stream says: 0, no part is refused, and nothing was reported; 1, a part is refused; 2, the run has
+-- stopped after some parts, and that was reported after their refusals: unless the output has failed, their outcomes were written; 141, the
+-- output is a pipe that nobody reads, and the refusals so far were reported.
+abbrev pub IsRun : ItemType → List ℕ → Bool → Option (List ℕ) → Option (List ℕ) → (List Outcome → Type 0) → (List Outcome → Type 0) → Stream → Stream → ℕ → Type 0
+IsRun k name recover before after written known out err status = OnStatus status
+    (WritesParts k name recover before after written err false × IsGivenNothing err)
+    (WritesParts k name recover before after written err true)
+    ((os : List Outcome) × IsBegun k name recover before os × HasStopped name (known os) out (AreReportedThen err (refusals_of os)))
+    ((os : List Outcome) × IsBegun k name recover before os × (out.failed ≡ true) × AreReported err (refusals_of os))
 
--- What the status of a run that recovers from refusals says: 0, no segment is refused, and nothing was reported; 1, segments are
--- refused; 2, the run has stopped after some segments, and that was reported after their refusals: unless the output has failed, their
--- outcomes were written; 141, the output is a pipe that nobody reads, and the refusals so far were reported.
-abbrev pub IsPiecesRun : ItemType → List ℕ → Option (List ℕ) → Option (List ℕ) → Type 0 → (List Outcome → Type 0) → (List Outcome → Type 0) → Stream → Stream → ℕ → Type 0
-IsPiecesRun k name before after done written known out err status = OnStatus status
-    (done × IsGivenNothing err)
-    (WritesPieces k (Some name) before after written err true)
-    ((os : List Outcome) × ReadsPieces k (Some name) before os × HasStopped name (known os) out (AreReportedThen err (refusals_of os)))
-    ((os : List Outcome) × ReadsPieces k (Some name) before os × (out.failed ≡ true) × AreReported err (refusals_of os))
+-- writing the record of each item
+abbrev pub IsRecordsRun : ItemType → Layout → List ℕ → Bool → Option (List ℕ) → Option (List ℕ) → Stream → Stream → ℕ → Type 0
+IsRecordsRun k l name recover before after out err status = IsRun k name recover before after (OfItems (WritesRecords l out)) (OfItems (WritesRecords l out)) out err status
 
--- writing the record of each item; with status 0 the stream spells the items
-abbrev pub IsGoingOnRun : ItemType → Layout → List ℕ → Option (List ℕ) → Option (List ℕ) → Stream → Stream → ℕ → Type 0
-IsGoingOnRun k l name before after out err status = IsPiecesRun k name before after
-    (WritesEach k l before after out)
-    (OfItems (WritesRecords l out))
-    (OfItems (WritesRecords l out)) out err status
-
--- writing the object of each item and of each refusal; with status 0 the stream spells the items
-abbrev pub IsObjectsRun : ItemType → Bool → List ℕ → Option (List ℕ) → Option (List ℕ) → Stream → Stream → ℕ → Type 0
-IsObjectsRun k rename name before after out err status = IsPiecesRun k name before after
-    (WritesAllObjects k rename name before after out)
-    (WritesObjects rename name out)
-    (WritesObjects rename name out) out err status
+-- writing the object of each item and of each refusal
+abbrev pub IsObjectsRun : ItemType → Bool → List ℕ → Bool → Option (List ℕ) → Option (List ℕ) → Stream → Stream → ℕ → Type 0
+IsObjectsRun k rename name recover before after out err status = IsRun k name recover before after (WritesObjects rename name out) (WritesObjects rename name out) out err status
 
 -- writing the records of the first items, after earlier ones
-abbrev pub IsUniqRun : ItemType → Layout → List Item → List ℕ → Option (List ℕ) → Option (List ℕ) → Stream → Seen → Stream → ℕ → Type 0
-IsUniqRun k l earlier name before after out seen err status = OnStatus status
-    (WritesFirsts k l earlier before after out seen × IsGivenNothing err)
-    ((e : ParseError) × WritesFirstsUpTo k l earlier (Some name) before after out seen e × ReportedLine err e)
-    (HasStopped name (WritesFirstsBegun k l earlier before out) out (Reported err))
-    ((out.failed ≡ true) × IsGivenNothing err)
-
--- the same, resuming after refusals
-abbrev pub IsUniqGoingOnRun : ItemType → Layout → List Item → List ℕ → Option (List ℕ) → Option (List ℕ) → Stream → Seen → Stream → ℕ → Type 0
-IsUniqGoingOnRun k l earlier name before after out seen err status = IsPiecesRun k name before after
-    (WritesFirsts k l earlier before after out seen)
+abbrev pub IsFirstsRun : ItemType → Layout → List Item → List ℕ → Bool → Option (List ℕ) → Option (List ℕ) → Stream → Seen → Stream → ℕ → Type 0
+IsFirstsRun k l earlier name recover before after out seen err status = IsRun k name recover before after
     (OfItems (WritesSeenFirsts k l earlier out seen))
     (OfItems (WritesFirstRecords l earlier out)) out err status
 

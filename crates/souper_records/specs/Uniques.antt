@@ -1,7 +1,7 @@
 -- Definitions. The first item of each graph.
-use Rattle.std.specs.Prelude.{◌≡◌, ℕ, ◌+◌, ◌^◌, ◌<◌, ◌≤◌, Bool, true, false, List, [], ◌++◌, length, map, flat_map, take, codes, decimal, Option, nat_le, not, ◌||◌, if◌then◌else◌}
+use Rattle.std.specs.Prelude.{◌≡◌, ℕ, Bool, true, false, List, [], ◌++◌, map, flat_map, take, codes, decimal, Option, nat_le, not, ◌||◌, if◌then◌else◌}
 use Rattle.std.specs.List.{AllByRecursion, filter}
-use Rattle.std.specs.Io.KnownBytes.{Consumes, Appends}
+use Rattle.std.specs.Io.KnownBytes.{Appends}
 use Rattle.std.specs.String.{string_bytes}
 use Rattle.souper_graph.specs.Values.{Item}
 use Rattle.souper_graph.specs.Text.{text_of}
@@ -9,11 +9,7 @@ use Rattle.souper_graph.specs.WellFormed.{WellFormed}
 use Rattle.souper_graph.specs.Sameness.{SameGraph}
 use Rattle.souper_graph.specs.Renaming.{SameUpToNames}
 use Rattle.souper_graph.specs.CanonicalText.{IsWellFormedOf}
-use Rattle.souper_graph.specs.Syntax.Spelling.{ItemType, TextSpells}
-use Rattle.souper_ir.specs.declared.parse.error.ParseError.{ParseError}
-use Rattle.souper_ir.specs.Errors.{IsRefusalAt}
-use Rattle.souper_ir.specs.Sinks.{PrefixSpells}
-use Rattle.souper_stream.specs.Reading.{AreAll, NeverSpells}
+use Rattle.souper_graph.specs.Syntax.Spelling.{ItemType}
 use Rattle.souper_format.specs.Streams.{Stream, IsGiven}
 use Rattle.souper_records.specs.declared.layout.Layout.{Layout}
 use Rattle.souper_records.specs.declared.layout.Summary.{Summary}
@@ -51,47 +47,9 @@ HasText k rename a = IsWellFormedOf k a × WellFormed (chosen rename a)
 abbrev pub HasSeen : ItemType → Bool → List Item → Seen → Type 0
 HasSeen k rename items s = AllByRecursion (HasText k rename) items × (map string_bytes s.texts.keys ≡ map (text_by rename) (firsts rename [] items)) × (s.counts.items ≡ counts_by (text_by rename) items)
 
--- after the items that were seen before, whichever they are, these were seen
-abbrev pub SeesMore : ItemType → Bool → List Item → Seen → Seen → Type 0
-SeesMore k rename items before after = (earlier : List Item) → HasSeen k rename earlier before → HasSeen k rename (earlier ++ items) after
-
--- All of the stream was read, and it spells items. Of these, those that are the same as no earlier one had their records
--- written, and nothing else; and all were seen.
-pub record WritesFirsts (k : ItemType) (l : Layout) (earlier : List Item) (before after : Option (List ℕ)) (out : Stream) (seen : Seen) : Type 0 where
-  pub read : List ℕ
-  pub items : List Item
-  pub first : List Item
-  pub consumed : Consumes before after read
-  pub all_read : AreAll before read
-  pub spelled : TextSpells k read items
-  pub are_firsts : AreFirsts l.rename earlier items first
-  pub written : IsGiven out (records_of l first)
-  pub seen_now : HasSeen k l.rename (earlier ++ items) seen
-
--- The stream is refused: whatever follows the text read, the whole spells no items. The same holds of items that it begins with;
--- the error has and shows its location in the stream.
-pub record WritesFirstsUpTo (k : ItemType) (l : Layout) (earlier : List Item) (file : Option (List ℕ)) (before after : Option (List ℕ)) (out : Stream) (seen : Seen) (e : ParseError) : Type 0 where
-  pub read : List ℕ
-  pub items : List Item
-  pub first : List Item
-  pub consumed : Consumes before after read
-  pub never : NeverSpells k (AreAll before read) read
-  pub begun : PrefixSpells k read items
-  pub are_firsts : AreFirsts l.rename earlier items first
-  pub written : IsGiven out (records_of l first)
-  pub seen_now : HasSeen k l.rename (earlier ++ items) seen
-  pub placed : length read + 1 < 2 ^ 64 → (offset : ℕ) × (offset ≤ length read) × IsRefusalAt file read offset e
-
--- Of items that the stream begins with, those that are the same as no earlier one had their records written, and nothing else.
-pub record WritesFirstsBegun (k : ItemType) (l : Layout) (earlier : List Item) (before : Option (List ℕ)) (out : Stream) : Type 0 where
-  pub read : List ℕ
-  pub after : Option (List ℕ)
-  pub items : List Item
-  pub first : List Item
-  pub consumed : Consumes before after read
-  pub begun : PrefixSpells k read items
-  pub are_firsts : AreFirsts l.rename earlier items first
-  pub written : IsGiven out (records_of l first)
+-- after the items that were seen before, whichever they are, items with these texts were seen
+abbrev pub SeesTexts : List (List ℕ) → Seen → Seen → Type 0
+SeesTexts texts before after = (k : ItemType) (rename : Bool) (earlier items : List Item) → HasSeen k rename earlier before → AllByRecursion (HasText k rename) items → map (text_by rename) items ≡ texts → HasSeen k rename (earlier ++ items) after
 
 -- of these items, after earlier ones, the first of each graph had their records written, and nothing else
 abbrev pub WritesFirstRecords : Layout → List Item → Stream → List Item → Type 0

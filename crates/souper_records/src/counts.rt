@@ -5,13 +5,13 @@ ghost use Rattle.souper_graph.specs.Syntax.Spelling.{ItemType};
 ghost use Rattle.souper_graph.specs.Values.{Item};
 ghost use Rattle.souper_format.specs.Streams.{stream, IsGiven};
 ghost use Rattle.souper_format.specs.Watching.{has_failed};
-ghost use Rattle.souper_records.specs.Eaches.{IfInput, UnlessOutput};
+ghost use Rattle.souper_records.specs.Stops.{IfInput, UnlessOutput};
 ghost use Rattle.souper_records.specs.Uniques.{HasSeen, is_listed, count_line, summary_of_text, summary_of, WritesSummaryBegun};
 
-use crate::each::{CHUNK, Stop, write_text};
 use crate::layout::{Layout, Summary};
 use crate::records::append_record_of_text;
 use crate::seen::Seen;
+use crate::stop::{Stop, write_text};
 use souper_format::watched::Watched;
 use std::alloc::{AllocError, Global};
 use std::io::Write;
@@ -62,6 +62,9 @@ fn count_at(counts: &[u64], index: usize) -> u64
         0
     }
 }
+
+// The size of records in bytes from which on they are written.
+const CHUNK: usize = 65536;
 
 // Writes the records, and drops them, if there are many.
 fn write_many<W: Write>(records: &mut String, out: &mut Watched<W>) -> Result<(), Stop>

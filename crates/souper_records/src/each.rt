@@ -1,103 +1,124 @@
 //! The record of each item of a stream.
-ghost use Rattle.std.specs.Prelude.{◌≡◌, Some, OnOk, IfErr};
+ghost use Rattle.std.specs.Prelude.{◌≡◌, ◌++◌, [], true, IfOk, IfErr, OnOk};
+ghost use Rattle.std.specs.Io.KnownBytes.{Appends};
 ghost use Rattle.std.specs.String.{string_bytes};
+ghost use Rattle.souper_graph.specs.WellFormed.{WellFormed};
 ghost use Rattle.souper_ir.specs.Errors.{kind_of};
-ghost use Rattle.souper_format.specs.Streams.{stream, IsGiven};
+ghost use Rattle.souper_format.specs.Streams.{stream};
 ghost use Rattle.souper_format.specs.Watching.{has_failed};
-ghost use Rattle.souper_records.specs.Eaches.{WritesEach, WritesUpTo, WritesBegun, IfInput, UnlessOutput, IsStopOf};
-ghost use Rattle.souper_records.specs.declared.each.Stop.TheVariants.{Memory};
+ghost use Rattle.souper_records.specs.Stops.{IfInput};
+ghost use Rattle.souper_records.specs.Outcomes.{WritesParts, StopsAfter, OfItems, WritesRecords};
+ghost use Rattle.souper_records.specs.Records.{record_of, records_of};
 
 use crate::layout::Layout;
-use crate::sink::Records;
+use crate::options::ReadOptions;
+use crate::parts::{PartSink, Place, Source, write_parts};
+use crate::records::{append_last_text, append_record_of_text};
+use crate::stop::{Stop, write_text};
 use souper_format::watched::Watched;
-use souper_ir::parse::{ParseError, ParseErrorKind};
-use souper_stream::{PartReader, StreamItem};
+use souper_ir::ast::{Arena, Statement};
+use souper_ir::parse::{ParseError, ParseErrorKind, Sink, WholeItem};
+use souper_stream::{ChunkSink, StreamItem};
 use std::alloc::{AllocError, Global};
-use std::io;
-use std::io::{BufRead, ErrorKind, Write};
+use std::io::{BufRead, Write};
 
-// Bytes to read before searching for a cut point.
-pub(crate) const CHUNK: usize = 65536;
-
-/// Why the records of a stream were not all written.
+/// The records of the items that were taken.
 #[derive(Drop)]
-pub enum Stop {
-    /// The stream is refused, or reading it failed.
-    Input(ParseError),
-
-    /// Writing failed.
-    Output(io::Error),
-
-    /// Memory ran out.
-    Memory,
-}
-
-impl From<ParseError> for Stop {
-    ghost from_gives = { IsStopOf };
-
-    fn from(error: ParseError) -> Stop {
-        match error.kind() {
-            ParseErrorKind::Memory => Stop::Memory,
-            _ => Stop::Input(error),
-        }
-    }
-}
-
-impl From<AllocError> for Stop {
-    ghost from_gives = { λ _ stop. stop ≡ Memory };
-
-    fn from(_refused: AllocError) -> Stop {
-        Stop::Memory
-    }
-}
-
-pub(crate) fn write_text<W: Write>(text: &String, out: &mut Watched<W>) -> Result<(), Stop>
-    ensures written { OnOk result (IsGiven (stream W.contents out.old out.new) (string_bytes text.now)) }
-    ensures failed { IfErr result (λ stop. IfInput stop (λ e. ⊥) × UnlessOutput stop (has_failed out.new) ⊥) }
-{
-    match out.write_all(text.as_bytes()) {
-        Ok(()) => Ok(()),
-        Err(fault) => Err(Stop::Output(fault)),
-    }
-}
-
-/// Writes the record of each item of the stream, in order, part by part ([`PartReader`], with 64 KiB).
-///
-/// `name` is the stream's name, which a refusal shows. After an error of the input, and if memory ran out, the records of items
-/// that the stream begins with were written, and nothing else. After an error of the output `out` has failed, and nothing is known of
-/// the bytes written.
-pub fn each<T: StreamItem + Drop, R: BufRead, W: Write>(
+pub(crate) struct Records {
     alloc: Global,
     layout: Layout,
-    reader: &mut R,
-    name: &str,
-    out: &mut Watched<W>,
-) -> Result<(), Stop>
-    ensures written { OnOk result (WritesEach T.item_type layout (R.remaining reader.old) (R.remaining reader.new) (stream W.contents out.old out.new)) }
-    ensures refused { IfErr result (λ stop. IfInput stop (λ e. kind_of e ≡ ParseErrorKind.Parse
-        → WritesUpTo T.item_type layout (Some name.now) (R.remaining reader.old) (R.remaining reader.new) (stream W.contents out.old out.new) e)) }
-    ensures input { IfErr result (λ stop. IfInput stop (λ e. kind_of e ≡ ParseErrorKind.Memory → ⊥)) }
-    ensures stopped { IfErr result (λ stop. UnlessOutput stop (has_failed out.new)
-        (WritesBegun T.item_type layout (R.remaining reader.old) (stream W.contents out.old out.new))) }
-{
-    let mut parts = PartReader::new(alloc, CHUNK);
-    let mut records = Records::new(alloc, layout);
-    for _turn in 0..u64::MAX {
-        records.out.clear();
-        match parts.read_part::<T, R, Records>(alloc, reader, Some(name), &mut records) {
-            Ok(ended) => {
-                write_text(&records.out, out)?;
-                if ended {
-                    return Ok(());
-                }
-            }
-            Err(error) if error.kind() == ParseErrorKind::Parse => {
-                write_text(&records.out, out)?;
-                return Err(Stop::Input(error));
-            }
-            Err(error) => return Err(Stop::from(error)),
+
+    // For the text of one item.
+    text: String,
+
+    /// The records, in order.
+    pub(crate) out: String,
+}
+
+impl Records {
+    pub(crate) fn new(alloc: Global, layout: Layout) -> Self
+        ensures layout { result.layout ≡ layout }
+        ensures out { string_bytes result.out ≡ [] }
+    {
+        Records {
+            alloc,
+            layout,
+            text: String::new(alloc),
+            out: String::new(alloc),
         }
     }
-    let fault = io::Error::from(ErrorKind::Other);
-    Err(Stop::Input(ParseError::from(fault)))
+
+    // The item is dropped then.
+    fn append<T: WholeItem + Drop>(&mut self, item: &mut T) -> Result<(), AllocError>
+        requires { WellFormed (T.view item.old) }
+        ensures { OnOk result ((self.new.layout ≡ self.old.layout)
+            × (string_bytes self.new.out ≡ string_bytes self.old.out ++ record_of self.old.layout (T.view item.old))) }
+    {
+        self.text.clear();
+        append_last_text(self.layout.rename, item, &mut self.text)?;
+        append_record_of_text(self.alloc, self.layout, self.text.as_str(), &mut self.out)
+    }
+}
+
+impl<T: WholeItem + Drop> Sink<T> for Records {
+    ghost holds = { λ first records items. (records.layout ≡ first.layout) × (string_bytes records.out ≡ records_of first.layout items) };
+
+    fn take(&mut self, item: T) -> Result<(), AllocError> {
+        Sink::<T>::take_over(self, item)?;
+        Ok(())
+    }
+
+    fn take_over(&mut self, mut item: T) -> Result<Option<Arena<Statement>>, AllocError> {
+        self.append(&mut item)?;
+        Ok(item.take_statements())
+    }
+}
+
+impl<T: WholeItem + Drop> ChunkSink<T> for Records {
+    fn rollback(&mut self) {
+        self.out.clear();
+    }
+}
+
+// Writes the records of each part, and drops them.
+impl<T: StreamItem + Drop> PartSink<T> for Records {
+    ghost wrote = { λ name a x b y o. (b.layout ≡ a.layout) × Appends x y (records_of a.layout o.items) };
+
+    fn write_part<W: Write>(
+        &mut self,
+        _alloc: Global,
+        _place: Place<'_>,
+        _refusal: Option<&ParseError>,
+        out: &mut Watched<W>,
+    ) -> Result<(), Stop> {
+        write_text(&self.out, out)?;
+        self.out.clear();
+        Ok(())
+    }
+}
+
+/// Writes the record of each item of the stream, in order, part by part ([`ItemReader`](souper_stream::ItemReader)), and returns whether a
+/// part was refused. For a refused part the records of items that it begins with are written, and the refusal is written to `err`, with a
+/// newline. Without recovery reading ends then.
+///
+/// No error is a refusal. After an error of the input, and if memory ran out, this was done with parts that the stream begins with. After
+/// an error of the output `out` has failed, and nothing is known of the bytes written to it.
+pub fn write_records<T: StreamItem + Drop, R: BufRead, W: Write, E: Write>(
+    alloc: Global,
+    layout: Layout,
+    options: ReadOptions<'_>,
+    reader: &mut R,
+    out: &mut Watched<W>,
+    err: &mut Watched<E>,
+) -> Result<bool, Stop>
+    ensures written { IfOk result (λ refused. WritesParts T.item_type options.entry.name.now options.entry.recover (R.remaining reader.old) (R.remaining reader.new)
+        (OfItems (WritesRecords layout (stream W.contents out.old out.new))) (stream E.contents err.old err.new) refused) }
+    ensures stopped { IfErr result (λ stop. StopsAfter T.item_type options.entry.name.now options.entry.recover (R.remaining reader.old)
+        (OfItems (WritesRecords layout (stream W.contents out.old out.new))) (has_failed out.new) (stream E.contents err.old err.new) stop) }
+    ensures input { IfErr result (λ stop. IfInput stop (λ e. kind_of e ≡ ParseErrorKind.Io)) }
+    ensures stays { has_failed err.old ≡ true → has_failed err.new ≡ true }
+{
+    let mut records = Records::new(alloc, layout);
+    let source = Source::new(alloc, options);
+    write_parts::<T, Records, R, W, E>(alloc, source, &mut records, reader, out, err)
 }

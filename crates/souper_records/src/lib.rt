@@ -6,15 +6,14 @@
 pub mod check;
 pub mod counts;
 pub mod each;
-pub mod going_on;
 pub mod laws;
 pub mod layout;
 pub mod objects;
-mod pieces;
+pub mod options;
+mod parts;
 pub mod records;
 pub mod report;
 pub mod run;
 pub mod seen;
-mod sink;
+pub mod stop;
 pub mod uniq;
-pub mod uniq_going_on;

@@ -1,26 +1,26 @@
 //! A JSON object for each item and each refusal of a stream, each on a line of its own.
-ghost use Rattle.std.specs.Prelude.{◌≡◌, ◌++◌, ◌∷◌, [], true, false, map, flat_map, Option, Some, IfOk, IfErr, OnOk, option_copied};
+ghost use Rattle.std.specs.Prelude.{◌≡◌, ◌++◌, true, false, map, flat_map, Option, IfOk, IfErr, OnOk, option_copied};
 ghost use Rattle.std.specs.Io.KnownBytes.{Appends};
 ghost use Rattle.std.specs.String.{string_bytes};
-ghost use Rattle.souper_graph.specs.WellFormed.{WellFormed};
 ghost use Rattle.souper_ir.specs.Errors.{kind_of};
 ghost use Rattle.souper_format.specs.Streams.{stream};
 ghost use Rattle.souper_format.specs.Watching.{has_failed};
-ghost use Rattle.souper_records.specs.Eaches.{IfInput};
-ghost use Rattle.souper_records.specs.Objects.{item_object, refusal_object, refusal_line, object_line, text_line, piece_lines, optional_number, optional_string, WritesObjects};
-ghost use Rattle.souper_records.specs.Outcomes.{WritesPieces, StopsAfter};
+ghost use Rattle.souper_records.specs.Stops.{IfInput};
+ghost use Rattle.souper_records.specs.Objects.{item_object, refusal_object, refusal_line, object_line, text_line, part_lines, optional_number, optional_string, WritesObjects};
+ghost use Rattle.souper_records.specs.Outcomes.{WritesParts, StopsAfter};
 ghost use Rattle.souper_records.specs.Uniques.{text_by};
 ghost use Rattle.serde_json.specs.View.{view};
 ghost use Rattle.serde_json.specs.Written.{has_float};
 
-use crate::each::{Stop, write_text};
-use crate::pieces::{PieceSink, Place, write_pieces};
-use crate::records::{append_last_text, key_of};
+use crate::options::ReadOptions;
+use crate::parts::{PartSink, Place, Source, write_parts};
+use crate::records::{key_of, push_last_text};
+use crate::stop::{Stop, write_text};
 use serde_json::{Value, json};
 use souper_format::watched::Watched;
 use souper_ir::ast::{Arena, Statement};
 use souper_ir::parse::{ParseError, ParseErrorKind, Sink, WholeItem};
-use souper_stream::StreamItem;
+use souper_stream::{ChunkSink, StreamItem};
 use std::alloc::{AllocError, Global};
 use std::io::{BufRead, Write};
 
@@ -89,7 +89,7 @@ fn item_lines(alloc: Global, place: Place<'_>, texts: &[String]) -> Result<Strin
 }
 
 // The lines of a segment, whose items, or the ones that it begins with, have these texts.
-fn piece_lines(
+fn part_lines(
     alloc: Global,
     place: Place<'_>,
     refusal: Option<&ParseError>,
@@ -106,41 +106,17 @@ fn piece_lines(
     Ok(out)
 }
 
-// A sink that keeps the texts of a segment's items, for their objects.
+// The texts of the items of a segment.
 #[derive(Drop)]
 struct Objects {
     alloc: Global,
 
     // Whether the texts have names by the printed order.
     rename: bool,
+
+    // For the text of one item.
+    text: String,
     texts: Vec<String>,
-}
-
-impl Objects {
-    fn new(alloc: Global, rename: bool) -> Self
-        ensures rename { result.rename ≡ rename }
-        ensures texts { result.texts.items ≡ [] }
-    {
-        Objects {
-            alloc,
-            rename,
-            texts: Vec::new(alloc),
-        }
-    }
-
-    // The item is dropped then.
-    fn push_text<T: WholeItem + Drop>(&mut self, item: &mut T) -> Result<(), AllocError>
-        requires { WellFormed (T.view item.old) }
-        ensures { OnOk result ((self.new.rename ≡ self.old.rename)
-            × (map string_bytes self.new.texts.items ≡ map string_bytes self.old.texts.items ++ text_by self.old.rename (T.view item.old) ∷ [])) }
-    {
-        let mut text = String::new(self.alloc);
-        append_last_text(self.rename, item, &mut text)?;
-        match self.texts.push(text) {
-            Ok(()) => Ok(()),
-            Err(_) => Err(AllocError),
-        }
-    }
 }
 
 impl<T: WholeItem + Drop> Sink<T> for Objects {
@@ -152,62 +128,71 @@ impl<T: WholeItem + Drop> Sink<T> for Objects {
     }
 
     fn take_over(&mut self, mut item: T) -> Result<Option<Arena<Statement>>, AllocError> {
-        self.push_text(&mut item)?;
+        push_last_text(
+            self.alloc,
+            self.rename,
+            &mut item,
+            &mut self.text,
+            &mut self.texts,
+        )?;
         Ok(item.take_statements())
     }
 }
 
-// Writes the objects of each segment, and drops the texts.
-impl<T: StreamItem + Drop> PieceSink<T> for Objects {
-    ghost marks = { λ objects. 0 };
-
-    ghost wrote = { λ name a x b y o. a.texts.items ≡ [] → (b.rename ≡ a.rename) × (b.texts.items ≡ []) × Appends x y (piece_lines a.rename name o) };
-
-    fn mark(&self) -> usize {
-        0
+impl<T: WholeItem + Drop> ChunkSink<T> for Objects {
+    fn rollback(&mut self) {
+        self.texts.clear();
     }
+}
 
-    fn write_piece<W: Write>(
+// Writes the objects of each segment, and drops the texts.
+impl<T: StreamItem + Drop> PartSink<T> for Objects {
+    ghost wrote = { λ name a x b y o. (b.rename ≡ a.rename) × Appends x y (part_lines a.rename name o) };
+
+    fn write_part<W: Write>(
         &mut self,
         alloc: Global,
-        _mark: usize,
         place: Place<'_>,
         refusal: Option<&ParseError>,
         out: &mut Watched<W>,
     ) -> Result<(), Stop> {
-        let lines = piece_lines(alloc, place, refusal, self.texts.as_slice())?;
+        let lines = part_lines(alloc, place, refusal, self.texts.as_slice())?;
         write_text(&lines, out)?;
         self.texts.clear();
         Ok(())
     }
 }
 
-/// Writes a JSON object for each item of the stream and each refusal, in order, each on a line of its own, and resumes after a refusal
-/// ([`PieceReader`](souper_stream::PieceReader)). Returns whether a segment was refused.
+/// Writes a JSON object for each item of the stream and each refusal, in order, each on a line of its own, segment by segment
+/// ([`ItemReader::by_segments`](souper_stream::ItemReader::by_segments)). Returns whether a segment was refused, as
+/// [`write_records`](crate::each::write_records) does, and fails like it.
 ///
 /// The object of an item has its canonical `text`, the `key` of the text ([`key_of`](crate::records::key_of)), the name of the stream
 /// as `file`, and the 1-based `line` of the first token of its segment. With `rename` the names in the text are by the printed order
 /// of the item. The object of a refusal has `file`, `offset`, `line`, `column` and `message`: the refusal shows this line and column,
 /// of the byte before the offset. It comes after the objects of the items that its segment begins with, and the refusal is also written
 /// to `err`, with a newline.
-///
-/// No error is a refusal. After an error of the input, and if memory ran out, this was done with segments that the stream begins with.
-/// After an error of the output `out` has failed, and nothing is known of the bytes written to it.
 pub fn write_objects<T: StreamItem + Drop, R: BufRead, W: Write, E: Write>(
     alloc: Global,
     rename: bool,
+    options: ReadOptions<'_>,
     reader: &mut R,
-    name: &str,
     out: &mut Watched<W>,
     err: &mut Watched<E>,
 ) -> Result<bool, Stop>
-    ensures written { IfOk result (λ refused. WritesPieces T.item_type (Some name.now) (R.remaining reader.old) (R.remaining reader.new)
-        (WritesObjects rename name.now (stream W.contents out.old out.new)) (stream E.contents err.old err.new) refused) }
-    ensures stopped { IfErr result (λ stop. StopsAfter T.item_type (Some name.now) (R.remaining reader.old)
-        (WritesObjects rename name.now (stream W.contents out.old out.new)) (has_failed out.new) (stream E.contents err.old err.new) stop) }
+    ensures written { IfOk result (λ refused. WritesParts T.item_type options.entry.name.now options.entry.recover (R.remaining reader.old) (R.remaining reader.new)
+        (WritesObjects rename options.entry.name.now (stream W.contents out.old out.new)) (stream E.contents err.old err.new) refused) }
+    ensures stopped { IfErr result (λ stop. StopsAfter T.item_type options.entry.name.now options.entry.recover (R.remaining reader.old)
+        (WritesObjects rename options.entry.name.now (stream W.contents out.old out.new)) (has_failed out.new) (stream E.contents err.old err.new) stop) }
     ensures input { IfErr result (λ stop. IfInput stop (λ e. kind_of e ≡ ParseErrorKind.Io)) }
     ensures stays { has_failed err.old ≡ true → has_failed err.new ≡ true }
 {
-    let mut objects = Objects::new(alloc, rename);
-    write_pieces::<T, Objects, R, W, E>(alloc, name, &mut objects, reader, out, err)
+    let mut objects = Objects {
+        alloc,
+        rename,
+        text: String::new(alloc),
+        texts: Vec::new(alloc),
+    };
+    let source = Source::by_segments(alloc, options);
+    write_parts::<T, Objects, R, W, E>(alloc, source, &mut objects, reader, out, err)
 }

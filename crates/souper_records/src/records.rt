@@ -1,5 +1,5 @@
 //! The record of an item.
-ghost use Rattle.std.specs.Prelude.{◌≡◌, ◌++◌, [], map, flat_map, IfOk, IfErr, IsOkAnd, OnOk, option_copied};
+ghost use Rattle.std.specs.Prelude.{◌≡◌, ◌++◌, ◌∷◌, [], map, flat_map, IfOk, IfErr, IsOkAnd, OnOk, option_copied};
 ghost use Rattle.std.specs.String.{string_bytes};
 ghost use Rattle.souper_graph.specs.Text.{text_of};
 ghost use Rattle.souper_graph.specs.Renaming.{renamed};
@@ -7,9 +7,10 @@ ghost use Rattle.souper_graph.specs.WellFormed.{WellFormed};
 ghost use Rattle.souper_graph.specs.Syntax.Tokens.{IsLastGap};
 ghost use Rattle.souper_ir.specs.Answers.{IsStrError};
 ghost use Rattle.souper_records.specs.Records.{chosen, key_of, key_line, delimited, record_of_text, record_of, AreRecordsOf};
+ghost use Rattle.souper_records.specs.Uniques.{text_by};
 
+use crate::each::Records;
 use crate::layout::{Delimiter, Layout};
-use crate::sink::Records;
 use sha2::{Digest, Sha256};
 use souper_ir::ast::Item;
 use souper_ir::parse::{ParseError, WholeItem, parse_into};
@@ -55,7 +56,7 @@ fn append_renamed<T: Item + Drop>(item: &mut T, out: &mut String) -> Result<(), 
     }
 }
 
-// As `append_text`, of an item that is dropped then.
+/// As `append_text`, of an item that is dropped then.
 pub(crate) fn append_last_text<T: Item + Drop>(
     rename: bool,
     item: &mut T,
@@ -69,6 +70,27 @@ pub(crate) fn append_last_text<T: Item + Drop>(
         return append_renamed(item, out);
     }
     append_canonical(item, out)
+}
+
+/// Appends the text of an item that is dropped then to the texts. `text` is for it, so that the text that is kept has no more room than it
+/// needs.
+pub(crate) fn push_last_text<T: Item + Drop>(
+    alloc: Global,
+    rename: bool,
+    item: &mut T,
+    text: &mut String,
+    texts: &mut Vec<String>,
+) -> Result<(), AllocError>
+    requires { WellFormed (T.view item.old) }
+    ensures texts { OnOk result (map string_bytes texts.new.items ≡ map string_bytes texts.old.items ++ text_by rename (T.view item.old) ∷ []) }
+    ensures well_formed { OnOk result (WellFormed (chosen rename (T.view item.old))) }
+{
+    text.clear();
+    append_last_text(rename, item, text)?;
+    match texts.push(String::from_str(alloc, text.as_str())?) {
+        Ok(()) => Ok(()),
+        Err(_) => Err(AllocError),
+    }
 }
 
 /// The key of a canonical text in a store: its SHA-256, in 64 hexadecimal digits.

@@ -1,21 +1,21 @@
 //! Runs over one stream, by their statuses.
-ghost use Rattle.std.specs.Prelude.{◌≡◌, true, List};
+ghost use Rattle.std.specs.Prelude.{◌≡◌, true, false, List};
 ghost use Rattle.souper_graph.specs.Syntax.Spelling.{ItemType};
 ghost use Rattle.souper_graph.specs.Values.{Item};
 ghost use Rattle.souper_format.specs.Streams.{stream};
 ghost use Rattle.souper_format.specs.Watching.{has_failed};
 ghost use Rattle.souper_records.specs.Uniques.{HasSeen};
-ghost use Rattle.souper_records.specs.Runs.{EndsWithFault, IsEnd, IsStop, IsPiecesEnd, IsEachRun, IsGoingOnRun, IsObjectsRun, IsUniqRun, IsUniqGoingOnRun, IsCountRun};
+ghost use Rattle.souper_records.specs.Runs.{EndsWithFault, IsEnd, IsStop, IsPartsEnd, IsRecordsRun, IsObjectsRun, IsFirstsRun, IsCountRun};
 
 use crate::counts::write_counts;
-use crate::each::{Stop, each};
-use crate::going_on::each_going_on;
+use crate::each::write_records;
 use crate::layout::{Layout, Summary};
 use crate::objects::write_objects;
+use crate::options::ReadOptions;
 use crate::report::{report_error, report_fault, report_memory};
 use crate::seen::Seen;
-use crate::uniq::uniq;
-use crate::uniq_going_on::uniq_going_on;
+use crate::stop::Stop;
+use crate::uniq::write_firsts;
 use souper_format::watched::Watched;
 use souper_stream::StreamItem;
 use std::alloc::Global;
@@ -76,25 +76,26 @@ fn report_stop<E: Write>(alloc: Global, name: &str, stop: &Stop, err: &mut Watch
     }
 }
 
-// Flushes the output after all segments were written to it, or reports why not all were. Returns the status: 1 if any were refused.
-fn end_pieces<W: Write, E: Write>(
+// Flushes the output after all parts were written to it, or reports why not all were. Returns the status: 1 if any were refused.
+fn end_parts<W: Write, E: Write>(
     alloc: Global,
     name: &str,
-    pieces: Result<bool, Stop>,
+    parts: Result<bool, Stop>,
     out: &mut Watched<W>,
     err: &mut Watched<E>,
 ) -> u8
-    ensures end { IsPiecesEnd name.now pieces (stream W.contents out.old out.new) (stream E.contents err.old err.new) result }
+    ensures end { IsPartsEnd name.now parts (stream W.contents out.old out.new) (stream E.contents err.old err.new) result }
     ensures out_stays { has_failed out.old ≡ true → has_failed out.new ≡ true }
     ensures stays { has_failed err.old ≡ true → has_failed err.new ≡ true }
 {
-    match pieces {
+    match parts {
         Ok(refused) => end(alloc, u8::from(refused), out, err),
         Err(stop) => report_stop(alloc, name, &stop, err),
     }
 }
 
-/// Writes the record of each item of the stream to `out` ([`each`]), and returns the status of the program.
+/// Writes the record of each item of the stream to `out` ([`write_records`]), up to the first refusal, and returns the status of the
+/// program.
 ///
 /// - 0: done, and nothing was written to `err`.
 /// - 1: the stream is refused. Records of items that it begins with were written, and to `err` the refusal, which shows the name,
@@ -112,22 +113,24 @@ pub fn each_run<T: StreamItem + Drop, R: BufRead, W: Write, E: Write>(
     out: &mut Watched<W>,
     err: &mut Watched<E>,
 ) -> u8
-    ensures { IsEachRun T.item_type layout name.now (R.remaining reader.old) (R.remaining reader.new)
+    ensures { IsRecordsRun T.item_type layout name.now false (R.remaining reader.old) (R.remaining reader.new)
         (stream W.contents out.old out.new) (stream E.contents err.old err.new) result }
 {
-    match each::<T, R, W>(alloc, layout, reader, name, out) {
-        Ok(()) => end(alloc, 0, out, err),
-        Err(stop) => report_stop(alloc, name, &stop, err),
-    }
+    let options = ReadOptions {
+        name,
+        recover: false,
+    };
+    let parts = write_records::<T, R, W, E>(alloc, layout, options, reader, out, err);
+    end_parts(alloc, name, parts, out, err)
 }
 
-/// Writes the record of each item of the stream to `out`, and resumes after a refusal ([`each_going_on`]). Returns the status of the
+/// Writes the record of each item of the stream to `out` ([`write_records`]), and resumes after a refusal. Returns the status of the
 /// program.
 ///
-/// - 0: done, no segment was refused, and nothing was written to `err`.
-/// - 1: done, and some segments were refused. Each refusal was written to `err`, in order, with a newline.
+/// - 0: done, no part was refused, and nothing was written to `err`.
+/// - 1: done, and some parts were refused. Each refusal was written to `err`, in order, with a newline.
 /// - 2: a read or `out` failed, the input is not UTF-8, or memory ran out, and a line that says so was written to `err`, after the
-///   refusals so far. Unless `out` failed, the records of the segments so far were written, and nothing else.
+///   refusals so far. Unless `out` failed, the records of the parts so far were written, and nothing else.
 /// - 141 ([`BROKEN_PIPE`]): `out` failed, since it is a pipe that nobody reads. Only the refusals so far were written to `err`.
 ///
 /// If a write to `err` fails, the status is the same.
@@ -139,15 +142,19 @@ pub fn each_going_on_run<T: StreamItem + Drop, R: BufRead, W: Write, E: Write>(
     out: &mut Watched<W>,
     err: &mut Watched<E>,
 ) -> u8
-    ensures { IsGoingOnRun T.item_type layout name.now (R.remaining reader.old) (R.remaining reader.new)
+    ensures { IsRecordsRun T.item_type layout name.now true (R.remaining reader.old) (R.remaining reader.new)
         (stream W.contents out.old out.new) (stream E.contents err.old err.new) result }
 {
-    let pieces = each_going_on::<T, R, W, E>(alloc, layout, reader, name, out, err);
-    end_pieces(alloc, name, pieces, out, err)
+    let options = ReadOptions {
+        name,
+        recover: true,
+    };
+    let parts = write_records::<T, R, W, E>(alloc, layout, options, reader, out, err);
+    end_parts(alloc, name, parts, out, err)
 }
 
-/// Writes a JSON object for each item of the stream and each refusal to `out`, and resumes after a refusal ([`write_objects`]). Returns
-/// the status of the program, as [`each_going_on_run`] does.
+/// Writes a JSON object for each item of the stream and each refusal to `out` ([`write_objects`]). Returns the status of the program, as
+/// [`each_going_on_run`] does.
 pub fn objects_run<T: StreamItem + Drop, R: BufRead, W: Write, E: Write>(
     alloc: Global,
     rename: bool,
@@ -156,16 +163,20 @@ pub fn objects_run<T: StreamItem + Drop, R: BufRead, W: Write, E: Write>(
     out: &mut Watched<W>,
     err: &mut Watched<E>,
 ) -> u8
-    ensures { IsObjectsRun T.item_type rename name.now (R.remaining reader.old) (R.remaining reader.new)
+    ensures { IsObjectsRun T.item_type rename name.now true (R.remaining reader.old) (R.remaining reader.new)
         (stream W.contents out.old out.new) (stream E.contents err.old err.new) result }
 {
-    let pieces = write_objects::<T, R, W, E>(alloc, rename, reader, name, out, err);
-    end_pieces(alloc, name, pieces, out, err)
+    let options = ReadOptions {
+        name,
+        recover: true,
+    };
+    let parts = write_objects::<T, R, W, E>(alloc, rename, options, reader, out, err);
+    end_parts(alloc, name, parts, out, err)
 }
 
-/// Writes the record of each item of the stream that is the same graph as no earlier one to `out` ([`uniq`]), and returns the
-/// status of the program, as [`each_run`] does, with the records of first items. After status 2 or 141 nothing is known of `seen`, which
-/// is not to be used again.
+/// Writes the record of each item of the stream that is the same graph as no earlier one to `out` ([`write_firsts`]), up to the first
+/// refusal, and returns the status of the program, as [`each_run`] does, with the records of first items. After status 2 or 141 nothing is
+/// known of `seen`, which is not to be used again.
 pub fn uniq_run<T: StreamItem + Drop, R: BufRead, W: Write, E: Write>(
     alloc: Global,
     layout: Layout,
@@ -176,18 +187,20 @@ pub fn uniq_run<T: StreamItem + Drop, R: BufRead, W: Write, E: Write>(
     err: &mut Watched<E>,
 ) -> u8
     ensures { (earlier : List Item) → HasSeen T.item_type layout.rename earlier seen.old
-        → IsUniqRun T.item_type layout earlier name.now (R.remaining reader.old) (R.remaining reader.new)
+        → IsFirstsRun T.item_type layout earlier name.now false (R.remaining reader.old) (R.remaining reader.new)
         (stream W.contents out.old out.new) seen.new (stream E.contents err.old err.new) result }
 {
-    match uniq::<T, R, W>(alloc, layout, seen, reader, name, out) {
-        Ok(()) => end(alloc, 0, out, err),
-        Err(stop) => report_stop(alloc, name, &stop, err),
-    }
+    let options = ReadOptions {
+        name,
+        recover: false,
+    };
+    let parts = write_firsts::<T, R, W, E>(layout, options, seen, reader, out, err);
+    end_parts(alloc, name, parts, out, err)
 }
 
-/// Writes the record of each item of the stream that is the same graph as no earlier one to `out`, and resumes after a refusal
-/// ([`uniq_going_on`]). Returns the status of the program, as [`each_going_on_run`] does, with the records of first items. After status 2
-/// or 141 nothing is known of `seen`, which is not to be used again.
+/// Writes the record of each item of the stream that is the same graph as no earlier one to `out` ([`write_firsts`]), and resumes after a
+/// refusal. Returns the status of the program, as [`each_going_on_run`] does, with the records of first items. After status 2 or 141
+/// nothing is known of `seen`, which is not to be used again.
 pub fn uniq_going_on_run<T: StreamItem + Drop, R: BufRead, W: Write, E: Write>(
     alloc: Global,
     layout: Layout,
@@ -198,11 +211,15 @@ pub fn uniq_going_on_run<T: StreamItem + Drop, R: BufRead, W: Write, E: Write>(
     err: &mut Watched<E>,
 ) -> u8
     ensures { (earlier : List Item) → HasSeen T.item_type layout.rename earlier seen.old
-        → IsUniqGoingOnRun T.item_type layout earlier name.now (R.remaining reader.old) (R.remaining reader.new)
+        → IsFirstsRun T.item_type layout earlier name.now true (R.remaining reader.old) (R.remaining reader.new)
         (stream W.contents out.old out.new) seen.new (stream E.contents err.old err.new) result }
 {
-    let pieces = uniq_going_on::<T, R, W, E>(alloc, layout, seen, reader, name, out, err);
-    end_pieces(alloc, name, pieces, out, err)
+    let options = ReadOptions {
+        name,
+        recover: true,
+    };
+    let parts = write_firsts::<T, R, W, E>(layout, options, seen, reader, out, err);
+    end_parts(alloc, name, parts, out, err)
 }
 
 /// Writes the records of the distinct items that were seen to `out` ([`write_counts`]), and returns the status of the program.

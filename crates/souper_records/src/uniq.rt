@@ -1,72 +1,45 @@
 //! The record of the first item of each graph in streams.
-ghost use Rattle.std.specs.Prelude.{◌≡◌, ◌++◌, ◌∷◌, [], List, map, flat_map, drop, length, Some, OnOk, IfErr};
+ghost use Rattle.std.specs.Prelude.{◌≡◌, ◌++◌, ◌∷◌, [], List, map, flat_map, drop, true, OnOk, IfOk, IfErr};
+ghost use Rattle.std.specs.List.{AllByRecursion};
 ghost use Rattle.std.specs.String.{string_bytes};
 ghost use Rattle.souper_graph.specs.Values.{Item};
 ghost use Rattle.souper_graph.specs.WellFormed.{WellFormed};
 ghost use Rattle.souper_ir.specs.Errors.{kind_of};
 ghost use Rattle.souper_format.specs.Streams.{stream, IsGiven};
 ghost use Rattle.souper_format.specs.Watching.{has_failed};
-ghost use Rattle.souper_records.specs.Eaches.{IfInput, UnlessOutput};
-ghost use Rattle.souper_records.specs.Records.{record_of_text};
-ghost use Rattle.souper_records.specs.Uniques.{HasSeen, SeesMore, WritesFirsts, WritesFirstsUpTo, WritesFirstsBegun, WritesNewFirsts};
+ghost use Rattle.souper_records.specs.Stops.{IfInput, UnlessOutput};
+ghost use Rattle.souper_records.specs.Outcomes.{WritesParts, StopsAfter, OfItems};
+ghost use Rattle.souper_records.specs.Records.{chosen, record_of_text};
+ghost use Rattle.souper_records.specs.Uniques.{text_by, HasText, HasSeen, SeesTexts, WritesFirstRecords, WritesSeenFirsts, WritesNewFirsts};
 
-use crate::each::{CHUNK, Stop, write_text};
 use crate::layout::Layout;
-use crate::pieces::{PieceSink, Place};
-use crate::records::{append_last_text, records_of_texts};
+use crate::options::ReadOptions;
+use crate::parts::{PartSink, Place, Source, write_parts};
+use crate::records::{push_last_text, records_of_texts};
 use crate::seen::Seen;
+use crate::stop::{Stop, write_text};
 use souper_format::watched::Watched;
 use souper_ir::ast::{Arena, Statement};
 use souper_ir::parse::{ParseError, ParseErrorKind, Sink, WholeItem};
-use souper_stream::{PartReader, StreamItem};
+use souper_stream::{ChunkSink, StreamItem};
 use std::alloc::{AllocError, Global};
-use std::io::{BufRead, ErrorKind, Write};
-use std::{io, mem};
+use std::io::{BufRead, Write};
+use std::mem;
 
-// A sink that keeps the text of the first item of each graph.
+// The texts of the items of a part, and of the first item of each graph before it.
 #[derive(Drop)]
-pub(crate) struct Firsts {
+struct Firsts {
     alloc: Global,
     layout: Layout,
 
     // For the text of one item.
     text: String,
-    pub(crate) seen: Seen,
-}
-
-impl Firsts {
-    pub(crate) fn new(alloc: Global, layout: Layout, seen: Seen) -> Self
-        ensures layout { result.layout ≡ layout }
-        ensures seen { result.seen ≡ seen }
-    {
-        Firsts {
-            alloc,
-            layout,
-            text: String::new(alloc),
-            seen,
-        }
-    }
-
-    // Keeps the text of the item, if it is the first of its graph, and counts it. The item is dropped then.
-    fn see<T: WholeItem + Drop>(&mut self, item: &mut T) -> Result<(), AllocError>
-        requires { WellFormed (T.view item.old) }
-        ensures { OnOk result ((first : Self) (items : List Item)
-            → (self.old.layout ≡ first.layout) × SeesMore T.item_type first.layout.rename items first.seen self.old.seen
-            → (self.new.layout ≡ first.layout) × SeesMore T.item_type first.layout.rename (items ++ T.view item.old ∷ []) first.seen self.new.seen) }
-    {
-        self.text.clear();
-        append_last_text(self.layout.rename, item, &mut self.text)?;
-        let text = String::from_str(self.alloc, self.text.as_str())?;
-        let index = match self.seen.texts.insert_full(text) {
-            Ok((index, _)) => index,
-            Err(_) => return Err(AllocError),
-        };
-        self.seen.count(index)
-    }
+    texts: Vec<String>,
+    seen: Seen,
 }
 
 impl<T: WholeItem + Drop> Sink<T> for Firsts {
-    ghost holds = { λ first firsts items. (firsts.layout ≡ first.layout) × SeesMore T.item_type first.layout.rename items first.seen firsts.seen };
+    ghost holds = { λ first firsts items. (firsts.layout ≡ first.layout) × (firsts.seen ≡ first.seen) × (map string_bytes firsts.texts.items ≡ map (text_by first.layout.rename) items) × AllByRecursion (HasText T.item_type first.layout.rename) items };
 
     fn take(&mut self, item: T) -> Result<(), AllocError> {
         Sink::<T>::take_over(self, item)?;
@@ -74,30 +47,20 @@ impl<T: WholeItem + Drop> Sink<T> for Firsts {
     }
 
     fn take_over(&mut self, mut item: T) -> Result<Option<Arena<Statement>>, AllocError> {
-        self.see(&mut item)?;
+        push_last_text(
+            self.alloc,
+            self.layout.rename,
+            &mut item,
+            &mut self.text,
+            &mut self.texts,
+        )?;
         Ok(item.take_statements())
     }
 }
 
-// Writes the records of each segment's first items, which come after the mark.
-impl<T: StreamItem + Drop> PieceSink<T> for Firsts {
-    ghost marks = { λ firsts. length firsts.seen.texts.keys };
-
-    ghost wrote = { λ name a x b y o. (b.layout ≡ a.layout) × WritesNewFirsts T.item_type a.layout x y a.seen b.seen o.items };
-
-    fn mark(&self) -> usize {
-        self.seen.texts.len()
-    }
-
-    fn write_piece<W: Write>(
-        &mut self,
-        alloc: Global,
-        mark: usize,
-        _place: Place<'_>,
-        _refusal: Option<&ParseError>,
-        out: &mut Watched<W>,
-    ) -> Result<(), Stop> {
-        write_texts(alloc, self.layout, self.seen.texts.as_slice(), mark, out)
+impl<T: WholeItem + Drop> ChunkSink<T> for Firsts {
+    fn rollback(&mut self) {
+        self.texts.clear();
     }
 }
 
@@ -118,83 +81,67 @@ fn write_texts<W: Write>(
     write_text(&text, out)
 }
 
-// Writes the records of first items with this sink.
-fn uniq_parts<T: StreamItem + Drop, R: BufRead, W: Write>(
-    alloc: Global,
-    name: &str,
-    firsts: &mut Firsts,
-    reader: &mut R,
-    out: &mut Watched<W>,
-) -> Result<(), Stop>
-    ensures written { OnOk result ((earlier : List Item) → HasSeen T.item_type firsts.old.layout.rename earlier firsts.old.seen
-        → WritesFirsts T.item_type firsts.old.layout earlier (R.remaining reader.old) (R.remaining reader.new) (stream W.contents out.old out.new) firsts.new.seen) }
-    ensures refused { IfErr result (λ stop. IfInput stop (λ e. kind_of e ≡ ParseErrorKind.Parse
-        → (earlier : List Item) → HasSeen T.item_type firsts.old.layout.rename earlier firsts.old.seen
-        → WritesFirstsUpTo T.item_type firsts.old.layout earlier (Some name.now) (R.remaining reader.old) (R.remaining reader.new) (stream W.contents out.old out.new) firsts.new.seen e)) }
-    ensures input { IfErr result (λ stop. IfInput stop (λ e. kind_of e ≡ ParseErrorKind.Memory → ⊥)) }
-    ensures stopped { IfErr result (λ stop. UnlessOutput stop (has_failed out.new) ((earlier : List Item) → HasSeen T.item_type firsts.old.layout.rename earlier firsts.old.seen
-        → WritesFirstsBegun T.item_type firsts.old.layout earlier (R.remaining reader.old) (stream W.contents out.old out.new))) }
+// Counts the items with these texts, and keeps the texts that are new.
+fn see_texts(seen: &mut Seen, texts: Vec<String>) -> Result<(), AllocError>
+    ensures { OnOk result (SeesTexts (map string_bytes texts.items) seen.old seen.new) }
 {
-    let mut parts = PartReader::new(alloc, CHUNK);
-    for _turn in 0..u64::MAX {
-        let start = firsts.seen.texts.len();
-        match parts.read_part::<T, R, Firsts>(alloc, reader, Some(name), firsts) {
-            Ok(ended) => {
-                write_texts(
-                    alloc,
-                    firsts.layout,
-                    firsts.seen.texts.as_slice(),
-                    start,
-                    out,
-                )?;
-                if ended {
-                    return Ok(());
-                }
-            }
-            Err(error) if error.kind() == ParseErrorKind::Parse => {
-                write_texts(
-                    alloc,
-                    firsts.layout,
-                    firsts.seen.texts.as_slice(),
-                    start,
-                    out,
-                )?;
-                return Err(Stop::Input(error));
-            }
-            Err(error) => return Err(Stop::from(error)),
-        }
+    for text in texts {
+        seen.add(text)?;
     }
-    let fault = io::Error::from(ErrorKind::Other);
-    Err(Stop::Input(ParseError::from(fault)))
+    Ok(())
+}
+
+// Writes the records of the first items of each part, and drops the texts.
+impl<T: StreamItem + Drop> PartSink<T> for Firsts {
+    ghost wrote = { λ name a x b y o. (b.layout ≡ a.layout) × WritesNewFirsts T.item_type a.layout x y a.seen b.seen o.items };
+
+    fn write_part<W: Write>(
+        &mut self,
+        alloc: Global,
+        _place: Place<'_>,
+        _refusal: Option<&ParseError>,
+        out: &mut Watched<W>,
+    ) -> Result<(), Stop> {
+        let start = self.seen.texts.len();
+        let texts = mem::replace(&mut self.texts, Vec::new(alloc));
+        see_texts(&mut self.seen, texts)?;
+        write_texts(alloc, self.layout, self.seen.texts.as_slice(), start, out)
+    }
 }
 
 /// Writes the record of each item of the stream that is the same graph as no earlier one, of this stream or of those before: of
-/// each graph the first item, in order. With a layout that renames, items that differ in names alone are the same.
+/// each graph the first item, in order. With a layout that renames, items that differ in names alone are the same. Returns whether a
+/// part was refused, as [`write_records`](crate::each::write_records) does, and fails like it.
 ///
-/// `seen` is passed from stream to stream of one type and one layout: it has the texts of the items so far, in memory. `name` is the
-/// stream's name, which a refusal shows. After an error of the input, and if memory ran out, this was done with items that the
-/// stream begins with. After an error of the output `out` has failed, and nothing is known of the bytes written. After an error that is
-/// no refusal nothing is known of `seen`, which is not to be used again.
-pub fn uniq<T: StreamItem + Drop, R: BufRead, W: Write>(
-    alloc: Global,
+/// `seen` is passed from stream to stream of one type and one layout: it has the texts of the items so far, in memory. After an error
+/// nothing is known of it, and it is not to be used again.
+pub fn write_firsts<T: StreamItem + Drop, R: BufRead, W: Write, E: Write>(
     layout: Layout,
+    options: ReadOptions<'_>,
     seen: &mut Seen,
     reader: &mut R,
-    name: &str,
     out: &mut Watched<W>,
-) -> Result<(), Stop>
-    ensures written { OnOk result ((earlier : List Item) → HasSeen T.item_type layout.rename earlier seen.old
-        → WritesFirsts T.item_type layout earlier (R.remaining reader.old) (R.remaining reader.new) (stream W.contents out.old out.new) seen.new) }
-    ensures refused { IfErr result (λ stop. IfInput stop (λ e. kind_of e ≡ ParseErrorKind.Parse
-        → (earlier : List Item) → HasSeen T.item_type layout.rename earlier seen.old
-        → WritesFirstsUpTo T.item_type layout earlier (Some name.now) (R.remaining reader.old) (R.remaining reader.new) (stream W.contents out.old out.new) seen.new e)) }
-    ensures input { IfErr result (λ stop. IfInput stop (λ e. kind_of e ≡ ParseErrorKind.Memory → ⊥)) }
-    ensures stopped { IfErr result (λ stop. UnlessOutput stop (has_failed out.new) ((earlier : List Item) → HasSeen T.item_type layout.rename earlier seen.old
-        → WritesFirstsBegun T.item_type layout earlier (R.remaining reader.old) (stream W.contents out.old out.new))) }
+    err: &mut Watched<E>,
+) -> Result<bool, Stop>
+    ensures written { IfOk result (λ refused. (earlier : List Item) → HasSeen T.item_type layout.rename earlier seen.old
+        → WritesParts T.item_type options.entry.name.now options.entry.recover (R.remaining reader.old) (R.remaining reader.new)
+        (OfItems (WritesSeenFirsts T.item_type layout earlier (stream W.contents out.old out.new) seen.new)) (stream E.contents err.old err.new) refused) }
+    ensures stopped { IfErr result (λ stop. (earlier : List Item) → HasSeen T.item_type layout.rename earlier seen.old
+        → StopsAfter T.item_type options.entry.name.now options.entry.recover (R.remaining reader.old)
+        (OfItems (WritesFirstRecords layout earlier (stream W.contents out.old out.new))) (has_failed out.new) (stream E.contents err.old err.new) stop) }
+    ensures input { IfErr result (λ stop. IfInput stop (λ e. kind_of e ≡ ParseErrorKind.Io)) }
+    ensures stays { has_failed err.old ≡ true → has_failed err.new ≡ true }
 {
-    let taken = mem::replace(seen, Seen::new(alloc));
-    let mut firsts = Firsts::new(alloc, layout, taken);
-    let result = uniq_parts::<T, R, W>(alloc, name, &mut firsts, reader, out);
+    let alloc = seen.alloc;
+    let mut firsts = Firsts {
+        alloc,
+        layout,
+        text: String::new(alloc),
+        texts: Vec::new(alloc),
+        seen: mem::replace(seen, Seen::new(alloc)),
+    };
+    let source = Source::new(alloc, options);
+    let result = write_parts::<T, Firsts, R, W, E>(alloc, source, &mut firsts, reader, out, err);
     *seen = firsts.seen;
     result
 }

@@ -9,9 +9,8 @@ use Rattle.std.proofs.lemmas.List.{take_all, take_more}
 use Rattle.std.proofs.lemmas.List.Elements.{recursion_from_All}
 use Rattle.std.proofs.Math.Seq.{drop-append_seam}
 use Rattle.souper_graph.specs.Syntax.Tokens.{IsOneLine}
-use Rattle.souper_stream.specs.Pieces.{Line}
-use Rattle.souper_stream.specs.PieceReading.{ReadsLine}
-use Rattle.souper_stream.specs.Reading.{AreAll}
+use Rattle.souper_stream.specs.Segments.{Line}
+use Rattle.souper_stream.specs.Reading.{AreAll, ReadsLine}
 use Rattle.souper_stream.proofs.Nodes.{is_not, all_append}
 
 nothing_more : (bs ys : List ℕ) → [] ≡ bs ++ ys → bs ≡ []

@@ -1,15 +1,15 @@
 mod Nodes
 mod EndLines
-mod Cuts
+mod Parting
+mod Texts
 mod Parted
 mod Scan
-mod Slices
-mod Progress
 pub mod Bytes
-mod Forgetting
-mod Keeping
-mod Lined
-pub mod Turns
-mod PieceTurns
-pub mod PieceLaws
+mod LineLists
+mod Scanning
 mod WithoutEnd
+pub mod SegmentLaws
+mod Buffers
+mod Refusing
+pub mod Passing
+pub mod Reached

@@ -31,13 +31,6 @@ quiet_both named (open_bracket ∷ ts) h = ((refl, (quiet_both false ts h.1).0),
 pub no_start : (ts : List Lexeme) → Quiet false ts → NoStart ts
 no_start ts h = (quiet_both false ts h).0
 
--- one token more was passed
-pub passed : (named : Bool) (o : ℕ) (t : Lexeme) (old new : List (ℕ × Lexeme)) → old ≡ (o, t) ∷ new → shows_line named t ≡ false → Quiet (is_name t) (kinds new) → Quiet named (kinds old)
-passed named o t old new e s h = rw e (s, h)
-
-pub none_left : (named : Bool) (old : List (ℕ × Lexeme)) → old ≡ [] → Quiet named (kinds old)
-none_left named old e = rw e tt
-
 -- where no line begins, no token shows that one does
 quiet_by : (named : Bool) (ts : List Lexeme) → NoStart ts → (named ≡ true → defines ts ≡ false) → Quiet named ts
 quiet_by named [] h d = tt
@@ -54,10 +47,6 @@ quiet_by named (open_bracket ∷ ts) h d = (refl, quiet_by false ts h.1 (λ e. a
 
 pub none_shows : (ts : List Lexeme) → NoStart ts → Quiet false ts
 none_shows ts h = quiet_by false ts h (λ e. absurd cc)
-
--- a token that shows it is not among them
-pub none_shown : (named : Bool) (o : ℕ) (t : Lexeme) (old new : List (ℕ × Lexeme)) → old ≡ (o, t) ∷ new → shows_line named t ≡ true → Quiet named (kinds old) → ⊥
-none_shown named o t old new e s q = let h = subst (λ (x : List (ℕ × Lexeme)). Quiet named (kinds x)) e q in let no-start = h.0 in cc
 
 -- ---- one token more at the end
 

@@ -1,14 +1,14 @@
 -- Lines without an end word of the item type: no item ends in them.
-use Rattle.std.proofs.Common.{◌≡◌, inl, inr, ℕ, ◌+◌, ◌<◌, ◌≤◌, Bool, true, false, List, [], ◌∷◌, ◌++◌, length, take, drop, IsUtf8, eqb-true, refl, sym, ap, ◌∙◌, subst, arith, append_assoc, append-nil, length-append, take-append-drop, length-take}
-use Rattle.std.specs.Prelude.{◌==◌, codes, bytes_eq}
+use Rattle.std.proofs.Common.{◌≡◌, inl, inr, ℕ, ◌+◌, ◌<◌, ◌≤◌, Bool, true, false, List, [], ◌∷◌, ◌++◌, length, take, drop, get_or, IsUtf8, refl, sym, ap, ◌∙◌, subst, arith, append_assoc, append-nil, length-append, take-append-drop, length-take}
+use Rattle.std.specs.Prelude.{zero, suc, codes, bytes_eq}
 use Rattle.std.specs.List.{AllByRecursion}
-use Rattle.std.proofs.Math.Seq.{take-append_seam, drop-append_seam}
-use Rattle.std.proofs.lemmas.List.{take-take}
 use Rattle.std.specs.Io.{StartsWith}
+use Rattle.std.specs.Str.{IsCharBoundary}
+use Rattle.std.proofs.Math.Seq.{take-append_seam, drop-append_seam}
 use Rattle.std.proofs.KnownBytes.{starts_with_rest}
 use Rattle.std.proofs.Transfers.{starts_with_of_append}
-use Rattle.std.proofs.lemmas.Str.{IsUtf8-take, IsUtf8-drop}
-use Rattle.std.specs.Str.{IsCharBoundary}
+use Rattle.std.proofs.lemmas.List.{take-take, get_or_at}
+use Rattle.std.proofs.lemmas.Str.{IsCharBoundary-start, IsCharBoundary-after_ascii, IsUtf8-take, IsUtf8-drop}
 use Rattle.memchr.specs.Find.{Nowhere, NoneBefore, OccursAt}
 use Rattle.memchr.proofs.lemmas.MatchLemmas.{OccursAt-from_part}
 use Rattle.souper_graph.specs.Syntax.Tokens.{Lexeme, ident, val_name, known_bits, int, comma, colon, equals, open_paren, close_paren, open_bracket, spelling, Begins}
@@ -17,14 +17,13 @@ use Rattle.souper_lexer.specs.TokenReading.{lexed_of}
 use Rattle.souper_lexer.proofs.TokenLaws.{tokens_law}
 use Rattle.souper_ir.specs.Joining.{IsLines}
 use Rattle.souper_stream.specs.declared.lines.ScanState.{ScanState}
-use Rattle.souper_stream.specs.Lines.{end_word, is_end_word, IsAbsent, NoEndWord}
-use Rattle.souper_stream.specs.Pieces.{Line, concat, IsLine, tokens_of}
-use Rattle.souper_stream.specs.PieceReading.{HasLines}
+use Rattle.souper_stream.specs.Lines.{end_word, is_end_word, IsStateAfter, IsAbsent, NoEndWord, PassesOver}
+use Rattle.souper_stream.specs.Segments.{Line, concat, IsLine, AreLines, tokens_of, tokens_of_lines, HasNoCut}
 use Rattle.souper_stream.proofs.Nodes.{is_not, word_means}
 use Rattle.souper_stream.proofs.EndLines.{NoEnd}
 use Rattle.souper_stream.proofs.Scan.{state_kept}
-use Rattle.souper_stream.proofs.Slices.{lines_boundary}
-use Rattle.souper_stream.proofs.Lined.{one_more}
+use Rattle.souper_stream.proofs.LineLists.{concat-append, tokens_snoc, lines_back, are_front, lines_whole, lines_split}
+use Rattle.souper_stream.proofs.Scanning.{Scanned, no_cut_more}
 
 -- ---- words that are nowhere in bytes
 
@@ -106,34 +105,16 @@ no_end_tokens k (t ∷ ts) n bs rest h q = (
 
 -- ---- lines
 
--- the lines of a text that ends with one
-pub record Split (bs : List ℕ) : Type 0 where
-  pub lines : List Line
-  pub whole : bs ≡ concat lines
-  pub each : AllByRecursion IsLine lines
-
-record Nonempty (bs : List ℕ) : Type 0 where
-  pub first : Line
-  pub others : List Line
-  pub whole : bs ≡ concat (first ∷ others)
-  pub each : AllByRecursion IsLine (first ∷ others)
-
-split_body : (body : List ℕ) → Nonempty (body ++ 10 ∷ [])
-split_body [] = record { first = 10 ∷ []; others = []; whole = refl; each = (([], tt, refl), tt) }
-split_body (b ∷ body) = under (b == 10) refl (split_body body)
-  where
-    under : (is : Bool) → (b == 10) ≡ is → Nonempty (body ++ 10 ∷ []) → Nonempty (b ∷ (body ++ 10 ∷ []))
-    under true e s = record { first = b ∷ []; others = s.first ∷ s.others; whole = ap (λ (x : List ℕ). b ∷ x) s.whole; each = (([], tt, ap (λ (x : ℕ). x ∷ []) (eqb-true b 10 e)), s.each) }
-    under false e s = record {
-      first = b ∷ s.first;
-      others = s.others;
-      whole = ap (λ (x : List ℕ). b ∷ x) s.whole;
-      each = ((b ∷ s.each.0.0, (e, s.each.0.1), ap (λ (x : List ℕ). b ∷ x) s.each.0.2), s.each.1);
-    }
-
-pub split : (bs : List ℕ) → IsLines bs → Split bs
-split bs (inl none) = record { lines = []; whole = none; each = tt }
-split bs (inr (body, e)) = let s = split_body body in record { lines = s.first ∷ s.others; whole = e ∙ s.whole; each = s.each }
+lines_boundary : (xs : List ℕ) (n : ℕ) → IsUtf8 xs → n ≤ length xs → IsLines (take n xs) → IsCharBoundary xs n
+lines_boundary xs n utf8 l (inl none) =
+    let zero_is : 0 ≡ n = omega (arith, ap length none, length-take n xs) in
+    subst (λ (m : ℕ). IsCharBoundary xs m) zero_is (IsCharBoundary-start xs utf8)
+lines_boundary xs n utf8 l (inr end) =
+    let long : length (take n xs) ≡ length end.0 + 1 = ap length end.1 ∙ length-append end.0 (10 ∷ []) in
+    let whole : xs ≡ end.0 ++ 10 ∷ drop n xs = sym (take-append-drop n xs) ∙ ap (λ (x : List ℕ). x ++ drop n xs) end.1 ∙ append_assoc end.0 (10 ∷ []) (drop n xs) in
+    let at : get_or xs (length end.0) 0 ≡ 10 = ap (λ (x : List ℕ). get_or x (length end.0) 0) whole ∙ get_or_at end.0 10 (drop n xs) 0 (length end.0) refl in
+    let few = length-take n xs in
+    subst (λ (m : ℕ). IsCharBoundary xs m) (let e : length end.0 + 1 ≡ n = omega arith in e) (IsCharBoundary-after_ascii xs (length end.0) utf8 (omega arith) (omega arith))
 
 utf8_lines : (ls : List Line) → AllByRecursion IsLine ls → IsUtf8 (concat ls) → AllByRecursion IsUtf8 ls
 utf8_lines [] h u = tt
@@ -154,22 +135,42 @@ no_end_lines k (l ∷ ls) u q =
       no_end_lines k ls u.1 (λ w e. absent_back w l (concat ls) (q w e)),
     )
 
-more_lines : (k : ItemType) (piece : List ℕ) (s : ScanState) (ls more : List Line) → HasLines k piece s ls → s.ends_item ≡ false → AllByRecursion IsUtf8 more → AllByRecursion (λ l. NoEnd k (tokens_of l)) more → HasLines k (piece ++ concat more) s (ls ++ more)
-more_lines k piece s ls [] h going u q = subst (λ (x : List ℕ). HasLines k x s (ls ++ [])) (sym (append-nil piece)) (subst (λ (x : List Line). HasLines k piece s x) (sym (append-nil ls)) h)
-more_lines k piece s ls (l ∷ more) h going u q =
-    let next = one_more k piece s s ls l h u.0 (λ ts after. state_kept k ts (tokens_of l) s after going q.0) (λ starts ends. (let yes = h.scanned.ends.1 ends in cc)) in
-    let rest = more_lines k (piece ++ l) s (ls ++ l ∷ []) more next going u.1 q.1 in
-    subst (λ (x : List ℕ). HasLines k x s (ls ++ l ∷ more)) (append_assoc piece l (concat more)) (subst (λ (x : List Line). HasLines k ((piece ++ l) ++ concat more) s x) (append_assoc ls (l ∷ []) more) rest)
-
--- the segment continues with lines without an end
-pub lines_without_end : (k : ItemType) (piece bs : List ℕ) (s : ScanState) (ls : List Line) (lines : Split bs) → HasLines k piece s ls → s.ends_item ≡ false → IsUtf8 bs → NoEndWord k bs → HasLines k (piece ++ bs) s (ls ++ lines.lines)
-lines_without_end k piece bs s ls lines h going u q =
-    let each = utf8_lines lines.lines lines.each (subst (λ (x : List ℕ). IsUtf8 x) lines.whole u) in
-    let none = no_end_lines k lines.lines each (subst (λ (x : List ℕ). NoEndWord k x) lines.whole q) in
-    subst (λ (x : List ℕ). HasLines k (piece ++ x) s (ls ++ lines.lines)) (sym lines.whole) (more_lines k piece s ls lines.lines h going each none)
-
 pub no_end_nil : (k : ItemType) → NoEndWord k []
 no_end_nil k w e front back h = let some = end_word_some k w e in let n = ap length h ∙ length-append front (w ++ back) in let m = length-append w back in absurd (omega arith)
 
 pub no_end_front : (k : ItemType) (front bs : List ℕ) → StartsWith bs front → NoEndWord k bs → NoEndWord k front
 no_end_front k front bs starts h w e = absent_front w front bs starts (h w e)
+
+-- ---- lines that are passed over
+
+pass_lines : (k : ItemType) (front more : List Line) (s : ScanState) → s.ends_item ≡ false → AllByRecursion (λ l. NoEnd k (tokens_of l)) more → IsStateAfter k (tokens_of_lines front) s → HasNoCut k front → IsStateAfter k (tokens_of_lines (front ++ more)) s × HasNoCut k (front ++ more)
+pass_lines k front [] s going none h p = (subst (λ (x : List Line). IsStateAfter k (tokens_of_lines x) s) (sym (append-nil front)) h, subst (λ (x : List Line). HasNoCut k x) (sym (append-nil front)) p)
+pass_lines k front (l ∷ more) s going none h p =
+    let next = subst (λ (ts : List Lexeme). IsStateAfter k ts s) (sym (tokens_snoc front l)) (state_kept k (tokens_of_lines front) (tokens_of l) s h going none.0) in
+    let r = pass_lines k (front ++ l ∷ []) more s going none.1 next (no_cut_more k front l p (λ ends starts. (let yes = h.ends.1 ends in cc))) in
+    let as_list = append_assoc front (l ∷ []) more in
+    (subst (λ (x : List Line). IsStateAfter k (tokens_of_lines x) s) as_list r.0, subst (λ (x : List Line). HasNoCut k x) as_list r.1)
+
+pub passed_over : (k : ItemType) (ls : List Line) (rest left : List ℕ) (s : ScanState) → AreLines ls → Scanned k (HasNoCut k) ls rest s → PassesOver k s rest left → Scanned k (HasNoCut k) ls left s
+passed_over k ls rest left s lines h p = under p.len refl
+  where
+    under : (n : ℕ) → p.len ≡ n → Scanned k (HasNoCut k) ls left s
+    under zero e = subst (λ (x : List ℕ). Scanned k (HasNoCut k) ls x s) (sym (p.rest_is ∙ ap (λ (m : ℕ). drop m rest) e)) h
+    under (suc n) e =
+        let back_lines = lines_back h.front h.back (subst (λ (x : List Line). AreLines x) h.whole lines) in
+        let cut = lines_split h.back (take p.len rest) (drop p.len rest) back_lines (sym h.rest_is ∙ sym (take-append-drop p.len rest)) p.lines in
+        let more = cut.0 in
+        let bytes : concat more ≡ take p.len rest = cut.3 in
+        let each = lines_whole more (are_front more cut.1 (subst (λ (x : List Line). AreLines x) cut.2 back_lines)) (subst (λ (x : List ℕ). IsLines x) (sym bytes) p.lines) in
+        let none = no_end_lines k more (utf8_lines more each (subst (λ (x : List ℕ). IsUtf8 x) (sym bytes) p.utf8)) (subst (λ (x : List ℕ). NoEndWord k x) (sym bytes) p.none) in
+        let r = pass_lines k h.front more s (p.going (omega arith)) none h.scanned h.holds in
+        let rest_is : rest ≡ concat more ++ concat cut.1 = h.rest_is ∙ ap concat cut.2 ∙ concat-append more cut.1 in
+        let long : p.len ≡ length (concat more) = omega (arith, ap length bytes, length-take p.len rest, p.within) in
+        record {
+          front = h.front ++ more;
+          back = cut.1;
+          whole = h.whole ∙ ap (λ (x : List Line). h.front ++ x) cut.2 ∙ sym (append_assoc h.front more cut.1);
+          rest_is = p.rest_is ∙ (λ i. drop (long i) (rest_is i)) ∙ drop-append_seam (concat more) (concat cut.1);
+          scanned = r.0;
+          holds = r.1;
+        }

@@ -1,7 +1,5 @@
 pub mod Lines
-pub mod Seams
+pub mod Segments
 pub mod Reading
-pub mod Holding
+pub mod Buffering
 pub mod Parts
-pub mod Pieces
-pub mod PieceReading

@@ -1,9 +1,10 @@
 -- Definitions. Which tokens begin a statement or one of an item's last lines.
-use Rattle.std.specs.Prelude.{◌≡◌, ◌↔◌, ◌||◌, Bool, true, false, ℕ, ◌+◌, List, [], ◌∷◌, ◌++◌, take, codes, bytes_eq}
+use Rattle.std.specs.Prelude.{◌≡◌, ◌↔◌, ◌||◌, Bool, true, false, ℕ, ◌+◌, ◌<◌, ◌≤◌, List, [], ◌∷◌, ◌++◌, length, take, drop, codes, bytes_eq, IsUtf8}
 use Rattle.souper_graph.specs.Syntax.Tokens.{Lexeme, ident, val_name, equals, colon}
 use Rattle.souper_graph.specs.Syntax.Spelling.{ItemType, left_hand_side, right_hand_side, replacement}
 use Rattle.souper_lexer.specs.TokenReading.{lexed_of}
 use Rattle.souper_ir.specs.NodeReadings.{is_name}
+use Rattle.souper_ir.specs.Joining.{IsLines}
 use Rattle.souper_ir.specs.Places.{newlines}
 use Rattle.souper_stream.specs.declared.lines.ScanState.{ScanState}
 
@@ -25,11 +26,6 @@ end_word replacement w = bytes_eq w (codes "result") || bytes_eq w (codes "cand"
 abbrev pub is_end_word : ItemType → Lexeme → Bool
 is_end_word k (ident w) = end_word k w
 is_end_word k _ = false
-
--- the first token is such a word
-abbrev pub ends_first : ItemType → List Lexeme → Bool
-ends_first k (ident w ∷ ts) = end_word k w
-ends_first k _ = false
 
 -- what follows a name that is defined: its type, or the equals sign
 abbrev pub defines : List Lexeme → Bool
@@ -91,3 +87,13 @@ IsAbsent w bs = (front back : List ℕ) → bs ≡ front ++ (w ++ back) → ⊥
 -- no word that an item of the type ends with is in the bytes
 abbrev pub NoEndWord : ItemType → List ℕ → Type 0
 NoEndWord k bs = (w : List ℕ) → end_word k w ≡ true → IsAbsent w bs
+
+-- whole lines without such a word were passed over, where no item ends before them
+pub record PassesOver (k : ItemType) (s : ScanState) (bytes rest : List ℕ) : Type 0 where
+  pub len : ℕ
+  pub within : len ≤ length bytes
+  pub rest_is : rest ≡ drop len bytes
+  pub lines : IsLines (take len bytes)
+  pub utf8 : IsUtf8 (take len bytes)
+  pub none : NoEndWord k (take len bytes)
+  pub going : 0 < len → s.ends_item ≡ false

@@ -1,34 +1,132 @@
--- Definitions. The reading of a stream part by part.
-use Rattle.std.specs.Prelude.{◌≡◌, ℕ, ◌+◌, ◌-◌, ◌^◌, ◌<◌, ◌≤◌, Bool, true, false, List, ◌++◌, length, min, Option}
+-- Definitions. The reading of a stream by parts: each is some of its segments, and a part that spells no items is one segment.
+use Rattle.std.specs.Prelude.{◌≡◌, ◌⊎◌, ℕ, ◌+◌, ◌^◌, ◌<◌, ◌≤◌, Bool, true, false, is_some, List, [], ◌∷◌, ◌++◌, length, take, drop, Option}
+use Rattle.std.specs.List.{AllByRecursion}
 use Rattle.std.specs.Io.KnownBytes.{Consumes}
+use Rattle.souper_graph.specs.Syntax.Spelling.{ItemType, TextSpells, SpellsNone}
 use Rattle.souper_graph.specs.Values.{Item}
-use Rattle.souper_graph.specs.Syntax.Spelling.{ItemType, TextSpells}
 use Rattle.souper_ir.specs.declared.parse.error.ParseError.{ParseError}
-use Rattle.souper_ir.specs.Sinks.{TakesOver}
-use Rattle.souper_stream.specs.declared.parts.PartReader.{PartReader}
-use Rattle.souper_stream.specs.Holding.{IsHeld}
-use Rattle.souper_stream.specs.Reading.{AreAll, IsRefused}
+use Rattle.souper_ir.specs.Errors.{IsRefusalAt}
+use Rattle.souper_ir.specs.Joining.{IsLines}
+use Rattle.souper_ir.specs.Sinks.{PrefixSpells, TakesOver}
+use Rattle.souper_stream.specs.declared.buffer.Buffer.{Buffer}
+use Rattle.souper_stream.specs.declared.reader.ItemReader.{ItemReader}
+use Rattle.souper_stream.specs.Buffering.{unparsed, Buffers, KeepsOneLine}
+use Rattle.souper_stream.specs.Lines.{first_line}
+use Rattle.souper_stream.specs.Segments.{Line, concat, IsLine, AreLines, HasNoCut, IsCut, AreCut, all_lines, AreParts}
+use Rattle.souper_stream.specs.Reading.{AreAll, NeverSpells}
 
--- the buffer will have grown by at least `least` bytes, at least one, when the next part is parsed
-pub record AwaitsPart (p : PartReader) : Type 0 where
-  pub some : 0 < p.least
-  pub room : min (length p.held.bytes.items + p.least) (2 ^ 64 - 1) ≤ p.goal
+-- the first `len` bytes of the lines are whole segments: a cut point is after them, or the stream has ended
+pub record IsChunk (k : ItemType) (ended : Bool) (ls : List Line) (len : ℕ) : Type 0 where
+  pub front : List Line
+  pub back : List Line
+  pub whole : ls ≡ front ++ back
+  pub len_is : length (concat front) ≡ len
+  pub cut : IsCut k front back ⊎ ((back ≡ []) × (ended ≡ true))
 
--- this text of a stream was read, and these items were passed to sinks; the buffer has the unparsed rest
-abbrev pub HasRead : ItemType → List ℕ → List Item → PartReader → Type 0
-HasRead k read items p = IsHeld k read items p.held × AwaitsPart p
+-- the parts, and the lines of the next, if there are any
+abbrev pub and_next : List (List Line) → List Line → List (List Line)
+and_next ps [] = ps
+and_next ps (l ∷ ls) = ps ++ (l ∷ ls) ∷ []
 
--- More of the stream was read, and its complete items were passed to the sink: all, if the stream has ended. If it has not, the
--- part has at least as many bytes as the reader asks for.
-pub record ReadsPart {S : Type 0} (k : ItemType) (read : List ℕ) (items : List Item) (before after : Option (List ℕ)) (holds : S → S → List Item → Type 0) (old new : S) (p : PartReader) (ended : Bool) : Type 0 where
-  pub more : List ℕ
-  pub taken : List Item
-  pub consumed : Consumes before after more
-  pub over : TakesOver holds taken old new
-  pub goes_on : ended ≡ false → HasRead k (read ++ more) (items ++ taken) p
-  pub enough : ended ≡ false → p.least ≤ length more
-  pub all_read : ended ≡ true → AreAll before more × TextSpells k (read ++ more) (items ++ taken)
+-- These parts of a stream were read and parsed, and these lines are buffered after them. What was read after the last whole line before a
+-- read that failed is lost.
+pub record HasRead (k : ItemType) (start now : Option (List ℕ)) (ps : List (List Line)) (ls : List Line) (b : Buffer) (ended failed : Bool) (rejected : ℕ) : Type 0 where
+  pub read : List ℕ
+  pub lost : List ℕ
+  pub consumed : Consumes start now (read ++ lost)
+  pub none_lost : failed ≡ false → lost ≡ []
+  pub not_failed : ended ≡ true → failed ≡ false
+  pub buffers : Buffers read (concat (all_lines ps)) b
+  pub rest : unparsed b ≡ concat ls
+  pub lines : AreLines (all_lines ps ++ ls)
+  pub cut : AreCut k (and_next ps ls)
+  pub whole : ended ≡ false → AllByRecursion IsLine (all_lines ps ++ ls)
+  pub some : ended ≡ false → ls ≡ [] → ps ≡ []
+  pub all_read : ended ≡ true → AreAll start read
+  pub chunk : 0 < rejected → IsChunk k ended ls rejected
+  pub one_line : KeepsOneLine b
+  pub drained : rejected ≡ 0 → b.start ≡ 0
 
--- more of the stream was read, and it is refused
-abbrev pub RefusesPart : {S : Type 0} → ItemType → Option (List ℕ) → List ℕ → List Item → Option (List ℕ) → Option (List ℕ) → (S → S → List Item → Type 0) → S → S → ParseError → Type 0
-RefusesPart k file read items before after holds old new e = (more : List ℕ) × Consumes before after more × IsRefused k file (AreAll before more) (read ++ more) items holds old new e
+-- these parts of a stream were read and parsed
+abbrev pub HasParts : ItemType → Option (List ℕ) → Option (List ℕ) → List (List Line) → ItemReader → Type 0
+HasParts k start now ps r = (ls : List Line) × HasRead k start now ps ls r.buffer r.ended (is_some r.fault) r.rejected
+
+-- the stream has ended, and these are its parts
+abbrev pub HasAll : ItemType → Option (List ℕ) → Option (List ℕ) → List (List Line) → Type 0
+HasAll k start now ps = (read : List ℕ) × Consumes start now read × AreAll start read × AreParts k read ps
+
+-- the next chunk has this length; without one the stream has ended
+abbrev pub IsNext : ItemType → Option (List ℕ) → Option (List ℕ) → List (List Line) → ItemReader → ℕ → Type 0
+IsNext k start now ps r len = (ls : List Line) × HasRead k start now ps ls r.buffer r.ended (is_some r.fault) r.rejected × (len ≡ 0 → HasAll k start now ps) × (0 < len → IsChunk k r.ended ls len)
+
+-- The line of a part, after the parsed text `done`. Numbers have 64 bits.
+abbrev pub IsOnLine : List ℕ → List ℕ → ℕ → Type 0
+IsOnLine done part line = length (done ++ part) + 1 < 2 ^ 64 → line ≡ first_line done part
+
+-- the line of the first `len` unparsed bytes
+abbrev pub HasLine : Buffer → ℕ → ℕ → Type 0
+HasLine b len line = (read done : List ℕ) → Buffers read done b → IsOnLine done (take len (unparsed b)) line
+
+-- `r.line()`
+abbrev pub line_of : ItemReader → ℕ
+line_of r = r.line
+
+-- the refusal of a part, after the parsed text `done`, has and shows its location in the text read
+abbrev pub IsPlacedIn : Option (List ℕ) → List ℕ → List ℕ → List ℕ → ParseError → Type 0
+IsPlacedIn file read done part e = length read + 1 < 2 ^ 64 → (offset : ℕ) × (length done ≤ offset) × (offset ≤ length (done ++ part)) × IsRefusalAt file read offset e
+
+-- The first `len` unparsed bytes were parsed, and `rejected` bytes are left of their chunk. If none are, what is not needed was dropped.
+pub record Advances (old : Buffer) (ended failed : Bool) (new : ItemReader) (len rejected : ℕ) : Type 0 where
+  pub ended_is : new.ended ≡ ended
+  pub failed_is : is_some new.fault ≡ failed
+  pub rejected_is : new.rejected ≡ rejected
+  pub buffers : (read done : List ℕ) → Buffers read done old → Buffers read (done ++ take len (unparsed old)) new.buffer
+  pub rest : unparsed new.buffer ≡ drop len (unparsed old)
+  pub one_line : KeepsOneLine new.buffer
+  pub drained : rejected ≡ 0 → new.buffer.start ≡ 0
+
+-- a sink that held nothing holds the items
+abbrev pub Holds : {S : Type 0} → (S → S → List Item → Type 0) → List Item → S → S → Type 0
+Holds {S} holds items old new = (first : S) → holds first old [] → holds first new items
+
+-- the next part spells items, and the sink took them
+pub record TakesPart {S : Type 0} (k : ItemType) (start now : Option (List ℕ)) (ps : List (List Line)) (holds : S → S → List Item → Type 0) (old new : S) (r : ItemReader) : Type 0 where
+  pub part : List Line
+  pub goes_on : HasParts k start now (ps ++ part ∷ []) r
+  pub on_line : IsOnLine (concat (all_lines ps)) (concat part) (line_of r)
+  pub items : List Item
+  pub spelled : TextSpells k (concat part) items
+  pub taken : Holds holds items old new
+
+-- The next segment spells no items: whatever follows the text read, the whole stream spells none. The sink took items that the segment
+-- begins with. The refusal has and shows its location in the text read.
+pub record RefusesPart {S : Type 0} (k : ItemType) (file start now : Option (List ℕ)) (ps : List (List Line)) (holds : S → S → List Item → Type 0) (old new : S) (r : ItemReader) (e : ParseError) : Type 0 where
+  pub part : List Line
+  pub goes_on : HasParts k start now (ps ++ part ∷ []) r
+  pub on_line : IsOnLine (concat (all_lines ps)) (concat part) (line_of r)
+  pub segment : HasNoCut k part
+  pub none : SpellsNone k (concat part)
+  pub items : List Item
+  pub begun : PrefixSpells k (concat part) items
+  pub taken : Holds holds items old new
+  pub read : List ℕ
+  pub after : List ℕ
+  pub consumed : Consumes start now read
+  pub whole : read ≡ concat (all_lines (ps ++ part ∷ [])) ++ after
+  pub ends : IsLines (concat part) ⊎ (after ≡ [])
+  pub never : NeverSpells k (AreAll start read) read
+  pub placed : IsPlacedIn file read (concat (all_lines ps)) (concat part) e
+
+-- a chunk was left as it was, and the sink took items
+pub record LeavesChunk {S : Type 0} (r q : ItemReader) (holds : S → S → List Item → Type 0) (old new : S) : Type 0 where
+  pub buffer_is : q.buffer ≡ r.buffer
+  pub ended_is : q.ended ≡ r.ended
+  pub fault_is : q.fault ≡ r.fault
+  pub items : List Item
+  pub begun : TakesOver holds items old new
+
+-- the next chunk is to be read segment by segment, and the sink has no items of it
+pub record Rejects {S : Type 0} (k : ItemType) (before after : Option (List ℕ)) (r q : ItemReader) (holds : S → S → List Item → Type 0) (old new : S) : Type 0 where
+  pub some : 0 < q.rejected
+  pub goes_on : (start : Option (List ℕ)) (ps : List (List Line)) → HasParts k start before ps r → HasParts k start after ps q
+  pub none : Holds holds [] old new

@@ -1,5 +1,5 @@
-//! Where lines begin in a text, and where items end.
-ghost use Rattle.std.specs.Prelude.{◌≡◌, ◌↔◌, ◌≤◌, ◌<◌, ◌∷◌, ◌++◌, ℕ, List, [], length, take, drop, true, false, IsCharBoundary, IsUtf8};
+//! The lines of a text, and which of them begin or end an item.
+ghost use Rattle.std.specs.Prelude.{◌≡◌, ◌≤◌, ◌<◌, ◌∷◌, ◌++◌, List, [], length, take, drop, true, false, IfSome, IsUtf8};
 ghost use Rattle.std.specs.Io.{StartsWith};
 ghost use Rattle.souper_graph.specs.Syntax.Tokens.{Lexeme};
 ghost use Rattle.souper_graph.specs.Syntax.Spelling.{kinds, ItemType};
@@ -7,13 +7,11 @@ ghost use Rattle.souper_lexer.specs.TokenReading.{lexed_of};
 ghost use Rattle.souper_lexer.specs.TokenView.{lexeme_of, Yields};
 ghost use Rattle.souper_ir.specs.NodeReadings.{is_name};
 ghost use Rattle.souper_ir.specs.Joining.{IsLines};
-ghost use Rattle.souper_stream.specs.Lines.{last_word, line_word, is_end_word, ends_first, shows_line, defines, starts_line, first_offset, end_word, NoStart, IsStateAfter, IsAbsent, NoEndWord};
-ghost use Rattle.souper_stream.specs.Pieces.{tokens_of};
-ghost use Rattle.souper_stream.specs.Reading.{IsTaken};
-ghost use Rattle.souper_stream.specs.Seams.{IsEndLine, IsSeam};
+ghost use Rattle.souper_stream.specs.Lines.{last_word, line_word, is_end_word, shows_line, defines, starts_line, first_offset, end_word, IsStateAfter, IsAbsent, NoEndWord};
+ghost use Rattle.souper_stream.specs.Segments.{tokens_of, IsFirstLine, IsLastLineAt};
 
-use crate::ends::StreamItem;
-use memchr::{memmem, memrchr};
+use crate::item::StreamItem;
+use memchr::{memchr, memmem, memrchr};
 use souper_lexer::{Fault, Lexer, Token};
 use std::str;
 
@@ -70,58 +68,7 @@ pub(crate) fn first_offset(text: &str) -> usize
     offset
 }
 
-// Whether neither a statement nor one of an item's last lines begins in the remaining tokens, up to a fault.
-fn starts_none(lexer: &mut Lexer<'_>) -> bool
-    ensures none { (result ≡ true) ↔ NoStart (kinds lexer.old.tokens) }
-    ensures fault { lexer.new.fault ≡ lexer.old.fault }
-{
-    let mut named = false;
-    'tokens: loop {
-        let token = match next_token(lexer) {
-            Ok(Some((_, token))) => token,
-            Ok(None) => return true,
-            Err(_) => return true,
-        };
-        if shows_line(named, token) {
-            return false;
-        }
-        named = is_name(token);
-    }
-}
-
-// The same, and no fault follows.
-fn is_quiet(lexer: &mut Lexer<'_>) -> bool
-    ensures tokens { result ≡ true → NoStart (kinds lexer.old.tokens) }
-    ensures sound { result ≡ true → lexer.old.fault ≡ false }
-{
-    starts_none(lexer)
-        && match next_token(lexer) {
-            Ok(None) => true,
-            _ => false,
-        }
-}
-
-// Whether the next token is a word that an item ends with.
-fn takes_end_word<T: StreamItem>(lexer: &mut Lexer<'_>) -> bool
-    ensures word { result ≡ ends_first T.item_type (kinds lexer.old.tokens) }
-    ensures taken { result ≡ true → (token : ℕ × Lexeme) × (lexer.old.tokens ≡ token ∷ lexer.new.tokens) }
-    ensures fault { lexer.new.fault ≡ lexer.old.fault }
-{
-    match next_token(lexer) {
-        Ok(Some((_, Token::Ident(word)))) => T::ends_with(word),
-        _ => false,
-    }
-}
-
-// Whether the lines have the tokens of the line that an item ends with.
-fn is_end_line<T: StreamItem>(lines: &str) -> bool
-    ensures { result ≡ true → IsEndLine T.item_type lines.now }
-{
-    let mut lexer = Lexer::new(lines);
-    takes_end_word::<T>(&mut lexer) && is_quiet(&mut lexer)
-}
-
-// Whether the token is a word that an item ends with.
+// Whether the token is a word that begins a terminator.
 fn is_end_word<T: StreamItem>(token: Token<'_>) -> bool
     ensures { result ≡ is_end_word T.item_type (lexeme_of token.entry) }
 {
@@ -137,7 +84,7 @@ pub(crate) struct ScanState {
     /// Whether the last token is a name, if `ends_item` is true. Else it is not used.
     pub after_name: bool,
 
-    /// Whether, of the statements and last lines that begin in them, the last begins with a word that an item ends with.
+    /// Whether, of the statements and last lines that begin in them, the last is a terminator.
     pub ends_item: bool,
 }
 
@@ -191,7 +138,7 @@ fn defines(token: Token<'_>) -> bool
     }
 }
 
-// Whether the line begins with a statement, or is one of an item's last lines.
+/// Whether the line begins with a statement, or is one of an item's last lines.
 pub(crate) fn starts_line(line: &str) -> bool
     ensures { result ≡ starts_line (tokens_of line.now) }
 {
@@ -210,13 +157,33 @@ pub(crate) fn starts_line(line: &str) -> bool
     }
 }
 
-/// The length of the whole lines among the first bytes, as many as `end` says.
-pub(crate) fn lines_len(bytes: &[u8], end: usize) -> usize
-    requires { end ≤ length bytes.now }
-    ensures bound { result ≤ end }
+/// The length of the first line of the text, with its newline.
+pub(crate) fn first_line_len(text: &[u8]) -> usize
+    ensures { IsFirstLine text.now result }
+{
+    match memchr(b'\n', text) {
+        Some(index) => index + 1,
+        None => text.len(),
+    }
+}
+
+/// The offset of the last line of the text, in bytes.
+pub(crate) fn last_line_start(text: &[u8]) -> usize
+    requires { 0 < length text.now }
+    ensures { IsLastLineAt text.now result }
+{
+    match memrchr(b'\n', &text[..text.len() - 1]) {
+        Some(index) => index + 1,
+        None => 0,
+    }
+}
+
+/// The length of the whole lines that the bytes begin with.
+pub(crate) fn lines_len(bytes: &[u8]) -> usize
+    ensures bound { result ≤ length bytes.now }
     ensures lines { IsLines (take result bytes.now) }
 {
-    match memrchr(b'\n', &bytes[..end]) {
+    match memrchr(b'\n', bytes) {
         Some(index) => index + 1,
         None => 0,
     }
@@ -259,52 +226,44 @@ pub(crate) fn len_without_end<T: StreamItem>(bytes: &[u8]) -> (usize, usize)
     ensures none { NoEndWord T.item_type (take result.0 bytes.now) }
 {
     let (front, searched) = before_end_words::<T>(&bytes[..bytes.len().min(WINDOW)]);
-    let len = lines_len(front, front.len());
+    let len = lines_len(front);
     match str::from_utf8(&front[..len]) {
         Ok(_) => (len, searched),
         Err(_) => (0, searched),
     }
 }
 
-/// The length of lines that the text begins with, after which an item has ended and a line of the next begins: of all such
-/// that are found line by line, the most. 0 if none is found.
-pub(crate) fn complete_len<T: StreamItem>(text: &str) -> usize
-    ensures bound { result ≤ length text.now }
-    ensures boundary { IsCharBoundary text.now result }
-    ensures seam { 0 < result → IsSeam T.item_type (take result text.now) (drop result text.now) }
+/// Whether a word that items of the type end with occurs in the bytes, be it in a token or in a comment.
+pub(crate) fn has_end_word<T: StreamItem>(bytes: &[u8]) -> bool
+    ensures { result ≡ false → NoEndWord T.item_type bytes.now }
 {
-    let bytes = text.as_bytes();
-    // In the middle of a large item no line is looked at.
-    if before_end_words::<T>(bytes).0.len() == bytes.len() {
-        return 0;
-    }
-    let mut end = lines_len(bytes, bytes.len());
-    let mut next = None;
-    while end > 0 {
-        let start = lines_len(bytes, end - 1);
-        let line = &text[start..end];
-        if let Some(next) = next
-            && is_end_line::<T>(line)
-            && is_end_line::<T>(&text[start..next])
-        {
-            return next;
-        }
-        if starts_line(line) {
-            next = Some(start);
-        }
-        end = start;
-    }
-    0
+    before_end_words::<T>(bytes).0.len() < bytes.len()
 }
 
-/// The length of the text whose items can be passed to the sink: all of it, if the input has ended, or else [`complete_len`].
-pub(crate) fn ready_len<T: StreamItem>(text: &str, ended: bool) -> usize
-    ensures taken { IsTaken T.item_type ended text.now result }
-    ensures boundary { IsCharBoundary text.now result }
+// The end of the first byte of the last occurrence of the word, if items of the type end with a line that it begins. Else 0.
+fn last_occurrence<T: StreamItem>(bytes: &[u8], word: &str) -> usize
+    ensures { result ≤ length bytes.now }
 {
-    if ended {
-        text.len()
+    // Where the word does not occur, a search forward finds that out faster.
+    if !T::ends_with(word) || memmem::find(bytes, word.as_bytes()).is_none() {
+        return 0;
+    }
+    match memmem::rfind(bytes, word.as_bytes()) {
+        Some(index) => index + 1,
+        None => 0,
+    }
+}
+
+/// The offset of the last line in which a word occurs that items of the type end with, be it in a token or in a comment.
+pub(crate) fn last_line_with_end<T: StreamItem>(bytes: &[u8]) -> Option<usize>
+    ensures { IfSome result (λ start. IsLines (take start bytes.now) × (start ≤ length bytes.now)) }
+{
+    let infer = last_occurrence::<T>(bytes, "infer");
+    let result = last_occurrence::<T>(bytes, "result");
+    let end = infer.max(result).max(last_occurrence::<T>(bytes, "cand"));
+    if end == 0 {
+        None
     } else {
-        complete_len::<T>(text)
+        Some(last_line_start(&bytes[..end]))
     }
 }

@@ -57,22 +57,6 @@ infer %x
 
 ---
 0
-=== lhs infer without a name
-%0 = var
-infer
-%1 = var
-infer %1
-
----
-0
-=== lhs root attribute without its word
-%0 = var
-infer %0 (
-%1 = var
-infer %1
-
----
-0
 === lhs second definition of a name in the second item
 %x = var
 infer %x

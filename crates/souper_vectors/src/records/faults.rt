@@ -25,7 +25,7 @@ fn fails(rt: &impl Abort, alloc: Global, most: usize) {
         Command::Each(PLAIN),
         &mut reader,
     );
-    did(rt, run, (2, "", READ_ERROR));
+    did(rt, run, (2, "%x = var\ninfer %x\n\n", READ_ERROR));
 }
 
 #[test]

@@ -109,6 +109,29 @@ fn refusal_has_its_place_in_the_stream(rt: HostRuntime) {
     }
 }
 
+fn is_refused_in_segment(rt: &impl Abort, alloc: Global, source: &str, offset: usize, want: &str) {
+    for least in [1, 20, 65536] {
+        let (items, error) = read::<LeftHandSide>(rt, alloc, source.as_bytes(), least);
+        let error = error.expect(rt, source);
+        equal_in(rt, items, 0, source);
+        equal_in(rt, error.offset(), Some(offset), source);
+        let shown = error.to_string(alloc).expect(rt, source);
+        is_text_in(rt, shown, want, source);
+    }
+}
+
+// The error of a stream is the one of its first invalid segment, also where the lines after it give the whole text another.
+#[test]
+fn refusal_is_the_one_of_its_segment(rt: HostRuntime) {
+    let (rt, alloc) = (&rt, rt.alloc());
+    let source = "%0 = var\ninfer\n%1 = var\ninfer %1\n";
+    let want = "a:2:5: unexpected EOF\n     |\n   2 | infer\n     |     ^";
+    is_refused_in_segment(rt, alloc, source, 14, want);
+    let source = "%0 = var\ninfer %0 (\n%1 = var\ninfer %1\n";
+    let want = "a:2:10: unexpected EOF\n     |\n   2 | infer %0 (\n     |          ^";
+    is_refused_in_segment(rt, alloc, source, 19, want);
+}
+
 // The stream is a fault and no refusal.
 fn is_no_text(rt: &impl Abort, alloc: Global, source: &[u8]) {
     let (_, error) = read::<LeftHandSide>(rt, alloc, source, 1);

@@ -1,8 +1,8 @@
 -- Parts of the stream were read.
 use Rattle.std.proofs.Common.{List}
 use Rattle.std.specs.Prelude.{ℕ, Option}
-use Rattle.souper_reader.specs.Segments.{Line}
-use Rattle.souper_reader.specs.Parts.{HasParts}
+use Rattle.souper_stream.specs.Segments.{Line}
+use Rattle.souper_stream.specs.Parts.{HasParts}
 use Rattle.generated_items.proofs.recovered.recovered.Given as goal
 
 abbrev pub invariant-loop-turn : goal.invariant-loop-turn

@@ -1,4 +1,0 @@
-use Rattle.souper_reader.proofs.reader.ItemReader.by_segments.Goals as goal
-
-pub returns : goal.returns
-returns c = λ k start. c.new.ensures k start

@@ -1,9 +1,0 @@
-use Rattle.std.proofs.Common.{false, refl}
-use Rattle.souper_reader.specs.declared.reader.ItemReader.{ItemReader}
-use Rattle.souper_reader.proofs.Passing.{read_none}
-use Rattle.souper_reader.proofs.reader.ItemReader.new.Goals as goal
-
-pub returns : goal.returns
-returns c = λ k start.
-    let r : ItemReader = record { buffer = c.new.result; min_chunk = c.args.min_chunk; goal = c.args.min_chunk; by_segments = false; ended = false; rejected = 0; line = 1; memory = c.new-2.result } in
-    read_none k start r c.new.ensures refl refl

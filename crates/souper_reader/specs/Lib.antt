@@ -1,5 +1,0 @@
-pub mod Lines
-pub mod Segments
-pub mod Reading
-pub mod Buffering
-pub mod Parts

@@ -1,0 +1,65 @@
+use Rattle.std.proofs.Common.{rules, ◌≡◌, ℕ, [], None, Some, refl, sym, subst}
+use Rattle.std.specs.String.{string_bytes}
+use Rattle.std.proofs.KnownBytes.{Keeps-refl}
+use Rattle.souper_ir.specs.declared.parse.error.ParseErrorKind.TheVariants.{Parse}
+use Rattle.souper_ir.specs.Errors.{kind_of}
+use Rattle.souper_stream.specs.Segments.{concat, all_lines}
+use Rattle.souper_stream.specs.Parts.{IsOnLine}
+use Rattle.souper_stream.proofs.Reached.{refusal_begun}
+use Rattle.souper_records.specs.Outcomes.{Outcome}
+use Rattle.souper_records.proofs.parts.write_next.Goals as goal
+
+pub returns-in_ok-write_part-in-Ok-true-clause-part : goal.returns-in_ok-write_part-in-Ok-true-clause-part
+returns-in_ok-write_part-in-Ok-true-clause-part g c = λ start ps had.
+    let t = (rw c.in-Ok-true.is at c.read_part.ensures.read) c.in-Ok-true.field-0-test start ps had in
+    let o : Outcome = record { part = t.part; line = c.line-line.result; items = t.items; refusal = None } in
+    record {
+      outcome = o;
+      had = t.goes_on;
+      is = record { on_line = subst (λ (n : ℕ). IsOnLine (concat (all_lines ps)) (concat t.part) n) (sym c.line-line.ensures) t.on_line; is = t.spelled };
+      any = refl;
+      after = λ e. absurd cc;
+      are_written = c.in_ok-write_part-in-Ok-true.ensures.written c.args.sink.now o c.requires.none (t.taken c.args.sink.now c.requires.none) refl refl;
+      reported = Keeps-refl _;
+    }
+
+pub returns-in-Ok-false-clause-ended : goal.returns-in-Ok-false-clause-ended
+returns-in-Ok-false-clause-ended g c = λ start ps had. ((rw c.in-Ok-false.is at c.read_part.ensures.ended) c.in-Ok-false.field-0-test start ps had).0
+
+pub returns-in-Ok-false-clause-quiet : goal.returns-in-Ok-false-clause-quiet
+returns-in-Ok-false-clause-quiet g c =
+    let p = c.requires.had in
+    (refl, refl, ((rw c.in-Ok-false.is at c.read_part.ensures.ended) c.in-Ok-false.field-0-test p.0 p.1 p.2).1)
+
+pub returns-in-Ok-false-clause-none : goal.returns-in-Ok-false-clause-none
+returns-in-Ok-false-clause-none g c =
+    let p = c.requires.had in
+    let same = ((rw c.in-Ok-false.is at c.read_part.ensures.ended) c.in-Ok-false.field-0-test p.0 p.1 p.2).1 in
+    subst (λ s. g.S.Sink.holds s s []) (sym same) c.requires.none
+
+pub returns-in_ok-write_part-in-Err-clause-part : goal.returns-in_ok-write_part-in-Err-clause-part
+returns-in_ok-write_part-in-Err-clause-part g c = λ start ps had.
+    let k = g.T.Item.item_type in
+    let now = g.R.Read.remaining c.read_part.new.reader in
+    let kind : kind_of c.in-Err.error ≡ Parse = search rules in
+    let t = c.in-Err.ensures.refused kind start ps had in
+    let o : Outcome = record { part = t.part; line = c.line-line-in-Err.result; items = t.items; refusal = Some c.in-Err.error } in
+    record {
+      outcome = o;
+      had = t.goes_on;
+      is = record {
+        on_line = subst (λ (n : ℕ). IsOnLine (concat (all_lines ps)) (concat t.part) n) (sym c.line-line-in-Err.ensures) t.on_line;
+        is = record { kind = kind; segment = t.segment; none = t.none; begun = t.begun; now = now; read = t.read; consumed = t.consumed; placed = t.placed };
+      };
+      any = refl;
+      after = λ e. record {
+        read = t.read;
+        rest = t.after;
+        consumed = t.consumed;
+        whole = t.whole;
+        never = t.never;
+        begun = refusal_begun k _ start now ps g.S.Sink.holds c.args.sink.now c.read_part.new.sink c.read_part.new.self c.in-Err.error t;
+      };
+      are_written = c.in_ok-write_part-in-Err.ensures.written c.args.sink.now o c.requires.none (t.taken c.args.sink.now c.requires.none) refl refl;
+      reported = λ works. (string_bytes c.in_ok-shown-in-Err.shown, c.in_ok-shown-in-Err.ensures, c.report_line.ensures.given works);
+    }

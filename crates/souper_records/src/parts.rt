@@ -1,0 +1,167 @@
+//! The parts of a stream, whose output is written one after the other.
+ghost use Rattle.std.specs.Prelude.{◌≡◌, ℕ, [], List, true, Option, Some, IfOk, IfErr, IfSome, IfNone, OnOk, option_copied};
+ghost use Rattle.souper_ir.specs.Errors.{kind_of};
+ghost use Rattle.souper_stream.specs.Segments.{Line};
+ghost use Rattle.souper_stream.specs.Parts.{HasParts, HasAll};
+ghost use Rattle.souper_format.specs.Streams.{stream};
+ghost use Rattle.souper_format.specs.Watching.{watched_inner, has_failed};
+ghost use Rattle.souper_records.specs.Stops.{IfInput, UnlessOutput};
+ghost use Rattle.souper_records.specs.Outcomes.{Outcome, Begins, WritesPart, WritesParts, StopsAfter, WroteEach};
+
+use crate::options::ReadOptions;
+use crate::report::report_line;
+use crate::stop::Stop;
+use souper_format::report::line_of_error;
+use souper_format::watched::Watched;
+use souper_ir::parse::{ParseError, ParseErrorKind};
+use souper_stream::{ChunkSink, ItemReader, StreamItem};
+use std::alloc::Global;
+use std::io;
+use std::io::{BufRead, ErrorKind, Write};
+
+/// The location of a part of a stream.
+#[derive(Clone, Copy)]
+pub(crate) struct Place<'a> {
+    /// The name of the stream.
+    pub(crate) name: &'a str,
+
+    /// The 1-based line of the part's first token.
+    pub(crate) line: usize,
+}
+
+/// A sink whose output is written after each part of a stream.
+pub(crate) trait PartSink<T: StreamItem + Drop>: ChunkSink<T> {
+    // That the output of a part with this outcome was written, given the name of the stream, the sink and the bytes of the output before
+    // the part, and both after.
+    ghost wrote: { List ℕ → Self → Option (List ℕ) → Self → Option (List ℕ) → Outcome → Type 0 };
+
+    /// Writes the output of a part, whose items the sink holds, or the ones that it begins with if it was refused. Then it holds none.
+    fn write_part<W: Write>(
+        &mut self,
+        alloc: Global,
+        place: Place<'_>,
+        refusal: Option<&ParseError>,
+        out: &mut Watched<W>,
+    ) -> Result<(), Stop>
+        ensures written { OnOk result ((before : Self) (o : Outcome) → Self.holds before before [] → Self.holds before self.old o.items
+            → o.line ≡ place.entry.line → o.refusal ≡ option_copied refusal.entry → wrote place.entry.name.now before (W.contents (watched_inner out.old)) self.new (W.contents (watched_inner out.new)) o) }
+        ensures none { OnOk result (Self.holds self.new self.new []) }
+        ensures input { IfErr result (λ stop. IfInput stop (λ e. ⊥)) }
+        ensures unwritten { IfErr result (λ stop. UnlessOutput stop (has_failed out.new) (out.new ≡ out.old)) };
+}
+
+// Bytes to read before looking for a cut point, if reading ends with the first refusal.
+const CHUNK: usize = 65536;
+
+/// A stream that is read part by part.
+#[derive(Drop)]
+pub(crate) struct Source<'a> {
+    options: ReadOptions<'a>,
+    parts: ItemReader,
+}
+
+impl<'a> Source<'a> {
+    /// With recovery items are written as soon as the reader shows that they have ended.
+    pub(crate) fn new(alloc: Global, options: ReadOptions<'a>) -> Source<'a>
+        ensures options { result.options ≡ options.entry }
+        ensures begins { Begins result }
+    {
+        let min_chunk = if options.recover { 1 } else { CHUNK };
+        Source {
+            options,
+            parts: ItemReader::new(alloc, min_chunk),
+        }
+    }
+
+    /// Each part is one segment.
+    pub(crate) fn by_segments(alloc: Global, options: ReadOptions<'a>) -> Source<'a>
+        ensures options { result.options ≡ options.entry }
+        ensures begins { Begins result }
+    {
+        Source {
+            options,
+            parts: ItemReader::by_segments(alloc, 1),
+        }
+    }
+}
+
+// Writes the output of the next part, and reports its refusal, if it is refused. Returns whether it is refused, or none at the end of the
+// stream.
+fn write_next<T: StreamItem + Drop, S: PartSink<T>, R: BufRead, W: Write, E: Write>(
+    alloc: Global,
+    source: &mut Source<'_>,
+    sink: &mut S,
+    reader: &mut R,
+    out: &mut Watched<W>,
+    err: &mut Watched<E>,
+) -> Result<Option<bool>, Stop>
+    requires none { S.holds sink.old sink.old [] }
+    requires had { (start : Option (List ℕ)) × (ps : List (List Line)) × HasParts T.item_type start (R.remaining reader.old) ps source.old.parts }
+    ensures options { source.new.options ≡ source.old.options }
+    ensures part { IfOk result (λ more. IfSome more (λ refused. (start : Option (List ℕ)) (ps : List (List Line)) → HasParts T.item_type start (R.remaining reader.old) ps source.old.parts
+        → WritesPart T.item_type (Some source.old.options.name.now) start (R.remaining reader.new) ps (S.wrote source.old.options.name.now sink.old (W.contents (watched_inner out.old)) sink.new (W.contents (watched_inner out.new))) (stream E.contents err.old err.new) refused source.new.parts)) }
+    ensures none { IfOk result (λ more. S.holds sink.new sink.new []) }
+    ensures ended { IfOk result (λ more. IfNone more ((start : Option (List ℕ)) (ps : List (List Line)) → HasParts T.item_type start (R.remaining reader.old) ps source.old.parts
+        → HasAll T.item_type start (R.remaining reader.new) ps)) }
+    ensures quiet { IfOk result (λ more. IfNone more ((out.new ≡ out.old) × (err.new ≡ err.old) × (sink.new ≡ sink.old))) }
+    ensures stays { has_failed err.old ≡ true → has_failed err.new ≡ true }
+    ensures stopped { IfErr result (λ stop. err.new ≡ err.old) }
+    ensures unwritten { IfErr result (λ stop. UnlessOutput stop (has_failed out.new) (out.new ≡ out.old)) }
+    ensures input { IfErr result (λ stop. IfInput stop (λ e. kind_of e ≡ ParseErrorKind.Io)) }
+{
+    let name = source.options.name;
+    match source
+        .parts
+        .read_part::<T, R, S>(alloc, reader, Some(name), sink)
+    {
+        Ok(true) => {
+            let line = source.parts.line();
+            sink.write_part(alloc, Place { name, line }, None, out)?;
+            Ok(Some(false))
+        }
+        Ok(false) => Ok(None),
+        Err(error) if error.kind() == ParseErrorKind::Parse => {
+            let shown = line_of_error(alloc, &error)?;
+            let line = source.parts.line();
+            sink.write_part(alloc, Place { name, line }, Some(&error), out)?;
+            report_line(&shown, err);
+            Ok(Some(true))
+        }
+        Err(error) => Err(Stop::from(error)),
+    }
+}
+
+/// Writes the output of the parts of the stream, in order, and reports each refusal. Returns whether a part was refused.
+pub(crate) fn write_parts<T: StreamItem + Drop, S: PartSink<T>, R: BufRead, W: Write, E: Write>(
+    alloc: Global,
+    mut source: Source<'_>,
+    sink: &mut S,
+    reader: &mut R,
+    out: &mut Watched<W>,
+    err: &mut Watched<E>,
+) -> Result<bool, Stop>
+    requires none { S.holds sink.old sink.old [] }
+    requires begins { Begins source }
+    ensures written { IfOk result (λ refused. WritesParts T.item_type source.entry.options.name.now source.entry.options.recover (R.remaining reader.old) (R.remaining reader.new)
+        (WroteEach (S.wrote source.entry.options.name.now) sink.old (W.contents (watched_inner out.old)) sink.new (W.contents (watched_inner out.new))) (stream E.contents err.old err.new) refused) }
+    ensures stopped { IfErr result (λ stop. StopsAfter T.item_type source.entry.options.name.now source.entry.options.recover (R.remaining reader.old)
+        (λ os. (s : S) × WroteEach (S.wrote source.entry.options.name.now) sink.old (W.contents (watched_inner out.old)) s (W.contents (watched_inner out.new)) os) (has_failed out.new) (stream E.contents err.old err.new) stop) }
+    ensures input { IfErr result (λ stop. IfInput stop (λ e. kind_of e ≡ ParseErrorKind.Io)) }
+    ensures stays { has_failed err.old ≡ true → has_failed err.new ≡ true }
+{
+    let mut any = false;
+    for _turn in 0..u64::MAX {
+        match write_next::<T, S, R, W, E>(alloc, &mut source, sink, reader, out, err) {
+            Ok(Some(refused)) => {
+                if refused && !source.options.recover {
+                    return Ok(true);
+                }
+                any = any || refused;
+            }
+            Ok(None) => return Ok(any),
+            Err(stop) => return Err(stop),
+        }
+    }
+    let fault = io::Error::from(ErrorKind::Other);
+    Err(Stop::Input(ParseError::from(fault)))
+}

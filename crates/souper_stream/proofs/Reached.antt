@@ -1,0 +1,190 @@
+-- A stream that is read to its end, or up to its first refusal.
+use Rattle.std.proofs.Common.{◌≡◌, ◌⊎◌, inl, inr, ℕ, Bool, true, false, List, [], ◌∷◌, ◌++◌, length, Option, refl, sym, ap, ◌∙◌, subst, arith, append_assoc, append-nil, length-append}
+use Rattle.std.specs.Prelude.{map}
+use Rattle.std.specs.List.{AllByRecursion}
+use Rattle.std.specs.Io.KnownBytes.{Consumes}
+use Rattle.souper_graph.specs.Values.{Item}
+use Rattle.souper_graph.specs.WellFormed.{WellFormed}
+use Rattle.souper_graph.specs.Syntax.Spelling.{ItemType, TextSpells, SpellsNone}
+use Rattle.souper_ir.specs.declared.parse.error.ParseError.{ParseError}
+use Rattle.souper_ir.specs.Joining.{IsLines}
+use Rattle.souper_ir.specs.Sinks.{TakesOver, PrefixSpells}
+use Rattle.souper_stream.specs.declared.reader.ItemReader.{ItemReader}
+use Rattle.souper_stream.specs.Segments.{Line, concat, AreLines, EndsItem, AreCut, all_lines, PartsSpell}
+use Rattle.souper_stream.specs.Buffering.{unparsed}
+use Rattle.souper_stream.specs.Reading.{IsStreamTaken, IsStreamRefused}
+use Rattle.souper_stream.specs.Parts.{and_next, HasParts, HasAll, TakesPart, RefusesPart}
+use Rattle.souper_stream.proofs.LineLists.{concat-append, all_are_lines, lines_front, lines_of}
+use Rattle.souper_stream.proofs.Texts.{none_spelled, prefix_after, prefix_longer}
+use Rattle.souper_stream.proofs.Scanning.{ends_some}
+use Rattle.souper_stream.proofs.SegmentLaws.{spells_by_parts}
+use Rattle.souper_stream.proofs.Buffers.{parts_read}
+use Rattle.souper_stream.proofs.Passing.{all_lines_snoc, done_more}
+
+-- ---- items that are passed on
+
+-- the first items were passed to the sink
+pub record Passed {T S : Type 0} (view : T → Item) (holds : S → S → List Item → Type 0) (all rest : List T) (first now : S) : Type 0 where
+  pub done : List T
+  pub whole : all ≡ done ++ rest
+  pub taken : TakesOver holds (map view done) first now
+
+pub passed_none : {T S : Type 0} (view : T → Item) (holds : S → S → List Item → Type 0) (all : List T) (s : S) → Passed view holds all all s s
+passed_none view holds all s = record { done = []; whole = refl; taken = λ first before h. subst (λ (xs : List Item). holds first s xs) (sym (append-nil before)) h }
+
+map_append : {T : Type 0} (view : T → Item) (xs ys : List T) → map view (xs ++ ys) ≡ map view xs ++ map view ys
+map_append view [] ys = refl
+map_append view (x ∷ xs) ys = ap (λ (l : List Item). view x ∷ l) (map_append view xs ys)
+
+pub passed_more : {T S : Type 0} (view : T → Item) (holds : S → S → List Item → Type 0) (all rest next : List T) (item : T) (first old new : S) → Passed view holds all rest first old → rest ≡ item ∷ next
+    → ((s : S) (items : List Item) → holds s old items → holds s new (items ++ view item ∷ [])) → Passed view holds all next first new
+passed_more view holds all rest next item first old new p e take = record {
+  done = p.done ++ item ∷ [];
+  whole = p.whole ∙ ap (λ (x : List _). p.done ++ x) e ∙ sym (append_assoc p.done (item ∷ []) next);
+  taken = λ s before h.
+      subst (λ (xs : List Item). holds s new xs) (append_assoc before (map view p.done) (view item ∷ []) ∙ ap (λ (x : List Item). before ++ x) (sym (map_append view p.done (item ∷ []))))
+      (take s (before ++ map view p.done) (p.taken s before h));
+}
+
+pub passed_all : {T S : Type 0} (view : T → Item) (holds : S → S → List Item → Type 0) (all rest : List T) (first now : S) → Passed view holds all rest first now → rest ≡ [] → TakesOver holds (map view all) first now
+passed_all view holds all rest first now p e = subst (λ (xs : List _). TakesOver holds (map view xs) first now) (sym (p.whole ∙ ap (λ (x : List _). p.done ++ x) e ∙ append-nil p.done)) p.taken
+
+well_in : (xs ys : List Item) (a : Item) → AllByRecursion WellFormed (xs ++ a ∷ ys) → WellFormed a
+well_in [] ys a h = h.0
+well_in (x ∷ xs) ys a h = well_in xs ys a h.1
+
+pub next_well : {T S : Type 0} (view : T → Item) (holds : S → S → List Item → Type 0) (all rest next : List T) (item : T) (first now : S) → AllByRecursion WellFormed (map view all) → Passed view holds all rest first now → rest ≡ item ∷ next → WellFormed (view item)
+next_well view holds all rest next item first now h p e =
+    well_in (map view p.done) (map view next) (view item) (subst (λ (xs : List Item). AllByRecursion WellFormed xs) (ap (map view) (p.whole ∙ ap (λ (x : List _). p.done ++ x) e) ∙ map_append view p.done (item ∷ next)) h)
+
+-- ---- parts that are read one after another
+
+parts_spell_more : (k : ItemType) (ps : List (List Line)) (p : List Line) (xs ys : List Item) → PartsSpell k ps xs → TextSpells k (concat p) ys → PartsSpell k (ps ++ p ∷ []) (xs ++ ys)
+parts_spell_more k [] p xs ys h t = (ys, [], ap (λ (l : List Item). l ++ ys) h ∙ sym (append-nil ys), t, refl)
+parts_spell_more k (q ∷ ps) p xs ys h t = (h.0, h.1 ++ ys, ap (λ (l : List Item). l ++ ys) h.2 ∙ append_assoc h.0 h.1 ys, h.3, parts_spell_more k ps p h.1 ys h.4 t)
+
+-- these parts were read, and the sink took their items
+pub record Reached {S : Type 0} (k : ItemType) (before mid : Option (List ℕ)) (holds : S → S → List Item → Type 0) (first now : S) (r : ItemReader) : Type 0 where
+  pub parts : List (List Line)
+  pub items : List Item
+  pub had : HasParts k before mid parts r
+  pub spelled : PartsSpell k parts items
+  pub over : TakesOver holds items first now
+
+over_both : {S : Type 0} (holds : S → S → List Item → Type 0) (xs ys : List Item) (a b c : S) → TakesOver holds xs a b → TakesOver holds ys b c → TakesOver holds (xs ++ ys) a c
+over_both holds xs ys a b c f g first items h = subst (λ (y : List Item). holds first c y) (append_assoc items xs ys) (g first (items ++ xs) (f first items h))
+
+pub reached_none : {S : Type 0} (k : ItemType) (before : Option (List ℕ)) (holds : S → S → List Item → Type 0) (s : S) (r : ItemReader) → HasParts k before before [] r → Reached k before before holds s s r
+reached_none k before holds s r h = record { parts = []; items = []; had = h; spelled = refl; over = λ first items x. subst (λ (y : List Item). holds first s y) (sym (append-nil items)) x }
+
+-- the items of a part were collected, and passed on
+pub reached_more : {S V : Type 0} (k : ItemType) (before mid after : Option (List ℕ)) (holds : S → S → List Item → Type 0) (keeps : V → V → List Item → Type 0) (first old new : S) (empty full : V) (p q : ItemReader) (taken : List Item)
+    (r : Reached k before mid holds first old p) (t : TakesPart k before after r.parts keeps empty full q) → (keeps empty full t.items → taken ≡ t.items) → keeps empty empty [] → TakesOver holds taken old new → Reached k before after holds first new q
+reached_more k before mid after holds keeps first old new empty full p q taken r t are none over = record {
+  parts = r.parts ++ t.part ∷ [];
+  items = r.items ++ t.items;
+  had = t.goes_on;
+  spelled = parts_spell_more k r.parts t.part r.items t.items r.spelled t.spelled;
+  over = over_both holds r.items t.items first old new r.over (subst (λ (x : List Item). TakesOver holds x old new) (are (t.taken empty none)) over);
+}
+
+pub reached_end : {S : Type 0} (k : ItemType) (before mid after : Option (List ℕ)) (holds : S → S → List Item → Type 0) (first old : S) (p : ItemReader) (r : Reached k before mid holds first old p) → HasAll k before after r.parts → IsStreamTaken k before after holds first old
+reached_end k before mid after holds first old p r a = record {
+  read = a.0;
+  consumed = a.1;
+  all_read = a.2;
+  taken = (r.items, (spells_by_parts k a.0 r.parts r.items a.3).1 r.spelled, r.over);
+}
+
+-- ---- what a stream begins with
+
+ends_not_none : (k : ItemType) (y : List Line) → EndsItem k y → y ≡ [] → ⊥
+ends_not_none k y en e = ends_some k (subst (λ (z : List Line). EndsItem k z) e en)
+
+cut_front : (k : ItemType) (qs : List (List Line)) (x : List Line) (xs : List (List Line)) → AreCut k (qs ++ x ∷ xs) → AreCut k qs
+cut_front k [] x xs c = tt
+cut_front k (q ∷ []) x xs c = ends_not_none k q c.0
+cut_front k (q ∷ (s ∷ qs)) x xs c = (c.0, c.1, cut_front k (s ∷ qs) x xs c.2)
+
+-- parts before others are whole lines that spell their items
+parts_spell : (k : ItemType) (ps : List (List Line)) (more : List Line) (items : List Item) → (more ≡ [] → ⊥) → AreLines (all_lines ps ++ more) → AreCut k ps → PartsSpell k ps items → IsLines (concat (all_lines ps)) × TextSpells k (concat (all_lines ps)) items
+parts_spell k ps more items some lines cut spelled =
+    let whole = lines_front (all_lines ps) more some lines in
+    (lines_of (all_lines ps) whole, (spells_by_parts k (concat (all_lines ps)) ps items (record { whole = refl; lines = all_are_lines (all_lines ps) whole; cut = cut })).1 spelled)
+
+pub prefix_of : (k : ItemType) (text : List ℕ) (items : List Item) → TextSpells k text items → PrefixSpells k text items
+prefix_of k text items t = (t.0, t.1.0, t.1.1, t.2)
+
+-- a stream begins with the parts that were read of it, and with their items, if they spell any
+pub parts_begin : (k : ItemType) (start now : Option (List ℕ)) (ps : List (List Line)) (r : ItemReader) → HasParts k start now ps r → (read : List ℕ) × (rest : List ℕ) × Consumes start now read × (read ≡ concat (all_lines ps) ++ rest) × ((items : List Item) → PartsSpell k ps items → PrefixSpells k read items)
+parts_begin k start now ps r (ls, h) =
+    (h.read ++ h.lost, unparsed r.buffer ++ h.lost, h.consumed, ap (λ (x : List ℕ). x ++ h.lost) read_parts ∙ append_assoc done (unparsed r.buffer) h.lost, λ items spelled. with_lost items r.ended refl (under items spelled ls h.rest h.lines h.cut))
+  where
+    done : List ℕ
+    done = concat (all_lines ps)
+
+    read_parts : h.read ≡ done ++ unparsed r.buffer
+    read_parts = parts_read h.read done r.buffer h.buffers
+
+    with_lost : (items : List Item) (b : Bool) → r.ended ≡ b → PrefixSpells k h.read items → PrefixSpells k (h.read ++ h.lost) items
+    with_lost items true e p = subst (λ (x : List ℕ). PrefixSpells k x items) (sym (ap (λ (x : List ℕ). h.read ++ x) (h.none_lost (h.not_failed e)) ∙ append-nil h.read)) p
+    with_lost items false e p =
+        let text = read_parts ∙ ap (λ (x : List ℕ). done ++ x) h.rest ∙ sym (concat-append (all_lines ps) ls) in
+        prefix_longer k h.read h.lost items (subst (λ (x : List ℕ). IsLines x) (sym text) (lines_of (all_lines ps ++ ls) (h.whole e))) p
+
+    read_is : (ls : List Line) → unparsed r.buffer ≡ concat ls → h.read ≡ done ++ concat ls
+    read_is ls e = read_parts ∙ ap (λ (x : List ℕ). done ++ x) e
+
+    under : (items : List Item) → PartsSpell k ps items → (ls : List Line) → unparsed r.buffer ≡ concat ls → AreLines (all_lines ps ++ ls) → AreCut k (and_next ps ls) → PrefixSpells k h.read items
+    under items spelled [] e lines cut =
+        let whole : h.read ≡ done = read_is [] e ∙ append-nil done in
+        prefix_of k h.read items ((spells_by_parts k h.read ps items (record { whole = whole; lines = subst (λ (x : List Line). AreLines x) (append-nil (all_lines ps)) lines; cut = cut })).1 spelled)
+    under items spelled (l ∷ ls) e lines cut =
+        let d = parts_spell k ps (l ∷ ls) items (λ x. cc) lines (cut_front k ps (l ∷ ls) [] cut) spelled in
+        subst (λ (x : List ℕ). PrefixSpells k x items) (sym (read_is (l ∷ ls) e)) (prefix_longer k done (concat (l ∷ ls)) items d.0 (prefix_of k done items d.1))
+
+-- a refused part has lines, since no lines spell no items
+refused_some : (k : ItemType) (p : List Line) → SpellsNone k (concat p) → p ≡ [] → ⊥
+refused_some k p none e = none [] (subst (λ (x : List Line). TextSpells k (concat x) []) (sym e) (none_spelled k))
+
+begun_longer : (k : ItemType) (part after : List ℕ) (items : List Item) → IsLines part ⊎ (after ≡ []) → PrefixSpells k part items → PrefixSpells k (part ++ after) items
+begun_longer k part after items (inl lines) h = prefix_longer k part after items lines h
+begun_longer k part after items (inr none) h = subst (λ (x : List ℕ). PrefixSpells k x items) (sym (ap (λ (x : List ℕ). part ++ x) none ∙ append-nil part)) h
+
+-- a text that is refused after parts that spell items begins with these, and with the ones that the refused part begins with
+pub refusal_begun : {S : Type 0} (k : ItemType) (file start now : Option (List ℕ)) (ps : List (List Line)) (holds : S → S → List Item → Type 0) (old new : S) (q : ItemReader) (e : ParseError) (t : RefusesPart k file start now ps holds old new q e) (items : List Item) → PartsSpell k ps items
+    → PrefixSpells k t.read (items ++ t.items)
+refusal_begun k file start now ps holds old new q e t items spelled =
+    let (ls, h) = t.goes_on in
+    let lines = subst (λ (x : List Line). AreLines x) (ap (λ (x : List Line). x ++ ls) (all_lines_snoc ps t.part) ∙ append_assoc (all_lines ps) t.part ls) h.lines in
+    let done = parts_spell k ps (t.part ++ ls) items (more t.part ls (refused_some k t.part t.none)) lines (cut_before ls h.cut) spelled in
+    let text : concat (all_lines (ps ++ t.part ∷ [])) ++ t.after ≡ concat (all_lines ps) ++ (concat t.part ++ t.after) =
+    ap (λ (x : List ℕ). x ++ t.after) (done_more ps t.part) ∙ append_assoc (concat (all_lines ps)) (concat t.part) t.after in
+    subst (λ (x : List ℕ). PrefixSpells k x (items ++ t.items)) (sym (t.whole ∙ text)) (prefix_after k (concat (all_lines ps)) (concat t.part ++ t.after) items t.items done.0 done.1 (begun_longer k (concat t.part) t.after t.items t.ends t.begun))
+  where
+    more : (p ls : List Line) → (p ≡ [] → ⊥) → p ++ ls ≡ [] → ⊥
+    more [] ls s e = s refl
+    more (x ∷ p) ls s e = cc
+
+    cut_before : (ls : List Line) → AreCut k (and_next (ps ++ t.part ∷ []) ls) → AreCut k ps
+    cut_before [] c = cut_front k ps t.part [] c
+    cut_before (l ∷ ls) c = cut_front k ps t.part ((l ∷ ls) ∷ []) (subst (λ (x : List (List Line)). AreCut k x) (append_assoc ps (t.part ∷ []) ((l ∷ ls) ∷ [])) c)
+
+-- the stream is refused
+pub reached_refusal : {S V : Type 0} (k : ItemType) (file : Option (List ℕ)) (before mid after : Option (List ℕ)) (holds : S → S → List Item → Type 0) (keeps : V → V → List Item → Type 0) (first old new : S) (empty full : V) (p q : ItemReader) (e : ParseError) (taken : List Item)
+    (r : Reached k before mid holds first old p) (t : RefusesPart k file before after r.parts keeps empty full q e) → (keeps empty full t.items → taken ≡ t.items) → keeps empty empty [] → TakesOver holds taken old new → IsStreamRefused k file before after holds first new e
+reached_refusal k file before mid after holds keeps first old new empty full p q e taken r t are none over = record {
+  read = t.read;
+  consumed = t.consumed;
+  taken = r.items ++ t.items;
+  over = over_both holds r.items t.items first old new r.over (subst (λ (x : List Item). TakesOver holds x old new) (are (t.taken empty none)) over);
+  begun = refusal_begun k file before after r.parts keeps empty full q e t r.items r.spelled;
+  never = t.never;
+  placed = λ small.
+      let at = t.placed small in
+      let whole = ap length t.whole ∙ length-append (concat (all_lines (r.parts ++ t.part ∷ []))) t.after in
+      let part = ap length (done_more r.parts t.part) ∙ length-append (concat (all_lines r.parts)) (concat t.part) in
+      let both = length-append (concat (all_lines r.parts)) (concat t.part) in
+      let within = at.2 in
+      (at.0, omega arith, at.3);
+}

@@ -1,0 +1,66 @@
+-- A text spells the items that its parts spell.
+use Rattle.std.proofs.Common.{◌≡◌, ℕ, true, List, [], ◌∷◌, ◌++◌, refl, sym, ap, ◌∙◌, subst, append-nil}
+use Rattle.souper_graph.specs.Values.{Item}
+use Rattle.souper_graph.specs.Syntax.Tokens.{Lexeme, IsTextOf}
+use Rattle.souper_graph.specs.Syntax.Spelling.{kinds, ItemType, TextSpells, SpellsNone}
+use Rattle.souper_ir.proofs.Items.Lists.{text_alone}
+use Rattle.souper_ir.proofs.Items.Joining.{items_join}
+use Rattle.souper_stream.specs.Lines.{starts_line, LastEnds}
+use Rattle.souper_stream.specs.Segments.{Line, concat, AreLines, tokens_of, tokens_of_lines, EndsItem, Starts, AreCut, all_lines, AreParts, PartsSpell, SpellsByParts}
+use Rattle.souper_stream.proofs.Parting.{starts_longer, part_by}
+use Rattle.souper_stream.proofs.Texts.{none_spelled}
+use Rattle.souper_stream.proofs.LineLists.{concat-append, all_are_lines, lines_back, lines_front, lines_of, kinds_of_lines}
+
+pub starts_some : (q more : List Line) → Starts q → q ++ more ≡ [] → ⊥
+starts_some [] more s e = s
+starts_some (l ∷ q) more s e = cc
+
+pub lines_start : (q more : List Line) → Starts q → starts_line (tokens_of_lines (q ++ more)) ≡ true
+lines_start [] more s = absurd s
+lines_start (l ∷ q) more s = starts_longer (tokens_of l) (tokens_of_lines (q ++ more)) s
+
+part_starts : (q more : List Line) (ts : List (ℕ × Lexeme)) → AreLines (q ++ more) → Starts q → IsTextOf (concat (q ++ more)) ts → starts_line (kinds ts) ≡ true
+part_starts q more ts lines s h = subst (λ (x : List Lexeme). starts_line x ≡ true) (sym (kinds_of_lines (q ++ more) ts lines h)) (lines_start q more s)
+
+part_ends : (k : ItemType) (p : List Line) (ts : List (ℕ × Lexeme)) → AreLines p → EndsItem k p → IsTextOf (concat p) ts → LastEnds k (kinds ts)
+part_ends k p ts lines ends h = subst (λ (x : List Lexeme). LastEnds k x) (sym (kinds_of_lines p ts lines h)) ends
+
+two_parts : (k : ItemType) (p q : List Line) (ps : List (List Line)) → concat (all_lines (p ∷ (q ∷ ps))) ≡ concat p ++ concat (all_lines (q ∷ ps))
+two_parts k p q ps = concat-append p (all_lines (q ∷ ps))
+
+whole_parts : (k : ItemType) (ps : List (List Line)) (ws : List Item) → AreLines (all_lines ps) → AreCut k ps → TextSpells k (concat (all_lines ps)) ws → PartsSpell k ps ws
+whole_parts k [] ws lines cut h = text_alone k [] ws [] h (none_spelled k)
+whole_parts k (p ∷ []) ws lines cut h = (ws, [], sym (append-nil ws), subst (λ (x : List Line). TextSpells k (concat x) ws) (append-nil p) h, refl)
+whole_parts k (p ∷ (q ∷ ps)) ws lines cut h =
+    let more = all_lines ps in
+    let p_lines = lines_front p (q ++ more) (starts_some q more cut.1) lines in
+    let text = subst (λ (x : List ℕ). TextSpells k x ws) (two_parts k p q ps) h in
+    let rest_lines = lines_back p (q ++ more) lines in
+    let r = part_by k (concat p) (concat (q ++ more)) ws (lines_of p p_lines) (λ ts v. part_ends k p ts (all_are_lines p p_lines) cut.0 v) (λ vs u. part_starts q more vs rest_lines cut.1 u) text in
+    (r.0, r.1, r.2, r.3, whole_parts k (q ∷ ps) r.1 rest_lines cut.2 r.4)
+
+parts_whole : (k : ItemType) (ps : List (List Line)) (ws : List Item) → AreLines (all_lines ps) → AreCut k ps → PartsSpell k ps ws → TextSpells k (concat (all_lines ps)) ws
+parts_whole k [] ws lines cut h = subst (λ (x : List Item). TextSpells k [] x) (sym h) (none_spelled k)
+parts_whole k (p ∷ []) ws lines cut h =
+    let same : ws ≡ h.0 = h.2 ∙ ap (λ (x : List Item). h.0 ++ x) h.4 ∙ append-nil h.0 in
+    subst (λ (x : List Item). TextSpells k (concat (p ++ [])) x) (sym same) (subst (λ (x : List Line). TextSpells k (concat x) h.0) (sym (append-nil p)) h.3)
+parts_whole k (p ∷ (q ∷ ps)) ws lines cut h =
+    let more = all_lines ps in
+    let p_lines = lines_front p (q ++ more) (starts_some q more cut.1) lines in
+    let rest = parts_whole k (q ∷ ps) h.1 (lines_back p (q ++ more) lines) cut.2 h.4 in
+    subst (λ (x : List Item). TextSpells k (concat (all_lines (p ∷ (q ∷ ps)))) x) (sym h.2)
+    (subst (λ (x : List ℕ). TextSpells k x (h.0 ++ h.1)) (sym (two_parts k p q ps)) (items_join k (concat p) (concat (q ++ more)) h.0 h.1 (lines_of p p_lines) h.3 rest))
+
+pub spells_by_parts : SpellsByParts
+spells_by_parts k text ps ws a = (
+  λ h. whole_parts k ps ws a.lines a.cut (subst (λ (x : List ℕ). TextSpells k x ws) a.whole h),
+  λ h. subst (λ (x : List ℕ). TextSpells k x ws) (sym a.whole) (parts_whole k ps ws a.lines a.cut h),
+)
+
+-- if a part spells no items, the text does not
+some_spells_none : (k : ItemType) (ps qs : List (List Line)) (p : List Line) (ws : List Item) → PartsSpell k (ps ++ p ∷ qs) ws → SpellsNone k (concat p) → ⊥
+some_spells_none k [] qs p ws h none = none h.0 h.3
+some_spells_none k (r ∷ ps) qs p ws h none = some_spells_none k ps qs p h.1 h.4 none
+
+pub none_with : (k : ItemType) (text : List ℕ) (ps qs : List (List Line)) (p : List Line) → AreParts k text (ps ++ p ∷ qs) → SpellsNone k (concat p) → SpellsNone k text
+none_with k text ps qs p a none ws h = some_spells_none k ps qs p ws ((spells_by_parts k text (ps ++ p ∷ qs) ws a).0 h) none

@@ -1,0 +1,57 @@
+-- Definitions. The buffer of a stream, and its relation to the bytes read and to the parsed text (`done`).
+use Rattle.std.specs.Prelude.{◌≡◌, ◌⊎◌, ℕ, ◌+◌, ◌-◌, ◌^◌, ◌<◌, ◌≤◌, List, [], ◌++◌, length, min, take, drop}
+use Rattle.souper_graph.specs.Syntax.Tokens.{IsOneLine}
+use Rattle.souper_ir.specs.Errors.{IsBefore}
+use Rattle.souper_ir.specs.Places.{newlines}
+use Rattle.souper_ir.specs.Joining.{IsLines}
+use Rattle.souper_stream.specs.declared.buffer.Buffer.{Buffer}
+
+-- the last parsed line, if there is one, and the bytes after it
+abbrev pub held : Buffer → List ℕ
+held b = drop b.start b.bytes.items
+
+-- the bytes that are not parsed
+abbrev pub unparsed : Buffer → List ℕ
+unparsed b = drop b.parsed (held b)
+
+-- Of the bytes read, whole lines were counted, and the rest is held, which begins with the end of the parsed text.
+pub record Buffers (read done : List ℕ) (b : Buffer) : Type 0 where
+  pub gone : List ℕ
+  pub whole : read ≡ gone ++ held b
+  pub lines : IsLines gone
+  pub counted : length gone + 1 < 2 ^ 64 → IsBefore b.before gone
+  pub bound : b.start ≤ length b.bytes.items
+  pub within : b.parsed ≤ length (held b)
+  pub done_is : done ≡ gone ++ take b.parsed (held b)
+  pub placed : (0 < b.parsed) ⊎ (gone ≡ [])
+
+-- of the parsed text one line is held, if there is any
+abbrev pub KeepsOneLine : Buffer → Type 0
+KeepsOneLine b = IsOneLine (take (b.parsed - 1) (held b))
+
+-- nothing was read
+pub record IsEmpty (b : Buffer) : Type 0 where
+  pub bytes_are : b.bytes.items ≡ []
+  pub start_is : b.start ≡ 0
+  pub parsed_is : b.parsed ≡ 0
+  pub bytes_before : b.before.bytes ≡ 0
+  pub lines_before : b.before.lines ≡ 0
+
+-- `len` bytes more are parsed, and of the parsed text the last line is held
+pub record Passes (old : Buffer) (len : ℕ) (new : Buffer) : Type 0 where
+  pub line : ℕ
+  pub within : line < old.parsed + len
+  pub lines : IsLines (take line (held old))
+  pub bytes_are : new.bytes.items ≡ old.bytes.items
+  pub start_is : new.start ≡ old.start + line
+  pub parsed_is : new.parsed + line ≡ old.parsed + len
+  pub one_line : KeepsOneLine new
+  pub bytes_before : new.before.bytes ≡ min (old.before.bytes + line) (2 ^ 64 - 1)
+  pub lines_before : new.before.lines ≡ min (old.before.lines + newlines (take line (held old))) (2 ^ 64 - 1)
+
+-- what is held is all that is left
+pub record Drains (old new : Buffer) : Type 0 where
+  pub bytes_are : new.bytes.items ≡ held old
+  pub start_is : new.start ≡ 0
+  pub parsed_is : new.parsed ≡ old.parsed
+  pub before_is : new.before ≡ old.before

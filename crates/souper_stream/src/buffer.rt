@@ -1,0 +1,106 @@
+//! The buffer of a stream.
+ghost use Rattle.std.specs.Prelude.{◌≡◌, ◌+◌, ◌<◌, ◌≤◌, length, take, vec_len, OnOk};
+ghost use Rattle.souper_ir.specs.Places.{newlines};
+ghost use Rattle.souper_stream.specs.Buffering.{held, unparsed, IsEmpty, Passes, Drains};
+
+use crate::lines::last_line_start;
+use souper_ir::parse::Before;
+use std::alloc::{AllocError, Global};
+
+/// The buffer of a stream.
+#[derive(Drop)]
+pub(crate) struct Buffer {
+    /// Lines that are not needed any more, then the last parsed line, if there is one, and the bytes that were read after it.
+    pub(crate) bytes: Vec<u8>,
+
+    /// The offset of the last parsed line.
+    pub(crate) start: usize,
+
+    /// The number of parsed bytes from there on.
+    pub(crate) parsed: usize,
+
+    /// The numbers of bytes and lines before that line.
+    pub(crate) before: Before,
+}
+
+// The newlines of at most 255 bytes, counted in one byte.
+fn newlines_of_chunk(bytes: &[u8]) -> u8
+    requires { length bytes.now ≤ 255 }
+    ensures { result ≡ newlines bytes.now }
+{
+    let mut count = 0;
+    for byte in bytes {
+        if *byte == b'\n' {
+            count += 1;
+        }
+    }
+    count
+}
+
+// Chunk size in bytes: 7 times the 32 bytes that the compiled loop takes in one turn.
+const CHUNK: usize = 224;
+
+/// The newlines of the bytes. A counter of one byte lets the compiler compare and count 16 bytes at once.
+pub(crate) fn newline_count(bytes: &[u8]) -> usize
+    ensures { result ≡ newlines bytes.now }
+{
+    let mut count = 0;
+    for chunk in bytes.chunks(CHUNK) {
+        count += usize::from(newlines_of_chunk(chunk));
+    }
+    count
+}
+
+impl Buffer {
+    pub(crate) fn new(alloc: Global) -> Buffer
+        ensures { IsEmpty result }
+    {
+        Buffer {
+            bytes: Vec::new(alloc),
+            start: 0,
+            parsed: 0,
+            before: Before { bytes: 0, lines: 0 },
+        }
+    }
+
+    /// The bytes from the last parsed line on, up to the first `len` that are not parsed.
+    pub(crate) fn held(&self, len: usize) -> &[u8]
+        requires { self.now.start + self.now.parsed + len ≤ vec_len self.now.bytes }
+        ensures { result.now ≡ take (self.now.parsed + len) (held self.now) }
+    {
+        &self.bytes[self.start..self.start + self.parsed + len]
+    }
+
+    /// The bytes that are not parsed.
+    pub(crate) fn unparsed(&self) -> &[u8]
+        requires { self.now.start + self.now.parsed ≤ vec_len self.now.bytes }
+        ensures { result.now ≡ unparsed self.now }
+    {
+        &self.bytes[self.start + self.parsed..]
+    }
+
+    /// `len` bytes more are parsed. Of all parsed lines the last is still needed, for the locations of errors.
+    pub(crate) fn pass(&mut self, len: usize)
+        requires some { 0 < len }
+        requires within { self.old.start + self.old.parsed + len ≤ vec_len self.old.bytes }
+        ensures { Passes self.old len self.new }
+    {
+        let lines = self.held(len);
+        let line = last_line_start(lines);
+        let count = newline_count(&lines[..line]);
+        self.before.bytes = self.before.bytes.saturating_add(line);
+        self.before.lines = self.before.lines.saturating_add(count);
+        self.start += line;
+        self.parsed = self.parsed + len - line;
+    }
+
+    /// Drops the lines that are not needed any more.
+    pub(crate) fn drain(&mut self, alloc: Global) -> Result<(), AllocError>
+        requires { self.old.start ≤ vec_len self.old.bytes }
+        ensures { OnOk result (Drains self.old self.new) }
+    {
+        self.bytes = self.bytes[self.start..].to_vec(alloc)?;
+        self.start = 0;
+        Ok(())
+    }
+}

@@ -1,0 +1,405 @@
+//! The reader of a stream: chunks of whole segments, and the segments of a chunk that spells no items.
+ghost use Rattle.std.specs.Prelude.{◌≡◌, ◌+◌, ◌<◌, ◌≤◌, ℕ, List, [], length, take, true, false, Option, is_some, IfOk, IfErr, IfSome, IfNone, OnOk, vec_len, option_copied, IsUtf8};
+ghost use Rattle.souper_graph.specs.Syntax.Spelling.{ItemType};
+ghost use Rattle.souper_graph.specs.Values.{Item};
+ghost use Rattle.souper_ir.specs.Errors.{kind_of, offset_of, IsLocatedAfter};
+ghost use Rattle.souper_ir.specs.Sinks.{TakesOver, TakesText};
+ghost use Rattle.souper_stream.specs.Buffering.{held, unparsed};
+ghost use Rattle.souper_stream.specs.Segments.{Line};
+ghost use Rattle.souper_stream.specs.Reading.{Reads, ReadsMore, ReadsLine, ReadsLines, EndsInLine};
+ghost use Rattle.souper_stream.specs.Parts.{Advances, LeavesChunk, Rejects, HasParts, HasAll, HasLine, line_of, IsNext, TakesPart, RefusesPart};
+
+use crate::buffer::{Buffer, newline_count};
+use crate::cuts::{last_cut, segment_len};
+use crate::item::StreamItem;
+use crate::lines::{first_offset, lines_len};
+use crate::sink::ChunkSink;
+use souper_ir::parse::{Memory, ParseError, ParseErrorKind, Result, Sink, parse_with_memory};
+use std::alloc::{AllocError, Global};
+use std::io::{BufRead, ErrorKind};
+use std::{io, str};
+
+// The most bytes that are taken at once of what a reader has buffered.
+const BLOCK: usize = 65536;
+
+// Takes bytes of what the reader has buffered, and returns whether the input has ended.
+fn read_block<R: BufRead>(reader: &mut R, bytes: &mut Vec<u8>) -> io::Result<bool>
+    ensures read { IfOk result (λ ended. (more : List ℕ) × ReadsMore (R.remaining reader.old) (R.remaining reader.new) bytes.old.items bytes.new.items ended more) }
+    ensures failed { IfErr result (λ e. (more : List ℕ) × Reads (R.remaining reader.old) (R.remaining reader.new) bytes.old.items bytes.new.items more) }
+{
+    let shown = match reader.fill_buf() {
+        Ok(shown) => shown,
+        Err(fault) if fault.kind() == ErrorKind::Interrupted => return Ok(false),
+        Err(fault) => return Err(fault),
+    };
+    let has_ended = shown.is_empty();
+    let len = shown.len().min(BLOCK);
+    bytes.extend_from_slice(&shown[..len])?;
+    reader.consume(len);
+    Ok(has_ended)
+}
+
+// Reads until `goal` bytes are buffered, or until the input has ended. Returns whether it has ended.
+fn fill_blocks<R: BufRead>(reader: &mut R, bytes: &mut Vec<u8>, goal: usize) -> io::Result<bool>
+    ensures read { IfOk result (λ ended. (more : List ℕ) × ReadsMore (R.remaining reader.old) (R.remaining reader.new) bytes.old.items bytes.new.items ended more) }
+    ensures failed { IfErr result (λ e. (more : List ℕ) × Reads (R.remaining reader.old) (R.remaining reader.new) bytes.old.items bytes.new.items more) }
+{
+    for _turn in 0..u64::MAX {
+        if bytes.len() >= goal {
+            return Ok(false);
+        }
+        if read_block(reader, bytes)? {
+            return Ok(true);
+        }
+    }
+    Err(io::Error::from(ErrorKind::Other))
+}
+
+// Reads a line, and returns whether the input has ended: it is then empty, or has no newline.
+fn read_line<R: BufRead>(reader: &mut R, bytes: &mut Vec<u8>) -> io::Result<bool>
+    ensures read { IfOk result (λ ended. (line : Line) × ReadsLine (R.remaining reader.old) (R.remaining reader.new) bytes.old.items bytes.new.items ended line) }
+    ensures failed { IfErr result (λ e. (more : List ℕ) × Reads (R.remaining reader.old) (R.remaining reader.new) bytes.old.items bytes.new.items more) }
+{
+    let len = reader.read_until(b'\n', bytes)?;
+    Ok(len == 0 || bytes[bytes.len() - 1] != b'\n')
+}
+
+// Reads until `goal` bytes are buffered, and the line after them, or until the input has ended. Returns whether it has ended.
+fn fill_lines<R: BufRead>(reader: &mut R, bytes: &mut Vec<u8>, goal: usize) -> io::Result<bool>
+    ensures read { IfOk result (λ ended. (more : List ℕ) × ReadsMore (R.remaining reader.old) (R.remaining reader.new) bytes.old.items bytes.new.items ended more
+        × (ended ≡ false → EndsInLine more)) }
+    ensures failed { IfErr result (λ e. (more : List ℕ) × Reads (R.remaining reader.old) (R.remaining reader.new) bytes.old.items bytes.new.items more) }
+{
+    if fill_blocks(reader, bytes, goal)? {
+        return Ok(true);
+    }
+    read_line(reader, bytes)
+}
+
+// The same, but if a read fails, the whole lines that were read before it stay in the buffer, and no part of a line.
+fn fill<R: BufRead>(reader: &mut R, bytes: &mut Vec<u8>, goal: usize) -> io::Result<bool>
+    ensures read { IfOk result (λ ended. (more : List ℕ) × ReadsMore (R.remaining reader.old) (R.remaining reader.new) bytes.old.items bytes.new.items ended more
+        × (ended ≡ false → EndsInLine more)) }
+    ensures failed { IfErr result (λ e. ReadsLines (R.remaining reader.old) (R.remaining reader.new) bytes.old.items bytes.new.items) }
+{
+    let start = bytes.len();
+    match fill_lines(reader, bytes, goal) {
+        Ok(ended) => Ok(ended),
+        Err(fault) => {
+            let len = lines_len(&bytes[start..]);
+            bytes.truncate(start + len);
+            Err(fault)
+        }
+    }
+}
+
+// The error of a read.
+fn read_error(fault: io::Error) -> ParseError
+    ensures { kind_of result ≡ ParseErrorKind.Parse → ⊥ }
+{
+    if fault.kind() == ErrorKind::OutOfMemory {
+        ParseError::from(AllocError)
+    } else {
+        ParseError::from(fault)
+    }
+}
+
+fn utf8(bytes: &[u8]) -> io::Result<&str>
+    ensures same { IfOk result (λ text. text.now ≡ bytes.now) }
+    ensures utf8 { IfOk result (λ text. IsUtf8 text.now) }
+{
+    match str::from_utf8(bytes) {
+        Ok(text) => Ok(text),
+        Err(_) => Err(io::Error::from(ErrorKind::InvalidData)),
+    }
+}
+
+// Gives an error of the first `len` unparsed bytes its location in the stream.
+fn place(
+    alloc: Global,
+    buffer: &Buffer,
+    len: usize,
+    error: ParseError,
+    filename: Option<&str>,
+) -> ParseError
+    requires within { buffer.now.start + buffer.now.parsed + len ≤ vec_len buffer.now.bytes }
+    requires offset { IfSome (offset_of error) (λ offset. offset ≤ len) }
+    ensures { kind_of result ≡ ParseErrorKind.Parse → IsLocatedAfter (option_copied filename.entry) buffer.now.before (take (buffer.now.parsed + len) (held buffer.now)) buffer.now.parsed error result }
+{
+    match str::from_utf8(buffer.held(len)) {
+        Ok(source) => error.locate_after(alloc, buffer.before, source, buffer.parsed, filename),
+        Err(_) => ParseError::from(io::Error::from(ErrorKind::InvalidData)),
+    }
+}
+
+// The 1-based line of the first token of the text, with which the unparsed bytes begin.
+fn first_line(buffer: &Buffer, text: &str) -> usize
+    requires { buffer.now.start + buffer.now.parsed ≤ vec_len buffer.now.bytes }
+    ensures { text.now ≡ take (length text.now) (unparsed buffer.now) → HasLine buffer.now (length text.now) result }
+{
+    let gap = &text.as_bytes()[..first_offset(text)];
+    let lines = newline_count(buffer.held(0)).saturating_add(newline_count(gap));
+    buffer.before.lines.saturating_add(lines).saturating_add(1)
+}
+
+/// Reads a stream part by part.
+///
+/// A part is one segment or more. Segments are whole lines: the stream is cut before each line that begins with a statement (a name and
+/// `=` or `:`, `pc`, `blockpc`) or last line (`infer`, `result`, `cand`), if the last one to begin in the segment is a terminator, the
+/// line that an item of the type ends with. A lexical error hides the rest of its line.
+///
+/// Many segments are parsed at once, as a chunk. A chunk that spells no items is parsed again, segment by segment, so that only the items
+/// of its invalid segments are lost.
+#[derive(Drop)]
+pub struct ItemReader {
+    buffer: Buffer,
+
+    // Bytes to read before looking for a cut point.
+    min_chunk: usize,
+
+    // Buffer length at which to look for the next cut point.
+    goal: usize,
+
+    // Whether each chunk is read segment by segment.
+    by_segments: bool,
+
+    // Whether the input has ended.
+    ended: bool,
+
+    // The error of a read that failed, until the segments before it are parsed.
+    fault: Option<io::Error>,
+
+    // The number of unparsed bytes that are read segment by segment: the rest of a chunk.
+    rejected: usize,
+
+    // The line of the first token of the last part.
+    line: usize,
+
+    // The memory of items that were dropped.
+    memory: Memory,
+}
+
+impl ItemReader {
+    /// A reader at the start of a stream. `min_chunk` is the chunk size in bytes: a cut point is looked for when the buffer has
+    /// grown by `min_chunk` bytes, and by the line after them. If none is found, it is looked for again when the buffer has doubled.
+    /// With a small chunk size items are passed to the sink sooner; with a larger one reading takes less time.
+    pub fn new(alloc: Global, min_chunk: usize) -> ItemReader
+        ensures { (k : ItemType) (start : Option (List ℕ)) → HasParts k start start [] result }
+    {
+        ItemReader {
+            buffer: Buffer::new(alloc),
+            min_chunk,
+            goal: min_chunk,
+            by_segments: false,
+            ended: false,
+            fault: None,
+            rejected: 0,
+            line: 1,
+            memory: Memory::new(alloc),
+        }
+    }
+
+    /// A reader that passes one segment to the sink each time.
+    pub fn by_segments(alloc: Global, min_chunk: usize) -> ItemReader
+        ensures { (k : ItemType) (start : Option (List ℕ)) → HasParts k start start [] result }
+    {
+        ItemReader {
+            by_segments: true,
+            ..ItemReader::new(alloc, min_chunk)
+        }
+    }
+
+    /// The 1-based line of the first token of the last part, refused or not. If no token is found, since there is none or a lexical error
+    /// comes first, it is the line on which the part begins.
+    pub fn line(&self) -> usize
+        ensures { result ≡ line_of self.now }
+    {
+        self.line
+    }
+
+    // Reads more of the stream. The error of a read that fails is kept.
+    fn read_more<R: BufRead>(&mut self, reader: &mut R)
+        requires parsed { self.old.buffer.start + self.old.buffer.parsed ≤ vec_len self.old.buffer.bytes }
+        requires none { self.old.rejected ≡ 0 }
+        requires going { self.old.ended ≡ false }
+        requires well { is_some self.old.fault ≡ false }
+        ensures parsed { self.new.buffer.start + self.new.buffer.parsed ≤ vec_len self.new.buffer.bytes }
+        ensures none { self.new.rejected ≡ 0 }
+        ensures read { (k : ItemType) (start : Option (List ℕ)) (ps : List (List Line)) → HasParts k start (R.remaining reader.old) ps self.old → HasParts k start (R.remaining reader.new) ps self.new }
+    {
+        match fill(reader, &mut self.buffer.bytes, self.goal) {
+            Ok(ended) => self.ended = ended,
+            Err(fault) => self.fault = Some(fault),
+        }
+    }
+
+    // Reads up to the end of the next chunk, and returns its length in bytes, which is 0 if the stream has ended.
+    fn next_chunk<T: StreamItem, R: BufRead>(&mut self, reader: &mut R) -> io::Result<usize>
+        requires parsed { self.old.buffer.start + self.old.buffer.parsed ≤ vec_len self.old.buffer.bytes }
+        requires none { self.old.rejected ≡ 0 }
+        ensures { IfOk result (λ len. (start : Option (List ℕ)) (ps : List (List Line)) → HasParts T.item_type start (R.remaining reader.old) ps self.old
+            → IsNext T.item_type start (R.remaining reader.new) ps self.new len) }
+    {
+        for _turn in 0..u64::MAX {
+            if let Some(fault) = self.fault.take() {
+                return Err(fault);
+            }
+            if self.ended {
+                return Ok(self.buffer.unparsed().len());
+            }
+            self.read_more::<R>(reader);
+            if self.ended {
+                continue;
+            }
+            let cut = last_cut::<T>(self.buffer.unparsed());
+            if cut > 0 {
+                return Ok(cut);
+            }
+            self.goal = self.buffer.bytes.len().saturating_mul(2);
+        }
+        Err(io::Error::from(ErrorKind::Other))
+    }
+
+    // The first `len` unparsed bytes were parsed, and `rejected` bytes are left of their chunk. If none are, another chunk comes next.
+    fn pass(
+        &mut self,
+        alloc: Global,
+        len: usize,
+        rejected: usize,
+    ) -> std::result::Result<(), AllocError>
+        requires some { 0 < len }
+        requires within { self.old.buffer.start + self.old.buffer.parsed + len ≤ vec_len self.old.buffer.bytes }
+        ensures advanced { OnOk result (Advances self.old.buffer self.old.ended (is_some self.old.fault) self.new len rejected) }
+        ensures line { self.new.line ≡ self.old.line }
+    {
+        self.buffer.pass(len);
+        self.rejected = rejected;
+        if rejected == 0 {
+            self.buffer.drain(alloc)?;
+            self.goal = self.buffer.bytes.len().saturating_add(self.min_chunk);
+        }
+        Ok(())
+    }
+
+    // Passes the items of the next chunk, which has `len` bytes, to the sink. An error that is not out of memory leaves the chunk.
+    fn parse_chunk<T: StreamItem + Drop, S: Sink<T>>(
+        &mut self,
+        alloc: Global,
+        len: usize,
+        sink: &mut S,
+    ) -> Result<()>
+        requires some { 0 < len }
+        requires within { self.old.buffer.start + self.old.buffer.parsed + len ≤ vec_len self.old.buffer.bytes }
+        ensures advanced { OnOk result (Advances self.old.buffer self.old.ended (is_some self.old.fault) self.new len 0 × HasLine self.old.buffer len self.new.line) }
+        ensures taken { OnOk result (TakesText S.holds T.item_type (take len (unparsed self.old.buffer)) sink.old sink.new) }
+        ensures left { IfErr result (λ e. (kind_of e ≡ ParseErrorKind.Memory → ⊥) → LeavesChunk self.old self.new S.holds sink.old sink.new) }
+    {
+        let text = utf8(&self.buffer.unparsed()[..len])?;
+        let line = first_line(&self.buffer, text);
+        parse_with_memory::<T, S>(alloc, &mut self.memory, text, None, sink)?;
+        self.line = line;
+        self.pass(alloc, len, 0)?;
+        Ok(())
+    }
+
+    // Passes the items of the next chunk to the sink, and returns true; false if the stream has ended. If the chunk spells no items, or is
+    // to be read segment by segment, it returns none, and the sink has no items of it.
+    fn read_chunk<T: StreamItem + Drop, R: BufRead, S: ChunkSink<T>>(
+        &mut self,
+        alloc: Global,
+        reader: &mut R,
+        sink: &mut S,
+    ) -> Result<Option<bool>>
+        requires none { self.old.rejected ≡ 0 }
+        requires had { (start : Option (List ℕ)) × (ps : List (List Line)) × HasParts T.item_type start (R.remaining reader.old) ps self.old }
+        ensures read { IfOk result (λ done. IfSome done (λ more. more ≡ true → (start : Option (List ℕ)) (ps : List (List Line)) → HasParts T.item_type start (R.remaining reader.old) ps self.old
+            → TakesPart T.item_type start (R.remaining reader.new) ps S.holds sink.old sink.new self.new)) }
+        ensures ended { IfOk result (λ done. IfSome done (λ more. more ≡ false → (start : Option (List ℕ)) (ps : List (List Line)) → HasParts T.item_type start (R.remaining reader.old) ps self.old
+            → HasAll T.item_type start (R.remaining reader.new) ps × (sink.new ≡ sink.old))) }
+        ensures rejected { IfOk result (λ done. IfNone done (Rejects T.item_type (R.remaining reader.old) (R.remaining reader.new) self.old self.new S.holds sink.old sink.new)) }
+        ensures failed { IfErr result (λ e. kind_of e ≡ ParseErrorKind.Parse → ⊥) }
+    {
+        let len = match self.next_chunk::<T, R>(reader) {
+            Ok(0) => return Ok(Some(false)),
+            Ok(len) => len,
+            Err(fault) => return Err(read_error(fault)),
+        };
+        if self.by_segments {
+            self.rejected = len;
+            return Ok(None);
+        }
+        match self.parse_chunk::<T, S>(alloc, len, sink) {
+            Ok(()) => Ok(Some(true)),
+            Err(error) if error.kind() == ParseErrorKind::Memory => Err(error),
+            Err(_) => {
+                sink.rollback();
+                self.rejected = len;
+                Ok(None)
+            }
+        }
+    }
+
+    // Passes the items of the first segment of the rejected bytes to the sink, and returns true.
+    fn read_segment<T: StreamItem + Drop, S: Sink<T>>(
+        &mut self,
+        alloc: Global,
+        filename: Option<&str>,
+        sink: &mut S,
+    ) -> Result<bool>
+        requires some { 0 < self.old.rejected }
+        requires within { self.old.buffer.start + self.old.buffer.parsed + self.old.rejected ≤ vec_len self.old.buffer.bytes }
+        ensures more { IfOk result (λ more. more ≡ true) }
+        ensures taken { IfOk result (λ more. (start now : Option (List ℕ)) (ps : List (List Line)) → HasParts T.item_type start now ps self.old
+            → TakesPart T.item_type start now ps S.holds sink.old sink.new self.new) }
+        ensures refused { IfErr result (λ e. kind_of e ≡ ParseErrorKind.Parse → (start now : Option (List ℕ)) (ps : List (List Line)) → HasParts T.item_type start now ps self.old
+            → RefusesPart T.item_type (option_copied filename.entry) start now ps S.holds sink.old sink.new self.new e) }
+    {
+        let rejected = self.rejected;
+        let len = segment_len::<T>(&self.buffer.unparsed()[..rejected])?;
+        let text = utf8(&self.buffer.unparsed()[..len])?;
+        self.line = first_line(&self.buffer, text);
+        let parsed = match parse_with_memory::<T, S>(alloc, &mut self.memory, text, None, sink) {
+            Ok(()) => Ok(true),
+            Err(error) => Err(place(alloc, &self.buffer, len, error, filename)),
+        };
+        self.pass(alloc, len, rejected - len)?;
+        parsed
+    }
+
+    /// Reads the next part of the stream, and passes its items to the sink, in order. Returns false if the stream has ended, and
+    /// nothing was left of it.
+    ///
+    /// Each call of one stream is given the same reader and type of items, and the sink may be another each time. It must hold no items,
+    /// compared with some sink, since items of a chunk may be taken back. After the call [`line`](ItemReader::line) returns the line of the
+    /// part's first token.
+    ///
+    /// - `Parse`: the next segment spells no items. The sink has taken items that it begins with. The error has and shows its location in
+    ///   the stream. The next call reads the next segment.
+    /// - `Io`: a read failed, or the bytes read are not UTF-8.
+    /// - `Memory`: memory ran out, or the sink returned so.
+    ///
+    /// After `Io` or `Memory` the stream cannot be read on, and the sink may have taken items.
+    pub fn read_part<T: StreamItem + Drop, R: BufRead, S: ChunkSink<T>>(
+        &mut self,
+        alloc: Global,
+        reader: &mut R,
+        filename: Option<&str>,
+        sink: &mut S,
+    ) -> Result<bool>
+        requires { (start : Option (List ℕ)) × (ps : List (List Line)) × HasParts T.item_type start (R.remaining reader.old) ps self.old }
+        ensures read { IfOk result (λ more. more ≡ true → (start : Option (List ℕ)) (ps : List (List Line)) → HasParts T.item_type start (R.remaining reader.old) ps self.old
+            → TakesPart T.item_type start (R.remaining reader.new) ps S.holds sink.old sink.new self.new) }
+        ensures ended { IfOk result (λ more. more ≡ false → (start : Option (List ℕ)) (ps : List (List Line)) → HasParts T.item_type start (R.remaining reader.old) ps self.old
+            → HasAll T.item_type start (R.remaining reader.new) ps × (sink.new ≡ sink.old)) }
+        ensures refused { IfErr result (λ e. kind_of e ≡ ParseErrorKind.Parse → (start : Option (List ℕ)) (ps : List (List Line)) → HasParts T.item_type start (R.remaining reader.old) ps self.old
+            → RefusesPart T.item_type (option_copied filename.entry) start (R.remaining reader.new) ps S.holds sink.old sink.new self.new e) }
+    {
+        if self.rejected > 0 {
+            return self.read_segment::<T, S>(alloc, filename, sink);
+        }
+        match self.read_chunk::<T, R, S>(alloc, reader, sink)? {
+            Some(more) => Ok(more),
+            None => self.read_segment::<T, S>(alloc, filename, sink),
+        }
+    }
+}
