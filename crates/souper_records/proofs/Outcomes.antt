@@ -1,7 +1,7 @@
 -- Part after part: the text read of a stream, the output, and the reports.
 use Rattle.std.proofs.Common.{◌≡◌, ◌⊎◌, inl, inr, ℕ, Bool, true, false, ◌||◌, List, [], ◌∷◌, ◌++◌, is_some, Option, Some, None, refl, sym, ap, ◌∙◌, subst, append_assoc, append-nil}
 use Rattle.std.specs.Prelude.{flat_map, Result, Ok, Err, IfOk, IfErr}
-use Rattle.std.specs.List.{cons_option}
+use Rattle.std.specs.List.{cons_option, AllByRecursion}
 use Rattle.std.specs.declared.io.Error.{Error}
 use Rattle.std.specs.Io.KnownBytes.{Appends, Keeps}
 use Rattle.std.proofs.KnownBytes.{Appends-nil, Appends-trans, Keeps-trans}
@@ -14,7 +14,7 @@ use Rattle.souper_ir.specs.declared.parse.error.ParseErrorKind.TheVariants.{Io, 
 use Rattle.souper_ir.specs.Errors.{kind_of}
 use Rattle.souper_ir.specs.Sinks.{PrefixSpells}
 use Rattle.souper_stream.specs.declared.reader.ItemReader.{ItemReader}
-use Rattle.souper_stream.specs.Segments.{Line, concat, all_lines, AreParts, PartsSpell}
+use Rattle.souper_stream.specs.Segments.{Line, concat, all_lines, HasNoCut, AreParts, PartsSpell}
 use Rattle.souper_stream.specs.Parts.{HasParts, HasAll}
 use Rattle.souper_stream.proofs.SegmentLaws.{spells_by_parts, none_with}
 use Rattle.souper_stream.proofs.Reached.{prefix_of, parts_begin}
@@ -30,7 +30,7 @@ use Rattle.souper_records.specs.Runs.{output_name, EndsWithFault, IsPartsEnd, Is
 use Rattle.souper_records.specs.Uniques.{WritesFirstRecords, WritesNewFirsts}
 use Rattle.souper_records.specs.Reports.{IsMemoryLine, IsFaultLine, Reported}
 use Rattle.souper_records.specs.Objects.{part_lines, objects_of, WritesObjects}
-use Rattle.souper_records.specs.Outcomes.{Outcome, IsOutcome, IsOutcomeAfter, AreOutcomes, parts_of, items_of, refusals_of, any_refused, AreErrorLines, AreReported, AreReportedThen, ReportsPart, WritesPart, WritesParts, ReadsParts, EndsRefused, IsBegun, StopsAfter, WroteEach, OfItems, WritesRecords}
+use Rattle.souper_records.specs.Outcomes.{Outcome, IsOutcome, IsOutcomeAfter, AreOutcomes, parts_of, items_of, refusals_of, any_refused, AreErrorLines, AreReported, AreReportedThen, ReportsPart, WritesPart, WritesParts, ReadsParts, EndsRefused, IsBegun, StopsAfter, WroteEach, WroteParts, OfItems, WritesRecords}
 use Rattle.souper_records.proofs.Seeing.{keeps_none, keeps_join}
 use Rattle.souper_records.proofs.Stops.{known_mapped}
 
@@ -149,9 +149,20 @@ module _ (a b c : Stream) (p : Parts a b c) where
 -- ---- part after part
 
 -- one more was written
-pub wrote_more : {S : Type 0} (wrote : S → Option (List ℕ) → S → Option (List ℕ) → Outcome → Type 0) (a b c : S) (x y z : Option (List ℕ)) (os : List Outcome) (o : Outcome) → WroteEach wrote a x b y os → wrote b y c z o → WroteEach wrote a x c z (os ++ o ∷ [])
-wrote_more wrote a b c x y z [] o h w = (c, z, subst (λ s. wrote s x c z o) h.0 (subst (λ (t : Option (List ℕ)). wrote b t c z o) h.1 w), (refl, refl))
-wrote_more wrote a b c x y z (p ∷ os) o (d, t, first, rest) w = (d, t, first, wrote_more wrote d b c t y z os o rest w)
+uncut_more : (k : ItemType) (ps : List (List Line)) (p : List Line) → AllByRecursion (HasNoCut k) ps → HasNoCut k p → AllByRecursion (HasNoCut k) (ps ++ p ∷ [])
+uncut_more k [] p h u = (u, tt)
+uncut_more k (q ∷ ps) p h u = (h.0, uncut_more k ps p h.1 u)
+
+each_more : {S : Type 0} (wrote : S → Option (List ℕ) → S → Option (List ℕ) → Outcome → Type 0) (a b c : S) (x y z : Option (List ℕ)) (os : List Outcome) (o : Outcome) → WroteEach wrote a x b y os → wrote b y c z o → WroteEach wrote a x c z (os ++ o ∷ [])
+each_more wrote a b c x y z [] o h w = (c, z, subst (λ s. wrote s x c z o) h.0 (subst (λ (t : Option (List ℕ)). wrote b t c z o) h.1 w), (refl, refl))
+each_more wrote a b c x y z (p ∷ os) o (d, t, first, rest) w = (d, t, first, each_more wrote d b c t y z os o rest w)
+
+pub wrote_more : {S : Type 0} (k : ItemType) (segmented now : Bool) → now ≡ segmented → (wrote : S → Option (List ℕ) → S → Option (List ℕ) → Outcome → Type 0) (a b c : S) (x y z : Option (List ℕ)) (os : List Outcome) (o : Outcome) → WroteParts k segmented wrote a x b y os → wrote b y c z o × (now ≡ true → HasNoCut k o.part)
+    → WroteParts k segmented wrote a x c z (os ++ o ∷ [])
+wrote_more k segmented now same wrote a b c x y z os o h w = (
+  each_more wrote a b c x y z os o h.0 w.0,
+  λ e. subst (λ (ps : List (List Line)). AllByRecursion (HasNoCut k) ps) (sym (parts_more os o)) (uncut_more k (parts_of os) o.part (h.1 e) (w.1 (same ∙ e))),
+)
 
 -- the output of the parts so far
 pub record Reached (k : ItemType) (file start mid : Option (List ℕ)) (written : List Outcome → Type 0) (err : Stream) (any : Bool) (r : ItemReader) : Type 0 where
@@ -320,9 +331,9 @@ records_wrote l idle wrote one a b out os e w =
     all (o ∷ os) = flat_map-append (record_of l) o.items (items_of os) ∙ ap (λ (text : List ℕ). records_of l o.items ++ text) (all os)
 
 -- the lines of the parts
-pub objects_wrote : {S : Type 0} (rename : Bool) (name : List ℕ) (idle : S → Type 0) (wrote : S → Option (List ℕ) → S → Option (List ℕ) → Outcome → Type 0) → ((a b : S) (x y : Option (List ℕ)) (o : Outcome) → wrote a x b y o → idle a → idle b × Appends x y (part_lines rename name o))
-    → (a b : S) (out : Stream) (os : List Outcome) → idle a → WroteEach wrote a out.before b out.after os → WritesObjects rename name out os
-objects_wrote rename name idle wrote one a b out os e w = (texts_wrote idle wrote (part_lines rename name) one a b out.before out.after os w e).1
+pub objects_wrote : {S : Type 0} (k : ItemType) (rename : Bool) (name : List ℕ) (idle : S → Type 0) (wrote : S → Option (List ℕ) → S → Option (List ℕ) → Outcome → Type 0) → ((a b : S) (x y : Option (List ℕ)) (o : Outcome) → wrote a x b y o → idle a → idle b × Appends x y (part_lines rename name o))
+    → (a b : S) (out : Stream) (os : List Outcome) → idle a → (segmented : Bool) → segmented ≡ true → WroteParts k segmented wrote a out.before b out.after os → WritesObjects k rename name out os
+objects_wrote k rename name idle wrote one a b out os e segmented is w = ((texts_wrote idle wrote (part_lines rename name) one a b out.before out.after os w.0 e).1, w.1 is)
 
 -- the records of first items
 pub firsts_wrote : {S : Type 0} (k : ItemType) (l : Layout) (layout : S → Layout) (seen : S → Seen) (wrote : S → Option (List ℕ) → S → Option (List ℕ) → Outcome → Type 0)
@@ -408,5 +419,5 @@ pub firsts_kept : (l : Layout) (earlier : List Item) (a b c : Stream) → Parts 
 firsts_kept l earlier a b c p kept os (first, are, written) = (first, are, given_kept a b c p (records_of l first) written kept)
 
 -- of objects
-pub objects_kept : (rename : Bool) (name : List ℕ) (a b c : Stream) → Parts a b c → IsGivenNothing b → (os : List Outcome) → WritesObjects rename name a os → WritesObjects rename name c os
-objects_kept rename name a b c p kept os w = given_kept a b c p (objects_of rename name os) w kept
+pub objects_kept : (k : ItemType) (rename : Bool) (name : List ℕ) (a b c : Stream) → Parts a b c → IsGivenNothing b → (os : List Outcome) → WritesObjects k rename name a os → WritesObjects k rename name c os
+objects_kept k rename name a b c p kept os w = (given_kept a b c p (objects_of rename name os) w.0 kept, w.1)

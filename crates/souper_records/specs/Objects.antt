@@ -2,13 +2,16 @@
 use Rattle.std.specs.Prelude.{Bool, ℕ, List, [], ◌++◌, flat_map, codes, Option, None, Some}
 use Rattle.serde_json.specs.Data.{Data, null, number, unsigned, string, object, member, no_members}
 use Rattle.serde_json.specs.Written.{compact_text}
+use Rattle.std.specs.List.{AllByRecursion}
 use Rattle.souper_graph.specs.Values.{Item}
+use Rattle.souper_graph.specs.Syntax.Spelling.{ItemType}
+use Rattle.souper_stream.specs.Segments.{HasNoCut}
 use Rattle.souper_ir.specs.declared.parse.error.ParseError.{ParseError}
 use Rattle.souper_ir.specs.Errors.{offset_of, line_of, column_of, message_of}
 use Rattle.souper_format.specs.Streams.{Stream, IsGiven}
 use Rattle.souper_records.specs.Records.{key_of}
 use Rattle.souper_records.specs.Uniques.{text_by}
-use Rattle.souper_records.specs.Outcomes.{Outcome}
+use Rattle.souper_records.specs.Outcomes.{Outcome, parts_of}
 
 -- the object of an item that has this text, in the stream of this name, on this line
 abbrev pub item_object : List ℕ → ℕ → List ℕ → Data
@@ -56,6 +59,6 @@ part_lines rename name o = flat_map (item_line rename name o.line) o.items ++ re
 abbrev pub objects_of : Bool → List ℕ → List Outcome → List ℕ
 objects_of rename name os = flat_map (part_lines rename name) os
 
--- the lines of the parts were written, and nothing else
-abbrev pub WritesObjects : Bool → List ℕ → Stream → List Outcome → Type 0
-WritesObjects rename name out os = IsGiven out (objects_of rename name os)
+-- the lines of the parts were written, and nothing else; each part is one segment
+abbrev pub WritesObjects : ItemType → Bool → List ℕ → Stream → List Outcome → Type 0
+WritesObjects k rename name out os = IsGiven out (objects_of rename name os) × AllByRecursion (HasNoCut k) (parts_of os)

@@ -1,6 +1,6 @@
 -- Definitions. The outcomes of the parts of a stream: their output and reports.
 use Rattle.std.specs.Prelude.{◌≡◌, ◌⊎◌, ℕ, Bool, true, false, List, [], ◌∷◌, ◌++◌, map, flat_map, filter_map, is_some, Option, None, Some}
-use Rattle.std.specs.List.{list_any}
+use Rattle.std.specs.List.{list_any, AllByRecursion}
 use Rattle.std.specs.Io.KnownBytes.{Consumes}
 use Rattle.souper_graph.specs.Values.{Item}
 use Rattle.souper_graph.specs.Syntax.Spelling.{ItemType, TextSpells, SpellsNone}
@@ -151,6 +151,10 @@ StopsAfter k name recover before written failed err stop = (os : List Outcome) �
 abbrev pub WroteEach : {S : Type 0} → (S → Option (List ℕ) → S → Option (List ℕ) → Outcome → Type 0) → S → Option (List ℕ) → S → Option (List ℕ) → List Outcome → Type 0
 WroteEach wrote a x b y [] = (b ≡ a) × (y ≡ x)
 WroteEach {S = S} wrote a x b y (o ∷ os) = (c : S) × (z : Option (List ℕ)) × wrote a x c z o × WroteEach wrote c z b y os
+
+-- the same; and if each part is one segment, no cut point is in any
+abbrev pub WroteParts : {S : Type 0} → ItemType → Bool → (S → Option (List ℕ) → S → Option (List ℕ) → Outcome → Type 0) → S → Option (List ℕ) → S → Option (List ℕ) → List Outcome → Type 0
+WroteParts k segmented wrote a x b y os = WroteEach wrote a x b y os × (segmented ≡ true → AllByRecursion (HasNoCut k) (parts_of os))
 
 -- the items of the outcomes were written, also the ones that refused parts begin with
 abbrev pub OfItems : (List Item → Type 0) → List Outcome → Type 0

@@ -74,7 +74,7 @@ IsRecordsRun k l name recover before after out err status = IsRun k name recover
 
 -- writing the object of each item and of each refusal
 abbrev pub IsObjectsRun : ItemType → Bool → List ℕ → Bool → Option (List ℕ) → Option (List ℕ) → Stream → Stream → ℕ → Type 0
-IsObjectsRun k rename name recover before after out err status = IsRun k name recover before after (WritesObjects rename name out) (WritesObjects rename name out) out err status
+IsObjectsRun k rename name recover before after out err status = IsRun k name recover before after (WritesObjects k rename name out) (WritesObjects k rename name out) out err status
 
 -- writing the records of the first items, after earlier ones
 abbrev pub IsFirstsRun : ItemType → Layout → List Item → List ℕ → Bool → Option (List ℕ) → Option (List ℕ) → Stream → Seen → Stream → ℕ → Type 0

@@ -44,7 +44,7 @@ fn string(alloc: Global, text: Option<&str>) -> Result<Value, AllocError>
     }
 }
 
-// The object of an item with this text. `line` is the line of its segment.
+// The object of an item with this text. `line` is the line of its part.
 fn item_object(alloc: Global, name: &str, line: usize, text: &str) -> Result<Value, AllocError>
     ensures { IfOk result (λ value. view value ≡ item_object name.now line text.now) }
 {
@@ -76,7 +76,7 @@ fn append_line(alloc: Global, object: &Value, out: &mut String) -> Result<(), Al
     out.push_str("\n")
 }
 
-// The lines of a segment's items, which have these texts.
+// The lines of a part's items, which have these texts.
 fn item_lines(alloc: Global, place: Place<'_>, texts: &[String]) -> Result<String, AllocError>
     ensures { IfOk result (λ out. string_bytes out ≡ flat_map (text_line place.entry.name.now place.entry.line) (map string_bytes texts.now)) }
 {
@@ -88,7 +88,7 @@ fn item_lines(alloc: Global, place: Place<'_>, texts: &[String]) -> Result<Strin
     Ok(out)
 }
 
-// The lines of a segment, whose items, or the ones that it begins with, have these texts.
+// The lines of a part, whose items, or the ones that it begins with, have these texts.
 fn part_lines(
     alloc: Global,
     place: Place<'_>,
@@ -106,7 +106,7 @@ fn part_lines(
     Ok(out)
 }
 
-// The texts of the items of a segment.
+// The texts of the items of a part.
 #[derive(Drop)]
 struct Objects {
     alloc: Global,
@@ -145,7 +145,7 @@ impl<T: WholeItem + Drop> ChunkSink<T> for Objects {
     }
 }
 
-// Writes the objects of each segment, and drops the texts.
+// Writes the objects of each part, and drops the texts.
 impl<T: StreamItem + Drop> PartSink<T> for Objects {
     ghost wrote = { λ name a x b y o. (b.rename ≡ a.rename) × Appends x y (part_lines a.rename name o) };
 
@@ -181,9 +181,9 @@ pub fn write_objects<T: StreamItem + Drop, R: BufRead, W: Write, E: Write>(
     err: &mut Watched<E>,
 ) -> Result<bool, Stop>
     ensures written { IfOk result (λ refused. WritesParts T.item_type options.entry.name.now options.entry.recover (R.remaining reader.old) (R.remaining reader.new)
-        (WritesObjects rename options.entry.name.now (stream W.contents out.old out.new)) (stream E.contents err.old err.new) refused) }
+        (WritesObjects T.item_type rename options.entry.name.now (stream W.contents out.old out.new)) (stream E.contents err.old err.new) refused) }
     ensures stopped { IfErr result (λ stop. StopsAfter T.item_type options.entry.name.now options.entry.recover (R.remaining reader.old)
-        (WritesObjects rename options.entry.name.now (stream W.contents out.old out.new)) (has_failed out.new) (stream E.contents err.old err.new) stop) }
+        (WritesObjects T.item_type rename options.entry.name.now (stream W.contents out.old out.new)) (has_failed out.new) (stream E.contents err.old err.new) stop) }
     ensures input { IfErr result (λ stop. IfInput stop (λ e. kind_of e ≡ ParseErrorKind.Io)) }
     ensures stays { has_failed err.old ≡ true → has_failed err.new ≡ true }
 {

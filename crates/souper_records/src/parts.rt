@@ -1,12 +1,12 @@
 //! The parts of a stream, whose output is written one after the other.
 ghost use Rattle.std.specs.Prelude.{◌≡◌, ℕ, [], List, true, Option, Some, IfOk, IfErr, IfSome, IfNone, OnOk, option_copied};
 ghost use Rattle.souper_ir.specs.Errors.{kind_of};
-ghost use Rattle.souper_stream.specs.Segments.{Line};
-ghost use Rattle.souper_stream.specs.Parts.{HasParts, HasAll};
+ghost use Rattle.souper_stream.specs.Segments.{Line, HasNoCut};
+ghost use Rattle.souper_stream.specs.Parts.{HasParts, HasAll, is_segmented};
 ghost use Rattle.souper_format.specs.Streams.{stream};
 ghost use Rattle.souper_format.specs.Watching.{watched_inner, has_failed};
 ghost use Rattle.souper_records.specs.Stops.{IfInput, UnlessOutput};
-ghost use Rattle.souper_records.specs.Outcomes.{Outcome, Begins, WritesPart, WritesParts, StopsAfter, WroteEach};
+ghost use Rattle.souper_records.specs.Outcomes.{Outcome, Begins, WritesPart, WritesParts, StopsAfter, WroteParts};
 
 use crate::options::ReadOptions;
 use crate::report::report_line;
@@ -61,7 +61,7 @@ pub(crate) struct Source<'a> {
 }
 
 impl<'a> Source<'a> {
-    /// With recovery items are written as soon as the reader shows that they have ended.
+    /// With recovery a cut point is looked for in what the reader shows and the line after it, and then whenever the buffer has doubled.
     pub(crate) fn new(alloc: Global, options: ReadOptions<'a>) -> Source<'a>
         ensures options { result.options ≡ options.entry }
         ensures begins { Begins result }
@@ -76,6 +76,7 @@ impl<'a> Source<'a> {
     /// Each part is one segment.
     pub(crate) fn by_segments(alloc: Global, options: ReadOptions<'a>) -> Source<'a>
         ensures options { result.options ≡ options.entry }
+        ensures segments { is_segmented result.parts ≡ true }
         ensures begins { Begins result }
     {
         Source {
@@ -98,8 +99,9 @@ fn write_next<T: StreamItem + Drop, S: PartSink<T>, R: BufRead, W: Write, E: Wri
     requires none { S.holds sink.old sink.old [] }
     requires had { (start : Option (List ℕ)) × (ps : List (List Line)) × HasParts T.item_type start (R.remaining reader.old) ps source.old.parts }
     ensures options { source.new.options ≡ source.old.options }
+    ensures same { is_segmented source.new.parts ≡ is_segmented source.old.parts }
     ensures part { IfOk result (λ more. IfSome more (λ refused. (start : Option (List ℕ)) (ps : List (List Line)) → HasParts T.item_type start (R.remaining reader.old) ps source.old.parts
-        → WritesPart T.item_type (Some source.old.options.name.now) start (R.remaining reader.new) ps (S.wrote source.old.options.name.now sink.old (W.contents (watched_inner out.old)) sink.new (W.contents (watched_inner out.new))) (stream E.contents err.old err.new) refused source.new.parts)) }
+        → WritesPart T.item_type (Some source.old.options.name.now) start (R.remaining reader.new) ps (λ o. S.wrote source.old.options.name.now sink.old (W.contents (watched_inner out.old)) sink.new (W.contents (watched_inner out.new)) o × (is_segmented source.old.parts ≡ true → HasNoCut T.item_type o.part)) (stream E.contents err.old err.new) refused source.new.parts)) }
     ensures none { IfOk result (λ more. S.holds sink.new sink.new []) }
     ensures ended { IfOk result (λ more. IfNone more ((start : Option (List ℕ)) (ps : List (List Line)) → HasParts T.item_type start (R.remaining reader.old) ps source.old.parts
         → HasAll T.item_type start (R.remaining reader.new) ps)) }
@@ -143,9 +145,9 @@ pub(crate) fn write_parts<T: StreamItem + Drop, S: PartSink<T>, R: BufRead, W: W
     requires none { S.holds sink.old sink.old [] }
     requires begins { Begins source }
     ensures written { IfOk result (λ refused. WritesParts T.item_type source.entry.options.name.now source.entry.options.recover (R.remaining reader.old) (R.remaining reader.new)
-        (WroteEach (S.wrote source.entry.options.name.now) sink.old (W.contents (watched_inner out.old)) sink.new (W.contents (watched_inner out.new))) (stream E.contents err.old err.new) refused) }
+        (WroteParts T.item_type (is_segmented source.entry.parts) (S.wrote source.entry.options.name.now) sink.old (W.contents (watched_inner out.old)) sink.new (W.contents (watched_inner out.new))) (stream E.contents err.old err.new) refused) }
     ensures stopped { IfErr result (λ stop. StopsAfter T.item_type source.entry.options.name.now source.entry.options.recover (R.remaining reader.old)
-        (λ os. (s : S) × WroteEach (S.wrote source.entry.options.name.now) sink.old (W.contents (watched_inner out.old)) s (W.contents (watched_inner out.new)) os) (has_failed out.new) (stream E.contents err.old err.new) stop) }
+        (λ os. (s : S) × WroteParts T.item_type (is_segmented source.entry.parts) (S.wrote source.entry.options.name.now) sink.old (W.contents (watched_inner out.old)) s (W.contents (watched_inner out.new)) os) (has_failed out.new) (stream E.contents err.old err.new) stop) }
     ensures input { IfErr result (λ stop. IfInput stop (λ e. kind_of e ≡ ParseErrorKind.Io)) }
     ensures stays { has_failed err.old ≡ true → has_failed err.new ≡ true }
 {

@@ -3,7 +3,7 @@ use Rattle.std.proofs.Common.{◌≡◌, ℕ, ◌+◌, ◌-◌, ◌<◌, Bool, t
 use Rattle.std.specs.Prelude.{IfSome, All, ◌==◌, slice_index_or, if◌then◌else◌}
 use Rattle.std.specs.Io.{StartsWith, StopsAt, appended_bytes}
 use Rattle.std.specs.Io.BufRead.{take_through}
-use Rattle.std.specs.Io.KnownBytes.{Consumes, IsAtEnd}
+use Rattle.std.specs.Io.KnownBytes.{Consumes}
 use Rattle.std.proofs.KnownBytes.{starts_with_rest}
 use Rattle.std.proofs.lemmas.List.{take_all, take_more}
 use Rattle.std.proofs.lemmas.List.Elements.{recursion_from_All}
@@ -12,19 +12,6 @@ use Rattle.souper_graph.specs.Syntax.Tokens.{IsOneLine}
 use Rattle.souper_stream.specs.Segments.{Line}
 use Rattle.souper_stream.specs.Reading.{AreAll, ReadsLine}
 use Rattle.souper_stream.proofs.Nodes.{is_not, all_append}
-
-nothing_more : (bs ys : List ℕ) → [] ≡ bs ++ ys → bs ≡ []
-nothing_more [] ys e = refl
-nothing_more (b ∷ bs) ys e = absurd cc
-
--- at the end nothing more is read
-pub all_at_end : (a b c : Option (List ℕ)) (bs cs : List ℕ) → Consumes a b bs → IsAtEnd b → Consumes b c cs → AreAll a (bs ++ cs)
-all_at_end None b c bs cs h e k = tt
-all_at_end (Some xs) None c bs cs h e k = absurd h
-all_at_end (Some xs) (Some ys) None bs cs h e k = absurd k
-all_at_end (Some xs) (Some ys) (Some zs) bs cs h e k =
-    let none : cs ≡ [] = nothing_more cs zs (sym e ∙ k) in
-    h ∙ ap (λ (l : List ℕ). bs ++ l) (e ∙ sym none)
 
 -- all the bytes that were left, after the bytes read before
 pub all_after : (a b : Option (List ℕ)) (bs cs : List ℕ) → Consumes a b bs → AreAll b cs → AreAll a (bs ++ cs)

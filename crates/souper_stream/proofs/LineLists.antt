@@ -3,7 +3,6 @@ use Rattle.std.proofs.Common.{◌≡◌, ◌⊎◌, inl, inr, ℕ, ◌+◌, ◌-
 use Rattle.std.specs.Prelude.{◌==◌, zero, suc, slice_index}
 use Rattle.std.specs.List.{AllByRecursion}
 use Rattle.std.proofs.lemmas.List.{take_all, take_more as take_next, take-append-drop, take-append-le, drop-take, get_or-drop, length-take, length-drop}
-use Rattle.std.proofs.Math.Seq.{take-append_seam, drop-append_seam, take-append-add}
 use Rattle.memchr.specs.Find.{Nowhere, NoneBefore, NoneAfter, Passes, is_byte}
 use Rattle.souper_graph.specs.Syntax.Tokens.{Lexeme, IsOneLine, IsTextOf}
 use Rattle.souper_graph.specs.Syntax.Spelling.{kinds}
@@ -22,9 +21,6 @@ use Rattle.souper_stream.proofs.Texts.{lines_append, no_text}
 pub concat-append : (xs ys : List Line) → concat (xs ++ ys) ≡ concat xs ++ concat ys
 concat-append [] ys = refl
 concat-append (x ∷ xs) ys = ap (λ (l : List ℕ). x ++ l) (concat-append xs ys) ∙ sym (append_assoc x (concat xs) (concat ys))
-
-pub concat_snoc : (ls : List Line) (l : Line) → concat (ls ++ l ∷ []) ≡ concat ls ++ l
-concat_snoc ls l = concat-append ls (l ∷ []) ∙ ap (λ (x : List ℕ). concat ls ++ x) (append-nil l)
 
 pub tokens-append : (xs ys : List Line) → tokens_of_lines (xs ++ ys) ≡ tokens_of_lines xs ++ tokens_of_lines ys
 tokens-append [] ys = refl
@@ -192,62 +188,6 @@ lines_split (l ∷ ls) (c ∷ a) b lines e h = under (parted_twice l (concat ls)
         let r = rest w.left w.second (lines_end l w.left (subst (λ (x : List ℕ). IsLines x) w.first h)) in
         (l ∷ r.0, r.1, ap (λ (x : List Line). l ∷ x) r.2, ap (λ (x : List ℕ). l ++ x) r.3 ∙ sym w.first)
     under (inr b) rest = absurd (beyond b.more b.first b.some h)
-
--- ---- the last line
-
-one_front : (n : ℕ) (bs : List ℕ) → IsOneLine bs → IsOneLine (take n bs)
-one_front zero bs h = tt
-one_front (suc n) [] h = tt
-one_front (suc n) (b ∷ bs) h = (h.0, one_front n bs h.1)
-
--- no line ends between the start of a last line and its last byte
-last_after : (t : List ℕ) (s r : ℕ) → s < r → r < length t → IsOneLine (take (length t - 1 - s) (drop s t)) → IsLines (take r t) → ⊥
-last_after t s r l k one lines = under (lines_end (take s t) (take (r - s) (drop s t)) (subst (λ (x : List ℕ). IsLines x) parts lines))
-  where
-    front : length (take s t) ≡ s
-    front = omega (arith, length-take s t)
-
-    parts : take r t ≡ take s t ++ take (r - s) (drop s t)
-    parts = let at : length (take s t) + (r - s) ≡ r = omega (arith, front) in (λ i. take (sym at i) (sym (take-append-drop s t) i)) ∙ take-append-add (take s t) (drop s t) (r - s)
-
-    few : length (take (r - s) (drop s t)) ≡ r - s
-    few = omega (arith, length-take (r - s) (drop s t), length-drop s t)
-
-    inner : take (r - s) (drop s t) ≡ take (r - s) (take (length t - 1 - s) (drop s t))
-    inner =
-        let m : ℕ = length t - 1 - s in
-        let long : length (take m (drop s t)) ≡ m = omega (arith, length-take m (drop s t), length-drop s t) in
-        ap (λ (x : List ℕ). take (r - s) x) (sym (take-append-drop m (drop s t))) ∙ take-append-le (r - s) (take m (drop s t)) (drop m (drop s t)) (omega arith)
-
-    under : IsLines (take (r - s) (drop s t)) → ⊥
-    under (inl none) = let n = ap length none in omega (arith, few)
-    under (inr end) = newline_last end.0 (subst (λ (x : List ℕ). IsOneLine x) (sym inner ∙ end.1) (one_front (r - s) (take (length t - 1 - s) (drop s t)) one))
-
-pub last_start : (front : List Line) (l : Line) (start : ℕ) → AllByRecursion IsLine front → IsLastLine l → IsLastLineAt (concat front ++ l) start → start ≡ length (concat front)
-last_start front l start h last at = omega (arith, not_less, not_more)
-  where
-    t : List ℕ
-    t = concat front ++ l
-
-    long : length t ≡ length (concat front) + length l
-    long = length-append (concat front) l
-
-    body : IsLastLine l → IsOneLine (take (length l - 1) l)
-    body (inl k) =
-        let n : length l - 1 ≡ length k.0 = omega (arith, ap length k.2, length-append k.0 (10 ∷ [])) in
-        subst (λ (x : List ℕ). IsOneLine x) (sym ((λ i. take (n i) (k.2 i)) ∙ take-append_seam k.0 (10 ∷ []))) k.1
-    body (inr k) = one_front (length l - 1) l k.0
-
-    one : IsOneLine (take (length t - 1 - length (concat front)) (drop (length (concat front)) t))
-    one =
-        let n : length l - 1 ≡ length t - 1 - length (concat front) = omega (arith, long) in
-        subst (λ (x : List ℕ). IsOneLine x) (λ i. take (n i) (sym (drop-append_seam (concat front) l) i)) (body last)
-
-    not_less : start < length (concat front) → ⊥
-    not_less k = last_after t start (length (concat front)) k (let some = line_some l last in omega (arith, long)) at.one_line (subst (λ (x : List ℕ). IsLines x) (sym (take-append_seam (concat front) l)) (lines_of front h))
-
-    not_more : length (concat front) < start → ⊥
-    not_more k = last_after t (length (concat front)) start k at.before one at.lines
 
 -- ---- tokens of lines without a fault
 

@@ -19,13 +19,13 @@ use Rattle.souper_stream.specs.declared.reader.ItemReader.{ItemReader}
 use Rattle.souper_stream.specs.Buffering.{held, unparsed, Buffers, IsEmpty, KeepsOneLine}
 use Rattle.souper_stream.specs.Lines.{starts_line, NoStart}
 use Rattle.souper_stream.specs.Segments.{Line, concat, IsLine, AreLines, tokens_of_lines, EndsItem, Starts, HasNoCut, IsCut, AreCut, all_lines, AreParts, CutsAt, IsFirstSegment}
-use Rattle.souper_stream.specs.Parts.{IsChunk, and_next, HasRead, HasParts, IsNext, HasLine, IsOnLine, Advances, Holds, TakesPart, RefusesPart}
+use Rattle.souper_stream.specs.Parts.{IsChunk, and_next, HasRead, HasParts, IsNext, HasLine, is_segmented, IsOnLine, Advances, Holds, TakesPart, RefusesPart}
 use Rattle.souper_stream.specs.Reading.{AreAll, NeverSpells}
 use Rattle.souper_stream.proofs.Nodes.{all_append}
 use Rattle.souper_stream.proofs.Bytes.{all_after}
 use Rattle.souper_stream.proofs.Parting.{quiet_rest, quiet_starts}
 use Rattle.souper_stream.proofs.LineLists.{concat-append, tokens-append, lines-append, are_front, lines_front, lines_back, lines_of, no_bytes, lines_whole, lines_exist}
-use Rattle.souper_stream.proofs.Scanning.{first_some}
+use Rattle.souper_stream.proofs.Scanning.{starts_not_none, first_bounds}
 use Rattle.souper_stream.proofs.SegmentLaws.{lines_start, none_with}
 use Rattle.souper_stream.proofs.Buffers.{buffers_none, parts_read, held_more, unparsed_more, buffers_more, refusal_more, buffers_placed}
 use Rattle.souper_stream.proofs.Refusing.{RefusesText}
@@ -47,10 +47,6 @@ cut_longer : (k : ItemType) (ps : List (List Line)) (l : Line) (ls more : List L
 cut_longer k [] l ls more h = λ e. cc
 cut_longer k (p ∷ []) l ls more h = (h.0, h.1, λ e. cc)
 cut_longer k (p ∷ (q ∷ ps)) l ls more h = (h.0, h.1, cut_longer k (q ∷ ps) l ls more h.2)
-
-starts_not_none : (q : List Line) → Starts q → q ≡ [] → ⊥
-starts_not_none [] s e = s
-starts_not_none (l ∷ q) s e = cc
 
 -- the last part is two
 cut_split : (k : ItemType) (ps : List (List Line)) (l : Line) (ls q : List Line) → AreCut k (ps ++ (l ∷ (ls ++ q)) ∷ []) → EndsItem k (l ∷ ls) → Starts q → AreCut k ((ps ++ (l ∷ ls) ∷ []) ++ q ∷ [])
@@ -292,16 +288,6 @@ module _ (k : ItemType) (ended : Bool) (ls : List Line) (rejected len : ℕ) (c 
       under (inr cut) (inl end) n = inl (ends_back k f.front f.back (subst (λ (x : List Line). EndsItem k x) f.whole end.0) cut.1, end.1)
       under (inr cut) (inr end) n = inr end
 
--- a first segment has bytes, and no more than the chunk
-pub first_bounds : (k : ItemType) (chunk : List ℕ) (len : ℕ) → ((ls : List Line) → chunk ≡ concat ls → AreLines ls → IsFirstSegment k ls len) → 0 < length chunk → (0 < len) × (len ≤ length chunk)
-first_bounds k chunk len first some =
-    let l = lines_exist chunk in
-    let f = first l.0 l.2 l.1 in
-    let whole = ap length l.2 in
-    let parts = ap (λ (x : List Line). length (concat x)) f.whole ∙ ap length (concat-append f.front f.back) ∙ length-append (concat f.front) (concat f.back) in
-    let len_is = f.len_is in
-    (first_some k l.0 len l.1 (omega arith) f, omega arith)
-
 -- the first segment of a chunk of the unparsed bytes
 pub record SegmentOf (k : ItemType) (bytes : List ℕ) (chunk len : ℕ) : Type 0 where
   pub some : 0 < len
@@ -397,11 +383,12 @@ module _ (k : ItemType) (start now : Option (List ℕ)) (ps : List (List Line)) 
   line_is : IsOnLine (concat (all_lines ps)) (concat front) q.line
   line_is = subst (λ (y : List ℕ). IsOnLine (concat (all_lines ps)) y q.line) text_is (line h.read (concat (all_lines ps)) h.buffers)
 
-  pub part_taken : {S : Type 0} (holds : S → S → List Item → Type 0) (old new : S) → TakesText holds k (take len (unparsed r.buffer)) old new → TakesPart k start now ps holds old new q
-  part_taken holds old new t = record {
+  pub part_taken : {S : Type 0} (holds : S → S → List Item → Type 0) (old new : S) → (is_segmented q ≡ true → HasNoCut k front) → TakesText holds k (take len (unparsed r.buffer)) old new → TakesPart k start now ps holds old new q
+  part_taken holds old new uncut t = record {
     part = front;
     goes_on = (back, now_read);
     on_line = line_is;
+    uncut = uncut;
     items = t.0;
     spelled = subst (λ (y : List ℕ). TextSpells k y t.0) text_is t.1;
     taken = λ first y. t.2 first [] y;
@@ -474,10 +461,10 @@ module _ (k : ItemType) (start now : Option (List ℕ)) (ps : List (List Line)) 
 
 -- the next chunk
 pub chunk_taken : (k : ItemType) (start now : Option (List ℕ)) (ps : List (List Line)) (r q : ItemReader) (len : ℕ) {S : Type 0} (holds : S → S → List Item → Type 0) (old new : S) → IsNext k start now ps r len → 0 < len → Advances r.buffer r.ended (is_some r.fault) q len 0 → HasLine r.buffer len q.line
-    → TakesText holds k (take len (unparsed r.buffer)) old new → TakesPart k start now ps holds old new q
-chunk_taken k start now ps r q len holds old new n some advances line t =
+    → is_segmented q ≡ false → TakesText holds k (take len (unparsed r.buffer)) old new → TakesPart k start now ps holds old new q
+chunk_taken k start now ps r q len holds old new n some advances line chunks t =
     let c = n.3 some in
-    part_taken k start now ps n.0 c.front c.back r q len 0 r.rejected n.1 (chunk_part k r.ended n.0 len c some) advances (λ s. absurd (omega arith)) line holds old new t
+    part_taken k start now ps n.0 c.front c.back r q len 0 r.rejected n.1 (chunk_part k r.ended n.0 len c some) advances (λ s. absurd (omega arith)) line holds old new (λ e. absurd cc) t
 
 -- the first segment of a chunk
 module _ (k : ItemType) (start now : Option (List ℕ)) (ps : List (List Line)) (r q : ItemReader) (len : ℕ) (some : 0 < r.rejected) (s : SegmentOf k (unparsed r.buffer) r.rejected len) (advances : Advances r.buffer r.ended (is_some r.fault) q len (r.rejected - len)) (line : HasLine r.buffer len q.line) (had : HasParts k start now ps r) where
@@ -503,14 +490,14 @@ module _ (k : ItemType) (start now : Option (List ℕ)) (ps : List (List Line)) 
   left = segment_left k r.ended ls r.rejected len whole_chunk first s.some
 
   pub segment_taken : {S : Type 0} (holds : S → S → List Item → Type 0) (old new : S) → TakesText holds k (take len (unparsed r.buffer)) old new → TakesPart k start now ps holds old new q
-  segment_taken holds old new t = part_taken k start now ps ls first.front (first.back ++ whole_chunk.back) r q len (r.rejected - len) r.rejected had.1 part advances left line holds old new t
+  segment_taken holds old new t = part_taken k start now ps ls first.front (first.back ++ whole_chunk.back) r q len (r.rejected - len) r.rejected had.1 part advances left line holds old new (λ e. first.uncut) t
 
   pub segment_refused : {S : Type 0} (holds : S → S → List Item → Type 0) (old new : S) (file : Option (List ℕ)) (e : ParseError) → kind_of e ≡ Parse → RefusesText k file r.buffer len holds old new e → RefusesPart k file start now ps holds old new q e
   segment_refused holds old new file e kind b = part_refused k start now ps ls first.front (first.back ++ whole_chunk.back) r q len (r.rejected - len) r.rejected had.1 part advances left line holds old new file e first.uncut kind b
 
 -- a sink that held nothing before items were taken back
 pub taken_after : {S : Type 0} (k : ItemType) (start now : Option (List ℕ)) (ps : List (List Line)) (holds : S → S → List Item → Type 0) (old mid new : S) (q : ItemReader) → Holds holds [] old mid → TakesPart k start now ps holds mid new q → TakesPart k start now ps holds old new q
-taken_after k start now ps holds old mid new q back t = record { part = t.part; goes_on = t.goes_on; on_line = t.on_line; items = t.items; spelled = t.spelled; taken = holds_after holds t.items old mid new back t.taken }
+taken_after k start now ps holds old mid new q back t = record { part = t.part; goes_on = t.goes_on; on_line = t.on_line; uncut = t.uncut; items = t.items; spelled = t.spelled; taken = holds_after holds t.items old mid new back t.taken }
 
 pub refused_after : {S : Type 0} (k : ItemType) (file start now : Option (List ℕ)) (ps : List (List Line)) (holds : S → S → List Item → Type 0) (old mid new : S) (q : ItemReader) (e : ParseError) → Holds holds [] old mid → RefusesPart k file start now ps holds mid new q e → RefusesPart k file start now ps holds old new q e
 refused_after k file start now ps holds old mid new q e back t = record {

@@ -7,10 +7,10 @@ use Rattle.souper_graph.specs.Syntax.Spelling.{ItemType}
 use Rattle.souper_ir.specs.Joining.{IsLines}
 use Rattle.souper_stream.specs.declared.lines.ScanState.{ScanState}
 use Rattle.souper_stream.specs.Lines.{starts_line, IsStateAfter}
-use Rattle.souper_stream.specs.Segments.{Line, concat, IsLastLine, AreLines, tokens_of, tokens_of_lines, EndsItem, Starts, HasNoCut, IsCut, CutsAt, IsFirstSegment, IsFirstLine, IsLastLineAt}
+use Rattle.souper_stream.specs.Segments.{Line, concat, AreLines, tokens_of, tokens_of_lines, EndsItem, Starts, HasNoCut, IsCut, CutsAt, IsFirstSegment, IsFirstLine}
 use Rattle.souper_stream.proofs.Parted.{Parted, snoc_parted}
 use Rattle.souper_stream.proofs.Scan.{no_tokens}
-use Rattle.souper_stream.proofs.LineLists.{concat-append, concat_snoc, tokens-append, tokens_snoc, are_front, lines_back, lines_front, lines_split, no_bytes, first_len, last_start}
+use Rattle.souper_stream.proofs.LineLists.{concat-append, tokens-append, tokens_snoc, are_front, lines_back, lines_front, lines_of, lines_exist, lines_split, no_bytes, first_len}
 
 pub ends_some : (k : ItemType) → EndsItem k [] → ⊥
 ends_some k h = no_tokens k h
@@ -169,124 +169,22 @@ first_some k ls n lines some h = under h.front h.whole h.len_is h.cut
             nonempty q = cc
         under_some (suc m) z = omega arith
 
--- ---- backward
+-- ---- segment by segment
 
--- the lines that were not looked at end at `end`; at `next`, unless it is 0, a line after them starts
-pub record Searched (k : ItemType) (ls : List Line) (end next : ℕ) : Type 0 where
-  pub front : List Line
-  pub back : List Line
-  pub whole : ls ≡ front ++ back
-  pub end_is : length (concat front) ≡ end
-  pub next_is : 0 < next → (mid : List Line) × (tail : List Line) × (back ≡ mid ++ tail) × Starts tail × (length (concat (front ++ mid)) ≡ next)
+-- a first segment has bytes, and no more than the text
+pub first_bounds : (k : ItemType) (text : List ℕ) (len : ℕ) → ((ls : List Line) → text ≡ concat ls → AreLines ls → IsFirstSegment k ls len) → 0 < length text → (0 < len) × (len ≤ length text)
+first_bounds k text len first some =
+    let l = lines_exist text in
+    let f = first l.0 l.2 l.1 in
+    let whole = ap length l.2 in
+    let parts = ap (λ (x : List Line). length (concat x)) f.whole ∙ ap length (concat-append f.front f.back) ∙ length-append (concat f.front) (concat f.back) in
+    let len_is = f.len_is in
+    (first_some k l.0 len l.1 (omega arith) f, omega arith)
 
-pub searched_none : (k : ItemType) (ls : List Line) (text : List ℕ) → text ≡ concat ls → Searched k ls (length text) 0
-searched_none k ls text e = record { front = ls; back = []; whole = sym (append-nil ls); end_is = sym (ap length e); next_is = λ some. absurd (omega arith) }
-
--- the last line of some
-snoc_of : (ls : List Line) → 0 < length (concat ls) → (front : List Line) × (l : Line) × (ls ≡ front ++ l ∷ [])
-snoc_of [] some = absurd (omega arith)
-snoc_of (l ∷ []) some = ([], l, refl)
-snoc_of (l ∷ (m ∷ ls)) some = under (length (concat (m ∷ ls))) refl
-  where
-    all : (qs : List Line) (q : Line) → (front : List Line) × (r : Line) × (q ∷ qs ≡ front ++ r ∷ [])
-    all [] q = ([], q, refl)
-    all (p ∷ qs) q = let r = all qs p in (q ∷ r.0, r.1, ap (λ (x : List Line). q ∷ x) r.2)
-
-    under : (n : ℕ) → length (concat (m ∷ ls)) ≡ n → (front : List Line) × (r : Line) × (l ∷ (m ∷ ls) ≡ front ++ r ∷ [])
-    under n e = all (m ∷ ls) l
-
--- the last of the lines that were not looked at
-record LastOf (ls : List Line) (end start : ℕ) (front back : List Line) : Type 0 where
-  pub before : List Line
-  pub line : Line
-  pub front_is : front ≡ before ++ line ∷ []
-  pub whole : ls ≡ before ++ line ∷ back
-  pub start_is : start ≡ length (concat before)
-  pub end_is : end ≡ length (concat before) + length line
-
-module _ (k : ItemType) (ls : List Line) (text : List ℕ) (end next start : ℕ) (text_is : text ≡ concat ls) (lines : AreLines ls) (h : Searched k ls end next) (some : 0 < end) (last : IsLastLineAt (take end text) start) where
-  found : LastOf ls end start h.front h.back
-  found =
-      let e = h.end_is in
-      let s = snoc_of h.front (omega arith) in
-      let whole : ls ≡ s.0 ++ s.1 ∷ h.back = h.whole ∙ ap (λ (x : List Line). x ++ h.back) s.2 ∙ append_assoc s.0 (s.1 ∷ []) h.back in
-      let back_lines = lines_back s.0 (s.1 ∷ h.back) (subst (λ (x : List Line). AreLines x) whole lines) in
-      let bytes : take end text ≡ concat s.0 ++ s.1 =
-      (λ i. take (sym e i) ((text_is ∙ ap concat h.whole ∙ concat-append h.front h.back) i)) ∙ take-append_seam (concat h.front) (concat h.back) ∙ ap concat s.2 ∙ concat_snoc s.0 s.1 in
-      record {
-        before = s.0;
-        line = s.1;
-        front_is = s.2;
-        whole = whole;
-        start_is = last_start s.0 s.1 start (lines_front s.0 (s.1 ∷ h.back) (λ x. cc) (subst (λ (x : List Line). AreLines x) whole lines)) (one_last s.1 h.back back_lines) (subst (λ (x : List ℕ). IsLastLineAt x start) bytes last);
-        end_is = sym e ∙ ap (λ (x : List Line). length (concat x)) s.2 ∙ ap length (concat_snoc s.0 s.1) ∙ length-append (concat s.0) s.1;
-      }
-    where
-      one_last : (l : Line) (back : List Line) → AreLines (l ∷ back) → IsLastLine l
-      one_last l [] a = a
-      one_last l (m ∷ back) a = inl a.0
-
-  line_bytes : take (end - start) (drop start text) ≡ found.line
-  line_bytes =
-      let at = found.start_is in
-      let all : text ≡ concat found.before ++ (found.line ++ concat h.back) = text_is ∙ ap concat found.whole ∙ concat-append found.before (found.line ∷ h.back) in
-      let few : end - start ≡ length found.line = omega (arith, found.end_is, found.start_is) in
-      (λ i. take (few i) (drop (at i) (all i))) ∙ ap (λ (x : List ℕ). take (length found.line) x) (drop-append_seam (concat found.before) (found.line ++ concat h.back)) ∙ take-append_seam found.line (concat h.back)
-
-  -- one line more was looked at, which starts, or does not
-  pub searched_start : starts_line (tokens_of (take (end - start) (drop start text))) ≡ true → Searched k ls start start
-  searched_start starts = record {
-    front = found.before;
-    back = found.line ∷ h.back;
-    whole = found.whole;
-    end_is = sym found.start_is;
-    next_is = λ x. (
-      [],
-      found.line ∷ h.back,
-      refl,
-      subst (λ (l : Line). starts_line (tokens_of l) ≡ true) line_bytes starts,
-      ap (λ (x : List Line). length (concat x)) (append-nil found.before) ∙ sym found.start_is,
-    );
-  }
-
-  pub searched_more : Searched k ls start next
-  searched_more = record {
-    front = found.before;
-    back = found.line ∷ h.back;
-    whole = found.whole;
-    end_is = sym found.start_is;
-    next_is = λ x. (let n = h.next_is x in (
-      found.line ∷ n.0,
-      n.1,
-      ap (λ (b : List Line). found.line ∷ b) n.2,
-      n.3,
-      ap (λ (b : List Line). length (concat b)) (sym (append_assoc found.before (found.line ∷ []) n.0) ∙ ap (λ (b : List Line). b ++ n.0) (sym found.front_is)) ∙ n.4,
-    ));
-  }
-
-  -- a cut point was found
-  pub searched_cut : 0 < next → ((ms : List Line) → take (next - start) (drop start text) ≡ concat ms → AreLines ms → EndsItem k ms) → CutsAt k ls next
-  searched_cut x ends =
-      let n = h.next_is x in
-      let front : List Line = found.before ++ found.line ∷ n.0 in
-      let whole : ls ≡ front ++ n.1 = found.whole ∙ ap (λ (b : List Line). found.before ++ found.line ∷ b) n.2 ∙ sym (append_assoc found.before (found.line ∷ n.0) n.1) in
-      let len : length (concat front) ≡ next = ap (λ (b : List Line). length (concat b)) (sym (append_assoc found.before (found.line ∷ []) n.0) ∙ ap (λ (b : List Line). b ++ n.0) (sym found.front_is)) ∙ n.4 in
-      let lens : length (concat front) ≡ length (concat found.before) + length (concat (found.line ∷ n.0)) = ap length (concat-append found.before (found.line ∷ n.0)) ∙ length-append (concat found.before) (concat (found.line ∷ n.0)) in
-      let few : next - start ≡ length (concat (found.line ∷ n.0)) = omega (arith, found.start_is) in
-      let all : text ≡ concat found.before ++ (concat (found.line ∷ n.0) ++ concat n.1) =
-      text_is ∙ ap concat whole ∙ concat-append front n.1 ∙ ap (λ (b : List ℕ). b ++ concat n.1) (concat-append found.before (found.line ∷ n.0)) ∙ append_assoc (concat found.before) (concat (found.line ∷ n.0)) (concat n.1) in
-      let bytes : take (next - start) (drop start text) ≡ concat (found.line ∷ n.0) =
-      (λ i. take (few i) (drop (found.start_is i) (all i))) ∙ ap (λ (b : List ℕ). take (length (concat (found.line ∷ n.0))) b) (drop-append_seam (concat found.before) (concat (found.line ∷ n.0) ++ concat n.1)) ∙ take-append_seam (concat (found.line ∷ n.0)) (concat n.1) in
-      let mids : AreLines (found.line ∷ n.0) = are_front (found.line ∷ n.0) n.1 (subst (λ (b : List Line). AreLines (found.line ∷ b)) n.2 (lines_back found.before (found.line ∷ h.back) (subst (λ (b : List Line). AreLines b) found.whole lines))) in
-      record {
-        front = front;
-        back = n.1;
-        whole = whole;
-        len_is = len;
-        cut = (ends_later k found.before (found.line ∷ n.0) (ends (found.line ∷ n.0) bytes mids), n.3);
-      }
-
--- ---- from the last line with an end word
+-- lines that start are some
+pub starts_not_none : (q : List Line) → Starts q → q ≡ [] → ⊥
+starts_not_none [] s e = s
+starts_not_none (l ∷ q) s e = cc
 
 -- a first segment after some lines, if it is not all that is left of the text, ends at a cut point
 pub cut_after : (k : ItemType) (ls : List Line) (text : List ℕ) (start len : ℕ) → text ≡ concat ls → AreLines ls → start ≤ length text → IsLines (take start text) → ((ms : List Line) → drop start text ≡ concat ms → AreLines ms → IsFirstSegment k ms len) → start + len < length text → CutsAt k ls (start + len)
@@ -326,3 +224,12 @@ cut_after k ls text start len e lines within whole first short = under f.cut
       len_is = ap length (concat-append xs f.front) ∙ length-append (concat xs) (concat f.front) ∙ (λ i. sym long i + f.len_is i);
       cut = (ends_later k xs f.front cut.0, cut.1);
     }
+
+-- lines are before a cut point
+pub cut_lines : (k : ItemType) (ls : List Line) (text : List ℕ) (n : ℕ) → text ≡ concat ls → AreLines ls → CutsAt k ls n → IsLines (take n text) × (n ≤ length text)
+cut_lines k ls text n e lines c =
+    let whole : text ≡ concat c.front ++ concat c.back = e ∙ ap concat c.whole ∙ concat-append c.front c.back in
+    let bytes : take n text ≡ concat c.front = (λ i. take (sym c.len_is i) (whole i)) ∙ take-append_seam (concat c.front) (concat c.back) in
+    let all = ap length whole ∙ length-append (concat c.front) (concat c.back) in
+    let len_is = c.len_is in
+    (subst (λ (x : List ℕ). IsLines x) (sym bytes) (lines_of c.front (lines_front c.front c.back (starts_not_none c.back c.cut.1) (subst (λ (x : List Line). AreLines x) c.whole lines))), omega arith)

@@ -76,9 +76,9 @@ abbrev pub first_offset : List (ℕ × Lexeme) → ℕ
 first_offset [] = 0
 first_offset (t ∷ ts) = t.0
 
--- the 1-based line of the first token of a segment, after the parsed text `done`
+-- the 1-based line of the first token of a part, after the parsed text `done`
 abbrev pub first_line : List ℕ → List ℕ → ℕ
-first_line done piece = newlines (done ++ take (first_offset (lexed_of 0 piece).tokens) piece) + 1
+first_line done part = newlines (done ++ take (first_offset (lexed_of 0 part).tokens) part) + 1
 
 -- the word is nowhere in the bytes
 abbrev pub IsAbsent : List ℕ → List ℕ → Type 0

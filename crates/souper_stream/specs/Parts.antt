@@ -67,6 +67,10 @@ IsOnLine done part line = length (done ++ part) + 1 < 2 ^ 64 → line ≡ first_
 abbrev pub HasLine : Buffer → ℕ → ℕ → Type 0
 HasLine b len line = (read done : List ℕ) → Buffers read done b → IsOnLine done (take len (unparsed b)) line
 
+-- each part is one segment
+abbrev pub is_segmented : ItemReader → Bool
+is_segmented r = r.by_segments
+
 -- `r.line()`
 abbrev pub line_of : ItemReader → ℕ
 line_of r = r.line
@@ -94,6 +98,7 @@ pub record TakesPart {S : Type 0} (k : ItemType) (start now : Option (List ℕ))
   pub part : List Line
   pub goes_on : HasParts k start now (ps ++ part ∷ []) r
   pub on_line : IsOnLine (concat (all_lines ps)) (concat part) (line_of r)
+  pub uncut : is_segmented r ≡ true → HasNoCut k part
   pub items : List Item
   pub spelled : TextSpells k (concat part) items
   pub taken : Holds holds items old new

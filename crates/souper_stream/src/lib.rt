@@ -4,7 +4,7 @@
 //! `souper_ir` reads.
 //!
 //! A stream is read in whole lines, and cut where an item ends and a line of the next begins, which the tokens of the lines say. The
-//! lines between two cut points are a *segment*. [`laws::law_of_segments`] says that a text spells the items of its segments.
+//! lines between two cut points are a *segment*. [`laws::law_of_parts`] says that a text spells the items of its segments.
 #![tactic(auto)]
 
 mod buffer;

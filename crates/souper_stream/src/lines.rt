@@ -233,13 +233,6 @@ pub(crate) fn len_without_end<T: StreamItem>(bytes: &[u8]) -> (usize, usize)
     }
 }
 
-/// Whether a word that items of the type end with occurs in the bytes, be it in a token or in a comment.
-pub(crate) fn has_end_word<T: StreamItem>(bytes: &[u8]) -> bool
-    ensures { result ≡ false → NoEndWord T.item_type bytes.now }
-{
-    before_end_words::<T>(bytes).0.len() < bytes.len()
-}
-
 // The end of the first byte of the last occurrence of the word, if items of the type end with a line that it begins. Else 0.
 fn last_occurrence<T: StreamItem>(bytes: &[u8], word: &str) -> usize
     ensures { result ≤ length bytes.now }

@@ -7,7 +7,7 @@ ghost use Rattle.souper_ir.specs.Sinks.{TakesOver, TakesText};
 ghost use Rattle.souper_stream.specs.Buffering.{held, unparsed};
 ghost use Rattle.souper_stream.specs.Segments.{Line};
 ghost use Rattle.souper_stream.specs.Reading.{Reads, ReadsMore, ReadsLine, ReadsLines, EndsInLine};
-ghost use Rattle.souper_stream.specs.Parts.{Advances, LeavesChunk, Rejects, HasParts, HasAll, HasLine, line_of, IsNext, TakesPart, RefusesPart};
+ghost use Rattle.souper_stream.specs.Parts.{Advances, LeavesChunk, Rejects, HasParts, HasAll, HasLine, line_of, is_segmented, IsNext, TakesPart, RefusesPart};
 
 use crate::buffer::{Buffer, newline_count};
 use crate::cuts::{last_cut, segment_len};
@@ -184,7 +184,8 @@ impl ItemReader {
     /// grown by `min_chunk` bytes, and by the line after them. If none is found, it is looked for again when the buffer has doubled.
     /// With a small chunk size items are passed to the sink sooner; with a larger one reading takes less time.
     pub fn new(alloc: Global, min_chunk: usize) -> ItemReader
-        ensures { (k : ItemType) (start : Option (List ℕ)) → HasParts k start start [] result }
+        ensures chunks { is_segmented result ≡ false }
+        ensures begins { (k : ItemType) (start : Option (List ℕ)) → HasParts k start start [] result }
     {
         ItemReader {
             buffer: Buffer::new(alloc),
@@ -201,7 +202,8 @@ impl ItemReader {
 
     /// A reader that passes one segment to the sink each time.
     pub fn by_segments(alloc: Global, min_chunk: usize) -> ItemReader
-        ensures { (k : ItemType) (start : Option (List ℕ)) → HasParts k start start [] result }
+        ensures segments { is_segmented result ≡ true }
+        ensures begins { (k : ItemType) (start : Option (List ℕ)) → HasParts k start start [] result }
     {
         ItemReader {
             by_segments: true,
@@ -223,6 +225,7 @@ impl ItemReader {
         requires none { self.old.rejected ≡ 0 }
         requires going { self.old.ended ≡ false }
         requires well { is_some self.old.fault ≡ false }
+        ensures same { is_segmented self.new ≡ is_segmented self.old }
         ensures parsed { self.new.buffer.start + self.new.buffer.parsed ≤ vec_len self.new.buffer.bytes }
         ensures none { self.new.rejected ≡ 0 }
         ensures read { (k : ItemType) (start : Option (List ℕ)) (ps : List (List Line)) → HasParts k start (R.remaining reader.old) ps self.old → HasParts k start (R.remaining reader.new) ps self.new }
@@ -237,7 +240,8 @@ impl ItemReader {
     fn next_chunk<T: StreamItem, R: BufRead>(&mut self, reader: &mut R) -> io::Result<usize>
         requires parsed { self.old.buffer.start + self.old.buffer.parsed ≤ vec_len self.old.buffer.bytes }
         requires none { self.old.rejected ≡ 0 }
-        ensures { IfOk result (λ len. (start : Option (List ℕ)) (ps : List (List Line)) → HasParts T.item_type start (R.remaining reader.old) ps self.old
+        ensures same { is_segmented self.new ≡ is_segmented self.old }
+        ensures next { IfOk result (λ len. (start : Option (List ℕ)) (ps : List (List Line)) → HasParts T.item_type start (R.remaining reader.old) ps self.old
             → IsNext T.item_type start (R.remaining reader.new) ps self.new len) }
     {
         for _turn in 0..u64::MAX {
@@ -271,6 +275,7 @@ impl ItemReader {
         requires within { self.old.buffer.start + self.old.buffer.parsed + len ≤ vec_len self.old.buffer.bytes }
         ensures advanced { OnOk result (Advances self.old.buffer self.old.ended (is_some self.old.fault) self.new len rejected) }
         ensures line { self.new.line ≡ self.old.line }
+        ensures same { is_segmented self.new ≡ is_segmented self.old }
     {
         self.buffer.pass(len);
         self.rejected = rejected;
@@ -292,6 +297,7 @@ impl ItemReader {
         requires within { self.old.buffer.start + self.old.buffer.parsed + len ≤ vec_len self.old.buffer.bytes }
         ensures advanced { OnOk result (Advances self.old.buffer self.old.ended (is_some self.old.fault) self.new len 0 × HasLine self.old.buffer len self.new.line) }
         ensures taken { OnOk result (TakesText S.holds T.item_type (take len (unparsed self.old.buffer)) sink.old sink.new) }
+        ensures same { is_segmented self.new ≡ is_segmented self.old }
         ensures left { IfErr result (λ e. (kind_of e ≡ ParseErrorKind.Memory → ⊥) → LeavesChunk self.old self.new S.holds sink.old sink.new) }
     {
         let text = utf8(&self.buffer.unparsed()[..len])?;
@@ -318,6 +324,7 @@ impl ItemReader {
             → HasAll T.item_type start (R.remaining reader.new) ps × (sink.new ≡ sink.old))) }
         ensures rejected { IfOk result (λ done. IfNone done (Rejects T.item_type (R.remaining reader.old) (R.remaining reader.new) self.old self.new S.holds sink.old sink.new)) }
         ensures failed { IfErr result (λ e. kind_of e ≡ ParseErrorKind.Parse → ⊥) }
+        ensures same { is_segmented self.new ≡ is_segmented self.old }
     {
         let len = match self.next_chunk::<T, R>(reader) {
             Ok(0) => return Ok(Some(false)),
@@ -349,6 +356,7 @@ impl ItemReader {
         requires some { 0 < self.old.rejected }
         requires within { self.old.buffer.start + self.old.buffer.parsed + self.old.rejected ≤ vec_len self.old.buffer.bytes }
         ensures more { IfOk result (λ more. more ≡ true) }
+        ensures same { is_segmented self.new ≡ is_segmented self.old }
         ensures taken { IfOk result (λ more. (start now : Option (List ℕ)) (ps : List (List Line)) → HasParts T.item_type start now ps self.old
             → TakesPart T.item_type start now ps S.holds sink.old sink.new self.new) }
         ensures refused { IfErr result (λ e. kind_of e ≡ ParseErrorKind.Parse → (start now : Option (List ℕ)) (ps : List (List Line)) → HasParts T.item_type start now ps self.old
@@ -375,7 +383,7 @@ impl ItemReader {
     ///
     /// - `Parse`: the next segment spells no items. The sink has taken items that it begins with. The error has and shows its location in
     ///   the stream. The next call reads the next segment.
-    /// - `Io`: a read failed, or the bytes read are not UTF-8.
+    /// - `Io`: a read failed, or the bytes read are not UTF-8. The segments that were whole before them came in the calls before.
     /// - `Memory`: memory ran out, or the sink returned so.
     ///
     /// After `Io` or `Memory` the stream cannot be read on, and the sink may have taken items.
@@ -393,6 +401,7 @@ impl ItemReader {
             → HasAll T.item_type start (R.remaining reader.new) ps × (sink.new ≡ sink.old)) }
         ensures refused { IfErr result (λ e. kind_of e ≡ ParseErrorKind.Parse → (start : Option (List ℕ)) (ps : List (List Line)) → HasParts T.item_type start (R.remaining reader.old) ps self.old
             → RefusesPart T.item_type (option_copied filename.entry) start (R.remaining reader.new) ps S.holds sink.old sink.new self.new e) }
+        ensures same { is_segmented self.new ≡ is_segmented self.old }
     {
         if self.rejected > 0 {
             return self.read_segment::<T, S>(alloc, filename, sink);

@@ -36,7 +36,7 @@ fn failed_read_is_reported(rt: HostRuntime) {
     }
 }
 
-// With error recovery a segment is written as soon as it ends.
+// The segments before a failed read are written.
 #[test]
 fn segments_are_written_before_a_failed_read(rt: HostRuntime) {
     let source = BrokenReader::new(b"%x = var\ninfer %x\n%y = var\ninfer %y\n%z = var\n", 64);

@@ -98,6 +98,21 @@ fn items_of_a_piece_have_its_line(rt: HostRuntime) {
     runs::<RightHandSide>(&rt, rt.alloc(), OBJECTS_OF_ITEMS, (source, 3), want);
 }
 
+const VALID: &str =
+    r#"{"file":"a \"b\"\\c.opt","key":"8820375044723d31ea806186b0a729943dfbc2f1a594579823d2f6d9e07749c0","line":1,"text":"result 3"}
+{"file":"a \"b\"\\c.opt","key":"cbc48443813dad8f0918dcb489d7cf560db31473b8b1e5fa932b9394d7f7b278","line":3,"text":"result 4"}
+"#;
+
+// Also where all items of a chunk are valid.
+#[test]
+fn item_has_the_line_of_its_segment(rt: HostRuntime) {
+    let want = (0, VALID, "");
+    for least in [1, 4096] {
+        let source = ("result 3\n\nresult 4\n", least);
+        runs::<RightHandSide>(&rt, rt.alloc(), OBJECTS_OF_ITEMS, source, want);
+    }
+}
+
 // The status of a run whose output fails after this number of calls, and whether it failed.
 fn failed_output(rt: &impl Abort, alloc: Global, after: usize) -> (u8, bool) {
     let mut reader = BufReader::new(alloc, SOURCE.as_bytes()).expect(rt, SOURCE);

@@ -2,13 +2,13 @@
 use crate::cases::formatted::FORMATTED;
 use crate::cases::{joined_texts, read_cases};
 use crate::checks::{equal_in, is_text, is_text_in};
-use crate::faulty::BrokenReader;
 use souper_format::command::Kind;
 use souper_ir::ast::{Item, LeftHandSide, Replacement, RightHandSide};
-use souper_ir::parse::{ParseError, Sink, WholeItem, parse_into};
+use souper_ir::parse::{ParseError, ParseErrorKind, Sink, WholeItem, parse_into};
 use souper_stream::{StreamItem, read_chunks_into, read_into};
 use std::alloc::{AllocError, Global};
-use std::io::BufReader;
+use std::io;
+use std::io::{BufReader, Read};
 use std::process::Abort;
 
 // The texts of the items, a line of its own after each.
@@ -106,33 +106,65 @@ fn long_stream_is_read_in_chunks(rt: HostRuntime) {
     is_text(&rt, text, whole.as_str());
 }
 
-// Of a hundred such items in a stream that does not end, read 16 bytes at a time, most are passed to the sink.
-fn most_are_early<T: StreamItem + Drop>(rt: &impl Abort, alloc: Global, item: &str) {
-    let mut source = String::new(alloc);
-    for _ in 0..100 {
-        source.push_str(item).expect(rt, "memory");
+// Has a text again and again, 16 bytes a read, and never ends.
+#[derive(Drop)]
+struct EndlessReader<'a> {
+    text: &'a [u8],
+    rest: &'a [u8],
+}
+
+impl Read for EndlessReader<'_> {
+    fn read(&mut self, buf: &mut [u8]) -> io::Result<usize> {
+        if self.rest.is_empty() {
+            self.rest = self.text;
+        }
+        let most = buf.len().min(16);
+        self.rest.read(&mut buf[..most])
     }
-    let endless = BrokenReader::new(source.as_bytes(), 16);
-    let mut texts = Texts {
-        text: String::new(alloc),
+}
+
+// Takes this number of items and no more.
+#[derive(Drop)]
+struct Few {
+    left: usize,
+}
+
+impl<T: WholeItem + Drop> Sink<T> for Few {
+    ghost holds = { λ first few items. Unit {0} };
+
+    fn take(&mut self, _item: T) -> Result<(), AllocError> {
+        if self.left == 0 {
+            return Err(AllocError);
+        }
+        self.left -= 1;
+        Ok(())
+    }
+}
+
+// Of such items in a stream that does not end, fifty are passed to the sink.
+fn are_early<T: StreamItem + Drop>(rt: &impl Abort, alloc: Global, item: &str) {
+    let endless = EndlessReader {
+        text: item.as_bytes(),
+        rest: item.as_bytes(),
     };
+    let mut few = Few { left: 50 };
     let mut reader = BufReader::with_capacity(alloc, 16, endless).expect(rt, "memory");
-    let read = read_chunks_into::<T, BufReader<BrokenReader<'_>>, Texts>(
+    let read = read_chunks_into::<T, BufReader<EndlessReader<'_>>, Few>(
         alloc,
         1,
         &mut reader,
         None,
-        &mut texts,
+        &mut few,
     );
-    let whole = of_whole::<T>(rt, alloc, source.as_str());
-    let is_early = read.is_err() && 2 * texts.text.len() > whole.len();
-    equal_in(rt, is_early, true, item);
+    let kind = read.err().map(|error| error.kind());
+    equal_in(rt, kind, Some(ParseErrorKind::Memory), item);
+    equal_in(rt, few.left, 0, item);
 }
 
 #[test]
 fn items_do_not_wait_for_the_end(rt: HostRuntime) {
-    most_are_early::<LeftHandSide>(&rt, rt.alloc(), "%0:i8 = var\ninfer %0\n");
-    most_are_early::<RightHandSide>(&rt, rt.alloc(), "%0:i8 = reservedconst\nresult %0\n");
-    most_are_early::<Replacement>(&rt, rt.alloc(), "%0:i8 = var\ninfer %0\nresult 1:i8\n");
-    most_are_early::<Replacement>(&rt, rt.alloc(), "%0:i8 = var\ncand %0, 1:i8\n");
+    are_early::<LeftHandSide>(&rt, rt.alloc(), "%0:i8 = var\ninfer %0\n");
+    are_early::<RightHandSide>(&rt, rt.alloc(), "%0:i8 = reservedconst\nresult %0\n");
+    are_early::<Replacement>(&rt, rt.alloc(), "%0:i8 = var\ninfer %0\nresult 1:i8\n");
+    are_early::<Replacement>(&rt, rt.alloc(), "%0:i8 = var\ncand %0, 1:i8\n");
 }

@@ -29,7 +29,7 @@ returns-clause-written g c =
     let all = rw c.new-source.ensures.options at c.write_parts.ensures.written in
     ok_mapped c.write_parts.result _ (λ refused. WritesParts k name recover before after (OfItems (WritesRecords l out)) err refused) (λ refused w.
     parts_mapped k name recover before after _ (OfItems (WritesRecords l out)) err err refused (λ os x.
-    records_wrote l (λ a. a.layout ≡ l) _ (λ a b x y o h is. kept l a.layout b.layout x y o.items is h) c.new-records.result c.write_parts.new.sink out os c.new-records.ensures.layout x) (λ es r. r) w) all
+    records_wrote l (λ a. a.layout ≡ l) _ (λ a b x y o h is. kept l a.layout b.layout x y o.items is h) c.new-records.result c.write_parts.new.sink out os c.new-records.ensures.layout x.0) (λ es r. r) w) all
 
 pub returns-clause-stopped : goal.returns-clause-stopped
 returns-clause-stopped g c =
@@ -44,4 +44,4 @@ returns-clause-stopped g c =
     let all = rw c.new-source.ensures.options at c.write_parts.ensures.stopped in
     err_mapped c.write_parts.result _ (λ stop. StopsAfter k name recover before (OfItems (WritesRecords l out)) bad err stop) (λ stop s.
     stops_mapped k name recover before _ (OfItems (WritesRecords l out)) bad err stop (λ os x.
-    records_wrote l (λ a. a.layout ≡ l) _ (λ a b x y o h is. kept l a.layout b.layout x y o.items is h) c.new-records.result x.0 out os c.new-records.ensures.layout x.1) s) all
+    records_wrote l (λ a. a.layout ≡ l) _ (λ a b x y o h is. kept l a.layout b.layout x y o.items is h) c.new-records.result x.0 out os c.new-records.ensures.layout x.1.0) s) all

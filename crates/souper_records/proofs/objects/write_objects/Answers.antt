@@ -28,9 +28,9 @@ returns-clause-written g c =
     let err = stream g.E.Write.contents c.args.err.now c.write_parts.new.err in
     let first : Objects = record { alloc = c.args.alloc; rename = rename; text = c.new.result; texts = c.new-2.result } in
     let all = rw c.by_segments-source.ensures.options at c.write_parts.ensures.written in
-    ok_mapped c.write_parts.result _ (λ refused. WritesParts k name recover before after (WritesObjects rename name out) err refused) (λ refused w.
-    parts_mapped k name recover before after _ (WritesObjects rename name out) err err refused (λ os x.
-    objects_wrote rename name (λ a. a.rename ≡ rename) _ (λ a b x y o h is. kept rename a.rename b.rename name x y o is h) first c.write_parts.new.sink out os refl x) (λ es r. r) w) all
+    ok_mapped c.write_parts.result _ (λ refused. WritesParts k name recover before after (WritesObjects k rename name out) err refused) (λ refused w.
+    parts_mapped k name recover before after _ (WritesObjects k rename name out) err err refused (λ os x.
+    objects_wrote k rename name (λ a. a.rename ≡ rename) _ (λ a b x y o h is. kept rename a.rename b.rename name x y o is h) first c.write_parts.new.sink out os refl _ c.by_segments-source.ensures.segments x) (λ es r. r) w) all
 
 pub returns-clause-stopped : goal.returns-clause-stopped
 returns-clause-stopped g c =
@@ -44,6 +44,6 @@ returns-clause-stopped g c =
     let err = stream g.E.Write.contents c.args.err.now c.write_parts.new.err in
     let first : Objects = record { alloc = c.args.alloc; rename = rename; text = c.new.result; texts = c.new-2.result } in
     let all = rw c.by_segments-source.ensures.options at c.write_parts.ensures.stopped in
-    err_mapped c.write_parts.result _ (λ stop. StopsAfter k name recover before (WritesObjects rename name out) bad err stop) (λ stop s.
-    stops_mapped k name recover before _ (WritesObjects rename name out) bad err stop (λ os x.
-    objects_wrote rename name (λ a. a.rename ≡ rename) _ (λ a b x y o h is. kept rename a.rename b.rename name x y o is h) first x.0 out os refl x.1) s) all
+    err_mapped c.write_parts.result _ (λ stop. StopsAfter k name recover before (WritesObjects k rename name out) bad err stop) (λ stop s.
+    stops_mapped k name recover before _ (WritesObjects k rename name out) bad err stop (λ os x.
+    objects_wrote k rename name (λ a. a.rename ≡ rename) _ (λ a b x y o h is. kept rename a.rename b.rename name x y o is h) first x.0 out os refl _ c.by_segments-source.ensures.segments x.1) s) all

@@ -1,4 +1,4 @@
-use Rattle.std.proofs.Common.{rules, ◌≡◌, ℕ, [], None, Some, refl, sym, subst}
+use Rattle.std.proofs.Common.{rules, ◌≡◌, ℕ, [], None, Some, refl, sym, ◌∙◌, subst}
 use Rattle.std.specs.String.{string_bytes}
 use Rattle.std.proofs.KnownBytes.{Keeps-refl}
 use Rattle.souper_ir.specs.declared.parse.error.ParseErrorKind.TheVariants.{Parse}
@@ -19,7 +19,7 @@ returns-in_ok-write_part-in-Ok-true-clause-part g c = λ start ps had.
       is = record { on_line = subst (λ (n : ℕ). IsOnLine (concat (all_lines ps)) (concat t.part) n) (sym c.line-line.ensures) t.on_line; is = t.spelled };
       any = refl;
       after = λ e. absurd cc;
-      are_written = c.in_ok-write_part-in-Ok-true.ensures.written c.args.sink.now o c.requires.none (t.taken c.args.sink.now c.requires.none) refl refl;
+      are_written = (c.in_ok-write_part-in-Ok-true.ensures.written c.args.sink.now o c.requires.none (t.taken c.args.sink.now c.requires.none) refl refl, λ e. t.uncut (c.read_part.ensures.same ∙ e));
       reported = Keeps-refl _;
     }
 
@@ -60,6 +60,6 @@ returns-in_ok-write_part-in-Err-clause-part g c = λ start ps had.
         never = t.never;
         begun = refusal_begun k _ start now ps g.S.Sink.holds c.args.sink.now c.read_part.new.sink c.read_part.new.self c.in-Err.error t;
       };
-      are_written = c.in_ok-write_part-in-Err.ensures.written c.args.sink.now o c.requires.none (t.taken c.args.sink.now c.requires.none) refl refl;
+      are_written = (c.in_ok-write_part-in-Err.ensures.written c.args.sink.now o c.requires.none (t.taken c.args.sink.now c.requires.none) refl refl, λ e. t.segment);
       reported = λ works. (string_bytes c.in_ok-shown-in-Err.shown, c.in_ok-shown-in-Err.ensures, c.report_line.ensures.given works);
     }

@@ -1,10 +1,12 @@
-use Rattle.std.proofs.Common.{◌≡◌, Bool, ◌||◌, false, Some, refl, sym, ap, ◌∙◌, subst}
+use Rattle.std.proofs.Common.{◌≡◌, Bool, ◌||◌, true, false, Some, refl, sym, ap, ◌∙◌, subst}
 use Rattle.std.proofs.KnownBytes.{Keeps-refl}
+use Rattle.souper_stream.specs.Segments.{HasNoCut}
+use Rattle.souper_stream.specs.Parts.{is_segmented}
 use Rattle.souper_format.specs.Streams.{stream}
 use Rattle.souper_format.specs.Watching.{has_failed}
 use Rattle.souper_records.specs.declared.options.ReadOptions.{ReadOptions}
 use Rattle.souper_records.specs.declared.stop.Stop.TheVariants.{Input}
-use Rattle.souper_records.specs.Outcomes.{StopsAfter, WritesParts, WroteEach}
+use Rattle.souper_records.specs.Outcomes.{StopsAfter, WritesParts, WroteParts}
 use Rattle.souper_records.proofs.Outcomes.{Reached, wrote_more, reached_none, reached_more, reached_refusal, reached_end, stopped_after, reading_kept}
 use Rattle.souper_records.proofs.Writers.{inner_bytes}
 use Rattle.souper_records.proofs.parts.write_parts.Goals as goal
@@ -18,9 +20,10 @@ loop-turn-init g c =
     let s = c.args.sink.now in
     record {
       options = refl;
+      same = refl;
       none = c.requires.none;
-      reached = reached_none g.T.Item.item_type (Some name) start (WroteEach (g.S.PartSink.wrote name) s out s out) (stream g.E.Write.contents c.args.err.now c.args.err.now) c.args.source.parts
-          (c.requires.begins g.T.Item.item_type start) (refl, refl) (Keeps-refl _);
+      reached = reached_none g.T.Item.item_type (Some name) start (WroteParts g.T.Item.item_type (is_segmented c.args.source.parts) (g.S.PartSink.wrote name) s out s out) (stream g.E.Write.contents c.args.err.now c.args.err.now) c.args.source.parts
+          (c.requires.begins g.T.Item.item_type start) ((refl, refl), λ e. tt) (Keeps-refl _);
       quiet = λ e. refl;
       stays = λ e. e;
     }
@@ -39,11 +42,13 @@ returns-then-not-source-clause-written g c =
     let mid = con c.loop-turn.out in
     let new = con c.write_next.new.out in
     let wrote = g.S.PartSink.wrote name in
+    let wrote_all = WroteParts k (is_segmented c.args.source.parts) wrote s old in
     let i = c.loop-turn.invariant in
     let e = rw (i.options, c.if-refused.true) at (rw c.in-Ok-Some.field-0-is at c.in-Ok-Some.ensures) in
     let stops : recover ≡ false = sym (ap (λ (o : ReadOptions). o.recover) e.options) ∙ c.if-not-source.true in
-    reached_refusal k name recover start (rem c.loop-turn.reader) (rem c.write_next.new.reader) (WroteEach wrote s old c.loop-turn.sink mid) (WroteEach wrote s old c.write_next.new.sink new) (wrote c.loop-turn.sink mid c.write_next.new.sink new)
-    (wrote_more wrote s c.loop-turn.sink c.write_next.new.sink old mid new) (stream err c.args.err.now c.loop-turn.err) (stream err c.loop-turn.err c.write_next.new.err)
+    reached_refusal k name recover start (rem c.loop-turn.reader) (rem c.write_next.new.reader) (wrote_all c.loop-turn.sink mid) (wrote_all c.write_next.new.sink new)
+    (λ o. wrote c.loop-turn.sink mid c.write_next.new.sink new o × (is_segmented c.loop-turn.source.parts ≡ true → HasNoCut k o.part))
+    (wrote_more k (is_segmented c.args.source.parts) (is_segmented c.loop-turn.source.parts) i.same wrote s c.loop-turn.sink c.write_next.new.sink old mid new) (stream err c.args.err.now c.loop-turn.err) (stream err c.loop-turn.err c.write_next.new.err)
     (stream err c.args.err.now c.write_next.new.err) c.loop-turn.any c.loop-turn.source.parts c.write_next.new.source.parts (record { from = refl; between = refl; to = refl; last = refl; stays = e.stays }) stops (i.quiet stops) i.reached (e.part start _ i.reached.had)
 
 pub returns-in-Ok-None-clause-written : goal.returns-in-Ok-None-clause-written
@@ -56,7 +61,7 @@ returns-in-Ok-None-clause-written g c =
     let after = rem c.write_next.new.reader in
     let name = c.args.source.options.name.now in
     let recover = c.args.source.options.recover in
-    let wrote = WroteEach (g.S.PartSink.wrote name) c.args.sink.now (con c.args.out.now) in
+    let wrote = WroteParts g.T.Item.item_type (is_segmented c.args.source.parts) (g.S.PartSink.wrote name) c.args.sink.now (con c.args.out.now) in
     let i = c.loop-turn.invariant in
     let e = rw c.in-Ok-None.field-0-is at c.in-Ok-None.ensures in
     let w = reached_end k name recover start (rem c.loop-turn.reader) after (wrote c.loop-turn.sink (con c.loop-turn.out)) (stream err c.args.err.now c.loop-turn.err) c.loop-turn.any c.loop-turn.source.parts i.reached i.quiet (e.ended start _ i.reached.had) in
@@ -73,7 +78,7 @@ returns-in-Err-clause-stopped g c =
     let start = rem c.args.reader.now in
     let name = c.args.source.options.name.now in
     let recover = c.args.source.options.recover in
-    let wrote = WroteEach (g.S.PartSink.wrote name) c.args.sink.now (con c.args.out.now) in
+    let wrote = WroteParts g.T.Item.item_type (is_segmented c.args.source.parts) (g.S.PartSink.wrote name) c.args.sink.now (con c.args.out.now) in
     let i = c.loop-turn.invariant in
     let e = c.in-Err.ensures in
     let bad = has_failed c.write_next.new.out in
@@ -94,6 +99,7 @@ loop-turn-preserved g c =
     let mid = con c.loop-turn.out in
     let new = con c.write_next.new.out in
     let wrote = g.S.PartSink.wrote name in
+    let wrote_all = WroteParts k (is_segmented c.args.source.parts) wrote s old in
     let i = c.loop-turn.invariant in
     let refused = c.in-Ok-Some.refused in
     let e = rw i.options at (rw c.in-Ok-Some.field-0-is at c.in-Ok-Some.ensures) in
@@ -107,10 +113,12 @@ loop-turn-preserved g c =
     ] in
     record {
       options = e.options;
+      same = e.same ∙ i.same;
       none = e.none;
-      reached = subst (λ (b : Bool). Reached k (Some name) start (rem c.write_next.new.reader) (WroteEach wrote s old c.write_next.new.sink new) (stream err c.args.err.now c.write_next.new.err) b c.write_next.new.source.parts) (sym any)
-          (reached_more k (Some name) start (rem c.loop-turn.reader) (rem c.write_next.new.reader) (WroteEach wrote s old c.loop-turn.sink mid) (WroteEach wrote s old c.write_next.new.sink new) (wrote c.loop-turn.sink mid c.write_next.new.sink new)
-          (wrote_more wrote s c.loop-turn.sink c.write_next.new.sink old mid new) (stream err c.args.err.now c.loop-turn.err) (stream err c.loop-turn.err c.write_next.new.err)
+      reached = subst (λ (b : Bool). Reached k (Some name) start (rem c.write_next.new.reader) (wrote_all c.write_next.new.sink new) (stream err c.args.err.now c.write_next.new.err) b c.write_next.new.source.parts) (sym any)
+          (reached_more k (Some name) start (rem c.loop-turn.reader) (rem c.write_next.new.reader) (wrote_all c.loop-turn.sink mid) (wrote_all c.write_next.new.sink new)
+          (λ o. wrote c.loop-turn.sink mid c.write_next.new.sink new o × (is_segmented c.loop-turn.source.parts ≡ true → HasNoCut k o.part))
+          (wrote_more k (is_segmented c.args.source.parts) (is_segmented c.loop-turn.source.parts) i.same wrote s c.loop-turn.sink c.write_next.new.sink old mid new) (stream err c.args.err.now c.loop-turn.err) (stream err c.loop-turn.err c.write_next.new.err)
           (stream err c.args.err.now c.write_next.new.err) c.loop-turn.any refused c.loop-turn.source.parts c.write_next.new.source.parts (record { from = refl; between = refl; to = refl; last = refl; stays = e.stays }) i.reached (e.part start _ i.reached.had));
       quiet = λ stops. any ∙ (λ j. i.quiet stops j || not_last stops j);
       stays = λ f. e.stays (i.stays f);
@@ -122,7 +130,7 @@ returns-clause-stopped g c =
     let con = inner_bytes g.W.Write.contents in
     let name = c.args.source.options.name.now in
     let recover = c.args.source.options.recover in
-    let wrote = WroteEach (g.S.PartSink.wrote name) c.args.sink.now (con c.args.out.now) in
+    let wrote = WroteParts g.T.Item.item_type (is_segmented c.args.source.parts) (g.S.PartSink.wrote name) c.args.sink.now (con c.args.out.now) in
     let i = c.loop-turn.invariant in
     stopped_after g.T.Item.item_type name recover (rem c.args.reader.now) (rem c.loop-turn.reader) (rem c.loop-turn.reader) (wrote c.loop-turn.sink (con c.loop-turn.out)) (stream g.E.Write.contents c.args.err.now c.loop-turn.err) c.loop-turn.any c.loop-turn.source.parts i.reached
     (λ os. (s : _) × wrote s (con c.loop-turn.out) os) (has_failed c.loop-turn.out) (Input c.from.result) i.quiet (λ os w. (c.loop-turn.sink, w))

@@ -18,6 +18,6 @@ returns g c =
     let both = stream g.E.Write.contents c.args.err.now c.end_parts.new.err in
     let q : Parts first last out = record { from = refl; between = refl; to = refl; last = refl; stays = c.end_parts.ensures.out_stays } in
     run_ends g.T.Item.item_type name true before after first last out q a b both (record { from = refl; between = refl; to = refl; last = refl; stays = c.end_parts.ensures.stays })
-    (WritesObjects rename name first) (WritesObjects rename name out) (WritesObjects rename name first) (WritesObjects rename name out)
-    (objects_kept rename name first last out q) (objects_kept rename name first last out q) c.write_objects-parts.result c.end_parts.result
+    (WritesObjects g.T.Item.item_type rename name first) (WritesObjects g.T.Item.item_type rename name out) (WritesObjects g.T.Item.item_type rename name first) (WritesObjects g.T.Item.item_type rename name out)
+    (objects_kept g.T.Item.item_type rename name first last out q) (objects_kept g.T.Item.item_type rename name first last out q) c.write_objects-parts.result c.end_parts.result
     c.write_objects-parts.ensures.written c.write_objects-parts.ensures.stopped c.write_objects-parts.ensures.input c.end_parts.ensures.end

@@ -26,7 +26,7 @@ returns-clause-written g c =
     ok_mapped c.write_parts-result.result _ (λ refused. (earlier : List Item) → HasSeen k l.rename earlier s → WritesParts k name recover before after (OfItems (WritesSeenFirsts k l earlier out t)) err refused) (λ refused w earlier had.
     parts_mapped k name recover before after _ (OfItems (WritesSeenFirsts k l earlier out t)) err err refused (λ os x. first_records k l out s t earlier (items_of os) had
     (subst (λ y. WritesNewFirsts k l out.before out.after y t (items_of os)) c.replace.ensures.value
-    (firsts_wrote k l (λ a. a.layout) (λ a. a.seen) _ (λ a b x y o h. h) first c.write_parts-result.new.sink out.before out.after os x refl))) (λ es r. r) w) all
+    (firsts_wrote k l (λ a. a.layout) (λ a. a.seen) _ (λ a b x y o h. h) first c.write_parts-result.new.sink out.before out.after os x.0 refl))) (λ es r. r) w) all
 
 pub returns-clause-stopped : goal.returns-clause-stopped
 returns-clause-stopped g c =
@@ -44,4 +44,4 @@ returns-clause-stopped g c =
     err_mapped c.write_parts-result.result _ (λ stop. (earlier : List Item) → HasSeen k l.rename earlier s → StopsAfter k name recover before (OfItems (WritesFirstRecords l earlier out)) bad err stop) (λ stop st earlier had.
     stops_mapped k name recover before _ (OfItems (WritesFirstRecords l earlier out)) bad err stop (λ os x. (first_records k l out s x.0.seen earlier (items_of os) had
     (subst (λ y. WritesNewFirsts k l out.before out.after y x.0.seen (items_of os)) c.replace.ensures.value
-    (firsts_wrote k l (λ a. a.layout) (λ a. a.seen) _ (λ a b x y o h. h) first x.0 out.before out.after os x.1 refl))).0) st) all
+    (firsts_wrote k l (λ a. a.layout) (λ a. a.seen) _ (λ a b x y o h. h) first x.0 out.before out.after os x.1.0 refl))).0) st) all

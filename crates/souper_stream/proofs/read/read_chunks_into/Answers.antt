@@ -10,7 +10,7 @@ pub loop-turn-init : goal.loop-turn-init
 loop-turn-init g c =
     let k = g.T.Item.item_type in
     let start = g.R.Read.remaining c.args.reader.now in
-    record { reached = reached_none k start g.S.Sink.holds c.args.sink.now c.new-parts.result (c.new-parts.ensures k start); none = c.new.ensures.items }
+    record { reached = reached_none k start g.S.Sink.holds c.args.sink.now c.new-parts.result (c.new-parts.ensures.begins k start); none = c.new.ensures.items }
 
 pub pass_on-requires : goal.pass_on-requires
 pass_on-requires g c =

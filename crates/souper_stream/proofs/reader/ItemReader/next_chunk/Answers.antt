@@ -4,8 +4,8 @@ use Rattle.souper_stream.specs.Parts.{HasRead}
 use Rattle.souper_stream.proofs.Passing.{next_cut, next_end}
 use Rattle.souper_stream.proofs.reader.ItemReader.next_chunk.Goals as goal
 
-pub returns-then-self : goal.returns-then-self
-returns-then-self g c = λ start ps had.
+pub returns-then-self-clause-next : goal.returns-then-self-clause-next
+returns-then-self-clause-next g c = λ start ps had.
     let k = g.T.Item.item_type in
     let rem = g.R.Read.remaining in
     let p = c.loop-turn.self in
@@ -14,8 +14,8 @@ returns-then-self g c = λ start ps had.
     let q : ItemReader = record { buffer = p.buffer; min_chunk = p.min_chunk; goal = p.goal; by_segments = p.by_segments; ended = p.ended; fault = c.take.new.self; rejected = p.rejected; line = p.line; memory = p.memory } in
     next_end k start (rem c.loop-turn.reader) ps q _ (ls, subst (λ (b : Bool). HasRead k start (rem c.loop-turn.reader) ps ls p.buffer p.ended b p.rejected) well h) c.if-self.true (ap length c.unparsed.ensures)
 
-pub returns-then-cut-gt0 : goal.returns-then-cut-gt0
-returns-then-cut-gt0 g c = λ start ps had.
+pub returns-then-cut-gt0-clause-next : goal.returns-then-cut-gt0-clause-next
+returns-then-cut-gt0-clause-next g c = λ start ps had.
     let k = g.T.Item.item_type in
     let rem = g.R.Read.remaining in
     let p = c.loop-turn.self in
@@ -31,6 +31,7 @@ loop-turn-preserved g c =
     let p = c.loop-turn.self in
     let well : is_some p.fault ≡ is_some c.take.new.self = ap is_some (sym c.take.ensures.value ∙ c.in_default.is ∙ sym c.take.ensures.after) in
     record {
+      same = c.read_more.ensures.same ∙ c.loop-turn.invariant.same;
       parsed = c.read_more.ensures.parsed;
       none = c.read_more.ensures.none;
       parts = λ start ps had.
@@ -45,6 +46,7 @@ loop-turn-preserved-then-self-2 g c =
     let p = c.loop-turn.self in
     let well : is_some p.fault ≡ is_some c.take.new.self = ap is_some (sym c.take.ensures.value ∙ c.in_default.is ∙ sym c.take.ensures.after) in
     record {
+      same = c.read_more.ensures.same ∙ c.loop-turn.invariant.same;
       parsed = c.read_more.ensures.parsed;
       none = c.read_more.ensures.none;
       parts = λ start ps had.

@@ -2,11 +2,12 @@
 use Rattle.std.proofs.Common.{◌≡◌, ◌≤◌, ◌+◌, List}
 use Rattle.std.specs.Prelude.{ℕ, Option, vec_len}
 use Rattle.souper_stream.specs.Segments.{Line}
-use Rattle.souper_stream.specs.Parts.{HasParts}
+use Rattle.souper_stream.specs.Parts.{HasParts, is_segmented}
 use Rattle.souper_stream.proofs.reader.ItemReader.next_chunk.Given as goal
 
 abbrev pub invariant-loop-turn : goal.invariant-loop-turn
 invariant-loop-turn g l = record {
+  same : is_segmented l.self ≡ is_segmented l.fn.self;
   parsed : l.self.buffer.start + l.self.buffer.parsed ≤ vec_len l.self.buffer.bytes;
   none : l.self.rejected ≡ 0;
   parts : (start : Option (List ℕ)) (ps : List (List Line)) → HasParts g.T.Item.item_type start (g.R.Read.remaining l.fn.reader) ps l.fn.self → HasParts g.T.Item.item_type start (g.R.Read.remaining l.reader) ps l.self;

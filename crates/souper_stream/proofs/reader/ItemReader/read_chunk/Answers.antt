@@ -1,4 +1,4 @@
-use Rattle.std.proofs.Common.{rules, ◌≡◌, ◌<◌, refl, arith}
+use Rattle.std.proofs.Common.{rules, ◌≡◌, ◌<◌, ◌∙◌, refl, arith}
 use Rattle.souper_ir.specs.declared.parse.error.ParseErrorKind.TheVariants.{Memory}
 use Rattle.souper_ir.specs.Errors.{kind_of}
 use Rattle.souper_stream.specs.declared.reader.ItemReader.{ItemReader}
@@ -7,7 +7,7 @@ use Rattle.souper_stream.proofs.Passing.{begin_chunk, chunk_within, chunk_taken}
 use Rattle.souper_stream.proofs.reader.ItemReader.read_chunk.Goals as goal
 
 pub returns-in-Ok-eq0-clause-ended : goal.returns-in-Ok-eq0-clause-ended
-returns-in-Ok-eq0-clause-ended g c = λ e start ps had. ((c.in-Ok-eq0.ensures start ps had).2 c.in-Ok-eq0.field-0-test, refl)
+returns-in-Ok-eq0-clause-ended g c = λ e start ps had. ((c.in-Ok-eq0.ensures.next start ps had).2 c.in-Ok-eq0.field-0-test, refl)
 
 pub returns-then-self-clause-rejected : goal.returns-then-self-clause-rejected
 returns-then-self-clause-rejected g c =
@@ -16,7 +16,7 @@ returns-then-self-clause-rejected g c =
     let q : ItemReader = record { buffer = r.buffer; min_chunk = r.min_chunk; goal = r.goal; by_segments = r.by_segments; ended = r.ended; fault = r.fault; rejected = c.in-Ok.len; line = r.line; memory = r.memory } in
     record {
       some = some;
-      goes_on = λ start ps had. begin_chunk g.T.Item.item_type start (g.R.Read.remaining c.next_chunk.new.reader) ps r q c.in-Ok.len (c.in-Ok.ensures start ps had) some refl refl refl refl;
+      goes_on = λ start ps had. begin_chunk g.T.Item.item_type start (g.R.Read.remaining c.next_chunk.new.reader) ps r q c.in-Ok.len (c.in-Ok.ensures.next start ps had) some refl refl refl refl;
       none = λ first h. h;
     }
 
@@ -24,15 +24,15 @@ pub parse_chunk-requires-clause-within : goal.parse_chunk-requires-clause-within
 parse_chunk-requires-clause-within g c =
     let some : 0 < c.in-Ok.len = omega (arith, c.in-Ok.len-test) in
     let r = c.next_chunk.new.self in
-    let n = c.in-Ok.ensures c.requires.had.0 c.requires.had.1 c.requires.had.2 in
+    let n = c.in-Ok.ensures.next c.requires.had.0 c.requires.had.1 c.requires.had.2 in
     omega (arith, buffers_fit n.1.read _ r.buffer c.in-Ok.len n.1.buffers (chunk_within g.T.Item.item_type r.ended n.0 c.in-Ok.len r.buffer n.1.rest (n.3 some)), r.buffer.bytes.ok)
 
 pub returns-in-Ok-parse_chunk-clause-read : goal.returns-in-Ok-parse_chunk-clause-read
 returns-in-Ok-parse_chunk-clause-read g c = λ e start ps had.
     let some : 0 < c.in-Ok.len = omega (arith, c.in-Ok.len-test) in
     let t = c.in-Ok-parse_chunk.ensures in
-    chunk_taken g.T.Item.item_type start (g.R.Read.remaining c.next_chunk.new.reader) ps c.next_chunk.new.self c.parse_chunk.new.self c.in-Ok.len g.S.Sink.holds c.args.sink.now c.parse_chunk.new.sink (c.in-Ok.ensures start ps had) some
-    t.advanced.0 t.advanced.1 t.taken
+    chunk_taken g.T.Item.item_type start (g.R.Read.remaining c.next_chunk.new.reader) ps c.next_chunk.new.self c.parse_chunk.new.self c.in-Ok.len g.S.Sink.holds c.args.sink.now c.parse_chunk.new.sink (c.in-Ok.ensures.next start ps had) some
+    t.advanced.0 t.advanced.1 (t.same ∙ c.if-self.false) t.taken
 
 pub returns-in-Err-2-clause-rejected : goal.returns-in-Err-2-clause-rejected
 returns-in-Err-2-clause-rejected g c =
@@ -43,6 +43,6 @@ returns-in-Err-2-clause-rejected g c =
     let q : ItemReader = record { buffer = r.buffer; min_chunk = r.min_chunk; goal = r.goal; by_segments = r.by_segments; ended = r.ended; fault = r.fault; rejected = c.in-Ok.len; line = r.line; memory = r.memory } in
     record {
       some = some;
-      goes_on = λ start ps had. begin_chunk g.T.Item.item_type start (g.R.Read.remaining c.next_chunk.new.reader) ps c.next_chunk.new.self q c.in-Ok.len (c.in-Ok.ensures start ps had) some left.buffer_is left.ended_is left.fault_is refl;
+      goes_on = λ start ps had. begin_chunk g.T.Item.item_type start (g.R.Read.remaining c.next_chunk.new.reader) ps c.next_chunk.new.self q c.in-Ok.len (c.in-Ok.ensures.next start ps had) some left.buffer_is left.ended_is left.fault_is refl;
       none = λ first h. c.rollback.ensures first left.items (left.begun first _ h);
     }
