@@ -19,12 +19,15 @@
 #include <cstdint>
 #include <cstring>
 #include <exception>
+#include <functional>
 #include <memory>
 #include <new>
 #include <optional>
 #include <stdexcept>
 #include <string>
 #include <string_view>
+#include <type_traits>
+#include <unordered_set>
 #include <utility>
 #include <variant>
 #include <vector>
@@ -105,18 +108,31 @@ enum class kind : std::uint32_t { lhs = SOUPER_LHS, rhs = SOUPER_RHS, rep = SOUP
 
 __extension__ typedef __int128 int128;
 
+namespace detail {
+__extension__ typedef unsigned __int128 uint128;
+} // namespace detail
+
 /// A statement of an item, by its position in `item::statements`, from 0.
 struct id {
     std::size_t position;
 
     friend bool operator==(id a, id b) noexcept { return a.position == b.position; }
     friend bool operator!=(id a, id b) noexcept { return a.position != b.position; }
+    friend bool operator<(id a, id b) noexcept { return a.position < b.position; }
 };
 
 /// A number, with a width in bits (1 to 65535) or without.
 struct constant {
     int128 value;
     std::optional<std::uint32_t> width = std::nullopt;
+
+    /// The constant of a width that has these bits, of which the lowest `wide` count. It is signed, as Souper prints constants:
+    /// the bits 255 of width 8 are `-1:i8`. (`255:i8` is well formed too, and another graph with another text.) The width is to
+    /// be from 1 to 128: what another one gives is not specified.
+    static constant from_bits(detail::uint128 bits, std::uint32_t wide) noexcept {
+        const std::uint32_t above = wide > 0 && wide < 128 ? 128 - wide : 0;
+        return {static_cast<int128>(bits << above) >> above, wide};
+    }
 
     friend bool operator==(const constant &a, const constant &b) noexcept { return a.value == b.value && a.width == b.width; }
     friend bool operator!=(const constant &a, const constant &b) noexcept { return !(a == b); }
@@ -154,6 +170,16 @@ constexpr std::size_t operand_count(op operation) noexcept {
 #undef SOUPER_X
     }
     return 0;
+}
+
+/// The operation of a word in a text, if it is one of the 59.
+inline std::optional<op> op_named(std::string_view text) noexcept {
+    for (unsigned number = 0; !word(static_cast<op>(number)).empty(); number++) {
+        if (word(static_cast<op>(number)) == text) {
+            return static_cast<op>(number);
+        }
+    }
+    return std::nullopt;
 }
 
 // Right sides of assignments.
@@ -386,43 +412,205 @@ template <typename Visit> void for_each_use(const statement &s, Visit visit) {
 }
 
 // ----------------------------------------------------------------
+// Printing, of a number or a statement by itself. `write` prints items.
+
+/// The number in decimal digits.
+template <typename T, typename = std::enable_if_t<std::is_same_v<T, int128>>> std::string decimal(T value) {
+    std::string digits;
+    detail::uint128 rest = value < 0 ? -static_cast<detail::uint128>(value) : static_cast<detail::uint128>(value);
+    do {
+        digits.insert(digits.begin(), "0123456789"[rest % 10]);
+        rest /= 10;
+    } while (rest != 0);
+    return value < 0 ? "-" + digits : digits;
+}
+
+namespace detail {
+
+inline std::string of_width(const std::optional<std::uint32_t> &bits) { return bits ? ":i" + std::to_string(*bits) : std::string(); }
+
+// The text of a statement of a list.
+class printer {
+public:
+    explicit printer(const std::vector<statement> &all) noexcept : statements(all) {}
+
+    std::string line(const statement &s) const {
+        if (const auto *condition = std::get_if<pc>(&s)) {
+            return "pc " + text(condition->x) + " " + text(condition->y);
+        }
+        if (const auto *on_block = std::get_if<blockpc>(&s)) {
+            return "blockpc " + name(on_block->block) + " " + std::to_string(on_block->predecessor) + " " + text(on_block->x) + " " +
+                   text(on_block->y);
+        }
+        const auto &assigned = std::get<assignment>(s);
+        std::string out = assigned.name + of_width(assigned.width) + " = " + text(assigned.value);
+        for (const attribute &a : assigned.attributes) {
+            out += " (" + text(a) + ")";
+        }
+        return out;
+    }
+
+private:
+    // The name of an assignment; `?` if the statement at the position is none.
+    std::string name(id of) const {
+        const auto *assigned = of.position < statements.size() ? std::get_if<assignment>(&statements[of.position]) : nullptr;
+        return assigned ? assigned->name : "?";
+    }
+
+    std::string text(const operand &o) const {
+        if (const auto *number = std::get_if<constant>(&o)) {
+            return decimal(number->value) + of_width(number->width);
+        }
+        return name(std::get<id>(o));
+    }
+
+    std::string list(std::string out, const char *before, const std::vector<operand> &operands) const {
+        for (const operand &o : operands) {
+            out += before + text(o);
+            before = ", ";
+        }
+        return out;
+    }
+
+    std::string text(const right_side &value) const {
+        if (const auto *choice = std::get_if<phi>(&value)) {
+            return list("phi " + name(choice->block), ", ", choice->values);
+        }
+        if (const auto *computed = std::get_if<instruction>(&value)) {
+            return list(std::string(word(computed->operation)), " ", computed->operands);
+        }
+        if (const auto *of_block = std::get_if<block>(&value)) {
+            return "block " + std::to_string(of_block->predecessors);
+        }
+        return std::holds_alternative<var>(value) ? "var" : std::holds_alternative<reservedinst>(value) ? "reservedinst" : "reservedconst";
+    }
+
+    static std::string text(const attribute &a) {
+        if (const auto *known = std::get_if<known_bits>(&a)) {
+            return "knownBits=" + known->bits;
+        }
+        if (const auto *sign = std::get_if<sign_bits>(&a)) {
+            return "signBits=" + std::to_string(sign->count);
+        }
+        if (const auto *bounds = std::get_if<range>(&a)) {
+            return "range=[" + decimal(bounds->low) + "," + decimal(bounds->high) + ")";
+        }
+        return std::holds_alternative<power_of_two>(a)   ? "powerOfTwo"
+               : std::holds_alternative<negative>(a)     ? "negative"
+               : std::holds_alternative<non_negative>(a) ? "nonNegative"
+               : std::holds_alternative<non_zero>(a)     ? "nonZero"
+                                                         : "hasExternalUses";
+    }
+
+    const std::vector<statement> &statements;
+};
+
+} // namespace detail
+
+/// The line of a statement, without a newline, as `write` prints it; empty if there is none at the position. A use of no
+/// assignment is printed as `?`.
+inline std::string statement_text(const std::vector<statement> &statements, id which) {
+    return which.position < statements.size() ? detail::printer(statements).line(statements[which.position]) : std::string();
+}
+
+// ----------------------------------------------------------------
 // Building
 
-/// Builds an item, statement by statement. Nothing is tested before the item is written: `write` says whether it is well formed.
+#if defined(__cpp_exceptions)
+inline namespace with_exceptions {
+#else
+inline namespace without_exceptions {
+#endif
+
+/// Builds an item, statement by statement. But for names nothing is tested before the item is written: `write` says whether it
+/// is well formed.
 ///
-/// A name may have its `%` or not; an assignment without a name gets `%` and its position. A width is in bits, 1 to 65535, or none.
+/// A name may have its `%` or not, and comes before a width, which is in bits, 1 to 65535, or none. An assignment without a name
+/// gets `%` and its position, or the next number that is free. A name that is taken is a `std::invalid_argument`; without
+/// exceptions it is taken again, and the item is not well formed if both assignments are needed.
 class builder {
+    // A width where a name was expected: the order of arguments of version 1.0.
+    template <typename W>
+    using if_width = std::enable_if_t<std::is_convertible_v<W, std::optional<std::uint32_t>> && !std::is_convertible_v<W, std::string_view>>;
+
 public:
     builder() = default;
 
     /// Begins with these statements, as of an item that was read.
-    explicit builder(std::vector<statement> begun) noexcept : statements(std::move(begun)) {}
+    explicit builder(std::vector<statement> begun) : statements(std::move(begun)) {
+        for (const statement &s : statements) {
+            if (const auto *assigned = std::get_if<assignment>(&s)) {
+                given_names.insert(assigned->name);
+            }
+        }
+    }
+
+    /// Whether no assignment has this name, which may have its `%` or not.
+    bool is_free(std::string_view name) const { return is_new(with_percent(name)); }
 
     /// Appends an assignment, and returns its position for later uses.
-    id assign(right_side value, std::optional<std::uint32_t> width = {}, std::string_view name = {},
+    id assign(right_side value, std::string_view name = {}, std::optional<std::uint32_t> width = {},
               std::vector<attribute> attributes = {}) {
-        std::string whole(name.empty() || name.front() != '%' ? "%" : "");
-        whole += name.empty() ? std::to_string(statements.size()) : std::string(name);
-        return append(assignment{std::move(whole), width, std::move(value), std::move(attributes)});
+        if (statements.empty()) {
+            forget_names();
+        }
+        // Nothing is changed if memory runs out: a move asks for none.
+        if (statements.size() == statements.capacity()) {
+            statements.reserve(2 * statements.size() + 8);
+        }
+        const std::size_t number = name.empty() ? free_number() : 0;
+        std::string chosen = name.empty() ? "%" + std::to_string(number) : with_percent(name);
+#if defined(__cpp_exceptions)
+        if (!is_new(chosen)) {
+            throw std::invalid_argument("the name " + chosen + " is taken");
+        }
+#endif
+        if (name.empty()) {
+            made_names.insert(number);
+            next_number = number + 1;
+        } else {
+            given_names.insert(chosen);
+        }
+        return append(assignment{std::move(chosen), width, std::move(value), std::move(attributes)});
     }
 
     /// An input.
     id var(std::string_view name = {}, std::optional<std::uint32_t> width = {}, std::vector<attribute> attributes = {}) {
-        return assign(souper::var{}, width, name, std::move(attributes));
+        return assign(souper::var{}, name, width, std::move(attributes));
     }
 
     /// A block, for phis and for path conditions on its predecessors.
-    id block(std::uint32_t predecessors, std::string_view name = {}) { return assign(souper::block{predecessors}, {}, name); }
+    id block(std::uint32_t predecessors, std::string_view name = {}) { return assign(souper::block{predecessors}, name); }
 
     /// A choice by a block, with a value for each of its predecessors.
-    id phi(id of, std::vector<operand> values, std::optional<std::uint32_t> width = {}, std::string_view name = {}) {
-        return assign(souper::phi{of, std::move(values)}, width, name);
+    id phi(id of, std::vector<operand> values, std::string_view name = {}, std::optional<std::uint32_t> width = {},
+           std::vector<attribute> attributes = {}) {
+        return assign(souper::phi{of, std::move(values)}, name, width, std::move(attributes));
     }
 
     /// An instruction, with `operand_count(operation)` operands.
-    id inst(op operation, std::vector<operand> operands, std::optional<std::uint32_t> width = {}, std::string_view name = {},
+    id inst(op operation, std::vector<operand> operands, std::string_view name = {}, std::optional<std::uint32_t> width = {},
             std::vector<attribute> attributes = {}) {
-        return assign(instruction{operation, std::move(operands)}, width, name, std::move(attributes));
+        return assign(instruction{operation, std::move(operands)}, name, width, std::move(attributes));
+    }
+
+    // The same with the width before the name.
+
+    template <typename W = std::optional<std::uint32_t>, typename = if_width<W>>
+    [[deprecated("the name comes before the width")]] id assign(right_side value, W width, std::string_view name = {},
+                                                                std::vector<attribute> attributes = {}) {
+        return assign(std::move(value), name, std::optional<std::uint32_t>(width), std::move(attributes));
+    }
+
+    template <typename W = std::optional<std::uint32_t>, typename = if_width<W>>
+    [[deprecated("the name comes before the width")]] id phi(id of, std::vector<operand> values, W width, std::string_view name = {}) {
+        return phi(of, std::move(values), name, std::optional<std::uint32_t>(width));
+    }
+
+    template <typename W = std::optional<std::uint32_t>, typename = if_width<W>>
+    [[deprecated("the name comes before the width")]] id inst(op operation, std::vector<operand> operands, W width,
+                                                              std::string_view name = {}, std::vector<attribute> attributes = {}) {
+        return inst(operation, std::move(operands), name, std::optional<std::uint32_t>(width), std::move(attributes));
     }
 
     /// A path condition: x is y.
@@ -446,6 +634,47 @@ public:
     }
 
 private:
+    static std::string with_percent(std::string_view name) {
+        std::string all(name.empty() || name.front() != '%' ? "%" : "");
+        return all += name;
+    }
+
+    // The number that a made name has: digits without a zero in front.
+    static std::optional<std::size_t> number_of(std::string_view name) noexcept {
+        name.remove_prefix(1);
+        if (name.empty() || name.size() > 18 || (name.front() == '0' && name.size() > 1)) {
+            return std::nullopt;
+        }
+        std::size_t number = 0;
+        for (const char digit : name) {
+            if (digit < '0' || digit > '9') {
+                return std::nullopt;
+            }
+            number = 10 * number + static_cast<unsigned char>(digit - '0');
+        }
+        return number;
+    }
+
+    bool is_new(const std::string &name) const {
+        const auto number = number_of(name);
+        return given_names.count(name) == 0 && !(number && made_names.count(*number) != 0);
+    }
+
+    // The position of the next statement, or the next number that is free.
+    std::size_t free_number() const {
+        std::size_t number = next_number < statements.size() ? statements.size() : next_number;
+        while (given_names.count("%" + std::to_string(number)) != 0) {
+            number++;
+        }
+        return number;
+    }
+
+    void forget_names() {
+        given_names = {};
+        made_names = {};
+        next_number = 0;
+    }
+
     id append(statement s) {
         statements.push_back(std::move(s));
         return id{statements.size() - 1};
@@ -454,7 +683,14 @@ private:
     item end(last_lines last) { return item{std::exchange(statements, {}), std::move(last)}; }
 
     std::vector<statement> statements;
+    std::unordered_set<std::string> given_names;
+    std::unordered_set<std::size_t> made_names;
+
+    // The numbers below it are not tried again.
+    std::size_t next_number = 0;
 };
+
+} // namespace with_exceptions, or without
 
 // ----------------------------------------------------------------
 // Errors
@@ -543,7 +779,7 @@ private:
         plain(static_cast<std::uint8_t>(value));
     }
 
-    void size(std::size_t value) { plain(static_cast<std::uint64_t>(value)); }
+    void size(std::uint64_t value) { plain(value); }
 
     template <typename T> void list(const std::vector<T> &all) {
         size(all.size());
@@ -727,7 +963,7 @@ private:
         return byte(2) == 1 ? std::optional<std::uint32_t>(plain<std::uint16_t>()) : std::nullopt;
     }
 
-    id get_id() noexcept { return id{static_cast<std::size_t>(plain<std::uint64_t>())}; }
+    id get_id() noexcept { return id{plain<std::uint64_t>()}; }
 
     operand get_operand() {
         if (byte(2) == 0) {
@@ -1242,5 +1478,9 @@ inline std::vector<item> decode(kind k, std::string_view code) {
 #endif
 
 } // namespace souper
+
+template <> struct std::hash<souper::id> {
+    std::size_t operator()(souper::id of) const noexcept { return std::hash<std::size_t>()(of.position); }
+};
 
 #endif

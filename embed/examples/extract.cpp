@@ -223,7 +223,7 @@ private:
         for (const Value *used : translated.operands) {
             operands.push_back(operand(used, depth + 1));
         }
-        return builder.inst(translated.operation, std::move(operands), instruction.getType()->getIntegerBitWidth());
+        return builder.inst(translated.operation, std::move(operands), {}, instruction.getType()->getIntegerBitWidth());
     }
 
     souper::builder builder;

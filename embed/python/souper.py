@@ -63,11 +63,13 @@ from __future__ import annotations
 
 import ctypes
 import enum
+import itertools
 import os
 import re
+import struct
 from collections.abc import Callable, Iterable
 from dataclasses import dataclass
-from typing import Any, TypeAlias, TypeVar
+from typing import Any, NamedTuple, TypeAlias, TypeVar
 
 __all__ = [
     "Assignment",
@@ -97,6 +99,7 @@ __all__ = [
     "Phi",
     "PowerOfTwo",
     "Range",
+    "Record",
     "Refused",
     "Replace",
     "ReservedConst",
@@ -116,6 +119,7 @@ __all__ = [
     "key",
     "keys",
     "read",
+    "record_text",
     "records",
     "same",
     "write",
@@ -284,6 +288,27 @@ class Constant:
     value: int
     """A signed number of 128 bits."""
     width: int | None = None
+
+    def __post_init__(self) -> None:
+        _check_int("value", self.value)
+        if self.width is not None:
+            _check_int("width", self.width)
+
+    @staticmethod
+    def from_bits(bits: int, width: int) -> Constant:
+        """The constant of a width, 1 to 128, that has these bits, of which the lowest `width` count.
+
+        It is signed, as Souper prints constants. (``255:i8`` is well formed too, and another graph
+        with another text.)
+
+        >>> Constant.from_bits(0xff, 8), Constant.from_bits(0x7f, 8)
+        (Constant(value=-1, width=8), Constant(value=127, width=8))
+        """
+        _check_int("bits", bits)
+        _check_int("width", width)
+        _check_range("a width", width, 1, 128)
+        bits &= (1 << width) - 1
+        return Constant(bits - (bits >> (width - 1) << width), width)
 
 
 Operand: TypeAlias = Value | Constant
@@ -537,6 +562,7 @@ _FLAGS: tuple[Attribute, ...] = (
     NonZero(),
     HasExternalUses(),
 )
+_VAR = Var()
 _KNOWN_BITS = "01x"
 _DEMANDED_BITS = "01"
 
@@ -547,8 +573,28 @@ class _Damaged(Exception):
     """The bytes do not begin with a code."""
 
 
+# Values and constants that many items have. They are immutable, so one object serves all.
+_VALUES = tuple(Value(position) for position in range(256))
+_CONSTANTS: dict[bytes, Constant] = {}
+_KEPT_CONSTANTS = 1024
+
+_U64 = struct.Struct("<Q").unpack_from
+_U32 = struct.Struct("<I").unpack_from
+_U16 = struct.Struct("<H").unpack_from
+# A frozen value is made by its fields' descriptors: a call of its class takes four times as long.
+_new = object.__new__
+_set_name, _set_width, _set_value, _set_attributes = (
+    Assignment.__dict__[name].__set__ for name in ("name", "width", "value", "attributes")
+)
+_set_op, _set_operands = (Instruction.__dict__[name].__set__ for name in ("op", "operands"))
+
+
 class _Reader:
-    """The rest of a code. Each length is compared with the rest before bytes are taken."""
+    """The rest of a code.
+
+    Each length is compared with the rest before bytes are taken. Past the end, and at a byte that no
+    code has there, a method raises `_Damaged`, or what Python raises there.
+    """
 
     __slots__ = ("code", "at")
 
@@ -565,34 +611,46 @@ class _Reader:
 
     def byte(self) -> int:
         at = self.at
-        if at == len(self.code):
-            raise _Damaged
         self.at = at + 1
         return self.code[at]
 
     def size(self) -> int:
-        return int.from_bytes(self.take(8), "little")
+        at = self.at
+        self.at = at + 8
+        number: int = _U64(self.code, at)[0]
+        return number
 
     def u32(self) -> int:
-        return int.from_bytes(self.take(4), "little")
+        at = self.at
+        self.at = at + 4
+        number: int = _U32(self.code, at)[0]
+        return number
 
     def number(self) -> int:
         return int.from_bytes(self.take(16), "little", signed=True)
 
     def width(self) -> int | None:
-        match self.byte():
-            case 0:
-                return None
-            case 1:
-                return int.from_bytes(self.take(2), "little")
-        raise _Damaged
+        at = self.at
+        tag = self.code[at]
+        if tag == 0:
+            self.at = at + 1
+            return None
+        if tag != 1:
+            raise _Damaged
+        self.at = at + 3
+        bits: int = _U16(self.code, at + 1)[0]
+        return bits
 
-    def sequence(self, element: Callable[[], _T]) -> tuple[_T, ...]:
-        # Each element has one byte or more.
+    def length(self) -> int:
+        # Each element of a list has one byte or more.
         length = self.size()
         if length > len(self.code) - self.at:
             raise _Damaged
-        return tuple([element() for _ in range(length)])
+        return length
+
+    def sequence(self, element: Callable[[], _T]) -> tuple[_T, ...]:
+        length = self.length()
+        return tuple([element() for _ in range(length)]) if length else ()
 
     def bits(self, alphabet: str) -> str:
         bits = self.take(self.size())
@@ -601,27 +659,51 @@ class _Reader:
         return "".join(alphabet[bit] for bit in bits)
 
     def value(self) -> Value:
-        return Value(self.size())
+        position = self.size()
+        return _VALUES[position] if position < 256 else Value(position)
 
     def operand(self) -> Operand:
-        match self.byte():
-            case 0:
-                return Value(self.size())
-            case 1:
-                return Constant(self.number(), self.width())
-        raise _Damaged
+        at = self.at
+        tag = self.code[at]
+        if tag == 0:
+            self.at = at + 9
+            position = _U64(self.code, at + 1)[0]
+            return _VALUES[position] if position < 256 else Value(position)
+        if tag != 1:
+            raise _Damaged
+        self.at = at + 17
+        width = self.width()
+        code = self.code[at : self.at]
+        constant = _CONSTANTS.get(code)
+        if constant is None:
+            constant = Constant(int.from_bytes(code[1:17], "little", signed=True), width)
+            if len(_CONSTANTS) < _KEPT_CONSTANTS:
+                _CONSTANTS[code] = constant
+        return constant
 
     def instruction(self) -> Instruction:
-        number = self.byte()
-        operands = self.sequence(self.operand)
-        if number >= len(_OPS) or len(operands) != _OPS[number].arity:
+        at = self.at
+        number = self.code[at]
+        if number >= len(_OPS):
             raise _Damaged
-        return Instruction(_OPS[number], operands)
+        op = _OPS[number]
+        arity = op.arity
+        if _U64(self.code, at + 1)[0] != arity:
+            raise _Damaged
+        self.at = at + 9
+        instruction = _new(Instruction)
+        _set_op(instruction, op)
+        operand = self.operand
+        if arity == 2:
+            _set_operands(instruction, (operand(), operand()))
+        else:
+            _set_operands(instruction, tuple([operand() for _ in range(arity)]))
+        return instruction
 
-    def rhs(self) -> Rhs:
-        match self.byte():
+    def rhs(self, tag: int) -> Rhs:
+        match tag:
             case 0:
-                return Var()
+                return _VAR
             case 1:
                 return Block(self.u32())
             case 2:
@@ -630,8 +712,6 @@ class _Reader:
                 return ReservedInst()
             case 4:
                 return ReservedConst()
-            case 5:
-                return self.instruction()
         raise _Damaged
 
     def attribute(self) -> Attribute:
@@ -654,19 +734,29 @@ class _Reader:
                 return HarvestedFromUse()
         raise _Damaged
 
-    def name(self) -> str:
-        try:
-            return self.take(self.size()).decode()
-        except UnicodeDecodeError:
-            raise _Damaged from None
-
     def assignment(self) -> Assignment:
-        return Assignment(self.name(), self.width(), self.rhs(), self.sequence(self.attribute))
+        # The name, a list of bytes. No call for it: this is the commonest part of a code.
+        code, start = self.code, self.at + 8
+        end = start + _U64(code, self.at)[0]
+        if end > len(code):
+            raise _Damaged
+        assignment = _new(Assignment)
+        _set_name(assignment, code[start:end].decode())
+        self.at = end
+        _set_width(assignment, self.width())
+        at = self.at
+        self.at = at + 1
+        _set_value(assignment, self.instruction() if code[at] == 5 else self.rhs(code[at]))
+        _set_attributes(assignment, self.sequence(self.attribute))
+        return assignment
 
     def statement(self) -> Statement:
-        match self.byte():
-            case 0:
-                return self.assignment()
+        at = self.at
+        tag = self.code[at]
+        self.at = at + 1
+        if tag == 0:
+            return self.assignment()
+        match tag:
             case 1:
                 return Pc(self.operand(), self.operand())
             case 2:
@@ -690,9 +780,18 @@ class _Reader:
 
     def item(self, kind: Kind) -> Item:
         item = Item(self.sequence(self.statement), self.ending())
-        if item.kind is not kind:
+        if item.kind is not kind or self.at > len(self.code):
             raise _Damaged
         return item
+
+
+def _check_type(what: str, value: object, name: str, *types: type) -> None:
+    if not isinstance(value, types):
+        raise TypeError(f"{what} is {name}, not {type(value).__name__}")
+
+
+def _check_int(what: str, value: object) -> None:
+    _check_type(what, value, "an int", int)
 
 
 def decode(kind: Kind | str, code: bytes) -> list[Item]:
@@ -710,13 +809,14 @@ def decode(kind: Kind | str, code: bytes) -> list[Item]:
     souper.NoCode: no code of an item at byte 0, after 0 items
     """
     kind = Kind(kind)
-    reader = _Reader(code)
+    _check_type("code", code, "bytes", bytes, bytearray, memoryview)
+    reader = _Reader(bytes(code))
     items: list[Item] = []
     while reader.at < len(code):
         start = reader.at
         try:
             items.append(reader.item(kind))
-        except _Damaged:
+        except (_Damaged, IndexError, UnicodeDecodeError, struct.error):
             raise NoCode(len(items), start) from None
     return items
 
@@ -889,8 +989,10 @@ def encode(kind: Kind | str, items: Iterable[Item]) -> bytes:
     of bits has another character.
     """
     kind = Kind(kind)
+    _check_type("items", items, "an iterable of items", Iterable)
     writer = _Writer()
     for index, item in enumerate(items):
+        _check_type(f"items[{index}]", item, "an Item", Item)
         writer.item(item)
         if item.kind is not kind:
             raise ValueError(f"item {index} is of the kind {item.kind.value}, not {kind.value}")
@@ -959,11 +1061,8 @@ _NUMBERS = {Kind.LHS: 0, Kind.RHS: 1, Kind.REP: 2}
 
 
 def _utf8(text: str | bytes) -> bytes:
-    if isinstance(text, str):
-        return text.encode()
-    if isinstance(text, bytes):
-        return text
-    raise TypeError(f"a text is str or bytes, not {type(text).__name__}")
+    _check_type("a text", text, "str or bytes", str, bytes)
+    return text.encode() if isinstance(text, str) else text
 
 
 def _written(
@@ -1106,7 +1205,33 @@ def same(kind: Kind | str, a: str | bytes, b: str | bytes) -> bool:
     return _answer(kind, outcome, first if outcome.input == 0 else second)
 
 
-def records(
+class Record(NamedTuple):
+    """The key and the text of an item."""
+
+    key: str
+    """The SHA-256 of the text, in 64 hexadecimal digits."""
+    text: str
+    """The canonical text, without the newline that `format` writes after it."""
+
+
+def records(kind: Kind | str, text: str | bytes, *, rename: bool = False) -> list[Record]:
+    """The key and the canonical text of each item that the text spells.
+
+    With `rename` the values are named ``%0``, ``%1``, .. in printed order, so that items which
+    differ in names alone have one record.
+
+    `Refused` if the text spells no list of items of the kind.
+
+    >>> [record] = records("lhs", "%x = var infer %x", rename=True)
+    >>> record.key == key("lhs", "%y = var infer %y", rename=True), record.text
+    (True, '%0 = var\\ninfer %0\\n')
+    """
+    # A record is "; ", the key, a newline, the text and a NUL.
+    found = record_text(kind, text, key=True, rename=rename, nul=True)
+    return [Record(record[2:66], record[67:]) for record in found.split("\0")[:-1]]
+
+
+def record_text(
     kind: Kind | str,
     text: str | bytes,
     *,
@@ -1114,7 +1239,7 @@ def records(
     rename: bool = False,
     nul: bool = False,
 ) -> str:
-    """The record of each item that the text spells, as the program ``souper_items`` writes it.
+    """The record of each item that the text spells, as the program ``souper_items`` writes them.
 
     A record is the canonical text and a newline; with `nul`, a NUL in place of that newline.
     With `key` it begins with a comment line that has the key. With `rename` the values are named
@@ -1122,7 +1247,7 @@ def records(
 
     `Refused` if the text spells no list of items of the kind.
 
-    >>> records("lhs", "%x = var infer %x", rename=True)
+    >>> record_text("lhs", "%x = var infer %x", rename=True)
     '%0 = var\\ninfer %0\\n\\n'
     """
     data = _utf8(text)
@@ -1143,9 +1268,7 @@ def keys(kind: Kind | str, text: str | bytes, *, rename: bool = False) -> list[s
 
     `Refused` if the text spells no list of items of the kind.
     """
-    # A record is "; ", the key, a newline, the text and a NUL.
-    found = records(kind, text, key=True, rename=rename, nul=True)
-    return [record[2:66] for record in found.split("\0")[:-1]]
+    return [record.key for record in records(kind, text, rename=rename)]
 
 
 def key(kind: Kind | str, item: Item | str | bytes, *, rename: bool = False) -> str:
@@ -1172,8 +1295,34 @@ def _check_range(what: str, number: int, low: int, high: int) -> None:
 
 
 def _check_bits(bits: str, alphabet: str) -> None:
+    _check_type("bits", bits, "a str", str)
     if not bits or not set(bits) <= set(alphabet):
         raise ValueError(f"{bits!r} is not one or more of {' '.join(alphabet)}")
+
+
+class _Built(Value):
+    """A value as a builder returns it, equal to the `Value` that items have. A copy has no mark."""
+
+    __slots__ = ("mark",)
+
+    def __init__(self, position: int, mark: int) -> None:
+        super().__init__(position)
+        object.__setattr__(self, "mark", mark)
+
+    def __eq__(self, other: object) -> bool:
+        return isinstance(other, Value) and other.position == self.position
+
+    __hash__ = Value.__hash__
+
+    def __repr__(self) -> str:
+        return f"Value(position={self.position})"
+
+    def __reduce__(self) -> tuple[type[Value], tuple[int]]:
+        return Value, (self.position,)
+
+
+# A builder and its copies have one mark.
+_MARKS = itertools.count()
 
 
 class Builder:
@@ -1181,7 +1330,8 @@ class Builder:
 
     An operand is a `Value` of this builder, a `Constant`, or an `int`: a constant without a type.
     A name may be without its ``%``. The default is ``%`` and the position, or the next number that
-    is free. `ValueError` if the item would not be well formed.
+    is free. `ValueError` if an argument would make the item not well formed, or a value is another
+    builder's. A builder may begin with the statements of an item, which it does not test.
 
     >>> b = Builder()
     >>> block = b.block(2)
@@ -1201,9 +1351,14 @@ class Builder:
     statements and items may follow.
     """
 
-    def __init__(self) -> None:
-        self._statements: list[Statement] = []
-        self._names: set[str] = set()
+    def __init__(self, statements: Iterable[Statement] = ()) -> None:
+        _check_type("statements", statements, "an iterable of statements", Iterable)
+        self._statements: list[Statement] = list(statements)
+        for index, statement in enumerate(self._statements):
+            _check_type(f"statements[{index}]", statement, "a statement", Assignment, Pc, BlockPc)
+        self._names = {it.name for it in self._statements if isinstance(it, Assignment)}
+        self._next = 0
+        self._mark = next(_MARKS)
 
     def var(
         self,
@@ -1217,6 +1372,7 @@ class Builder:
 
     def block(self, predecessors: int, name: str | None = None) -> Value:
         """Defines a block with a number of predecessors."""
+        _check_int("predecessors", predecessors)
         _check_range("a number of predecessors", predecessors, 0, 2**32 - 1)
         return self._define(Block(predecessors), name, None, ())
 
@@ -1232,7 +1388,7 @@ class Builder:
         predecessors = self._predecessors(block)
         if len(values) != predecessors:
             raise ValueError(f"the block has {predecessors} predecessors, not {len(values)}")
-        rhs = Phi(block, tuple(map(self._operand, values)))
+        rhs = Phi(self._plain(block), tuple(map(self._operand, values)))
         return self._define(rhs, name, width, attributes)
 
     def inst(
@@ -1276,9 +1432,11 @@ class Builder:
 
     def block_pc(self, block: Value, predecessor: int, x: Operand | int, y: Operand | int) -> None:
         """Adds a path condition on a predecessor of a block, which is given by its index from 0."""
+        _check_int("predecessor", predecessor)
         if not 0 <= predecessor < self._predecessors(block):
             raise ValueError(f"the block has no predecessor {predecessor}")
-        self._statements.append(BlockPc(block, predecessor, self._operand(x), self._operand(y)))
+        of = self._plain(block)
+        self._statements.append(BlockPc(of, predecessor, self._operand(x), self._operand(y)))
 
     def infer(self, value: Value, *attributes: RootAttribute) -> Item:
         """A left-hand side."""
@@ -1301,29 +1459,33 @@ class Builder:
         return Item(tuple(self._statements), ending)
 
     def _infer(self, value: Value, attributes: tuple[RootAttribute, ...]) -> Infer:
-        self._assignment(value)
+        plain = self._plain(value)
         self._check_root_attributes(attributes)
-        return Infer(value, attributes)
+        return Infer(plain, attributes)
 
     def _define(
         self, rhs: Rhs, name: str | None, width: int | None, attributes: Iterable[Attribute]
     ) -> Value:
         if width is not None:
+            _check_int("width", width)
             _check_range("a width", width, 1, 65535)
+        _check_type("attributes", attributes, "an iterable of attributes", Iterable)
         facts = tuple(attributes)
         for attribute in facts:
             self._check_attribute(attribute)
         name = self._new_name(name)
         self._names.add(name)
         self._statements.append(Assignment(name, width, rhs, facts))
-        return Value(len(self._statements) - 1)
+        return _Built(len(self._statements) - 1, self._mark)
 
     def _new_name(self, name: str | None) -> str:
         if name is None:
-            number = len(self._statements)
+            number = max(self._next, len(self._statements))
             while f"%{number}" in self._names:
                 number += 1
+            self._next = number + 1
             return f"%{number}"
+        _check_type("name", name, "a str", str)
         name = "%" + name.removeprefix("%")
         if not _NAME.fullmatch(name):
             raise ValueError(f"{name!r} is not a name: % and one or more of 0-9 A-Z a-z _ .")
@@ -1332,11 +1494,20 @@ class Builder:
         return name
 
     def _assignment(self, value: Value) -> Assignment:
+        _check_type("a value", value, "a Value", Value)
+        _check_int("position", value.position)
+        if isinstance(value, _Built) and value.mark != self._mark:
+            raise ValueError(f"{value!r} is a value of another builder")
         if 0 <= value.position < len(self._statements):
             statement = self._statements[value.position]
             if isinstance(statement, Assignment):
                 return statement
         raise ValueError(f"{value!r} is not a value of this builder")
+
+    def _plain(self, value: Value) -> Value:
+        """The value as an item has it."""
+        self._assignment(value)
+        return Value(value.position)
 
     def _predecessors(self, block: Value) -> int:
         match self._assignment(block).value:
@@ -1349,8 +1520,8 @@ class Builder:
             case int():
                 operand = Constant(operand)
             case Value():
-                self._assignment(operand)
-                return operand
+                return self._plain(operand)
+        _check_type("an operand", operand, "a Value, a Constant or an int", Constant)
         _check_range("a constant", operand.value, _LOWEST, _GREATEST)
         if operand.width is not None:
             _check_range("a width", operand.width, 1, 65535)
@@ -1361,12 +1532,19 @@ class Builder:
             case KnownBits(bits):
                 _check_bits(bits, _KNOWN_BITS)
             case SignBits(count):
+                _check_int("count", count)
                 _check_range("a number of bits", count, 0, 255)
             case Range(low, high):
+                _check_int("low", low)
+                _check_int("high", high)
                 _check_range("an end of a range", low, _LOWEST, _GREATEST)
                 _check_range("an end of a range", high, _LOWEST, _GREATEST)
+            case flag if flag not in _FLAGS:
+                raise TypeError(f"attributes has {attribute!r}, which is no attribute")
 
     def _check_root_attributes(self, attributes: tuple[RootAttribute, ...]) -> None:
         for attribute in attributes:
             if isinstance(attribute, DemandedBits):
                 _check_bits(attribute.bits, _DEMANDED_BITS)
+            elif not isinstance(attribute, HarvestedFromUse):
+                raise TypeError(f"attributes has {attribute!r}, which is none of the last lines")

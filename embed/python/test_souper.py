@@ -4,6 +4,7 @@ from __future__ import annotations
 
 import concurrent.futures
 import contextlib
+import copy
 import ctypes
 import hashlib
 import itertools
@@ -148,13 +149,32 @@ class Answers(unittest.TestCase):
             self.assertEqual(souper.keys(kind, record.text), keys, record)
             self.assertEqual([souper.key(kind, item) for item in items], keys, record)
             whole = "".join(f"; {key}\n{text}\0" for key, text in zip(keys, texts))
-            self.assertEqual(souper.records(kind, record.text, key=True, nul=True), whole, record)
+            self.assertEqual(souper.record_text(kind, record.text, key=True, nul=True), whole, record)
             lines = "".join(text + "\n" for text in texts)
-            self.assertEqual(souper.records(kind, record.text), lines, record)
+            self.assertEqual(souper.record_text(kind, record.text), lines, record)
+
+    def test_forms_of_records(self) -> None:
+        # tools/record-formats compares the file with the stored texts of the program souper_items.
+        path = Path(souper.__file__).parents[1] / "tests" / "record_formats.txt"
+        rows = [
+            line.replace("\\n", "\n").replace("\\0", "\0").split("\t")
+            for line in path.read_text().split("\n")[:-1]
+            if not line.startswith("#")
+        ]
+        self.assertGreater(len(rows), 6)
+        for kind, flags, text, records in rows:
+            has = flags.split(",")
+            key, rename, nul = "key" in has, "rename" in has, "null" in has
+            found = souper.record_text(kind, text, key=key, rename=rename, nul=nul)
+            self.assertEqual(found, records)
+            if not nul:
+                pairs = souper.records(kind, text, rename=rename)
+                lines = [f"; {pair.key}\n{pair.text}\n" if key else f"{pair.text}\n" for pair in pairs]
+                self.assertEqual("".join(lines), records)
 
     def test_renamed_records(self) -> None:
         for record in VALID:
-            renamed = souper.records(record.kind, record.text, rename=True)
+            renamed = souper.record_text(record.kind, record.text, rename=True)
             keys = souper.keys(record.kind, record.text, rename=True)
             self.assertEqual(souper.keys(record.kind, renamed), keys, record)
             for item in souper.read(record.kind, renamed):
@@ -463,6 +483,85 @@ class Building(unittest.TestCase):
             self.assertRaises(ValueError, b.var, name)
         self.assertEqual(len(b.result(0).statements), 4)
 
+    def test_a_builder_over_an_item(self) -> None:
+        [item] = souper.read("lhs", "%2 = var %x = add %2, 1 infer %x")
+        b = Builder(item.statements)
+        b.inst("add", Value(1), b.var(), name="z", width=8)
+        self.assertRaises(ValueError, b.var, "x")
+        text = "%2 = var %x = add %2, 1 %3 = var %z:i8 = add %x, %3 infer %z"
+        self.assertEqual([b.infer(Value(3))], souper.read("lhs", text))
+
+    def test_a_value_of_another_builder(self) -> None:
+        b, other = Builder(), Builder()
+        x, y = b.var(), other.var()
+        self.assertEqual(x, y)
+        self.assertEqual(repr(x), "Value(position=0)")
+        for call in (
+            lambda: b.inst("add", x, y),
+            lambda: b.pc(y, 1),
+            lambda: b.infer(y),
+            lambda: b.phi(y),
+        ):
+            self.assertRaisesRegex(ValueError, "another builder", call)
+        item = b.infer(x)
+        self.assertEqual(len(item.statements), 1)
+        # What an item has, and each copy, is for every builder; a copy of a builder takes its values.
+        for value in (item.ending.value, pickle.loads(pickle.dumps(x)), copy.deepcopy(x)):
+            self.assertIs(type(value), Value)
+            Builder(item.statements).inst("add", value, 1)
+            b.inst("add", value, 1)
+        fork = copy.deepcopy(b)
+        fork.inst("add", x, 1)
+        self.assertRaises(ValueError, fork.inst, "add", y, 1)
+        self.assertEqual((hash(x), {x: 1}[Value(0)], Value(0) == x, x == Value(1)), (hash(Value(0)), 1, True, False))
+
+    def test_constants_by_their_bits(self) -> None:
+        for bits, width, value in (
+            (255, 8, -1),
+            (127, 8, 127),
+            (128 + 256, 8, -128),
+            (1, 1, -1),
+            (2**128 - 1, 128, -1),
+            (2**127, 128, -(2**127)),
+            (5, 128, 5),
+            (-1, 64, -1),
+        ):
+            self.assertEqual(Constant.from_bits(bits, width), Constant(value, width))
+        for width in (0, 129):
+            self.assertRaises(ValueError, Constant.from_bits, 0, width)
+
+    def test_types_of_arguments(self) -> None:
+        b = Builder()
+        x = b.var()
+        any_value: Any = None
+        for said, call in (
+            ("width is an int, not float", lambda: b.var(width=any_value or 8.0)),
+            ("value is an int, not float", lambda: Constant(any_value or 5.0)),
+            ("width is an int, not str", lambda: Constant(5, any_value or "8")),
+            ("attributes has None", lambda: b.var(attributes=[any_value])),
+            ("attributes has None", lambda: b.infer(x, any_value)),
+            ("attributes is an iterable", lambda: b.var(attributes=any_value)),
+            ("count is an int, not float", lambda: b.var(attributes=[souper.SignBits(any_value or 2.0)])),
+            ("low is an int, not float", lambda: b.var(attributes=[souper.Range(any_value or 1.0, 2)])),
+            ("bits is a str, not int", lambda: b.var(attributes=[souper.KnownBits(any_value or 5)])),
+            ("bits is a str, not int", lambda: b.infer(x, souper.DemandedBits(any_value or 5))),
+            ("position is an int, not str", lambda: b.infer(Value(any_value or "0"))),
+            ("statements is an iterable", lambda: Builder(any_value or b.infer(x))),
+            ("items is an iterable", lambda: souper.write("lhs", any_value or b.infer(x))),
+            ("name is a str, not int", lambda: b.var(any_value or 7)),
+            ("predecessors is an int, not float", lambda: b.block(any_value or 2.0)),
+            ("an operand is a Value, a Constant or an int, not str", lambda: b.pc(any_value or "x", 1)),
+            ("a value is a Value, not Constant", lambda: b.infer(any_value or Constant(1))),
+            (r"items\[0\] is an Item, not str", lambda: souper.write("lhs", any_value or ["text"])),
+            ("code is bytes, not str", lambda: souper.decode("lhs", any_value or "abc")),
+            ("a text is str or bytes, not int", lambda: souper.read("lhs", any_value or 3)),
+            (r"statements\[0\] is a statement, not str", lambda: Builder(any_value or ["x"])),
+            ("bits is an int, not bytes", lambda: Constant.from_bits(any_value or b"x", 8)),
+        ):
+            with self.subTest(said):
+                self.assertRaisesRegex(TypeError, f"^{said}", call)
+        self.assertEqual(len(b.infer(x).statements), 1)
+
     def test_what_is_refused(self) -> None:
         b = Builder()
         x = b.var("x")
@@ -558,7 +657,7 @@ class Arguments(unittest.TestCase):
     def test_no_items(self) -> None:
         for kind in Kind:
             self.assertEqual((souper.read(kind, ""), souper.write(kind, [])), ([], ""))
-            self.assertEqual((souper.format(kind, b""), souper.records(kind, " ")), ("", ""))
+            self.assertEqual((souper.format(kind, b""), souper.record_text(kind, " ")), ("", ""))
             self.assertEqual((souper.keys(kind, ""), souper.check(kind, "")), ([], True))
             self.assertIs(souper.same(kind, "", "; none"), True)
             self.assertEqual((souper.encode(kind, []), souper.decode(kind, b"")), (b"", []))

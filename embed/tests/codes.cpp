@@ -241,9 +241,11 @@ void change_item(generator &random, item &i) {
     case 0:
         std::swap(chosen, statements[below(random, statements.size())]);
         break;
-    case 1:
-        chosen = souper::statement(statements[below(random, statements.size())]);
+    case 1: {
+        const souper::statement copy = statements[below(random, statements.size())];
+        chosen = copy;
         break;
+    }
     case 2:
         statements.pop_back();
         break;

@@ -6,6 +6,8 @@ extern "C" {
 }
 
 #include <algorithm>
+#include <fstream>
+#include <sstream>
 #include <string>
 
 namespace {
@@ -65,6 +67,19 @@ void keys(const Record &record, kind k, std::string_view text, std::string_view 
            &record);
 }
 
+// The statements of a canonical item, each printed by itself, are lines of its text, in order.
+bool statements_are_lines(const item &i, std::string_view text) {
+    std::size_t next = 0;
+    while (!text.empty()) {
+        const std::string_view line = text.substr(0, text.find('\n'));
+        text.remove_prefix(std::min(line.size() + 1, text.size()));
+        if (next < i.statements.size() && line == souper::statement_text(i.statements, id{next})) {
+            next++;
+        }
+    }
+    return next == i.statements.size();
+}
+
 void acceptance(const Record &record, kind k, std::string_view text, std::string_view answer) {
     const std::string code = code_of(k, text);
     const auto items = souper::read(k, text);
@@ -80,6 +95,7 @@ void acceptance(const Record &record, kind k, std::string_view text, std::string
     std::string one_by_one;
     for (std::size_t i = 0; i < items.size(); i++) {
         expect(souper::canonical(k, items[i]) == canonical[i], "a canonical item", &record);
+        expect(statements_are_lines(canonical[i], souper::write(k, canonical[i])), "the lines of its statements", &record);
         one_by_one += souper::write(k, items[i]);
     }
     expect(one_by_one == answer, "the texts of its items", &record);
@@ -111,7 +127,7 @@ void built_lhs() {
     souper::builder b;
     const id x = b.var("x", 8, {souper::known_bits{"0xxxxxxx"}, souper::non_negative{}});
     b.var("unneeded");
-    const id y = b.inst(op::mul, {x, constant{2, 8}}, {}, "%y");
+    const id y = b.inst(op::mul, {x, constant{2, 8}}, "%y");
     const id c = b.inst(op::slt, {constant{0}, y});
     b.pc(c, constant{1});
     prints("a left-hand side", b.infer(y, {souper::demanded_bits{"00001111"}, souper::harvested_from_use{}}),
@@ -124,18 +140,78 @@ void built_lhs() {
 void built_blocks() {
     souper::builder b;
     const id x = b.var("x", 32), block = b.block(2, "b");
-    const id choice = b.phi(block, {x, constant{-1, 32}}, 32, "p");
+    const id choice = b.phi(block, {x, constant{-1, 32}}, "p", 32, {souper::non_zero{}});
     b.blockpc(block, 1, x, constant{7, 32});
     prints("a right-hand side", b.result(choice),
-           "%b = block 2\n%x:i32 = var\n%p:i32 = phi %b, %x, -1:i32\nblockpc %b 1 %x 7:i32\nresult %p");
+           "%b = block 2\n%x:i32 = var\n%p:i32 = phi %b, %x, -1:i32 (nonZero)\nblockpc %b 1 %x 7:i32\nresult %p");
+}
+
+// Names that are made are free ones, and a name that is taken is an error; also over the statements of an item that was read.
+void built_names() {
+    souper::builder b;
+    const id one = b.var("1"), made = b.var();
+    b.var("%3");
+    const id sum = b.inst(op::add, {one, made}), last = b.inst(op::add, {sum, made});
+    expect(!b.is_free("1") && !b.is_free("%4") && b.is_free("x"), "names that are free", nullptr);
+    prints("names that are numbers", b.infer(last), "%1 = var\n%2 = var\n%4 = add %1, %2\n%5 = add %4, %2\ninfer %5\n");
+    souper::builder more(souper::read(kind::lhs, "%2 = var %x = add %2, 1 infer %x")[0].statements);
+    const id y = more.var();
+    try {
+        more.var("%x");
+        expect(false, "a name that is taken", nullptr);
+    } catch (const std::invalid_argument &error) {
+        expect(error.what() == std::string("the name %x is taken"), "a name that is taken", nullptr);
+    }
+    prints("a builder over an item", more.infer(more.inst(op::add, {id{1}, y}, "z", 8)),
+           "%2 = var\n%x = add %2, 1\n%3 = var\n%z:i8 = add %x, %3\ninfer %z\n");
+    more.var("x");
+    souper::builder moved = std::move(more);
+    more.var();
+    prints("a builder after a move", more.infer(more.var()), "%1 = var\ninfer %1\n");
+    more = std::move(moved);
+    prints("a name is free again", more.infer(id{0}), "%x = var\ninfer %x\n");
+}
+
+// The order of arguments that was there before.
+void built_by_width() {
+#pragma GCC diagnostic push
+#pragma GCC diagnostic ignored "-Wdeprecated-declarations"
+    souper::builder b;
+    const souper::right_side input = souper::var{};
+    const id block = b.block(1, "b"), x = b.assign(input, 8, "x"), y = b.assign(input, {}, "y");
+    const id p = b.phi(block, {x}, 8, "p"), q = b.phi(block, {y}, {}, "q"), r = b.phi(block, {y}, 8);
+    const id s = b.inst(op::select, {p, q, r}, std::optional<std::uint32_t>(), "s");
+    prints("the width before the name", b.infer(b.inst(op::add, {s, constant{1}}, 16)),
+           "%b = block 1\n%x:i8 = var\n%p:i8 = phi %b, %x\n%y = var\n%q = phi %b, %y\n%5:i8 = phi %b, %y\n%s = select %p, %q, %5\n"
+           "%7:i16 = add %s, 1\ninfer %7\n");
+#pragma GCC diagnostic pop
+}
+
+// Constants of a width by their bits; ids that are sorted and hashed; words.
+void values() {
+    const auto all = ~static_cast<souper::detail::uint128>(0);
+    const auto is = [](const constant &c, int value, std::uint32_t width) { return c.value == value && c.width == width; };
+    expect(is(constant::from_bits(255, 8), -1, 8) && is(constant::from_bits(127, 8), 127, 8) && is(constant::from_bits(256 + 128, 8), -128, 8),
+           "bits of 8", nullptr);
+    expect(is(constant::from_bits(1, 1), -1, 1) && is(constant::from_bits(all, 128), -1, 128) && is(constant::from_bits(5, 128), 5, 128),
+           "bits of 1 and 128", nullptr);
+    expect(souper::decimal(constant::from_bits(all ^ (all >> 1), 128).value) == "-170141183460469231731687303715884105728" &&
+               souper::decimal(souper::int128{0}) == "0",
+           "numbers as texts", nullptr);
+    expect(id{1} < id{2} && !(id{2} < id{2}) && std::hash<id>()(id{3}) == std::hash<id>()(id{3}), "ids", nullptr);
+    expect(souper::op_named("sadd.with.overflow") == op::sadd_with_overflow && souper::op_named("freeze") == op::freeze &&
+               !souper::op_named("frieze") && !souper::op_named(""),
+           "words", nullptr);
+    expect(souper::statement_text(souper::read(kind::lhs, "pc 1 1 %x = var infer %x")[0].statements, id{2}).empty(), "no statement", nullptr);
 }
 
 void built_replacements() {
     souper::builder b;
-    const id x = b.var("x", 8), twice = b.inst(op::add, {x, x}, {}, "y");
-    souper::builder other(souper::builder(b).infer(twice).statements);
+    const id x = b.var("x", 8), twice = b.inst(op::add, {x, x}, "y");
+    souper::builder copy = b;
+    souper::builder other(copy.infer(twice).statements);
     prints("a replacement by cand", b.cand(twice, constant{0}), "%x:i8 = var\n%y = add %x, %x\ncand %y 0\n");
-    const id shifted = other.inst(op::shl, {x, constant{1, 8}}, {}, "z");
+    const id shifted = other.inst(op::shl, {x, constant{1, 8}}, "z");
     prints("a replacement by result", other.infer_result(twice, shifted),
            "%x:i8 = var\n%y = add %x, %x\ninfer %y\n%z = shl %x, 1:i8\nresult %z\n");
     const auto least = static_cast<souper::int128>(1) << 126;
@@ -148,9 +224,9 @@ void built_attributes() {
     const id x = b.var("x", 8,
                        {souper::power_of_two{}, souper::negative{}, souper::non_zero{}, souper::has_external_uses{},
                         souper::sign_bits{255}, souper::range{-5, 6}});
-    b.assign(souper::reservedinst{}, {}, "r");
-    const id r = b.assign(souper::reservedinst{}, 3, "s"), c = b.assign(souper::reservedconst{}, {}, "c");
-    const id y = b.inst(op::select, {x, r, c}, 65535, "y", {souper::known_bits{"01x"}});
+    b.assign(souper::reservedinst{}, "r");
+    const id r = b.assign(souper::reservedinst{}, "s", 3), c = b.assign(souper::reservedconst{}, "c");
+    const id y = b.inst(op::select, {x, r, c}, "y", 65535, {souper::known_bits{"01x"}});
     prints("attributes", b.result(y),
            "%x:i8 = var (powerOfTwo) (negative) (nonZero) (hasExternalUses) (signBits=255) (range=[-5,6))\n"
            "%s:i3 = reservedinst\n%c = reservedconst\n%y:i65535 = select %x, %s, %c (knownBits=01x)\nresult %y");
@@ -172,7 +248,7 @@ void operations() {
         for (std::size_t i = 0; i < operands.size(); i++) {
             line += i == 0 ? " %x" : ", %x";
         }
-        const item i = b.infer(b.inst(operation, operands, {}, "y"));
+        const item i = b.infer(b.inst(operation, operands, "y"));
         prints(line.c_str(), i, (operands.empty() ? "" : "%x = var\n") + line + "\ninfer %y\n");
         expect(souper::read(kind::lhs, "%x = var " + line + " infer %y").front() == i, line.c_str(), nullptr);
     }
@@ -238,8 +314,10 @@ void ill_formed_values() {
 
 void ill_formed_graphs() {
     souper::builder b;
-    const id x = b.var("x"), y = b.var("x");
-    ill_formed("one name of two", b.infer(b.inst(op::add, {x, y})));
+    const id x = b.var("x"), y = b.var("y");
+    item one_name = b.infer(b.inst(op::add, {x, y}));
+    std::get<souper::assignment>(one_name.statements[1]).name = "%x";
+    ill_formed("one name of two", one_name);
     b.pc(constant{1}, constant{1});
     ill_formed("a use of a path condition", b.infer(id{0}));
     ill_formed("a root that is none", b.infer(id{0}));
@@ -256,6 +334,35 @@ void ill_formed_graphs() {
     b.var();
     expect(is_ill_formed(kind::rep, {b.cand(constant{1}, constant{2}), b.result(constant{1})}, 1),
            "a second item of another kind", nullptr);
+}
+
+std::string unescaped(std::string text) {
+    for (std::size_t at = 0; (at = text.find('\\', at)) != std::string::npos; at++) {
+        text.replace(at, 2, 1, text[at + 1] == 'n' ? '\n' : '\0');
+    }
+    return text;
+}
+
+// Each form of records, by the file that tools/record-formats compares with the stored texts of the program souper_items.
+void record_formats() {
+    std::ifstream file("embed/tests/record_formats.txt");
+    std::size_t count = 0;
+    for (std::string line; std::getline(file, line);) {
+        if (line.front() == '#') {
+            continue;
+        }
+        std::istringstream row(line);
+        std::string kind_name, flag_names, text, records;
+        std::getline(std::getline(std::getline(std::getline(row, kind_name, '\t'), flag_names, '\t'), text, '\t'), records);
+        const auto has = [&](const char *name, souper::flags flag) {
+            return flag_names.find(name) == std::string::npos ? souper::flags::none : flag;
+        };
+        const auto flags = has("key", souper::flags::key) | has("rename", souper::flags::rename) | has("null", souper::flags::null);
+        const kind k = kind_name == "lhs" ? kind::lhs : kind_name == "rhs" ? kind::rhs : kind::rep;
+        expect(souper::key(k, unescaped(text), flags) == unescaped(records), "a form of records", nullptr);
+        count++;
+    }
+    expect(count > 6, "the forms of records", nullptr);
 }
 
 void numbers() {
@@ -297,6 +404,9 @@ int main(int argc, char **argv) {
     }
     built_lhs();
     built_blocks();
+    built_names();
+    built_by_width();
+    values();
     built_replacements();
     built_attributes();
     operations();
@@ -304,6 +414,7 @@ int main(int argc, char **argv) {
     ill_formed_values();
     ill_formed_graphs();
     numbers();
+    record_formats();
     free_records(records);
     return summary("C++: the stored answers as values, items that are built");
 }

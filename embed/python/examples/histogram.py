@@ -22,10 +22,10 @@ def texts(kind: str, paths: Iterable[Path]) -> Counter[str]:
     found: Counter[str] = Counter()
     for path in paths:
         try:
-            records = souper.records(kind, path.read_bytes(), rename=True, nul=True)
+            records = souper.records(kind, path.read_bytes(), rename=True)
         except souper.Refused as refusal:
             sys.exit(f"{path}:{refusal.line}:{refusal.column}: refused\n{refusal}")
-        found.update(records.split("\0")[:-1])
+        found.update(record.text for record in records)
     return found
 
 

@@ -28,6 +28,40 @@ use std::fmt;
 pub trait Item: Decode + Encode {
     /// The kind of the texts that spell such items.
     const KIND: Kind;
+
+    /// The canonical text, as `Display` writes it, or why there is none. (`to_string` and `write!` panic if there is none.)
+    ///
+    /// ```
+    /// use souper_ir::ast::LeftHandSide;
+    /// use souper_ir::code::{Error, Item};
+    /// use souper_ir::parse::parse_left_hand_sides_str;
+    /// use std::io::Write;
+    ///
+    /// fn print(item: &LeftHandSide, out: &mut impl Write) -> Result<(), Box<dyn std::error::Error>> {
+    ///     Ok(out.write_all(item.to_text()?.as_bytes())?)
+    /// }
+    ///
+    /// let mut item = parse_left_hand_sides_str("%unused = var  %x = var  infer %x", None)?.remove(0);
+    /// let mut out = Vec::new();
+    /// print(&item, &mut out)?;
+    /// assert_eq!(out, b"%x = var\ninfer %x\n");
+    /// item.statements = Default::default();
+    /// assert_eq!(item.to_text(), Err(Error::NotWellFormed { index: 0 }));
+    /// assert!(print(&item, &mut out).is_err());
+    /// # Ok::<(), Box<dyn std::error::Error>>(())
+    /// ```
+    ///
+    /// # Errors
+    ///
+    /// [`Error::NotWellFormed`] or [`Error::OutOfMemory`].
+    fn to_text(&self) -> Result<String, Error> {
+        let mut code = Vec::new();
+        self.encode(&mut code);
+        let mut text = write(Self::KIND, &code)?;
+        // The newline that the library writes after each item.
+        text.pop();
+        Ok(text)
+    }
 }
 
 impl Item for LeftHandSide {

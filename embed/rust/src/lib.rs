@@ -65,17 +65,18 @@
 //! | `souper-ir` 2.1.0 | This crate |
 //! |---|---|
 //! | `Display` drops path conditions | it prints the canonical text, with the path conditions and the statements that they need |
-//! | `Display` prints texts that cannot be read, or panics | it gives `fmt::Error` for an item that is not [well formed](ast), and then `to_string` panics |
+//! | `Display` prints texts that cannot be read, or panics | it gives `fmt::Error` for an item that is not [well formed](ast), and then `to_string` panics, and `write!` to an `io::Write` too; [`code::Item::to_text`] returns why |
+//! | a builder's value without a name may get the name of another value | it gets the next number that no name of the builder has |
 //! | a `blockpc` may name a predecessor that its block has not | the text is refused |
 //! | `cand %1, %2` is refused | it is read, and printed without the comma |
 //! | some messages about numbers out of range are the standard library's of the day; past column 65,535 an error panics | fixed messages; no panic |
 //! | `Parser`, `Parse`, `Peek`: a parser of single nodes | not there: the library reads texts of whole items |
-//! | `Arena` and `Id` are types of the crate `id_arena` | types of the module [`arena`], with the methods that users of the values call |
+//! | `Arena` and `Id` are types of the crate `id_arena` | types of the module [`arena`], with the methods that users of the values call; their `Debug` prints other text |
 //! | the features `parse` and `stringify` | accepted, without effect: parsing and printing are always there |
 //! | memory that runs out ends the process | in the library it is an error; where this crate makes values, it ends the process |
 //!
-//! Besides the original, there are [`canonical`] (texts without values), [`code`] (the byte code of items) and
-//! [`parse::ParseError::refusal`].
+//! Besides the original, there are [`canonical`] (texts without values), [`code`] (the byte code of items),
+//! [`ast::Constant::from_bits`] and [`parse::ParseError::refusal`].
 //!
 //! There is no state; calls may run on any threads at once.
 //!

@@ -179,6 +179,51 @@ fn an_id_of_another_builder_is_not_printed() {
 }
 
 #[test]
+fn names_that_are_made_are_free() {
+    let mut lhs = LeftHandSideBuilder::default();
+    for name in [
+        Some("%1"),
+        None,
+        Some("%3"),
+        None,
+        Some("%06"),
+        Some("%7x"),
+        None,
+        None,
+    ] {
+        lhs.assignment(name.map(str::to_string), None, AssignmentRhs::Var, vec![]);
+    }
+    let last = lhs.assignment(None, None, AssignmentRhs::Var, vec![]);
+    let lhs = lhs.finish(last, vec![]);
+    let names = lhs.statements.iter().map(|(_, it)| match it {
+        Statement::Assignment(assignment) => assignment.name.as_str(),
+        _ => panic!("it is one"),
+    });
+    let names: Vec<_> = names.collect();
+    assert_eq!(
+        names,
+        ["%1", "%2", "%3", "%4", "%06", "%7x", "%6", "%7", "%8"]
+    );
+}
+
+#[test]
+fn constants_by_their_bits() {
+    for (bits, width, value) in [
+        (255, 8, -1),
+        (127, 8, 127),
+        (128 + 256, 8, -128),
+        (1, 1, -1),
+        (u128::MAX, 128, -1),
+        (1 << 127, 128, i128::MIN),
+        (5, 128, 5),
+    ] {
+        let constant = souper_ir::ast::Constant::from_bits(bits, Type { width });
+        let found = (constant.value, constant.r#type.map(|it| it.width));
+        assert_eq!(found, (value, Some(width)));
+    }
+}
+
+#[test]
 #[should_panic(expected = "a name begins with %")]
 fn a_name_without_a_percent_sign_panics() {
     var(&mut LeftHandSideBuilder::default(), "x");

@@ -29,6 +29,33 @@ fn a_record_has_the_key_of_its_text() {
     assert_eq!(key(Kind::Lhs, text, null), Ok(ended));
 }
 
+// Each form of records, by the file that tools/record-formats compares with the stored texts of `souper_items`.
+#[test]
+fn records_have_the_forms_of_the_program() {
+    let path = concat!(env!("CARGO_MANIFEST_DIR"), "/../tests/record_formats.txt");
+    let all = std::fs::read_to_string(path).expect(path);
+    let text_of = |escaped: &str| escaped.replace("\\n", "\n").replace("\\0", "\0");
+    let rows = all.lines().filter(|line| !line.starts_with('#'));
+    let rows: Vec<_> = rows
+        .map(|line| line.split('\t').collect::<Vec<_>>())
+        .collect();
+    assert!(rows.len() > 6);
+    for row in rows {
+        let kind = match row[0] {
+            "lhs" => Kind::Lhs,
+            "rhs" => Kind::Rhs,
+            _ => Kind::Rep,
+        };
+        let has = |flag| row[1].split(',').any(|it| it == flag);
+        let record = Record {
+            key: has("key"),
+            renamed: has("rename"),
+            null: has("null"),
+        };
+        assert_eq!(key(kind, &text_of(row[2]), record), Ok(text_of(row[3])));
+    }
+}
+
 #[test]
 fn a_plain_record_is_the_canonical_text() {
     for record in records() {

@@ -3,17 +3,49 @@ use super::{
     assignment, Arena, Assignment, AssignmentRhs, Attribute, Block, BlockId, BlockPc, Infer,
     LeftHandSide, Operand, Pc, Replacement, RootAttribute, Statement, Type, ValueId,
 };
+use std::collections::BTreeSet;
 
 /// Builds a [`LeftHandSide`].
 #[derive(Clone, Debug, Default)]
 pub struct LeftHandSideBuilder {
     statements: Arena<Statement>,
+    names: Numbers,
 }
 
 /// Builds a [`Replacement`] of a left-hand and a right-hand side.
 #[derive(Clone, Debug, Default)]
 pub struct ReplacementBuilder {
     statements: Arena<Statement>,
+    names: Numbers,
+}
+
+// The names that are numbers.
+#[derive(Clone, Debug, Default)]
+struct Numbers {
+    // Those that were given.
+    given: BTreeSet<usize>,
+    // The least that was not tried yet.
+    next: usize,
+}
+
+impl Numbers {
+    fn give(&mut self, name: &str) {
+        let digits = name.strip_prefix('%').unwrap_or_default();
+        if digits == "0" || digits.starts_with(|digit: char| digit.is_ascii_digit() && digit != '0')
+        {
+            self.given.extend(digits.parse::<usize>());
+        }
+    }
+
+    // `%` and this number, or the next that was not given.
+    fn make(&mut self, position: usize) -> String {
+        self.next = self.next.max(position);
+        while self.given.contains(&self.next) {
+            self.next += 1;
+        }
+        self.next += 1;
+        format!("%{}", self.next - 1)
+    }
 }
 
 // What both builders have.
@@ -21,7 +53,7 @@ macro_rules! statement_methods {
     () => {
         /// Appends an assignment, and returns the id of its value.
         ///
-        /// Without a name, the value is called `%` and the number of statements before.
+        /// Without a name, the value is called `%` and the number of statements before, or the next number that no name has.
         ///
         /// # Panics
         ///
@@ -33,7 +65,13 @@ macro_rules! statement_methods {
             value: impl Into<AssignmentRhs>,
             attributes: Vec<Attribute>,
         ) -> ValueId {
-            let name = name.unwrap_or_else(|| format!("%{}", self.statements.len()));
+            let name = match name {
+                Some(name) => {
+                    self.names.give(&name);
+                    name
+                }
+                None => self.names.make(self.statements.len()),
+            };
             assert!(name.starts_with('%'), "a name begins with %");
             let value = value.into();
             let statement = Assignment {

@@ -58,6 +58,31 @@ pub struct Constant {
     pub r#type: Option<Type>,
 }
 
+impl Constant {
+    /// The constant of a type of 1 to 128 bits that has these bits, of which the lowest `width` count.
+    ///
+    /// It is signed, as Souper prints constants. (`255:i8` is well formed too, and another graph with another text.)
+    ///
+    /// ```
+    /// use souper_ir::ast::{Constant, Type};
+    ///
+    /// assert_eq!(Constant::from_bits(0xff, Type { width: 8 }).to_string(), "-1:i8");
+    /// assert_eq!(Constant::from_bits(0x7f, Type { width: 8 }).to_string(), "127:i8");
+    /// ```
+    ///
+    /// # Panics
+    ///
+    /// If the type has other bits.
+    pub fn from_bits(bits: u128, r#type: Type) -> Constant {
+        assert!((1..=128).contains(&r#type.width), "1 to 128 bits");
+        let above = 128 - u32::from(r#type.width);
+        Constant {
+            value: ((bits << above) as i128) >> above,
+            r#type: Some(r#type),
+        }
+    }
+}
+
 /// `5`, or `5:i32`.
 impl fmt::Display for Constant {
     fn fmt(&self, f: &mut fmt::Formatter<'_>) -> fmt::Result {
