@@ -1,5 +1,6 @@
 -- The bytes of a reader, from read to read.
-use Rattle.std.proofs.Common.{◌≡◌, ℕ, ◌+◌, ◌-◌, ◌<◌, Bool, true, false, not, length, take, drop, get_or, get_or-append-add, eqb-true, length-append, subst, arith, List, [], ◌∷◌, ◌++◌, Option, Some, None, refl, sym, ap, ◌∙◌, append_assoc, zero-le}
+use Rattle.std.proofs.Common.{◌≡◌, ℕ, ◌+◌, ◌-◌, ◌<◌, Bool, true, false, not, length, take, drop, get_or, get_or-append-add, eqb-true, length-append, subst, arith, List, [], ◌∷◌, ◌++◌, Option, Some, None, refl, sym, ap, ◌∙◌, zero-le}
+use Rattle.std.proofs.lemmas.Bool.{false_from_ne_true}
 use Rattle.std.specs.Prelude.{IfSome, All, ◌==◌, slice_index_or, if◌then◌else◌}
 use Rattle.std.specs.Io.{StartsWith, StopsAt, appended_bytes}
 use Rattle.std.specs.Io.BufRead.{take_through}
@@ -11,7 +12,7 @@ use Rattle.std.proofs.Math.Seq.{drop-append_seam}
 use Rattle.souper_graph.specs.Syntax.Tokens.{IsOneLine}
 use Rattle.souper_stream.specs.Segments.{Line}
 use Rattle.souper_stream.specs.Reading.{AreAll, ReadsLine}
-use Rattle.souper_stream.proofs.Nodes.{is_not, all_append}
+use Rattle.souper_stream.proofs.Nodes.{all_append}
 
 -- all the bytes that were left, after the bytes read before
 pub all_after : (a b : Option (List ℕ)) (bs cs : List ℕ) → Consumes a b bs → AreAll b cs → AreAll a (bs ++ cs)
@@ -19,14 +20,10 @@ all_after None b bs cs h k = tt
 all_after (Some xs) None bs cs h k = absurd h
 all_after (Some xs) (Some ys) bs cs h k = h ∙ ap (λ (l : List ℕ). bs ++ l) k
 
--- bytes that grew
-pub grown : (old mid new more : List ℕ) → mid ≡ old ++ more → StartsWith new mid → new ≡ old ++ (more ++ appended_bytes mid new)
-grown old mid new more e h = starts_with_rest new mid h ∙ ap (λ (l : List ℕ). l ++ appended_bytes mid new) e ∙ append_assoc old more (appended_bytes mid new)
-
 -- ---- a line
 
 differs : (c : ℕ) → (c ≡ 10 → ⊥) → (c == 10) ≡ false
-differs c ne = is_not (c == 10) (λ e. ne (eqb-true c 10 e))
+differs c ne = false_from_ne_true (c == 10) (λ e. ne (eqb-true c 10 e))
 
 one_line : (xs : List ℕ) → All (λ x. x ≡ 10 → ⊥) xs → IsOneLine xs
 one_line xs h = recursion_from_All (λ c. (c == 10) ≡ false) xs (λ k d l. differs (slice_index_or xs k d) (h k d l))

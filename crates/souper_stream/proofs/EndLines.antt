@@ -1,13 +1,14 @@
 -- An item has one line of those that end it, and it is the last.
 use Rattle.std.proofs.Common.{◌≡◌, ℕ, true, false, ◌⊎◌, inl, inr, List, [], ◌∷◌, ◌++◌, refl, sym, ap, ◌∙◌, subst, append_assoc, append-nil}
+use Rattle.std.proofs.lemmas.Bool.{false_from_ne_true}
 use Rattle.std.specs.Prelude.{codes, bytes_eq}
 use Rattle.std.specs.List.{AllByRecursion}
 use Rattle.souper_graph.specs.declared.ast.operands.Operand.{Operand}
 use Rattle.souper_graph.specs.Values.{PlainStatement, PlainInfer, PlainCand, inferred, resulting, replaced, candidate, Item}
-use Rattle.souper_graph.specs.Syntax.Tokens.{Lexeme, ident, val_name, known_bits, int, comma, colon, equals, open_paren, close_paren, open_bracket}
+use Rattle.souper_graph.specs.Syntax.Tokens.{Lexeme, ident, val_name, comma}
 use Rattle.souper_graph.specs.Syntax.Spelling.{Scope, infer_spells, cand_spells, result_spells, IsOptionalComma, Statements, ItemType, left_hand_side, right_hand_side, replacement, Tail, tail_spells, item_spells, list_spells}
 use Rattle.souper_stream.specs.Lines.{last_word, end_word, is_end_word, starts_line, NoStart}
-use Rattle.souper_stream.proofs.Nodes.{or_left, or_right, or_none, is_not, all_append, is_last, NoLast, plain_no_last, operand_quiet, operand_not_defines, root_attributes_plain, root_attributes_not_define, plain_quiet, statement_no_last, statement_starts}
+use Rattle.souper_stream.proofs.Nodes.{or_left, or_right, or_none, all_append, is_last, NoLast, plain_no_last, operand_quiet, operand_not_defines, root_attributes_plain, root_attributes_not_define, plain_quiet, statement_no_last, statement_starts}
 
 -- ---- words that end an item
 
@@ -20,16 +21,8 @@ abbrev pub NoEnd : ItemType → List Lexeme → Type 0
 NoEnd k ts = AllByRecursion (λ t. is_end_word k t ≡ false) ts
 
 last_no_end : (k : ItemType) (t : Lexeme) → is_last t ≡ false → is_end_word k t ≡ false
-last_no_end k (ident w) h = is_not (end_word k w) (λ e. let bad : last_word w ≡ true = end_is_last k w e in cc)
-last_no_end k (val_name n) h = refl
-last_no_end k (known_bits w) h = refl
-last_no_end k (int w) h = refl
-last_no_end k comma h = refl
-last_no_end k colon h = refl
-last_no_end k equals h = refl
-last_no_end k open_paren h = refl
-last_no_end k close_paren h = refl
-last_no_end k open_bracket h = refl
+last_no_end k (ident w) h = false_from_ne_true (end_word k w) (λ e. let bad : last_word w ≡ true = end_is_last k w e in cc)
+last_no_end k _ h = refl
 
 no_last_no_end : (k : ItemType) (ts : List Lexeme) → NoLast ts → NoEnd k ts
 no_last_no_end k [] h = tt
@@ -37,22 +30,11 @@ no_last_no_end k (t ∷ ts) h = (last_no_end k t h.0, no_last_no_end k ts h.1)
 
 start_no_last : (t : Lexeme) (ts : List Lexeme) → starts_line (t ∷ ts) ≡ false → is_last t ≡ false
 start_no_last (ident w) ts h = or_none (last_word w) _ h
-start_no_last (val_name n) ts h = refl
-start_no_last (known_bits w) ts h = refl
-start_no_last (int w) ts h = refl
-start_no_last comma ts h = refl
-start_no_last colon ts h = refl
-start_no_last equals ts h = refl
-start_no_last open_paren ts h = refl
-start_no_last close_paren ts h = refl
-start_no_last open_bracket ts h = refl
+start_no_last _ ts h = refl
 
 pub quiet_no_end : (k : ItemType) (ts : List Lexeme) → NoStart ts → NoEnd k ts
 quiet_no_end k [] h = tt
 quiet_no_end k (t ∷ ts) h = (last_no_end k t (start_no_last t ts h.0), quiet_no_end k ts h.1)
-
-end_append : (k : ItemType) (xs ys : List Lexeme) → NoEnd k xs → NoEnd k ys → NoEnd k (xs ++ ys)
-end_append k xs ys a b = all_append (λ t. is_end_word k t ≡ false) xs ys a b
 
 -- ---- last lines
 
@@ -92,15 +74,7 @@ pub record EndsOnce (k : ItemType) (ts : List Lexeme) : Type 0 where
 tail_ends : (k : ItemType) (s : Scope) (y : Tail) (ts : List Lexeme) → tail_spells k s y ts → EndsOnce k ts
 tail_ends left_hand_side s (new, inferred i) ts h =
     record { head = []; word = codes "infer"; others = val_name h.1.name ∷ h.1.attributes; whole = h.1.whole; no_end = tt; ends = refl; quiet = infer_quiet s i ts h.1 }
-tail_ends left_hand_side s (new, resulting r) ts h = absurd h
-tail_ends left_hand_side s (new, replaced i r) ts h = absurd h
-tail_ends left_hand_side s (new, candidate c) ts h = absurd h
-tail_ends right_hand_side s (new, inferred i) ts h = absurd h
 tail_ends right_hand_side s (new, resulting r) ts h = record { head = []; word = codes "result"; others = h.1.0; whole = h.1.1; no_end = tt; ends = refl; quiet = result_quiet s r ts h.1 }
-tail_ends right_hand_side s (new, replaced i r) ts h = absurd h
-tail_ends right_hand_side s (new, candidate c) ts h = absurd h
-tail_ends replacement s (new, inferred i) ts h = absurd h
-tail_ends replacement s (new, resulting r) ts h = absurd h
 tail_ends replacement s (new, replaced i r) ts h =
     let line = h.infer_spelled in
     let last = h.result_spelled in
@@ -111,12 +85,13 @@ tail_ends replacement s (new, replaced i r) ts h =
       word = codes "result";
       others = last.0;
       whole = h.whole ∙ ap (λ (x : List Lexeme). h.infer ++ (h.middle ++ x)) last.1 ∙ sym (append_assoc h.infer h.middle (ident (codes "result") ∷ last.0));
-      no_end = end_append replacement h.infer h.middle infer_no_end middle_no_end;
+      no_end = all_append (λ t. is_end_word replacement t ≡ false) h.infer h.middle infer_no_end middle_no_end;
       ends = refl;
       quiet = result_quiet (s ++ new) r h.result last;
     }
 tail_ends replacement s (new, candidate c) ts h =
     record { head = []; word = codes "cand"; others = h.1.lhs ++ (h.1.between ++ (h.1.rhs ++ h.1.attributes)); whole = h.1.whole; no_end = tt; ends = refl; quiet = cand_quiet s c ts h.1 }
+tail_ends k s y ts h = absurd h
 
 pub item_ends : (k : ItemType) (a : Item) (ts : List Lexeme) → item_spells k a ts → EndsOnce k ts
 item_ends k a ts h =
@@ -126,7 +101,7 @@ item_ends k a ts h =
       word = t.word;
       others = t.others;
       whole = h.whole ∙ ap (λ (x : List Lexeme). h.head ++ x) t.whole ∙ sym (append_assoc h.head t.head (ident t.word ∷ t.others));
-      no_end = end_append k h.head t.head (no_last_no_end k h.head (statements_no_last [] h.first h.head h.head_spelled)) t.no_end;
+      no_end = all_append (λ t. is_end_word k t ≡ false) h.head t.head (no_last_no_end k h.head (statements_no_last [] h.first h.head h.head_spelled)) t.no_end;
       ends = t.ends;
       quiet = t.quiet;
     }
@@ -148,17 +123,10 @@ one_end k (y ∷ head) (x ∷ pre) others more v w a b h e = let tails : head ++
 
 tail_starts : (k : ItemType) (s : Scope) (y : Tail) (ts ys : List Lexeme) → tail_spells k s y ts → starts_line (ts ++ ys) ≡ true
 tail_starts left_hand_side s (new, inferred i) ts ys h = rw h.1.whole refl
-tail_starts left_hand_side s (new, resulting r) ts ys h = absurd h
-tail_starts left_hand_side s (new, replaced i r) ts ys h = absurd h
-tail_starts left_hand_side s (new, candidate c) ts ys h = absurd h
-tail_starts right_hand_side s (new, inferred i) ts ys h = absurd h
 tail_starts right_hand_side s (new, resulting r) ts ys h = rw h.1.1 refl
-tail_starts right_hand_side s (new, replaced i r) ts ys h = absurd h
-tail_starts right_hand_side s (new, candidate c) ts ys h = absurd h
-tail_starts replacement s (new, inferred i) ts ys h = absurd h
-tail_starts replacement s (new, resulting r) ts ys h = absurd h
 tail_starts replacement s (new, replaced i r) ts ys h = rw (h.whole, h.infer_spelled.whole) refl
 tail_starts replacement s (new, candidate c) ts ys h = rw h.1.whole refl
+tail_starts k s y ts ys h = absurd h
 
 head_starts : (k : ItemType) (s : Scope) (vs : List PlainStatement) (head tail ys : List Lexeme) → Statements s vs head → ((zs : List Lexeme) → starts_line (tail ++ zs) ≡ true) → starts_line ((head ++ tail) ++ ys) ≡ true
 head_starts k s [] head tail ys m t = rw m (t ys)

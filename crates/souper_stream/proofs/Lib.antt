@@ -2,7 +2,6 @@ mod Nodes
 mod EndLines
 mod Parting
 mod Texts
-mod Parted
 mod Scan
 pub mod Bytes
 mod LineLists

@@ -1,19 +1,19 @@
 -- The lines of a text, as a list.
-use Rattle.std.proofs.Common.{◌≡◌, ◌⊎◌, inl, inr, ℕ, ◌+◌, ◌-◌, ◌<◌, ◌≤◌, Bool, true, false, List, [], ◌∷◌, ◌++◌, length, take, drop, refl, sym, ap, ◌∙◌, subst, arith, append_assoc, append-nil, length-append, eqb-true}
+use Rattle.std.proofs.Common.{◌≡◌, inl, inr, ℕ, ◌+◌, ◌-◌, ◌<◌, ◌≤◌, Bool, true, false, List, [], ◌∷◌, ◌++◌, length, take, drop, refl, sym, ap, ◌∙◌, subst, arith, append_assoc, append-nil, length-append, eqb-true}
 use Rattle.std.specs.Prelude.{◌==◌, zero, suc, slice_index}
 use Rattle.std.specs.List.{AllByRecursion}
-use Rattle.std.proofs.lemmas.List.{take_all, take_more as take_next, take-append-drop, take-append-le, drop-take, get_or-drop, length-take, length-drop}
-use Rattle.memchr.specs.Find.{Nowhere, NoneBefore, NoneAfter, Passes, is_byte}
+use Rattle.std.specs.Io.BufRead.{take_through}
+use Rattle.std.proofs.lemmas.Bool.{false_from_ne_true}
+use Rattle.std.proofs.lemmas.List.{append_cancel_left, take_at, drop_at, take_more, take-append-drop, take-append-le, length-take}
+use Rattle.memchr.specs.Find.{Nowhere, NoneAfter, Passes, is_byte}
 use Rattle.souper_graph.specs.Syntax.Tokens.{Lexeme, IsOneLine, IsTextOf}
 use Rattle.souper_graph.specs.Syntax.Spelling.{kinds}
 use Rattle.souper_lexer.proofs.TokenLaws.{text_tokens, one_reading}
 use Rattle.souper_ir.specs.Joining.{IsLines, moved}
 use Rattle.souper_ir.specs.Laws.Steps.{kinds-append}
 use Rattle.souper_ir.proofs.Items.Joining.{newline_last, kinds_moved}
-use Rattle.souper_ir.proofs.Items.Parting.{Within, Beyond, parted_twice, lines_end, tokens_part}
-use Rattle.souper_stream.specs.Segments.{Line, concat, IsLine, IsLastLine, AreLines, tokens_of, tokens_of_lines, IsFirstLine, IsLastLineAt}
-use Rattle.souper_stream.proofs.Nodes.{is_not}
-use Rattle.souper_stream.proofs.Parted.{Parted, snoc_parted}
+use Rattle.souper_ir.proofs.Items.Parting.{lines_end, tokens_part}
+use Rattle.souper_stream.specs.Segments.{Line, concat, IsLine, IsLastLine, AreLines, tokens_of, tokens_of_lines, Starts, IsLastLineAt}
 use Rattle.souper_stream.proofs.Texts.{lines_append, no_text}
 
 -- ---- lists
@@ -31,7 +31,15 @@ tokens_snoc ls l = tokens-append ls (l ∷ []) ∙ ap (λ (ts : List Lexeme). to
 
 -- ---- lines
 
-pub line_some : (l : Line) → IsLastLine l → 0 < length l
+pub starts_not_none : (q : List Line) → Starts q → q ≡ [] → ⊥
+starts_not_none [] s e = s
+starts_not_none (l ∷ q) s e = cc
+
+pub starts_with_more : (ls more : List Line) → Starts ls → Starts (ls ++ more)
+starts_with_more [] more h = absurd h
+starts_with_more (l ∷ ls) more h = h
+
+line_some : (l : Line) → IsLastLine l → 0 < length l
 line_some l (inl h) = let e = ap length h.2 in let n = length-append h.0 (10 ∷ []) in omega arith
 line_some l (inr h) = h.1
 
@@ -57,14 +65,6 @@ lines_front [] ys some h = tt
 lines_front (l ∷ []) [] some h = absurd (some refl)
 lines_front (l ∷ []) (m ∷ ys) some h = (h.0, tt)
 lines_front (l ∷ (m ∷ xs)) ys some h = (h.0, lines_front (m ∷ xs) ys some h.1)
-
-pub all_front : (xs ys : List Line) → AllByRecursion IsLine (xs ++ ys) → AllByRecursion IsLine xs
-all_front [] ys h = tt
-all_front (x ∷ xs) ys h = (h.0, all_front xs ys h.1)
-
-pub all_back : (xs ys : List Line) → AllByRecursion IsLine (xs ++ ys) → AllByRecursion IsLine ys
-all_back [] ys h = h
-all_back (x ∷ xs) ys h = all_back xs ys h.1
 
 pub are_front : (xs ys : List Line) → AreLines (xs ++ ys) → AreLines xs
 are_front xs [] h = subst (λ (x : List Line). AreLines x) (append-nil xs) h
@@ -95,99 +95,56 @@ pub lines_exist : (bs : List ℕ) → (ls : List Line) × AreLines ls × (bs ≡
 lines_exist [] = ([], tt, refl)
 lines_exist (b ∷ bs) = let r = lines_exist bs in under (b == 10) refl r.0 r.1 r.2
   where
-    newline : (m : List Line) → AreLines m → AreLines ((10 ∷ []) ∷ m)
-    newline [] h = inl ([], tt, refl)
-    newline (l ∷ m) h = (([], tt, refl), h)
+    longer : (b == 10) ≡ false → (l : Line) → IsLine l → IsLine (b ∷ l)
+    longer ne l h = (b ∷ h.0, (ne, h.1), ap (λ (x : Line). b ∷ x) h.2)
 
-    longer : Line → Line
-    longer l = b ∷ l
-
-    longer_line : (b == 10) ≡ false → (l : Line) → IsLine l → IsLine (longer l)
-    longer_line ne l h = (b ∷ h.0, (ne, h.1), ap longer h.2)
-
-    join : (b == 10) ≡ false → (ls : List Line) → AreLines ls → bs ≡ concat ls → (m : List Line) × AreLines m × (b ∷ bs ≡ concat m)
-    join ne [] h e = ((b ∷ []) ∷ [], inr ((ne, tt), omega arith), ap longer e)
-    join ne (l ∷ []) (inl h) e = (longer l ∷ [], inl (longer_line ne l h), ap longer e)
-    join ne (l ∷ []) (inr h) e = (longer l ∷ [], inr ((ne, h.0), omega arith), ap longer e)
-    join ne (l ∷ (k ∷ m)) h e = (longer l ∷ (k ∷ m), (longer_line ne l h.0, h.1), ap longer e)
-
-    under : (c : Bool) → (b == 10) ≡ c → (ls : List Line) → AreLines ls → bs ≡ concat ls → (m : List Line) × AreLines m × (b ∷ bs ≡ concat m)
-    under true e ls h k = ((10 ∷ []) ∷ ls, newline ls h, (λ i. eqb-true b 10 e i ∷ k i))
-    under false e ls h k = join e ls h k
+    under : (c : Bool) → (b == 10) ≡ c → (ls : List Line) → AreLines ls → bs ≡ concat ls → (ms : List Line) × AreLines ms × (b ∷ bs ≡ concat ms)
+    under true is ls h e = ((b ∷ []) ∷ ls, lines-append ((b ∷ []) ∷ []) ls (([], tt, ap (λ (x : ℕ). x ∷ []) (eqb-true b 10 is)), tt) h, ap (λ (x : List ℕ). b ∷ x) e)
+    under false ne [] h e = ((b ∷ []) ∷ [], inr ((ne, tt), omega arith), ap (λ (x : List ℕ). b ∷ x) e)
+    under false ne (l ∷ []) (inl h) e = ((b ∷ l) ∷ [], inl (longer ne l h), ap (λ (x : List ℕ). b ∷ x) e)
+    under false ne (l ∷ []) (inr h) e = ((b ∷ l) ∷ [], inr ((ne, h.0), omega arith), ap (λ (x : List ℕ). b ∷ x) e)
+    under false ne (l ∷ (m ∷ ls)) h e = ((b ∷ l) ∷ (m ∷ ls), (longer ne l h.0, h.1), ap (λ (x : List ℕ). b ∷ x) e)
 
 -- ---- the first line
 
-one_newline : (a b r s : List ℕ) → IsOneLine a → IsOneLine b → a ++ 10 ∷ r ≡ b ++ 10 ∷ s → a ≡ b
-one_newline [] [] r s h k e = refl
-one_newline [] (y ∷ b) r s h k e = let same : 10 ≡ y = cc in let bad : (10 == 10) ≡ false = ap (λ (x : ℕ). x == 10) same ∙ k.0 in absurd cc
-one_newline (x ∷ a) [] r s h k e = let same : 10 ≡ x = cc in let bad : (10 == 10) ≡ false = ap (λ (y : ℕ). y == 10) same ∙ h.0 in absurd cc
-one_newline (x ∷ a) (y ∷ b) r s h k e = let heads : x ≡ y = cc in let tails = one_newline a b r s h.1 k.1 cc in (λ i. heads i ∷ tails i)
+through_line : (body rest : List ℕ) → IsOneLine body → take_through 10 (body ++ 10 ∷ rest) ≡ body ++ 10 ∷ []
+through_line [] rest h = refl
+through_line (b ∷ body) rest h = rw h.0 (ap (λ (x : List ℕ). b ∷ x) (through_line body rest h.1))
 
-no_newline : (a r : List ℕ) → IsOneLine (a ++ 10 ∷ r) → ⊥
-no_newline [] r h = let bad : (10 == 10) ≡ false = h.0 in cc
-no_newline (x ∷ a) r h = no_newline a r h.1
+through_all : (xs : List ℕ) → IsOneLine xs → take_through 10 xs ≡ xs
+through_all [] h = refl
+through_all (x ∷ xs) h = rw h.0 (ap (λ (l : List ℕ). x ∷ l) (through_all xs h.1))
 
-parts_of : (n : ℕ) (bs : List ℕ) → bs ≡ take n bs ++ drop n bs
-parts_of n bs = sym (take-append-drop n bs)
+through_whole : (l rest : List ℕ) → IsLine l → take_through 10 (l ++ rest) ≡ l
+through_whole l rest h = ap (take_through 10) (ap (λ (x : List ℕ). x ++ rest) h.2 ∙ append_assoc h.0 (10 ∷ []) rest) ∙ through_line h.0 rest h.1 ∙ sym h.2
 
-whole : (l : Line) (ls : List Line) (n : ℕ) → IsLine l → IsFirstLine (concat (l ∷ ls)) n → n ≡ length l
-whole l ls n h f = under f.line
-  where
-    text : l ++ concat ls ≡ h.0 ++ 10 ∷ concat ls
-    text = ap (λ (x : List ℕ). x ++ concat ls) h.2 ∙ append_assoc h.0 (10 ∷ []) (concat ls)
+first_through : (l : Line) (ls : List Line) → AreLines (l ∷ ls) → take_through 10 (concat (l ∷ ls)) ≡ l
+first_through l [] (inl h) = through_whole l [] h
+first_through l [] (inr h) = ap (take_through 10) (append-nil l) ∙ through_all l h.0
+first_through l (m ∷ ls) h = through_whole l (concat (m ∷ ls)) h.0
 
-    under : ((length (l ++ concat ls) ≡ n) × IsOneLine (l ++ concat ls)) ⊎ IsLine (take n (l ++ concat ls)) → n ≡ length l
-    under (inl k) = absurd (no_newline h.0 (concat ls) (subst (λ (x : List ℕ). IsOneLine x) text k.1))
-    under (inr k) =
-        let both : k.0 ++ 10 ∷ drop n (l ++ concat ls) ≡ h.0 ++ 10 ∷ concat ls =
-        sym (append_assoc k.0 (10 ∷ []) (drop n (l ++ concat ls))) ∙ ap (λ (x : List ℕ). x ++ drop n (l ++ concat ls)) (sym k.2) ∙ take-append-drop n (l ++ concat ls) ∙ text in
-        let same = one_newline k.0 h.0 _ _ k.1 h.1 both in
-        let a = ap length k.2 ∙ length-append k.0 (10 ∷ []) in
-        let b = ap length h.2 ∙ length-append h.0 (10 ∷ []) in
-        let c = ap length same in
-        let d = length-take n (l ++ concat ls) in
-        let e = f.within in
-        omega arith
+pub line_first : (ls : List Line) (text : List ℕ) (n : ℕ) → text ≡ concat ls → AreLines ls → 0 < length text → n ≡ length (take_through 10 text) → (back : List Line) × (ls ≡ take n text ∷ back) × (drop n text ≡ concat back)
+line_first [] text n e lines some len = absurd (omega (arith, ap length e))
+line_first (l ∷ ls) text n e lines some len =
+    let long : length l ≡ n = sym (len ∙ ap length (ap (take_through 10) e ∙ first_through l ls lines)) in
+    (ls, ap (λ (x : Line). x ∷ ls) (sym (ap (take n) e ∙ take_at l (concat ls) n long)), ap (drop n) e ∙ drop_at l (concat ls) n long)
 
--- the first line of whole lines, and of others
-pub first_len : (l : Line) (ls : List Line) (n : ℕ) → AreLines (l ∷ ls) → IsFirstLine (concat (l ∷ ls)) n → n ≡ length l
-first_len l [] n (inr h) f = under f.line
-  where
-    under : ((length (l ++ []) ≡ n) × IsOneLine (l ++ [])) ⊎ IsLine (take n (l ++ [])) → n ≡ length l
-    under (inl k) = sym k.0 ∙ ap length (append-nil l)
-    under (inr k) = absurd (no_newline k.0 (drop n (l ++ []))
-        (subst (λ (x : List ℕ). IsOneLine x) (sym (append-nil l) ∙ parts_of n (l ++ []) ∙ ap (λ (x : List ℕ). x ++ drop n (l ++ [])) k.2 ∙ append_assoc k.0 (10 ∷ []) (drop n (l ++ []))) h.0))
-first_len l [] n (inl h) f = whole l [] n h f
-first_len l (m ∷ ls) n h f = whole l (m ∷ ls) n h.0 f
+lines_unique : (ls ms : List Line) → AreLines ls → AreLines ms → concat ls ≡ concat ms → ls ≡ ms
+lines_unique [] ms h k e = sym (no_bytes ms k (sym (ap length e)))
+lines_unique (l ∷ ls) [] h k e = no_bytes (l ∷ ls) h (ap length e)
+lines_unique (l ∷ ls) (m ∷ ms) h k e =
+    let same : l ≡ m = sym (first_through l ls h) ∙ ap (take_through 10) e ∙ first_through m ms k in
+    let others = append_cancel_left m (concat ls) (concat ms) (ap (λ (x : Line). x ++ concat ls) (sym same) ∙ e) in
+    let rest = lines_unique ls ms (lines_back (l ∷ []) ls h) (lines_back (m ∷ []) ms k) others in
+    (λ i. same i ∷ rest i)
 
 -- whole lines with which lines begin are the first of them
-no_line_beyond : (l front more : List ℕ) → IsLastLine l → l ≡ (front ++ 10 ∷ []) ++ more → 0 < length more → ⊥
-no_line_beyond l front more (inr h) e some = no_newline front more (subst (λ (x : List ℕ). IsOneLine x) (e ∙ append_assoc front (10 ∷ []) more) h.0)
-no_line_beyond l front more (inl h) e some = under (snoc_parted (front ++ 10 ∷ []) more h.0 10 (sym h.2 ∙ e))
-  where
-    under : (more ≡ []) ⊎ Parted (front ++ 10 ∷ []) more h.0 10 → ⊥
-    under (inl none) = let n = ap length none in omega arith
-    under (inr p) = no_newline front p.mid (subst (λ (x : List ℕ). IsOneLine x) (p.rest_is ∙ append_assoc front (10 ∷ []) p.mid) h.1)
-
-first_last : (l : Line) (ls : List Line) → AreLines (l ∷ ls) → IsLastLine l
-first_last l [] h = h
-first_last l (m ∷ ls) h = inl h.0
-
 pub lines_split : (ls : List Line) (a b : List ℕ) → AreLines ls → concat ls ≡ a ++ b → IsLines a → (xs : List Line) × (ys : List Line) × (ls ≡ xs ++ ys) × (concat xs ≡ a)
-lines_split ls [] b lines e h = ([], ls, refl, refl)
-lines_split [] (c ∷ a) b lines e h = let n = ap length e in absurd (omega arith)
-lines_split (l ∷ ls) (c ∷ a) b lines e h = under (parted_twice l (concat ls) (c ∷ a) b e) (λ (left : List ℕ) second more. lines_split ls left b (lines_back (l ∷ []) ls lines) second more)
-  where
-    beyond : (more : List ℕ) → l ≡ (c ∷ a) ++ more → 0 < length more → IsLines (c ∷ a) → ⊥
-    beyond more f some (inl none) = cc
-    beyond more f some (inr end) = no_line_beyond l end.0 more (first_last l ls lines) (f ∙ ap (λ (x : List ℕ). x ++ more) end.1) some
-
-    under : Within l (concat ls) (c ∷ a) b ⊎ Beyond l (concat ls) (c ∷ a) b → ((left : List ℕ) → concat ls ≡ left ++ b → IsLines left → (xs : List Line) × (ys : List Line) × (ls ≡ xs ++ ys) × (concat xs ≡ left))
-        → (xs : List Line) × (ys : List Line) × (l ∷ ls ≡ xs ++ ys) × (concat xs ≡ c ∷ a)
-    under (inl w) rest =
-        let r = rest w.left w.second (lines_end l w.left (subst (λ (x : List ℕ). IsLines x) w.first h)) in
-        (l ∷ r.0, r.1, ap (λ (x : List Line). l ∷ x) r.2, ap (λ (x : List ℕ). l ++ x) r.3 ∙ sym w.first)
-    under (inr b) rest = absurd (beyond b.more b.first b.some h)
+lines_split ls a b lines e h =
+    let xs = lines_exist a in
+    let ys = lines_exist b in
+    let whole = lines_whole xs.0 xs.1 (subst (λ (x : List ℕ). IsLines x) xs.2 h) in
+    (xs.0, ys.0, lines_unique ls (xs.0 ++ ys.0) lines (lines-append xs.0 ys.0 whole ys.1) (e ∙ (λ i. xs.2 i ++ ys.2 i) ∙ sym (concat-append xs.0 ys.0)), sym xs.2)
 
 -- ---- tokens of lines without a fault
 
@@ -204,62 +161,35 @@ kinds_of_lines (l ∷ (m ∷ p)) ts lines h =
 
 -- ---- newlines that are sought
 
-none_before : (n : ℕ) (bs : List ℕ) → n ≤ length bs → ((k : ℕ) → k < n → Passes (is_byte 10) bs k → ⊥) → IsOneLine (take n bs)
-none_before zero bs l h = tt
-none_before (suc n) [] l h = absurd (omega arith)
-none_before (suc n) (b ∷ bs) l h = (is_not (b == 10) (h 0 (omega arith)), none_before n bs (omega arith) (λ k m. h (suc k) (omega arith)))
+pub through_found : (text : List ℕ) (n : ℕ) → n < length text → ((k : ℕ) → k < n → Passes (is_byte 10) text k → ⊥) → Passes (is_byte 10) text n → n + 1 ≡ length (take_through 10 text)
+through_found [] n within before at = absurd (omega arith)
+through_found (b ∷ text) zero within before at = rw at refl
+through_found (b ∷ text) (suc n) within before at =
+    rw (false_from_ne_true (b == 10) (before 0 (omega arith))) (omega (arith, through_found text n (omega arith) (λ k l. before (suc k) (omega arith)) at))
 
-pub first_found : (text : List ℕ) (n : ℕ) → NoneBefore (Passes (is_byte 10) text) 0 (length text) n × Passes (is_byte 10) text n → IsFirstLine text (n + 1)
-first_found text n h =
-    let within = h.0.high in
-    record {
-      within = omega arith;
-      line = inr (
-        take n text,
-        none_before n text (omega arith) (λ k l. h.0.before k (omega arith) l),
-        take_next text n 0 within ∙ ap (λ (b : ℕ). take n text ++ b ∷ []) (eqb-true (slice_index text n) 10 h.1),
-      );
-    }
+pub through_none : (text : List ℕ) → ((k : ℕ) → k < length text → Passes (is_byte 10) text k → ⊥) → length text ≡ length (take_through 10 text)
+through_none [] none = refl
+through_none (b ∷ text) none = rw (false_from_ne_true (b == 10) (none 0 (omega arith))) (omega (arith, through_none text (λ k l. none (suc k) (omega arith))))
 
-pub first_none : (text : List ℕ) → Nowhere (Passes (is_byte 10) text) 0 (length text) → IsFirstLine text (length text)
-first_none text h = record {
-  within = omega arith;
-  line = inl (refl, subst (λ (x : List ℕ). IsOneLine x) (take_all (length text) text (omega arith)) (none_before (length text) text (omega arith) (λ k l. h k (omega arith) l)));
-}
+-- no newline is from an offset on
+one_after : (xs : List ℕ) (s : ℕ) → ((k : ℕ) → s ≤ k → k < length xs → Passes (is_byte 10) xs k → ⊥) → IsOneLine (drop s xs)
+one_after [] zero none = tt
+one_after [] (suc s) none = tt
+one_after (x ∷ xs) zero none = (false_from_ne_true (x == 10) (none 0 (omega arith) (omega arith)), one_after xs zero (λ k from l. none (suc k) (omega arith) (omega arith)))
+one_after (x ∷ xs) (suc s) none = one_after xs s (λ k from l. none (suc k) (omega arith) (omega arith))
 
 -- the last newline before the last byte
-one_after : (xs : List ℕ) (s : ℕ) → s ≤ length xs → ((k : ℕ) → s ≤ k → k < length xs → Passes (is_byte 10) xs k → ⊥) → IsOneLine (drop s xs)
-one_after xs s l h =
-    let long = length-drop s xs in
-    subst (λ (x : List ℕ). IsOneLine x) (take_all (length (drop s xs)) (drop s xs) (omega arith))
-    (none_before (length (drop s xs)) (drop s xs) (omega arith) (λ k less p. h (s + k) (omega arith) (omega arith) (subst (λ (b : ℕ). (b == 10) ≡ true) (get_or-drop s xs k 0) p)))
-
-front_len : (text front : List ℕ) → 0 < length text → front ≡ take (length text - 1) text → length front ≡ length text - 1
-front_len text front some e = omega (arith, ap length e, length-take (length text - 1) text)
-
-front_parts : (text front : List ℕ) (s : ℕ) → 0 < length text → front ≡ take (length text - 1) text → s ≤ length front → (take s text ≡ take s front) × (take (length text - 1 - s) (drop s text) ≡ drop s front)
-front_parts text front s some e l =
-    let long = front_len text front some e in
-    let m : ℕ = length text - 1 in
-    let sum : s + (m - s) ≡ m = omega arith in (
-      ap (λ (x : List ℕ). take s x) (sym (take-append-drop m text)) ∙ take-append-le s (take m text) (drop m text) (omega (arith, ap length e)) ∙ ap (λ (x : List ℕ). take s x) (sym e),
-      sym (drop-take s (m - s) text) ∙ ap (λ (n : ℕ). drop s (take n text)) sum ∙ ap (λ (x : List ℕ). drop s x) (sym e),
-    )
-
 pub last_found : (text front : List ℕ) (n : ℕ) → 0 < length text → front ≡ take (length text - 1) text → NoneAfter (Passes (is_byte 10) front) 0 (length front) n × Passes (is_byte 10) front n → IsLastLineAt text (n + 1)
 last_found text front n some e h =
     let within = h.0.high in
-    let long = front_len text front some e in
-    let parts = front_parts text front (n + 1) some e (omega arith) in
+    let long : length front ≡ length text - 1 = omega (arith, ap length e, length-take (length text - 1) text) in
+    let parts : take (n + 1) text ≡ take (n + 1) front =
+    ap (take (n + 1)) (sym (take-append-drop (length text - 1) text) ∙ ap (λ (x : List ℕ). x ++ drop (length text - 1) text) (sym e)) ∙ take-append-le (n + 1) front (drop (length text - 1) text) (omega arith) in
     record {
       before = omega arith;
-      lines = inr (take n front, parts.0 ∙ take_next front n 0 within ∙ ap (λ (b : ℕ). take n front ++ b ∷ []) (eqb-true (slice_index front n) 10 h.1));
-      one_line = subst (λ (x : List ℕ). IsOneLine x) (sym parts.1) (one_after front (n + 1) (omega arith) (λ k l m. h.0.after k l m));
+      lines = inr (take n front, parts ∙ take_more front n 0 within ∙ ap (λ (b : ℕ). take n front ++ b ∷ []) (eqb-true (slice_index front n) 10 h.1));
+      one_line = subst (λ (x : List ℕ). IsOneLine (drop (n + 1) x)) e (one_after front (n + 1) (λ k l m. h.0.after k l m));
     }
 
 pub last_none : (text front : List ℕ) → 0 < length text → front ≡ take (length text - 1) text → Nowhere (Passes (is_byte 10) front) 0 (length front) → IsLastLineAt text 0
-last_none text front some e h = record {
-  before = some;
-  lines = inl refl;
-  one_line = subst (λ (x : List ℕ). IsOneLine x) (sym (front_parts text front 0 some e (omega arith)).1) (one_after front 0 (omega arith) (λ k l m. h k l m));
-}
+last_none text front some e h = record { before = some; lines = inl refl; one_line = subst (λ (x : List ℕ). IsOneLine x) e (one_after front 0 (λ k l m. h k l m)) }

@@ -2,14 +2,15 @@
 use Rattle.std.proofs.Common.{◌≡◌, ℕ, Bool, true, false, ◌||◌, List, [], ◌∷◌, ◌++◌, Option, Some, None, refl, subst}
 use Rattle.std.specs.Prelude.{codes, bytes_eq}
 use Rattle.std.specs.List.{AllByRecursion}
+use Rattle.std.proofs.lemmas.Bool.{false_from_ne_true}
 use Rattle.std.proofs.lemmas.Slice.Eq.{bytes_eq-Decides}
 use Rattle.souper_graph.specs.declared.ast.operands.«Type».{«Type» as Ty}
 use Rattle.souper_graph.specs.declared.ast.operands.Operand.{Operand}
 use Rattle.souper_graph.specs.declared.ast.operands.Operand.TheVariants.{Value, Constant as constant_variant}
 use Rattle.souper_graph.specs.declared.ast.instructions.Instruction.{Instruction}
 use Rattle.souper_graph.specs.Instructions.{word_of, operands_of}
-use Rattle.souper_graph.specs.Values.{PlainAttribute, known_bits as known_bits_attribute, power_of_two, negative, non_negative, non_zero, has_external_uses, sign_bits, range, PlainRootAttribute, demanded_bits, harvested_from_use, PlainRhs, var, block, phi, reserved_inst, reserved_const, instruction, PlainStatement, assigned, condition, block_condition}
-use Rattle.souper_graph.specs.Syntax.Tokens.{Lexeme, ident, val_name, known_bits, int, comma, colon, equals, open_paren, close_paren, open_bracket}
+use Rattle.souper_graph.specs.Values.{PlainAttribute, known_bits as known_bits_attribute, sign_bits, range, PlainRootAttribute, demanded_bits, harvested_from_use, PlainRhs, block, phi, instruction, PlainStatement, assigned, condition, block_condition}
+use Rattle.souper_graph.specs.Syntax.Tokens.{Lexeme, ident, val_name, equals}
 use Rattle.souper_graph.specs.Syntax.Numbers.{width_of}
 use Rattle.souper_graph.specs.Syntax.Spelling.{Scope, optional_type_spells, operand_spells, further_spells, operands_spells, pair_spells, rhs_spells, attribute_spells, root_attribute_spells, attributes_spell, root_attributes_spell, statement_spells}
 use Rattle.souper_ir.specs.Words.{opcode_of}
@@ -30,10 +31,6 @@ pub or_none : (a b : Bool) → (a || b) ≡ false → a ≡ false
 or_none true b h = absurd cc
 or_none false b h = refl
 
-pub is_not : (b : Bool) → (b ≡ true → ⊥) → b ≡ false
-is_not true h = absurd (h refl)
-is_not false h = refl
-
 pub word_means : (w k : List ℕ) → bytes_eq w k ≡ true → w ≡ k
 word_means w k h = (bytes_eq-Decides w k).0 h
 
@@ -44,7 +41,7 @@ all_append P (x ∷ xs) ys a b = (a.0, all_append P xs ys a.1 b)
 -- ---- words
 
 other_word : (P : List ℕ → Type 0) (w k : List ℕ) → P w → (P k → ⊥) → bytes_eq w k ≡ false
-other_word P w k h never = is_not (bytes_eq w k) (λ e. never (subst P (word_means w k e) h))
+other_word P w k h never = false_from_ne_true (bytes_eq w k) (λ e. never (subst P (word_means w k e) h))
 
 -- a word with a property that none of those that begin a line has
 no_line_word : (P : List ℕ → Type 0) (w : List ℕ) → P w → (P (codes "infer") → ⊥) → (P (codes "result") → ⊥) → (P (codes "cand") → ⊥) → (P (codes "pc") → ⊥) → (P (codes "blockpc") → ⊥) → line_word w ≡ false
@@ -81,26 +78,11 @@ NoLast ts = AllByRecursion (λ t. is_last t ≡ false) ts
 plain_start : (t : Lexeme) (ts : List Lexeme) → Plain t → starts_line (t ∷ ts) ≡ false
 plain_start (ident w) ts h = h
 plain_start (val_name n) ts h = absurd h
-plain_start (known_bits w) ts h = refl
-plain_start (int w) ts h = refl
-plain_start comma ts h = refl
-plain_start colon ts h = refl
-plain_start equals ts h = refl
-plain_start open_paren ts h = refl
-plain_start close_paren ts h = refl
-plain_start open_bracket ts h = refl
+plain_start _ ts h = refl
 
 plain_last : (t : Lexeme) → Plain t → is_last t ≡ false
 plain_last (ident w) h = or_none (last_word w) _ h
-plain_last (val_name n) h = refl
-plain_last (known_bits w) h = refl
-plain_last (int w) h = refl
-plain_last comma h = refl
-plain_last colon h = refl
-plain_last equals h = refl
-plain_last open_paren h = refl
-plain_last close_paren h = refl
-plain_last open_bracket h = refl
+plain_last _ h = refl
 
 pub quiet_append : (xs ys : List Lexeme) → ArePlain xs → NoStart ys → NoStart (xs ++ ys)
 quiet_append [] ys p q = q
@@ -109,12 +91,6 @@ quiet_append (x ∷ xs) ys p q = (plain_start x (xs ++ ys) p.0, quiet_append xs 
 pub plain_no_last : (xs : List Lexeme) → ArePlain xs → NoLast xs
 plain_no_last [] p = tt
 plain_no_last (x ∷ xs) p = (plain_last x p.0, plain_no_last xs p.1)
-
-last_append : (xs ys : List Lexeme) → NoLast xs → NoLast ys → NoLast (xs ++ ys)
-last_append xs ys a b = all_append (λ t. is_last t ≡ false) xs ys a b
-
-plain_append : (xs ys : List Lexeme) → ArePlain xs → ArePlain ys → ArePlain (xs ++ ys)
-plain_append xs ys a b = all_append Plain xs ys a b
 
 -- ---- operands
 
@@ -139,38 +115,32 @@ further_no_last : (s : Scope) (xs : List Operand) (ts : List Lexeme) → further
 further_no_last s [] ts h = rw h tt
 further_no_last s (x ∷ xs) ts h =
     let k = h.2 in
-    rw (h.1, k.whole) (refl, last_append k.prefix k.suffix (operand_no_last s x k.prefix k.first) (further_no_last s xs k.suffix k.second))
+    rw (h.1, k.whole) (refl, all_append (λ t. is_last t ≡ false) k.prefix k.suffix (operand_no_last s x k.prefix k.first) (further_no_last s xs k.suffix k.second))
 
 operands_no_last : (s : Scope) (xs : List Operand) (ts : List Lexeme) → operands_spells s xs ts → NoLast ts
 operands_no_last s [] ts h = rw h tt
-operands_no_last s (x ∷ xs) ts h = rw h.whole (last_append h.prefix h.suffix (operand_no_last s x h.prefix h.first) (further_no_last s xs h.suffix h.second))
+operands_no_last s (x ∷ xs) ts h = rw h.whole (all_append (λ t. is_last t ≡ false) h.prefix h.suffix (operand_no_last s x h.prefix h.first) (further_no_last s xs h.suffix h.second))
 
 pair_no_last : (s : Scope) (x y : Operand) (ts : List Lexeme) → pair_spells s x y ts → NoLast ts
-pair_no_last s x y ts h = rw h.whole (last_append h.prefix h.suffix (operand_no_last s x h.prefix h.first) (operand_no_last s y h.suffix h.second))
+pair_no_last s x y ts h = rw h.whole (all_append (λ t. is_last t ≡ false) h.prefix h.suffix (operand_no_last s x h.prefix h.first) (operand_no_last s y h.suffix h.second))
 
 -- ---- right sides and attributes
 
 rhs_no_last : (s : Scope) (v : PlainRhs) (ts : List Lexeme) → rhs_spells s v ts → NoLast ts
-rhs_no_last s var ts h = rw h (refl, tt)
 rhs_no_last s (block b) ts h = rw h.1 (refl, (refl, tt))
 rhs_no_last s (phi p) ts h = rw h.whole (refl, (refl, further_no_last s p.values h.rest h.values_spelled))
-rhs_no_last s reserved_inst ts h = rw h (refl, tt)
-rhs_no_last s reserved_const ts h = rw h (refl, tt)
 rhs_no_last s (instruction i) ts h = rw h.1 (or_none (last_word (word_of i)) _ (instruction_word i), operands_no_last s (operands_of i) h.0 h.2)
+rhs_no_last s _ ts h = rw h (refl, tt)
 
 attribute_plain : (a : PlainAttribute) (ts : List Lexeme) → attribute_spells a ts → ArePlain ts
 attribute_plain (known_bits_attribute bits) ts h = rw h.0 (tt, (tt, (tt, tt)))
-attribute_plain power_of_two ts h = rw h (tt, (refl, (tt, tt)))
-attribute_plain negative ts h = rw h (tt, (refl, (tt, tt)))
-attribute_plain non_negative ts h = rw h (tt, (refl, (tt, tt)))
-attribute_plain non_zero ts h = rw h (tt, (refl, (tt, tt)))
-attribute_plain has_external_uses ts h = rw h (tt, (refl, (tt, tt)))
 attribute_plain (sign_bits n) ts h = rw h.1 (tt, (refl, (tt, (tt, (tt, tt)))))
 attribute_plain (range low high) ts h = rw h.whole (tt, (refl, (tt, (tt, (tt, (tt, (tt, (tt, (tt, tt)))))))))
+attribute_plain _ ts h = rw h (tt, (refl, (tt, tt)))
 
 attributes_plain : (xs : List PlainAttribute) (ts : List Lexeme) → attributes_spell xs ts → ArePlain ts
 attributes_plain [] ts h = rw h tt
-attributes_plain (x ∷ xs) ts h = rw h.whole (plain_append h.prefix h.suffix (attribute_plain x h.prefix h.first) (attributes_plain xs h.suffix h.second))
+attributes_plain (x ∷ xs) ts h = rw h.whole (all_append Plain h.prefix h.suffix (attribute_plain x h.prefix h.first) (attributes_plain xs h.suffix h.second))
 
 root_attribute_plain : (a : PlainRootAttribute) (ts : List Lexeme) → root_attribute_spells a ts → ArePlain ts
 root_attribute_plain (demanded_bits bits) ts h = rw h.0 (tt, (refl, (tt, (tt, (tt, tt)))))
@@ -178,7 +148,7 @@ root_attribute_plain harvested_from_use ts h = rw h (tt, (refl, (tt, tt)))
 
 pub root_attributes_plain : (xs : List PlainRootAttribute) (ts : List Lexeme) → root_attributes_spell xs ts → ArePlain ts
 root_attributes_plain [] ts h = rw h tt
-root_attributes_plain (x ∷ xs) ts h = rw h.whole (plain_append h.prefix h.suffix (root_attribute_plain x h.prefix h.first) (root_attributes_plain xs h.suffix h.second))
+root_attributes_plain (x ∷ xs) ts h = rw h.whole (all_append Plain h.prefix h.suffix (root_attribute_plain x h.prefix h.first) (root_attributes_plain xs h.suffix h.second))
 
 root_attribute_not_defines : (a : PlainRootAttribute) (ts ys : List Lexeme) → root_attribute_spells a ts → defines (ts ++ ys) ≡ false
 root_attribute_not_defines (demanded_bits bits) ts ys h = rw h.0 refl
@@ -198,8 +168,8 @@ pub statement_no_last : (s : Scope) (v : PlainStatement) (ts : List Lexeme) → 
 statement_no_last s (assigned a) ts h =
     rw h.whole (
       refl,
-      last_append h.ty (equals ∷ (h.rhs ++ h.attributes)) (plain_no_last h.ty (optional_type_plain a.ty h.ty h.ty_spelled))
-          (refl, last_append h.rhs h.attributes (rhs_no_last s a.value h.rhs h.rhs_spelled) (plain_no_last h.attributes (attributes_plain a.attributes h.attributes h.attributes_spelled))),
+      all_append (λ t. is_last t ≡ false) h.ty (equals ∷ (h.rhs ++ h.attributes)) (plain_no_last h.ty (optional_type_plain a.ty h.ty h.ty_spelled))
+          (refl, all_append (λ t. is_last t ≡ false) h.rhs h.attributes (rhs_no_last s a.value h.rhs h.rhs_spelled) (plain_no_last h.attributes (attributes_plain a.attributes h.attributes h.attributes_spelled))),
     )
 statement_no_last s (condition p) ts h = rw h.1 (refl, pair_no_last s p.x p.y h.0 h.2)
 statement_no_last s (block_condition p) ts h = rw h.whole (refl, (refl, (refl, pair_no_last s p.x p.y h.rest h.operands_spelled)))

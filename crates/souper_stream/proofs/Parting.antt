@@ -1,7 +1,7 @@
 -- What a text spells is parted at a cut point.
 use Rattle.std.proofs.Common.{◌≡◌, ℕ, ◌<◌, true, false, ◌⊎◌, inl, inr, List, [], ◌∷◌, ◌++◌, length, refl, sym, ap, ◌∙◌, subst, arith, append_assoc, append-nil, length-append}
 use Rattle.souper_graph.specs.Values.{Item}
-use Rattle.souper_graph.specs.Syntax.Tokens.{Lexeme, ident, val_name, known_bits, int, comma, colon, equals, open_paren, close_paren, open_bracket, IsTextOf}
+use Rattle.souper_graph.specs.Syntax.Tokens.{Lexeme, ident, val_name, colon, equals, IsTextOf}
 use Rattle.souper_graph.specs.Syntax.Spelling.{kinds, ItemType, item_spells, list_spells, TextSpells}
 use Rattle.souper_ir.specs.Joining.{IsLines, moved}
 use Rattle.souper_ir.specs.Laws.Steps.{kinds-append}
@@ -18,58 +18,27 @@ quiet_rest (x ∷ xs) ys h = quiet_rest xs ys h.1
 
 -- what a line starts with defines no name
 start_defines_none : (ts : List Lexeme) → starts_line ts ≡ true → defines ts ≡ false
-start_defines_none [] h = refl
-start_defines_none (ident w ∷ ts) h = refl
-start_defines_none (val_name n ∷ ts) h = refl
-start_defines_none (known_bits w ∷ ts) h = refl
-start_defines_none (int w ∷ ts) h = refl
-start_defines_none (comma ∷ ts) h = refl
 start_defines_none (colon ∷ ts) h = absurd cc
 start_defines_none (equals ∷ ts) h = absurd cc
-start_defines_none (open_paren ∷ ts) h = refl
-start_defines_none (close_paren ∷ ts) h = refl
-start_defines_none (open_bracket ∷ ts) h = refl
+start_defines_none _ h = refl
 
 defines_first : (t : Lexeme) (ts us : List Lexeme) → defines (t ∷ ts) ≡ true → defines (t ∷ us) ≡ true
 defines_first equals ts us h = refl
 defines_first colon ts us h = refl
-defines_first (ident w) ts us h = h
-defines_first (val_name n) ts us h = h
-defines_first (known_bits w) ts us h = h
-defines_first (int w) ts us h = h
-defines_first comma ts us h = h
-defines_first open_paren ts us h = h
-defines_first close_paren ts us h = h
-defines_first open_bracket ts us h = h
+defines_first _ ts us h = h
 
 -- a line that starts before another starts without it
 start_before : (xs ts : List Lexeme) → 0 < length xs → starts_line ts ≡ true → starts_line (xs ++ ts) ≡ true → starts_line xs ≡ true
 start_before [] ts some t h = absurd (omega arith)
-start_before (ident w ∷ xs) ts some t h = h
 start_before (val_name n ∷ []) ts some t h = let none = start_defines_none ts t in absurd cc
 start_before (val_name n ∷ (y ∷ xs)) ts some t h = defines_first y (xs ++ ts) xs h
-start_before (known_bits w ∷ xs) ts some t h = h
-start_before (int w ∷ xs) ts some t h = h
-start_before (comma ∷ xs) ts some t h = h
-start_before (colon ∷ xs) ts some t h = h
-start_before (equals ∷ xs) ts some t h = h
-start_before (open_paren ∷ xs) ts some t h = h
-start_before (close_paren ∷ xs) ts some t h = h
-start_before (open_bracket ∷ xs) ts some t h = h
+start_before _ ts some t h = h
 
 pub starts_longer : (ts us : List Lexeme) → starts_line ts ≡ true → starts_line (ts ++ us) ≡ true
 starts_longer [] us h = absurd cc
-starts_longer (ident w ∷ ts) us h = h
 starts_longer (val_name n ∷ []) us h = absurd cc
 starts_longer (val_name n ∷ (y ∷ ts)) us h = defines_first y ts (ts ++ us) h
-starts_longer (known_bits w ∷ ts) us h = h
-starts_longer (int w ∷ ts) us h = h
-starts_longer (comma ∷ ts) us h = h
-starts_longer (colon ∷ ts) us h = h
-starts_longer (equals ∷ ts) us h = h
-starts_longer (open_paren ∷ ts) us h = h
-starts_longer (close_paren ∷ ts) us h = h
-starts_longer (open_bracket ∷ ts) us h = h
+starts_longer _ us h = h
 
 pub quiet_starts : (xs : List Lexeme) → 0 < length xs → NoStart xs → starts_line xs ≡ true → ⊥
 quiet_starts [] some q h = omega arith

@@ -24,8 +24,7 @@ use Rattle.souper_stream.specs.Reading.{AreAll, NeverSpells}
 use Rattle.souper_stream.proofs.Nodes.{all_append}
 use Rattle.souper_stream.proofs.Bytes.{all_after}
 use Rattle.souper_stream.proofs.Parting.{quiet_rest, quiet_starts}
-use Rattle.souper_stream.proofs.LineLists.{concat-append, tokens-append, lines-append, are_front, lines_front, lines_back, lines_of, no_bytes, lines_whole, lines_exist}
-use Rattle.souper_stream.proofs.Scanning.{starts_not_none, first_bounds}
+use Rattle.souper_stream.proofs.LineLists.{starts_not_none, starts_with_more, concat-append, tokens-append, lines-append, are_front, lines_front, lines_back, lines_of, no_bytes, lines_whole, lines_exist}
 use Rattle.souper_stream.proofs.SegmentLaws.{lines_start, none_with}
 use Rattle.souper_stream.proofs.Buffers.{buffers_none, parts_read, held_more, unparsed_more, buffers_more, refusal_more, buffers_placed}
 use Rattle.souper_stream.proofs.Refusing.{RefusesText}
@@ -38,10 +37,6 @@ all_lines_snoc (q ∷ ps) p = ap (λ (x : List Line). q ++ x) (all_lines_snoc ps
 
 pub done_more : (ps : List (List Line)) (p : List Line) → concat (all_lines (ps ++ p ∷ [])) ≡ concat (all_lines ps) ++ concat p
 done_more ps p = ap concat (all_lines_snoc ps p) ∙ concat-append (all_lines ps) p
-
-starts_with_more : (ls more : List Line) → Starts ls → Starts (ls ++ more)
-starts_with_more [] more h = absurd h
-starts_with_more (l ∷ ls) more h = h
 
 cut_longer : (k : ItemType) (ps : List (List Line)) (l : Line) (ls more : List Line) → AreCut k (ps ++ (l ∷ ls) ∷ []) → AreCut k (ps ++ (l ∷ (ls ++ more)) ∷ [])
 cut_longer k [] l ls more h = λ e. cc
@@ -294,12 +289,10 @@ pub record SegmentOf (k : ItemType) (bytes : List ℕ) (chunk len : ℕ) : Type 
   pub within : len ≤ chunk
   pub first : (ls : List Line) → take chunk bytes ≡ concat ls → AreLines ls → IsFirstSegment k ls len
 
-pub segment_of : (k : ItemType) (bytes read : List ℕ) (chunk len : ℕ) → read ≡ bytes → 0 < chunk → chunk ≤ length bytes → ((ls : List Line) → take chunk read ≡ concat ls → AreLines ls → IsFirstSegment k ls len) → SegmentOf k bytes chunk len
-segment_of k bytes read chunk len e some within first =
+pub segment_of : (k : ItemType) (bytes read : List ℕ) (chunk len : ℕ) → read ≡ bytes → 0 < chunk → chunk ≤ length bytes → ((ls : List Line) → take chunk read ≡ concat ls → AreLines ls → IsFirstSegment k ls len) → len ≤ length (take chunk read) → (0 < length (take chunk read) → 0 < len) → SegmentOf k bytes chunk len
+segment_of k bytes read chunk len e some within first fits begun =
     let long : length (take chunk read) ≡ chunk = omega (arith, length-take chunk read, ap length e) in
-    let b = first_bounds k (take chunk read) len first (omega arith) in
-    let fits = b.1 in
-    record { some = b.0; within = omega arith; first = λ ls f lines. first ls (ap (λ (x : List ℕ). take chunk x) e ∙ f) lines }
+    record { some = begun (omega arith); within = omega arith; first = λ ls f lines. first ls (ap (λ (x : List ℕ). take chunk x) e ∙ f) lines }
 
 -- ---- a refused segment
 

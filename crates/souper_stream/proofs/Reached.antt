@@ -2,6 +2,7 @@
 use Rattle.std.proofs.Common.{◌≡◌, ◌⊎◌, inl, inr, ℕ, Bool, true, false, List, [], ◌∷◌, ◌++◌, length, Option, refl, sym, ap, ◌∙◌, subst, arith, append_assoc, append-nil, length-append}
 use Rattle.std.specs.Prelude.{map}
 use Rattle.std.specs.List.{AllByRecursion}
+use Rattle.std.proofs.lemmas.List.{map-append}
 use Rattle.std.specs.Io.KnownBytes.{Consumes}
 use Rattle.souper_graph.specs.Values.{Item}
 use Rattle.souper_graph.specs.WellFormed.{WellFormed}
@@ -16,7 +17,7 @@ use Rattle.souper_stream.specs.Reading.{IsStreamTaken, IsStreamRefused}
 use Rattle.souper_stream.specs.Parts.{and_next, HasParts, HasAll, TakesPart, RefusesPart}
 use Rattle.souper_stream.proofs.LineLists.{concat-append, all_are_lines, lines_front, lines_of}
 use Rattle.souper_stream.proofs.Texts.{none_spelled, prefix_after, prefix_longer}
-use Rattle.souper_stream.proofs.Scanning.{ends_some}
+use Rattle.souper_stream.proofs.Scan.{no_tokens}
 use Rattle.souper_stream.proofs.SegmentLaws.{spells_by_parts}
 use Rattle.souper_stream.proofs.Buffers.{parts_read}
 use Rattle.souper_stream.proofs.Passing.{all_lines_snoc, done_more}
@@ -29,25 +30,15 @@ pub record Passed {T S : Type 0} (view : T → Item) (holds : S → S → List I
   pub whole : all ≡ done ++ rest
   pub taken : TakesOver holds (map view done) first now
 
-pub passed_none : {T S : Type 0} (view : T → Item) (holds : S → S → List Item → Type 0) (all : List T) (s : S) → Passed view holds all all s s
-passed_none view holds all s = record { done = []; whole = refl; taken = λ first before h. subst (λ (xs : List Item). holds first s xs) (sym (append-nil before)) h }
-
-map_append : {T : Type 0} (view : T → Item) (xs ys : List T) → map view (xs ++ ys) ≡ map view xs ++ map view ys
-map_append view [] ys = refl
-map_append view (x ∷ xs) ys = ap (λ (l : List Item). view x ∷ l) (map_append view xs ys)
-
 pub passed_more : {T S : Type 0} (view : T → Item) (holds : S → S → List Item → Type 0) (all rest next : List T) (item : T) (first old new : S) → Passed view holds all rest first old → rest ≡ item ∷ next
     → ((s : S) (items : List Item) → holds s old items → holds s new (items ++ view item ∷ [])) → Passed view holds all next first new
 passed_more view holds all rest next item first old new p e take = record {
   done = p.done ++ item ∷ [];
   whole = p.whole ∙ ap (λ (x : List _). p.done ++ x) e ∙ sym (append_assoc p.done (item ∷ []) next);
   taken = λ s before h.
-      subst (λ (xs : List Item). holds s new xs) (append_assoc before (map view p.done) (view item ∷ []) ∙ ap (λ (x : List Item). before ++ x) (sym (map_append view p.done (item ∷ []))))
+      subst (λ (xs : List Item). holds s new xs) (append_assoc before (map view p.done) (view item ∷ []) ∙ ap (λ (x : List Item). before ++ x) (sym (map-append view p.done (item ∷ []))))
       (take s (before ++ map view p.done) (p.taken s before h));
 }
-
-pub passed_all : {T S : Type 0} (view : T → Item) (holds : S → S → List Item → Type 0) (all rest : List T) (first now : S) → Passed view holds all rest first now → rest ≡ [] → TakesOver holds (map view all) first now
-passed_all view holds all rest first now p e = subst (λ (xs : List _). TakesOver holds (map view xs) first now) (sym (p.whole ∙ ap (λ (x : List _). p.done ++ x) e ∙ append-nil p.done)) p.taken
 
 well_in : (xs ys : List Item) (a : Item) → AllByRecursion WellFormed (xs ++ a ∷ ys) → WellFormed a
 well_in [] ys a h = h.0
@@ -55,7 +46,7 @@ well_in (x ∷ xs) ys a h = well_in xs ys a h.1
 
 pub next_well : {T S : Type 0} (view : T → Item) (holds : S → S → List Item → Type 0) (all rest next : List T) (item : T) (first now : S) → AllByRecursion WellFormed (map view all) → Passed view holds all rest first now → rest ≡ item ∷ next → WellFormed (view item)
 next_well view holds all rest next item first now h p e =
-    well_in (map view p.done) (map view next) (view item) (subst (λ (xs : List Item). AllByRecursion WellFormed xs) (ap (map view) (p.whole ∙ ap (λ (x : List _). p.done ++ x) e) ∙ map_append view p.done (item ∷ next)) h)
+    well_in (map view p.done) (map view next) (view item) (subst (λ (xs : List Item). AllByRecursion WellFormed xs) (ap (map view) (p.whole ∙ ap (λ (x : List _). p.done ++ x) e) ∙ map-append view p.done (item ∷ next)) h)
 
 -- ---- parts that are read one after another
 
@@ -99,7 +90,7 @@ reached_end k before mid after holds first old p r a = record {
 -- ---- what a stream begins with
 
 ends_not_none : (k : ItemType) (y : List Line) → EndsItem k y → y ≡ [] → ⊥
-ends_not_none k y en e = ends_some k (subst (λ (z : List Line). EndsItem k z) e en)
+ends_not_none k y en e = no_tokens k (subst (λ (z : List Line). EndsItem k z) e en)
 
 cut_front : (k : ItemType) (qs : List (List Line)) (x : List Line) (xs : List (List Line)) → AreCut k (qs ++ x ∷ xs) → AreCut k qs
 cut_front k [] x xs c = tt

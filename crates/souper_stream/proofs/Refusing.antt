@@ -1,5 +1,5 @@
 -- The error of a part that spells no items.
-use Rattle.std.proofs.Common.{◌≡◌, ℕ, ◌+◌, ◌≤◌, List, [], length, take, Option, Some, None, refl, sym, ap, ◌∙◌, subst, arith, append-nil}
+use Rattle.std.proofs.Common.{◌≡◌, ℕ, ◌+◌, ◌≤◌, List, length, take, Option, Some, None, refl, sym, ap, ◌∙◌, subst, arith}
 use Rattle.std.specs.Prelude.{IfSome}
 use Rattle.souper_graph.specs.Values.{Item}
 use Rattle.souper_graph.specs.Syntax.Spelling.{ItemType, SpellsNone}
@@ -9,7 +9,7 @@ use Rattle.souper_ir.specs.declared.parse.error.ParseErrorKind.{ParseErrorKind}
 use Rattle.souper_ir.specs.declared.parse.error.ParseErrorKind.TheVariants.{Io, Parse, Memory}
 use Rattle.souper_ir.specs.Answers.{IsStrError}
 use Rattle.souper_ir.specs.Errors.{OnKind, kind_of, offset_of, IsPlacedAfter, IsLocatedAfter}
-use Rattle.souper_ir.specs.Sinks.{TakesOver, TakesPrefix}
+use Rattle.souper_ir.specs.Sinks.{TakesPrefix}
 use Rattle.souper_stream.specs.declared.buffer.Buffer.{Buffer}
 use Rattle.souper_stream.specs.Buffering.{held, unparsed}
 
@@ -47,15 +47,3 @@ text_refused k file b len holds old new text e shown is long begun error shown_k
       within = omega (arith, s.2, long);
       placed = (let l = rw kind at located in rw s.1 at l);
     }
-
--- the sink took items, unless memory ran out
-pub begun_by : {S : Type 0} (k : ItemType) (holds : S → S → List Item → Type 0) (old new : S) (text : List ℕ) (e : ParseError) → (kind_of e ≡ Parse → TakesPrefix holds k text old new) → IsStrError k None text e → (kind_of e ≡ Memory → ⊥) → (items : List Item) × TakesOver holds items old new
-begun_by k holds old new text e begun error not_memory = under (kind_of e) refl error
-  where
-    under : (x : ParseErrorKind) → kind_of e ≡ x → IsStrError k None text e → (items : List Item) × TakesOver holds items old new
-    under Io at h = let bad = rw at at h in absurd bad
-    under Parse at h = let b = begun at in (b.0, b.2)
-    under Memory at h = absurd (not_memory at)
-
-pub none_taken : {S : Type 0} (holds : S → S → List Item → Type 0) (s : S) → TakesOver holds [] s s
-none_taken holds s = λ first before h. subst (λ (xs : List Item). holds first s xs) (sym (append-nil before)) h

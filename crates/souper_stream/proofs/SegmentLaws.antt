@@ -9,11 +9,7 @@ use Rattle.souper_stream.specs.Lines.{starts_line, LastEnds}
 use Rattle.souper_stream.specs.Segments.{Line, concat, AreLines, tokens_of, tokens_of_lines, EndsItem, Starts, AreCut, all_lines, AreParts, PartsSpell, SpellsByParts}
 use Rattle.souper_stream.proofs.Parting.{starts_longer, part_by}
 use Rattle.souper_stream.proofs.Texts.{none_spelled}
-use Rattle.souper_stream.proofs.LineLists.{concat-append, all_are_lines, lines_back, lines_front, lines_of, kinds_of_lines}
-
-pub starts_some : (q more : List Line) → Starts q → q ++ more ≡ [] → ⊥
-starts_some [] more s e = s
-starts_some (l ∷ q) more s e = cc
+use Rattle.souper_stream.proofs.LineLists.{starts_not_none, starts_with_more, concat-append, all_are_lines, lines_back, lines_front, lines_of, kinds_of_lines}
 
 pub lines_start : (q more : List Line) → Starts q → starts_line (tokens_of_lines (q ++ more)) ≡ true
 lines_start [] more s = absurd s
@@ -33,7 +29,7 @@ whole_parts k [] ws lines cut h = text_alone k [] ws [] h (none_spelled k)
 whole_parts k (p ∷ []) ws lines cut h = (ws, [], sym (append-nil ws), subst (λ (x : List Line). TextSpells k (concat x) ws) (append-nil p) h, refl)
 whole_parts k (p ∷ (q ∷ ps)) ws lines cut h =
     let more = all_lines ps in
-    let p_lines = lines_front p (q ++ more) (starts_some q more cut.1) lines in
+    let p_lines = lines_front p (q ++ more) (starts_not_none (q ++ more) (starts_with_more q more cut.1)) lines in
     let text = subst (λ (x : List ℕ). TextSpells k x ws) (two_parts k p q ps) h in
     let rest_lines = lines_back p (q ++ more) lines in
     let r = part_by k (concat p) (concat (q ++ more)) ws (lines_of p p_lines) (λ ts v. part_ends k p ts (all_are_lines p p_lines) cut.0 v) (λ vs u. part_starts q more vs rest_lines cut.1 u) text in
@@ -46,7 +42,7 @@ parts_whole k (p ∷ []) ws lines cut h =
     subst (λ (x : List Item). TextSpells k (concat (p ++ [])) x) (sym same) (subst (λ (x : List Line). TextSpells k (concat x) h.0) (sym (append-nil p)) h.3)
 parts_whole k (p ∷ (q ∷ ps)) ws lines cut h =
     let more = all_lines ps in
-    let p_lines = lines_front p (q ++ more) (starts_some q more cut.1) lines in
+    let p_lines = lines_front p (q ++ more) (starts_not_none (q ++ more) (starts_with_more q more cut.1)) lines in
     let rest = parts_whole k (q ∷ ps) h.1 (lines_back p (q ++ more) lines) cut.2 h.4 in
     subst (λ (x : List Item). TextSpells k (concat (all_lines (p ∷ (q ∷ ps)))) x) (sym h.2)
     (subst (λ (x : List ℕ). TextSpells k x (h.0 ++ h.1)) (sym (two_parts k p q ps)) (items_join k (concat p) (concat (q ++ more)) h.0 h.1 (lines_of p p_lines) h.3 rest))

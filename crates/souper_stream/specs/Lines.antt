@@ -1,5 +1,5 @@
 -- Definitions. Which tokens begin a statement or one of an item's last lines.
-use Rattle.std.specs.Prelude.{◌≡◌, ◌↔◌, ◌||◌, Bool, true, false, ℕ, ◌+◌, ◌<◌, ◌≤◌, List, [], ◌∷◌, ◌++◌, length, take, drop, codes, bytes_eq, IsUtf8}
+use Rattle.std.specs.Prelude.{◌≡◌, ◌⊎◌, ◌||◌, Bool, true, false, cond, ℕ, ◌+◌, ◌≤◌, List, [], ◌∷◌, ◌++◌, length, take, drop, codes, bytes_eq, IsUtf8}
 use Rattle.souper_graph.specs.Syntax.Tokens.{Lexeme, ident, val_name, equals, colon}
 use Rattle.souper_graph.specs.Syntax.Spelling.{ItemType, left_hand_side, right_hand_side, replacement}
 use Rattle.souper_lexer.specs.TokenReading.{lexed_of}
@@ -60,16 +60,18 @@ shows_line named equals = named
 shows_line named colon = named
 shows_line named _ = false
 
--- the last token is a name; if there is none, the one before them is, or not
-abbrev pub last_is_name : Bool → List Lexeme → Bool
-last_is_name named [] = named
-last_is_name named (t ∷ ts) = last_is_name (is_name t) ts
+-- the scanner state after no tokens
+abbrev pub first_state : ScanState
+first_state = record { after_name = false; ends_item = false }
 
--- The state says of these tokens whether the last statement or last line that begins in them ends an item. If it does, the state also
--- says whether the last token is a name.
-pub record IsStateAfter (k : ItemType) (ts : List Lexeme) (s : ScanState) : Type 0 where
-  pub named : s.ends_item ≡ true → s.after_name ≡ last_is_name false ts
-  pub ends : (s.ends_item ≡ true) ↔ LastEnds k ts
+-- the state after one token more
+abbrev pub state_after : ItemType → ScanState → Lexeme → ScanState
+state_after k s t = record { after_name = is_name t; ends_item = cond (shows_line s.after_name t) (is_end_word k t) s.ends_item }
+
+-- the state after more tokens
+abbrev pub scanned : ItemType → ScanState → List Lexeme → ScanState
+scanned k s [] = s
+scanned k s (t ∷ ts) = scanned k (state_after k s t) ts
 
 -- the offset of the first token, or 0 if there is none
 abbrev pub first_offset : List (ℕ × Lexeme) → ℕ
@@ -88,12 +90,13 @@ IsAbsent w bs = (front back : List ℕ) → bs ≡ front ++ (w ++ back) → ⊥
 abbrev pub NoEndWord : ItemType → List ℕ → Type 0
 NoEndWord k bs = (w : List ℕ) → end_word k w ≡ true → IsAbsent w bs
 
--- whole lines without such a word were passed over, where no item ends before them
-pub record PassesOver (k : ItemType) (s : ScanState) (bytes rest : List ℕ) : Type 0 where
-  pub len : ℕ
+-- the first `len` bytes are whole lines of UTF-8 without such a word
+pub record IsWithoutEnd (k : ItemType) (bytes : List ℕ) (len : ℕ) : Type 0 where
   pub within : len ≤ length bytes
-  pub rest_is : rest ≡ drop len bytes
   pub lines : IsLines (take len bytes)
   pub utf8 : IsUtf8 (take len bytes)
   pub none : NoEndWord k (take len bytes)
-  pub going : 0 < len → s.ends_item ≡ false
+
+-- such lines were passed over, if no item ends before them
+abbrev pub PassesOver : ItemType → ScanState → List ℕ → List ℕ → Type 0
+PassesOver k s bytes rest = (rest ≡ bytes) ⊎ ((s.ends_item ≡ false) × (len : ℕ) × (rest ≡ drop len bytes) × IsWithoutEnd k bytes len)

@@ -1,7 +1,7 @@
 -- Definitions. The segments of a text: lines, cut where an item ends and a line of the next begins, as far as tokens show it. A line
 -- starts if it begins with a statement, or with one of an item's last lines. A lexical fault hides the tokens after it on its line, and
 -- no others; so the next segment can be parsed though this one is invalid.
-use Rattle.std.specs.Prelude.{◌≡◌, ◌⊎◌, ◌↔◌, ℕ, ◌-◌, ◌<◌, ◌≤◌, true, List, [], ◌∷◌, ◌++◌, length, take, drop}
+use Rattle.std.specs.Prelude.{◌≡◌, ◌⊎◌, ◌↔◌, ℕ, ◌-◌, ◌<◌, true, List, [], ◌∷◌, ◌++◌, length, take, drop}
 use Rattle.std.specs.List.{AllByRecursion}
 use Rattle.souper_graph.specs.Values.{Item}
 use Rattle.souper_graph.specs.Syntax.Tokens.{Lexeme, IsOneLine}
@@ -109,13 +109,8 @@ pub record IsFirstSegment (k : ItemType) (ls : List Line) (len : ℕ) : Type 0 w
   pub uncut : HasNoCut k front
   pub cut : (back ≡ []) ⊎ IsCut k front back
 
--- they are the first line of a text, with its newline; the last line may have none
-pub record IsFirstLine (text : List ℕ) (len : ℕ) : Type 0 where
-  pub within : len ≤ length text
-  pub line : (length text ≡ len × IsOneLine text) ⊎ IsLine (take len text)
-
 -- the last line of a text is after them
 pub record IsLastLineAt (text : List ℕ) (start : ℕ) : Type 0 where
   pub before : start < length text
   pub lines : IsLines (take start text)
-  pub one_line : IsOneLine (take (length text - 1 - start) (drop start text))
+  pub one_line : IsOneLine (drop start (take (length text - 1) text))

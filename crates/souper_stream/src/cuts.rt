@@ -7,10 +7,9 @@ ghost use Rattle.souper_stream.specs.Segments.{Line, concat, AreLines, CutsAt, I
 use crate::item::StreamItem;
 use crate::lines::{
     ScanState, first_line_len, last_line_start, last_line_with_end, len_without_end, scan_line,
-    starts_line,
+    starts_line, utf8,
 };
-use std::io::ErrorKind;
-use std::{io, str};
+use std::io;
 
 // What a search costs before its first byte, and what a line is worth that is not lexed, for each of its bytes: in bytes that are searched.
 const START: usize = 256;
@@ -20,7 +19,8 @@ const WORTH: usize = 16;
 // Passes over lines in which no item of the type can end, if none ends before them and nothing is owed. Returns the bytes after them, and
 // what is owed then: what the search cost more than the lines are worth.
 fn pass_without_end<T: StreamItem>(bytes: &[u8], before: ScanState, owed: usize) -> (&[u8], usize)
-    ensures { PassesOver T.item_type before bytes.now result.0.now }
+    ensures over { PassesOver T.item_type before bytes.now result.0.now }
+    ensures within { length result.0.now ≤ length bytes.now }
 {
     if before.ends_item || owed > 0 {
         return (bytes, owed);
@@ -35,7 +35,9 @@ fn pass_without_end<T: StreamItem>(bytes: &[u8], before: ScanState, owed: usize)
 
 /// The length of the first segment of the text, in bytes. The error says that the bytes are not UTF-8, up to the line after it.
 pub(crate) fn segment_len<T: StreamItem>(text: &[u8]) -> io::Result<usize>
-    ensures { IfOk result (λ len. (ls : List Line) → text.now ≡ concat ls → AreLines ls → IsFirstSegment T.item_type ls len) }
+    ensures segment { IfOk result (λ len. (ls : List Line) → text.now ≡ concat ls → AreLines ls → IsFirstSegment T.item_type ls len) }
+    ensures within { IfOk result (λ len. len ≤ length text.now) }
+    ensures some { IfOk result (λ len. 0 < length text.now → 0 < len) }
 {
     let mut rest = text;
     let mut state = ScanState::new();
@@ -44,10 +46,7 @@ pub(crate) fn segment_len<T: StreamItem>(text: &[u8]) -> io::Result<usize>
     let mut owed: usize = 0;
     while !rest.is_empty() {
         let (line, after) = rest.split_at(first_line_len(rest));
-        let line = match str::from_utf8(line) {
-            Ok(line) => line,
-            Err(_) => return Err(io::Error::from(ErrorKind::InvalidData)),
-        };
+        let line = utf8(line)?;
         if state.ends_item && starts_line(line) {
             return Ok(text.len() - rest.len());
         }

@@ -1,19 +1,21 @@
 //! The lines of a text, and which of them begin or end an item.
-ghost use Rattle.std.specs.Prelude.{◌≡◌, ◌≤◌, ◌<◌, ◌∷◌, ◌++◌, List, [], length, take, drop, true, false, IfSome, IsUtf8};
+ghost use Rattle.std.specs.Prelude.{◌≡◌, ◌≤◌, ◌<◌, ◌∷◌, List, [], length, take, drop, true, false, IfOk, IfSome, IsUtf8};
 ghost use Rattle.std.specs.Io.{StartsWith};
+ghost use Rattle.std.specs.Io.BufRead.{take_through};
 ghost use Rattle.souper_graph.specs.Syntax.Tokens.{Lexeme};
-ghost use Rattle.souper_graph.specs.Syntax.Spelling.{kinds, ItemType};
+ghost use Rattle.souper_graph.specs.Syntax.Spelling.{kinds};
 ghost use Rattle.souper_lexer.specs.TokenReading.{lexed_of};
 ghost use Rattle.souper_lexer.specs.TokenView.{lexeme_of, Yields};
 ghost use Rattle.souper_ir.specs.NodeReadings.{is_name};
 ghost use Rattle.souper_ir.specs.Joining.{IsLines};
-ghost use Rattle.souper_stream.specs.Lines.{last_word, line_word, is_end_word, shows_line, defines, starts_line, first_offset, end_word, IsStateAfter, IsAbsent, NoEndWord};
-ghost use Rattle.souper_stream.specs.Segments.{tokens_of, IsFirstLine, IsLastLineAt};
+ghost use Rattle.souper_stream.specs.Lines.{last_word, line_word, is_end_word, shows_line, defines, starts_line, first_offset, end_word, first_state, state_after, scanned, IsAbsent, NoEndWord, IsWithoutEnd};
+ghost use Rattle.souper_stream.specs.Segments.{tokens_of, IsLastLineAt};
 
 use crate::item::StreamItem;
 use memchr::{memchr, memmem, memrchr};
 use souper_lexer::{Fault, Lexer, Token};
-use std::str;
+use std::io::ErrorKind;
+use std::{io, str};
 
 fn is_last_word(word: &str) -> bool
     ensures { result ≡ last_word word.now }
@@ -81,7 +83,7 @@ fn is_end_word<T: StreamItem>(token: Token<'_>) -> bool
 /// The scanner state after a sequence of tokens.
 #[derive(Clone, Copy)]
 pub(crate) struct ScanState {
-    /// Whether the last token is a name, if `ends_item` is true. Else it is not used.
+    /// Whether the last token is a name. If `ends_item` is false, it is not used.
     pub after_name: bool,
 
     /// Whether, of the statements and last lines that begin in them, the last is a terminator.
@@ -91,38 +93,46 @@ pub(crate) struct ScanState {
 impl ScanState {
     /// The state after no tokens.
     pub(crate) fn new() -> ScanState
-        ensures { (k : ItemType) → IsStateAfter k [] result }
+        ensures { result ≡ first_state }
     {
         ScanState {
             after_name: false,
             ends_item: false,
         }
     }
+
+    // The state after one token more.
+    fn after<T: StreamItem>(self, token: Token<'_>) -> ScanState
+        ensures { result ≡ state_after T.item_type self (lexeme_of token.entry) }
+    {
+        let ends_item = if shows_line(self.after_name, token) {
+            is_end_word::<T>(token)
+        } else {
+            self.ends_item
+        };
+        ScanState {
+            after_name: is_name(token),
+            ends_item,
+        }
+    }
 }
 
 // The state after the remaining tokens, up to a fault, given the state before them.
 fn scan<T: StreamItem>(lexer: &mut Lexer<'_>, before: ScanState) -> ScanState
-    ensures { (ts : List Lexeme) → IsStateAfter T.item_type ts before → IsStateAfter T.item_type (ts ++ kinds lexer.old.tokens) result }
+    ensures { result ≡ scanned T.item_type before (kinds lexer.old.tokens) }
 {
-    let (mut after_name, mut ends_item) = (before.after_name, before.ends_item);
+    let mut state = before;
     'tokens: loop {
-        let token = match next_token(lexer) {
-            Ok(Some((_, token))) => token,
-            _ => return ScanState {
-                after_name,
-                ends_item,
-            },
+        state = match next_token(lexer) {
+            Ok(Some((_, token))) => state.after::<T>(token),
+            _ => return state,
         };
-        if shows_line(after_name, token) {
-            ends_item = is_end_word::<T>(token);
-        }
-        after_name = is_name(token);
     }
 }
 
 /// The state after the tokens of the line, up to a fault, given the state before them.
 pub(crate) fn scan_line<T: StreamItem>(line: &str, before: ScanState) -> ScanState
-    ensures { (ts : List Lexeme) → IsStateAfter T.item_type ts before → IsStateAfter T.item_type (ts ++ tokens_of line.now) result }
+    ensures { result ≡ scanned T.item_type before (tokens_of line.now) }
 {
     scan::<T>(&mut Lexer::new(line), before)
 }
@@ -157,9 +167,22 @@ pub(crate) fn starts_line(line: &str) -> bool
     }
 }
 
+/// The bytes as text. The error says that they are not UTF-8.
+pub(crate) fn utf8(bytes: &[u8]) -> io::Result<&str>
+    ensures same { IfOk result (λ text. text.now ≡ bytes.now) }
+    ensures utf8 { IfOk result (λ text. IsUtf8 text.now) }
+{
+    match str::from_utf8(bytes) {
+        Ok(text) => Ok(text),
+        Err(_) => Err(io::Error::from(ErrorKind::InvalidData)),
+    }
+}
+
 /// The length of the first line of the text, with its newline.
 pub(crate) fn first_line_len(text: &[u8]) -> usize
-    ensures { IsFirstLine text.now result }
+    ensures line { result ≡ length (take_through 10 text.now) }
+    ensures within { result ≤ length text.now }
+    ensures some { 0 < length text.now → 0 < result }
 {
     match memchr(b'\n', text) {
         Some(index) => index + 1,
@@ -220,14 +243,11 @@ const WINDOW: usize = 512;
 /// The length of lines that the bytes begin with, in which the words that items of the type end with do not occur, and how many bytes were
 /// searched for such a word. 0 if the lines are not UTF-8: the line at fault is then found line by line.
 pub(crate) fn len_without_end<T: StreamItem>(bytes: &[u8]) -> (usize, usize)
-    ensures bound { result.0 ≤ length bytes.now }
-    ensures lines { IsLines (take result.0 bytes.now) }
-    ensures utf8 { IsUtf8 (take result.0 bytes.now) }
-    ensures none { NoEndWord T.item_type (take result.0 bytes.now) }
+    ensures { IsWithoutEnd T.item_type bytes.now result.0 }
 {
     let (front, searched) = before_end_words::<T>(&bytes[..bytes.len().min(WINDOW)]);
     let len = lines_len(front);
-    match str::from_utf8(&front[..len]) {
+    match utf8(&front[..len]) {
         Ok(_) => (len, searched),
         Err(_) => (0, searched),
     }

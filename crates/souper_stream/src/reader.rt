@@ -1,5 +1,5 @@
 //! The reader of a stream: chunks of whole segments, and the segments of a chunk that spells no items.
-ghost use Rattle.std.specs.Prelude.{◌≡◌, ◌+◌, ◌<◌, ◌≤◌, ℕ, List, [], length, take, true, false, Option, is_some, IfOk, IfErr, IfSome, IfNone, OnOk, vec_len, option_copied, IsUtf8};
+ghost use Rattle.std.specs.Prelude.{◌≡◌, ◌+◌, ◌<◌, ◌≤◌, ℕ, List, [], length, take, true, false, Option, is_some, IfOk, IfErr, IfSome, IfNone, OnOk, vec_len, option_copied};
 ghost use Rattle.souper_graph.specs.Syntax.Spelling.{ItemType};
 ghost use Rattle.souper_graph.specs.Values.{Item};
 ghost use Rattle.souper_ir.specs.Errors.{kind_of, offset_of, IsLocatedAfter};
@@ -12,12 +12,12 @@ ghost use Rattle.souper_stream.specs.Parts.{Advances, LeavesChunk, Rejects, HasP
 use crate::buffer::{Buffer, newline_count};
 use crate::cuts::{last_cut, segment_len};
 use crate::item::StreamItem;
-use crate::lines::{first_offset, lines_len};
+use crate::lines::{first_offset, lines_len, utf8};
 use crate::sink::ChunkSink;
 use souper_ir::parse::{Memory, ParseError, ParseErrorKind, Result, Sink, parse_with_memory};
 use std::alloc::{AllocError, Global};
+use std::io;
 use std::io::{BufRead, ErrorKind};
-use std::{io, str};
 
 // The most bytes that are taken at once of what a reader has buffered.
 const BLOCK: usize = 65536;
@@ -104,16 +104,6 @@ fn read_error(fault: io::Error) -> ParseError
     }
 }
 
-fn utf8(bytes: &[u8]) -> io::Result<&str>
-    ensures same { IfOk result (λ text. text.now ≡ bytes.now) }
-    ensures utf8 { IfOk result (λ text. IsUtf8 text.now) }
-{
-    match str::from_utf8(bytes) {
-        Ok(text) => Ok(text),
-        Err(_) => Err(io::Error::from(ErrorKind::InvalidData)),
-    }
-}
-
 // Gives an error of the first `len` unparsed bytes its location in the stream.
 fn place(
     alloc: Global,
@@ -126,9 +116,9 @@ fn place(
     requires offset { IfSome (offset_of error) (λ offset. offset ≤ len) }
     ensures { kind_of result ≡ ParseErrorKind.Parse → IsLocatedAfter (option_copied filename.entry) buffer.now.before (take (buffer.now.parsed + len) (held buffer.now)) buffer.now.parsed error result }
 {
-    match str::from_utf8(buffer.held(len)) {
+    match utf8(buffer.held(len)) {
         Ok(source) => error.locate_after(alloc, buffer.before, source, buffer.parsed, filename),
-        Err(_) => ParseError::from(io::Error::from(ErrorKind::InvalidData)),
+        Err(fault) => ParseError::from(fault),
     }
 }
 

@@ -1,13 +1,14 @@
 -- The lines before the rest were scanned, and no cut point is between them.
-use Rattle.std.proofs.Common.{◌≡◌, ◌≤◌, List, length}
-use Rattle.souper_stream.specs.Segments.{Line, concat, AreLines, HasNoCut}
+use Rattle.std.proofs.Common.{◌≡◌, ◌<◌, ◌≤◌, true, List, length}
+use Rattle.souper_stream.specs.Segments.{Line, concat, AreLines}
 use Rattle.souper_stream.proofs.Scanning.{Scanned}
 use Rattle.souper_stream.proofs.cuts.segment_len.Given as goal
 
 abbrev pub invariant-loop-state : goal.invariant-loop-state
 invariant-loop-state g l = record {
   within : length l.rest ≤ length l.text;
-  scanned : (ls : List Line) → l.text ≡ concat ls → AreLines ls → Scanned g.T.Item.item_type (HasNoCut g.T.Item.item_type) ls l.rest l.state;
+  begun : l.state.ends_item ≡ true → length l.rest < length l.text;
+  scanned : (ls : List Line) → l.text ≡ concat ls → AreLines ls → Scanned g.T.Item.item_type ls l.rest l.state;
 }
 
 abbrev pub decreases-loop-state : goal.decreases-loop-state

@@ -1,30 +1,26 @@
-use Rattle.std.proofs.Common.{take, IsUtf8}
-use Rattle.std.proofs.Transfers.{starts_with_trans}
+use Rattle.std.proofs.Common.{◌≡◌, inl, List, ℕ, length, take, IsUtf8, sym, ap, ◌∙◌, subst, refl, arith}
+use Rattle.std.proofs.Transfers.{starts_with_trans, starts_with_length}
+use Rattle.std.proofs.lemmas.List.{take-take}
+use Rattle.std.proofs.lemmas.Str.{IsUtf8-nil}
 use Rattle.souper_ir.specs.Joining.{IsLines}
 use Rattle.souper_stream.specs.Lines.{NoEndWord}
-use Rattle.souper_stream.proofs.WithoutEnd.{front_take, of_front, no_end_front, no_end_nil}
+use Rattle.souper_stream.proofs.WithoutEnd.{front_take, absent_front, no_end_nil}
 use Rattle.souper_stream.proofs.lines.len_without_end.Goals as goal
 
-pub returns-in-Ok-clause-lines : goal.returns-in-Ok-clause-lines
-returns-in-Ok-clause-lines g c =
-    let front = c.before_end_words-searched.result.0.now in
-    let bytes = c.args.bytes.now in
-    of_front (λ x. IsLines x) c.lines_len-len.result front bytes (starts_with_trans bytes (take c.min.result bytes) front (front_take c.min.result bytes) c.before_end_words-searched.ensures.front) c.lines_len-len.ensures.bound c.lines_len-len.ensures.lines
-
-pub returns-in-Ok-clause-utf8 : goal.returns-in-Ok-clause-utf8
-returns-in-Ok-clause-utf8 g c =
-    let front = c.before_end_words-searched.result.0.now in
-    let bytes = c.args.bytes.now in
-    of_front (λ x. IsUtf8 x) c.lines_len-len.result front bytes (starts_with_trans bytes (take c.min.result bytes) front (front_take c.min.result bytes) c.before_end_words-searched.ensures.front) c.lines_len-len.ensures.bound c.in-Ok.ensures.cases.1
-
-pub returns-in-Ok-clause-none : goal.returns-in-Ok-clause-none
-returns-in-Ok-clause-none g c =
-    let k = g.T.Item.item_type in
+pub returns-in-Ok : goal.returns-in-Ok
+returns-in-Ok g c =
     let n = c.lines_len-len.result in
+    let e = c.lines_len-len.ensures in
     let front = c.before_end_words-searched.result.0.now in
     let bytes = c.args.bytes.now in
-    of_front (λ x. NoEndWord k x) n front bytes (starts_with_trans bytes (take c.min.result bytes) front (front_take c.min.result bytes) c.before_end_words-searched.ensures.front) c.lines_len-len.ensures.bound
-    (no_end_front k (take n front) front (front_take n front) c.before_end_words-searched.ensures.none)
+    let starts = starts_with_trans bytes (take c.min.result bytes) front (front_take c.min.result bytes) c.before_end_words-searched.ensures.front in
+    let same : take n front ≡ take n bytes = sym (ap (take n) starts) ∙ take-take n (length front) bytes e.bound in
+    record {
+      within = omega (arith, e.bound, starts_with_length bytes front starts);
+      lines = subst (λ (x : List ℕ). IsLines x) same e.lines;
+      utf8 = subst (λ (x : List ℕ). IsUtf8 x) (c.in-Ok.ensures.same ∙ same) c.in-Ok.ensures.utf8;
+      none = subst (λ (x : List ℕ). NoEndWord g.T.Item.item_type x) same (λ w h. absent_front w (take n front) front (front_take n front) (c.before_end_words-searched.ensures.none w h));
+    }
 
-pub returns-in-Err-clause-none : goal.returns-in-Err-clause-none
-returns-in-Err-clause-none g c = no_end_nil g.T.Item.item_type
+pub returns-in-Err : goal.returns-in-Err
+returns-in-Err g c = record { within = omega arith; lines = inl refl; utf8 = IsUtf8-nil; none = no_end_nil g.T.Item.item_type }

@@ -1,12 +1,11 @@
--- The state is the state after the tokens before and the tokens that were looked at.
-use Rattle.std.proofs.Common.{List, length}
-use Rattle.souper_graph.specs.Syntax.Tokens.{Lexeme}
-use Rattle.souper_stream.specs.Lines.{IsStateAfter}
-use Rattle.souper_stream.proofs.Scan.{ScannedSoFar}
+-- The tokens that are left lead to the same state as all tokens.
+use Rattle.std.proofs.Common.{◌≡◌, length}
+use Rattle.souper_graph.specs.Syntax.Spelling.{kinds}
+use Rattle.souper_stream.specs.Lines.{scanned}
 use Rattle.souper_stream.proofs.lines.scan.Given as goal
 
 abbrev pub invariant-tokens : goal.invariant-tokens
-invariant-tokens g l = (ts : List Lexeme) → IsStateAfter g.T.Item.item_type ts l.fn.before → ScannedSoFar g.T.Item.item_type ts l.fn.lexer.tokens l.lexer.tokens (record { after_name = l.after_name; ends_item = l.ends_item })
+invariant-tokens g l = scanned g.T.Item.item_type l.state (kinds l.lexer.tokens) ≡ scanned g.T.Item.item_type l.fn.before (kinds l.fn.lexer.tokens)
 
 abbrev pub decreases-tokens : goal.decreases-tokens
 decreases-tokens g l = length l.lexer.tokens

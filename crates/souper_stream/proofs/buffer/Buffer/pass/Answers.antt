@@ -1,5 +1,5 @@
-use Rattle.std.proofs.Common.{◌≡◌, ◌+◌, ◌-◌, ◌<◌, ◌≤◌, List, ℕ, length, take, drop, refl, ap, ◌∙◌, sym, subst, arith}
-use Rattle.std.proofs.lemmas.List.{take-append-drop, take-append-le, drop-take, length-take, length-drop, drop-drop}
+use Rattle.std.proofs.Common.{◌≡◌, ◌+◌, ◌-◌, ◌<◌, ◌≤◌, List, ℕ, length, take, drop, refl, ap, ◌∙◌, subst, arith}
+use Rattle.std.proofs.lemmas.List.{take-take, drop-take, length-take, length-drop, drop-drop}
 use Rattle.souper_graph.specs.Syntax.Tokens.{IsOneLine}
 use Rattle.souper_ir.specs.Joining.{IsLines}
 use Rattle.souper_stream.specs.Buffering.{held}
@@ -18,14 +18,10 @@ returns c =
     let at : IsLastLineAt (take end all) line = subst (λ (x : List ℕ). IsLastLineAt x line) lines c.last_line_start-line.ensures in
     let long : length (take end all) ≡ end = omega (arith, length-take end all) in
     let before : line < end = omega (arith, at.before) in
-    let front : take line (take end all) ≡ take line all = sym (take-append-le line (take end all) (drop end all) (omega arith)) ∙ ap (λ (x : List ℕ). take line x) (take-append-drop end all) in
-    let sum : line + (end - line) ≡ end = omega arith in
-    let rest : drop line (take end all) ≡ take (end - line) (drop line all) = ap (λ (n : ℕ). drop line (take n all)) (sym sum) ∙ drop-take line (end - line) all in
-    let rest_long : length (take (end - line) (drop line all)) ≡ end - line = omega (arith, length-take (end - line) (drop line all), length-drop line all) in
-    let last : take (length (take end all) - 1 - line) (drop line (take end all)) ≡ take (end - line - 1) (drop (old.start + line) old.bytes.items) =
-    (let n : length (take end all) - 1 - line ≡ end - line - 1 = omega arith in
-    (λ i. take (n i) (rest i)) ∙ sym (take-append-le (end - line - 1) (take (end - line) (drop line all)) (drop (end - line) (drop line all)) (omega arith))
-    ∙ ap (λ (x : List ℕ). take (end - line - 1) x) (take-append-drop (end - line) (drop line all) ∙ drop-drop line old.start old.bytes.items)) in
+    let front : take line (take end all) ≡ take line all = take-take line end all (omega arith) in
+    let sum : length (take end all) - 1 ≡ line + (end - line - 1) = omega arith in
+    let last : drop line (take (length (take end all) - 1) (take end all)) ≡ take (end - line - 1) (drop (old.start + line) old.bytes.items) =
+    ap (drop line) (take-take (length (take end all) - 1) end all (omega arith) ∙ ap (λ (n : ℕ). take n all) sum) ∙ drop-take line (end - line - 1) all ∙ ap (take (end - line - 1)) (drop-drop line old.start old.bytes.items) in
     record {
       line = line;
       within = before;

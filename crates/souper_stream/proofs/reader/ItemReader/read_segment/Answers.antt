@@ -13,33 +13,33 @@ pub slice_bounds-utf8-end : goal.slice_bounds-utf8-end
 slice_bounds-utf8-end g c =
     let b = c.args.self.now.buffer in
     let fits : c.args.self.now.rejected ≤ length (unparsed b) = omega (arith, c.requires.within, b.bytes.ok, length-drop b.start b.bytes.items, length-drop b.parsed (held b)) in
-    let s = segment_of g.T.Item.item_type (unparsed b) c.unparsed.result.now c.args.self.now.rejected c.in_ok-len.len c.unparsed.ensures c.requires.some fits c.in_ok-len.ensures in
+    let s = segment_of g.T.Item.item_type (unparsed b) c.unparsed.result.now c.args.self.now.rejected c.in_ok-len.len c.unparsed.ensures c.requires.some fits c.in_ok-len.ensures.segment c.in_ok-len.ensures.within c.in_ok-len.ensures.some in
     omega (arith, s.within, fits, length-take c.in_ok-len.len c.unparsed-2.result.now, ap length c.unparsed-2.ensures)
 
 pub place-requires-clause-within : goal.place-requires-clause-within
 place-requires-clause-within g c =
     let b = c.args.self.now.buffer in
     let fits : c.args.self.now.rejected ≤ length (unparsed b) = omega (arith, c.requires.within, b.bytes.ok, length-drop b.start b.bytes.items, length-drop b.parsed (held b)) in
-    let s = segment_of g.T.Item.item_type (unparsed b) c.unparsed.result.now c.args.self.now.rejected c.in_ok-len.len c.unparsed.ensures c.requires.some fits c.in_ok-len.ensures in
+    let s = segment_of g.T.Item.item_type (unparsed b) c.unparsed.result.now c.args.self.now.rejected c.in_ok-len.len c.unparsed.ensures c.requires.some fits c.in_ok-len.ensures.segment c.in_ok-len.ensures.within c.in_ok-len.ensures.some in
     omega (arith, s.within, c.requires.within)
 
 pub overflow_sub-rejected : goal.overflow_sub-rejected
 overflow_sub-rejected g c =
     let b = c.args.self.now.buffer in
     let fits : c.args.self.now.rejected ≤ length (unparsed b) = omega (arith, c.requires.within, b.bytes.ok, length-drop b.start b.bytes.items, length-drop b.parsed (held b)) in
-    (segment_of g.T.Item.item_type (unparsed b) c.unparsed.result.now c.args.self.now.rejected c.in_ok-len.len c.unparsed.ensures c.requires.some fits c.in_ok-len.ensures).within
+    (segment_of g.T.Item.item_type (unparsed b) c.unparsed.result.now c.args.self.now.rejected c.in_ok-len.len c.unparsed.ensures c.requires.some fits c.in_ok-len.ensures.segment c.in_ok-len.ensures.within c.in_ok-len.ensures.some).within
 
 pub pass-requires-clause-some : goal.pass-requires-clause-some
 pass-requires-clause-some g c =
     let b = c.args.self.now.buffer in
     let fits : c.args.self.now.rejected ≤ length (unparsed b) = omega (arith, c.requires.within, b.bytes.ok, length-drop b.start b.bytes.items, length-drop b.parsed (held b)) in
-    (segment_of g.T.Item.item_type (unparsed b) c.unparsed.result.now c.args.self.now.rejected c.in_ok-len.len c.unparsed.ensures c.requires.some fits c.in_ok-len.ensures).some
+    (segment_of g.T.Item.item_type (unparsed b) c.unparsed.result.now c.args.self.now.rejected c.in_ok-len.len c.unparsed.ensures c.requires.some fits c.in_ok-len.ensures.segment c.in_ok-len.ensures.within c.in_ok-len.ensures.some).some
 
 pub pass-requires-clause-within : goal.pass-requires-clause-within
 pass-requires-clause-within g c =
     let b = c.args.self.now.buffer in
     let fits : c.args.self.now.rejected ≤ length (unparsed b) = omega (arith, c.requires.within, b.bytes.ok, length-drop b.start b.bytes.items, length-drop b.parsed (held b)) in
-    let s = segment_of g.T.Item.item_type (unparsed b) c.unparsed.result.now c.args.self.now.rejected c.in_ok-len.len c.unparsed.ensures c.requires.some fits c.in_ok-len.ensures in
+    let s = segment_of g.T.Item.item_type (unparsed b) c.unparsed.result.now c.args.self.now.rejected c.in_ok-len.len c.unparsed.ensures c.requires.some fits c.in_ok-len.ensures.segment c.in_ok-len.ensures.within c.in_ok-len.ensures.some in
     omega (arith, s.within, c.requires.within)
 
 pub returns-clause-taken : goal.returns-clause-taken
@@ -49,7 +49,7 @@ returns-clause-taken g c =
     let b = r.buffer in
     let len = c.in_ok-len.len in
     let fits : r.rejected ≤ length (unparsed b) = omega (arith, c.requires.within, b.bytes.ok, length-drop b.start b.bytes.items, length-drop b.parsed (held b)) in
-    let s = segment_of k (unparsed b) c.unparsed.result.now r.rejected len c.unparsed.ensures c.requires.some fits c.in_ok-len.ensures in
+    let s = segment_of k (unparsed b) c.unparsed.result.now r.rejected len c.unparsed.ensures c.requires.some fits c.in_ok-len.ensures.segment c.in_ok-len.ensures.within c.in_ok-len.ensures.some in
     let text = c.in_ok-text.text.now in
     let is : text ≡ take len (unparsed b) = c.in_ok-text.ensures.same ∙ ap (λ (x : List ℕ). take len x) c.unparsed-2.ensures in
     let long : length text ≡ len = omega (arith, ap length is, length-take len (unparsed b), s.within, fits) in
@@ -68,7 +68,7 @@ returns-clause-refused g c =
     let b = r.buffer in
     let len = c.in_ok-len.len in
     let fits : r.rejected ≤ length (unparsed b) = omega (arith, c.requires.within, b.bytes.ok, length-drop b.start b.bytes.items, length-drop b.parsed (held b)) in
-    let s = segment_of k (unparsed b) c.unparsed.result.now r.rejected len c.unparsed.ensures c.requires.some fits c.in_ok-len.ensures in
+    let s = segment_of k (unparsed b) c.unparsed.result.now r.rejected len c.unparsed.ensures c.requires.some fits c.in_ok-len.ensures.segment c.in_ok-len.ensures.within c.in_ok-len.ensures.some in
     let text = c.in_ok-text.text.now in
     let is : text ≡ take len (unparsed b) = c.in_ok-text.ensures.same ∙ ap (λ (x : List ℕ). take len x) c.unparsed-2.ensures in
     let long : length text ≡ len = omega (arith, ap length is, length-take len (unparsed b), s.within, fits) in

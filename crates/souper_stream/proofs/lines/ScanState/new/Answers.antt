@@ -1,6 +1,0 @@
-use Rattle.std.proofs.Common.{refl}
-use Rattle.souper_stream.proofs.Scan.{new_state}
-use Rattle.souper_stream.proofs.lines.ScanState.new.Goals as goal
-
-pub returns : goal.returns
-returns c = λ k. new_state k _ refl refl
