@@ -1,21 +1,19 @@
 -- An item has one line of those that end it, and it is the last.
-use Rattle.std.proofs.Common.{◌≡◌, ℕ, true, false, ◌⊎◌, inl, inr, List, [], ◌∷◌, ◌++◌, refl, sym, ap, ◌∙◌, subst, append_assoc, append-nil}
+use Rattle.std.proofs.Common.{◌≡◌, ℕ, true, false, ◌⊎◌, inl, inr, List, [], ◌∷◌, ◌++◌, arith, refl, sym, ap, ◌∙◌, subst, append_assoc, append-nil}
 use Rattle.std.proofs.lemmas.Bool.{false_from_ne_true}
-use Rattle.std.specs.Prelude.{codes, bytes_eq}
+use Rattle.std.specs.Prelude.{codes}
 use Rattle.std.specs.List.{AllByRecursion}
 use Rattle.souper_graph.specs.declared.ast.operands.Operand.{Operand}
 use Rattle.souper_graph.specs.Values.{PlainStatement, PlainInfer, PlainCand, inferred, resulting, replaced, candidate, Item}
 use Rattle.souper_graph.specs.Syntax.Tokens.{Lexeme, ident, val_name, comma}
 use Rattle.souper_graph.specs.Syntax.Spelling.{Scope, infer_spells, cand_spells, result_spells, IsOptionalComma, Statements, ItemType, left_hand_side, right_hand_side, replacement, Tail, tail_spells, item_spells, list_spells}
 use Rattle.souper_stream.specs.Lines.{last_word, end_word, is_end_word, starts_line, NoStart}
-use Rattle.souper_stream.proofs.Nodes.{or_left, or_right, or_none, all_append, is_last, NoLast, plain_no_last, operand_quiet, operand_not_defines, root_attributes_plain, root_attributes_not_define, plain_quiet, statement_no_last, statement_starts}
+use Rattle.souper_stream.proofs.Nodes.{not_last, all_append, is_last, NoLast, plain_no_last, operand_quiet, operand_not_defines, root_attributes_plain, root_attributes_not_define, plain_quiet, statement_no_last, statement_starts}
 
 -- ---- words that end an item
 
 pub end_is_last : (k : ItemType) (w : List ℕ) → end_word k w ≡ true → last_word w ≡ true
-end_is_last left_hand_side w h = or_left (bytes_eq w (codes "infer")) _ h
-end_is_last right_hand_side w h = or_right (bytes_eq w (codes "infer")) _ (or_left (bytes_eq w (codes "result")) _ h)
-end_is_last replacement w h = or_right (bytes_eq w (codes "infer")) _ h
+end_is_last k w h = grind arith
 
 abbrev pub NoEnd : ItemType → List Lexeme → Type 0
 NoEnd k ts = AllByRecursion (λ t. is_end_word k t ≡ false) ts
@@ -29,7 +27,7 @@ no_last_no_end k [] h = tt
 no_last_no_end k (t ∷ ts) h = (last_no_end k t h.0, no_last_no_end k ts h.1)
 
 start_no_last : (t : Lexeme) (ts : List Lexeme) → starts_line (t ∷ ts) ≡ false → is_last t ≡ false
-start_no_last (ident w) ts h = or_none (last_word w) _ h
+start_no_last (ident w) ts h = not_last w h
 start_no_last _ ts h = refl
 
 pub quiet_no_end : (k : ItemType) (ts : List Lexeme) → NoStart ts → NoEnd k ts

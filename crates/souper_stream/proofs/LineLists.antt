@@ -1,11 +1,11 @@
 -- The lines of a text, as a list.
-use Rattle.std.proofs.Common.{◌≡◌, inl, inr, ℕ, ◌+◌, ◌-◌, ◌<◌, ◌≤◌, Bool, true, false, List, [], ◌∷◌, ◌++◌, length, take, drop, refl, sym, ap, ◌∙◌, subst, arith, append_assoc, append-nil, length-append, eqb-true}
-use Rattle.std.specs.Prelude.{◌==◌, zero, suc, slice_index}
+use Rattle.std.proofs.Common.{◌≡◌, inl, inr, ℕ, ◌+◌, ◌<◌, ◌≤◌, Bool, true, false, List, [], ◌∷◌, ◌++◌, length, take, drop, refl, sym, ap, ◌∙◌, subst, arith, append_assoc, append-nil, length-append, eqb-true}
+use Rattle.std.specs.Prelude.{◌==◌, zero, suc}
 use Rattle.std.specs.List.{AllByRecursion}
 use Rattle.std.specs.Io.BufRead.{take_through}
 use Rattle.std.proofs.lemmas.Bool.{false_from_ne_true}
-use Rattle.std.proofs.lemmas.List.{append_cancel_left, take_at, drop_at, take_more, take-append-drop, take-append-le, length-take}
-use Rattle.memchr.specs.Find.{Nowhere, NoneAfter, Passes, is_byte}
+use Rattle.std.proofs.lemmas.List.{append_cancel_left, take_at, drop_at}
+use Rattle.memchr.specs.Find.{Passes, is_byte}
 use Rattle.souper_graph.specs.Syntax.Tokens.{Lexeme, IsOneLine, IsTextOf}
 use Rattle.souper_graph.specs.Syntax.Spelling.{kinds}
 use Rattle.souper_lexer.proofs.TokenLaws.{text_tokens, one_reading}
@@ -13,7 +13,7 @@ use Rattle.souper_ir.specs.Joining.{IsLines, moved}
 use Rattle.souper_ir.specs.Laws.Steps.{kinds-append}
 use Rattle.souper_ir.proofs.Items.Joining.{newline_last, kinds_moved}
 use Rattle.souper_ir.proofs.Items.Parting.{lines_end, tokens_part}
-use Rattle.souper_stream.specs.Segments.{Line, concat, IsLine, IsLastLine, AreLines, tokens_of, tokens_of_lines, Starts, IsLastLineAt}
+use Rattle.souper_stream.specs.Segments.{Line, concat, IsLine, IsLastLine, AreLines, tokens_of, tokens_of_lines, Starts}
 use Rattle.souper_stream.proofs.Texts.{lines_append, no_text}
 
 -- ---- lists
@@ -148,16 +148,13 @@ lines_split ls a b lines e h =
 
 -- ---- tokens of lines without a fault
 
-pub text_kinds : (bs : List ℕ) (ts : List (ℕ × Lexeme)) → IsTextOf bs ts → tokens_of bs ≡ kinds ts
-text_kinds bs ts h = ap kinds (text_tokens bs ts h).0
-
 -- the tokens of lines without a fault are the tokens of all their bytes
 pub kinds_of_lines : (p : List Line) (ts : List (ℕ × Lexeme)) → AreLines p → IsTextOf (concat p) ts → kinds ts ≡ tokens_of_lines p
 kinds_of_lines [] ts lines h = ap kinds (one_reading [] ts [] h no_text)
-kinds_of_lines (l ∷ []) ts lines h = sym (text_kinds (l ++ []) ts h) ∙ ap tokens_of (append-nil l) ∙ sym (append-nil (tokens_of l))
+kinds_of_lines (l ∷ []) ts lines h = sym (ap kinds (text_tokens (l ++ []) ts h).0) ∙ ap tokens_of (append-nil l) ∙ sym (append-nil (tokens_of l))
 kinds_of_lines (l ∷ (m ∷ p)) ts lines h =
     let t = tokens_part l (concat (m ∷ p)) ts (inr (lines.0.0, lines.0.2)) h in
-    ap kinds t.4 ∙ kinds-append t.0 (moved (length l) t.1) ∙ (λ i. sym (text_kinds l t.0 t.2) i ++ (kinds_moved (length l) t.1 ∙ kinds_of_lines (m ∷ p) t.1 lines.1 t.3) i)
+    ap kinds t.4 ∙ kinds-append t.0 (moved (length l) t.1) ∙ (λ i. ap kinds (sym (text_tokens l t.0 t.2).0) i ++ (kinds_moved (length l) t.1 ∙ kinds_of_lines (m ∷ p) t.1 lines.1 t.3) i)
 
 -- ---- newlines that are sought
 
@@ -172,24 +169,8 @@ through_none [] none = refl
 through_none (b ∷ text) none = rw (false_from_ne_true (b == 10) (none 0 (omega arith))) (omega (arith, through_none text (λ k l. none (suc k) (omega arith))))
 
 -- no newline is from an offset on
-one_after : (xs : List ℕ) (s : ℕ) → ((k : ℕ) → s ≤ k → k < length xs → Passes (is_byte 10) xs k → ⊥) → IsOneLine (drop s xs)
+pub one_after : (xs : List ℕ) (s : ℕ) → ((k : ℕ) → s ≤ k → k < length xs → Passes (is_byte 10) xs k → ⊥) → IsOneLine (drop s xs)
 one_after [] zero none = tt
 one_after [] (suc s) none = tt
 one_after (x ∷ xs) zero none = (false_from_ne_true (x == 10) (none 0 (omega arith) (omega arith)), one_after xs zero (λ k from l. none (suc k) (omega arith) (omega arith)))
 one_after (x ∷ xs) (suc s) none = one_after xs s (λ k from l. none (suc k) (omega arith) (omega arith))
-
--- the last newline before the last byte
-pub last_found : (text front : List ℕ) (n : ℕ) → 0 < length text → front ≡ take (length text - 1) text → NoneAfter (Passes (is_byte 10) front) 0 (length front) n × Passes (is_byte 10) front n → IsLastLineAt text (n + 1)
-last_found text front n some e h =
-    let within = h.0.high in
-    let long : length front ≡ length text - 1 = omega (arith, ap length e, length-take (length text - 1) text) in
-    let parts : take (n + 1) text ≡ take (n + 1) front =
-    ap (take (n + 1)) (sym (take-append-drop (length text - 1) text) ∙ ap (λ (x : List ℕ). x ++ drop (length text - 1) text) (sym e)) ∙ take-append-le (n + 1) front (drop (length text - 1) text) (omega arith) in
-    record {
-      before = omega arith;
-      lines = inr (take n front, parts ∙ take_more front n 0 within ∙ ap (λ (b : ℕ). take n front ++ b ∷ []) (eqb-true (slice_index front n) 10 h.1));
-      one_line = subst (λ (x : List ℕ). IsOneLine (drop (n + 1) x)) e (one_after front (n + 1) (λ k l m. h.0.after k l m));
-    }
-
-pub last_none : (text front : List ℕ) → 0 < length text → front ≡ take (length text - 1) text → Nowhere (Passes (is_byte 10) front) 0 (length front) → IsLastLineAt text 0
-last_none text front some e h = record { before = some; lines = inl refl; one_line = subst (λ (x : List ℕ). IsOneLine x) e (one_after front 0 (λ k l m. h k l m)) }

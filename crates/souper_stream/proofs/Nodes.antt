@@ -1,5 +1,5 @@
 -- The tokens of statements and of last lines: in which of them a line can start.
-use Rattle.std.proofs.Common.{◌≡◌, ℕ, Bool, true, false, ◌||◌, List, [], ◌∷◌, ◌++◌, Option, Some, None, refl, subst}
+use Rattle.std.proofs.Common.{◌≡◌, ℕ, Bool, true, false, arith, List, [], ◌∷◌, ◌++◌, Option, Some, None, refl, subst}
 use Rattle.std.specs.Prelude.{codes, bytes_eq}
 use Rattle.std.specs.List.{AllByRecursion}
 use Rattle.std.proofs.lemmas.Bool.{false_from_ne_true}
@@ -19,17 +19,11 @@ use Rattle.souper_stream.specs.Lines.{last_word, line_word, defines, starts_line
 
 -- ---- tests and lists
 
-pub or_left : (a b : Bool) → a ≡ true → (a || b) ≡ true
-or_left true b h = refl
-or_left false b h = absurd cc
+pub last_is_line : (w : List ℕ) → last_word w ≡ true → line_word w ≡ true
+last_is_line w h = grind arith
 
-pub or_right : (a b : Bool) → b ≡ true → (a || b) ≡ true
-or_right true b h = refl
-or_right false b h = h
-
-pub or_none : (a b : Bool) → (a || b) ≡ false → a ≡ false
-or_none true b h = absurd cc
-or_none false b h = refl
+pub not_last : (w : List ℕ) → line_word w ≡ false → last_word w ≡ false
+not_last w h = grind arith
 
 pub word_means : (w k : List ℕ) → bytes_eq w k ≡ true → w ≡ k
 word_means w k h = (bytes_eq-Decides w k).0 h
@@ -81,7 +75,7 @@ plain_start (val_name n) ts h = absurd h
 plain_start _ ts h = refl
 
 plain_last : (t : Lexeme) → Plain t → is_last t ≡ false
-plain_last (ident w) h = or_none (last_word w) _ h
+plain_last (ident w) h = not_last w h
 plain_last _ h = refl
 
 pub quiet_append : (xs ys : List Lexeme) → ArePlain xs → NoStart ys → NoStart (xs ++ ys)
@@ -129,7 +123,7 @@ pair_no_last s x y ts h = rw h.whole (all_append (λ t. is_last t ≡ false) h.p
 rhs_no_last : (s : Scope) (v : PlainRhs) (ts : List Lexeme) → rhs_spells s v ts → NoLast ts
 rhs_no_last s (block b) ts h = rw h.1 (refl, (refl, tt))
 rhs_no_last s (phi p) ts h = rw h.whole (refl, (refl, further_no_last s p.values h.rest h.values_spelled))
-rhs_no_last s (instruction i) ts h = rw h.1 (or_none (last_word (word_of i)) _ (instruction_word i), operands_no_last s (operands_of i) h.0 h.2)
+rhs_no_last s (instruction i) ts h = rw h.1 (not_last (word_of i) (instruction_word i), operands_no_last s (operands_of i) h.0 h.2)
 rhs_no_last s _ ts h = rw h (refl, tt)
 
 attribute_plain : (a : PlainAttribute) (ts : List Lexeme) → attribute_spells a ts → ArePlain ts

@@ -40,9 +40,9 @@ starts_longer (val_name n ∷ []) us h = absurd cc
 starts_longer (val_name n ∷ (y ∷ ts)) us h = defines_first y ts (ts ++ us) h
 starts_longer _ us h = h
 
-pub quiet_starts : (xs : List Lexeme) → 0 < length xs → NoStart xs → starts_line xs ≡ true → ⊥
-quiet_starts [] some q h = omega arith
-quiet_starts (x ∷ xs) some q h = let no = q.0 in cc
+pub quiet_starts : (xs : List Lexeme) → NoStart xs → starts_line xs ≡ true → ⊥
+quiet_starts [] q h = cc
+quiet_starts (x ∷ xs) q h = let no = q.0 in cc
 
 -- a line that starts after tokens at which none starts: there is one such place
 one_start : (post ts x s : List Lexeme) → post ++ ts ≡ x ++ s → NoStart post → NoStart x → starts_line ts ≡ true → (s ≡ []) ⊎ (starts_line s ≡ true) → (x ≡ post) × (s ≡ ts)
@@ -50,7 +50,7 @@ one_start post ts x s e p q t k = under (parted_twice post ts x s e)
   where
     shorter : (left : List Lexeme) → x ≡ post ++ left → ts ≡ left ++ s → (x ≡ post) × (s ≡ ts)
     shorter [] a b = (a ∙ append-nil post, sym b)
-    shorter (y ∷ left) a b = absurd (quiet_starts (y ∷ left) (omega arith) (quiet_rest post (y ∷ left) (subst (λ (z : List Lexeme). NoStart z) a q)) (over k))
+    shorter (y ∷ left) a b = absurd (quiet_starts (y ∷ left) (quiet_rest post (y ∷ left) (subst (λ (z : List Lexeme). NoStart z) a q)) (over k))
       where
         over : (s ≡ []) ⊎ (starts_line s ≡ true) → starts_line (y ∷ left) ≡ true
         over (inl none) = subst (λ (z : List Lexeme). starts_line z ≡ true) (b ∙ ap (λ (z : List Lexeme). (y ∷ left) ++ z) none ∙ append-nil (y ∷ left)) t
@@ -59,7 +59,7 @@ one_start post ts x s e p q t k = under (parted_twice post ts x s e)
     longer : (more : List Lexeme) → 0 < length more → post ≡ x ++ more → s ≡ more ++ ts → (s ≡ []) ⊎ (starts_line s ≡ true) → (x ≡ post) × (s ≡ ts)
     longer more some a b (inl none) = let n = ap length (sym b ∙ none) in let m = length-append more ts in absurd (omega arith)
     longer more some a b (inr start) =
-        absurd (quiet_starts more some (quiet_rest x more (subst (λ (z : List Lexeme). NoStart z) a p)) (start_before more ts some t (subst (λ (z : List Lexeme). starts_line z ≡ true) b start)))
+        absurd (quiet_starts more (quiet_rest x more (subst (λ (z : List Lexeme). NoStart z) a p)) (start_before more ts some t (subst (λ (z : List Lexeme). starts_line z ≡ true) b start)))
 
     under : Within post ts x s ⊎ Beyond post ts x s → (x ≡ post) × (s ≡ ts)
     under (inl h) = shorter h.left h.first h.second
@@ -75,34 +75,27 @@ record Split (k : ItemType) (ws : List Item) (ts us : List Lexeme) : Type 0 wher
   pub first : list_spells k xs ts
   pub second : list_spells k ys us
 
-one_item : (k : ItemType) (a : Item) (ts : List Lexeme) → item_spells k a ts → list_spells k (a ∷ []) ts
-one_item k a ts h = record { prefix = ts; suffix = []; whole = sym (append-nil ts); first = h; second = refl }
+split_later : (k : ItemType) (a : Item) (ws : List Item) (pre post ts p s : List Lexeme) (w : List ℕ) → item_spells k a p → list_spells k ws s → ((x : List Lexeme) → list_spells k ws (x ++ ident w ∷ (post ++ ts)) → Split k ws (x ++ ident w ∷ post) ts)
+    → (later : List Lexeme) → pre ≡ p ++ later → s ≡ later ++ ident w ∷ (post ++ ts) → Split k (a ∷ ws) (pre ++ ident w ∷ post) ts
+split_later k a ws pre post ts p s w h more ih later first second =
+    let r = ih later (subst (λ (z : List Lexeme). list_spells k ws z) second more) in
+    record {
+      xs = a ∷ r.xs;
+      ys = r.ys;
+      whole = ap (λ (z : List Item). a ∷ z) r.whole;
+      first = record { prefix = p; suffix = later ++ ident w ∷ post; whole = ap (λ (z : List Lexeme). z ++ ident w ∷ post) first ∙ append_assoc p later (ident w ∷ post); first = h; second = r.first };
+      second = r.second;
+    }
 
 split_step : (k : ItemType) (a : Item) (ws : List Item) (pre post ts p s : List Lexeme) (w : List ℕ) → end_word k w ≡ true → NoStart post → starts_line ts ≡ true
     → item_spells k a p → list_spells k ws s
     → ((x : List Lexeme) → list_spells k ws (x ++ ident w ∷ (post ++ ts)) → Split k ws (x ++ ident w ∷ post) ts)
     → Within pre (ident w ∷ (post ++ ts)) p s ⊎ Beyond pre (ident w ∷ (post ++ ts)) p s → Split k (a ∷ ws) (pre ++ ident w ∷ post) ts
-split_step k a ws pre post ts p s w e q t h more ih (inr b) =
-    let r = ih b.more (subst (λ (z : List Lexeme). list_spells k ws z) b.second more) in
-    record {
-      xs = a ∷ r.xs;
-      ys = r.ys;
-      whole = ap (λ (z : List Item). a ∷ z) r.whole;
-      first = record { prefix = p; suffix = b.more ++ ident w ∷ post; whole = ap (λ (z : List Lexeme). z ++ ident w ∷ post) b.first ∙ append_assoc p b.more (ident w ∷ post); first = h; second = r.first };
-      second = r.second;
-    }
+split_step k a ws pre post ts p s w e q t h more ih (inr b) = split_later k a ws pre post ts p s w h more ih b.more b.first b.second
 split_step k a ws pre post ts p s w e q t h more ih (inl b) = here b.left b.first b.second
   where
     here : (left : List Lexeme) → p ≡ pre ++ left → ident w ∷ (post ++ ts) ≡ left ++ s → Split k (a ∷ ws) (pre ++ ident w ∷ post) ts
-    here [] first second =
-        let r = ih [] (subst (λ (z : List Lexeme). list_spells k ws z) (sym second) more) in
-        record {
-          xs = a ∷ r.xs;
-          ys = r.ys;
-          whole = ap (λ (z : List Item). a ∷ z) r.whole;
-          first = record { prefix = p; suffix = ident w ∷ post; whole = ap (λ (z : List Lexeme). z ++ ident w ∷ post) (sym (first ∙ append-nil pre)); first = h; second = r.first };
-          second = r.second;
-        }
+    here [] first second = split_later k a ws pre post ts p s w h more ih [] (sym (append-nil p ∙ first ∙ append-nil pre)) (sym second)
     here (y ∷ left) first second =
         let heads : ident w ≡ y = cc in
         let tails : post ++ ts ≡ left ++ s = cc in
@@ -115,7 +108,7 @@ split_step k a ws pre post ts p s w e q t h more ih (inl b) = here b.left b.firs
           xs = a ∷ [];
           ys = ws;
           whole = refl;
-          first = subst (λ (z : List Lexeme). list_spells k (a ∷ []) z) whole (one_item k a p h);
+          first = record { prefix = p; suffix = []; whole = sym (append-nil p ∙ whole); first = h; second = refl };
           second = subst (λ (z : List Lexeme). list_spells k ws z) place.1 more;
         }
 

@@ -2,7 +2,7 @@
 use Rattle.std.proofs.Common.{◌≡◌, ◌⊎◌, inl, inr, ℕ, Bool, true, false, List, [], ◌∷◌, ◌++◌, length, Option, refl, sym, ap, ◌∙◌, subst, arith, append_assoc, append-nil, length-append}
 use Rattle.std.specs.Prelude.{map}
 use Rattle.std.specs.List.{AllByRecursion}
-use Rattle.std.proofs.lemmas.List.{map-append}
+use Rattle.std.proofs.lemmas.List.{map-append, nil_from_length}
 use Rattle.std.specs.Io.KnownBytes.{Consumes}
 use Rattle.souper_graph.specs.Values.{Item}
 use Rattle.souper_graph.specs.WellFormed.{WellFormed}
@@ -12,14 +12,12 @@ use Rattle.souper_ir.specs.Joining.{IsLines}
 use Rattle.souper_ir.specs.Sinks.{TakesOver, PrefixSpells}
 use Rattle.souper_stream.specs.declared.reader.ItemReader.{ItemReader}
 use Rattle.souper_stream.specs.Segments.{Line, concat, AreLines, EndsItem, AreCut, all_lines, PartsSpell}
-use Rattle.souper_stream.specs.Buffering.{unparsed}
 use Rattle.souper_stream.specs.Reading.{IsStreamTaken, IsStreamRefused}
 use Rattle.souper_stream.specs.Parts.{and_next, HasParts, HasAll, TakesPart, RefusesPart}
-use Rattle.souper_stream.proofs.LineLists.{concat-append, all_are_lines, lines_front, lines_of}
+use Rattle.souper_stream.proofs.LineLists.{concat-append, are_front, lines_front, lines_of}
 use Rattle.souper_stream.proofs.Texts.{none_spelled, prefix_after, prefix_longer}
 use Rattle.souper_stream.proofs.Scan.{no_tokens}
 use Rattle.souper_stream.proofs.SegmentLaws.{spells_by_parts}
-use Rattle.souper_stream.proofs.Buffers.{parts_read}
 use Rattle.souper_stream.proofs.Passing.{all_lines_snoc, done_more}
 
 -- ---- items that are passed on
@@ -89,77 +87,63 @@ reached_end k before mid after holds first old p r a = record {
 
 -- ---- what a stream begins with
 
-ends_not_none : (k : ItemType) (y : List Line) → EndsItem k y → y ≡ [] → ⊥
-ends_not_none k y en e = no_tokens k (subst (λ (z : List Line). EndsItem k z) e en)
-
 cut_front : (k : ItemType) (qs : List (List Line)) (x : List Line) (xs : List (List Line)) → AreCut k (qs ++ x ∷ xs) → AreCut k qs
 cut_front k [] x xs c = tt
-cut_front k (q ∷ []) x xs c = ends_not_none k q c.0
+cut_front k (q ∷ []) x xs c = λ none. no_tokens k (subst (λ (z : List Line). EndsItem k z) none c.0)
 cut_front k (q ∷ (s ∷ qs)) x xs c = (c.0, c.1, cut_front k (s ∷ qs) x xs c.2)
 
--- parts before others are whole lines that spell their items
-parts_spell : (k : ItemType) (ps : List (List Line)) (more : List Line) (items : List Item) → (more ≡ [] → ⊥) → AreLines (all_lines ps ++ more) → AreCut k ps → PartsSpell k ps items → IsLines (concat (all_lines ps)) × TextSpells k (concat (all_lines ps)) items
-parts_spell k ps more items some lines cut spelled =
-    let whole = lines_front (all_lines ps) more some lines in
-    (lines_of (all_lines ps) whole, (spells_by_parts k (concat (all_lines ps)) ps items (record { whole = refl; lines = all_are_lines (all_lines ps) whole; cut = cut })).1 spelled)
+next_front : (k : ItemType) (ps : List (List Line)) (ls : List Line) → AreCut k (and_next ps ls) → AreCut k ps
+next_front k ps [] c = c
+next_front k ps (l ∷ ls) c = cut_front k ps (l ∷ ls) [] c
+
+-- parts before other lines spell their items
+parts_spell : (k : ItemType) (ps : List (List Line)) (more : List Line) (items : List Item) → AreLines (all_lines ps ++ more) → AreCut k ps → PartsSpell k ps items → TextSpells k (concat (all_lines ps)) items
+parts_spell k ps more items lines cut spelled = (spells_by_parts k (concat (all_lines ps)) ps items (record { whole = refl; lines = are_front (all_lines ps) more lines; cut = cut })).1 spelled
 
 pub prefix_of : (k : ItemType) (text : List ℕ) (items : List Item) → TextSpells k text items → PrefixSpells k text items
 prefix_of k text items t = (t.0, t.1.0, t.1.1, t.2)
 
+begun_longer : (k : ItemType) (part after : List ℕ) (items : List Item) → IsLines part ⊎ (after ≡ []) → PrefixSpells k part items → PrefixSpells k (part ++ after) items
+begun_longer k part after items (inl lines) h = prefix_longer k part after items lines h
+begun_longer k part after items (inr none) h = subst (λ (x : List ℕ). PrefixSpells k x items) (sym (ap (λ (x : List ℕ). part ++ x) none ∙ append-nil part)) h
+
 -- a stream begins with the parts that were read of it, and with their items, if they spell any
 pub parts_begin : (k : ItemType) (start now : Option (List ℕ)) (ps : List (List Line)) (r : ItemReader) → HasParts k start now ps r → (read : List ℕ) × (rest : List ℕ) × Consumes start now read × (read ≡ concat (all_lines ps) ++ rest) × ((items : List Item) → PartsSpell k ps items → PrefixSpells k read items)
 parts_begin k start now ps r (ls, h) =
-    (h.read ++ h.lost, unparsed r.buffer ++ h.lost, h.consumed, ap (λ (x : List ℕ). x ++ h.lost) read_parts ∙ append_assoc done (unparsed r.buffer) h.lost, λ items spelled. with_lost items r.ended refl (under items spelled ls h.rest h.lines h.cut))
+    let done = concat (all_lines ps) in
+    let rest = concat ls ++ h.lines.lost in
+    let whole : concat (all_lines ps ++ ls) ++ h.lines.lost ≡ done ++ rest = ap (λ (x : List ℕ). x ++ h.lines.lost) (concat-append (all_lines ps) ls) ∙ append_assoc done (concat ls) h.lines.lost in (
+      concat (all_lines ps ++ ls) ++ h.lines.lost,
+      rest,
+      h.lines.consumed,
+      whole,
+      λ items spelled. subst (λ (x : List ℕ). PrefixSpells k x items) (sym whole) (begun_longer k done rest items (ends ls refl) (prefix_of k done items (parts_spell k ps ls items h.lines.are (next_front k ps ls h.cut) spelled))),
+    )
   where
-    done : List ℕ
-    done = concat (all_lines ps)
+    nothing_left : (b : Bool) → r.ended ≡ b → ls ≡ [] → IsLines (concat (all_lines ps)) ⊎ (concat ls ++ h.lines.lost ≡ [])
+    nothing_left true e none = inr (λ i. concat (none i) ++ h.lines.none_lost (h.lines.not_failed e) i)
+    nothing_left false e none = inl (inl (ap (λ (x : List (List Line)). concat (all_lines x)) (h.some e none)))
 
-    read_parts : h.read ≡ done ++ unparsed r.buffer
-    read_parts = parts_read h.read done r.buffer h.buffers
-
-    with_lost : (items : List Item) (b : Bool) → r.ended ≡ b → PrefixSpells k h.read items → PrefixSpells k (h.read ++ h.lost) items
-    with_lost items true e p = subst (λ (x : List ℕ). PrefixSpells k x items) (sym (ap (λ (x : List ℕ). h.read ++ x) (h.none_lost (h.not_failed e)) ∙ append-nil h.read)) p
-    with_lost items false e p =
-        let text = read_parts ∙ ap (λ (x : List ℕ). done ++ x) h.rest ∙ sym (concat-append (all_lines ps) ls) in
-        prefix_longer k h.read h.lost items (subst (λ (x : List ℕ). IsLines x) (sym text) (lines_of (all_lines ps ++ ls) (h.whole e))) p
-
-    read_is : (ls : List Line) → unparsed r.buffer ≡ concat ls → h.read ≡ done ++ concat ls
-    read_is ls e = read_parts ∙ ap (λ (x : List ℕ). done ++ x) e
-
-    under : (items : List Item) → PartsSpell k ps items → (ls : List Line) → unparsed r.buffer ≡ concat ls → AreLines (all_lines ps ++ ls) → AreCut k (and_next ps ls) → PrefixSpells k h.read items
-    under items spelled [] e lines cut =
-        let whole : h.read ≡ done = read_is [] e ∙ append-nil done in
-        prefix_of k h.read items ((spells_by_parts k h.read ps items (record { whole = whole; lines = subst (λ (x : List Line). AreLines x) (append-nil (all_lines ps)) lines; cut = cut })).1 spelled)
-    under items spelled (l ∷ ls) e lines cut =
-        let d = parts_spell k ps (l ∷ ls) items (λ x. cc) lines (cut_front k ps (l ∷ ls) [] cut) spelled in
-        subst (λ (x : List ℕ). PrefixSpells k x items) (sym (read_is (l ∷ ls) e)) (prefix_longer k done (concat (l ∷ ls)) items d.0 (prefix_of k done items d.1))
+    ends : (xs : List Line) → ls ≡ xs → IsLines (concat (all_lines ps)) ⊎ (concat ls ++ h.lines.lost ≡ [])
+    ends [] e = nothing_left r.ended refl e
+    ends (x ∷ xs) e = inl (lines_of (all_lines ps) (lines_front (all_lines ps) ls (λ none. (let both = sym e ∙ none in cc)) h.lines.are))
 
 -- a refused part has lines, since no lines spell no items
 refused_some : (k : ItemType) (p : List Line) → SpellsNone k (concat p) → p ≡ [] → ⊥
 refused_some k p none e = none [] (subst (λ (x : List Line). TextSpells k (concat x) []) (sym e) (none_spelled k))
-
-begun_longer : (k : ItemType) (part after : List ℕ) (items : List Item) → IsLines part ⊎ (after ≡ []) → PrefixSpells k part items → PrefixSpells k (part ++ after) items
-begun_longer k part after items (inl lines) h = prefix_longer k part after items lines h
-begun_longer k part after items (inr none) h = subst (λ (x : List ℕ). PrefixSpells k x items) (sym (ap (λ (x : List ℕ). part ++ x) none ∙ append-nil part)) h
 
 -- a text that is refused after parts that spell items begins with these, and with the ones that the refused part begins with
 pub refusal_begun : {S : Type 0} (k : ItemType) (file start now : Option (List ℕ)) (ps : List (List Line)) (holds : S → S → List Item → Type 0) (old new : S) (q : ItemReader) (e : ParseError) (t : RefusesPart k file start now ps holds old new q e) (items : List Item) → PartsSpell k ps items
     → PrefixSpells k t.read (items ++ t.items)
 refusal_begun k file start now ps holds old new q e t items spelled =
     let (ls, h) = t.goes_on in
-    let lines = subst (λ (x : List Line). AreLines x) (ap (λ (x : List Line). x ++ ls) (all_lines_snoc ps t.part) ∙ append_assoc (all_lines ps) t.part ls) h.lines in
-    let done = parts_spell k ps (t.part ++ ls) items (more t.part ls (refused_some k t.part t.none)) lines (cut_before ls h.cut) spelled in
-    let text : concat (all_lines (ps ++ t.part ∷ [])) ++ t.after ≡ concat (all_lines ps) ++ (concat t.part ++ t.after) =
-    ap (λ (x : List ℕ). x ++ t.after) (done_more ps t.part) ∙ append_assoc (concat (all_lines ps)) (concat t.part) t.after in
-    subst (λ (x : List ℕ). PrefixSpells k x (items ++ t.items)) (sym (t.whole ∙ text)) (prefix_after k (concat (all_lines ps)) (concat t.part ++ t.after) items t.items done.0 done.1 (begun_longer k (concat t.part) t.after t.items t.ends t.begun))
-  where
-    more : (p ls : List Line) → (p ≡ [] → ⊥) → p ++ ls ≡ [] → ⊥
-    more [] ls s e = s refl
-    more (x ∷ p) ls s e = cc
-
-    cut_before : (ls : List Line) → AreCut k (and_next (ps ++ t.part ∷ []) ls) → AreCut k ps
-    cut_before [] c = cut_front k ps t.part [] c
-    cut_before (l ∷ ls) c = cut_front k ps t.part ((l ∷ ls) ∷ []) (subst (λ (x : List (List Line)). AreCut k x) (append_assoc ps (t.part ∷ []) ((l ∷ ls) ∷ [])) c)
+    let done = concat (all_lines ps) in
+    let lines = subst (λ (x : List Line). AreLines x) (ap (λ (x : List Line). x ++ ls) (all_lines_snoc ps t.part) ∙ append_assoc (all_lines ps) t.part ls) h.lines.are in
+    let whole_lines = lines_of (all_lines ps) (lines_front (all_lines ps) (t.part ++ ls) (λ none. refused_some k t.part t.none (nil_from_length t.part (omega (arith, ap length none, length-append t.part ls)))) lines) in
+    let cut = cut_front k ps t.part [] (next_front k (ps ++ t.part ∷ []) ls h.cut) in
+    let text : t.read ≡ done ++ (concat t.part ++ t.after) = t.whole ∙ ap (λ (x : List ℕ). x ++ t.after) (done_more ps t.part) ∙ append_assoc done (concat t.part) t.after in
+    subst (λ (x : List ℕ). PrefixSpells k x (items ++ t.items)) (sym text)
+    (prefix_after k done (concat t.part ++ t.after) items t.items whole_lines (parts_spell k ps (t.part ++ ls) items lines cut spelled) (begun_longer k (concat t.part) t.after t.items t.ends t.begun))
 
 -- the stream is refused
 pub reached_refusal : {S V : Type 0} (k : ItemType) (file : Option (List ℕ)) (before mid after : Option (List ℕ)) (holds : S → S → List Item → Type 0) (keeps : V → V → List Item → Type 0) (first old new : S) (empty full : V) (p q : ItemReader) (e : ParseError) (taken : List Item)

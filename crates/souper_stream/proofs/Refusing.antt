@@ -1,6 +1,7 @@
 -- The error of a part that spells no items.
 use Rattle.std.proofs.Common.{◌≡◌, ℕ, ◌+◌, ◌≤◌, List, length, take, Option, Some, None, refl, sym, ap, ◌∙◌, subst, arith}
 use Rattle.std.specs.Prelude.{IfSome}
+use Rattle.std.proofs.lemmas.List.{length-take}
 use Rattle.souper_graph.specs.Values.{Item}
 use Rattle.souper_graph.specs.Syntax.Spelling.{ItemType, SpellsNone}
 use Rattle.souper_ir.specs.declared.parse.error.Before.{Before}
@@ -34,9 +35,9 @@ pub record RefusesText {S : Type 0} (k : ItemType) (file : Option (List ℕ)) (b
   pub within : offset ≤ len
   pub placed : IsPlacedAfter file b.before (take (b.parsed + len) (held b)) (b.parsed + offset) shown
 
-pub text_refused : {S : Type 0} (k : ItemType) (file : Option (List ℕ)) (b : Buffer) (len : ℕ) (holds : S → S → List Item → Type 0) (old new : S) (text : List ℕ) (e shown : ParseError) → text ≡ take len (unparsed b) → length text ≡ len
+pub text_refused : {S : Type 0} (k : ItemType) (file : Option (List ℕ)) (b : Buffer) (len : ℕ) (holds : S → S → List Item → Type 0) (old new : S) (text : List ℕ) (e shown : ParseError) → text ≡ take len (unparsed b)
     → (kind_of e ≡ Parse → TakesPrefix holds k text old new) → IsStrError k None text e → kind_of shown ≡ Parse → IsLocatedAfter file b.before (take (b.parsed + len) (held b)) b.parsed e shown → RefusesText k file b len holds old new shown
-text_refused k file b len holds old new text e shown is long begun error shown_kind located =
+text_refused k file b len holds old new text e shown is begun error shown_kind located =
     let source : List ℕ = take (b.parsed + len) (held b) in
     let kind = located_kind file b.before source b.parsed e shown located shown_kind in
     let s = str_offset k None text e kind error in
@@ -44,6 +45,6 @@ text_refused k file b len holds old new text e shown is long begun error shown_k
       none = subst (λ (x : List ℕ). SpellsNone k x) is s.3;
       begun = subst (λ (x : List ℕ). TakesPrefix holds k x old new) is (begun kind);
       offset = s.0;
-      within = omega (arith, s.2, long);
+      within = omega (arith, s.2, ap length is, length-take len (unparsed b));
       placed = (let l = rw kind at located in rw s.1 at l);
     }

@@ -6,8 +6,8 @@ use Rattle.souper_graph.specs.Syntax.Tokens.{Lexeme, ident, val_name, colon, equ
 use Rattle.souper_graph.specs.Syntax.Spelling.{ItemType}
 use Rattle.souper_ir.specs.NodeReadings.{is_name}
 use Rattle.souper_stream.specs.declared.lines.ScanState.{ScanState}
-use Rattle.souper_stream.specs.Lines.{last_word, line_word, is_end_word, defines, shows_line, NoStart, LastEnds, first_state, state_after, scanned}
-use Rattle.souper_stream.proofs.Nodes.{or_left}
+use Rattle.souper_stream.specs.Lines.{line_word, is_end_word, defines, shows_line, NoStart, LastEnds, first_state, state_after, scanned}
+use Rattle.souper_stream.proofs.Nodes.{last_is_line}
 use Rattle.souper_stream.proofs.EndLines.{end_is_last, NoEnd}
 
 -- no line begins in the tokens, nor with the name before them, if there is one
@@ -44,7 +44,7 @@ ends_later k xs ys h = record {
 }
 
 end_shows : (k : ItemType) (named : Bool) (t : Lexeme) → is_end_word k t ≡ true → shows_line named t ≡ true
-end_shows k named (ident w) h = or_left (last_word w) _ (end_is_last k w h)
+end_shows k named (ident w) h = last_is_line w (end_is_last k w h)
 end_shows k named _ h = absurd cc
 
 ends_here : (k : ItemType) (t : Lexeme) (ts : List Lexeme) → is_end_word k t ≡ true → NoStart ts → LastEnds k (t ∷ ts)

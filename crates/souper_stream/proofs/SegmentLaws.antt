@@ -11,18 +11,15 @@ use Rattle.souper_stream.proofs.Parting.{starts_longer, part_by}
 use Rattle.souper_stream.proofs.Texts.{none_spelled}
 use Rattle.souper_stream.proofs.LineLists.{starts_not_none, starts_with_more, concat-append, all_are_lines, lines_back, lines_front, lines_of, kinds_of_lines}
 
-pub lines_start : (q more : List Line) → Starts q → starts_line (tokens_of_lines (q ++ more)) ≡ true
-lines_start [] more s = absurd s
-lines_start (l ∷ q) more s = starts_longer (tokens_of l) (tokens_of_lines (q ++ more)) s
+pub lines_start : (q : List Line) → Starts q → starts_line (tokens_of_lines q) ≡ true
+lines_start [] s = absurd s
+lines_start (l ∷ q) s = starts_longer (tokens_of l) (tokens_of_lines q) s
 
-part_starts : (q more : List Line) (ts : List (ℕ × Lexeme)) → AreLines (q ++ more) → Starts q → IsTextOf (concat (q ++ more)) ts → starts_line (kinds ts) ≡ true
-part_starts q more ts lines s h = subst (λ (x : List Lexeme). starts_line x ≡ true) (sym (kinds_of_lines (q ++ more) ts lines h)) (lines_start q more s)
+part_starts : (q : List Line) (ts : List (ℕ × Lexeme)) → AreLines q → Starts q → IsTextOf (concat q) ts → starts_line (kinds ts) ≡ true
+part_starts q ts lines s h = subst (λ (x : List Lexeme). starts_line x ≡ true) (sym (kinds_of_lines q ts lines h)) (lines_start q s)
 
 part_ends : (k : ItemType) (p : List Line) (ts : List (ℕ × Lexeme)) → AreLines p → EndsItem k p → IsTextOf (concat p) ts → LastEnds k (kinds ts)
 part_ends k p ts lines ends h = subst (λ (x : List Lexeme). LastEnds k x) (sym (kinds_of_lines p ts lines h)) ends
-
-two_parts : (k : ItemType) (p q : List Line) (ps : List (List Line)) → concat (all_lines (p ∷ (q ∷ ps))) ≡ concat p ++ concat (all_lines (q ∷ ps))
-two_parts k p q ps = concat-append p (all_lines (q ∷ ps))
 
 whole_parts : (k : ItemType) (ps : List (List Line)) (ws : List Item) → AreLines (all_lines ps) → AreCut k ps → TextSpells k (concat (all_lines ps)) ws → PartsSpell k ps ws
 whole_parts k [] ws lines cut h = text_alone k [] ws [] h (none_spelled k)
@@ -30,9 +27,9 @@ whole_parts k (p ∷ []) ws lines cut h = (ws, [], sym (append-nil ws), subst (�
 whole_parts k (p ∷ (q ∷ ps)) ws lines cut h =
     let more = all_lines ps in
     let p_lines = lines_front p (q ++ more) (starts_not_none (q ++ more) (starts_with_more q more cut.1)) lines in
-    let text = subst (λ (x : List ℕ). TextSpells k x ws) (two_parts k p q ps) h in
+    let text = subst (λ (x : List ℕ). TextSpells k x ws) (concat-append p (q ++ more)) h in
     let rest_lines = lines_back p (q ++ more) lines in
-    let r = part_by k (concat p) (concat (q ++ more)) ws (lines_of p p_lines) (λ ts v. part_ends k p ts (all_are_lines p p_lines) cut.0 v) (λ vs u. part_starts q more vs rest_lines cut.1 u) text in
+    let r = part_by k (concat p) (concat (q ++ more)) ws (lines_of p p_lines) (λ ts v. part_ends k p ts (all_are_lines p p_lines) cut.0 v) (λ vs u. part_starts (q ++ more) vs rest_lines (starts_with_more q more cut.1) u) text in
     (r.0, r.1, r.2, r.3, whole_parts k (q ∷ ps) r.1 rest_lines cut.2 r.4)
 
 parts_whole : (k : ItemType) (ps : List (List Line)) (ws : List Item) → AreLines (all_lines ps) → AreCut k ps → PartsSpell k ps ws → TextSpells k (concat (all_lines ps)) ws
@@ -45,7 +42,7 @@ parts_whole k (p ∷ (q ∷ ps)) ws lines cut h =
     let p_lines = lines_front p (q ++ more) (starts_not_none (q ++ more) (starts_with_more q more cut.1)) lines in
     let rest = parts_whole k (q ∷ ps) h.1 (lines_back p (q ++ more) lines) cut.2 h.4 in
     subst (λ (x : List Item). TextSpells k (concat (all_lines (p ∷ (q ∷ ps)))) x) (sym h.2)
-    (subst (λ (x : List ℕ). TextSpells k x (h.0 ++ h.1)) (sym (two_parts k p q ps)) (items_join k (concat p) (concat (q ++ more)) h.0 h.1 (lines_of p p_lines) h.3 rest))
+    (subst (λ (x : List ℕ). TextSpells k x (h.0 ++ h.1)) (sym (concat-append p (q ++ more))) (items_join k (concat p) (concat (q ++ more)) h.0 h.1 (lines_of p p_lines) h.3 rest))
 
 pub spells_by_parts : SpellsByParts
 spells_by_parts k text ps ws a = (

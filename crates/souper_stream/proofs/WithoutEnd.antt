@@ -39,12 +39,6 @@ absent_front w xs bs starts h front back here =
 absent_back : (w a b : List ℕ) → IsAbsent w (a ++ b) → IsAbsent w b
 absent_back w a b h front back here = h (a ++ front) back (ap (λ (x : List ℕ). a ++ x) here ∙ sym (append_assoc a front (w ++ back)))
 
-occurs : (bs w front back : List ℕ) → bs ≡ front ++ (w ++ back) → OccursAt bs w (length front)
-occurs bs w front back e =
-    let n = ap length e ∙ length-append front (w ++ back) in
-    let m = length-append w back in
-    OccursAt-from_part bs w (length front) (omega arith) ((λ i. take (length w) (drop (length front) (e i))) ∙ ap (λ (x : List ℕ). take (length w) x) (drop-append_seam front (w ++ back)) ∙ take-append_seam w back)
-
 -- the word is not found before the place
 pub absent_before : (bs w : List ℕ) (n : ℕ) → 0 < length w → ((k : ℕ) → k < n → k < length bs + 1 → OccursAt bs w k → ⊥) → IsAbsent w (take n bs)
 absent_before bs w n some none front back e =
@@ -52,7 +46,9 @@ absent_before bs w n some none front back e =
     let k = length-take n bs in
     let whole : bs ≡ front ++ (w ++ (back ++ drop n bs)) =
     sym (take-append-drop n bs) ∙ ap (λ (x : List ℕ). x ++ drop n bs) e ∙ append_assoc front (w ++ back) (drop n bs) ∙ ap (λ (x : List ℕ). front ++ x) (append_assoc w back (drop n bs)) in
-    none (length front) (omega arith) (omega arith) (occurs bs w front (back ++ drop n bs) whole)
+    let long = ap length whole ∙ length-append front (w ++ (back ++ drop n bs)) ∙ ap (λ (x : ℕ). length front + x) (length-append w (back ++ drop n bs)) in
+    let at = ap (take (length w)) (ap (drop (length front)) whole ∙ drop-append_seam front (w ++ (back ++ drop n bs))) ∙ take-append_seam w (back ++ drop n bs) in
+    none (length front) (omega arith) (omega arith) (OccursAt-from_part bs w (length front) (omega arith) at)
 
 pub end_word_some : (k : ItemType) (w : List ℕ) → end_word k w ≡ true → 0 < length w
 end_word_some left_hand_side [] h = absurd cc

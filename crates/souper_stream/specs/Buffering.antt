@@ -1,6 +1,7 @@
--- Definitions. The buffer of a stream, and its relation to the bytes read and to the parsed text (`done`).
+-- Definitions. The buffer of a stream, and its relation to the parsed text (`done`).
 use Rattle.std.specs.Prelude.{◌≡◌, ◌⊎◌, ℕ, ◌+◌, ◌-◌, ◌^◌, ◌<◌, ◌≤◌, List, [], ◌++◌, length, min, take, drop}
 use Rattle.souper_graph.specs.Syntax.Tokens.{IsOneLine}
+use Rattle.souper_ir.specs.declared.parse.error.Before.{Before}
 use Rattle.souper_ir.specs.Errors.{IsBefore}
 use Rattle.souper_ir.specs.Places.{newlines}
 use Rattle.souper_ir.specs.Joining.{IsLines}
@@ -14,20 +15,19 @@ held b = drop b.start b.bytes.items
 abbrev pub unparsed : Buffer → List ℕ
 unparsed b = drop b.parsed (held b)
 
--- Of the bytes read, whole lines were counted, and the rest is held, which begins with the end of the parsed text.
-pub record Buffers (read done : List ℕ) (b : Buffer) : Type 0 where
+-- Of the parsed text, whole lines were counted. The rest of it is one line at most, and the first `parsed` bytes that are held.
+pub record Parses (done bytes : List ℕ) (parsed : ℕ) (before : Before) : Type 0 where
   pub gone : List ℕ
-  pub whole : read ≡ gone ++ held b
   pub lines : IsLines gone
-  pub counted : length gone + 1 < 2 ^ 64 → IsBefore b.before gone
-  pub bound : b.start ≤ length b.bytes.items
-  pub within : b.parsed ≤ length (held b)
-  pub done_is : done ≡ gone ++ take b.parsed (held b)
-  pub placed : (0 < b.parsed) ⊎ (gone ≡ [])
+  pub counted : length gone + 1 < 2 ^ 64 → IsBefore before gone
+  pub within : parsed ≤ length bytes
+  pub done_is : done ≡ gone ++ take parsed bytes
+  pub placed : (0 < parsed) ⊎ (gone ≡ [])
+  pub one_line : IsOneLine (take (parsed - 1) bytes)
 
--- of the parsed text one line is held, if there is any
-abbrev pub KeepsOneLine : Buffer → Type 0
-KeepsOneLine b = IsOneLine (take (b.parsed - 1) (held b))
+-- the parsed text of a buffer
+abbrev pub Buffers : List ℕ → Buffer → Type 0
+Buffers done b = Parses done (held b) b.parsed b.before
 
 -- nothing was read
 pub record IsEmpty (b : Buffer) : Type 0 where
@@ -45,7 +45,7 @@ pub record Passes (old : Buffer) (len : ℕ) (new : Buffer) : Type 0 where
   pub bytes_are : new.bytes.items ≡ old.bytes.items
   pub start_is : new.start ≡ old.start + line
   pub parsed_is : new.parsed + line ≡ old.parsed + len
-  pub one_line : KeepsOneLine new
+  pub one_line : IsOneLine (take (new.parsed - 1) (held new))
   pub bytes_before : new.before.bytes ≡ min (old.before.bytes + line) (2 ^ 64 - 1)
   pub lines_before : new.before.lines ≡ min (old.before.lines + newlines (take line (held old))) (2 ^ 64 - 1)
 

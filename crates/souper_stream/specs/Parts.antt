@@ -10,7 +10,7 @@ use Rattle.souper_ir.specs.Joining.{IsLines}
 use Rattle.souper_ir.specs.Sinks.{PrefixSpells, TakesOver}
 use Rattle.souper_stream.specs.declared.buffer.Buffer.{Buffer}
 use Rattle.souper_stream.specs.declared.reader.ItemReader.{ItemReader}
-use Rattle.souper_stream.specs.Buffering.{unparsed, Buffers, KeepsOneLine}
+use Rattle.souper_stream.specs.Buffering.{unparsed, Buffers}
 use Rattle.souper_stream.specs.Lines.{first_line}
 use Rattle.souper_stream.specs.Segments.{Line, concat, IsLine, AreLines, HasNoCut, IsCut, AreCut, all_lines, AreParts}
 use Rattle.souper_stream.specs.Reading.{AreAll, NeverSpells}
@@ -28,23 +28,24 @@ abbrev pub and_next : List (List Line) → List Line → List (List Line)
 and_next ps [] = ps
 and_next ps (l ∷ ls) = ps ++ (l ∷ ls) ∷ []
 
--- These parts of a stream were read and parsed, and these lines are buffered after them. What was read after the last whole line before a
--- read that failed is lost.
-pub record HasRead (k : ItemType) (start now : Option (List ℕ)) (ps : List (List Line)) (ls : List Line) (b : Buffer) (ended failed : Bool) (rejected : ℕ) : Type 0 where
-  pub read : List ℕ
+-- These lines of a stream were read. What was read after the last whole line before a read that failed is lost.
+pub record HasLines (start now : Option (List ℕ)) (ls : List Line) (ended failed : Bool) : Type 0 where
   pub lost : List ℕ
-  pub consumed : Consumes start now (read ++ lost)
+  pub consumed : Consumes start now (concat ls ++ lost)
   pub none_lost : failed ≡ false → lost ≡ []
   pub not_failed : ended ≡ true → failed ≡ false
-  pub buffers : Buffers read (concat (all_lines ps)) b
+  pub all_read : ended ≡ true → AreAll start (concat ls)
+  pub are : AreLines ls
+  pub whole : ended ≡ false → AllByRecursion IsLine ls
+
+-- these parts of a stream were read and parsed, and these lines are buffered after them
+pub record HasRead (k : ItemType) (start now : Option (List ℕ)) (ps : List (List Line)) (ls : List Line) (b : Buffer) (ended failed : Bool) (rejected : ℕ) : Type 0 where
+  pub lines : HasLines start now (all_lines ps ++ ls) ended failed
+  pub buffers : Buffers (concat (all_lines ps)) b
   pub rest : unparsed b ≡ concat ls
-  pub lines : AreLines (all_lines ps ++ ls)
   pub cut : AreCut k (and_next ps ls)
-  pub whole : ended ≡ false → AllByRecursion IsLine (all_lines ps ++ ls)
   pub some : ended ≡ false → ls ≡ [] → ps ≡ []
-  pub all_read : ended ≡ true → AreAll start read
   pub chunk : 0 < rejected → IsChunk k ended ls rejected
-  pub one_line : KeepsOneLine b
   pub drained : rejected ≡ 0 → b.start ≡ 0
 
 -- these parts of a stream were read and parsed
@@ -64,8 +65,8 @@ abbrev pub IsOnLine : List ℕ → List ℕ → ℕ → Type 0
 IsOnLine done part line = length (done ++ part) + 1 < 2 ^ 64 → line ≡ first_line done part
 
 -- the line of the first `len` unparsed bytes
-abbrev pub HasLine : Buffer → ℕ → ℕ → Type 0
-HasLine b len line = (read done : List ℕ) → Buffers read done b → IsOnLine done (take len (unparsed b)) line
+unfoldable pub HasLine : Buffer → ℕ → ℕ → Type 0
+HasLine b len line = (done : List ℕ) → Buffers done b → IsOnLine done (take len (unparsed b)) line
 
 -- each part is one segment
 abbrev pub is_segmented : ItemReader → Bool
@@ -84,9 +85,8 @@ pub record Advances (old : Buffer) (ended failed : Bool) (new : ItemReader) (len
   pub ended_is : new.ended ≡ ended
   pub failed_is : is_some new.fault ≡ failed
   pub rejected_is : new.rejected ≡ rejected
-  pub buffers : (read done : List ℕ) → Buffers read done old → Buffers read (done ++ take len (unparsed old)) new.buffer
+  pub buffers : (done : List ℕ) → Buffers done old → Buffers (done ++ take len (unparsed old)) new.buffer
   pub rest : unparsed new.buffer ≡ drop len (unparsed old)
-  pub one_line : KeepsOneLine new.buffer
   pub drained : rejected ≡ 0 → new.buffer.start ≡ 0
 
 -- a sink that held nothing holds the items

@@ -1,15 +1,13 @@
 -- Definitions. Reads of a stream, and their outcomes.
-use Rattle.std.specs.Prelude.{◌≡◌, ◌⊎◌, ℕ, ◌+◌, ◌^◌, ◌<◌, ◌≤◌, Bool, true, false, List, ◌++◌, length, Option, IfSome}
+use Rattle.std.specs.Prelude.{◌≡◌, ◌⊎◌, ℕ, ◌+◌, ◌^◌, ◌<◌, ◌≤◌, Bool, true, false, List, [], ◌++◌, length, Option, IfSome}
 use Rattle.std.specs.Io.KnownBytes.{Consumes}
 use Rattle.souper_graph.specs.Values.{Item}
-use Rattle.souper_graph.specs.Syntax.Tokens.{IsOneLine}
 use Rattle.souper_graph.specs.Syntax.Spelling.{ItemType, SpellsNone}
 use Rattle.souper_ir.specs.declared.parse.error.ParseError.{ParseError}
 use Rattle.souper_ir.specs.Errors.{IsRefusalAt}
 use Rattle.souper_ir.specs.Joining.{IsLines}
 use Rattle.souper_ir.specs.Places.{EndsIn}
 use Rattle.souper_ir.specs.Sinks.{TakesOver, TakesText, PrefixSpells}
-use Rattle.souper_stream.specs.Segments.{Line, IsLine}
 
 -- if the bytes of a reader are known, they are these
 abbrev pub AreAll : Option (List ℕ) → List ℕ → Type 0
@@ -20,31 +18,28 @@ pub record Reads (before after : Option (List ℕ)) (old new more : List ℕ) : 
   pub held : new ≡ old ++ more
   pub consumed : Consumes before after more
 
--- whole lines were read and appended to the buffer, and the bytes after them were read and are lost
-pub record ReadsLines (before after : Option (List ℕ)) (old new : List ℕ) : Type 0 where
-  pub more : List ℕ
-  pub lost : List ℕ
-  pub held : new ≡ old ++ more
-  pub consumed : Consumes before after (more ++ lost)
-  pub lines : IsLines more
-
 -- these bytes were read and appended to the buffer; if the input has ended, they are all that was left of it
 pub record ReadsMore (before after : Option (List ℕ)) (old new : List ℕ) (ended : Bool) (more : List ℕ) : Type 0 where
   pub held : new ≡ old ++ more
   pub consumed : Consumes before after more
   pub all_read : ended ≡ true → AreAll before more
 
--- a line was read; if the input has ended, it has no newline, or is empty
-pub record ReadsLine (before after : Option (List ℕ)) (old new : List ℕ) (ended : Bool) (line : Line) : Type 0 where
-  pub held : new ≡ old ++ line
-  pub consumed : Consumes before after line
-  pub whole : ended ≡ false → IsLine line
-  pub part : ended ≡ true → IsOneLine line
-  pub all_read : ended ≡ true → AreAll before line
+-- these bytes were read and appended to the buffer, and end in a newline, unless the input has ended
+pub record ReadsLines (before after : Option (List ℕ)) (old new : List ℕ) (ended : Bool) : Type 0 where
+  pub more : List ℕ
+  pub read : ReadsMore before after old new ended more
+  pub ends : ended ≡ false → EndsIn more 10
 
--- the bytes end in a whole line
-abbrev pub EndsInLine : List ℕ → Type 0
-EndsInLine bs = EndsIn bs 10
+-- whole lines were read and appended to the buffer, and with the input's end a part of one; bytes after them are lost, if a read failed
+pub record Fills (before after : Option (List ℕ)) (old new : List ℕ) (ended failed : Bool) : Type 0 where
+  pub more : List ℕ
+  pub lost : List ℕ
+  pub held : new ≡ old ++ more
+  pub consumed : Consumes before after (more ++ lost)
+  pub none_lost : failed ≡ false → lost ≡ []
+  pub not_failed : ended ≡ true → failed ≡ false
+  pub lines : ended ≡ false → IsLines more
+  pub all_read : ended ≡ true → AreAll before more
 
 -- all of a stream was read, it spells items, and the sink took them
 pub record IsStreamTaken {S : Type 0} (k : ItemType) (before after : Option (List ℕ)) (holds : S → S → List Item → Type 0) (old new : S) : Type 0 where

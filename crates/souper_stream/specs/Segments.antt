@@ -2,7 +2,6 @@
 -- starts if it begins with a statement, or with one of an item's last lines. A lexical fault hides the tokens after it on its line, and
 -- no others; so the next segment can be parsed though this one is invalid.
 use Rattle.std.specs.Prelude.{◌≡◌, ◌⊎◌, ◌↔◌, ℕ, ◌-◌, ◌<◌, true, List, [], ◌∷◌, ◌++◌, length, take, drop}
-use Rattle.std.specs.List.{AllByRecursion}
 use Rattle.souper_graph.specs.Values.{Item}
 use Rattle.souper_graph.specs.Syntax.Tokens.{Lexeme, IsOneLine}
 use Rattle.souper_graph.specs.Syntax.Spelling.{kinds, ItemType, TextSpells}
@@ -75,11 +74,6 @@ pub record AreParts (k : ItemType) (text : List ℕ) (ps : List (List Line)) : T
   pub whole : text ≡ concat (all_lines ps)
   pub lines : AreLines (all_lines ps)
   pub cut : AreCut k ps
-
--- the text is these segments: it is cut at every cut point, and nowhere else
-pub record AreSegments (k : ItemType) (text : List ℕ) (ps : List (List Line)) : Type 0 where
-  pub parts : AreParts k text ps
-  pub uncut : AllByRecursion (HasNoCut k) ps
 
 -- each part spells its items, and `ws` has the items of all parts, in order
 abbrev pub PartsSpell : ItemType → List (List Line) → List Item → Type 0

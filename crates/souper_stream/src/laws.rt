@@ -11,6 +11,7 @@ ghost use Rattle.souper_stream.specs.Segments.{SpellsByParts};
 /// segment is refused.
 ///
 /// [`ItemReader`]: crate::ItemReader
+#[tactic(auto, using(crate::proofs::SegmentLaws::spells_by_parts))]
 pub fn law_of_parts()
     ensures { SpellsByParts }
 {}

@@ -1,8 +1,8 @@
 //! The lines of a text, and which of them begin or end an item.
-ghost use Rattle.std.specs.Prelude.{◌≡◌, ◌≤◌, ◌<◌, ◌∷◌, List, [], length, take, drop, true, false, IfOk, IfSome, IsUtf8};
+ghost use Rattle.std.specs.Prelude.{◌≡◌, ◌≤◌, ◌<◌, ◌∷◌, [], length, take, drop, true, false, IfOk, IfSome, IsUtf8};
 ghost use Rattle.std.specs.Io.{StartsWith};
 ghost use Rattle.std.specs.Io.BufRead.{take_through};
-ghost use Rattle.souper_graph.specs.Syntax.Tokens.{Lexeme};
+ghost use Rattle.souper_graph.specs.Syntax.Tokens.{IsOneLine};
 ghost use Rattle.souper_graph.specs.Syntax.Spelling.{kinds};
 ghost use Rattle.souper_lexer.specs.TokenReading.{lexed_of};
 ghost use Rattle.souper_lexer.specs.TokenView.{lexeme_of, Yields};
@@ -45,10 +45,7 @@ fn shows_line(named: bool, token: Token<'_>) -> bool
 fn is_name(token: Token<'_>) -> bool
     ensures { result ≡ is_name (lexeme_of token.entry) }
 {
-    match token {
-        Token::ValName(_) => true,
-        _ => false,
-    }
+    matches!(&token, Token::ValName(_))
 }
 
 // The next token. It is lexed as the parser lexes it, so that a program has one caller of `Lexer::next_token`.
@@ -141,11 +138,7 @@ pub(crate) fn scan_line<T: StreamItem>(line: &str, before: ScanState) -> ScanSta
 fn defines(token: Token<'_>) -> bool
     ensures { result ≡ defines (lexeme_of token.entry ∷ []) }
 {
-    match token {
-        Token::Eq => true,
-        Token::Colon => true,
-        _ => false,
-    }
+    matches!(&token, Token::Eq | Token::Colon)
 }
 
 /// Whether the line begins with a statement, or is one of an item's last lines.
@@ -195,16 +188,14 @@ pub(crate) fn last_line_start(text: &[u8]) -> usize
     requires { 0 < length text.now }
     ensures { IsLastLineAt text.now result }
 {
-    match memrchr(b'\n', &text[..text.len() - 1]) {
-        Some(index) => index + 1,
-        None => 0,
-    }
+    lines_len(&text[..text.len() - 1])
 }
 
 /// The length of the whole lines that the bytes begin with.
 pub(crate) fn lines_len(bytes: &[u8]) -> usize
     ensures bound { result ≤ length bytes.now }
     ensures lines { IsLines (take result bytes.now) }
+    ensures rest { IsOneLine (drop result bytes.now) }
 {
     match memrchr(b'\n', bytes) {
         Some(index) => index + 1,

@@ -1,12 +1,11 @@
 //! The reader of a stream: chunks of whole segments, and the segments of a chunk that spells no items.
-ghost use Rattle.std.specs.Prelude.{◌≡◌, ◌+◌, ◌<◌, ◌≤◌, ℕ, List, [], length, take, true, false, Option, is_some, IfOk, IfErr, IfSome, IfNone, OnOk, vec_len, option_copied};
+ghost use Rattle.std.specs.Prelude.{◌≡◌, ◌+◌, ◌<◌, ◌≤◌, ℕ, List, [], length, take, true, false, Option, is_some, IfOk, IfErr, IfSome, IfNone, OnOk, vec_len, option_copied, IsUtf8};
 ghost use Rattle.souper_graph.specs.Syntax.Spelling.{ItemType};
-ghost use Rattle.souper_graph.specs.Values.{Item};
 ghost use Rattle.souper_ir.specs.Errors.{kind_of, offset_of, IsLocatedAfter};
-ghost use Rattle.souper_ir.specs.Sinks.{TakesOver, TakesText};
+ghost use Rattle.souper_ir.specs.Sinks.{TakesText};
 ghost use Rattle.souper_stream.specs.Buffering.{held, unparsed};
 ghost use Rattle.souper_stream.specs.Segments.{Line};
-ghost use Rattle.souper_stream.specs.Reading.{Reads, ReadsMore, ReadsLine, ReadsLines, EndsInLine};
+ghost use Rattle.souper_stream.specs.Reading.{Reads, ReadsMore, ReadsLines, Fills};
 ghost use Rattle.souper_stream.specs.Parts.{Advances, LeavesChunk, Rejects, HasParts, HasAll, HasLine, line_of, is_segmented, IsNext, TakesPart, RefusesPart};
 
 use crate::buffer::{Buffer, newline_count};
@@ -57,7 +56,7 @@ fn fill_blocks<R: BufRead>(reader: &mut R, bytes: &mut Vec<u8>, goal: usize) -> 
 
 // Reads a line, and returns whether the input has ended: it is then empty, or has no newline.
 fn read_line<R: BufRead>(reader: &mut R, bytes: &mut Vec<u8>) -> io::Result<bool>
-    ensures read { IfOk result (λ ended. (line : Line) × ReadsLine (R.remaining reader.old) (R.remaining reader.new) bytes.old.items bytes.new.items ended line) }
+    ensures read { IfOk result (λ ended. ReadsLines (R.remaining reader.old) (R.remaining reader.new) bytes.old.items bytes.new.items ended) }
     ensures failed { IfErr result (λ e. (more : List ℕ) × Reads (R.remaining reader.old) (R.remaining reader.new) bytes.old.items bytes.new.items more) }
 {
     let len = reader.read_until(b'\n', bytes)?;
@@ -66,8 +65,7 @@ fn read_line<R: BufRead>(reader: &mut R, bytes: &mut Vec<u8>) -> io::Result<bool
 
 // Reads until `goal` bytes are buffered, and the line after them, or until the input has ended. Returns whether it has ended.
 fn fill_lines<R: BufRead>(reader: &mut R, bytes: &mut Vec<u8>, goal: usize) -> io::Result<bool>
-    ensures read { IfOk result (λ ended. (more : List ℕ) × ReadsMore (R.remaining reader.old) (R.remaining reader.new) bytes.old.items bytes.new.items ended more
-        × (ended ≡ false → EndsInLine more)) }
+    ensures read { IfOk result (λ ended. ReadsLines (R.remaining reader.old) (R.remaining reader.new) bytes.old.items bytes.new.items ended) }
     ensures failed { IfErr result (λ e. (more : List ℕ) × Reads (R.remaining reader.old) (R.remaining reader.new) bytes.old.items bytes.new.items more) }
 {
     if fill_blocks(reader, bytes, goal)? {
@@ -78,9 +76,8 @@ fn fill_lines<R: BufRead>(reader: &mut R, bytes: &mut Vec<u8>, goal: usize) -> i
 
 // The same, but if a read fails, the whole lines that were read before it stay in the buffer, and no part of a line.
 fn fill<R: BufRead>(reader: &mut R, bytes: &mut Vec<u8>, goal: usize) -> io::Result<bool>
-    ensures read { IfOk result (λ ended. (more : List ℕ) × ReadsMore (R.remaining reader.old) (R.remaining reader.new) bytes.old.items bytes.new.items ended more
-        × (ended ≡ false → EndsInLine more)) }
-    ensures failed { IfErr result (λ e. ReadsLines (R.remaining reader.old) (R.remaining reader.new) bytes.old.items bytes.new.items) }
+    ensures read { IfOk result (λ ended. Fills (R.remaining reader.old) (R.remaining reader.new) bytes.old.items bytes.new.items ended false) }
+    ensures failed { IfErr result (λ e. Fills (R.remaining reader.old) (R.remaining reader.new) bytes.old.items bytes.new.items false true) }
 {
     let start = bytes.len();
     match fill_lines(reader, bytes, goal) {
@@ -122,14 +119,21 @@ fn place(
     }
 }
 
-// The 1-based line of the first token of the text, with which the unparsed bytes begin.
-fn first_line(buffer: &Buffer, text: &str) -> usize
-    requires { buffer.now.start + buffer.now.parsed ≤ vec_len buffer.now.bytes }
-    ensures { text.now ≡ take (length text.now) (unparsed buffer.now) → HasLine buffer.now (length text.now) result }
+// The first `len` unparsed bytes as text, and the 1-based line of its first token. The error says that they are not UTF-8.
+#[tactic(auto, unfolding(crate::specs::Parts::HasLine))]
+fn text_and_line(buffer: &Buffer, len: usize) -> io::Result<(&str, usize)>
+    requires { buffer.now.start + buffer.now.parsed + len ≤ vec_len buffer.now.bytes }
+    ensures text { IfOk result (λ next. next.0.now ≡ take len (unparsed buffer.now)) }
+    ensures utf8 { IfOk result (λ next. IsUtf8 next.0.now) }
+    ensures line { IfOk result (λ next. HasLine buffer.now len next.1) }
 {
+    let text = utf8(&buffer.unparsed()[..len])?;
     let gap = &text.as_bytes()[..first_offset(text)];
     let lines = newline_count(buffer.held(0)).saturating_add(newline_count(gap));
-    buffer.before.lines.saturating_add(lines).saturating_add(1)
+    Ok((
+        text,
+        buffer.before.lines.saturating_add(lines).saturating_add(1),
+    ))
 }
 
 /// Reads a stream part by part.
@@ -209,21 +213,26 @@ impl ItemReader {
         self.line
     }
 
-    // Reads more of the stream. The error of a read that fails is kept.
-    fn read_more<R: BufRead>(&mut self, reader: &mut R)
+    // Reads more of the stream, if it has not ended. The error of a read that fails is returned by the next call, after the segments before it.
+    fn read_more<R: BufRead>(&mut self, reader: &mut R) -> io::Result<()>
         requires parsed { self.old.buffer.start + self.old.buffer.parsed ≤ vec_len self.old.buffer.bytes }
         requires none { self.old.rejected ≡ 0 }
-        requires going { self.old.ended ≡ false }
-        requires well { is_some self.old.fault ≡ false }
         ensures same { is_segmented self.new ≡ is_segmented self.old }
         ensures parsed { self.new.buffer.start + self.new.buffer.parsed ≤ vec_len self.new.buffer.bytes }
         ensures none { self.new.rejected ≡ 0 }
-        ensures read { (k : ItemType) (start : Option (List ℕ)) (ps : List (List Line)) → HasParts k start (R.remaining reader.old) ps self.old → HasParts k start (R.remaining reader.new) ps self.new }
+        ensures read { OnOk result ((k : ItemType) (start : Option (List ℕ)) (ps : List (List Line)) → HasParts k start (R.remaining reader.old) ps self.old → HasParts k start (R.remaining reader.new) ps self.new) }
     {
+        if self.ended {
+            return Ok(());
+        }
+        if let Some(fault) = self.fault.take() {
+            return Err(fault);
+        }
         match fill(reader, &mut self.buffer.bytes, self.goal) {
             Ok(ended) => self.ended = ended,
             Err(fault) => self.fault = Some(fault),
         }
+        Ok(())
     }
 
     // Reads up to the end of the next chunk, and returns its length in bytes, which is 0 if the stream has ended.
@@ -235,15 +244,9 @@ impl ItemReader {
             → IsNext T.item_type start (R.remaining reader.new) ps self.new len) }
     {
         for _turn in 0..u64::MAX {
-            if let Some(fault) = self.fault.take() {
-                return Err(fault);
-            }
+            self.read_more::<R>(reader)?;
             if self.ended {
                 return Ok(self.buffer.unparsed().len());
-            }
-            self.read_more::<R>(reader);
-            if self.ended {
-                continue;
             }
             let cut = last_cut::<T>(self.buffer.unparsed());
             if cut > 0 {
@@ -290,8 +293,7 @@ impl ItemReader {
         ensures same { is_segmented self.new ≡ is_segmented self.old }
         ensures left { IfErr result (λ e. (kind_of e ≡ ParseErrorKind.Memory → ⊥) → LeavesChunk self.old self.new S.holds sink.old sink.new) }
     {
-        let text = utf8(&self.buffer.unparsed()[..len])?;
-        let line = first_line(&self.buffer, text);
+        let (text, line) = text_and_line(&self.buffer, len)?;
         parse_with_memory::<T, S>(alloc, &mut self.memory, text, None, sink)?;
         self.line = line;
         self.pass(alloc, len, 0)?;
@@ -354,8 +356,8 @@ impl ItemReader {
     {
         let rejected = self.rejected;
         let len = segment_len::<T>(&self.buffer.unparsed()[..rejected])?;
-        let text = utf8(&self.buffer.unparsed()[..len])?;
-        self.line = first_line(&self.buffer, text);
+        let (text, line) = text_and_line(&self.buffer, len)?;
+        self.line = line;
         let parsed = match parse_with_memory::<T, S>(alloc, &mut self.memory, text, None, sink) {
             Ok(()) => Ok(true),
             Err(error) => Err(place(alloc, &self.buffer, len, error, filename)),

@@ -1,7 +1,7 @@
 use Rattle.std.proofs.Common.{◌≤◌, length, refl, ◌∙◌, arith}
 use Rattle.std.proofs.lemmas.List.{length-drop}
 use Rattle.souper_stream.specs.Buffering.{held, unparsed}
-use Rattle.souper_stream.proofs.Buffers.{unparsed_passed, buffers_passed, buffers_drained, one_line_drained, unparsed_drained}
+use Rattle.souper_stream.proofs.Buffers.{unparsed_passed, buffers_passed, buffers_drained, unparsed_drained}
 use Rattle.souper_stream.proofs.reader.ItemReader.pass.Goals as goal
 
 pub returns-in_ok-drain-clause-advanced : goal.returns-in_ok-drain-clause-advanced
@@ -17,9 +17,8 @@ returns-in_ok-drain-clause-advanced c =
       ended_is = refl;
       failed_is = refl;
       rejected_is = refl;
-      buffers = λ read done b. buffers_drained read _ mid new (buffers_passed old mid len p read done b fits) d;
+      buffers = λ done b. buffers_drained mid new d _ (buffers_passed old mid len p done b fits);
       rest = unparsed_drained mid new d ∙ unparsed_passed old mid len p;
-      one_line = one_line_drained mid new d p.one_line;
       drained = λ e. d.start_is;
     }
 
@@ -34,8 +33,7 @@ returns-else-rejected-eq0-clause-advanced c =
       ended_is = refl;
       failed_is = refl;
       rejected_is = refl;
-      buffers = λ read done b. buffers_passed old mid len p read done b fits;
+      buffers = λ done b. buffers_passed old mid len p done b fits;
       rest = unparsed_passed old mid len p;
-      one_line = p.one_line;
       drained = λ e. absurd (c.if-rejected-eq0.false e);
     }

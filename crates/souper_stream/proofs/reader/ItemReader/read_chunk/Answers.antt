@@ -2,8 +2,7 @@ use Rattle.std.proofs.Common.{rules, ◌≡◌, ◌<◌, ◌∙◌, refl, arith}
 use Rattle.souper_ir.specs.declared.parse.error.ParseErrorKind.TheVariants.{Memory}
 use Rattle.souper_ir.specs.Errors.{kind_of}
 use Rattle.souper_stream.specs.declared.reader.ItemReader.{ItemReader}
-use Rattle.souper_stream.proofs.Buffers.{buffers_fit}
-use Rattle.souper_stream.proofs.Passing.{begin_chunk, chunk_within, chunk_taken}
+use Rattle.souper_stream.proofs.Passing.{begin_chunk, chunk_fits, chunk_taken}
 use Rattle.souper_stream.proofs.reader.ItemReader.read_chunk.Goals as goal
 
 pub returns-in-Ok-eq0-clause-ended : goal.returns-in-Ok-eq0-clause-ended
@@ -13,7 +12,7 @@ pub returns-then-self-clause-rejected : goal.returns-then-self-clause-rejected
 returns-then-self-clause-rejected g c =
     let some : 0 < c.in-Ok.len = omega (arith, c.in-Ok.len-test) in
     let r = c.next_chunk.new.self in
-    let q : ItemReader = record { buffer = r.buffer; min_chunk = r.min_chunk; goal = r.goal; by_segments = r.by_segments; ended = r.ended; fault = r.fault; rejected = c.in-Ok.len; line = r.line; memory = r.memory } in
+    let q : ItemReader = record r { rejected = c.in-Ok.len } in
     record {
       some = some;
       goes_on = λ start ps had. begin_chunk g.T.Item.item_type start (g.R.Read.remaining c.next_chunk.new.reader) ps r q c.in-Ok.len (c.in-Ok.ensures.next start ps had) some refl refl refl refl;
@@ -25,7 +24,7 @@ parse_chunk-requires-clause-within g c =
     let some : 0 < c.in-Ok.len = omega (arith, c.in-Ok.len-test) in
     let r = c.next_chunk.new.self in
     let n = c.in-Ok.ensures.next c.requires.had.0 c.requires.had.1 c.requires.had.2 in
-    omega (arith, buffers_fit n.1.read _ r.buffer c.in-Ok.len n.1.buffers (chunk_within g.T.Item.item_type r.ended n.0 c.in-Ok.len r.buffer n.1.rest (n.3 some)), r.buffer.bytes.ok)
+    omega (arith, chunk_fits g.T.Item.item_type r.ended n.0 c.in-Ok.len r.buffer n.1.rest (n.3 some) some, r.buffer.bytes.ok)
 
 pub returns-in-Ok-parse_chunk-clause-read : goal.returns-in-Ok-parse_chunk-clause-read
 returns-in-Ok-parse_chunk-clause-read g c = λ e start ps had.
@@ -40,7 +39,7 @@ returns-in-Err-2-clause-rejected g c =
     let not_memory : kind_of c.in-Err-2.field-0 ≡ Memory → ⊥ = search rules in
     let left = c.in-Err-2.ensures.left not_memory in
     let r = c.parse_chunk.new.self in
-    let q : ItemReader = record { buffer = r.buffer; min_chunk = r.min_chunk; goal = r.goal; by_segments = r.by_segments; ended = r.ended; fault = r.fault; rejected = c.in-Ok.len; line = r.line; memory = r.memory } in
+    let q : ItemReader = record r { rejected = c.in-Ok.len } in
     record {
       some = some;
       goes_on = λ start ps had. begin_chunk g.T.Item.item_type start (g.R.Read.remaining c.next_chunk.new.reader) ps c.next_chunk.new.self q c.in-Ok.len (c.in-Ok.ensures.next start ps had) some left.buffer_is left.ended_is left.fault_is refl;

@@ -1,22 +1,21 @@
 use Rattle.std.proofs.Common.{arith}
 use Rattle.std.specs.Prelude.{option_copied}
 use Rattle.std.proofs.lemmas.Result.{IfOk-weaker, IfErr-weaker}
-use Rattle.souper_stream.proofs.Buffers.{buffers_fit}
-use Rattle.souper_stream.proofs.Passing.{chunk_within, taken_after, refused_after}
+use Rattle.souper_stream.proofs.Passing.{chunk_fits, taken_after, refused_after}
 use Rattle.souper_stream.proofs.reader.ItemReader.read_part.Goals as goal
 
 pub read_segment-requires-clause-within : goal.read_segment-requires-clause-within
 read_segment-requires-clause-within g c =
     let r = c.args.self.now in
     let (ls, h) = c.requires.2 in
-    omega (arith, buffers_fit h.read _ r.buffer r.rejected h.buffers (chunk_within g.T.Item.item_type r.ended ls r.rejected r.buffer h.rest (h.chunk c.if-self-gt0.true)), r.buffer.bytes.ok)
+    omega (arith, chunk_fits g.T.Item.item_type r.ended ls r.rejected r.buffer h.rest (h.chunk c.if-self-gt0.true) c.if-self-gt0.true, r.buffer.bytes.ok)
 
 pub read_segment-requires-in-None-clause-within : goal.read_segment-requires-in-None-clause-within
 read_segment-requires-in-None-clause-within g c =
     let r = c.read_chunk.new.self in
     let e = rw c.in-None.is at c.in_ok-more.ensures.rejected in
     let (ls, h) = e.goes_on c.requires.0 c.requires.1 c.requires.2 in
-    omega (arith, buffers_fit h.read _ r.buffer r.rejected h.buffers (chunk_within g.T.Item.item_type r.ended ls r.rejected r.buffer h.rest (h.chunk e.some)), r.buffer.bytes.ok)
+    omega (arith, chunk_fits g.T.Item.item_type r.ended ls r.rejected r.buffer h.rest (h.chunk e.some) e.some, r.buffer.bytes.ok)
 
 pub returns-in-None-clause-read : goal.returns-in-None-clause-read
 returns-in-None-clause-read g c =
