@@ -89,11 +89,7 @@ module _ (old new : Buffer) (len : ℕ) (f : Passes old len new) where
 
 -- no place is after the last newline of lines
 place_in_lines : (front body : List ℕ) (position : ℕ) → IsLines (front ++ body) → newlines body ≡ 0 → length front ≤ position → position + 1 ≤ length (front ++ body) → ⊥
-place_in_lines front body position lines none from until = under (lines_end front body lines)
-  where
-    under : IsLines body → ⊥
-    under (inl e) = let n = ap length (ap (λ (x : List ℕ). front ++ x) e ∙ append-nil front) in omega arith
-    under (inr end) = let count = ap newlines end.1 ∙ newlines-append end.0 (10 ∷ []) in omega arith
+place_in_lines front body position lines none from until = let end = lines_end front body lines in grind (arith, length-append {A = ℕ}, newlines-append)
 
 -- a place in lines is there with more after them
 place_more : (source more : List ℕ) (offset line column : ℕ) (text : List ℕ) → 0 < length source → offset ≤ length source → IsLines source → IsPlace source offset line column text → IsPlace (source ++ more) offset line column text

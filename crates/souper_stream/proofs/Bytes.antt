@@ -1,5 +1,5 @@
 -- The bytes of a reader, from read to read.
-use Rattle.std.proofs.Common.{◌≡◌, ◌⊎◌, inl, inr, ℕ, ◌+◌, ◌-◌, ◌<◌, Bool, true, false, not, length, take, drop, get_or, get_or-append-add, eqb-true, length-append, arith, List, [], ◌∷◌, ◌++◌, Option, Some, None, refl, sym, ap, ◌∙◌, zero-le}
+use Rattle.std.proofs.Common.{◌≡◌, ◌⊎◌, inl, inr, ℕ, ◌+◌, ◌-◌, ◌<◌, Bool, true, false, not, length, take, drop, get_or, get_or-append-add, eqb-true, length-append, arith, List, [], ◌∷◌, ◌++◌, Option, Some, None, refl, sym, ap, ◌∙◌}
 use Rattle.std.specs.Prelude.{IfSome, ◌==◌, slice_index_or, if◌then◌else◌}
 use Rattle.std.specs.Io.{StartsWith, appended_bytes}
 use Rattle.std.specs.Io.BufRead.{take_through}
@@ -13,9 +13,7 @@ use Rattle.souper_stream.specs.Reading.{AreAll, ReadsLines}
 
 -- all the bytes that were left, after the bytes read before
 pub all_after : (a b : Option (List ℕ)) (bs cs : List ℕ) → Consumes a b bs → AreAll b cs → AreAll a (bs ++ cs)
-all_after None b bs cs h k = tt
-all_after (Some xs) None bs cs h k = absurd h
-all_after (Some xs) (Some ys) bs cs h k = h ∙ ap (λ (l : List ℕ). bs ++ l) k
+all_after a b bs cs h k = grind arith
 
 -- what is read up to a newline ends in it, or is all that was left
 through_ends : (xs : List ℕ) → EndsIn (take_through 10 xs) 10 ⊎ (take_through 10 xs ≡ xs)
@@ -55,6 +53,4 @@ line_reads before after old new last starts consumed longer last_is bytes =
 
 -- at the end of the input the buffer is empty
 pub all_shown : (known : Option (List ℕ)) (shown : List ℕ) (n : ℕ) → length shown ≡ 0 → IfSome known (λ xs. length shown ≡ 0 → xs ≡ []) → AreAll known (take n shown)
-all_shown None shown n none h = tt
-all_shown (Some xs) [] n none h = h refl ∙ sym (take_all n [] zero-le)
-all_shown (Some xs) (c ∷ shown) n none h = absurd (omega arith)
+all_shown known shown n none h = grind (arith, take_all {A = ℕ})

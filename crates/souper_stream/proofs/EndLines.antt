@@ -1,12 +1,11 @@
 -- An item has one line of those that end it, and it is the last.
 use Rattle.std.proofs.Common.{◌≡◌, ℕ, true, false, ◌⊎◌, inl, inr, List, [], ◌∷◌, ◌++◌, arith, refl, sym, ap, ◌∙◌, subst, append_assoc, append-nil}
-use Rattle.std.proofs.lemmas.Bool.{false_from_ne_true}
 use Rattle.std.specs.Prelude.{codes}
 use Rattle.std.specs.List.{AllByRecursion}
 use Rattle.souper_graph.specs.declared.ast.operands.Operand.{Operand}
 use Rattle.souper_graph.specs.Values.{PlainStatement, PlainInfer, PlainCand, inferred, resulting, replaced, candidate, Item}
 use Rattle.souper_graph.specs.Syntax.Tokens.{Lexeme, ident, val_name, comma}
-use Rattle.souper_graph.specs.Syntax.Spelling.{Scope, infer_spells, cand_spells, result_spells, IsOptionalComma, Statements, ItemType, left_hand_side, right_hand_side, replacement, Tail, tail_spells, item_spells, list_spells}
+use Rattle.souper_graph.specs.Syntax.Spelling.{Scope, infer_spells, cand_spells, result_spells, Statements, ItemType, left_hand_side, right_hand_side, replacement, Tail, tail_spells, item_spells, list_spells}
 use Rattle.souper_stream.specs.Lines.{last_word, end_word, is_end_word, starts_line, NoStart}
 use Rattle.souper_stream.proofs.Nodes.{not_last, all_append, is_last, NoLast, plain_no_last, operand_quiet, operand_not_defines, root_attributes_plain, root_attributes_not_define, plain_quiet, statement_no_last, statement_starts}
 
@@ -19,16 +18,14 @@ abbrev pub NoEnd : ItemType → List Lexeme → Type 0
 NoEnd k ts = AllByRecursion (λ t. is_end_word k t ≡ false) ts
 
 last_no_end : (k : ItemType) (t : Lexeme) → is_last t ≡ false → is_end_word k t ≡ false
-last_no_end k (ident w) h = false_from_ne_true (end_word k w) (λ e. let bad : last_word w ≡ true = end_is_last k w e in cc)
-last_no_end k _ h = refl
+last_no_end k t h = grind (arith, end_is_last k)
 
 no_last_no_end : (k : ItemType) (ts : List Lexeme) → NoLast ts → NoEnd k ts
 no_last_no_end k [] h = tt
 no_last_no_end k (t ∷ ts) h = (last_no_end k t h.0, no_last_no_end k ts h.1)
 
 start_no_last : (t : Lexeme) (ts : List Lexeme) → starts_line (t ∷ ts) ≡ false → is_last t ≡ false
-start_no_last (ident w) ts h = not_last w h
-start_no_last _ ts h = refl
+start_no_last t ts h = grind (arith, not_last)
 
 pub quiet_no_end : (k : ItemType) (ts : List Lexeme) → NoStart ts → NoEnd k ts
 quiet_no_end k [] h = tt
@@ -44,14 +41,13 @@ result_quiet : (s : Scope) (r : Operand) (ts : List Lexeme) (h : result_spells s
 result_quiet s r ts h = subst (λ (x : List Lexeme). NoStart x) (append-nil h.0) (operand_quiet s r h.0 [] h.2 refl tt)
 
 cand_quiet : (s : Scope) (c : PlainCand) (ts : List Lexeme) (h : cand_spells s c ts) → NoStart (h.lhs ++ (h.between ++ (h.rhs ++ h.attributes)))
-cand_quiet s c ts h = over h.between h.comma_or_none
-  where
-    quiet : NoStart (h.rhs ++ h.attributes)
-    quiet = operand_quiet s c.rhs h.rhs h.attributes h.rhs_spelled (root_attributes_not_define c.attributes h.attributes h.attributes_spelled) (plain_quiet h.attributes (root_attributes_plain c.attributes h.attributes h.attributes_spelled))
-
-    over : (between : List Lexeme) → IsOptionalComma between → NoStart (h.lhs ++ (between ++ (h.rhs ++ h.attributes)))
-    over between (inl e) = rw e (operand_quiet s c.lhs h.lhs (h.rhs ++ h.attributes) h.lhs_spelled (operand_not_defines s c.rhs h.rhs h.attributes h.rhs_spelled) quiet)
-    over between (inr e) = rw e (operand_quiet s c.lhs h.lhs (comma ∷ (h.rhs ++ h.attributes)) h.lhs_spelled refl (refl, quiet))
+cand_quiet s c ts h =
+    let defines_none = root_attributes_not_define c.attributes h.attributes h.attributes_spelled in
+    let quiet = operand_quiet s c.rhs h.rhs h.attributes h.rhs_spelled defines_none (plain_quiet h.attributes (root_attributes_plain c.attributes h.attributes h.attributes_spelled)) in
+    elim h.comma_or_none [
+      | inl e ↦ rw e (operand_quiet s c.lhs h.lhs (h.rhs ++ h.attributes) h.lhs_spelled (operand_not_defines s c.rhs h.rhs h.attributes h.rhs_spelled) quiet)
+      | inr e ↦ rw e (operand_quiet s c.lhs h.lhs (comma ∷ (h.rhs ++ h.attributes)) h.lhs_spelled refl (refl, quiet))
+    ]
 
 -- ---- items
 
@@ -120,11 +116,7 @@ one_end k (y ∷ head) (x ∷ pre) others more v w a b h e = let tails : head ++
 -- ---- where an item begins
 
 tail_starts : (k : ItemType) (s : Scope) (y : Tail) (ts ys : List Lexeme) → tail_spells k s y ts → starts_line (ts ++ ys) ≡ true
-tail_starts left_hand_side s (new, inferred i) ts ys h = rw h.1.whole refl
-tail_starts right_hand_side s (new, resulting r) ts ys h = rw h.1.1 refl
-tail_starts replacement s (new, replaced i r) ts ys h = rw (h.whole, h.infer_spelled.whole) refl
-tail_starts replacement s (new, candidate c) ts ys h = rw h.1.whole refl
-tail_starts k s y ts ys h = absurd h
+tail_starts k s y ts ys h = grind arith
 
 head_starts : (k : ItemType) (s : Scope) (vs : List PlainStatement) (head tail ys : List Lexeme) → Statements s vs head → ((zs : List Lexeme) → starts_line (tail ++ zs) ≡ true) → starts_line ((head ++ tail) ++ ys) ≡ true
 head_starts k s [] head tail ys m t = rw m (t ys)

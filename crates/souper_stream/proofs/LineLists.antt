@@ -1,19 +1,19 @@
 -- The lines of a text, as a list.
-use Rattle.std.proofs.Common.{◌≡◌, inl, inr, ℕ, ◌+◌, ◌<◌, ◌≤◌, Bool, true, false, List, [], ◌∷◌, ◌++◌, length, take, drop, refl, sym, ap, ◌∙◌, subst, arith, append_assoc, append-nil, length-append, eqb-true}
+use Rattle.std.proofs.Common.{◌≡◌, inl, inr, ℕ, ◌+◌, ◌-◌, ◌<◌, ◌≤◌, Bool, true, false, List, [], ◌∷◌, ◌++◌, length, take, drop, refl, sym, ap, ◌∙◌, subst, arith, append_assoc, append-nil, length-append, eqb-true}
 use Rattle.std.specs.Prelude.{◌==◌, zero, suc}
 use Rattle.std.specs.List.{AllByRecursion}
 use Rattle.std.specs.Io.BufRead.{take_through}
 use Rattle.std.proofs.lemmas.Bool.{false_from_ne_true}
-use Rattle.std.proofs.lemmas.List.{append_cancel_left, take_at, drop_at}
+use Rattle.std.proofs.lemmas.List.{append_cancel_left, take_at, drop_at, length-take, take-take}
 use Rattle.memchr.specs.Find.{Passes, is_byte}
 use Rattle.souper_graph.specs.Syntax.Tokens.{Lexeme, IsOneLine, IsTextOf}
 use Rattle.souper_graph.specs.Syntax.Spelling.{kinds}
 use Rattle.souper_lexer.proofs.TokenLaws.{text_tokens, one_reading}
 use Rattle.souper_ir.specs.Joining.{IsLines, moved}
 use Rattle.souper_ir.specs.Laws.Steps.{kinds-append}
-use Rattle.souper_ir.proofs.Items.Joining.{newline_last, kinds_moved}
+use Rattle.souper_ir.proofs.Items.Joining.{no_lines_end, kinds_moved}
 use Rattle.souper_ir.proofs.Items.Parting.{lines_end, tokens_part}
-use Rattle.souper_stream.specs.Segments.{Line, concat, IsLine, IsLastLine, AreLines, tokens_of, tokens_of_lines, Starts}
+use Rattle.souper_stream.specs.Segments.{Line, concat, IsLine, IsLastLine, AreLines, tokens_of, tokens_of_lines, Starts, IsLastLineAt}
 use Rattle.souper_stream.proofs.Texts.{lines_append, no_text}
 
 -- ---- lists
@@ -32,16 +32,13 @@ tokens_snoc ls l = tokens-append ls (l ∷ []) ∙ ap (λ (ts : List Lexeme). to
 -- ---- lines
 
 pub starts_not_none : (q : List Line) → Starts q → q ≡ [] → ⊥
-starts_not_none [] s e = s
-starts_not_none (l ∷ q) s e = cc
+starts_not_none q s e = grind arith
 
 pub starts_with_more : (ls more : List Line) → Starts ls → Starts (ls ++ more)
-starts_with_more [] more h = absurd h
-starts_with_more (l ∷ ls) more h = h
+starts_with_more ls more h = grind arith
 
 line_some : (l : Line) → IsLastLine l → 0 < length l
-line_some l (inl h) = let e = ap length h.2 in let n = length-append h.0 (10 ∷ []) in omega arith
-line_some l (inr h) = h.1
+line_some l h = grind (arith, length-append {A = ℕ})
 
 pub all_are_lines : (ls : List Line) → AllByRecursion IsLine ls → AreLines ls
 all_are_lines [] h = tt
@@ -83,11 +80,7 @@ lines_of (l ∷ ls) h = lines_append l (concat ls) (inr (h.0.0, h.0.2)) (lines_o
 pub lines_whole : (ls : List Line) → AreLines ls → IsLines (concat ls) → AllByRecursion IsLine ls
 lines_whole [] h e = tt
 lines_whole (l ∷ []) (inl h) e = (h, tt)
-lines_whole (l ∷ []) (inr h) e = absurd (under (subst (λ (x : List ℕ). IsLines x) (append-nil l) e))
-  where
-    under : IsLines l → ⊥
-    under (inl none) = let n = ap length none in let some = h.1 in omega arith
-    under (inr end) = newline_last end.0 (subst (λ (x : List ℕ). IsOneLine x) end.1 h.0)
+lines_whole (l ∷ []) (inr h) e = absurd (no_lines_end (l ++ []) [] l e h.1 h.0 (append-nil l))
 lines_whole (l ∷ (m ∷ ls)) h e = (h.0, lines_whole (m ∷ ls) h.1 (lines_end l (concat (m ∷ ls)) e))
 
 -- each text has lines
@@ -174,3 +167,9 @@ one_after [] zero none = tt
 one_after [] (suc s) none = tt
 one_after (x ∷ xs) zero none = (false_from_ne_true (x == 10) (none 0 (omega arith) (omega arith)), one_after xs zero (λ k from l. none (suc k) (omega arith) (omega arith)))
 one_after (x ∷ xs) (suc s) none = one_after xs s (λ k from l. none (suc k) (omega arith) (omega arith))
+
+-- the last line begins after the whole lines before the last byte
+pub last_line_at : (text : List ℕ) (n : ℕ) → 0 < length text → n ≤ length (take (length text - 1) text) → IsLines (take n (take (length text - 1) text)) → IsOneLine (drop n (take (length text - 1) text)) → IsLastLineAt text n
+last_line_at text n some within lines rest =
+    let few = length-take (length text - 1) text in
+    record { before = omega arith; lines = subst (λ (x : List ℕ). IsLines x) (take-take n (length text - 1) text (omega arith)) lines; one_line = rest }

@@ -1,19 +1,16 @@
 -- The tokens of statements and of last lines: in which of them a line can start.
-use Rattle.std.proofs.Common.{◌≡◌, ℕ, Bool, true, false, arith, List, [], ◌∷◌, ◌++◌, Option, Some, None, refl, subst}
-use Rattle.std.specs.Prelude.{codes, bytes_eq}
+use Rattle.std.proofs.Common.{◌≡◌, ℕ, Bool, true, false, arith, List, [], ◌∷◌, ◌++◌, Option, Some, refl}
+use Rattle.std.specs.Prelude.{bytes_eq}
 use Rattle.std.specs.List.{AllByRecursion}
-use Rattle.std.proofs.lemmas.Bool.{false_from_ne_true}
 use Rattle.std.proofs.lemmas.Slice.Eq.{bytes_eq-Decides}
 use Rattle.souper_graph.specs.declared.ast.operands.«Type».{«Type» as Ty}
 use Rattle.souper_graph.specs.declared.ast.operands.Operand.{Operand}
-use Rattle.souper_graph.specs.declared.ast.operands.Operand.TheVariants.{Value, Constant as constant_variant}
 use Rattle.souper_graph.specs.declared.ast.instructions.Instruction.{Instruction}
-use Rattle.souper_graph.specs.Instructions.{word_of, operands_of}
-use Rattle.souper_graph.specs.Values.{PlainAttribute, known_bits as known_bits_attribute, sign_bits, range, PlainRootAttribute, demanded_bits, harvested_from_use, PlainRhs, block, phi, instruction, PlainStatement, assigned, condition, block_condition}
+use Rattle.souper_graph.specs.Instructions.{word_of}
+use Rattle.souper_graph.specs.Values.{PlainAttribute, PlainRootAttribute, PlainRhs, PlainStatement, assigned, condition, block_condition}
 use Rattle.souper_graph.specs.Syntax.Tokens.{Lexeme, ident, val_name, equals}
 use Rattle.souper_graph.specs.Syntax.Numbers.{width_of}
 use Rattle.souper_graph.specs.Syntax.Spelling.{Scope, optional_type_spells, operand_spells, further_spells, operands_spells, pair_spells, rhs_spells, attribute_spells, root_attribute_spells, attributes_spell, root_attributes_spell, statement_spells}
-use Rattle.souper_ir.specs.Words.{opcode_of}
 use Rattle.souper_ir.specs.Laws.Words.{opcode_is}
 use Rattle.souper_stream.specs.Lines.{last_word, line_word, defines, starts_line, NoStart}
 
@@ -34,21 +31,11 @@ all_append P (x ∷ xs) ys a b = (a.0, all_append P xs ys a.1 b)
 
 -- ---- words
 
-other_word : (P : List ℕ → Type 0) (w k : List ℕ) → P w → (P k → ⊥) → bytes_eq w k ≡ false
-other_word P w k h never = false_from_ne_true (bytes_eq w k) (λ e. never (subst P (word_means w k e) h))
-
--- a word with a property that none of those that begin a line has
-no_line_word : (P : List ℕ → Type 0) (w : List ℕ) → P w → (P (codes "infer") → ⊥) → (P (codes "result") → ⊥) → (P (codes "cand") → ⊥) → (P (codes "pc") → ⊥) → (P (codes "blockpc") → ⊥) → line_word w ≡ false
-no_line_word P w h a b c d e =
-    rw (other_word P w (codes "infer") h a, other_word P w (codes "result") h b, other_word P w (codes "cand") h c, other_word P w (codes "pc") h d, other_word P w (codes "blockpc") h e) refl
-
 type_word : (w : List ℕ) (n : ℕ) → width_of w ≡ Some n → line_word w ≡ false
-type_word w n h = no_line_word (λ (x : List ℕ). width_of x ≡ Some n) w h (λ e. cc) (λ e. cc) (λ e. cc) (λ e. cc) (λ e. cc)
+type_word w n h = grind (arith, bytes_eq-Decides)
 
 instruction_word : (i : Instruction) → line_word (word_of i) ≡ false
-instruction_word i =
-    let o = opcode_is i in
-    no_line_word (λ (x : List ℕ). opcode_of x ≡ Some o.0) (word_of i) o.1.0 (λ e. cc) (λ e. cc) (λ e. cc) (λ e. cc) (λ e. cc)
+instruction_word i = let o = opcode_is i in grind (arith, bytes_eq-Decides)
 
 -- ---- tokens
 
@@ -70,13 +57,10 @@ abbrev pub NoLast : List Lexeme → Type 0
 NoLast ts = AllByRecursion (λ t. is_last t ≡ false) ts
 
 plain_start : (t : Lexeme) (ts : List Lexeme) → Plain t → starts_line (t ∷ ts) ≡ false
-plain_start (ident w) ts h = h
-plain_start (val_name n) ts h = absurd h
-plain_start _ ts h = refl
+plain_start t ts h = grind arith
 
 plain_last : (t : Lexeme) → Plain t → is_last t ≡ false
-plain_last (ident w) h = not_last w h
-plain_last _ h = refl
+plain_last t h = grind (arith, not_last)
 
 pub quiet_append : (xs ys : List Lexeme) → ArePlain xs → NoStart ys → NoStart (xs ++ ys)
 quiet_append [] ys p q = q
@@ -89,21 +73,17 @@ plain_no_last (x ∷ xs) p = (plain_last x p.0, plain_no_last xs p.1)
 -- ---- operands
 
 optional_type_plain : (o : Option Ty) (ts : List Lexeme) → optional_type_spells o ts → ArePlain ts
-optional_type_plain None ts h = rw h tt
-optional_type_plain (Some t) ts h = rw (h.1, h.2.1) (tt, (type_word h.2.0 t.width h.2.2, tt))
+optional_type_plain o ts h = grind (arith, type_word)
 
 operand_no_last : (s : Scope) (x : Operand) (ts : List Lexeme) → operand_spells s x ts → NoLast ts
-operand_no_last s (Value i) ts h = rw h.1 (refl, tt)
-operand_no_last s (constant_variant c) ts h = rw h.whole (refl, plain_no_last h.rest (optional_type_plain c.ty h.rest h.ty_spelled))
+operand_no_last s x ts h = grind (arith, optional_type_plain, plain_no_last)
 
 -- after an operand no line starts, unless one starts in what follows
 pub operand_quiet : (s : Scope) (x : Operand) (ts ys : List Lexeme) → operand_spells s x ts → defines ys ≡ false → NoStart ys → NoStart (ts ++ ys)
-operand_quiet s (Value i) ts ys h d q = rw h.1 (d, q)
-operand_quiet s (constant_variant c) ts ys h d q = rw h.whole (refl, quiet_append h.rest ys (optional_type_plain c.ty h.rest h.ty_spelled) q)
+operand_quiet s x ts ys h d q = grind (arith, optional_type_plain, quiet_append)
 
 pub operand_not_defines : (s : Scope) (x : Operand) (ts ys : List Lexeme) → operand_spells s x ts → defines (ts ++ ys) ≡ false
-operand_not_defines s (Value i) ts ys h = rw h.1 refl
-operand_not_defines s (constant_variant c) ts ys h = rw h.whole refl
+operand_not_defines s x ts ys h = grind arith
 
 further_no_last : (s : Scope) (xs : List Operand) (ts : List Lexeme) → further_spells s xs ts → NoLast ts
 further_no_last s [] ts h = rw h tt
@@ -121,32 +101,24 @@ pair_no_last s x y ts h = rw h.whole (all_append (λ t. is_last t ≡ false) h.p
 -- ---- right sides and attributes
 
 rhs_no_last : (s : Scope) (v : PlainRhs) (ts : List Lexeme) → rhs_spells s v ts → NoLast ts
-rhs_no_last s (block b) ts h = rw h.1 (refl, (refl, tt))
-rhs_no_last s (phi p) ts h = rw h.whole (refl, (refl, further_no_last s p.values h.rest h.values_spelled))
-rhs_no_last s (instruction i) ts h = rw h.1 (not_last (word_of i) (instruction_word i), operands_no_last s (operands_of i) h.0 h.2)
-rhs_no_last s _ ts h = rw h (refl, tt)
+rhs_no_last s v ts h = grind (arith, further_no_last, operands_no_last, not_last, instruction_word)
 
 attribute_plain : (a : PlainAttribute) (ts : List Lexeme) → attribute_spells a ts → ArePlain ts
-attribute_plain (known_bits_attribute bits) ts h = rw h.0 (tt, (tt, (tt, tt)))
-attribute_plain (sign_bits n) ts h = rw h.1 (tt, (refl, (tt, (tt, (tt, tt)))))
-attribute_plain (range low high) ts h = rw h.whole (tt, (refl, (tt, (tt, (tt, (tt, (tt, (tt, (tt, tt)))))))))
-attribute_plain _ ts h = rw h (tt, (refl, (tt, tt)))
+attribute_plain a ts h = grind arith
 
 attributes_plain : (xs : List PlainAttribute) (ts : List Lexeme) → attributes_spell xs ts → ArePlain ts
 attributes_plain [] ts h = rw h tt
 attributes_plain (x ∷ xs) ts h = rw h.whole (all_append Plain h.prefix h.suffix (attribute_plain x h.prefix h.first) (attributes_plain xs h.suffix h.second))
 
 root_attribute_plain : (a : PlainRootAttribute) (ts : List Lexeme) → root_attribute_spells a ts → ArePlain ts
-root_attribute_plain (demanded_bits bits) ts h = rw h.0 (tt, (refl, (tt, (tt, (tt, tt)))))
-root_attribute_plain harvested_from_use ts h = rw h (tt, (refl, (tt, tt)))
+root_attribute_plain a ts h = grind arith
 
 pub root_attributes_plain : (xs : List PlainRootAttribute) (ts : List Lexeme) → root_attributes_spell xs ts → ArePlain ts
 root_attributes_plain [] ts h = rw h tt
 root_attributes_plain (x ∷ xs) ts h = rw h.whole (all_append Plain h.prefix h.suffix (root_attribute_plain x h.prefix h.first) (root_attributes_plain xs h.suffix h.second))
 
 root_attribute_not_defines : (a : PlainRootAttribute) (ts ys : List Lexeme) → root_attribute_spells a ts → defines (ts ++ ys) ≡ false
-root_attribute_not_defines (demanded_bits bits) ts ys h = rw h.0 refl
-root_attribute_not_defines harvested_from_use ts ys h = rw h refl
+root_attribute_not_defines a ts ys h = grind arith
 
 pub root_attributes_not_define : (xs : List PlainRootAttribute) (ts : List Lexeme) → root_attributes_spell xs ts → defines ts ≡ false
 root_attributes_not_define [] ts h = rw h refl
@@ -170,10 +142,4 @@ statement_no_last s (block_condition p) ts h = rw h.whole (refl, (refl, (refl, p
 
 -- a line starts with a statement
 pub statement_starts : (s : Scope) (v : PlainStatement) (ts ys : List Lexeme) → statement_spells s v ts → starts_line (ts ++ ys) ≡ true
-statement_starts s (assigned a) ts ys h = rw h.whole (definition_of a.ty h.ty h.ty_spelled)
-  where
-    definition_of : (o : Option Ty) (ty : List Lexeme) → optional_type_spells o ty → starts_line ((val_name a.name ∷ (ty ++ equals ∷ (h.rhs ++ h.attributes))) ++ ys) ≡ true
-    definition_of None ty k = rw k refl
-    definition_of (Some t) ty k = rw k.1 refl
-statement_starts s (condition p) ts ys h = rw h.1 refl
-statement_starts s (block_condition p) ts ys h = rw h.whole refl
+statement_starts s v ts ys h = grind arith

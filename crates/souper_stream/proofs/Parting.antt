@@ -1,7 +1,7 @@
 -- What a text spells is parted at a cut point.
 use Rattle.std.proofs.Common.{◌≡◌, ℕ, ◌<◌, true, false, ◌⊎◌, inl, inr, List, [], ◌∷◌, ◌++◌, length, refl, sym, ap, ◌∙◌, subst, arith, append_assoc, append-nil, length-append}
 use Rattle.souper_graph.specs.Values.{Item}
-use Rattle.souper_graph.specs.Syntax.Tokens.{Lexeme, ident, val_name, colon, equals, IsTextOf}
+use Rattle.souper_graph.specs.Syntax.Tokens.{Lexeme, ident, IsTextOf}
 use Rattle.souper_graph.specs.Syntax.Spelling.{kinds, ItemType, item_spells, list_spells, TextSpells}
 use Rattle.souper_ir.specs.Joining.{IsLines, moved}
 use Rattle.souper_ir.specs.Laws.Steps.{kinds-append}
@@ -18,35 +18,24 @@ quiet_rest (x ∷ xs) ys h = quiet_rest xs ys h.1
 
 -- what a line starts with defines no name
 start_defines_none : (ts : List Lexeme) → starts_line ts ≡ true → defines ts ≡ false
-start_defines_none (colon ∷ ts) h = absurd cc
-start_defines_none (equals ∷ ts) h = absurd cc
-start_defines_none _ h = refl
+start_defines_none ts h = grind arith
 
 defines_first : (t : Lexeme) (ts us : List Lexeme) → defines (t ∷ ts) ≡ true → defines (t ∷ us) ≡ true
-defines_first equals ts us h = refl
-defines_first colon ts us h = refl
-defines_first _ ts us h = h
+defines_first t ts us h = grind arith
 
 -- a line that starts before another starts without it
 start_before : (xs ts : List Lexeme) → 0 < length xs → starts_line ts ≡ true → starts_line (xs ++ ts) ≡ true → starts_line xs ≡ true
-start_before [] ts some t h = absurd (omega arith)
-start_before (val_name n ∷ []) ts some t h = let none = start_defines_none ts t in absurd cc
-start_before (val_name n ∷ (y ∷ xs)) ts some t h = defines_first y (xs ++ ts) xs h
-start_before _ ts some t h = h
+start_before xs ts some t h = grind (arith, start_defines_none, defines_first)
 
 pub starts_longer : (ts us : List Lexeme) → starts_line ts ≡ true → starts_line (ts ++ us) ≡ true
-starts_longer [] us h = absurd cc
-starts_longer (val_name n ∷ []) us h = absurd cc
-starts_longer (val_name n ∷ (y ∷ ts)) us h = defines_first y ts (ts ++ us) h
-starts_longer _ us h = h
+starts_longer ts us h = grind (arith, defines_first)
 
 pub quiet_starts : (xs : List Lexeme) → NoStart xs → starts_line xs ≡ true → ⊥
-quiet_starts [] q h = cc
-quiet_starts (x ∷ xs) q h = let no = q.0 in cc
+quiet_starts xs q h = grind arith
 
 -- a line that starts after tokens at which none starts: there is one such place
 one_start : (post ts x s : List Lexeme) → post ++ ts ≡ x ++ s → NoStart post → NoStart x → starts_line ts ≡ true → (s ≡ []) ⊎ (starts_line s ≡ true) → (x ≡ post) × (s ≡ ts)
-one_start post ts x s e p q t k = under (parted_twice post ts x s e)
+one_start post ts x s e p q t k = elim (parted_twice post ts x s e) [ inl h ↦ shorter h.left h.first h.second | inr h ↦ longer h.more h.some h.first h.second k ]
   where
     shorter : (left : List Lexeme) → x ≡ post ++ left → ts ≡ left ++ s → (x ≡ post) × (s ≡ ts)
     shorter [] a b = (a ∙ append-nil post, sym b)
@@ -60,10 +49,6 @@ one_start post ts x s e p q t k = under (parted_twice post ts x s e)
     longer more some a b (inl none) = let n = ap length (sym b ∙ none) in let m = length-append more ts in absurd (omega arith)
     longer more some a b (inr start) =
         absurd (quiet_starts more (quiet_rest x more (subst (λ (z : List Lexeme). NoStart z) a p)) (start_before more ts some t (subst (λ (z : List Lexeme). starts_line z ≡ true) b start)))
-
-    under : Within post ts x s ⊎ Beyond post ts x s → (x ≡ post) × (s ≡ ts)
-    under (inl h) = shorter h.left h.first h.second
-    under (inr h) = longer h.more h.some h.first h.second k
 
 -- ---- items
 

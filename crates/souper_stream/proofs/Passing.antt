@@ -210,20 +210,13 @@ never_after k start now ps part back q h none = under q.ended refl
 
 -- ---- what a call did
 
--- a sink that held nothing, after items were taken back, and others taken
-pub holds_after : {S : Type 0} (holds : S → S → List Item → Type 0) (items : List Item) (old mid new : S) → Holds holds [] old mid → Holds holds items mid new → Holds holds items old new
-holds_after holds items old mid new a b first h = b first (a first h)
-
 -- a chunk is to be read segment by segment
 pub begin_chunk : (k : ItemType) (start now : Option (List ℕ)) (ps : List (List Line)) (r q : ItemReader) (len : ℕ) → IsNext k start now ps r len → 0 < len → q.buffer ≡ r.buffer → q.ended ≡ r.ended → q.fault ≡ r.fault → q.rejected ≡ len → HasParts k start now ps q
 begin_chunk k start now ps r q len n some buffer ended fault rejected =
     rw (buffer, ended, fault, rejected) (n.0, record { lines = n.1.lines; buffers = n.1.buffers; rest = n.1.rest; cut = n.1.cut; some = n.1.some; chunk = n.3; drained = λ e. absurd (omega arith) })
 
 chunk_within : (k : ItemType) (ended : Bool) (ls : List Line) (len : ℕ) (b : Buffer) → unparsed b ≡ concat ls → IsChunk k ended ls len → len ≤ length (unparsed b)
-chunk_within k ended ls len b rest c =
-    let e = ap length (rest ∙ ap concat c.whole ∙ concat-append c.front c.back) ∙ length-append (concat c.front) (concat c.back) in
-    let n = c.len_is in
-    omega arith
+chunk_within k ended ls len b rest c = grind (arith, concat-append, length-append {A = ℕ})
 
 pub chunk_fits : (k : ItemType) (ended : Bool) (ls : List Line) (len : ℕ) (b : Buffer) → unparsed b ≡ concat ls → IsChunk k ended ls len → 0 < len → b.start + b.parsed + len ≤ length b.bytes.items
 chunk_fits k ended ls len b rest c some = omega (arith, chunk_within k ended ls len b rest c, length-drop b.start b.bytes.items, length-drop b.parsed (held b))
@@ -247,14 +240,10 @@ module _ (k : ItemType) (start now : Option (List ℕ)) (ps : List (List Line)) 
         buffers = subst (λ (y : List ℕ). Buffers y q.buffer) done_is (advances.buffers (concat (all_lines ps)) h.buffers);
         rest = advances.rest ∙ ap (drop len) text ∙ drop_at (concat c.front) (concat c.back) len c.len_is;
         cut = part_cut k r.ended ps c.front c.back (let n = c.len_is in omega arith) (subst (λ (y : List Line). AreCut k (and_next ps y)) c.whole h.cut) c.cut;
-        some = λ going none. absurd (under going none c.cut);
+        some = λ going none. elim c.cut [ inl cut ↦ absurd (starts_not_none c.back cut.1 none) | inr end ↦ (let no = end.1 in absurd cc) ];
         chunk = left;
         drained = advances.drained;
       })
-    where
-      under : r.ended ≡ false → c.back ≡ [] → IsCut k c.front c.back ⊎ ((c.back ≡ []) × (r.ended ≡ true)) → ⊥
-      under going none (inl cut) = starts_not_none c.back cut.1 none
-      under going none (inr end) = let no = end.1 in cc
 
   on_line : IsOnLine (concat (all_lines ps)) (concat c.front) q.line
   unfolding HasLine
@@ -331,7 +320,7 @@ module _ (k : ItemType) (start now : Option (List ℕ)) (ps : List (List Line)) 
 
 -- a sink that held nothing before items were taken back
 pub taken_after : {S : Type 0} (k : ItemType) (start now : Option (List ℕ)) (ps : List (List Line)) (holds : S → S → List Item → Type 0) (old mid new : S) (q : ItemReader) → Holds holds [] old mid → TakesPart k start now ps holds mid new q → TakesPart k start now ps holds old new q
-taken_after k start now ps holds old mid new q back t = record { part = t.part; goes_on = t.goes_on; on_line = t.on_line; uncut = t.uncut; items = t.items; spelled = t.spelled; taken = holds_after holds t.items old mid new back t.taken }
+taken_after k start now ps holds old mid new q back t = record { part = t.part; goes_on = t.goes_on; on_line = t.on_line; uncut = t.uncut; items = t.items; spelled = t.spelled; taken = λ first h. t.taken first (back first h) }
 
 pub refused_after : {S : Type 0} (k : ItemType) (file start now : Option (List ℕ)) (ps : List (List Line)) (holds : S → S → List Item → Type 0) (old mid new : S) (q : ItemReader) (e : ParseError) → Holds holds [] old mid → RefusesPart k file start now ps holds mid new q e → RefusesPart k file start now ps holds old new q e
 refused_after k file start now ps holds old mid new q e back t = record {
@@ -342,7 +331,7 @@ refused_after k file start now ps holds old mid new q e back t = record {
   none = t.none;
   items = t.items;
   begun = t.begun;
-  taken = holds_after holds t.items old mid new back t.taken;
+  taken = λ first h. t.taken first (back first h);
   read = t.read;
   after = t.after;
   consumed = t.consumed;

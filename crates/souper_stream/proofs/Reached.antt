@@ -22,6 +22,9 @@ use Rattle.souper_stream.proofs.Passing.{all_lines_snoc, done_more}
 
 -- ---- items that are passed on
 
+over_both : {S : Type 0} (holds : S → S → List Item → Type 0) (xs ys : List Item) (a b c : S) → TakesOver holds xs a b → TakesOver holds ys b c → TakesOver holds (xs ++ ys) a c
+over_both holds xs ys a b c f g first items h = subst (λ (y : List Item). holds first c y) (append_assoc items xs ys) (g first (items ++ xs) (f first items h))
+
 -- the first items were passed to the sink
 pub record Passed {T S : Type 0} (view : T → Item) (holds : S → S → List Item → Type 0) (all rest : List T) (first now : S) : Type 0 where
   pub done : List T
@@ -33,9 +36,7 @@ pub passed_more : {T S : Type 0} (view : T → Item) (holds : S → S → List I
 passed_more view holds all rest next item first old new p e take = record {
   done = p.done ++ item ∷ [];
   whole = p.whole ∙ ap (λ (x : List _). p.done ++ x) e ∙ sym (append_assoc p.done (item ∷ []) next);
-  taken = λ s before h.
-      subst (λ (xs : List Item). holds s new xs) (append_assoc before (map view p.done) (view item ∷ []) ∙ ap (λ (x : List Item). before ++ x) (sym (map-append view p.done (item ∷ []))))
-      (take s (before ++ map view p.done) (p.taken s before h));
+  taken = subst (λ (xs : List Item). TakesOver holds xs first new) (sym (map-append view p.done (item ∷ []))) (over_both holds (map view p.done) (view item ∷ []) first old new p.taken take);
 }
 
 well_in : (xs ys : List Item) (a : Item) → AllByRecursion WellFormed (xs ++ a ∷ ys) → WellFormed a
@@ -59,9 +60,6 @@ pub record Reached {S : Type 0} (k : ItemType) (before mid : Option (List ℕ)) 
   pub had : HasParts k before mid parts r
   pub spelled : PartsSpell k parts items
   pub over : TakesOver holds items first now
-
-over_both : {S : Type 0} (holds : S → S → List Item → Type 0) (xs ys : List Item) (a b c : S) → TakesOver holds xs a b → TakesOver holds ys b c → TakesOver holds (xs ++ ys) a c
-over_both holds xs ys a b c f g first items h = subst (λ (y : List Item). holds first c y) (append_assoc items xs ys) (g first (items ++ xs) (f first items h))
 
 pub reached_none : {S : Type 0} (k : ItemType) (before : Option (List ℕ)) (holds : S → S → List Item → Type 0) (s : S) (r : ItemReader) → HasParts k before before [] r → Reached k before before holds s s r
 reached_none k before holds s r h = record { parts = []; items = []; had = h; spelled = refl; over = λ first items x. subst (λ (y : List Item). holds first s y) (sym (append-nil items)) x }

@@ -1,8 +1,7 @@
 -- Tokens that are scanned for lines that begin in them.
-use Rattle.std.proofs.Common.{◌≡◌, ◌⊎◌, inl, inr, Bool, true, false, List, [], ◌∷◌, ◌++◌, refl, sym, ap, ◌∙◌, subst, append_assoc, append-nil}
+use Rattle.std.proofs.Common.{length, arith, length-append, ◌≡◌, ◌⊎◌, inl, inr, Bool, true, false, List, [], ◌∷◌, ◌++◌, refl, sym, ap, ◌∙◌, subst, append_assoc, append-nil}
 use Rattle.std.specs.Prelude.{◌↔◌}
-use Rattle.std.proofs.lemmas.Bool.{false_from_ne_true}
-use Rattle.souper_graph.specs.Syntax.Tokens.{Lexeme, ident, val_name, colon, equals}
+use Rattle.souper_graph.specs.Syntax.Tokens.{Lexeme, ident}
 use Rattle.souper_graph.specs.Syntax.Spelling.{ItemType}
 use Rattle.souper_ir.specs.NodeReadings.{is_name}
 use Rattle.souper_stream.specs.declared.lines.ScanState.{ScanState}
@@ -17,20 +16,12 @@ Quiet named ts = NoStart ts × (named ≡ true → defines ts ≡ false)
 -- that is so if the first token shows no line, and none begins after it
 quiet_step : (named : Bool) (t : Lexeme) (ts : List Lexeme) → Quiet named (t ∷ ts) ↔ (shows_line named t ≡ false) × Quiet (is_name t) ts
 unfolding Quiet
-quiet_step named (ident w) ts = (λ q. (q.0.0, (q.0.1, λ e. absurd cc)), λ q. ((q.0, q.1.0), λ e. refl))
-quiet_step named (val_name n) ts = (λ q. (refl, (q.0.1, λ e. q.0.0)), λ q. ((q.1.1 refl, q.1.0), λ e. refl))
-quiet_step named colon ts = (λ q. (false_from_ne_true named (λ e. (let no = q.1 e in cc)), (q.0.1, λ e. absurd cc)), λ q. ((refl, q.1.0), λ e. absurd cc))
-quiet_step named equals ts = (λ q. (false_from_ne_true named (λ e. (let no = q.1 e in cc)), (q.0.1, λ e. absurd cc)), λ q. ((refl, q.1.0), λ e. absurd cc))
-quiet_step named _ ts = (λ q. (refl, (q.0.1, λ e. absurd cc)), λ q. ((refl, q.1.0), λ e. refl))
+quiet_step named t ts = grind arith
 
 -- ---- where an item ends
 
 pub no_tokens : (k : ItemType) → LastEnds k [] → ⊥
-no_tokens k h = under h.before h.whole
-  where
-    under : (before : List Lexeme) → [] ≡ before ++ ident h.word ∷ h.after → ⊥
-    under [] x = cc
-    under (y ∷ before) x = cc
+no_tokens k h = omega (arith, ap length h.whole, length-append h.before (ident h.word ∷ h.after))
 
 -- tokens end an item if the last ones do
 pub ends_later : (k : ItemType) (xs ys : List Lexeme) → LastEnds k ys → LastEnds k (xs ++ ys)
@@ -44,8 +35,7 @@ ends_later k xs ys h = record {
 }
 
 end_shows : (k : ItemType) (named : Bool) (t : Lexeme) → is_end_word k t ≡ true → shows_line named t ≡ true
-end_shows k named (ident w) h = last_is_line w (end_is_last k w h)
-end_shows k named _ h = absurd cc
+end_shows k named t h = grind (arith, end_is_last k, last_is_line)
 
 ends_here : (k : ItemType) (t : Lexeme) (ts : List Lexeme) → is_end_word k t ≡ true → NoStart ts → LastEnds k (t ∷ ts)
 ends_here k (ident w) ts h q = record { before = []; word = w; after = ts; whole = refl; ends = h; quiet = q }
@@ -55,7 +45,7 @@ ends_here k _ ts h q = absurd cc
 EndsBy : ItemType → ScanState → List Lexeme → Type 0
 EndsBy k s ts = LastEnds k ts ⊎ ((s.ends_item ≡ true) × Quiet s.after_name ts)
 
--- the same of the first token and of the others
+-- the tokens after the first, from the state after the first
 ends_step : (k : ItemType) (s : ScanState) (t : Lexeme) (ts : List Lexeme) → EndsBy k s (t ∷ ts) → EndsBy k (state_after k s t) ts
 unfolding EndsBy Quiet
 ends_step k s t ts (inr q) = let step = (quiet_step s.after_name t ts).0 q.1 in inr (rw step.0 q.0, step.1)
@@ -69,6 +59,7 @@ ends_step k s t ts (inl h) = under h.before h.whole
         inr (rw token (rw shows h.ends), (subst (λ (x : List Lexeme). NoStart x) rest h.quiet, λ e. (let name = rw token at e in absurd cc)))
     under (b ∷ before) e = inl (record { before = before; word = h.word; after = h.after; whole = cc; ends = h.ends; quiet = h.quiet })
 
+-- and back
 ends_back : (k : ItemType) (s : ScanState) (t : Lexeme) (ts : List Lexeme) → EndsBy k (state_after k s t) ts → EndsBy k s (t ∷ ts)
 unfolding EndsBy Quiet
 ends_back k s t ts (inl h) = inl (ends_later k (t ∷ []) ts h)
@@ -80,11 +71,7 @@ ends_back k s t ts (inr q) = under (shows_line s.after_name t) refl
 
 state_tells : (k : ItemType) (s : ScanState) (ts : List Lexeme) → ((scanned k s ts).ends_item ≡ true) ↔ EndsBy k s ts
 unfolding EndsBy Quiet
-state_tells k s [] = (λ e. inr (e, (tt, λ e. refl)), λ h. under h)
-  where
-    under : EndsBy k s [] → s.ends_item ≡ true
-    under (inl h) = absurd (no_tokens k h)
-    under (inr q) = q.0
+state_tells k s [] = (λ e. inr (e, (tt, λ e. refl)), λ h. elim h [ inl l ↦ absurd (no_tokens k l) | inr q ↦ q.0 ])
 state_tells k s (t ∷ ts) = let more = state_tells k (state_after k s t) ts in (λ e. ends_back k s t ts (more.0 e), λ h. more.1 (ends_step k s t ts h))
 
 -- ---- the state after tokens
@@ -95,11 +82,7 @@ IsStateAfter k ts s = (us : List Lexeme) → ((scanned k s us).ends_item ≡ tru
 
 pub state_first : (k : ItemType) → IsStateAfter k [] first_state
 unfolding EndsBy
-state_first k us = (λ e. under ((state_tells k first_state us).0 e), λ h. (state_tells k first_state us).1 (inl h))
-  where
-    under : EndsBy k first_state us → LastEnds k us
-    under (inl h) = h
-    under (inr q) = absurd cc
+state_first k us = grind (arith, state_tells k first_state us)
 
 pub state_ends : (k : ItemType) (ts : List Lexeme) (s : ScanState) → IsStateAfter k ts s → (s.ends_item ≡ true) ↔ LastEnds k ts
 state_ends k ts s h = subst (λ (x : List Lexeme). (s.ends_item ≡ true) ↔ LastEnds k x) (append-nil ts) (h [])
@@ -113,12 +96,7 @@ state_more k ts us s h vs = rw (append_assoc ts us vs, ← scanned-append k s us
 
 -- if no item ends before the token, one ends with it at the word of an item's end alone
 going_step : (k : ItemType) (s : ScanState) (t : Lexeme) → s.ends_item ≡ false → (state_after k s t).ends_item ≡ is_end_word k t
-going_step k s t going = under (is_end_word k t) refl (shows_line s.after_name t) refl
-  where
-    under : (e : Bool) → is_end_word k t ≡ e → (b : Bool) → shows_line s.after_name t ≡ b → (state_after k s t).ends_item ≡ is_end_word k t
-    under e f true g = rw g refl
-    under true f false g = let shows = end_shows k s.after_name t f in absurd cc
-    under false f false g = rw (g, f) going
+going_step k s t going = grind (arith, end_shows k s.after_name t)
 
 -- and the name before plays no part
 going_alike : (k : ItemType) (s new : ScanState) (ts : List Lexeme) → s.ends_item ≡ false → new.ends_item ≡ false → (scanned k s ts).ends_item ≡ (scanned k new ts).ends_item

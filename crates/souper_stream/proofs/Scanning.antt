@@ -5,7 +5,7 @@ use Rattle.std.proofs.lemmas.List.{nil_from_length, take_at, drop_at}
 use Rattle.souper_graph.specs.Syntax.Tokens.{Lexeme}
 use Rattle.souper_graph.specs.Syntax.Spelling.{ItemType}
 use Rattle.souper_ir.specs.Joining.{IsLines}
-use Rattle.souper_ir.proofs.Items.Parting.{Within, Beyond, parted_twice}
+use Rattle.souper_ir.proofs.Items.Parting.{parted_twice}
 use Rattle.souper_stream.specs.declared.lines.ScanState.{ScanState}
 use Rattle.souper_stream.specs.Lines.{starts_line, LastEnds, scanned}
 use Rattle.souper_stream.specs.Segments.{Line, concat, AreLines, tokens_of, tokens_of_lines, EndsItem, Starts, HasNoCut, IsCut, CutsAt, IsFirstSegment}
@@ -18,7 +18,7 @@ pub no_cut_none : (k : ItemType) → HasNoCut k []
 no_cut_none k front back e ends starts = starts_not_none back starts (nil_from_length back (omega (arith, ap length e, length-append front back)))
 
 pub no_cut_more : (k : ItemType) (ls : List Line) (line : Line) → HasNoCut k ls → (EndsItem k ls → starts_line (tokens_of line) ≡ true → ⊥) → HasNoCut k (ls ++ line ∷ [])
-no_cut_more k ls line h not_both front back e ends starts = under (parted_twice ls (line ∷ []) front back e)
+no_cut_more k ls line h not_both front back e ends starts = elim (parted_twice ls (line ∷ []) front back e) [ inl w ↦ here w.left w.first w.second | inr b ↦ before b.more b.some b.first b.second ]
   where
     here : (left : List Line) → front ≡ ls ++ left → line ∷ [] ≡ left ++ back → ⊥
     here [] f b = not_both (subst (λ (x : List Line). EndsItem k x) (f ∙ append-nil ls) ends) (subst (λ (x : List Line). Starts x) (sym b) starts)
@@ -27,10 +27,6 @@ no_cut_more k ls line h not_both front back e ends starts = under (parted_twice 
     before : (more : List Line) → 0 < length more → ls ≡ front ++ more → back ≡ more ++ line ∷ [] → ⊥
     before [] some f b = absurd (omega arith)
     before (m ∷ more) some f b = h front (m ∷ more) f ends (subst (λ (x : List Line). Starts x) b starts)
-
-    under : Within ls (line ∷ []) front back ⊎ Beyond ls (line ∷ []) front back → ⊥
-    under (inl w) = here w.left w.first w.second
-    under (inr b) = before b.more b.some b.first b.second
 
 -- ---- forward
 

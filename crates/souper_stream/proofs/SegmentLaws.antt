@@ -6,7 +6,7 @@ use Rattle.souper_graph.specs.Syntax.Spelling.{kinds, ItemType, TextSpells, Spel
 use Rattle.souper_ir.proofs.Items.Lists.{text_alone}
 use Rattle.souper_ir.proofs.Items.Joining.{items_join}
 use Rattle.souper_stream.specs.Lines.{starts_line, LastEnds}
-use Rattle.souper_stream.specs.Segments.{Line, concat, AreLines, tokens_of, tokens_of_lines, EndsItem, Starts, AreCut, all_lines, AreParts, PartsSpell, SpellsByParts}
+use Rattle.souper_stream.specs.Segments.{Line, concat, AreLines, tokens_of, tokens_of_lines, Starts, AreCut, all_lines, AreParts, PartsSpell, SpellsByParts}
 use Rattle.souper_stream.proofs.Parting.{starts_longer, part_by}
 use Rattle.souper_stream.proofs.Texts.{none_spelled}
 use Rattle.souper_stream.proofs.LineLists.{starts_not_none, starts_with_more, concat-append, all_are_lines, lines_back, lines_front, lines_of, kinds_of_lines}
@@ -14,12 +14,6 @@ use Rattle.souper_stream.proofs.LineLists.{starts_not_none, starts_with_more, co
 pub lines_start : (q : List Line) → Starts q → starts_line (tokens_of_lines q) ≡ true
 lines_start [] s = absurd s
 lines_start (l ∷ q) s = starts_longer (tokens_of l) (tokens_of_lines q) s
-
-part_starts : (q : List Line) (ts : List (ℕ × Lexeme)) → AreLines q → Starts q → IsTextOf (concat q) ts → starts_line (kinds ts) ≡ true
-part_starts q ts lines s h = subst (λ (x : List Lexeme). starts_line x ≡ true) (sym (kinds_of_lines q ts lines h)) (lines_start q s)
-
-part_ends : (k : ItemType) (p : List Line) (ts : List (ℕ × Lexeme)) → AreLines p → EndsItem k p → IsTextOf (concat p) ts → LastEnds k (kinds ts)
-part_ends k p ts lines ends h = subst (λ (x : List Lexeme). LastEnds k x) (sym (kinds_of_lines p ts lines h)) ends
 
 whole_parts : (k : ItemType) (ps : List (List Line)) (ws : List Item) → AreLines (all_lines ps) → AreCut k ps → TextSpells k (concat (all_lines ps)) ws → PartsSpell k ps ws
 whole_parts k [] ws lines cut h = text_alone k [] ws [] h (none_spelled k)
@@ -29,7 +23,9 @@ whole_parts k (p ∷ (q ∷ ps)) ws lines cut h =
     let p_lines = lines_front p (q ++ more) (starts_not_none (q ++ more) (starts_with_more q more cut.1)) lines in
     let text = subst (λ (x : List ℕ). TextSpells k x ws) (concat-append p (q ++ more)) h in
     let rest_lines = lines_back p (q ++ more) lines in
-    let r = part_by k (concat p) (concat (q ++ more)) ws (lines_of p p_lines) (λ ts v. part_ends k p ts (all_are_lines p p_lines) cut.0 v) (λ vs u. part_starts (q ++ more) vs rest_lines (starts_with_more q more cut.1) u) text in
+    let ends : (ts : List (ℕ × Lexeme)) → IsTextOf (concat p) ts → LastEnds k (kinds ts) = λ ts v. subst (λ (x : List Lexeme). LastEnds k x) (sym (kinds_of_lines p ts (all_are_lines p p_lines) v)) cut.0 in
+    let starts : (vs : List (ℕ × Lexeme)) → IsTextOf (concat (q ++ more)) vs → starts_line (kinds vs) ≡ true = λ vs u. rw (kinds_of_lines (q ++ more) vs rest_lines u) (lines_start (q ++ more) (starts_with_more q more cut.1)) in
+    let r = part_by k (concat p) (concat (q ++ more)) ws (lines_of p p_lines) ends starts text in
     (r.0, r.1, r.2, r.3, whole_parts k (q ∷ ps) r.1 rest_lines cut.2 r.4)
 
 parts_whole : (k : ItemType) (ps : List (List Line)) (ws : List Item) → AreLines (all_lines ps) → AreCut k ps → PartsSpell k ps ws → TextSpells k (concat (all_lines ps)) ws

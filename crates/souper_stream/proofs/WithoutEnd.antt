@@ -1,6 +1,6 @@
 -- Lines without an end word of the item type: no item ends in them.
-use Rattle.std.proofs.Common.{◌≡◌, inl, inr, ℕ, ◌+◌, ◌<◌, Bool, true, false, List, [], ◌∷◌, ◌++◌, length, take, drop, get_or, IsUtf8, refl, sym, ap, ◌∙◌, subst, arith, append_assoc, append-nil, length-append, take-append-drop, length-take}
-use Rattle.std.specs.Prelude.{codes, bytes_eq}
+use Rattle.std.proofs.Common.{◌≡◌, inl, inr, ℕ, ◌+◌, ◌<◌, true, false, List, [], ◌∷◌, ◌++◌, length, take, drop, get_or, IsUtf8, refl, sym, ap, ◌∙◌, subst, arith, append_assoc, append-nil, length-append, take-append-drop, length-take}
+use Rattle.std.specs.Prelude.{codes}
 use Rattle.std.specs.List.{AllByRecursion}
 use Rattle.std.specs.Io.{StartsWith}
 use Rattle.std.specs.Str.{IsCharBoundary}
@@ -8,19 +8,19 @@ use Rattle.std.proofs.Math.Seq.{take-append_seam, drop-append_seam}
 use Rattle.std.proofs.KnownBytes.{starts_with_rest}
 use Rattle.std.proofs.Transfers.{starts_with_of_append}
 use Rattle.std.proofs.lemmas.Bool.{false_from_ne_true}
+use Rattle.std.proofs.lemmas.Slice.Eq.{bytes_eq-Decides}
 use Rattle.std.proofs.lemmas.List.{drop_at, get_or_at}
 use Rattle.std.proofs.lemmas.Str.{IsCharBoundary-after_ascii, IsUtf8-take, IsUtf8-drop}
 use Rattle.memchr.specs.Find.{OccursAt}
 use Rattle.memchr.proofs.lemmas.MatchLemmas.{OccursAt-from_part}
 use Rattle.souper_graph.specs.Syntax.Tokens.{Lexeme, ident, spelling, Begins}
-use Rattle.souper_graph.specs.Syntax.Spelling.{kinds, ItemType, left_hand_side, right_hand_side, replacement}
+use Rattle.souper_graph.specs.Syntax.Spelling.{kinds, ItemType}
 use Rattle.souper_lexer.specs.TokenReading.{lexed_of}
 use Rattle.souper_lexer.proofs.TokenLaws.{tokens_law}
 use Rattle.souper_ir.specs.Joining.{IsLines}
 use Rattle.souper_stream.specs.declared.lines.ScanState.{ScanState}
 use Rattle.souper_stream.specs.Lines.{end_word, is_end_word, IsAbsent, NoEndWord, PassesOver}
 use Rattle.souper_stream.specs.Segments.{Line, concat, IsLine, AreLines, tokens_of, tokens_of_lines, HasNoCut}
-use Rattle.souper_stream.proofs.Nodes.{word_means}
 use Rattle.souper_stream.proofs.EndLines.{NoEnd}
 use Rattle.souper_stream.proofs.Scan.{IsStateAfter, state_ends, state_kept}
 use Rattle.souper_stream.proofs.LineLists.{concat-append, tokens_snoc, are_front, lines_whole, lines_split}
@@ -51,22 +51,11 @@ absent_before bs w n some none front back e =
     none (length front) (omega arith) (omega arith) (OccursAt-from_part bs w (length front) (omega arith) at)
 
 pub end_word_some : (k : ItemType) (w : List ℕ) → end_word k w ≡ true → 0 < length w
-end_word_some left_hand_side [] h = absurd cc
-end_word_some right_hand_side [] h = absurd cc
-end_word_some replacement [] h = absurd cc
-end_word_some k (c ∷ w) h = omega arith
+end_word_some k w h = grind (arith, bytes_eq-Decides)
 
 -- the words that items end with
 pub no_end_words : (k : ItemType) (bs : List ℕ) → (end_word k (codes "infer") ≡ true → IsAbsent (codes "infer") bs) → (end_word k (codes "result") ≡ true → IsAbsent (codes "result") bs) → (end_word k (codes "cand") ≡ true → IsAbsent (codes "cand") bs) → NoEndWord k bs
-no_end_words left_hand_side bs a b c w h = subst (λ (x : List ℕ). IsAbsent x bs) (sym (word_means w (codes "infer") h)) (a refl)
-no_end_words right_hand_side bs a b c w h = subst (λ (x : List ℕ). IsAbsent x bs) (sym (word_means w (codes "result") h)) (b refl)
-no_end_words replacement bs a b c w h = under (bytes_eq w (codes "result")) refl
-  where
-    under : (is : Bool) → bytes_eq w (codes "result") ≡ is → IsAbsent w bs
-    under true e = subst (λ (x : List ℕ). IsAbsent x bs) (sym (word_means w (codes "result") e)) (b refl)
-    under false e =
-        let other : bytes_eq w (codes "cand") ≡ true = (let x = rw e at h in x) in
-        subst (λ (x : List ℕ). IsAbsent x bs) (sym (word_means w (codes "cand") other)) (c refl)
+no_end_words k bs a b c w h = grind (arith, bytes_eq-Decides)
 
 -- ---- tokens
 

@@ -15,7 +15,7 @@ held b = drop b.start b.bytes.items
 abbrev pub unparsed : Buffer → List ℕ
 unparsed b = drop b.parsed (held b)
 
--- Of the parsed text, whole lines were counted. The rest of it is one line at most, and the first `parsed` bytes that are held.
+-- The parsed text: whole lines, which were counted, and then at most one line, the first `parsed` of the bytes in the buffer.
 pub record Parses (done bytes : List ℕ) (parsed : ℕ) (before : Before) : Type 0 where
   pub gone : List ℕ
   pub lines : IsLines gone

@@ -95,6 +95,7 @@ impl Buffer {
     }
 
     /// Drops the lines that are not needed any more.
+    #[tactic(auto, using(std::proofs::lemmas::List::take_rest))]
     pub(crate) fn drain(&mut self, alloc: Global) -> Result<(), AllocError>
         requires { self.old.start ≤ vec_len self.old.bytes }
         ensures { OnOk result (Drains self.old self.new) }

@@ -172,6 +172,7 @@ pub(crate) fn utf8(bytes: &[u8]) -> io::Result<&str>
 }
 
 /// The length of the first line of the text, with its newline.
+#[tactic(auto, using(crate::proofs::LineLists::through_found, crate::proofs::LineLists::through_none))]
 pub(crate) fn first_line_len(text: &[u8]) -> usize
     ensures line { result ≡ length (take_through 10 text.now) }
     ensures within { result ≤ length text.now }
@@ -184,6 +185,7 @@ pub(crate) fn first_line_len(text: &[u8]) -> usize
 }
 
 /// The offset of the last line of the text, in bytes.
+#[tactic(auto, using(crate::proofs::LineLists::last_line_at))]
 pub(crate) fn last_line_start(text: &[u8]) -> usize
     requires { 0 < length text.now }
     ensures { IsLastLineAt text.now result }
@@ -192,6 +194,7 @@ pub(crate) fn last_line_start(text: &[u8]) -> usize
 }
 
 /// The length of the whole lines that the bytes begin with.
+#[tactic(auto, using(crate::proofs::LineLists::one_after))]
 pub(crate) fn lines_len(bytes: &[u8]) -> usize
     ensures bound { result ≤ length bytes.now }
     ensures lines { IsLines (take result bytes.now) }

@@ -55,6 +55,7 @@ fn fill_blocks<R: BufRead>(reader: &mut R, bytes: &mut Vec<u8>, goal: usize) -> 
 }
 
 // Reads a line, and returns whether the input has ended: it is then empty, or has no newline.
+#[tactic(auto, using(crate::proofs::Bytes::line_reads))]
 fn read_line<R: BufRead>(reader: &mut R, bytes: &mut Vec<u8>) -> io::Result<bool>
     ensures read { IfOk result (λ ended. ReadsLines (R.remaining reader.old) (R.remaining reader.new) bytes.old.items bytes.new.items ended) }
     ensures failed { IfErr result (λ e. (more : List ℕ) × Reads (R.remaining reader.old) (R.remaining reader.new) bytes.old.items bytes.new.items more) }
@@ -177,6 +178,7 @@ impl ItemReader {
     /// A reader at the start of a stream. `min_chunk` is the chunk size in bytes: a cut point is looked for when the buffer has
     /// grown by `min_chunk` bytes, and by the line after them. If none is found, it is looked for again when the buffer has doubled.
     /// With a small chunk size items are passed to the sink sooner; with a larger one reading takes less time.
+    #[tactic(auto, using(crate::proofs::Passing::read_none))]
     pub fn new(alloc: Global, min_chunk: usize) -> ItemReader
         ensures chunks { is_segmented result ≡ false }
         ensures begins { (k : ItemType) (start : Option (List ℕ)) → HasParts k start start [] result }
