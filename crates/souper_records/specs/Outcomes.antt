@@ -10,10 +10,10 @@ use Rattle.souper_ir.specs.Errors.{kind_of}
 use Rattle.souper_ir.specs.Sinks.{PrefixSpells}
 use Rattle.souper_stream.specs.Segments.{Line, concat, all_lines, HasNoCut, AreParts, PartsSpell}
 use Rattle.souper_stream.specs.declared.reader.ItemReader.{ItemReader}
-use Rattle.souper_stream.specs.Parts.{IsPlacedIn, IsOnLine, HasParts}
+use Rattle.souper_stream.specs.Parts.{IsPlacedIn, IsOnLine, HasParts, is_segmented}
 use Rattle.souper_stream.specs.Reading.{AreAll, NeverSpells}
 use Rattle.souper_format.specs.Streams.{Stream, IsGiven, IsGivenNothing}
-use Rattle.souper_format.specs.Reporting.{IsErrorLine, ReportedLine}
+use Rattle.souper_format.specs.Reporting.{IsErrorLine}
 use Rattle.souper_records.specs.declared.layout.Layout.{Layout}
 use Rattle.souper_records.specs.declared.parts.Source.{Source}
 use Rattle.souper_records.specs.declared.stop.Stop.{Stop}
@@ -79,11 +79,6 @@ AreReported err (e ∷ es) = err.failed ≡ false → (text : List ℕ) × AreEr
 abbrev pub AreReportedThen : Stream → List ParseError → (List ℕ → Type 0) → Type 0
 AreReportedThen err es P = err.failed ≡ false → (text : List ℕ) × (line : List ℕ) × AreErrorLines es text × P line × IsGiven err (text ++ line)
 
--- the report of one part
-abbrev pub ReportsPart : Stream → Option ParseError → Type 0
-ReportsPart err None = IsGivenNothing err
-ReportsPart err (Some e) = ReportedLine err e
-
 -- the stream is read from its beginning
 abbrev pub Begins : Source → Type 0
 Begins source = ((k : ItemType) (start : Option (List ℕ)) → HasParts k start start [] source.parts)
@@ -103,10 +98,11 @@ pub record WritesPart (k : ItemType) (file start now : Option (List ℕ)) (ps : 
   pub outcome : Outcome
   pub had : HasParts k start now (ps ++ outcome.part ∷ []) r
   pub is : IsOutcomeAfter k file start (concat (all_lines ps)) outcome
-  pub any : refused ≡ is_some outcome.refusal
+  pub uncut : is_segmented r ≡ true → HasNoCut k outcome.part
+  pub any : refused ≡ any_refused (outcome ∷ [])
   pub after : refused ≡ true → IsRefusedAfter k start now ps outcome
   pub are_written : written outcome
-  pub reported : ReportsPart err outcome.refusal
+  pub reported : AreReported err (refusals_of (outcome ∷ []))
 
 -- The stream begins with parts that have these outcomes. If none of them is refused, it begins with their items.
 pub record ReadsParts (k : ItemType) (name : List ℕ) (before now : Option (List ℕ)) (outcomes : List Outcome) : Type 0 where
@@ -147,14 +143,9 @@ IsBegun k name recover before os = (now : Option (List ℕ)) × (r : ReadsParts 
 abbrev pub StopsAfter : ItemType → List ℕ → Bool → Option (List ℕ) → (List Outcome → Type 0) → Bool → Stream → Stop → Type 0
 StopsAfter k name recover before written failed err stop = (os : List Outcome) × IsBegun k name recover before os × AreReported err (refusals_of os) × UnlessOutput stop failed (written os)
 
--- one outcome after the other was written: a state and what the output had, at first and after each
-abbrev pub WroteEach : {S : Type 0} → (S → Option (List ℕ) → S → Option (List ℕ) → Outcome → Type 0) → S → Option (List ℕ) → S → Option (List ℕ) → List Outcome → Type 0
-WroteEach wrote a x b y [] = (b ≡ a) × (y ≡ x)
-WroteEach {S = S} wrote a x b y (o ∷ os) = (c : S) × (z : Option (List ℕ)) × wrote a x c z o × WroteEach wrote c z b y os
-
--- the same; and if each part is one segment, no cut point is in any
-abbrev pub WroteParts : {S : Type 0} → ItemType → Bool → (S → Option (List ℕ) → S → Option (List ℕ) → Outcome → Type 0) → S → Option (List ℕ) → S → Option (List ℕ) → List Outcome → Type 0
-WroteParts k segmented wrote a x b y os = WroteEach wrote a x b y os × (segmented ≡ true → AllByRecursion (HasNoCut k) (parts_of os))
+-- the outcomes were written; and if each part is one segment, no cut point is in any
+abbrev pub WroteParts : ItemType → Bool → (List Outcome → Type 0) → List Outcome → Type 0
+WroteParts k segmented wrote os = wrote os × (segmented ≡ true → AllByRecursion (HasNoCut k) (parts_of os))
 
 -- the items of the outcomes were written, also the ones that refused parts begin with
 abbrev pub OfItems : (List Item → Type 0) → List Outcome → Type 0

@@ -7,7 +7,7 @@ ghost use Rattle.souper_ir.specs.Errors.{kind_of};
 ghost use Rattle.souper_format.specs.Streams.{stream};
 ghost use Rattle.souper_format.specs.Watching.{has_failed};
 ghost use Rattle.souper_records.specs.Stops.{IfInput};
-ghost use Rattle.souper_records.specs.Outcomes.{WritesParts, StopsAfter, OfItems, WritesRecords};
+ghost use Rattle.souper_records.specs.Outcomes.{WritesParts, StopsAfter, OfItems, WritesRecords, items_of};
 ghost use Rattle.souper_records.specs.Records.{record_of, records_of};
 
 use crate::layout::Layout;
@@ -82,7 +82,7 @@ impl<T: WholeItem + Drop> ChunkSink<T> for Records {
 
 // Writes the records of each part, and drops them.
 impl<T: StreamItem + Drop> PartSink<T> for Records {
-    ghost wrote = { λ name a x b y o. (b.layout ≡ a.layout) × Appends x y (records_of a.layout o.items) };
+    ghost wrote = { λ name a x b y os. (b.layout ≡ a.layout) × Appends x y (records_of a.layout (items_of os)) };
 
     fn write_part<W: Write>(
         &mut self,

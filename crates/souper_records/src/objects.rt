@@ -6,7 +6,7 @@ ghost use Rattle.souper_ir.specs.Errors.{kind_of};
 ghost use Rattle.souper_format.specs.Streams.{stream};
 ghost use Rattle.souper_format.specs.Watching.{has_failed};
 ghost use Rattle.souper_records.specs.Stops.{IfInput};
-ghost use Rattle.souper_records.specs.Objects.{item_object, refusal_object, refusal_line, object_line, text_line, part_lines, optional_number, optional_string, WritesObjects};
+ghost use Rattle.souper_records.specs.Objects.{item_object, refusal_object, refusal_line, object_line, text_line, objects_of, optional_number, optional_string, WritesObjects};
 ghost use Rattle.souper_records.specs.Outcomes.{WritesParts, StopsAfter};
 ghost use Rattle.souper_records.specs.Uniques.{text_by};
 ghost use Rattle.serde_json.specs.View.{view};
@@ -147,7 +147,7 @@ impl<T: WholeItem + Drop> ChunkSink<T> for Objects {
 
 // Writes the objects of each part, and drops the texts.
 impl<T: StreamItem + Drop> PartSink<T> for Objects {
-    ghost wrote = { λ name a x b y o. (b.rename ≡ a.rename) × Appends x y (part_lines a.rename name o) };
+    ghost wrote = { λ name a x b y os. (b.rename ≡ a.rename) × Appends x y (objects_of a.rename name os) };
 
     fn write_part<W: Write>(
         &mut self,

@@ -1,7 +1,7 @@
 //! The parts of a stream, whose output is written one after the other.
-ghost use Rattle.std.specs.Prelude.{◌≡◌, ℕ, [], List, true, Option, Some, IfOk, IfErr, IfSome, IfNone, OnOk, option_copied};
+ghost use Rattle.std.specs.Prelude.{◌≡◌, ◌++◌, ◌∷◌, ℕ, [], List, true, Option, Some, IfOk, IfErr, IfSome, IfNone, OnOk, option_copied};
 ghost use Rattle.souper_ir.specs.Errors.{kind_of};
-ghost use Rattle.souper_stream.specs.Segments.{Line, HasNoCut};
+ghost use Rattle.souper_stream.specs.Segments.{Line};
 ghost use Rattle.souper_stream.specs.Parts.{HasParts, HasAll, is_segmented};
 ghost use Rattle.souper_format.specs.Streams.{stream};
 ghost use Rattle.souper_format.specs.Watching.{watched_inner, has_failed};
@@ -31,9 +31,9 @@ pub(crate) struct Place<'a> {
 
 /// A sink whose output is written after each part of a stream.
 pub(crate) trait PartSink<T: StreamItem + Drop>: ChunkSink<T> {
-    // That the output of a part with this outcome was written, given the name of the stream, the sink and the bytes of the output before
-    // the part, and both after.
-    ghost wrote: { List ℕ → Self → Option (List ℕ) → Self → Option (List ℕ) → Outcome → Type 0 };
+    // That the output of parts with these outcomes was written, given the name of the stream, the sink and the bytes of the output before
+    // the first part, and both after the last.
+    ghost wrote: { List ℕ → Self → Option (List ℕ) → Self → Option (List ℕ) → List Outcome → Type 0 };
 
     /// Writes the output of a part, whose items the sink holds, or the ones that it begins with if it was refused. Then it holds none.
     fn write_part<W: Write>(
@@ -43,8 +43,9 @@ pub(crate) trait PartSink<T: StreamItem + Drop>: ChunkSink<T> {
         refusal: Option<&ParseError>,
         out: &mut Watched<W>,
     ) -> Result<(), Stop>
-        ensures written { OnOk result ((before : Self) (o : Outcome) → Self.holds before before [] → Self.holds before self.old o.items
-            → o.line ≡ place.entry.line → o.refusal ≡ option_copied refusal.entry → wrote place.entry.name.now before (W.contents (watched_inner out.old)) self.new (W.contents (watched_inner out.new)) o) }
+        ensures written { OnOk result ((first : Self) (start : Option (List ℕ)) (os : List Outcome) (before : Self) (o : Outcome) → wrote place.entry.name.now first start before (W.contents (watched_inner out.old)) os
+            → Self.holds before before [] → Self.holds before self.old o.items → o.line ≡ place.entry.line → o.refusal ≡ option_copied refusal.entry
+            → wrote place.entry.name.now first start self.new (W.contents (watched_inner out.new)) (os ++ o ∷ [])) }
         ensures none { OnOk result (Self.holds self.new self.new []) }
         ensures input { IfErr result (λ stop. IfInput stop (λ e. ⊥)) }
         ensures unwritten { IfErr result (λ stop. UnlessOutput stop (has_failed out.new) (out.new ≡ out.old)) };
@@ -101,7 +102,8 @@ fn write_next<T: StreamItem + Drop, S: PartSink<T>, R: BufRead, W: Write, E: Wri
     ensures options { source.new.options ≡ source.old.options }
     ensures same { is_segmented source.new.parts ≡ is_segmented source.old.parts }
     ensures part { IfOk result (λ more. IfSome more (λ refused. (start : Option (List ℕ)) (ps : List (List Line)) → HasParts T.item_type start (R.remaining reader.old) ps source.old.parts
-        → WritesPart T.item_type (Some source.old.options.name.now) start (R.remaining reader.new) ps (λ o. S.wrote source.old.options.name.now sink.old (W.contents (watched_inner out.old)) sink.new (W.contents (watched_inner out.new)) o × (is_segmented source.old.parts ≡ true → HasNoCut T.item_type o.part)) (stream E.contents err.old err.new) refused source.new.parts)) }
+        → WritesPart T.item_type (Some source.old.options.name.now) start (R.remaining reader.new) ps (λ o. (first : S) (before : Option (List ℕ)) (os : List Outcome) → S.wrote source.old.options.name.now first before sink.old (W.contents (watched_inner out.old)) os
+        → S.wrote source.old.options.name.now first before sink.new (W.contents (watched_inner out.new)) (os ++ o ∷ [])) (stream E.contents err.old err.new) refused source.new.parts)) }
     ensures none { IfOk result (λ more. S.holds sink.new sink.new []) }
     ensures ended { IfOk result (λ more. IfNone more ((start : Option (List ℕ)) (ps : List (List Line)) → HasParts T.item_type start (R.remaining reader.old) ps source.old.parts
         → HasAll T.item_type start (R.remaining reader.new) ps)) }
@@ -143,11 +145,12 @@ pub(crate) fn write_parts<T: StreamItem + Drop, S: PartSink<T>, R: BufRead, W: W
     err: &mut Watched<E>,
 ) -> Result<bool, Stop>
     requires none { S.holds sink.old sink.old [] }
+    requires started { S.wrote source.options.name.now sink.old (W.contents (watched_inner out.old)) sink.old (W.contents (watched_inner out.old)) [] }
     requires begins { Begins source }
     ensures written { IfOk result (λ refused. WritesParts T.item_type source.entry.options.name.now source.entry.options.recover (R.remaining reader.old) (R.remaining reader.new)
-        (WroteParts T.item_type (is_segmented source.entry.parts) (S.wrote source.entry.options.name.now) sink.old (W.contents (watched_inner out.old)) sink.new (W.contents (watched_inner out.new))) (stream E.contents err.old err.new) refused) }
+        (WroteParts T.item_type (is_segmented source.entry.parts) (S.wrote source.entry.options.name.now sink.old (W.contents (watched_inner out.old)) sink.new (W.contents (watched_inner out.new)))) (stream E.contents err.old err.new) refused) }
     ensures stopped { IfErr result (λ stop. StopsAfter T.item_type source.entry.options.name.now source.entry.options.recover (R.remaining reader.old)
-        (λ os. (s : S) × WroteParts T.item_type (is_segmented source.entry.parts) (S.wrote source.entry.options.name.now) sink.old (W.contents (watched_inner out.old)) s (W.contents (watched_inner out.new)) os) (has_failed out.new) (stream E.contents err.old err.new) stop) }
+        (λ os. (s : S) × WroteParts T.item_type (is_segmented source.entry.parts) (S.wrote source.entry.options.name.now sink.old (W.contents (watched_inner out.old)) s (W.contents (watched_inner out.new))) os) (has_failed out.new) (stream E.contents err.old err.new) stop) }
     ensures input { IfErr result (λ stop. IfInput stop (λ e. kind_of e ≡ ParseErrorKind.Io)) }
     ensures stays { has_failed err.old ≡ true → has_failed err.new ≡ true }
 {
@@ -158,7 +161,7 @@ pub(crate) fn write_parts<T: StreamItem + Drop, S: PartSink<T>, R: BufRead, W: W
                 if refused && !source.options.recover {
                     return Ok(true);
                 }
-                any = any || refused;
+                any |= refused;
             }
             Ok(None) => return Ok(any),
             Err(stop) => return Err(stop),

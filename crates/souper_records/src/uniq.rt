@@ -8,7 +8,7 @@ ghost use Rattle.souper_ir.specs.Errors.{kind_of};
 ghost use Rattle.souper_format.specs.Streams.{stream, IsGiven};
 ghost use Rattle.souper_format.specs.Watching.{has_failed};
 ghost use Rattle.souper_records.specs.Stops.{IfInput, UnlessOutput};
-ghost use Rattle.souper_records.specs.Outcomes.{WritesParts, StopsAfter, OfItems};
+ghost use Rattle.souper_records.specs.Outcomes.{WritesParts, StopsAfter, OfItems, items_of};
 ghost use Rattle.souper_records.specs.Records.{chosen, record_of_text};
 ghost use Rattle.souper_records.specs.Uniques.{text_by, HasText, HasSeen, SeesTexts, WritesFirstRecords, WritesSeenFirsts, WritesNewFirsts};
 
@@ -93,7 +93,7 @@ fn see_texts(seen: &mut Seen, texts: Vec<String>) -> Result<(), AllocError>
 
 // Writes the records of the first items of each part, and drops the texts.
 impl<T: StreamItem + Drop> PartSink<T> for Firsts {
-    ghost wrote = { λ name a x b y o. (b.layout ≡ a.layout) × WritesNewFirsts T.item_type a.layout x y a.seen b.seen o.items };
+    ghost wrote = { λ name a x b y os. (b.layout ≡ a.layout) × WritesNewFirsts T.item_type a.layout x y a.seen b.seen (items_of os) };
 
     fn write_part<W: Write>(
         &mut self,

@@ -1,4 +1,4 @@
-use Rattle.std.proofs.Common.{rules, ◌≡◌, ℕ, [], None, Some, refl, sym, ◌∙◌, subst}
+use Rattle.std.proofs.Common.{rules, ◌≡◌, ℕ, [], None, Some, refl, sym, subst, append-nil}
 use Rattle.std.specs.String.{string_bytes}
 use Rattle.std.proofs.KnownBytes.{Keeps-refl}
 use Rattle.souper_ir.specs.declared.parse.error.ParseErrorKind.TheVariants.{Parse}
@@ -17,9 +17,10 @@ returns-in_ok-write_part-in-Ok-true-clause-part g c = λ start ps had.
       outcome = o;
       had = t.goes_on;
       is = record { on_line = subst (λ (n : ℕ). IsOnLine (concat (all_lines ps)) (concat t.part) n) (sym c.line-line.ensures) t.on_line; is = t.spelled };
+      uncut = t.uncut;
       any = refl;
       after = λ e. absurd cc;
-      are_written = (c.in_ok-write_part-in-Ok-true.ensures.written c.args.sink.now o c.requires.none (t.taken c.args.sink.now c.requires.none) refl refl, λ e. t.uncut (c.read_part.ensures.same ∙ e));
+      are_written = λ first before os h. c.in_ok-write_part-in-Ok-true.ensures.written first before os c.args.sink.now o h c.requires.none (t.taken c.args.sink.now c.requires.none) refl refl;
       reported = Keeps-refl _;
     }
 
@@ -51,6 +52,7 @@ returns-in_ok-write_part-in-Err-clause-part g c = λ start ps had.
         on_line = subst (λ (n : ℕ). IsOnLine (concat (all_lines ps)) (concat t.part) n) (sym c.line-line-in-Err.ensures) t.on_line;
         is = record { kind = kind; segment = t.segment; none = t.none; begun = t.begun; now = now; read = t.read; consumed = t.consumed; placed = t.placed };
       };
+      uncut = λ e. t.segment;
       any = refl;
       after = λ e. record {
         read = t.read;
@@ -60,6 +62,6 @@ returns-in_ok-write_part-in-Err-clause-part g c = λ start ps had.
         never = t.never;
         begun = refusal_begun k _ start now ps g.S.Sink.holds c.args.sink.now c.read_part.new.sink c.read_part.new.self c.in-Err.error t;
       };
-      are_written = (c.in_ok-write_part-in-Err.ensures.written c.args.sink.now o c.requires.none (t.taken c.args.sink.now c.requires.none) refl refl, λ e. t.segment);
-      reported = λ works. (string_bytes c.in_ok-shown-in-Err.shown, c.in_ok-shown-in-Err.ensures, c.report_line.ensures.given works);
+      are_written = λ first before os h. c.in_ok-write_part-in-Err.ensures.written first before os c.args.sink.now o h c.requires.none (t.taken c.args.sink.now c.requires.none) refl refl;
+      reported = λ works. (let line = string_bytes c.in_ok-shown-in-Err.shown in (line, (line, [], sym (append-nil line), c.in_ok-shown-in-Err.ensures, refl), c.report_line.ensures.given works));
     }

@@ -4,7 +4,6 @@ use Rattle.std.specs.Prelude.{Some}
 use Rattle.souper_stream.specs.Parts.{is_segmented}
 use Rattle.souper_format.specs.Streams.{stream}
 use Rattle.souper_format.specs.Watching.{has_failed}
-use Rattle.souper_records.specs.Outcomes.{WroteParts}
 use Rattle.souper_records.proofs.Outcomes.{Reached}
 use Rattle.souper_records.proofs.Writers.{inner_bytes}
 use Rattle.souper_records.proofs.parts.write_parts.Given as goal
@@ -14,8 +13,8 @@ invariant-loop-turn g l = record {
   options : l.source.options ≡ l.fn.source.options;
   same : is_segmented l.source.parts ≡ is_segmented l.fn.source.parts;
   none : g.S.Sink.holds l.sink l.sink [];
-  reached : Reached g.T.Item.item_type (Some l.fn.source.options.name.now) (g.R.Read.remaining l.fn.reader) (g.R.Read.remaining l.reader)
-      (WroteParts g.T.Item.item_type (is_segmented l.fn.source.parts) (g.S.PartSink.wrote l.fn.source.options.name.now) l.fn.sink (inner_bytes g.W.Write.contents l.fn.out) l.sink (inner_bytes g.W.Write.contents l.out)) (stream g.E.Write.contents l.fn.err l.err) l.any l.source.parts;
+  reached : Reached g.T.Item.item_type (Some l.fn.source.options.name.now) (g.R.Read.remaining l.fn.reader) (g.R.Read.remaining l.reader) (is_segmented l.fn.source.parts)
+      (g.S.PartSink.wrote l.fn.source.options.name.now l.fn.sink (inner_bytes g.W.Write.contents l.fn.out) l.sink (inner_bytes g.W.Write.contents l.out)) (stream g.E.Write.contents l.fn.err l.err) l.any l.source.parts;
   quiet : l.fn.source.options.recover ≡ false → l.any ≡ false;
   stays : has_failed l.fn.err ≡ true → has_failed l.err ≡ true;
 }

@@ -5,16 +5,18 @@ use Rattle.std.specs.Io.KnownBytes.{Appends}
 use Rattle.souper_records.specs.declared.layout.Layout.{Layout}
 use Rattle.souper_records.specs.Records.{record_of_text}
 use Rattle.souper_records.specs.Uniques.{SeesTexts, text_by}
-use Rattle.souper_records.proofs.Seeing.{WritesNew, keeps_one, on_ok}
+use Rattle.souper_records.specs.Outcomes.{items_of}
+use Rattle.souper_records.proofs.Outcomes.{items_more}
+use Rattle.souper_records.proofs.Seeing.{WritesNew, keeps_one, keeps_join, on_ok}
 use Rattle.souper_records.proofs.Writers.{inner_bytes}
 use Rattle.souper_records.proofs.uniq.FirstsPartSink.write_part.Goals as goal
 
 pub returns-clause-written : goal.returns-clause-written
-returns-clause-written g c = on_ok c.write_texts.result (λ w before o idle taken line refusal.
+returns-clause-written g c = on_ok c.write_texts.result (λ w first from os before o wrote idle taken line refusal.
     let con = inner_bytes g.W.Write.contents in
     let k = g.T.Item.item_type in
-    let l = before.layout in
-    let (layout, seen, texts, well) = taken in
+    let l = first.layout in
+    let (layout, seen, texts, well) = rw wrote.0 at taken in
     let t = before.seen in
     let u = c.see_texts.new.seen in
     let start : c.len-start.result ≡ length t.texts.keys = c.len-start.ensures.len ∙ ap (λ s. length s.texts.keys) seen in
@@ -24,4 +26,4 @@ returns-clause-written g c = on_ok c.write_texts.result (λ w before o idle take
     let written : WritesNew l (con c.args.out.now) (con c.write_texts.new.out) t u =
     subst (λ xs. Appends (con c.args.out.now) (con c.write_texts.new.out) (flat_map (record_of_text l) (map string_bytes xs))) new
     (subst (λ (y : Layout). Appends (con c.args.out.now) (con c.write_texts.new.out) (flat_map (record_of_text y) (map string_bytes (drop c.len-start.result c.as_slice.result.now)))) layout w) in
-    (layout, keeps_one k l (con c.args.out.now) (con c.write_texts.new.out) t u o.items well sees written)) c.write_texts.ensures.written
+    (layout, rw items_more (keeps_join k l from (con c.args.out.now) (con c.write_texts.new.out) first.seen t u (items_of os) o.items wrote.1 (keeps_one k l (con c.args.out.now) (con c.write_texts.new.out) t u o.items well sees written)))) c.write_texts.ensures.written
