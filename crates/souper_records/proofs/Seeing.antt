@@ -1,10 +1,10 @@
 -- Items that were seen: their texts, and part after part of a stream.
-use Rattle.std.proofs.Common.{◌≡◌, ◌⊎◌, inl, inr, ℕ, ◌+◌, ◌-◌, ◌^◌, ◌<◌, ◌≤◌, Bool, true, false, not, List, [], ◌∷◌, ◌++◌, map, length, drop, Option, refl, sym, ap, ◌∙◌, subst, arith, append_assoc, append-nil, slice_set, slice_index_or}
-use Rattle.std.specs.Prelude.{String, Result, Ok, Err, OnOk, flat_map, min, bytes_eq, ◌||◌, if◌then◌else◌}
-use Rattle.std.specs.List.{list_any, position_or_len, AllByRecursion}
+use Rattle.std.proofs.Common.{◌≡◌, ℕ, Bool, true, false, List, [], ◌∷◌, ◌++◌, map, length, drop, Option, refl, sym, ap, ◌∙◌, subst, append_assoc, append-nil}
+use Rattle.std.specs.Prelude.{String, string_bytes, string_eq, unwrap_or, flat_map}
+use Rattle.std.specs.List.{AllByRecursion}
+use Rattle.std.specs.Map.{keys_of}
 use Rattle.std.specs.Io.KnownBytes.{Appends}
-use Rattle.std.specs.String.{string_bytes, string_eq}
-use Rattle.indexmap.specs.IndexSet.{insert_key}
+use Rattle.indexmap.specs.IndexMap.{keys, get, index_map_len, insert_entry}
 use Rattle.std.proofs.KnownBytes.{Appends-nil, Appends-trans}
 use Rattle.std.proofs.Math.Seq.{drop-append_seam}
 use Rattle.std.proofs.lemmas.List.{map-append, length-map, drop-map}
@@ -13,6 +13,7 @@ use Rattle.std.proofs.lemmas.Grind.{flat_map-append}
 use Rattle.souper_graph.specs.Values.{Item}
 use Rattle.souper_graph.specs.Renaming.{renamed}
 use Rattle.souper_graph.specs.Syntax.Spelling.{ItemType}
+use Rattle.souper_graph.proofs.Judging.Closed.{All-first, All-second, All-both}
 use Rattle.souper_graph.proofs.Sameness.Renumbered.{ordered}
 use Rattle.souper_graph.proofs.Sameness.Renaming.{graph-renamed, renamed-graph}
 use Rattle.souper_ir.proofs.Items.OneText.{one_text}
@@ -20,12 +21,10 @@ use Rattle.souper_format.specs.Streams.{Stream}
 use Rattle.souper_records.specs.declared.layout.Layout.{Layout}
 use Rattle.souper_records.specs.declared.seen.Seen.{Seen}
 use Rattle.souper_records.specs.Records.{record_of_text, record_of, records_of}
-use Rattle.souper_records.specs.Uniques.{text_by, firsts, AreSame, AreFirsts, HasText, HasSeen, SeesTexts, WritesSeenFirsts, WritesNewFirsts}
-use Rattle.souper_records.specs.Firsts.{firsts_by}
-use Rattle.souper_records.specs.Counts.{count_of, counts_by, IsCounted}
-use Rattle.souper_records.proofs.Tallies.{index, counts-again, counts-new}
-use Rattle.std.proofs.lemmas.Bool.{cases_order}
-use Rattle.souper_records.proofs.Firsts.{firsts-append, keys-more, firsts-unseen, firsts-distinct, firsts-cover, all_append}
+use Rattle.souper_records.specs.Uniques.{text_by, text_count, firsts, AreSame, AreFirsts, HasText, HasSeen, SeesTexts, WritesSeenFirsts, WritesNewFirsts}
+use Rattle.souper_records.specs.Counts.{one_more, count_of}
+use Rattle.souper_records.proofs.Tallies.{tally, inserted, tallied}
+use Rattle.souper_records.proofs.Firsts.{firsts-append, firsts-unseen, firsts-distinct, firsts-cover}
 
 -- ---- one text for each graph
 
@@ -49,71 +48,33 @@ are_firsts k rename before items bs ps =
       covered = firsts-cover key (HasText k rename) (AreSame rename) (one_graph k rename) before items bs ps;
     }
 
--- ---- one more item
-
--- a text is among strings
-among : {M : Type 0} (t : List ℕ) (ks : List (String M)) → list_any (λ s. bytes_eq t (string_bytes s)) ks ≡ list_any (bytes_eq t) (map string_bytes ks)
-among t [] = refl
-among t (s ∷ ks) = ap (λ (b : Bool). bytes_eq t (string_bytes s) || b) (among t ks)
-
--- the texts after a string was inserted
-inserted : {M : Type 0} (ks : List (String M)) (t : String M)
-    → map string_bytes (if list_any (string_eq t) ks then ks else ks ++ t ∷ [])
-    ≡ (if list_any (bytes_eq (string_bytes t)) (map string_bytes ks) then map string_bytes ks else map string_bytes ks ++ string_bytes t ∷ [])
-inserted ks t = rw (among (string_bytes t) ks) (under (list_any (bytes_eq (string_bytes t)) (map string_bytes ks)) refl)
-  where
-    under : (b : Bool) → list_any (bytes_eq (string_bytes t)) (map string_bytes ks) ≡ b
-        → map string_bytes (if list_any (bytes_eq (string_bytes t)) (map string_bytes ks) then ks else ks ++ t ∷ [])
-        ≡ (if list_any (bytes_eq (string_bytes t)) (map string_bytes ks) then map string_bytes ks else map string_bytes ks ++ string_bytes t ∷ [])
-    under true at = rw at refl
-    under false at = rw at (map-append string_bytes ks (t ∷ []))
-
--- where a text is among strings
-place_of : {M : Type 0} (ks : List (String M)) (t : String M) → position_or_len (string_eq t) ks ≡ position_or_len (bytes_eq (string_bytes t)) (map string_bytes ks)
-place_of [] t = refl
-place_of (s ∷ ks) t = ap (λ (n : ℕ). if not (bytes_eq (string_bytes t) (string_bytes s)) then 1 + n else 0) (place_of ks t)
-
-counted_one : (key : Item → List ℕ) (items : List Item) (a : Item) (old new : List ℕ) (n : ℕ) → old ≡ counts_by key items → n ≡ index key a (firsts_by key [] items) → IsCounted old n new → new ≡ counts_by key (items ++ a ∷ [])
-counted_one key items a old new n are at counted = under (cases_order n (length old)) (ap length are ∙ length-map (firsts_by key [] items) (count_of key items))
-  where
-    later : length old ≤ n → length old ≡ length (firsts_by key [] items) → new ≡ counts_by key (items ++ a ∷ [])
-    later more long = counted.1 more ∙ ap (λ (l : List ℕ). l ++ 1 ∷ []) are ∙ sym (counts-new key items a (omega (arith, at)))
-
-    under : (n ≡ length old) ⊎ ((n < length old) ⊎ (length old < n)) → length old ≡ length (firsts_by key [] items) → new ≡ counts_by key (items ++ a ∷ [])
-    under (inl same) long = later (omega arith) long
-    under (inr (inl less)) long =
-        counted.0 less ∙ (λ i. slice_set (are i) (at i) (min (slice_index_or (are i) (at i) 0 + 1) (2 ^ 64 - 1))) ∙ sym (counts-again key items a (omega (arith, at)))
-    under (inr (inr more)) long = later (omega arith) long
-
--- one more item was seen
-pub seen_one : (k : ItemType) (rename : Bool) (items : List Item) (a : Item) (old new : Seen) (t : String _) → HasSeen k rename items old → HasText k rename a → string_bytes t ≡ text_by rename a
-    → new.texts.keys ≡ insert_key string_eq old.texts.keys t → IsCounted old.counts.items (position_or_len (string_eq t) old.texts.keys) new.counts.items → HasSeen k rename (items ++ a ∷ []) new
-seen_one k rename items a old new t h p is keys counted =
-    let key = text_by rename in
-    let old_texts = map key (firsts rename [] items) in (
-      all_append key (HasText k rename) items (a ∷ []) h.0 (p, tt),
-      ap (map string_bytes) keys ∙ inserted old.texts.keys t
-          ∙ (λ i. if list_any (bytes_eq (is i)) (h.1 i) then h.1 i else h.1 i ++ is i ∷ [])
-          ∙ keys-more key items a,
-      counted_one key items a old.counts.items new.counts.items (position_or_len (string_eq t) old.texts.keys) h.2
-          (place_of old.texts.keys t ∙ (λ i. position_or_len (bytes_eq (is i)) (h.1 i))) counted,
-    )
-
 -- ---- part after part
+
+-- the texts that were seen
+texts_of : {M : Type 0} (es : List (String M × ℕ)) → map string_bytes (keys_of es) ≡ map (λ (e : List ℕ × ℕ). e.0) (map text_count es)
+texts_of [] = refl
+texts_of (e ∷ es) = ap (λ l. string_bytes e.0 ∷ l) (texts_of es)
+
+texts_by : (key : Item → List ℕ) (items fs : List Item) → map (λ (e : List ℕ × ℕ). e.0) (map (λ a. (key a, count_of key items a)) fs) ≡ map key fs
+texts_by key items [] = refl
+texts_by key items (a ∷ fs) = ap (λ l. key a ∷ l) (texts_by key items fs)
+
+seen_texts : (k : ItemType) (rename : Bool) (items : List Item) (s : Seen) → HasSeen k rename items s → map string_bytes (keys s.counts) ≡ map (text_by rename) (firsts rename [] items)
+seen_texts k rename items s h = texts_of s.counts.entries ∙ ap (map (λ (e : List ℕ × ℕ). e.0)) h.1 ∙ texts_by (text_by rename) items (firsts rename [] items)
 
 -- the texts that a part adds
 new_texts : (k : ItemType) (rename : Bool) (before taken : List Item) (s t : Seen) → HasSeen k rename before s → HasSeen k rename (before ++ taken) t
-    → map string_bytes (drop (length s.texts.keys) t.texts.keys) ≡ map (text_by rename) (firsts rename before taken)
+    → map string_bytes (drop (index_map_len s.counts) (keys t.counts)) ≡ map (text_by rename) (firsts rename before taken)
 new_texts k rename before taken s t h j =
     let key = text_by rename in
     let old = map key (firsts rename [] before) in
     let more = map key (firsts rename before taken) in
-    let all : map string_bytes t.texts.keys ≡ old ++ more = j.1 ∙ ap (map key) (firsts-append key [] before taken) ∙ map-append key (firsts rename [] before) (firsts rename before taken) in
-    let long : length s.texts.keys ≡ length old = sym (length-map s.texts.keys string_bytes) ∙ ap length h.1 in
-    sym (drop-map string_bytes (length s.texts.keys) t.texts.keys) ∙ (λ i. drop (long i) (all i)) ∙ drop-append_seam old more
+    let all : map string_bytes (keys t.counts) ≡ old ++ more = seen_texts k rename (before ++ taken) t j ∙ ap (map key) (firsts-append key [] before taken) ∙ map-append key (firsts rename [] before) (firsts rename before taken) in
+    let long : index_map_len s.counts ≡ length old = simp length-map (simp length-map at (ap length (seen_texts k rename before s h))) in
+    sym (drop-map string_bytes (index_map_len s.counts) (keys t.counts)) ∙ (λ i. drop (long i) (all i)) ∙ drop-append_seam old more
 
 records_of_new : (k : ItemType) (l : Layout) (before taken : List Item) (s t : Seen) → HasSeen k l.rename before s → HasSeen k l.rename (before ++ taken) t
-    → flat_map (record_of_text l) (map string_bytes (drop (length s.texts.keys) t.texts.keys)) ≡ records_of l (firsts l.rename before taken)
+    → flat_map (record_of_text l) (map string_bytes (drop (index_map_len s.counts) (keys t.counts))) ≡ records_of l (firsts l.rename before taken)
 records_of_new k l before taken s t h j =
     ap (flat_map (record_of_text l)) (new_texts k l.rename before taken s t h j) ∙ flat_map-map (record_of_text l) (text_by l.rename) (firsts l.rename before taken)
 
@@ -126,14 +87,14 @@ pub sees_none : (s : Seen) → SeesTexts [] s s
 sees_none s k rename earlier items seen texts e = subst (λ (x : List Item). HasSeen k rename x s) (sym (ap (λ (x : List Item). earlier ++ x) (no_items (text_by rename) items e) ∙ append-nil earlier)) seen
 
 -- elements whose images are in two parts
-record Split {A B : Type 0} (f : A → B) (items : List A) (xs ys : List B) : Type 0 where
+pub record Split {A B : Type 0} (f : A → B) (items : List A) (xs ys : List B) : Type 0 where
   pub front : List A
   pub back : List A
   pub whole : items ≡ front ++ back
   pub first : map f front ≡ xs
   pub second : map f back ≡ ys
 
-split : {A B : Type 0} (f : A → B) (items : List A) (xs ys : List B) → map f items ≡ xs ++ ys → Split f items xs ys
+pub split : {A B : Type 0} (f : A → B) (items : List A) (xs ys : List B) → map f items ≡ xs ++ ys → Split f items xs ys
 split f items [] ys e = record { front = []; back = items; whole = refl; first = refl; second = e }
 split f [] (x ∷ xs) ys e = absurd cc
 split f (a ∷ items) (x ∷ xs) ys e =
@@ -141,26 +102,20 @@ split f (a ∷ items) (x ∷ xs) ys e =
     let rest = split f items xs ys cc in
     record { front = a ∷ rest.front; back = rest.back; whole = ap (λ (l : List _). a ∷ l) rest.whole; first = (λ i. head i ∷ rest.first i); second = rest.second }
 
-all_first : (P : Item → Type 0) (xs ys : List Item) → AllByRecursion P (xs ++ ys) → AllByRecursion P xs
-all_first P [] ys h = tt
-all_first P (x ∷ xs) ys h = (h.0, all_first P xs ys h.1)
-
-all_parts : (P : Item → Type 0) (xs ys : List Item) → AllByRecursion P (xs ++ ys) → AllByRecursion P ys
-all_parts P [] ys h = h
-all_parts P (x ∷ xs) ys h = all_parts P xs ys h.1
-
 pub sees_both : (xs ys : List (List ℕ)) (s t u : Seen) → SeesTexts xs s t → SeesTexts ys t u → SeesTexts (xs ++ ys) s u
 sees_both xs ys s t u a b k rename earlier items seen texts e =
     let parts = split (text_by rename) items xs ys e in
     let all = subst (λ (x : List Item). AllByRecursion (HasText k rename) x) parts.whole texts in
-    let mid = a k rename earlier parts.front seen (all_first (HasText k rename) parts.front parts.back all) parts.first in
-    let last = b k rename (earlier ++ parts.front) parts.back mid (all_parts (HasText k rename) parts.front parts.back all) parts.second in
+    let mid = a k rename earlier parts.front seen (All-first (HasText k rename) parts.front parts.back all) parts.first in
+    let last = b k rename (earlier ++ parts.front) parts.back mid (All-second (HasText k rename) parts.front parts.back all) parts.second in
     subst (λ (x : List Item). HasSeen k rename x u) (append_assoc earlier parts.front parts.back ∙ ap (λ (x : List Item). earlier ++ x) (sym parts.whole)) last
 
-pub sees_one : (s u : Seen) (t : String _) → u.texts.keys ≡ insert_key string_eq s.texts.keys t → IsCounted s.counts.items (position_or_len (string_eq t) s.texts.keys) u.counts.items → SeesTexts (string_bytes t ∷ []) s u
-sees_one s u t keys counted k rename earlier [] seen texts e = absurd cc
-sees_one s u t keys counted k rename earlier (a ∷ []) seen texts e = seen_one k rename earlier a s u t seen texts.0 (let is : string_bytes t ≡ text_by rename a = cc in is) keys counted
-sees_one s u t keys counted k rename earlier (a ∷ (b ∷ items)) seen texts e = absurd cc
+pub sees_one : (s u : Seen) (t : String _) → u.counts.entries ≡ insert_entry string_eq s.counts.entries t (one_more (unwrap_or (get string_eq s.counts t) 0)) → SeesTexts (string_bytes t ∷ []) s u
+sees_one s u t is k rename earlier [] seen texts e = absurd cc
+sees_one s u t is k rename earlier (a ∷ []) seen texts e =
+    let same : string_bytes t ≡ text_by rename a = cc in
+    (All-both (HasText k rename) earlier (a ∷ []) seen.0 texts, ap (map text_count) is ∙ inserted t s.counts.entries ∙ (λ i. tally (same i) (seen.1 i)) ∙ tallied (text_by rename) earlier a)
+sees_one s u t is k rename earlier (a ∷ (b ∷ items)) seen texts e = absurd cc
 
 -- of these texts all but the rest were seen
 pub record SeenTexts {M : Type 0} (all rest : List (String M)) (s t : Seen) : Type 0 where
@@ -183,7 +138,7 @@ seen_texts_all all rest s t p e = subst (λ (x : List (String _)). SeesTexts (ma
 
 -- the records that were written of one part
 abbrev pub WritesNew : Layout → Option (List ℕ) → Option (List ℕ) → Seen → Seen → Type 0
-WritesNew l now new s t = Appends now new (flat_map (record_of_text l) (map string_bytes (drop (length s.texts.keys) t.texts.keys)))
+WritesNew l now new s t = Appends now new (flat_map (record_of_text l) (map string_bytes (drop (index_map_len s.counts) (keys t.counts))))
 
 -- of one part
 pub keeps_one : (k : ItemType) (l : Layout) (now new : Option (List ℕ)) (t u : Seen) (ys : List Item) → AllByRecursion (HasText k l.rename) ys → SeesTexts (map (text_by l.rename) ys) t u → WritesNew l now new t u → WritesNewFirsts k l now new t u ys
@@ -210,9 +165,4 @@ keeps_none k l old s earlier seen = (subst (λ (x : List Item). HasSeen k l.rena
 pub first_records : (k : ItemType) (l : Layout) (out : Stream) (s t : Seen) (earlier items : List Item) → HasSeen k l.rename earlier s → WritesNewFirsts k l out.before out.after s t items → WritesSeenFirsts k l earlier out t items
 first_records k l out s t earlier items seen w =
     let both = w earlier seen in
-    ((firsts l.rename earlier items, are_firsts k l.rename earlier items seen.0 (all_parts (HasText k l.rename) earlier items both.0.0), both.1), both.0)
-
--- what holds if a result is Ok
-pub on_ok : {X E : Type 0} (r : Result X E) {P Q : Type 0} → (P → Q) → OnOk r P → OnOk r Q
-on_ok (Ok x) f h = f h
-on_ok (Err e) f h = tt
+    ((firsts l.rename earlier items, are_firsts k l.rename earlier items seen.0 (All-second (HasText k l.rename) earlier items both.0.0), both.1), both.0)

@@ -1,144 +1,76 @@
--- Lemmas. How many elements have the key of each first one.
-use Rattle.std.proofs.Common.{◌≡◌, ℕ, ◌+◌, ◌-◌, ◌^◌, ◌<◌, ◌≤◌, suc, Bool, true, false, cond, List, [], ◌∷◌, ◌++◌, map, length, refl, sym, ap, ◌∙◌, arith, append-nil, slice_set, slice_index_or}
-use Rattle.std.specs.Prelude.{min, bytes_eq, ◌||◌}
-use Rattle.std.specs.List.{count_by, position_or_len, AllByRecursion}
+-- Lemmas. The first element of each key and how many have it, with one more element.
+use Rattle.std.proofs.Common.{◌≡◌, inl, inr, ℕ, ◌+◌, true, false, cond, List, [], ◌∷◌, ◌++◌, map, refl, sym, ap, ◌∙◌, arith, append-nil}
+use Rattle.std.specs.Prelude.{String, string_bytes, string_eq, bytes_eq, unwrap_or, if◌then◌else◌}
+use Rattle.std.specs.List.{count_by, AllByRecursion}
+use Rattle.std.specs.Map.{lookup}
+use Rattle.std.proofs.lemmas.Bool.{cases_Bool, or_parts, both_ways, false_from_ne_true}
 use Rattle.std.proofs.lemmas.Slice.Eq.{bytes_eq-Decides}
-use Rattle.std.proofs.lemmas.List.{map-append}
 use Rattle.std.proofs.lemmas.List.Sums.{sum_by-append, sum_by-cons}
+use Rattle.indexmap.specs.IndexMap.{insert_entry}
+use Rattle.souper_graph.proofs.Judging.Closed.{All-from_has}
 use Rattle.souper_records.specs.Firsts.{has_key, firsts_by, NoTwo}
-use Rattle.souper_records.specs.Counts.{count_of, counts_by}
-use Rattle.souper_records.proofs.Firsts.{firsts-append, firsts-distinct, has-firsts, left_none, right_none, own_key}
+use Rattle.souper_records.specs.Counts.{one_more, count_of, counts_by}
+use Rattle.souper_records.specs.Uniques.{text_count}
+use Rattle.souper_records.proofs.Firsts.{firsts-append, firsts-distinct, has-firsts}
+
+-- the count of a key is one more, or is 1 after all if there was none
+abbrev pub tally : List ℕ → List (List ℕ × ℕ) → List (List ℕ × ℕ)
+tally k [] = (k, one_more 0) ∷ []
+tally k (e ∷ es) = if bytes_eq k e.0 then (e.0, one_more e.1) ∷ es else e ∷ tally k es
+
+-- of a map
+pub inserted : {M : Type 0} (t : String M) (es : List (String M × ℕ)) → map text_count (insert_entry string_eq es t (one_more (unwrap_or (lookup (string_eq t) es) 0))) ≡ tally (string_bytes t) (map text_count es)
+inserted t [] = refl
+inserted t (e ∷ es) = elim (cases_Bool (string_eq t e.0)) [
+  | inl own ↦ rw own refl
+  | inr other ↦ rw other (ap (λ l. text_count e ∷ l) (inserted t es))
+]
 
 module _ {A : Type 0} (key : A → List ℕ) where
+  is_own : (a : A) → bytes_eq (key a) (key a) ≡ true
+  is_own a = (bytes_eq-Decides (key a) (key a)).1 refl
+
+  not_own : (a x : A) → (key x ≡ key a → ⊥) → bytes_eq (key a) (key x) ≡ false
+  not_own a x other = false_from_ne_true (bytes_eq (key a) (key x)) (λ same. other (sym ((bytes_eq-Decides (key a) (key x)).0 same)))
+
   counts_more : (a x : A) (xs : List A) → count_by (λ b. bytes_eq (key a) (key b)) (xs ++ x ∷ []) ≡ count_by (λ b. bytes_eq (key a) (key b)) xs + cond (bytes_eq (key a) (key x)) 1 0
   counts_more a x xs = let e = sum_by-append (λ b. cond (bytes_eq (key a) (key b)) 1 0) xs (x ∷ []) in omega arith
 
-  other_count : (a x : A) (xs : List A) → bytes_eq (key a) (key x) ≡ false → count_of key (xs ++ x ∷ []) a ≡ count_of key xs a
-  other_count a x xs e = ap (λ (n : ℕ). min n (2 ^ 64 - 1)) (counts_more a x xs ∙ rw e (let z : count_by (λ b. bytes_eq (key a) (key b)) xs + 0 ≡ count_by (λ b. bytes_eq (key a) (key b)) xs = omega arith in z))
+  other_count : (a x : A) (xs : List A) → (key x ≡ key a → ⊥) → count_of key xs a ≡ count_of key (xs ++ x ∷ []) a
+  other_count a x xs other = let more = rw (not_own a x other) at (counts_more a x xs) in omega arith
 
-  own_count : (a x : A) (xs : List A) → bytes_eq (key a) (key x) ≡ true → count_of key (xs ++ x ∷ []) a ≡ min (count_of key xs a + 1) (2 ^ 64 - 1)
-  own_count a x xs e =
-      let n = count_by (λ b. bytes_eq (key a) (key b)) xs in
-      let more : count_by (λ b. bytes_eq (key a) (key b)) (xs ++ x ∷ []) ≡ n + 1 = counts_more a x xs ∙ rw e refl in
-      ap (λ (m : ℕ). min m (2 ^ 64 - 1)) more ∙ capped n
-    where
-      capped : (n : ℕ) → min (n + 1) (2 ^ 64 - 1) ≡ min (min n (2 ^ 64 - 1) + 1) (2 ^ 64 - 1)
-      capped n = omega arith
+  own_count : (a x : A) (xs : List A) → key x ≡ key a → one_more (count_of key xs a) ≡ count_of key (xs ++ x ∷ []) a
+  own_count a x xs same = let more = rw ((bytes_eq-Decides (key a) (key x)).1 (sym same)) at (counts_more a x xs) in omega arith
 
-  turned : (a x : A) (b : Bool) → bytes_eq (key x) (key a) ≡ b → bytes_eq (key a) (key x) ≡ b
-  turned a x true e = (bytes_eq-Decides (key a) (key x)).1 (sym ((bytes_eq-Decides (key x) (key a)).0 e))
-  turned a x false e = under (bytes_eq (key a) (key x)) refl
-    where
-      under : (c : Bool) → bytes_eq (key a) (key x) ≡ c → bytes_eq (key a) (key x) ≡ false
-      under false at = at
-      under true at = absurd (own_key key (key x) a e (sym ((bytes_eq-Decides (key a) (key x)).0 at)))
+  no_count : (x : A) (xs : List A) → has_key key (key x) xs ≡ false → count_of key xs x ≡ 0
+  no_count x [] none = omega arith
+  no_count x (a ∷ xs) none =
+      let p = or_parts (bytes_eq (key x) (key a)) (has_key key (key x) xs) none in
+      let first : count_by (λ b. bytes_eq (key x) (key b)) (a ∷ xs) ≡ 0 + count_by (λ b. bytes_eq (key x) (key b)) xs = sum_by-cons (λ b. cond (bytes_eq (key x) (key b)) 1 0) a xs ∙ rw p.0 refl in
+      let rest = no_count x xs p.1 in
+      omega arith
 
-  -- the counts of others stay
-  other_counts : (x : A) (xs fs : List A) → has_key key (key x) fs ≡ false → map (count_of key (xs ++ x ∷ [])) fs ≡ map (count_of key xs) fs
-  other_counts x xs [] no_key = refl
-  other_counts x xs (a ∷ fs) no_key =
-      let one = left_none (bytes_eq (key x) (key a)) (has_key key (key x) fs) no_key in
-      let others = right_none (bytes_eq (key x) (key a)) (has_key key (key x) fs) no_key in
-      (λ i. other_count a x xs (turned a x false one) i ∷ other_counts x xs fs others i)
+  abbrev counted : List A → A → List ℕ × ℕ
+  counted xs a = (key a, count_of key xs a)
 
-  apart : (x a : A) (fs : List A) → key x ≡ key a → AllByRecursion (λ b. key a ≡ key b → ⊥) fs → has_key key (key x) fs ≡ false
-  apart x a [] same h = refl
-  apart x a (b ∷ fs) same h = under (bytes_eq (key x) (key b)) refl (apart x a fs same h.1)
-    where
-      under : (c : Bool) → bytes_eq (key x) (key b) ≡ c → has_key key (key x) fs ≡ false → has_key key (key x) (b ∷ fs) ≡ false
-      under true at rest = absurd (h.0 (sym same ∙ (bytes_eq-Decides (key x) (key b)).0 at))
-      under false at rest = rw at rest
+  -- the counts of those with another key stay
+  others : (x a : A) (xs fs : List A) → key x ≡ key a → AllByRecursion (λ b. key a ≡ key b → ⊥) fs → map (counted xs) fs ≡ map (counted (xs ++ x ∷ [])) (fs ++ [])
+  others x a xs [] same h = refl
+  others x a xs (b ∷ fs) same h = (λ i. (key b, other_count b x xs (λ e. h.0 (sym same ∙ e)) i) ∷ others x a xs fs same h.1 i)
 
-  abbrev pub index : A → List A → ℕ
-  index x fs = position_or_len (bytes_eq (key x)) (map key fs)
+  among : (x : A) (xs fs : List A) → NoTwo (λ a b. key a ≡ key b) fs → (has_key key (key x) fs ≡ false → count_of key xs x ≡ 0)
+      → tally (key x) (map (counted xs) fs) ≡ map (counted (xs ++ x ∷ [])) (fs ++ (if has_key key (key x) fs then [] else x ∷ []))
+  among x xs [] two fresh = (λ i. (key x, (ap one_more (sym (fresh refl)) ∙ own_count x x xs refl) i) ∷ [])
+  among x xs (a ∷ fs) two fresh = elim (cases_Bool (bytes_eq (key x) (key a))) [
+    | inl own ↦ let same : key x ≡ key a = (bytes_eq-Decides (key x) (key a)).0 own in rw own (λ i. (key a, own_count a x xs same i) ∷ others x a xs fs same two.0 i)
+    | inr other ↦ let unlike : key x ≡ key a → ⊥ = (λ same. both_ways (bytes_eq (key x) (key a)) other ((bytes_eq-Decides (key x) (key a)).1 same)) in
+        rw other (λ i. (key a, other_count a x xs unlike i) ∷ among x xs fs two.1 (λ none. fresh (rw other none)) i)
+  ]
 
-  set_next : (n y : ℕ) (ys : List ℕ) → slice_set (y ∷ ys) (1 + n) (min (slice_index_or (y ∷ ys) (1 + n) 0 + 1) (2 ^ 64 - 1)) ≡ y ∷ slice_set ys n (min (slice_index_or ys n 0 + 1) (2 ^ 64 - 1))
-  set_next n y ys = let next : 1 + n ≡ suc n = omega arith in ap (λ (m : ℕ). slice_set (y ∷ ys) m (min (slice_index_or (y ∷ ys) m 0 + 1) (2 ^ 64 - 1))) next
-
-  -- the count of the key of x grows by one
-  pub own_counts : (x : A) (xs fs : List A) → NoTwo (λ a b. key a ≡ key b) fs → has_key key (key x) fs ≡ true
-      → map (count_of key (xs ++ x ∷ [])) fs ≡ slice_set (map (count_of key xs) fs) (index x fs) (min (slice_index_or (map (count_of key xs) fs) (index x fs) 0 + 1) (2 ^ 64 - 1))
-  own_counts x xs [] two has = absurd cc
-  own_counts x xs (a ∷ fs) two has = under (bytes_eq (key x) (key a)) refl (λ h. own_counts x xs fs two.1 h)
-    where
-      under : (b : Bool) → bytes_eq (key x) (key a) ≡ b
-          → (has_key key (key x) fs ≡ true → map (count_of key (xs ++ x ∷ [])) fs ≡ slice_set (map (count_of key xs) fs) (index x fs) (min (slice_index_or (map (count_of key xs) fs) (index x fs) 0 + 1) (2 ^ 64 - 1)))
-          → map (count_of key (xs ++ x ∷ [])) (a ∷ fs) ≡ slice_set (map (count_of key xs) (a ∷ fs)) (index x (a ∷ fs)) (min (slice_index_or (map (count_of key xs) (a ∷ fs)) (index x (a ∷ fs)) 0 + 1) (2 ^ 64 - 1))
-      under true at rest = rw at (λ i. own_count a x xs (turned a x true at) i ∷ other_counts x xs fs (apart x a fs ((bytes_eq-Decides (key x) (key a)).0 at) two.0) i)
-      under false at rest =
-          let later : has_key key (key x) fs ≡ true = sym (ap (λ (c : Bool). c || has_key key (key x) fs) at) ∙ has in
-          rw at ((λ i. other_count a x xs (turned a x false at) i ∷ rest later i) ∙ sym (set_next (index x fs) (count_of key xs a) (map (count_of key xs) fs)))
-
-  index_within : (x : A) (fs : List A) → has_key key (key x) fs ≡ true → index x fs < length fs
-  index_within x [] has = absurd cc
-  index_within x (a ∷ fs) has = under (bytes_eq (key x) (key a)) refl (index_within x fs)
-    where
-      under : (b : Bool) → bytes_eq (key x) (key a) ≡ b → (has_key key (key x) fs ≡ true → index x fs < length fs) → index x (a ∷ fs) < length (a ∷ fs)
-      under true at rest = rw at (omega arith)
-      under false at rest =
-          let later : has_key key (key x) fs ≡ true = sym (ap (λ (c : Bool). c || has_key key (key x) fs) at) ∙ has in
-          let less = rest later in
-          rw at (omega arith)
-
-  index_end : (x : A) (fs : List A) → has_key key (key x) fs ≡ false → index x fs ≡ length fs
-  index_end x [] none = refl
-  index_end x (a ∷ fs) none =
-      let one = left_none (bytes_eq (key x) (key a)) (has_key key (key x) fs) none in
-      let others = right_none (bytes_eq (key x) (key a)) (has_key key (key x) fs) none in
-      let rest = index_end x fs others in
-      rw one (omega arith)
-
-  count_none : (x : A) (xs : List A) → has_key key (key x) xs ≡ false → count_by (λ b. bytes_eq (key x) (key b)) xs ≡ 0
-  count_none x [] none = refl
-  count_none x (a ∷ xs) none =
-      let one = left_none (bytes_eq (key x) (key a)) (has_key key (key x) xs) none in
-      let others = right_none (bytes_eq (key x) (key a)) (has_key key (key x) xs) none in
-      let apart = sum_by-cons (λ b. cond (bytes_eq (key x) (key b)) 1 0) a xs in
-      let rest = count_none x xs others in
-      apart ∙ rw one (rw rest (let z : 0 + 0 ≡ 0 = omega arith in z))
-
-  distinct : (xs : List A) → NoTwo (λ a b. key a ≡ key b) (firsts_by key [] xs)
-  distinct xs = firsts-distinct key (λ a. Unit {0}) (λ a b. key a ≡ key b) (λ a b p q e. e) [] xs (all_units xs)
-    where
-      all_units : (ys : List A) → AllByRecursion (λ (a : A). Unit {0}) ys
-      all_units [] = tt
-      all_units (y ∷ ys) = (tt, all_units ys)
-
-  -- ---- one more element
-
-  among : (xs : List A) (x : A) (b : Bool) → has_key key (key x) xs ≡ b → has_key key (key x) (firsts_by key [] xs) ≡ b
-  among xs x b at = has-firsts key (key x) [] xs ∙ at
-
-  counts_again : (xs : List A) (x : A) → has_key key (key x) xs ≡ true
-      → counts_by key (xs ++ x ∷ []) ≡ slice_set (counts_by key xs) (index x (firsts_by key [] xs)) (min (slice_index_or (counts_by key xs) (index x (firsts_by key [] xs)) 0 + 1) (2 ^ 64 - 1))
-  counts_again xs x at =
+  pub tallied : (xs : List A) (x : A) → tally (key x) (counts_by key xs) ≡ counts_by key (xs ++ x ∷ [])
+  tallied xs x =
       let fs = firsts_by key [] xs in
-      let same : firsts_by key [] (xs ++ x ∷ []) ≡ fs = firsts-append key [] xs (x ∷ []) ∙ rw at (append-nil fs) in
-      ap (map (count_of key (xs ++ x ∷ []))) same ∙ own_counts x xs fs (distinct xs) (among xs x true at)
-
-  counts_new : (xs : List A) (x : A) → has_key key (key x) xs ≡ false → counts_by key (xs ++ x ∷ []) ≡ counts_by key xs ++ 1 ∷ []
-  counts_new xs x at =
-      let fs = firsts_by key [] xs in
-      let more : firsts_by key [] (xs ++ x ∷ []) ≡ fs ++ x ∷ [] = firsts-append key [] xs (x ∷ []) ∙ rw at refl in
-      let own : bytes_eq (key x) (key x) ≡ true = (bytes_eq-Decides (key x) (key x)).1 refl in
-      let none = count_none x xs at in
-      let zero_is : count_of key xs x ≡ 0 = ap (λ (n : ℕ). min n (2 ^ 64 - 1)) none ∙ (let z : min 0 (2 ^ 64 - 1) ≡ 0 = omega arith in z) in
-      let one : count_of key (xs ++ x ∷ []) x ≡ 1 = own_count x x xs own ∙ ap (λ (n : ℕ). min (n + 1) (2 ^ 64 - 1)) zero_is ∙ (let z : min (0 + 1) (2 ^ 64 - 1) ≡ 1 = omega arith in z) in
-      ap (map (count_of key (xs ++ x ∷ []))) more ∙ map-append (count_of key (xs ++ x ∷ [])) fs (x ∷ []) ∙ (λ i. other_counts x xs fs (among xs x false at) i ++ one i ∷ [])
-
-  -- the index of its key is the index of a first one
-  pub counts-again : (xs : List A) (x : A) → index x (firsts_by key [] xs) < length (firsts_by key [] xs)
-      → counts_by key (xs ++ x ∷ []) ≡ slice_set (counts_by key xs) (index x (firsts_by key [] xs)) (min (slice_index_or (counts_by key xs) (index x (firsts_by key [] xs)) 0 + 1) (2 ^ 64 - 1))
-  counts-again xs x less = under (has_key key (key x) xs) refl
-    where
-      under : (b : Bool) → has_key key (key x) xs ≡ b → counts_by key (xs ++ x ∷ []) ≡ slice_set (counts_by key xs) (index x (firsts_by key [] xs)) (min (slice_index_or (counts_by key xs) (index x (firsts_by key [] xs)) 0 + 1) (2 ^ 64 - 1))
-      under true at = counts_again xs x at
-      under false at = let end = index_end x (firsts_by key [] xs) (among xs x false at) in absurd (omega arith)
-
-  -- the index of its key is after all
-  pub counts-new : (xs : List A) (x : A) → length (firsts_by key [] xs) ≤ index x (firsts_by key [] xs) → counts_by key (xs ++ x ∷ []) ≡ counts_by key xs ++ 1 ∷ []
-  counts-new xs x more = under (has_key key (key x) xs) refl
-    where
-      under : (b : Bool) → has_key key (key x) xs ≡ b → counts_by key (xs ++ x ∷ []) ≡ counts_by key xs ++ 1 ∷ []
-      under false at = counts_new xs x at
-      under true at = let within = index_within x (firsts_by key [] xs) (among xs x true at) in absurd (omega arith)
+      let has : has_key key (key x) fs ≡ has_key key (key x) xs = has-firsts key (key x) [] xs in
+      let two : NoTwo (λ a b. key a ≡ key b) fs = firsts-distinct key (λ a. Unit {0}) (λ a b. key a ≡ key b) (λ a b p q e. e) [] xs (All-from_has (λ a. Unit {0}) xs (λ a h. tt)) in
+      among x xs fs two (λ none. no_count x xs (sym has ∙ none))
+      ∙ ap (map (counted (xs ++ x ∷ []))) ((λ i. fs ++ (if has i then [] else x ∷ [])) ∙ ap (λ l. fs ++ l) (sym (append-nil (if has_key key (key x) xs then [] else x ∷ []))) ∙ sym (firsts-append key [] xs (x ∷ [])))

@@ -12,7 +12,7 @@ program_line says = codes "souper_items: " ++ (says ++ codes "\n")
 
 -- the line with a message about a stream
 abbrev pub named_line : List ℕ → List ℕ → List ℕ
-named_line name says = program_line (name ++ (codes ": " ++ says))
+named_line name says = codes "souper_items: " ++ (name ++ (codes ": " ++ (says ++ codes "\n")))
 
 -- the line for out of memory
 abbrev pub IsMemoryLine : List ℕ → Type 0

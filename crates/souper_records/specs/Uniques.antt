@@ -1,5 +1,5 @@
 -- Definitions. The first item of each graph.
-use Rattle.std.specs.Prelude.{◌≡◌, ℕ, Bool, true, false, List, [], ◌++◌, map, flat_map, take, codes, decimal, Option, nat_le, not, ◌||◌, if◌then◌else◌}
+use Rattle.std.specs.Prelude.{◌≡◌, ℕ, Bool, true, false, List, [], ◌++◌, map, flat_map, take, codes, decimal, Option, nat_le, not, ◌||◌, if◌then◌else◌, String}
 use Rattle.std.specs.List.{AllByRecursion, filter}
 use Rattle.std.specs.Io.KnownBytes.{Appends}
 use Rattle.std.specs.String.{string_bytes}
@@ -43,9 +43,13 @@ pub record AreFirsts (rename : Bool) (earlier items first : List Item) : Type 0 
 abbrev pub HasText : ItemType → Bool → Item → Type 0
 HasText k rename a = IsWellFormedOf k a × WellFormed (chosen rename a)
 
--- these items were seen: the index has the texts of the first ones among them, the counts say how many have each
+-- the bytes of a text, and its count
+abbrev pub text_count : {M : Type 0} → String M × ℕ → List ℕ × ℕ
+text_count e = (string_bytes e.0, e.1)
+
+-- these items were seen: the index has the texts of the first ones among them, and how many have each
 abbrev pub HasSeen : ItemType → Bool → List Item → Seen → Type 0
-HasSeen k rename items s = AllByRecursion (HasText k rename) items × (map string_bytes s.texts.keys ≡ map (text_by rename) (firsts rename [] items)) × (s.counts.items ≡ counts_by (text_by rename) items)
+HasSeen k rename items s = AllByRecursion (HasText k rename) items × (map text_count s.counts.entries ≡ counts_by (text_by rename) items)
 
 -- after the items that were seen before, whichever they are, items with these texts were seen
 abbrev pub SeesTexts : List (List ℕ) → Seen → Seen → Type 0

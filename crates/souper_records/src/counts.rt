@@ -1,5 +1,5 @@
 //! The records of the distinct items, after all were read.
-ghost use Rattle.std.specs.Prelude.{◌≡◌, ◌⊎◌, ◌++◌, ℕ, List, [], slice_index_or, OnOk, IfErr};
+ghost use Rattle.std.specs.Prelude.{◌≡◌, ◌⊎◌, ◌++◌, ℕ, List, [], OnOk, IfErr};
 ghost use Rattle.std.specs.String.{string_bytes};
 ghost use Rattle.souper_graph.specs.Syntax.Spelling.{ItemType};
 ghost use Rattle.souper_graph.specs.Values.{Item};
@@ -52,17 +52,6 @@ fn append_summary(
     append_record_of_text(alloc, layout, text, out)
 }
 
-// The count at the index, or 0 if there is none.
-fn count_at(counts: &[u64], index: usize) -> u64
-    ensures { result ≡ slice_index_or counts.now index 0 }
-{
-    if index < counts.len() {
-        counts[index]
-    } else {
-        0
-    }
-}
-
 // The size of records in bytes from which on they are written.
 const CHUNK: usize = 65536;
 
@@ -98,12 +87,9 @@ pub fn write_counts<W: Write>(
     ensures stopped { IfErr result (λ stop. UnlessOutput stop (has_failed out.new) ((k : ItemType) (items : List Item) → HasSeen k layout.rename items seen.now
         → WritesSummaryBegun layout summary items (stream W.contents out.old out.new))) }
 {
-    let texts = seen.texts.as_slice();
     let mut records = String::new(alloc);
-    for index in 0..texts.len() {
-        let count = count_at(&seen.counts, index);
-        let text = texts[index].as_str();
-        append_summary(alloc, layout, summary, text, count, &mut records)?;
+    for (text, count) in seen.counts.iter() {
+        append_summary(alloc, layout, summary, text.as_str(), *count, &mut records)?;
         write_many(&mut records, out)?;
     }
     write_text(&records, out)

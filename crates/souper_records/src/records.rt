@@ -17,6 +17,7 @@ use souper_ir::parse::{ParseError, WholeItem, parse_into};
 use std::alloc::{AllocError, Global};
 
 // Appends the canonical text of the item.
+#[tactic(auto, using(souper_graph::proofs::Judging::Needed::well_formed_below))]
 fn append_canonical<T: Item>(item: &T, out: &mut String) -> Result<(), AllocError>
     requires { WellFormed (T.view item.now) }
     ensures { OnOk result (string_bytes out.new ≡ string_bytes out.old ++ text_of (T.view item.now)) }
@@ -29,6 +30,7 @@ fn append_canonical<T: Item>(item: &T, out: &mut String) -> Result<(), AllocErro
 }
 
 // Appends the canonical text of the item, or of the item with names by its printed order.
+#[tactic(auto, using(souper_graph::proofs::Judging::Needed::well_formed_below))]
 fn append_text<T: Item + Drop>(rename: bool, item: &T, out: &mut String) -> Result<(), AllocError>
     requires { WellFormed (T.view item.now) }
     ensures text { OnOk result (string_bytes out.new ≡ string_bytes out.old ++ text_of (chosen rename (T.view item.now))) }
@@ -44,6 +46,7 @@ fn append_text<T: Item + Drop>(rename: bool, item: &T, out: &mut String) -> Resu
 }
 
 // Appends the canonical text of the item with names by its printed order. The item is dropped then, so it is renamed in place.
+#[tactic(auto, using(souper_graph::proofs::Judging::Needed::well_formed_below))]
 fn append_renamed<T: Item + Drop>(item: &mut T, out: &mut String) -> Result<(), AllocError>
     requires { WellFormed (T.view item.old) }
     ensures text { OnOk result (string_bytes out.new ≡ string_bytes out.old ++ text_of (renamed (T.view item.old))) }

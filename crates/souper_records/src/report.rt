@@ -23,13 +23,7 @@ pub fn report_memory<E: Write>(err: &mut Watched<E>)
 fn line(alloc: Global, name: &str, says: &str) -> Result<String, AllocError>
     ensures { IfOk result (λ line. string_bytes line ≡ named_line name.now says.now) }
 {
-    let mut line = String::new(alloc);
-    line.push_str("souper_items: ")?;
-    line.push_str(name)?;
-    line.push_str(": ")?;
-    line.push_str(says)?;
-    line.push_str("\n")?;
-    Ok(line)
+    format!(in alloc; "souper_items: {name}: {says}\n")
 }
 
 // Reports a message about the stream of this name.

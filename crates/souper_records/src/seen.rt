@@ -1,21 +1,30 @@
 //! The index of the distinct items.
-ghost use Rattle.std.specs.Prelude.{◌≡◌, ◌∷◌, [], Bool, OnOk};
+ghost use Rattle.std.specs.Prelude.{◌≡◌, ◌∷◌, [], Bool, OnOk, unwrap_or, string_eq};
+ghost use Rattle.indexmap.specs.IndexMap.{get, insert_entry};
 ghost use Rattle.std.specs.String.{string_bytes};
 ghost use Rattle.souper_graph.specs.Syntax.Spelling.{ItemType};
-ghost use Rattle.souper_records.specs.Counts.{IsCounted};
+ghost use Rattle.souper_records.specs.Counts.{one_more};
 ghost use Rattle.souper_records.specs.Uniques.{HasSeen, SeesTexts};
 
-use indexmap::IndexSet;
+use indexmap::IndexMap;
 use std::alloc::{AllocError, Global};
+
+// Counts an item with this text.
+fn count(counts: &mut IndexMap<String, u64>, text: String) -> Result<(), AllocError>
+    ensures { OnOk result (counts.new.entries ≡ insert_entry string_eq counts.old.entries text (one_more (unwrap_or (get string_eq counts.old text) 0))) }
+{
+    let count = counts.entry(text)?.or_insert(0);
+    *count = count.saturating_add(1);
+    Ok(())
+}
 
 /// The distinct canonical texts of the items so far, in the order of their first items, and how many items have each.
 #[derive(Drop)]
 pub struct Seen {
     pub(crate) alloc: Global,
-    pub(crate) texts: IndexSet<String>,
 
     // How many items have each text, at most `u64::MAX`.
-    pub(crate) counts: Vec<u64>,
+    pub(crate) counts: IndexMap<String, u64>,
 }
 
 impl Seen {
@@ -25,8 +34,7 @@ impl Seen {
     {
         Seen {
             alloc,
-            texts: IndexSet::new(alloc),
-            counts: Vec::new(alloc),
+            counts: IndexMap::new(alloc),
         }
     }
 
@@ -34,25 +42,6 @@ impl Seen {
     pub(crate) fn add(&mut self, text: String) -> Result<(), AllocError>
         ensures { OnOk result (SeesTexts (string_bytes text ∷ []) self.old self.new) }
     {
-        let index = match self.texts.insert_full(text) {
-            Ok((index, _)) => index,
-            Err(_) => return Err(AllocError),
-        };
-        self.count(index)
-    }
-
-    // Counts an item whose text has this index.
-    fn count(&mut self, index: usize) -> Result<(), AllocError>
-        ensures texts { self.new.texts ≡ self.old.texts }
-        ensures counted { OnOk result (IsCounted self.old.counts.items index self.new.counts.items) }
-    {
-        if index < self.counts.len() {
-            self.counts[index] = self.counts[index].saturating_add(1);
-            return Ok(());
-        }
-        match self.counts.push(1) {
-            Ok(()) => Ok(()),
-            Err(_) => Err(AllocError),
-        }
+        count(&mut self.counts, text)
     }
 }

@@ -102,10 +102,11 @@ impl<T: StreamItem + Drop> PartSink<T> for Firsts {
         _refusal: Option<&ParseError>,
         out: &mut Watched<W>,
     ) -> Result<(), Stop> {
-        let start = self.seen.texts.len();
+        let start = self.seen.counts.len();
         let texts = mem::replace(&mut self.texts, Vec::new(alloc));
         see_texts(&mut self.seen, texts)?;
-        write_texts(alloc, self.layout, self.seen.texts.as_slice(), start, out)
+        let seen = self.seen.counts.keys();
+        write_texts(alloc, self.layout, seen.as_slice(), start, out)
     }
 }
 

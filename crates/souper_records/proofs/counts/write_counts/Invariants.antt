@@ -1,8 +1,8 @@
 -- the records so far were written, but for the last ones
 use Rattle.std.specs.String.{string_bytes}
-use Rattle.souper_records.proofs.Counting.{IsWritten}
-use Rattle.souper_records.proofs.Writers.{inner_bytes}
+use Rattle.souper_format.specs.Watching.{watched_inner}
+use Rattle.souper_records.proofs.Counting.{Taken}
 use Rattle.souper_records.proofs.counts.write_counts.Given as goal
 
-abbrev pub invariant-loop-index : goal.invariant-loop-index
-invariant-loop-index g l = IsWritten (l.fn.layout, l.fn.summary) (inner_bytes g.W.Write.contents l.fn.out) (inner_bytes g.W.Write.contents l.out) l.fn.seen.texts.keys l.fn.seen.counts.items l.index (string_bytes l.records)
+abbrev pub invariant-loop-text : goal.invariant-loop-text
+invariant-loop-text g l = Taken l.fn.layout l.fn.summary (g.W.Write.contents (watched_inner l.fn.out)) (g.W.Write.contents (watched_inner l.out)) l.fn.seen.counts.entries l.text-iterator (string_bytes l.records)
