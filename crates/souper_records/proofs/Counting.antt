@@ -5,6 +5,7 @@ use Rattle.std.specs.List.{filter}
 use Rattle.std.specs.Io.KnownBytes.{Appends}
 use Rattle.std.proofs.KnownBytes.{Appends-trans}
 use Rattle.std.proofs.Math.Seq.{take-append_seam}
+use Rattle.std.proofs.lemmas.Bool.{cases_Bool}
 use Rattle.std.proofs.lemmas.Grind.{flat_map-append}
 use Rattle.std.proofs.lemmas.List.{map-append}
 use Rattle.std.proofs.lemmas.List.Elements.{filter-append}
@@ -17,7 +18,6 @@ use Rattle.souper_records.specs.declared.layout.Summary.{Summary}
 use Rattle.souper_records.specs.declared.seen.Seen.{Seen}
 use Rattle.souper_records.specs.Counts.{count_of}
 use Rattle.souper_records.specs.Uniques.{text_by, text_count, firsts, HasSeen, is_listed, summary_of_text, summary_of_item, summary_of, listed, WritesSummaryBegun}
-use Rattle.souper_records.proofs.Seeing.{split}
 
 -- what is written of texts with their counts
 abbrev pub lines_of : Layout → Summary → List (List ℕ × ℕ) → List ℕ
@@ -56,15 +56,29 @@ taken_written {l = l} {s = s} {old} {now} {new} {rest = rest} {last = last} t (i
 }
 taken_written t (inr (same, is)) = rw (same, is) t
 
+-- elements whose images are in two parts
+record Split {A B : Type 0} (f : A → B) (items : List A) (xs ys : List B) : Type 0 where
+  pub front : List A
+  pub back : List A
+  pub whole : items ≡ front ++ back
+  pub first : map f front ≡ xs
+  pub second : map f back ≡ ys
+
+split : {A B : Type 0} (f : A → B) (items : List A) (xs ys : List B) → map f items ≡ xs ++ ys → Split f items xs ys
+split f items [] ys e = record { front = []; back = items; whole = refl; first = refl; second = e }
+split f [] (x ∷ xs) ys e = absurd cc
+split f (a ∷ items) (x ∷ xs) ys e =
+    let head : f a ≡ x = cc in
+    let rest = split f items xs ys cc in
+    record { front = a ∷ rest.front; back = rest.back; whole = ap (λ (l : List _). a ∷ l) rest.whole; first = (λ i. head i ∷ rest.first i); second = rest.second }
+
 -- what is written of elements one by one is what is written of those that a test leaves
 flat-filter : {A : Type 0} (p : A → Bool) (f : A → List ℕ) (xs : List A) → flat_map (λ a. if p a then f a else []) xs ≡ flat_map f (filter p xs)
 flat-filter p f [] = refl
-flat-filter p f (a ∷ xs) = step (p a) (flat-filter p f xs)
-  where
-    step : (b : Bool) → flat_map (λ c. if p c then f c else []) xs ≡ flat_map f (filter p xs)
-        → (if b then f a else []) ++ flat_map (λ c. if p c then f c else []) xs ≡ flat_map f (cond b (a ∷ filter p xs) (filter p xs))
-    step true h = ap (λ (x : List ℕ). f a ++ x) h
-    step false h = h
+flat-filter p f (a ∷ xs) = elim (cases_Bool (p a)) [
+  | inl passes ↦ rw passes (ap (λ x. f a ++ x) (flat-filter p f xs))
+  | inr fails ↦ rw fails (flat-filter p f xs)
+]
 
 -- what was seen
 module _ (l : Layout) (s : Summary) (items : List Item) where

@@ -1,5 +1,3 @@
-mod Writers
-mod Stops
 mod Checking
 mod Firsts
 mod Tallies

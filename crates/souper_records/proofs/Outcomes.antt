@@ -30,7 +30,6 @@ use Rattle.souper_records.specs.Stops.{IfInput, UnlessOutput}
 use Rattle.souper_records.specs.Runs.{output_name, EndsWithFault, IsPartsEnd, IsRun}
 use Rattle.souper_records.specs.Reports.{IsMemoryLine, IsFaultLine, Reported}
 use Rattle.souper_records.specs.Outcomes.{Outcome, IsOutcome, IsOutcomeAfter, AreOutcomes, parts_of, items_of, refusals_of, any_refused, AreErrorLines, AreReported, AreReportedThen, WritesPart, WritesParts, ReadsParts, EndsRefused, IsBegun, StopsAfter, WroteParts}
-use Rattle.souper_records.proofs.Stops.{known_mapped}
 
 -- ---- lists of outcomes
 
@@ -208,6 +207,12 @@ reached_refusal {k} {name} {start} {both = both} bytes_of x y z stays same join 
     }
 
 -- ---- the same outcomes, the output in other words
+
+-- what follows, unless the output is the cause
+pub known_mapped : (stop : Stop) (failed : Bool) (P Q : Type 0) → (P → Q) → UnlessOutput stop failed P → UnlessOutput stop failed Q
+known_mapped (Input e) failed P Q f h = f h
+known_mapped (Output fault) failed P Q f h = h
+known_mapped Memory failed P Q f h = f h
 
 pub parts_mapped : {k : ItemType} {name : List ℕ} {recover : Bool} {before after : Option (List ℕ)} {one other : List Outcome → Type 0} {a b : Stream} {refused : Bool} → ((os : List Outcome) → one os → other os) → ((es : List ParseError) → AreReported a es → AreReported b es)
     → WritesParts k name recover before after one a refused → WritesParts k name recover before after other b refused

@@ -21,9 +21,9 @@ use Rattle.souper_format.specs.Streams.{Stream}
 use Rattle.souper_records.specs.declared.layout.Layout.{Layout}
 use Rattle.souper_records.specs.declared.seen.Seen.{Seen}
 use Rattle.souper_records.specs.Records.{record_of_text, record_of, records_of}
-use Rattle.souper_records.specs.Uniques.{text_by, text_count, firsts, AreSame, AreFirsts, HasText, HasSeen, SeesTexts, WritesSeenFirsts, WritesNewFirsts}
-use Rattle.souper_records.specs.Counts.{one_more, count_of}
-use Rattle.souper_records.proofs.Tallies.{tally, inserted, tallied}
+use Rattle.souper_records.specs.Uniques.{text_by, text_count, firsts, AreSame, AreFirsts, HasText, HasSeen, WritesSeenFirsts, WritesNewFirsts}
+use Rattle.souper_records.specs.Counts.{count_of, tally_all}
+use Rattle.souper_records.proofs.Tallies.{tallied_all}
 use Rattle.souper_records.proofs.Firsts.{firsts-append, firsts-unseen, firsts-distinct, firsts-cover}
 
 -- ---- one text for each graph
@@ -78,72 +78,12 @@ records_of_new : (k : ItemType) (l : Layout) (before taken : List Item) (s t : S
 records_of_new k l before taken s t h j =
     ap (flat_map (record_of_text l)) (new_texts k l.rename before taken s t h j) ∙ flat_map-map (record_of_text l) (text_by l.rename) (firsts l.rename before taken)
 
--- texts of items that were seen one after the other
-no_items : {A B : Type 0} (f : A → B) (xs : List A) → map f xs ≡ [] → xs ≡ []
-no_items f [] e = refl
-no_items f (x ∷ xs) e = absurd cc
-
-pub sees_none : (s : Seen) → SeesTexts [] s s
-sees_none s k rename earlier items seen texts e = subst (λ (x : List Item). HasSeen k rename x s) (sym (ap (λ (x : List Item). earlier ++ x) (no_items (text_by rename) items e) ∙ append-nil earlier)) seen
-
--- elements whose images are in two parts
-pub record Split {A B : Type 0} (f : A → B) (items : List A) (xs ys : List B) : Type 0 where
-  pub front : List A
-  pub back : List A
-  pub whole : items ≡ front ++ back
-  pub first : map f front ≡ xs
-  pub second : map f back ≡ ys
-
-pub split : {A B : Type 0} (f : A → B) (items : List A) (xs ys : List B) → map f items ≡ xs ++ ys → Split f items xs ys
-split f items [] ys e = record { front = []; back = items; whole = refl; first = refl; second = e }
-split f [] (x ∷ xs) ys e = absurd cc
-split f (a ∷ items) (x ∷ xs) ys e =
-    let head : f a ≡ x = cc in
-    let rest = split f items xs ys cc in
-    record { front = a ∷ rest.front; back = rest.back; whole = ap (λ (l : List _). a ∷ l) rest.whole; first = (λ i. head i ∷ rest.first i); second = rest.second }
-
-pub sees_both : (xs ys : List (List ℕ)) (s t u : Seen) → SeesTexts xs s t → SeesTexts ys t u → SeesTexts (xs ++ ys) s u
-sees_both xs ys s t u a b k rename earlier items seen texts e =
-    let parts = split (text_by rename) items xs ys e in
-    let all = subst (λ (x : List Item). AllByRecursion (HasText k rename) x) parts.whole texts in
-    let mid = a k rename earlier parts.front seen (All-first (HasText k rename) parts.front parts.back all) parts.first in
-    let last = b k rename (earlier ++ parts.front) parts.back mid (All-second (HasText k rename) parts.front parts.back all) parts.second in
-    subst (λ (x : List Item). HasSeen k rename x u) (append_assoc earlier parts.front parts.back ∙ ap (λ (x : List Item). earlier ++ x) (sym parts.whole)) last
-
-pub sees_one : (s u : Seen) (t : String _) → u.counts.entries ≡ insert_entry string_eq s.counts.entries t (one_more (unwrap_or (get string_eq s.counts t) 0)) → SeesTexts (string_bytes t ∷ []) s u
-sees_one s u t is k rename earlier [] seen texts e = absurd cc
-sees_one s u t is k rename earlier (a ∷ []) seen texts e =
-    let same : string_bytes t ≡ text_by rename a = cc in
-    (All-both (HasText k rename) earlier (a ∷ []) seen.0 texts, ap (map text_count) is ∙ inserted t s.counts.entries ∙ (λ i. tally (same i) (seen.1 i)) ∙ tallied (text_by rename) earlier a)
-sees_one s u t is k rename earlier (a ∷ (b ∷ items)) seen texts e = absurd cc
-
--- of these texts all but the rest were seen
-pub record SeenTexts {M : Type 0} (all rest : List (String M)) (s t : Seen) : Type 0 where
-  pub done : List (String M)
-  pub whole : all ≡ done ++ rest
-  pub sees : SeesTexts (map string_bytes done) s t
-
-pub seen_texts_none : {M : Type 0} (all : List (String M)) (s : Seen) → SeenTexts all all s s
-seen_texts_none all s = record { done = []; whole = refl; sees = sees_none s }
-
-pub seen_texts_more : {M : Type 0} (all rest next : List (String M)) (text : String M) (s t u : Seen) → SeenTexts all rest s t → rest ≡ text ∷ next → SeesTexts (string_bytes text ∷ []) t u → SeenTexts all next s u
-seen_texts_more all rest next text s t u p e one = record {
-  done = p.done ++ text ∷ [];
-  whole = p.whole ∙ ap (λ (x : List (String _)). p.done ++ x) e ∙ sym (append_assoc p.done (text ∷ []) next);
-  sees = subst (λ (x : List (List ℕ)). SeesTexts x s u) (sym (map-append string_bytes p.done (text ∷ []))) (sees_both (map string_bytes p.done) (string_bytes text ∷ []) s t u p.sees one);
-}
-
-pub seen_texts_all : {M : Type 0} (all rest : List (String M)) (s t : Seen) → SeenTexts all rest s t → rest ≡ [] → SeesTexts (map string_bytes all) s t
-seen_texts_all all rest s t p e = subst (λ (x : List (String _)). SeesTexts (map string_bytes x) s t) (sym (p.whole ∙ ap (λ (x : List (String _)). p.done ++ x) e ∙ append-nil p.done)) p.sees
-
--- the records that were written of one part
-abbrev pub WritesNew : Layout → Option (List ℕ) → Option (List ℕ) → Seen → Seen → Type 0
-WritesNew l now new s t = Appends now new (flat_map (record_of_text l) (map string_bytes (drop (index_map_len s.counts) (keys t.counts))))
-
--- of one part
-pub keeps_one : (k : ItemType) (l : Layout) (now new : Option (List ℕ)) (t u : Seen) (ys : List Item) → AllByRecursion (HasText k l.rename) ys → SeesTexts (map (text_by l.rename) ys) t u → WritesNew l now new t u → WritesNewFirsts k l now new t u ys
+-- of one part: items with these texts were counted, and the records of the new texts were written
+pub keeps_one : (k : ItemType) (l : Layout) (now new : Option (List ℕ)) (t u : Seen) (ys : List Item) → AllByRecursion (HasText k l.rename) ys → map text_count u.counts.entries ≡ tally_all (map text_count t.counts.entries) (map (text_by l.rename) ys)
+    → Appends now new (flat_map (record_of_text l) (map string_bytes (drop (index_map_len t.counts) (keys u.counts)))) → WritesNewFirsts k l now new t u ys
 keeps_one k l now new t u ys texts more w = λ earlier seen.
-    let later = more k l.rename earlier ys seen texts refl in
+    let key = text_by l.rename in
+    let later : HasSeen k l.rename (earlier ++ ys) u = (All-both (HasText k l.rename) earlier ys seen.0 texts, more ∙ ap (λ es. tally_all es (map key ys)) seen.1 ∙ tallied_all key earlier ys) in
     (later, subst (Appends now new) (records_of_new k l earlier ys t u seen later) w)
 
 -- of one part after another

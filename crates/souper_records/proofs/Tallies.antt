@@ -1,5 +1,5 @@
 -- Lemmas. The first element of each key and how many have it, with one more element.
-use Rattle.std.proofs.Common.{◌≡◌, inl, inr, ℕ, ◌+◌, true, false, cond, List, [], ◌∷◌, ◌++◌, map, refl, sym, ap, ◌∙◌, arith, append-nil}
+use Rattle.std.proofs.Common.{◌≡◌, inl, inr, ℕ, ◌+◌, true, false, cond, List, [], ◌∷◌, ◌++◌, map, refl, sym, ap, ◌∙◌, arith, append_assoc, append-nil}
 use Rattle.std.specs.Prelude.{String, string_bytes, string_eq, bytes_eq, unwrap_or, if◌then◌else◌}
 use Rattle.std.specs.List.{count_by, AllByRecursion}
 use Rattle.std.specs.Map.{lookup}
@@ -9,17 +9,12 @@ use Rattle.std.proofs.lemmas.List.Sums.{sum_by-append, sum_by-cons}
 use Rattle.indexmap.specs.IndexMap.{insert_entry}
 use Rattle.souper_graph.proofs.Judging.Closed.{All-from_has}
 use Rattle.souper_records.specs.Firsts.{has_key, firsts_by, NoTwo}
-use Rattle.souper_records.specs.Counts.{one_more, count_of, counts_by}
+use Rattle.souper_records.specs.Counts.{one_more, count_of, counts_by, tally, tally_all}
 use Rattle.souper_records.specs.Uniques.{text_count}
 use Rattle.souper_records.proofs.Firsts.{firsts-append, firsts-distinct, has-firsts}
 
--- the count of a key is one more, or is 1 after all if there was none
-abbrev pub tally : List ℕ → List (List ℕ × ℕ) → List (List ℕ × ℕ)
-tally k [] = (k, one_more 0) ∷ []
-tally k (e ∷ es) = if bytes_eq k e.0 then (e.0, one_more e.1) ∷ es else e ∷ tally k es
-
 -- of a map
-pub inserted : {M : Type 0} (t : String M) (es : List (String M × ℕ)) → map text_count (insert_entry string_eq es t (one_more (unwrap_or (lookup (string_eq t) es) 0))) ≡ tally (string_bytes t) (map text_count es)
+pub inserted : {M : Type 0} (t : String M) (es : List (String M × ℕ)) → map text_count (insert_entry string_eq es t (one_more (unwrap_or (lookup (string_eq t) es) 0))) ≡ tally (map text_count es) (string_bytes t)
 inserted t [] = refl
 inserted t (e ∷ es) = elim (cases_Bool (string_eq t e.0)) [
   | inl own ↦ rw own refl
@@ -59,7 +54,7 @@ module _ {A : Type 0} (key : A → List ℕ) where
   others x a xs (b ∷ fs) same h = (λ i. (key b, other_count b x xs (λ e. h.0 (sym same ∙ e)) i) ∷ others x a xs fs same h.1 i)
 
   among : (x : A) (xs fs : List A) → NoTwo (λ a b. key a ≡ key b) fs → (has_key key (key x) fs ≡ false → count_of key xs x ≡ 0)
-      → tally (key x) (map (counted xs) fs) ≡ map (counted (xs ++ x ∷ [])) (fs ++ (if has_key key (key x) fs then [] else x ∷ []))
+      → tally (map (counted xs) fs) (key x) ≡ map (counted (xs ++ x ∷ [])) (fs ++ (if has_key key (key x) fs then [] else x ∷ []))
   among x xs [] two fresh = (λ i. (key x, (ap one_more (sym (fresh refl)) ∙ own_count x x xs refl) i) ∷ [])
   among x xs (a ∷ fs) two fresh = elim (cases_Bool (bytes_eq (key x) (key a))) [
     | inl own ↦ let same : key x ≡ key a = (bytes_eq-Decides (key x) (key a)).0 own in rw own (λ i. (key a, own_count a x xs same i) ∷ others x a xs fs same two.0 i)
@@ -67,10 +62,14 @@ module _ {A : Type 0} (key : A → List ℕ) where
         rw other (λ i. (key a, other_count a x xs unlike i) ∷ among x xs fs two.1 (λ none. fresh (rw other none)) i)
   ]
 
-  pub tallied : (xs : List A) (x : A) → tally (key x) (counts_by key xs) ≡ counts_by key (xs ++ x ∷ [])
+  tallied : (xs : List A) (x : A) → tally (counts_by key xs) (key x) ≡ counts_by key (xs ++ x ∷ [])
   tallied xs x =
       let fs = firsts_by key [] xs in
       let has : has_key key (key x) fs ≡ has_key key (key x) xs = has-firsts key (key x) [] xs in
       let two : NoTwo (λ a b. key a ≡ key b) fs = firsts-distinct key (λ a. Unit {0}) (λ a b. key a ≡ key b) (λ a b p q e. e) [] xs (All-from_has (λ a. Unit {0}) xs (λ a h. tt)) in
       among x xs fs two (λ none. no_count x xs (sym has ∙ none))
       ∙ ap (map (counted (xs ++ x ∷ []))) ((λ i. fs ++ (if has i then [] else x ∷ [])) ∙ ap (λ l. fs ++ l) (sym (append-nil (if has_key key (key x) xs then [] else x ∷ []))) ∙ sym (firsts-append key [] xs (x ∷ [])))
+
+  pub tallied_all : (xs ys : List A) → tally_all (counts_by key xs) (map key ys) ≡ counts_by key (xs ++ ys)
+  tallied_all xs [] = ap (counts_by key) (sym (append-nil xs))
+  tallied_all xs (y ∷ ys) = ap (λ es. tally_all es (map key ys)) (tallied xs y) ∙ tallied_all (xs ++ y ∷ []) ys ∙ ap (counts_by key) (append_assoc xs (y ∷ []) ys)

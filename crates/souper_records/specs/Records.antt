@@ -1,5 +1,5 @@
 -- Definitions. The record of an item.
-use Rattle.std.specs.Prelude.{◌≡◌, Bool, false, ℕ, List, [], ◌∷◌, ◌++◌, flat_map, codes, if◌then◌else◌}
+use Rattle.std.specs.Prelude.{◌≡◌, Bool, ℕ, List, [], ◌∷◌, ◌++◌, flat_map, codes, if◌then◌else◌}
 use Rattle.sha2.specs.Sha256.{sha256}
 use Rattle.hex.specs.Hex.{encode_lower}
 use Rattle.souper_graph.specs.Values.{Item}
@@ -42,7 +42,3 @@ records_of l items = flat_map (record_of l) items
 -- the source spells items, and the bytes are their records
 abbrev pub AreRecordsOf : Layout → ItemType → List ℕ → List ℕ → Type 0
 AreRecordsOf l k source bytes = (items : List Item) × TextSpells k source items × (bytes ≡ records_of l items)
-
--- canonical texts, a newline after each
-abbrev pub plain : Layout
-plain = record { delimiter = Newline; key = false; rename = false }

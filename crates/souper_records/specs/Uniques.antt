@@ -51,10 +51,6 @@ text_count e = (string_bytes e.0, e.1)
 abbrev pub HasSeen : ItemType → Bool → List Item → Seen → Type 0
 HasSeen k rename items s = AllByRecursion (HasText k rename) items × (map text_count s.counts.entries ≡ counts_by (text_by rename) items)
 
--- after the items that were seen before, whichever they are, items with these texts were seen
-abbrev pub SeesTexts : List (List ℕ) → Seen → Seen → Type 0
-SeesTexts texts before after = (k : ItemType) (rename : Bool) (earlier items : List Item) → HasSeen k rename earlier before → AllByRecursion (HasText k rename) items → map (text_by rename) items ≡ texts → HasSeen k rename (earlier ++ items) after
-
 -- of these items, after earlier ones, the first of each graph had their records written, and nothing else
 abbrev pub WritesFirstRecords : Layout → List Item → Stream → List Item → Type 0
 WritesFirstRecords l earlier out items = (first : List Item) × AreFirsts l.rename earlier items first × IsGiven out (records_of l first)

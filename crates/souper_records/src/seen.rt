@@ -1,16 +1,15 @@
 //! The index of the distinct items.
-ghost use Rattle.std.specs.Prelude.{◌≡◌, ◌∷◌, [], Bool, OnOk, unwrap_or, string_eq};
+ghost use Rattle.std.specs.Prelude.{◌≡◌, [], Bool, OnOk, unwrap_or, string_eq};
 ghost use Rattle.indexmap.specs.IndexMap.{get, insert_entry};
-ghost use Rattle.std.specs.String.{string_bytes};
 ghost use Rattle.souper_graph.specs.Syntax.Spelling.{ItemType};
 ghost use Rattle.souper_records.specs.Counts.{one_more};
-ghost use Rattle.souper_records.specs.Uniques.{HasSeen, SeesTexts};
+ghost use Rattle.souper_records.specs.Uniques.{HasSeen};
 
 use indexmap::IndexMap;
 use std::alloc::{AllocError, Global};
 
-// Counts an item with this text.
-fn count(counts: &mut IndexMap<String, u64>, text: String) -> Result<(), AllocError>
+/// Counts an item with this text.
+pub(crate) fn count(counts: &mut IndexMap<String, u64>, text: String) -> Result<(), AllocError>
     ensures { OnOk result (counts.new.entries ≡ insert_entry string_eq counts.old.entries text (one_more (unwrap_or (get string_eq counts.old text) 0))) }
 {
     let count = counts.entry(text)?.or_insert(0);
@@ -36,12 +35,5 @@ impl Seen {
             alloc,
             counts: IndexMap::new(alloc),
         }
-    }
-
-    /// Counts an item with this text.
-    pub(crate) fn add(&mut self, text: String) -> Result<(), AllocError>
-        ensures { OnOk result (SeesTexts (string_bytes text ∷ []) self.old self.new) }
-    {
-        count(&mut self.counts, text)
     }
 }

@@ -9,14 +9,15 @@ ghost use Rattle.souper_format.specs.Streams.{stream, IsGiven};
 ghost use Rattle.souper_format.specs.Watching.{has_failed};
 ghost use Rattle.souper_records.specs.Stops.{IfInput, UnlessOutput};
 ghost use Rattle.souper_records.specs.Outcomes.{WritesParts, StopsAfter, OfItems, items_of};
+ghost use Rattle.souper_records.specs.Counts.{tally_all};
 ghost use Rattle.souper_records.specs.Records.{chosen, record_of_text};
-ghost use Rattle.souper_records.specs.Uniques.{text_by, HasText, HasSeen, SeesTexts, WritesFirstRecords, WritesSeenFirsts, WritesNewFirsts};
+ghost use Rattle.souper_records.specs.Uniques.{text_by, HasText, HasSeen, text_count, WritesFirstRecords, WritesSeenFirsts, WritesNewFirsts};
 
 use crate::layout::Layout;
 use crate::options::ReadOptions;
 use crate::parts::{PartSink, Place, Source, write_parts};
 use crate::records::{push_last_text, records_of_texts};
-use crate::seen::Seen;
+use crate::seen::{Seen, count};
 use crate::stop::{Stop, write_text};
 use souper_format::watched::Watched;
 use souper_ir::ast::{Arena, Statement};
@@ -83,10 +84,10 @@ fn write_texts<W: Write>(
 
 // Counts the items with these texts, and keeps the texts that are new.
 fn see_texts(seen: &mut Seen, texts: Vec<String>) -> Result<(), AllocError>
-    ensures { OnOk result (SeesTexts (map string_bytes texts.items) seen.old seen.new) }
+    ensures { OnOk result (map text_count seen.new.counts.entries ≡ tally_all (map text_count seen.old.counts.entries) (map string_bytes texts.items)) }
 {
     for text in texts {
-        seen.add(text)?;
+        count(&mut seen.counts, text)?;
     }
     Ok(())
 }

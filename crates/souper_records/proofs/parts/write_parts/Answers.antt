@@ -1,13 +1,11 @@
 use Rattle.std.proofs.Common.{◌≡◌, ◌||◌, false, List, [], refl, sym, ap, ◌∙◌}
 use Rattle.std.proofs.KnownBytes.{Keeps-refl}
 use Rattle.souper_stream.specs.Parts.{is_segmented}
-use Rattle.souper_format.specs.Watching.{has_failed}
+use Rattle.souper_format.specs.Watching.{watched_inner, has_failed}
 use Rattle.souper_records.specs.declared.stop.Stop.TheVariants.{Input}
 use Rattle.souper_records.specs.Outcomes.{Outcome, WroteParts}
 use Rattle.souper_records.specs.declared.options.ReadOptions.{ReadOptions}
-use Rattle.souper_records.proofs.Outcomes.{reached_more, reached_refusal, reached_end, stopped_after}
-use Rattle.souper_records.proofs.Stops.{known_mapped}
-use Rattle.souper_records.proofs.Writers.{inner_bytes}
+use Rattle.souper_records.proofs.Outcomes.{reached_more, reached_refusal, reached_end, stopped_after, known_mapped}
 use Rattle.souper_records.proofs.parts.write_parts.Goals as goal
 use Rattle.souper_records.proofs.parts.write_parts.Goals.{else-refused-via-then-refused+else-not-source, else-refused-via-else-refused}
 
@@ -26,7 +24,7 @@ returns-then-not-source-clause-written g c =
     let i = c.loop-turn.invariant in
     let e = rw (i.options, c.if-refused.true) at (rw c.in-Ok-Some.field-0-is at c.in-Ok-Some.ensures) in
     let stops : c.args.source.options.recover ≡ false = sym (ap (λ (o : ReadOptions). o.recover) e.options) ∙ c.if-not-source.true in
-    reached_refusal g.E.Write.contents c.args.err.now c.loop-turn.err c.write_next.new.err e.stays (e.same ∙ i.same) (λ os o h more. more c.args.sink.now (inner_bytes g.W.Write.contents c.args.out.now) os h) i.reached (e.part (g.R.Read.remaining c.args.reader.now) _ i.reached.had)
+    reached_refusal g.E.Write.contents c.args.err.now c.loop-turn.err c.write_next.new.err e.stays (e.same ∙ i.same) (λ os o h more. more c.args.sink.now (g.W.Write.contents (watched_inner c.args.out.now)) os h) i.reached (e.part (g.R.Read.remaining c.args.reader.now) _ i.reached.had)
     c.args.source.options.recover stops (i.quiet stops)
 
 pub returns-in-Ok-None-clause-written : goal.returns-in-Ok-None-clause-written
@@ -39,7 +37,7 @@ pub returns-in-Err-clause-stopped : goal.returns-in-Err-clause-stopped
 returns-in-Err-clause-stopped g c =
     let i = c.loop-turn.invariant in
     let e = c.in-Err.ensures in
-    let known : List Outcome → Type 0 = λ os. (s : _) × WroteParts g.T.Item.item_type (is_segmented c.args.source.parts) (g.S.PartSink.wrote c.args.source.options.name.now c.args.sink.now (inner_bytes g.W.Write.contents c.args.out.now) s (inner_bytes g.W.Write.contents c.write_next.new.out)) os in
+    let known : List Outcome → Type 0 = λ os. (s : _) × WroteParts g.T.Item.item_type (is_segmented c.args.source.parts) (g.S.PartSink.wrote c.args.source.options.name.now c.args.sink.now (g.W.Write.contents (watched_inner c.args.out.now)) s (g.W.Write.contents (watched_inner c.write_next.new.out))) os in
     rw e.stopped (stopped_after i.reached c.args.source.options.recover i.quiet known _ c.in-Err.stop
     (known_mapped c.in-Err.stop _ _ _ (λ same. (c.loop-turn.sink, (rw same i.reached.written, i.reached.uncut))) e.unwritten))
 
@@ -56,7 +54,7 @@ loop-turn-preserved g c =
       options = e.options;
       same = e.same ∙ i.same;
       none = e.none;
-      reached = reached_more g.E.Write.contents c.args.err.now c.loop-turn.err c.write_next.new.err e.stays (e.same ∙ i.same) (λ os o h more. more c.args.sink.now (inner_bytes g.W.Write.contents c.args.out.now) os h) i.reached (e.part (g.R.Read.remaining c.args.reader.now) _ i.reached.had);
+      reached = reached_more g.E.Write.contents c.args.err.now c.loop-turn.err c.write_next.new.err e.stays (e.same ∙ i.same) (λ os o h more. more c.args.sink.now (g.W.Write.contents (watched_inner c.args.out.now)) os h) i.reached (e.part (g.R.Read.remaining c.args.reader.now) _ i.reached.had);
       quiet = λ stops. (λ j. i.quiet stops j || not_last stops j);
       stays = λ f. e.stays (i.stays f);
     }
@@ -64,5 +62,5 @@ loop-turn-preserved g c =
 pub returns-clause-stopped : goal.returns-clause-stopped
 returns-clause-stopped g c =
     let i = c.loop-turn.invariant in
-    let known : List Outcome → Type 0 = λ os. (s : _) × WroteParts g.T.Item.item_type (is_segmented c.args.source.parts) (g.S.PartSink.wrote c.args.source.options.name.now c.args.sink.now (inner_bytes g.W.Write.contents c.args.out.now) s (inner_bytes g.W.Write.contents c.loop-turn.out)) os in
+    let known : List Outcome → Type 0 = λ os. (s : _) × WroteParts g.T.Item.item_type (is_segmented c.args.source.parts) (g.S.PartSink.wrote c.args.source.options.name.now c.args.sink.now (g.W.Write.contents (watched_inner c.args.out.now)) s (g.W.Write.contents (watched_inner c.loop-turn.out))) os in
     stopped_after i.reached c.args.source.options.recover i.quiet known (has_failed c.loop-turn.out) (Input c.from.result) (c.loop-turn.sink, (i.reached.written, i.reached.uncut))

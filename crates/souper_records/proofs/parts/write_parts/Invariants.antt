@@ -3,9 +3,8 @@ use Rattle.std.proofs.Common.{◌≡◌, true, false, []}
 use Rattle.std.specs.Prelude.{Some}
 use Rattle.souper_stream.specs.Parts.{is_segmented}
 use Rattle.souper_format.specs.Streams.{stream}
-use Rattle.souper_format.specs.Watching.{has_failed}
+use Rattle.souper_format.specs.Watching.{watched_inner, has_failed}
 use Rattle.souper_records.proofs.Outcomes.{Reached}
-use Rattle.souper_records.proofs.Writers.{inner_bytes}
 use Rattle.souper_records.proofs.parts.write_parts.Given as goal
 
 abbrev pub invariant-loop-turn : goal.invariant-loop-turn
@@ -14,7 +13,7 @@ invariant-loop-turn g l = record {
   same : is_segmented l.source.parts ≡ is_segmented l.fn.source.parts;
   none : g.S.Sink.holds l.sink l.sink [];
   reached : Reached g.T.Item.item_type (Some l.fn.source.options.name.now) (g.R.Read.remaining l.fn.reader) (g.R.Read.remaining l.reader) (is_segmented l.fn.source.parts)
-      (g.S.PartSink.wrote l.fn.source.options.name.now l.fn.sink (inner_bytes g.W.Write.contents l.fn.out) l.sink (inner_bytes g.W.Write.contents l.out)) (stream g.E.Write.contents l.fn.err l.err) l.any l.source.parts;
+      (g.S.PartSink.wrote l.fn.source.options.name.now l.fn.sink (g.W.Write.contents (watched_inner l.fn.out)) l.sink (g.W.Write.contents (watched_inner l.out))) (stream g.E.Write.contents l.fn.err l.err) l.any l.source.parts;
   quiet : l.fn.source.options.recover ≡ false → l.any ≡ false;
   stays : has_failed l.fn.err ≡ true → has_failed l.err ≡ true;
 }
