@@ -57,34 +57,25 @@ told s (e ∷ es) r works = r works
 
 -- Two parts of the output of a writer: from x to y, and then to z. A writer that has failed stays so.
 module _ {W : Type 0} (bytes_of : W → Option (List ℕ)) (x y z : Watched W) (stays : has_failed y ≡ true → has_failed z ≡ true) where
-  abbrev first : Stream
-  first = stream bytes_of x y
-
-  abbrev last : Stream
-  last = stream bytes_of y z
-
-  abbrev all : Stream
-  all = stream bytes_of x z
-
   worked : has_failed z ≡ false → has_failed y ≡ false
   worked works = false_from_ne_true (has_failed y) (λ bad. both_ways (has_failed z) works (stays bad))
 
-  pub reported_both : (es fs : List ParseError) → AreReported first es → AreReported last fs → AreReported all (es ++ fs)
-  reported_both [] [] r h = Keeps-trans first.before first.after last.after r h
+  pub reported_both : (es fs : List ParseError) → AreReported (stream bytes_of x y) es → AreReported (stream bytes_of y z) fs → AreReported (stream bytes_of x z) (es ++ fs)
+  reported_both [] [] r h = Keeps-trans _ _ _ r h
   reported_both es fs r h = λ works.
-      let (s, lines, given) = told first es r (worked works) in
-      let (t, more, rest) = told last fs h works in
-      (s ++ t, lines_both es fs s t lines more, Appends-trans first.before first.after last.after s t given rest)
+      let (s, lines, given) = told (stream bytes_of x y) es r (worked works) in
+      let (t, more, rest) = told (stream bytes_of y z) fs h works in
+      (s ++ t, lines_both es fs s t lines more, Appends-trans _ _ _ s t given rest)
 
-  pub reported_none : (es : List ParseError) → AreReported first es → IsGivenNothing last → AreReported all es
-  reported_none es r h = subst (AreReported all) (append-nil es) (reported_both es [] r h)
+  pub reported_none : (es : List ParseError) → AreReported (stream bytes_of x y) es → IsGivenNothing (stream bytes_of y z) → AreReported (stream bytes_of x z) es
+  reported_none es r h = subst (AreReported (stream bytes_of x z)) (append-nil es) (reported_both es [] r h)
 
   -- then a line with the property P was
-  pub reported_then : (es : List ParseError) (P : List ℕ → Type 0) → AreReported first es → Reported last P → AreReportedThen all es P
+  pub reported_then : (es : List ParseError) (P : List ℕ → Type 0) → AreReported (stream bytes_of x y) es → Reported (stream bytes_of y z) P → AreReportedThen (stream bytes_of x z) es P
   reported_then es P r h = λ works.
-      let (s, lines, given) = told first es r (worked works) in
+      let (s, lines, given) = told (stream bytes_of x y) es r (worked works) in
       let (line, is, more) = h works in
-      (s, line, lines, is, Appends-trans first.before first.after last.after s line given more)
+      (s, line, lines, is, Appends-trans _ _ _ s line given more)
 
 -- ---- part after part
 

@@ -1,10 +1,10 @@
 -- Items that were seen: their texts, and part after part of a stream.
 use Rattle.std.proofs.Common.{◌≡◌, ℕ, Bool, true, false, List, [], ◌∷◌, ◌++◌, map, length, drop, Option, refl, sym, ap, ◌∙◌, subst, append_assoc, append-nil}
-use Rattle.std.specs.Prelude.{String, string_bytes, string_eq, unwrap_or, flat_map}
+use Rattle.std.specs.Prelude.{String, string_bytes, flat_map}
 use Rattle.std.specs.List.{AllByRecursion}
 use Rattle.std.specs.Map.{keys_of}
 use Rattle.std.specs.Io.KnownBytes.{Appends}
-use Rattle.indexmap.specs.IndexMap.{keys, get, index_map_len, insert_entry}
+use Rattle.indexmap.specs.IndexMap.{keys, index_map_len}
 use Rattle.std.proofs.KnownBytes.{Appends-nil, Appends-trans}
 use Rattle.std.proofs.Math.Seq.{drop-append_seam}
 use Rattle.std.proofs.lemmas.List.{map-append, length-map, drop-map}
@@ -13,7 +13,7 @@ use Rattle.std.proofs.lemmas.Grind.{flat_map-append}
 use Rattle.souper_graph.specs.Values.{Item}
 use Rattle.souper_graph.specs.Renaming.{renamed}
 use Rattle.souper_graph.specs.Syntax.Spelling.{ItemType}
-use Rattle.souper_graph.proofs.Judging.Closed.{All-first, All-second, All-both}
+use Rattle.souper_graph.proofs.Judging.Closed.{All-second, All-both}
 use Rattle.souper_graph.proofs.Sameness.Renumbered.{ordered}
 use Rattle.souper_graph.proofs.Sameness.Renaming.{graph-renamed, renamed-graph}
 use Rattle.souper_ir.proofs.Items.OneText.{one_text}

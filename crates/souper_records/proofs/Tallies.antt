@@ -1,5 +1,5 @@
 -- Lemmas. The first element of each key and how many have it, with one more element.
-use Rattle.std.proofs.Common.{◌≡◌, inl, inr, ℕ, ◌+◌, true, false, cond, List, [], ◌∷◌, ◌++◌, map, refl, sym, ap, ◌∙◌, arith, append_assoc, append-nil}
+use Rattle.std.proofs.Common.{◌≡◌, inl, inr, ℕ, ◌+◌, false, cond, List, [], ◌∷◌, ◌++◌, map, refl, sym, ap, ◌∙◌, arith, append_assoc, append-nil}
 use Rattle.std.specs.Prelude.{String, string_bytes, string_eq, bytes_eq, unwrap_or, if◌then◌else◌}
 use Rattle.std.specs.List.{count_by, AllByRecursion}
 use Rattle.std.specs.Map.{lookup}
@@ -22,9 +22,6 @@ inserted t (e ∷ es) = elim (cases_Bool (string_eq t e.0)) [
 ]
 
 module _ {A : Type 0} (key : A → List ℕ) where
-  is_own : (a : A) → bytes_eq (key a) (key a) ≡ true
-  is_own a = (bytes_eq-Decides (key a) (key a)).1 refl
-
   not_own : (a x : A) → (key x ≡ key a → ⊥) → bytes_eq (key a) (key x) ≡ false
   not_own a x other = false_from_ne_true (bytes_eq (key a) (key x)) (λ same. other (sym ((bytes_eq-Decides (key a) (key x)).0 same)))
 

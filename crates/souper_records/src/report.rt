@@ -1,13 +1,13 @@
 //! The lines that report an error, each to a stream that may fail.
-ghost use Rattle.std.specs.Prelude.{◌≡◌, true, false, string_bytes, IfOk};
+ghost use Rattle.std.specs.Prelude.{◌≡◌, true, false, string_bytes};
 ghost use Rattle.souper_format.specs.Streams.{stream, IsGiven};
 ghost use Rattle.souper_format.specs.Watching.{has_failed};
-ghost use Rattle.souper_records.specs.Reports.{named_line, IsNamedLine, ReportedMemory, Reported, ReportedFault, ReportedError};
+ghost use Rattle.souper_records.specs.Reports.{IsNamedLine, ReportedMemory, Reported, ReportedFault, ReportedError};
 
 use souper_format::report::line_of_error;
 use souper_format::watched::Watched;
 use souper_ir::parse::{ParseError, ParseErrorKind};
-use std::alloc::{AllocError, Global};
+use std::alloc::Global;
 use std::io;
 use std::io::Write;
 
@@ -19,19 +19,12 @@ pub fn report_memory<E: Write>(err: &mut Watched<E>)
     let _ = err.write_all(b"souper_items: out of memory\n");
 }
 
-// `souper_items: NAME: MESSAGE`, and a newline.
-fn line(alloc: Global, name: &str, says: &str) -> Result<String, AllocError>
-    ensures { IfOk result (λ line. string_bytes line ≡ named_line name.now says.now) }
-{
-    format!(in alloc; "souper_items: {name}: {says}\n")
-}
-
-// Reports a message about the stream of this name.
+// Reports a message about the stream of this name: `souper_items: NAME: MESSAGE`, and a newline.
 fn report<E: Write>(alloc: Global, name: &str, says: &str, err: &mut Watched<E>)
     ensures reported { Reported (stream E.contents err.old err.new) (IsNamedLine name.now says.now) }
     ensures stays { has_failed err.old ≡ true → has_failed err.new ≡ true }
 {
-    match line(alloc, name, says) {
+    match format!(in alloc; "souper_items: {name}: {says}\n") {
         Ok(line) => report_line(&line, err),
         Err(_) => report_memory(err),
     }

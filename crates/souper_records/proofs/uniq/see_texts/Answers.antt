@@ -1,11 +1,8 @@
-use Rattle.std.proofs.Common.{◌≡◌, List, [], ◌∷◌, map, length, refl, ap, ◌∙◌, arith}
+use Rattle.std.proofs.Common.{◌≡◌, map, length, refl, ap, ◌∙◌, arith}
+use Rattle.std.proofs.lemmas.List.{nil_from_length}
 use Rattle.souper_records.specs.Uniques.{text_count}
 use Rattle.souper_records.proofs.Tallies.{inserted}
 use Rattle.souper_records.proofs.uniq.see_texts.Goals as goal
-
-none_of : {A : Type 0} (xs : List A) → length xs ≡ 0 → xs ≡ []
-none_of [] e = refl
-none_of (x ∷ xs) e = absurd (omega arith)
 
 pub loop-text-init : goal.loop-text-init
 loop-text-init c = rw c.into_iter-text-iterator.ensures.into_iter_gives.0 refl
@@ -17,4 +14,4 @@ pub returns : goal.returns
 returns c =
     let rest = c.loop-text.text-iterator.rest in
     let none : length rest.items ≡ 0 = omega (arith, rest.ok, c.in-None.ensures.steps.0) in
-    rw (none_of rest.items none) at c.loop-text.invariant
+    rw (nil_from_length rest.items none) at c.loop-text.invariant
