@@ -1,4 +1,4 @@
-use Rattle.std.proofs.Common.{[], inl, inr, sym, ap, ◌∙◌}
+use Rattle.std.proofs.Common.{[], inl, inr, ap}
 use Rattle.std.specs.String.{string_bytes}
 use Rattle.std.proofs.KnownBytes.{Appends-nil}
 use Rattle.std.proofs.lemmas.Result.{err_from_is_err_and, on_ok_weaker}
@@ -8,7 +8,7 @@ use Rattle.souper_records.proofs.Counting.{taken_more, taken_written, taken_all,
 use Rattle.souper_records.proofs.counts.write_counts.Goals as goal
 
 pub loop-text-init : goal.loop-text-init
-loop-text-init g c = record { written = []; kept = []; whole = sym (c.into_iter-text-iterator.ensures.into_iter_gives ∙ c.iter-text-items.ensures.rest); given = Appends-nil _; is = c.new-records.ensures.bytes }
+loop-text-init g c = record { written = []; kept = []; whole = (cc); given = Appends-nil _; is = c.new-records.ensures.bytes }
 
 pub loop-text-preserved : goal.loop-text-preserved
 loop-text-preserved g c =
