@@ -11,9 +11,11 @@ import os
 import random
 import re
 import shutil
+import signal
 import subprocess
 import sys
 import tempfile
+import time
 import unittest
 import xml.etree.ElementTree as ElementTree
 from collections import Counter
@@ -283,6 +285,24 @@ class Program(unittest.TestCase):
             found = program("draw", "--svg", "lhs", self.FIRST, PATH=folder)
         said = "souper.draw: dot failed with status 7: no memory\n"
         self.assertEqual((found.returncode, found.stdout, found.stderr.decode()), (2, b"", said))
+
+    def test_an_interrupt(self) -> None:
+        with tempfile.TemporaryDirectory() as folder:
+            path, note = Path(folder, "dot"), Path(folder, "note")
+            path.write_text(f"#!/bin/sh\n: >'{note}'\nexec sleep 60\n")
+            path.chmod(0o755)
+            process = subprocess.Popen(
+                [sys.executable, "-m", "souper.draw", "--svg", "lhs", str(self.FIRST)],
+                env=environment(PATH=f"{folder}:{os.environ['PATH']}"), stdout=subprocess.PIPE, stderr=subprocess.PIPE,
+                start_new_session=True,
+            )
+            until = time.monotonic() + 30
+            while not note.exists() and time.monotonic() < until:
+                time.sleep(0.02)
+            # As a terminal does: to the program, and to the one that it runs.
+            os.killpg(process.pid, signal.SIGINT)
+            out, err = process.communicate(timeout=30)
+        self.assertEqual((process.returncode, out, err), (130, b"", b""))
 
     def test_a_pipe_that_nobody_reads(self) -> None:
         text = "%x = var pc %x 1 infer %x\n" * 5000
