@@ -18,14 +18,14 @@ _souper_items_operands() {
 
 _souper_items() {
     local word=${COMP_WORDS[COMP_CWORD]} before=${COMP_WORDS[COMP_CWORD - 1]} options='' when=''
-    local shared='-h --help --color'
+    local shared='-h --help --color -q --quiet'
     COMPREPLY=()
     if [[ $COMP_CWORD -eq 1 ]]; then
         mapfile -t COMPREPLY < <(compgen -W 'format uniq check help -h --help -V --version' -- "$word")
         return
     fi
     case ${COMP_WORDS[1]} in
-    format | each) options="$shared -z --null --key --rename -k --keep-going --json -w --write" ;;
+    format | each) options="$shared -z --null --key --rename -k --keep-going --json -w --write --force" ;;
     uniq) options="$shared -z --null --key --rename -k --keep-going -c --count -d --repeated" ;;
     check) options="$shared --diff" ;;
     help)

@@ -2,6 +2,7 @@
 #![tactic(auto)]
 
 mod differ;
+mod excerpt;
 mod options;
 mod progress;
 mod rewrite;
@@ -9,6 +10,7 @@ mod terminal;
 
 use clap::ArgMatches;
 use differ::check_diff;
+use excerpt::Style;
 use options::{Action, Color, Task, grammar, read_task};
 use progress::{Meter, Metered};
 use rewrite::rewrite;
@@ -23,11 +25,13 @@ use souper_records::run::{
 };
 use souper_records::seen::Seen;
 use souper_stream::StreamItem;
+use std::cell::Cell;
+use std::env::{Env, FillError};
 use std::fs::File;
-use std::io::{BufRead, BufReader, IsTerminal, Write};
+use std::io::{BufRead, BufReader, ErrorKind, IsTerminal, Write};
 use std::process::ExitCode;
-use std::{env, io};
-use terminal::{Style, Terminal};
+use std::{env, fs, io};
+use terminal::Terminal;
 
 const STANDARD_INPUT: &str = "(standard input)";
 
@@ -48,7 +52,7 @@ struct Session<'s, W, E> {
 }
 
 // Each method returns a status of the program.
-impl<W: Write, E: Write> Session<'_, W, E> {
+impl<'s, W: Write, E: Write> Session<'s, W, E> {
     // The distinct items of a stream of items of the type.
     fn uniq<T: StreamItem + Drop, R: BufRead>(
         &mut self,
@@ -137,7 +141,8 @@ impl<W: Write, E: Write> Session<'_, W, E> {
         }
     }
 
-    fn standard_input(&mut self, meter: &mut Meter<'_>) -> u8 {
+    fn standard_input(&mut self, meter: &mut Meter<'s>) -> u8 {
+        meter.begin(STANDARD_INPUT, None);
         let reader = self.rt.stdin();
         match BufReader::with_capacity(self.rt.alloc(), CAPACITY, Metered { reader, meter }) {
             Ok(mut reader) => self.stream(&mut reader, STANDARD_INPUT),
@@ -148,22 +153,23 @@ impl<W: Write, E: Write> Session<'_, W, E> {
         }
     }
 
-    fn rewrite(&mut self, rename: bool, path: &str) -> u8 {
+    fn rewrite(&mut self, rename: bool, force: bool, meter: &mut Meter<'s>, path: &str) -> u8 {
         let (rt, err) = (self.rt, &mut self.err);
         match self.task.kind {
-            Kind::Lhs => rewrite::<LeftHandSide, E>(rt, rename, path, err),
-            Kind::Rhs => rewrite::<RightHandSide, E>(rt, rename, path, err),
-            Kind::Rep => rewrite::<Replacement, E>(rt, rename, path, err),
+            Kind::Lhs => rewrite::<LeftHandSide, E>(rt, rename, force, meter, path, err),
+            Kind::Rhs => rewrite::<RightHandSide, E>(rt, rename, force, meter, path, err),
+            Kind::Rep => rewrite::<Replacement, E>(rt, rename, force, meter, path, err),
         }
     }
 
     // A file; `-` is standard input.
-    fn file(&mut self, meter: &mut Meter<'_>, path: &str) -> u8 {
-        if let Action::Write { rename } = self.task.action {
-            return self.rewrite(rename, path);
-        }
+    fn file(&mut self, meter: &mut Meter<'s>, path: &'s str) -> u8 {
         if path == "-" {
             return self.standard_input(meter);
+        }
+        meter.begin(path, len_of(self.rt, path));
+        if let Action::Write { rename, force } = self.task.action {
+            return self.rewrite(rename, force, meter, path);
         }
         match open(self.rt, meter, path) {
             Ok(mut reader) => self.stream(&mut reader, path),
@@ -175,7 +181,7 @@ impl<W: Write, E: Write> Session<'_, W, E> {
     }
 
     // The greatest status of the files. It ends after a failed write; what remembers items also ends after status 2.
-    fn files(&mut self, meter: &mut Meter<'_>) -> u8 {
+    fn files(&mut self, meter: &mut Meter<'s>) -> u8 {
         if self.task.files.is_empty() {
             return self.standard_input(meter);
         }
@@ -189,8 +195,13 @@ impl<W: Write, E: Write> Session<'_, W, E> {
         status
     }
 
-    fn run(&mut self) -> u8 {
-        let mut meter = Meter::new(self.rt);
+    // Progress is shown at a terminal, unless records are written to it.
+    fn run(&mut self, is_shown: &'s Cell<bool>) -> u8 {
+        let rt = self.rt;
+        let shows = !self.task.quiet
+            && rt.stderr().is_terminal()
+            && (self.task.action.is_silent() || !rt.stdout().is_terminal());
+        let mut meter = Meter::new(rt, shows, is_shown);
         let status = self.files(&mut meter);
         meter.clear();
         match self.task.action {
@@ -204,6 +215,16 @@ impl<W: Write, E: Write> Session<'_, W, E> {
             )),
             _ => status,
         }
+    }
+}
+
+// The length of a regular file, in bytes.
+fn len_of(rt: &HostRuntime, path: &str) -> Option<u64> {
+    let metadata = fs::metadata(rt, path).ok()?;
+    if metadata.is_file() {
+        Some(metadata.len())
+    } else {
+        None
     }
 }
 
@@ -238,7 +259,9 @@ fn run_matches(rt: &HostRuntime, matches: &ArgMatches<'_>) -> u8 {
         Some(task) => task,
         None => return 2,
     };
-    let mut err = match Terminal::new(rt.alloc(), rt.stderr(), style(rt, task.color)) {
+    let is_shown = Cell::new(false);
+    let style = style(rt, task.color);
+    let mut err = match Terminal::new(rt.alloc(), rt.stderr(), style, &is_shown) {
         Ok(terminal) => Watched::new(terminal),
         Err(_) => {
             report_memory(&mut Watched::new(rt.stderr()));
@@ -256,12 +279,50 @@ fn run_matches(rt: &HostRuntime, matches: &ArgMatches<'_>) -> u8 {
         out: Watched::new(rt.stdout()),
         err,
     }
-    .run()
+    .run(&is_shown)
+}
+
+// The longest path of Linux, in bytes.
+const PATH_MAX: usize = 4096;
+
+// Reports the first argument that is not UTF-8, with its other bytes as in `\xff`.
+fn report_argument(rt: &HostRuntime) -> anyhow::Result<()> {
+    let mut buf = [0; PATH_MAX];
+    for index in 1..usize::MAX {
+        let bytes = match rt.arg(index, &mut buf) {
+            Ok(len) => &buf[..len],
+            Err(FillError::NotPresent) => break,
+            Err(_) => continue,
+        };
+        if str::from_utf8(bytes).is_err() {
+            let shown = bytes.escape_ascii();
+            eprintln!(rt;
+                "souper_items: argument {index} is not UTF-8: {shown}; nothing was read"
+            )?;
+            break;
+        }
+    }
+    Ok(())
+}
+
+// The words of the command line, or none if one is not UTF-8, which was reported.
+fn words(rt: &HostRuntime) -> anyhow::Result<Option<Vec<String>>> {
+    match env::args(rt) {
+        Ok(words) => Ok(Some(words.collect(rt.alloc())?)),
+        Err(fault) if fault.kind() == ErrorKind::InvalidData => {
+            report_argument(rt)?;
+            Ok(None)
+        }
+        Err(fault) => Err(fault.into()),
+    }
 }
 
 // Reads the command line and does what it asks for.
 fn run_words(rt: &HostRuntime) -> anyhow::Result<u8> {
-    let words: Vec<String> = env::args(rt)?.collect(rt.alloc())?;
+    let words = match words(rt)? {
+        Some(words) => words,
+        None => return Ok(2),
+    };
     let command = grammar(rt.alloc())?;
     let matches = match command.try_get_matches_from(words.as_slice()) {
         Ok(matches) => matches,

@@ -33,8 +33,8 @@ pub(crate) enum Action {
     /// The same after all streams, of the graphs and with the counts that are asked for.
     Count(Layout, Summary),
 
-    /// Each file is rewritten by its canonical text, or by that with names by the printed order.
-    Write { rename: bool },
+    /// Each file is rewritten by its canonical text, or by that with names by the printed order; with `force` a write-protected one too.
+    Write { rename: bool, force: bool },
 
     /// Whether the stream is canonical is found out, and if asked for, what would change.
     Check { diff: bool },
@@ -44,6 +44,14 @@ impl Action {
     /// Whether the output for an item depends on the items before it.
     pub(crate) fn remembers(self) -> bool {
         matches!(self, Action::Uniq(_) | Action::Count(..))
+    }
+
+    /// Whether nothing is written to standard output while a file is read.
+    pub(crate) fn is_silent(self) -> bool {
+        matches!(
+            self,
+            Action::Count(..) | Action::Write { .. } | Action::Check { diff: false }
+        )
     }
 }
 
@@ -57,6 +65,9 @@ pub(crate) struct Task<'m, 'a> {
     pub(crate) keep_going: bool,
 
     pub(crate) color: Color,
+
+    /// Whether no progress is shown.
+    pub(crate) quiet: bool,
 
     /// The paths, of which `-` is standard input. If there are none, standard input is read.
     pub(crate) files: &'m [&'a str],
@@ -110,6 +121,10 @@ fn color_arg<'a>(alloc: Global) -> Arg<'a> {
         .help("Color errors: auto (the default), always or never")
 }
 
+fn quiet_arg<'a>(alloc: Global) -> Arg<'a> {
+    flag(alloc, "quiet", "Show no progress at a terminal").short('q')
+}
+
 fn flag<'a>(alloc: Global, name: &'a str, help: &'a str) -> Arg<'a> {
     Arg::new(alloc, name)
         .long(name)
@@ -144,6 +159,7 @@ fn writer<'a>(alloc: Global, name: &'a str, about: &'a str) -> Result<Command<'a
         )
         .short('k'))?
         .arg(color_arg(alloc))?
+        .arg(quiet_arg(alloc))?
         .arg(kind_arg(alloc))?
         .arg(files_arg(alloc))
 }
@@ -172,7 +188,8 @@ fn format<'a>(alloc: Global) -> Result<Command<'a>, AllocError> {
             .conflicts_with("key")?
             .conflicts_with("json")?
             .conflicts_with("keep-going")?,
-    )
+    )?
+    .arg(flag(alloc, "force", "Rewrite write-protected files too").requires_arg("write")?)
 }
 
 fn uniq<'a>(alloc: Global) -> Result<Command<'a>, AllocError> {
@@ -202,6 +219,7 @@ fn check<'a>(alloc: Global) -> Result<Command<'a>, AllocError> {
         .after_help(CHECK_EXAMPLE)
         .arg(flag(alloc, "diff", "Write what would change, as a unified diff"))?
         .arg(color_arg(alloc))?
+        .arg(quiet_arg(alloc))?
         .arg(kind_arg(alloc))?
         .arg(files_arg(alloc))
 }
@@ -234,7 +252,10 @@ fn read_layout(options: &ArgMatches<'_>) -> Layout {
 fn read_format(options: &ArgMatches<'_>) -> Action {
     let rename = options.get_flag("rename");
     if options.get_flag("write") {
-        Action::Write { rename }
+        Action::Write {
+            rename,
+            force: options.get_flag("force"),
+        }
     } else if options.get_flag("json") {
         Action::Objects { rename }
     } else {
@@ -283,6 +304,7 @@ pub(crate) fn read_task<'m, 'a>(matches: &'m ArgMatches<'a>) -> Option<Task<'m, 
         action,
         keep_going: !matches!(action, Action::Check { .. }) && options.get_flag("keep-going"),
         color: read_color(options),
+        quiet: options.get_flag("quiet"),
         files: options.get_strs("FILE").unwrap_or_default(),
     })
 }

@@ -1,45 +1,100 @@
 //! How much of a long input was read.
 
+use crate::excerpt::Style;
+use std::alloc::AllocError;
+use std::cell::Cell;
+use std::fmt::Write;
 use std::io;
-use std::io::{IsTerminal, Read};
+use std::io::Read;
+use std::time::Instant;
 
 // The number of bytes between two reports.
 const STEP: u64 = 1 << 24;
 
-/// Shows on a terminal how much was read of all files.
+// Bytes in a MiB, as a power of two.
+const MIB: u32 = 20;
+
+/// Shows on a terminal how much was read of a file, and how fast.
 #[derive(Drop)]
 pub(crate) struct Meter<'a> {
     rt: &'a HostRuntime,
     shows: bool,
-    read: u64,
 
-    // So much is read when it is shown next.
+    // Whether a report is on the line of the cursor.
+    is_shown: &'a Cell<bool>,
+
+    // The file, its length if it is known, and when it was opened.
+    name: &'a str,
+    len: Option<u64>,
+    start: Option<Instant>,
+
+    // The bytes that were read of it, and how many there will be at the next report.
+    read: u64,
     next: u64,
 }
 
 impl<'a> Meter<'a> {
-    /// Nothing was read. It shows only if standard error is a terminal, and standard output is none, where records may go.
-    pub(crate) fn new(rt: &'a HostRuntime) -> Meter<'a> {
+    /// It shows reports on standard error, or nothing.
+    pub(crate) fn new(rt: &'a HostRuntime, shows: bool, is_shown: &'a Cell<bool>) -> Meter<'a> {
         Meter {
             rt,
-            shows: rt.stderr().is_terminal() && !rt.stdout().is_terminal(),
+            shows,
+            is_shown,
+            name: "",
+            len: None,
+            start: None,
             read: 0,
             next: STEP,
         }
+    }
+
+    /// Begins a file.
+    pub(crate) fn begin(&mut self, name: &'a str, len: Option<u64>) {
+        if self.shows {
+            self.start = Instant::now(self.rt).ok();
+        }
+        self.name = name;
+        self.len = len;
+        self.read = 0;
+        self.next = STEP;
+    }
+
+    // `NAME: 144 of 605 MiB, 52 MiB/s`, without what is not known.
+    fn report(&self) -> Result<String, AllocError> {
+        let mut report = String::new(self.rt.alloc());
+        for c in self.name.chars() {
+            Style::Clean.append_char(c, &mut report)?;
+        }
+        write!(report, ": {}", self.read >> MIB).map_err(|_| AllocError)?;
+        if let Some(len) = self.len {
+            write!(report, " of {}", len >> MIB).map_err(|_| AllocError)?;
+        }
+        report.push_str(" MiB")?;
+        let elapsed = self.start.and_then(|start| start.elapsed(self.rt).ok());
+        if let Some(elapsed) = elapsed
+            && let Ok(millis) = u64::try_from(elapsed.as_millis())
+            && let Some(speed) = (self.read / 1000).checked_div(millis)
+        {
+            write!(report, ", {speed} MB/s").map_err(|_| AllocError)?;
+        }
+        Ok(report)
     }
 
     // The next output overwrites the report.
     fn count(&mut self, count: usize) {
         self.read = self.read.saturating_add(count as u64);
         if self.shows && self.read >= self.next {
-            let _ = eprint!(self.rt; "{} MiB\x1b[K\r", self.read >> 20);
             self.next = self.read.saturating_add(STEP);
+            if let Ok(report) = self.report() {
+                let _ = eprint!(self.rt; "{report}\x1b[K\r");
+                self.is_shown.set(true);
+            }
         }
     }
 
     /// Removes the report from the screen.
     pub(crate) fn clear(&self) {
-        if self.shows && self.read >= STEP {
+        if self.is_shown.replace(false) {
             let _ = eprint!(self.rt; "\x1b[K");
         }
     }

@@ -1,5 +1,6 @@
 //! Files that are rewritten by their canonical texts.
 
+use crate::progress::{Meter, Metered};
 use souper_format::watched::Watched;
 use souper_ir::parse::WholeItem;
 use souper_records::layout::{Layout, PLAIN};
@@ -7,7 +8,7 @@ use souper_records::records::records_of_text;
 use souper_records::report::{report_error, report_fault, report_memory};
 use std::alloc::{AllocError, Global};
 use std::fs::{File, Metadata, OpenOptions};
-use std::io::{ErrorKind, Write};
+use std::io::{ErrorKind, Read, Write};
 use std::os::unix::fs::OpenOptionsExt;
 use std::path::{Path, PathBuf};
 use std::{fs, io};
@@ -20,14 +21,42 @@ struct Target {
     bytes: Vec<u8>,
 }
 
+fn refusal(says: &'static str) -> io::Error {
+    io::Error::new(ErrorKind::InvalidInput, says)
+}
+
+// Fails if nobody may write to the file, or the user may not.
+fn check_writable(rt: &HostRuntime, path: Path<'_>, metadata: &Metadata) -> io::Result<()> {
+    if metadata.permissions().readonly() {
+        return Err(refusal("write-protected; --force rewrites it"));
+    }
+    match OpenOptions::new().write(true).open(rt, path) {
+        Ok(_) => Ok(()),
+        Err(fault) if fault.kind() == ErrorKind::PermissionDenied => {
+            Err(refusal("no permission to write; --force rewrites it"))
+        }
+        Err(fault) => Err(fault),
+    }
+}
+
 // The file of the path, or the one that a link of this path leads to.
-fn read_target(rt: &HostRuntime, path: &str) -> io::Result<Target> {
-    let path = fs::canonicalize(rt, path)?;
+fn read_target(
+    rt: &HostRuntime,
+    force: bool,
+    meter: &mut Meter<'_>,
+    name: &str,
+) -> io::Result<Target> {
+    let path = fs::canonicalize(rt, name)?;
     let metadata = fs::metadata(rt, path.as_path())?;
     if !metadata.is_file() {
-        return Err(io::Error::new(ErrorKind::InvalidInput, "not a file"));
+        return Err(refusal("not a file"));
     }
-    let bytes = fs::read(rt, path.as_path())?;
+    if !force {
+        check_writable(rt, path.as_path(), &metadata)?;
+    }
+    let mut bytes = Vec::new(rt.alloc());
+    let reader = File::open(rt, path.as_path())?;
+    Metered { reader, meter }.read_to_end(&mut bytes)?;
     Ok(Target {
         path,
         metadata,
@@ -49,6 +78,17 @@ fn create(rt: &HostRuntime, path: Path<'_>) -> io::Result<File> {
         .create_new(true)
         .mode(0o600)
         .open(rt, path)
+}
+
+// What is said of a new file that is there already.
+fn left_over(fault: io::Error) -> io::Error {
+    if fault.kind() == ErrorKind::AlreadyExists {
+        refusal(
+            "left by a run that was interrupted, or of one that still runs; if none runs, remove it",
+        )
+    } else {
+        fault
+    }
 }
 
 fn fill(mut file: File, metadata: &Metadata, text: &str) -> io::Result<()> {
@@ -77,7 +117,7 @@ fn replace<E: Write>(
     let file = match create(rt, path) {
         Ok(file) => file,
         Err(fault) => {
-            report_fault(alloc, path.as_str(), &fault, err);
+            report_fault(alloc, path.as_str(), &left_over(fault), err);
             return 2;
         }
     };
@@ -93,16 +133,18 @@ fn replace<E: Write>(
 }
 
 /// Rewrites the file by its canonical text, or by that with names by the printed order, unless it has it already. Returns the status of
-/// the program: 0, it has that text; 1, it is invalid; 2, it cannot be read or replaced, or is not UTF-8, or memory ran out. With 1 and
-/// 2 it is as before, and why was reported.
+/// the program: 0, it has that text; 1, it is invalid; 2, it cannot be read or replaced, it is write-protected and `force` is false, it is
+/// not UTF-8, or memory ran out. With 1 and 2 it is as before, and why was reported.
 pub(crate) fn rewrite<T: WholeItem + Drop, E: Write>(
     rt: &HostRuntime,
     rename: bool,
+    force: bool,
+    meter: &mut Meter<'_>,
     name: &str,
     err: &mut Watched<E>,
 ) -> u8 {
     let alloc = rt.alloc();
-    let target = match read_target(rt, name) {
+    let target = match read_target(rt, force, meter, name) {
         Ok(target) => target,
         Err(fault) => {
             report_fault(alloc, name, &fault, err);

@@ -1,6 +1,8 @@
 //! Errors at a terminal.
 
+use crate::excerpt::Style;
 use std::alloc::{AllocError, Global};
+use std::cell::Cell;
 use std::io;
 use std::io::Write;
 
@@ -12,24 +14,13 @@ const RED: &str = "\x1b[31m";
 
 const RESET: &str = "\x1b[0m";
 
+const ERASE: &[u8] = b"\x1b[K";
+
 // What the second line of a parse error is, and its fourth begins with.
 const FRAME: &str = "     |";
 
 // The line for out of memory is shorter, so that it takes no allocation.
 const ROOM: usize = 64;
-
-/// How lines are shown.
-#[derive(Clone, Copy, PartialEq, Eq)]
-pub(crate) enum Style {
-    /// As they are.
-    Bytes,
-
-    /// Without characters that a terminal obeys.
-    Clean,
-
-    /// The same, in color.
-    Color,
-}
 
 // A line of a parse error, or any other.
 #[derive(Clone, Copy, PartialEq, Eq)]
@@ -39,27 +30,42 @@ enum Part {
     Caret,
 }
 
-/// A writer of lines, each of which is shown when it is whole.
+/// A writer of lines, each of which is shown when it is whole. The line of the source that a parse error shows waits for its caret.
 #[derive(Drop)]
-pub(crate) struct Terminal<W> {
+pub(crate) struct Terminal<'a, W> {
     inner: W,
     style: Style,
+
+    // Whether a report of progress is on the line of the cursor.
+    is_shown: &'a Cell<bool>,
+
     line: Vec<u8>,
+
+    // The line of the source.
+    source: String,
+
     shown: String,
 
     // What the next line is.
     part: Part,
 }
 
-impl<W: Write> Terminal<W> {
-    pub(crate) fn new(alloc: Global, inner: W, style: Style) -> Result<Terminal<W>, AllocError>
+impl<'a, W: Write> Terminal<'a, W> {
+    pub(crate) fn new(
+        alloc: Global,
+        inner: W,
+        style: Style,
+        is_shown: &'a Cell<bool>,
+    ) -> Result<Terminal<'a, W>, AllocError>
     where
         W: Drop,
     {
         Ok(Terminal {
             inner,
             style,
+            is_shown,
             line: Vec::with_capacity(alloc, ROOM)?,
+            source: String::new(alloc),
             shown: String::with_capacity(alloc, ROOM)?,
             part: Part::Message,
         })
@@ -68,15 +74,19 @@ impl<W: Write> Terminal<W> {
     // Shows the line, and forgets it.
     fn show(&mut self) -> io::Result<()> {
         self.shown.clear();
-        let shown = &mut self.shown;
-        let next = match str::from_utf8(&self.line) {
-            Ok(line) if self.style == Style::Color => append_colored(self.part, line, shown),
-            Ok(line) => append_clean(line, self.part, shown),
-            Err(_) => append_ascii(&self.line, shown),
+        let (style, shown) = (self.style, &mut self.shown);
+        let next = match (str::from_utf8(&self.line), self.part) {
+            (Ok(FRAME), Part::Message) => append_frame_line(style, shown),
+            (Ok(line), Part::Message) => append_message(style, line, shown),
+            (Ok(line), Part::Source) => keep_source(line, &mut self.source),
+            (Ok(line), Part::Caret) => append_excerpt(style, self.source.as_str(), line, shown),
+            (Err(_), _) => append_ascii(&self.line, shown),
         };
         self.line.clear();
         self.part = next?;
-        self.shown.push('\n')?;
+        if self.is_shown.replace(false) {
+            self.inner.write_all(ERASE)?;
+        }
         self.inner.write_all(self.shown.as_bytes())
     }
 
@@ -88,11 +98,8 @@ impl<W: Write> Terminal<W> {
     }
 }
 
-impl<W: Write> Write for Terminal<W> {
+impl<W: Write> Write for Terminal<'_, W> {
     fn write(&mut self, buf: &[u8]) -> io::Result<usize> {
-        if self.style == Style::Bytes {
-            return self.inner.write(buf);
-        }
         for byte in buf {
             self.take(*byte)?;
         }
@@ -104,47 +111,51 @@ impl<W: Write> Write for Terminal<W> {
     }
 }
 
-// A character of one column that a terminal does not obey, in place of one that it may obey.
-fn clean(c: char) -> char {
-    match c {
-        '\0'..='\x1f' => char::from_u32(0x2400 + c as u32).unwrap_or(char::REPLACEMENT_CHARACTER),
-        '\x7f' => '\u{2421}',
-        '\u{80}'..='\u{9f}' | '\u{202a}'..='\u{202e}' | '\u{2066}'..='\u{2069}' => {
-            char::REPLACEMENT_CHARACTER
-        }
-        _ => c,
-    }
-}
-
-fn append(text: &str, shown: &mut String) -> Result<(), AllocError> {
-    for c in text.chars() {
-        shown.push(clean(c))?;
+// Begins a color, where there are colors.
+fn begin(style: Style, color: &str, shown: &mut String) -> Result<(), AllocError> {
+    if style == Style::Color {
+        shown.push_str(color)?;
     }
     Ok(())
 }
 
-fn append_clean(line: &str, part: Part, shown: &mut String) -> Result<Part, AllocError> {
-    append(line, shown)?;
-    Ok(part)
+// Ends a color.
+fn end(style: Style, shown: &mut String) -> Result<(), AllocError> {
+    begin(style, RESET, shown)
+}
+
+fn append_frame(style: Style, shown: &mut String) -> Result<(), AllocError> {
+    begin(style, BLUE, shown)?;
+    shown.push_str(FRAME)?;
+    end(style, shown)
+}
+
+// Appends the frame, which is a line of its own.
+fn append_frame_line(style: Style, shown: &mut String) -> Result<Part, AllocError> {
+    append_frame(style, shown)?;
+    shown.push('\n')?;
+    Ok(Part::Source)
+}
+
+fn keep_source(line: &str, source: &mut String) -> Result<Part, AllocError> {
+    source.clear();
+    source.push_str(line)?;
+    Ok(Part::Caret)
 }
 
 // Of bytes that are no text the ASCII characters.
 fn append_ascii(line: &[u8], shown: &mut String) -> Result<Part, AllocError> {
     for byte in line {
         let is_ascii = *byte < 0x80;
-        shown.push(if is_ascii {
-            clean(*byte as char)
+        let c = if is_ascii {
+            *byte as char
         } else {
             char::REPLACEMENT_CHARACTER
-        })?;
+        };
+        Style::Clean.append_char(c, shown)?;
     }
+    shown.push('\n')?;
     Ok(Part::Message)
-}
-
-fn append_in(color: &str, text: &str, shown: &mut String) -> Result<(), AllocError> {
-    shown.push_str(color)?;
-    append(text, shown)?;
-    shown.push_str(RESET)
 }
 
 fn is_number(text: &str) -> bool {
@@ -176,52 +187,59 @@ fn location_len(line: &str) -> Option<usize> {
     None
 }
 
-// Appends a line that is a message, or else another one. Returns what the next line is.
-fn append_message(line: &str, shown: &mut String) -> Result<Part, AllocError> {
-    if line == FRAME {
-        append_in(BLUE, line, shown)?;
-        return Ok(Part::Source);
-    }
+// Appends a line that is a message, or another one.
+fn append_message(style: Style, line: &str, shown: &mut String) -> Result<Part, AllocError> {
     match location_len(line).and_then(|len| line.split_at_checked(len)) {
-        Some((location, message)) => {
-            append(location, shown)?;
-            append_in(BOLD, message, shown)?;
-        }
-        None => append(line, shown)?,
-    }
-    Ok(Part::Message)
-}
-
-// Appends the number of a line, up to the bar, and the rest.
-fn append_source(line: &str, shown: &mut String) -> Result<Part, AllocError> {
-    match line.split_once('|') {
-        Some((number, source)) => {
-            shown.push_str(BLUE)?;
-            append(number, shown)?;
-            shown.push_str("|")?;
+        Some((location, message)) if style == Style::Color => {
+            style.append_around(location, location.len(), shown)?;
+            shown.push_str(BOLD)?;
+            style.append_around(message, 0, shown)?;
             shown.push_str(RESET)?;
-            append(source, shown)?;
         }
-        None => append(line, shown)?,
-    }
-    Ok(Part::Caret)
-}
-
-fn append_caret(line: &str, shown: &mut String) -> Result<Part, AllocError> {
-    match line.strip_prefix(FRAME) {
-        Some(caret) => {
-            append_in(BLUE, FRAME, shown)?;
-            append_in(RED, caret, shown)?;
+        _ => {
+            style.append_around(line, 0, shown)?;
         }
-        None => append(line, shown)?,
     }
+    shown.push('\n')?;
     Ok(Part::Message)
 }
 
-fn append_colored(part: Part, line: &str, shown: &mut String) -> Result<Part, AllocError> {
-    match part {
-        Part::Message => append_message(line, shown),
-        Part::Source => append_source(line, shown),
-        Part::Caret => append_caret(line, shown),
+// Appends the number of a line, and the line of the source, or of a long one what is around the byte at `caret`. Returns the columns
+// before that.
+fn append_source(
+    style: Style,
+    source: &str,
+    caret: usize,
+    shown: &mut String,
+) -> Result<usize, AllocError> {
+    let (number, text) = source.split_once("| ").unwrap_or(("     ", source));
+    begin(style, BLUE, shown)?;
+    shown.push_str(number)?;
+    shown.push('|')?;
+    end(style, shown)?;
+    shown.push(' ')?;
+    let columns = style.append_around(text, caret, shown)?;
+    shown.push('\n')?;
+    Ok(columns)
+}
+
+// Appends both lines: the one of the source, and the one with the caret.
+fn append_excerpt(
+    style: Style,
+    source: &str,
+    line: &str,
+    shown: &mut String,
+) -> Result<Part, AllocError> {
+    // Before the caret are the frame and a space.
+    let caret = line.len().saturating_sub(FRAME.len() + 2);
+    let columns = append_source(style, source, caret, shown)?;
+    append_frame(style, shown)?;
+    begin(style, RED, shown)?;
+    for _ in 0..=columns {
+        shown.push(' ')?;
     }
+    shown.push('^')?;
+    end(style, shown)?;
+    shown.push('\n')?;
+    Ok(Part::Message)
 }
