@@ -33,6 +33,8 @@ def status(address):
 
 def main():
     turn_on_loopback()
+    # A shell without job control has what it starts by & ignore the signal, and a program inherits that.
+    signal.signal(signal.SIGINT, signal.default_int_handler)
     server = subprocess.Popen([sys.executable, "-W", "error", "-m", "souper.page", "lhs", sys.argv[1]], stdout=subprocess.PIPE, text=True)
     try:
         address = re.search(r"http://127\.0\.0\.1:\d+/\S*", server.stdout.readline())[0]
