@@ -255,13 +255,13 @@ class Program(unittest.TestCase):
             self.assertEqual((found.returncode, found.stdout), (1, b""))
             self.assertEqual(found.stderr.decode(), f"{path}:{shown}")
         found = program("draw", "lhs", input=path.read_bytes())
-        self.assertEqual((found.returncode, found.stderr.decode()), (1, f"unknown:{shown}"))
+        self.assertEqual((found.returncode, found.stderr.decode()), (1, f"(standard input):{shown}"))
 
     def test_what_fails(self) -> None:
         for arguments, said in (
             (["lhs", "/nowhere"], "souper.draw: /nowhere: No such file or directory\n"),
             (["lhs", "/"], "souper.draw: /: Is a directory\n"),
-            (["lhs", "-"], "souper.draw: unknown: not UTF-8 at byte 1\n"),
+            (["lhs", "-"], "souper.draw: (standard input): not UTF-8 at byte 1\n"),
         ):
             found = program("draw", *arguments, input=b"%\xff")
             self.assertEqual((found.returncode, found.stdout, found.stderr.decode()), (2, b"", said))

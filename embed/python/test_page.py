@@ -507,7 +507,7 @@ class Program(unittest.TestCase):
             for arguments, said in (
                 (["lhs", "/nowhere"], "souper.page: /nowhere: No such file or directory\n"),
                 (["lhs", bad], f"souper.page: {bad}: not UTF-8 at byte 9\n"),
-                (["lhs", "-"], "souper.page: unknown: not UTF-8 at byte 0\n"),
+                (["lhs", "-"], "souper.page: (standard input): not UTF-8 at byte 0\n"),
             ):
                 found = program("page", *arguments, input=b"\xff")
                 self.assertEqual((found.returncode, found.stdout, found.stderr.decode()), (2, b"", said))

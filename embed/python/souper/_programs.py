@@ -49,7 +49,7 @@ def add_kind(parser: argparse.ArgumentParser, default: str | None = None) -> Non
 def source(path: str | None) -> tuple[str, bytes]:
     """The name and the bytes of a file; of standard input without a path, or for ``-``."""
     if path is None or path == "-":
-        return "unknown", sys.stdin.buffer.read()
+        return "(standard input)", sys.stdin.buffer.read()
     try:
         return path, Path(path).read_bytes()
     except (OSError, ValueError) as error:
