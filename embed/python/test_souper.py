@@ -1,4 +1,4 @@
-"""Tests of souper.py: python3 -W error embed/python/test_souper.py"""
+"""Tests of the package souper: python3 -W error embed/python/test_souper.py"""
 
 from __future__ import annotations
 
@@ -6,6 +6,7 @@ import concurrent.futures
 import contextlib
 import copy
 import ctypes
+import doctest
 import hashlib
 import itertools
 import os
@@ -27,12 +28,12 @@ from unittest import mock
 
 import souper
 from souper import Assignment, BlockPc, Builder, Constant, Infer, Instruction, Item, Kind, Op
-from souper import Pc, Phi, Value, Var
+from souper import Pc, Phi, Value, Var, _library
 
 HERE = Path(__file__).resolve().parent
 ROOT = HERE.parent.parent
 DONE, SHORT, NO_CODE, NOT_WELL_FORMED = 0, 5, 7, 8
-LIBRARY = souper._LIBRARY
+LIBRARY = _library.LIBRARY
 
 # Each form of a node, in three items.
 FORMS = {
@@ -81,7 +82,7 @@ VALID = [record for record in RECORDS if not record.is_refused]
 REFUSED = [record for record in RECORDS if record.is_refused]
 
 
-def raw(name: str, kind: Kind, data: bytes) -> tuple[souper._Outcome, bytes]:
+def raw(name: str, kind: Kind, data: bytes) -> tuple[_library.Outcome, bytes]:
     """The outcome and the output of a function of C."""
     room = 100 * len(data) + 1000
     out = ctypes.create_string_buffer(room)
@@ -155,7 +156,7 @@ class Answers(unittest.TestCase):
 
     def test_forms_of_records(self) -> None:
         # tools/record-formats compares the file with the stored texts of the program souper_items.
-        path = Path(souper.__file__).parents[1] / "tests" / "record_formats.txt"
+        path = ROOT / "embed/tests/record_formats.txt"
         rows = [
             line.replace("\\n", "\n").replace("\\0", "\0").split("\t")
             for line in path.read_text().split("\n")[:-1]
@@ -728,17 +729,17 @@ class Arguments(unittest.TestCase):
     def test_statuses(self) -> None:
         calls = [*each_call(Kind.LHS, b""), partial(souper.write, Kind.LHS, [])]
         for status, error in ((3, MemoryError), (9, RuntimeError), (4, RuntimeError)):
-            outcome = souper._Outcome(status=status)
-            library = mock.Mock(**{f"{name}.return_value": outcome for name in souper._SIGNATURES})
-            with mock.patch.object(souper, "_LIBRARY", library):
+            outcome = _library.Outcome(status=status)
+            library = mock.Mock(**{f"{name}.return_value": outcome for name in _library.SIGNATURES})
+            with mock.patch.object(_library, "LIBRARY", library):
                 for call in calls:
                     self.assertRaises(error, call)
 
     def test_out_of_memory_when_a_refusal_is_shown(self) -> None:
-        refused, none = souper._Outcome(status=1, length=4), souper._Outcome(status=3)
+        refused, none = _library.Outcome(status=1, length=4), _library.Outcome(status=3)
         library = mock.Mock(**{"souper_format.return_value": none})
         library.souper_check.return_value = library.souper_same.return_value = refused
-        with mock.patch.object(souper, "_LIBRARY", library):
+        with mock.patch.object(_library, "LIBRARY", library):
             self.assertRaises(MemoryError, souper.check, "lhs", "")
             self.assertRaises(MemoryError, souper.same, "lhs", "", "")
 
@@ -770,7 +771,7 @@ class Arguments(unittest.TestCase):
 
 
 def python(program: str, *arguments: str, **variables: str) -> subprocess.CompletedProcess[str]:
-    """Runs a program of Python that imports the module."""
+    """Runs a program of Python that imports the package."""
     library = {"SOUPER_LIB": LIBRARY._name, "PYTHONPATH": str(HERE), "PYTHONWARNINGS": "error"}
     return subprocess.run(
         [sys.executable, "-c", program, *arguments],
@@ -781,8 +782,24 @@ def python(program: str, *arguments: str, **variables: str) -> subprocess.Comple
     )
 
 
+class Pages(unittest.TestCase):
+    """What the package says of itself."""
+
+    def test_the_examples_in_comments(self) -> None:
+        runner = doctest.DocTestRunner()
+        for test in doctest.DocTestFinder().find(souper, module=False, globs=vars(souper)):
+            runner.run(test)
+        self.assertEqual((runner.failures, runner.tries > 30), (0, True))
+
+    def test_public_names_are_the_package_s(self) -> None:
+        for name in souper.__all__:
+            public = getattr(souper, name)
+            if isinstance(public, type) or callable(public):
+                self.assertEqual((public.__module__, public.__qualname__), ("souper", name))
+
+
 class Programs(unittest.TestCase):
-    """The module in other processes."""
+    """The package in other processes."""
 
     def test_a_library_that_cannot_be_loaded(self) -> None:
         other = str(sys.modules["_ctypes"].__file__)

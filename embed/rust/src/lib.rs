@@ -8,7 +8,8 @@
 //!
 //! Texts are read and printed by `libsouper_c.a`, a library in Rattle. Its contracts are proved: which texts are valid and which
 //! items they spell, and that a printed text reads back to the same graph. This crate turns the library's byte code into values and
-//! values into byte code; it is tested, not proved. The build looks for the library in the folder that `SOUPER_LIB_DIR` names.
+//! values into byte code; it is tested, not proved. The build looks for the library in the folder that `SOUPER_LIB_DIR` names,
+//! or else beside `build.rs`.
 //!
 //! # Read
 //!

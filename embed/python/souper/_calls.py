@@ -1,0 +1,240 @@
+"""The calls: reading, writing, comparing, and keys."""
+
+from __future__ import annotations
+
+import ctypes
+from collections.abc import Iterable
+from typing import Any, NamedTuple
+
+from . import _library
+from ._checks import check_type
+from ._code import decode, encode
+from ._errors import NotWellFormed, Refused
+from ._library import DIFFERENT, DONE, NOT_UTF8, NOT_WELL_FORMED, OUT_OF_MEMORY, REFUSED, SHORT
+from ._library import KEY, NUL, NUMBERS, RENAME, Outcome
+from ._values import Item, Kind
+
+
+def _utf8(text: str | bytes) -> bytes:
+    check_type("a text", text, "str or bytes", str, bytes)
+    return text.encode() if isinstance(text, str) else text
+
+
+def _written(
+    function: Any, head: tuple[int, ...], data: bytes, room: int
+) -> tuple[Outcome, bytes]:
+    """The outcome and the output of a function. `room` is the first size of the buffer."""
+    while True:
+        out = bytearray(room)
+        first = ctypes.c_char.from_buffer(out)
+        outcome: Outcome = function(*head, data, len(data), ctypes.byref(first), room)
+        if outcome.status != SHORT:
+            has_written = outcome.status in (DONE, REFUSED)
+            return outcome, bytes(memoryview(out)[: outcome.length if has_written else 0])
+        room = outcome.length
+
+
+def _formatted(kind: Kind, data: bytes) -> tuple[Outcome, bytes]:
+    room = len(data) + len(data) // 4 + 256
+    return _written(_library.LIBRARY.souper_format, (NUMBERS[kind],), data, room)
+
+
+def _failure(outcome: Outcome, data: bytes, shown: bytes) -> Exception:
+    """Why a call has no answer. `data` is the text that the outcome is about, `shown` a refusal."""
+    if outcome.status == REFUSED:
+        return Refused(shown.decode(), outcome.offset, outcome.line, outcome.column, outcome.input)
+    if outcome.status == OUT_OF_MEMORY:
+        return MemoryError()
+    if outcome.status == NOT_UTF8:
+        try:
+            data.decode()
+        except UnicodeDecodeError as error:
+            return error
+    return RuntimeError(f"the library returned status {outcome.status}")
+
+
+def _answer(kind: Kind, outcome: Outcome, data: bytes) -> bool:
+    if outcome.status in (DONE, DIFFERENT):
+        return outcome.status == DONE
+    shown = b""
+    if outcome.status == REFUSED:
+        again, shown = _formatted(kind, data)
+        if again.status != REFUSED:
+            raise _failure(again, data, b"")
+    raise _failure(outcome, data, shown)
+
+
+def read(kind: Kind | str, text: str | bytes) -> list[Item]:
+    """The items that the text spells, each with all its statements in the order of the text.
+
+    `Refused` if the text spells no list of items of the kind.
+
+    >>> read("rhs", "%x = var result %x")[0].ending
+    Result(operand=Value(position=0))
+    >>> read("lhs", "infer %x")
+    Traceback (most recent call last):
+        ...
+    souper.Refused: unknown:1:6: no value named '%x' in scope
+         |
+       1 | infer %x
+         |      ^
+    """
+    kind, data = Kind(kind), _utf8(text)
+    outcome, out = _written(_library.LIBRARY.souper_read, (NUMBERS[kind],), data, 3 * len(data) + 256)
+    if outcome.status != DONE:
+        raise _failure(outcome, data, out)
+    return decode(kind, out)
+
+
+def write(kind: Kind | str, items: Iterable[Item]) -> str:
+    """The canonical text of each item, a newline after each.
+
+    `NotWellFormed` if an item is not well formed, and `ValueError` as `encode` raises it.
+
+    >>> write("rhs", [Item((), Result(Constant(1, 8)))])
+    'result 1:i8\\n'
+    >>> write("lhs", [Item((), Infer(Value(0)))])
+    Traceback (most recent call last):
+        ...
+    souper.NotWellFormed: item 0 is not well formed
+    """
+    kind, code = Kind(kind), encode(kind, items)
+    outcome, out = _written(_library.LIBRARY.souper_write, (NUMBERS[kind],), code, len(code) + 256)
+    if outcome.status == NOT_WELL_FORMED:
+        raise NotWellFormed(outcome.length)
+    if outcome.status != DONE:
+        raise _failure(outcome, code, out)
+    return out.decode()
+
+
+def canonical(kind: Kind | str, item: Item) -> Item:
+    """The item that the canonical text of an item spells.
+
+    Its statements are the needed ones in printed order, and each definition is before its uses.
+    `NotWellFormed` if the item is not well formed.
+
+    >>> [item] = read("lhs", "%unused = var  %x = var  infer %x")
+    >>> canonical("lhs", item).statements
+    (Assignment(name='%x', width=None, value=Var(), attributes=()),)
+    """
+    return read(kind, write(kind, [item]))[0]
+
+
+def format(kind: Kind | str, text: str | bytes) -> str:
+    """The canonical text of each item that the text spells, a newline after each.
+
+    `Refused` if the text spells no list of items of the kind.
+
+    >>> format("lhs", "%x=var ; a comment\\n%unused = var infer %x")
+    '%x = var\\ninfer %x\\n\\n'
+    """
+    data = _utf8(text)
+    outcome, out = _formatted(Kind(kind), data)
+    if outcome.status != DONE:
+        raise _failure(outcome, data, out)
+    return out.decode()
+
+
+def check(kind: Kind | str, text: str | bytes) -> bool:
+    """Whether the text is canonical: `format` returns the text itself.
+
+    `Refused` if the text spells no list of items of the kind.
+
+    >>> check("lhs", "%x = var\\ninfer %x\\n\\n"), check("lhs", "%x = var infer %x")
+    (True, False)
+    """
+    kind, data = Kind(kind), _utf8(text)
+    return _answer(kind, _library.LIBRARY.souper_check(NUMBERS[kind], data, len(data)), data)
+
+
+def same(kind: Kind | str, a: str | bytes, b: str | bytes) -> bool:
+    """Whether the texts spell the same graphs, in the same order.
+
+    `Refused` if a text spells no list of items of the kind; its `input` says which text.
+
+    >>> same("lhs", "%y = var %x = var infer %x", "%x = var infer %x")
+    True
+    """
+    kind, first, second = Kind(kind), _utf8(a), _utf8(b)
+    outcome = _library.LIBRARY.souper_same(NUMBERS[kind], first, len(first), second, len(second))
+    return _answer(kind, outcome, first if outcome.input == 0 else second)
+
+
+class Record(NamedTuple):
+    """The key and the text of an item."""
+
+    key: str
+    """The SHA-256 of the text, in 64 hexadecimal digits."""
+    text: str
+    """The canonical text, without the newline that `format` writes after it."""
+
+
+def records(kind: Kind | str, text: str | bytes, *, rename: bool = False) -> list[Record]:
+    """The key and the canonical text of each item that the text spells.
+
+    With `rename` the values are named ``%0``, ``%1``, .. in printed order, so that items which
+    differ in names alone have one record.
+
+    `Refused` if the text spells no list of items of the kind.
+
+    >>> [record] = records("lhs", "%x = var infer %x", rename=True)
+    >>> record.key == key("lhs", "%y = var infer %y", rename=True), record.text
+    (True, '%0 = var\\ninfer %0\\n')
+    """
+    # A record is "; ", the key, a newline, the text and a NUL.
+    found = record_text(kind, text, key=True, rename=rename, nul=True)
+    return [Record(record[2:66], record[67:]) for record in found.split("\0")[:-1]]
+
+
+def record_text(
+    kind: Kind | str,
+    text: str | bytes,
+    *,
+    key: bool = False,
+    rename: bool = False,
+    nul: bool = False,
+) -> str:
+    """The record of each item that the text spells, as the program ``souper_items`` writes them.
+
+    A record is the canonical text and a newline; with `nul`, a NUL in place of that newline.
+    With `key` it begins with a comment line that has the key. With `rename` the values are named
+    ``%0``, ``%1``, .. in printed order, so that items which differ in names alone have one record.
+
+    `Refused` if the text spells no list of items of the kind.
+
+    >>> record_text("lhs", "%x = var infer %x", rename=True)
+    '%0 = var\\ninfer %0\\n\\n'
+    """
+    data = _utf8(text)
+    flags = (KEY if key else 0) | (RENAME if rename else 0) | (NUL if nul else 0)
+    head = (NUMBERS[Kind(kind)], flags)
+    outcome, out = _written(_library.LIBRARY.souper_key, head, data, 2 * len(data) + 256)
+    if outcome.status != DONE:
+        raise _failure(outcome, data, out)
+    return out.decode()
+
+
+def keys(kind: Kind | str, text: str | bytes, *, rename: bool = False) -> list[str]:
+    """The key of each item that the text spells.
+
+    A key is the SHA-256 of the item's canonical text, in 64 hexadecimal digits. With `rename` the
+    values are named ``%0``, ``%1``, .. in printed order, so that items which differ in names alone
+    have one key.
+
+    `Refused` if the text spells no list of items of the kind.
+    """
+    return [record.key for record in records(kind, text, rename=rename)]
+
+
+def key(kind: Kind | str, item: Item | str | bytes, *, rename: bool = False) -> str:
+    """The key of an item, or of the one item that a text spells, as `keys` has it.
+
+    `ValueError` if the text spells another number of items.
+
+    >>> key("lhs", "%x = var infer %x", rename=True) == key("lhs", "%y = var infer %y", rename=True)
+    True
+    """
+    found = keys(kind, write(kind, [item]) if isinstance(item, Item) else item, rename=rename)
+    if len(found) != 1:
+        raise ValueError(f"the text spells {len(found)} items, not one")
+    return found[0]

@@ -1,0 +1,67 @@
+"""The shared library: its functions, and the numbers that they take and return."""
+
+from __future__ import annotations
+
+import ctypes
+import os
+from typing import Any
+
+from ._values import Kind
+
+DONE, REFUSED, OUT_OF_MEMORY, NOT_UTF8 = 0, 1, 3, 4
+SHORT, DIFFERENT, NOT_WELL_FORMED = 5, 6, 8
+KEY, RENAME, NUL = 1, 2, 4
+
+
+class Outcome(ctypes.Structure):
+    """The outcome of a call, ``SouperOutcome`` of C."""
+
+    status: int
+    input: int
+    length: int
+    offset: int
+    line: int
+    column: int
+
+    _fields_ = [
+        ("status", ctypes.c_uint32),
+        ("input", ctypes.c_uint32),
+        ("length", ctypes.c_size_t),
+        ("offset", ctypes.c_size_t),
+        ("line", ctypes.c_size_t),
+        ("column", ctypes.c_size_t),
+    ]
+
+
+_BYTES = [ctypes.c_char_p, ctypes.c_size_t]
+_ROOM = [ctypes.POINTER(ctypes.c_char), ctypes.c_size_t]
+SIGNATURES: dict[str, list[Any]] = {
+    "souper_format": [ctypes.c_uint32, *_BYTES, *_ROOM],
+    "souper_read": [ctypes.c_uint32, *_BYTES, *_ROOM],
+    "souper_write": [ctypes.c_uint32, *_BYTES, *_ROOM],
+    "souper_key": [ctypes.c_uint32, ctypes.c_uint32, *_BYTES, *_ROOM],
+    "souper_check": [ctypes.c_uint32, *_BYTES],
+    "souper_same": [ctypes.c_uint32, *_BYTES, *_BYTES],
+}
+
+
+def _load() -> ctypes.CDLL:
+    beside = os.path.join(os.path.dirname(os.path.abspath(__file__)), "libsouper_c.so")
+    path = os.path.abspath(os.environ.get("SOUPER_LIB") or beside)
+    try:
+        library = ctypes.CDLL(path)
+        for name, arguments in SIGNATURES.items():
+            function = getattr(library, name)
+            function.argtypes = arguments
+            function.restype = Outcome
+    except (OSError, AttributeError) as error:
+        raise ImportError(
+            f"{error}: build the library by embed/python/build, or set SOUPER_LIB to its path",
+            name=__package__,
+            path=path,
+        ) from error
+    return library
+
+
+LIBRARY = _load()
+NUMBERS = {Kind.LHS: 0, Kind.RHS: 1, Kind.REP: 2}

@@ -1,0 +1,98 @@
+"""What the programs of the package share: their input, their errors and their statuses.
+
+The statuses are those of ``souper_items``: 0, done; 1, a text is invalid; 2, usage, I/O or memory;
+141, standard output is a pipe that nobody reads. After ^C it is 130.
+"""
+
+from __future__ import annotations
+
+import argparse
+import os
+import sys
+from collections.abc import Callable
+from pathlib import Path
+
+from ._errors import Refused
+from ._values import Kind
+
+INVALID, FAILED, INTERRUPTED, NOBODY_READS = 1, 2, 130, 141
+
+# As `souper_items` shows an error at a terminal: what the terminal may obey is another character.
+_VISIBLE = {
+    **{code: 0x2400 + code for code in range(0x20) if code != 0x0A},
+    0x7F: 0x2421,
+    **dict.fromkeys((*range(0x80, 0xA0), *range(0x202A, 0x202F), *range(0x2066, 0x206A)), 0xFFFD),
+}
+
+
+class Failure(Exception):
+    """Why a program ends: a message and its status."""
+
+    def __init__(self, message: str, status: int = FAILED) -> None:
+        super().__init__(message)
+        self.status = status
+
+
+def add_kind(parser: argparse.ArgumentParser, default: str | None = None) -> None:
+    """Adds the argument KIND, which may be left out if it has a default."""
+    parser.add_argument(
+        "kind",
+        nargs="?" if default else None,
+        default=default,
+        choices=[kind.value for kind in Kind],
+        metavar="KIND",
+        help="lhs (left-hand sides), rhs (right-hand sides) or rep (replacements)"
+        + (f"; {default} if it is left out" if default else ""),
+    )
+
+
+def source(path: str | None) -> tuple[str, bytes]:
+    """The name and the bytes of a file; of standard input without a path, or for ``-``."""
+    if path is None or path == "-":
+        return "(standard input)", sys.stdin.buffer.read()
+    try:
+        return path, Path(path).read_bytes()
+    except (OSError, ValueError) as error:
+        raise Failure(f"{path}: {getattr(error, 'strerror', None) or error}") from error
+
+
+def invalid(name: str, refusal: Refused) -> Failure:
+    """The four lines of a parse error, with the name of the file."""
+    return Failure(name + refusal.shown.removeprefix("unknown"), INVALID)
+
+
+def not_utf8(name: str, error: UnicodeDecodeError) -> Failure:
+    return Failure(f"{name}: not UTF-8 at byte {error.start}")
+
+
+def run(program: str, main: Callable[[], None]) -> None:
+    """Runs a program, and ends it with its status."""
+    try:
+        main()
+        sys.stdout.flush()
+    except Failure as failure:
+        text = f"{failure}" if failure.status == INVALID else f"{program}: {failure}"
+        _say(text)
+        sys.exit(failure.status)
+    except MemoryError:
+        _say(f"{program}: out of memory")
+        sys.exit(FAILED)
+    except KeyboardInterrupt:
+        sys.exit(INTERRUPTED)
+    except BrokenPipeError:
+        _drop_output()
+        sys.exit(NOBODY_READS)
+    except OSError as error:
+        _drop_output()
+        _say(f"{program}: {error.strerror or error}")
+        sys.exit(FAILED)
+
+
+def _drop_output() -> None:
+    """Python writes the rest of standard output when it ends, and would complain once more."""
+    os.dup2(os.open(os.devnull, os.O_WRONLY), sys.stdout.fileno())
+
+
+def _say(text: str) -> None:
+    shown = text.translate(_VISIBLE) if sys.stderr.isatty() else text
+    sys.stderr.buffer.write(shown.encode("utf-8", "surrogateescape") + b"\n")

@@ -1,0 +1,378 @@
+"""The values that items are made of.
+
+They are immutable and hashable, with tuples for sequences. A width is in bits, from 1 to 65535, and
+None if the text has no type.
+"""
+
+from __future__ import annotations
+
+import enum
+from dataclasses import dataclass
+from typing import TypeAlias
+
+from ._checks import check_int, check_range
+
+
+class Kind(enum.Enum):
+    """The kind of the items of a text. Calls also take its value: ``'lhs'`` for ``Kind.LHS``."""
+
+    LHS = "lhs"
+    """Left-hand sides, each ended by ``infer``."""
+    RHS = "rhs"
+    """Right-hand sides, each ended by ``result``."""
+    REP = "rep"
+    """Replacements, each ended by ``cand``, or by ``infer`` and ``result``."""
+
+
+class Op(enum.Enum):
+    """An instruction. Its value is its word: ``Op('add')`` is ``Op.ADD``."""
+
+    number: int
+    """The number of the instruction in the code."""
+    arity: int
+    """The number of operands."""
+
+    # With the defaults, a call with a word alone has the right type.
+    def __new__(cls, word: str, number: int = 0, arity: int = 0) -> Op:
+        op = object.__new__(cls)
+        op._value_ = word
+        op.number = number
+        op.arity = arity
+        return op
+
+    ADD = "add", 0, 2
+    ADD_NSW = "addnsw", 1, 2
+    ADD_NUW = "addnuw", 2, 2
+    ADD_NW = "addnw", 3, 2
+    SUB = "sub", 4, 2
+    SUB_NSW = "subnsw", 5, 2
+    SUB_NUW = "subnuw", 6, 2
+    SUB_NW = "subnw", 7, 2
+    MUL = "mul", 8, 2
+    MUL_NSW = "mulnsw", 9, 2
+    MUL_NUW = "mulnuw", 10, 2
+    MUL_NW = "mulnw", 11, 2
+    UDIV = "udiv", 12, 2
+    SDIV = "sdiv", 13, 2
+    UDIV_EXACT = "udivexact", 14, 2
+    SDIV_EXACT = "sdivexact", 15, 2
+    UREM = "urem", 16, 2
+    SREM = "srem", 17, 2
+    AND = "and", 18, 2
+    OR = "or", 19, 2
+    XOR = "xor", 20, 2
+    SHL = "shl", 21, 2
+    SHL_NSW = "shlnsw", 22, 2
+    SHL_NUW = "shlnuw", 23, 2
+    SHL_NW = "shlnw", 24, 2
+    LSHR = "lshr", 25, 2
+    LSHR_EXACT = "lshrexact", 26, 2
+    ASHR = "ashr", 27, 2
+    ASHR_EXACT = "ashrexact", 28, 2
+    SELECT = "select", 29, 3
+    ZEXT = "zext", 30, 1
+    SEXT = "sext", 31, 1
+    TRUNC = "trunc", 32, 1
+    EQ = "eq", 33, 2
+    NE = "ne", 34, 2
+    ULT = "ult", 35, 2
+    SLT = "slt", 36, 2
+    ULE = "ule", 37, 2
+    SLE = "sle", 38, 2
+    CTPOP = "ctpop", 39, 1
+    BSWAP = "bswap", 40, 1
+    BIT_REVERSE = "bitreverse", 41, 1
+    CTTZ = "cttz", 42, 1
+    CTLZ = "ctlz", 43, 1
+    FSHL = "fshl", 44, 3
+    FSHR = "fshr", 45, 3
+    SADD_WITH_OVERFLOW = "sadd.with.overflow", 46, 2
+    UADD_WITH_OVERFLOW = "uadd.with.overflow", 47, 2
+    SSUB_WITH_OVERFLOW = "ssub.with.overflow", 48, 2
+    USUB_WITH_OVERFLOW = "usub.with.overflow", 49, 2
+    SMUL_WITH_OVERFLOW = "smul.with.overflow", 50, 2
+    UMUL_WITH_OVERFLOW = "umul.with.overflow", 51, 2
+    SADD_SAT = "sadd.sat", 52, 2
+    UADD_SAT = "uadd.sat", 53, 2
+    SSUB_SAT = "ssub.sat", 54, 2
+    USUB_SAT = "usub.sat", 55, 2
+    EXTRACT_VALUE = "extractvalue", 56, 2
+    HOLE = "hole", 57, 0
+    FREEZE = "freeze", 58, 1
+
+
+@dataclass(frozen=True, slots=True)
+class Value:
+    """The value of an assignment of the item."""
+
+    position: int
+    """The index of the assignment among the item's statements, from 0."""
+
+
+@dataclass(frozen=True, slots=True)
+class Constant:
+    """A constant, ``1`` or ``1:i8``."""
+
+    value: int
+    """A signed number of 128 bits."""
+    width: int | None = None
+
+    def __post_init__(self) -> None:
+        check_int("value", self.value)
+        if self.width is not None:
+            check_int("width", self.width)
+
+    @staticmethod
+    def from_bits(bits: int, width: int) -> Constant:
+        """The constant of a width, 1 to 128, that has these bits, of which the lowest `width` count.
+
+        It is signed, as Souper prints constants. (``255:i8`` is well formed too, and another graph
+        with another text.)
+
+        >>> Constant.from_bits(0xff, 8), Constant.from_bits(0x7f, 8)
+        (Constant(value=-1, width=8), Constant(value=127, width=8))
+        """
+        check_int("bits", bits)
+        check_int("width", width)
+        check_range("a width", width, 1, 128)
+        bits &= (1 << width) - 1
+        return Constant(bits - (bits >> (width - 1) << width), width)
+
+
+Operand: TypeAlias = Value | Constant
+"""An operand of an instruction, a phi, a path condition or the last lines."""
+
+
+@dataclass(frozen=True, slots=True)
+class KnownBits:
+    """``(knownBits=0xx1)``: the bits that are known."""
+
+    bits: str
+    """A character for each bit: ``0``, ``1``, or ``x`` for a bit that is not known."""
+
+
+@dataclass(frozen=True, slots=True)
+class PowerOfTwo:
+    """``(powerOfTwo)``."""
+
+
+@dataclass(frozen=True, slots=True)
+class Negative:
+    """``(negative)``."""
+
+
+@dataclass(frozen=True, slots=True)
+class NonNegative:
+    """``(nonNegative)``."""
+
+
+@dataclass(frozen=True, slots=True)
+class NonZero:
+    """``(nonZero)``."""
+
+
+@dataclass(frozen=True, slots=True)
+class HasExternalUses:
+    """``(hasExternalUses)``."""
+
+
+@dataclass(frozen=True, slots=True)
+class SignBits:
+    """``(signBits=2)``."""
+
+    count: int
+    """0 to 255."""
+
+
+@dataclass(frozen=True, slots=True)
+class Range:
+    """``(range=[0,10))``, without its end. Both are signed numbers of 128 bits."""
+
+    low: int
+    high: int
+
+
+Attribute: TypeAlias = (
+    KnownBits | PowerOfTwo | Negative | NonNegative | NonZero | HasExternalUses | SignBits | Range
+)
+"""An attribute of an assignment."""
+
+
+@dataclass(frozen=True, slots=True)
+class DemandedBits:
+    """``(demandedBits=0011)``: the bits that are wanted."""
+
+    bits: str
+    """A character for each bit, ``0`` or ``1``."""
+
+
+@dataclass(frozen=True, slots=True)
+class HarvestedFromUse:
+    """``(harvestedFromUse)``."""
+
+
+RootAttribute: TypeAlias = DemandedBits | HarvestedFromUse
+"""An attribute of ``infer`` or ``cand``."""
+
+
+@dataclass(frozen=True, slots=True)
+class Var:
+    """``var``: an input."""
+
+
+@dataclass(frozen=True, slots=True)
+class Block:
+    """``block 2``: a basic block."""
+
+    predecessors: int
+    """The number of predecessors, 0 to 2**32 - 1."""
+
+
+@dataclass(frozen=True, slots=True)
+class Phi:
+    """``phi %b, %x, %y``: an operand for each predecessor of the block."""
+
+    block: Value
+    values: tuple[Operand, ...]
+
+
+@dataclass(frozen=True, slots=True)
+class ReservedInst:
+    """``reservedinst``: a place for an instruction that is not known."""
+
+
+@dataclass(frozen=True, slots=True)
+class ReservedConst:
+    """``reservedconst``: a place for a constant that is not known."""
+
+
+@dataclass(frozen=True, slots=True)
+class Instruction:
+    """``add %x, 1``: an instruction and its operands."""
+
+    op: Op
+    operands: tuple[Operand, ...]
+
+
+Rhs: TypeAlias = Var | Block | Phi | ReservedInst | ReservedConst | Instruction
+"""The right side of an assignment."""
+
+
+@dataclass(frozen=True, slots=True)
+class Assignment:
+    """``%x:i8 = add %y, 1 (nonZero)``."""
+
+    name: str
+    """With its ``%``."""
+    width: int | None
+    value: Rhs
+    attributes: tuple[Attribute, ...] = ()
+
+    @property
+    def operands(self) -> tuple[Operand, ...]:
+        """The operands of the right side, from left to right. A phi's block is its first."""
+        match self.value:
+            case Instruction(_, operands):
+                return operands
+            case Phi(block, values):
+                return (block, *values)
+        return ()
+
+
+@dataclass(frozen=True, slots=True)
+class Pc:
+    """``pc %x 1``, a path condition: the operands are equal."""
+
+    x: Operand
+    y: Operand
+
+    @property
+    def operands(self) -> tuple[Operand, ...]:
+        """x and y."""
+        return (self.x, self.y)
+
+
+@dataclass(frozen=True, slots=True)
+class BlockPc:
+    """``blockpc %b 0 %x 1``: the operands are equal if the block is entered by a predecessor."""
+
+    block: Value
+    predecessor: int
+    """The index of the predecessor, from 0."""
+    x: Operand
+    y: Operand
+
+    @property
+    def operands(self) -> tuple[Operand, ...]:
+        """The block, x and y."""
+        return (self.block, self.x, self.y)
+
+
+Statement: TypeAlias = Assignment | Pc | BlockPc
+"""A statement of an item."""
+
+
+@dataclass(frozen=True, slots=True)
+class Infer:
+    """``infer %x``, the end of a left-hand side."""
+
+    value: Value
+    attributes: tuple[RootAttribute, ...] = ()
+
+
+@dataclass(frozen=True, slots=True)
+class Result:
+    """``result %x``, the end of a right-hand side."""
+
+    operand: Operand
+
+
+@dataclass(frozen=True, slots=True)
+class Replace:
+    """``infer %x`` and ``result %y``, the end of a replacement."""
+
+    infer: Infer
+    result: Operand
+
+
+@dataclass(frozen=True, slots=True)
+class Cand:
+    """``cand %x %y``, the end of a replacement: `lhs` may be replaced by `rhs`."""
+
+    lhs: Operand
+    rhs: Operand
+    attributes: tuple[RootAttribute, ...] = ()
+
+
+Ending: TypeAlias = Infer | Result | Replace | Cand
+"""The last lines of an item."""
+
+
+@dataclass(frozen=True, slots=True)
+class Item:
+    """A left-hand side, a right-hand side or a replacement."""
+
+    statements: tuple[Statement, ...]
+    ending: Ending
+
+    @property
+    def kind(self) -> Kind:
+        """The kind of an item with these last lines."""
+        match self.ending:
+            case Infer():
+                return Kind.LHS
+            case Result():
+                return Kind.RHS
+        return Kind.REP
+
+    def assignment(self, value: Value) -> Assignment:
+        """The assignment that defines the value.
+
+        `IndexError` if the item has no such statement, `ValueError` if it is a path condition.
+        """
+        if not 0 <= value.position < len(self.statements):
+            raise IndexError(f"the item has no statement {value.position}")
+        statement = self.statements[value.position]
+        if not isinstance(statement, Assignment):
+            raise ValueError(f"statement {value.position} is not an assignment")
+        return statement
