@@ -1,12 +1,12 @@
 //! What would change in files that are not canonical.
 
+use crate::{failed, out_of_memory};
 use souper_diff::unified::unified;
 use souper_format::watched::Watched;
 use souper_ir::parse::{ParseErrorKind, WholeItem};
 use souper_records::check::check_run;
 use souper_records::layout::PLAIN;
 use souper_records::records::records_of_text;
-use souper_records::report::{report_fault, report_memory};
 use souper_records::run::report_output;
 use std::alloc::{AllocError, Global};
 use std::io::{BufRead, Write};
@@ -35,8 +35,7 @@ pub(crate) fn check_diff<T: WholeItem + Drop, R: BufRead, W: Write, E: Write>(
 ) -> u8 {
     let mut bytes = Vec::new(alloc);
     if let Err(fault) = reader.read_to_end(&mut bytes) {
-        report_fault(alloc, name, &fault, err);
-        return 2;
+        return failed(alloc, name, &fault, err);
     }
     let status = check_run::<T, &[u8], E>(alloc, &mut bytes.as_slice(), name, err);
     if status != 1 {
@@ -44,10 +43,7 @@ pub(crate) fn check_diff<T: WholeItem + Drop, R: BufRead, W: Write, E: Write>(
     }
     let diff = match diff::<T>(alloc, name, &bytes) {
         Ok(diff) => diff,
-        Err(_) => {
-            report_memory(err);
-            return 2;
-        }
+        Err(_) => return out_of_memory(err),
     };
     match out.write_all(diff.as_bytes()).and_then(|()| out.flush()) {
         Ok(()) => 1,

@@ -25,6 +25,7 @@ use souper_records::run::{
 };
 use souper_records::seen::Seen;
 use souper_stream::StreamItem;
+use std::alloc::Global;
 use std::cell::Cell;
 use std::env::{Env, FillError};
 use std::fs::File;
@@ -40,6 +41,23 @@ const WRITE_USAGE: &[u8] =
 
 // How many bytes are asked for at a time: as many as a pipe of Linux holds.
 const CAPACITY: usize = 1 << 16;
+
+/// Reports a fault of the stream of this name, and returns the status of the program.
+pub(crate) fn failed<E: Write>(
+    alloc: Global,
+    name: &str,
+    fault: &io::Error,
+    err: &mut Watched<E>,
+) -> u8 {
+    report_fault(alloc, name, fault, err);
+    2
+}
+
+/// Reports out of memory, and returns the status of the program.
+pub(crate) fn out_of_memory<E: Write>(err: &mut Watched<E>) -> u8 {
+    report_memory(err);
+    2
+}
 
 /// The task, and what stays from file to file.
 #[derive(Drop)]
@@ -93,42 +111,19 @@ impl<'s, W: Write, E: Write> Session<'s, W, E> {
     // A stream of items of the type.
     fn items<T: StreamItem + Drop, R: BufRead>(&mut self, reader: &mut R, name: &str) -> u8 {
         let alloc = self.rt.alloc();
+        let (out, err) = (&mut self.out, &mut self.err);
         match self.task.action {
-            Action::Each(layout) if self.task.keep_going => each_going_on_run::<T, R, W, E>(
-                alloc,
-                layout,
-                reader,
-                name,
-                &mut self.out,
-                &mut self.err,
-            ),
-            Action::Each(layout) => each_run::<T, R, W, E>(
-                alloc,
-                layout,
-                reader,
-                name,
-                &mut self.out,
-                &mut self.err,
-            ),
-            Action::Objects { rename } => objects_run::<T, R, W, E>(
-                alloc,
-                rename,
-                reader,
-                name,
-                &mut self.out,
-                &mut self.err,
-            ),
+            Action::Each(layout) if self.task.keep_going => {
+                each_going_on_run::<T, R, W, E>(alloc, layout, reader, name, out, err)
+            }
+            Action::Each(layout) => each_run::<T, R, W, E>(alloc, layout, reader, name, out, err),
+            Action::Objects { rename } => {
+                objects_run::<T, R, W, E>(alloc, rename, reader, name, out, err)
+            }
             Action::Uniq(layout) => self.uniq::<T, R>(layout, reader, name),
             Action::Count(layout, _) => self.count::<T, R>(layout, reader, name),
-            Action::Check { diff: false } => check_run::<T, R, E>(
-                alloc,
-                reader,
-                name,
-                &mut self.err,
-            ),
-            Action::Check { diff: true } => {
-                check_diff::<T, R, W, E>(alloc, reader, name, &mut self.out, &mut self.err)
-            }
+            Action::Check { diff: false } => check_run::<T, R, E>(alloc, reader, name, err),
+            Action::Check { diff: true } => check_diff::<T, R, W, E>(alloc, reader, name, out, err),
             Action::Write { .. } => 2,
         }
     }
@@ -146,10 +141,7 @@ impl<'s, W: Write, E: Write> Session<'s, W, E> {
         let reader = self.rt.stdin();
         match BufReader::with_capacity(self.rt.alloc(), CAPACITY, Metered { reader, meter }) {
             Ok(mut reader) => self.stream(&mut reader, STANDARD_INPUT),
-            Err(_) => {
-                report_memory(&mut self.err);
-                2
-            }
+            Err(_) => out_of_memory(&mut self.err),
         }
     }
 
@@ -173,10 +165,7 @@ impl<'s, W: Write, E: Write> Session<'s, W, E> {
         }
         match open(self.rt, meter, path) {
             Ok(mut reader) => self.stream(&mut reader, path),
-            Err(fault) => {
-                report_fault(self.rt.alloc(), path, &fault, &mut self.err);
-                2
-            }
+            Err(fault) => failed(self.rt.alloc(), path, &fault, &mut self.err),
         }
     }
 
@@ -221,11 +210,7 @@ impl<'s, W: Write, E: Write> Session<'s, W, E> {
 // The length of a regular file, in bytes.
 fn len_of(rt: &HostRuntime, path: &str) -> Option<u64> {
     let metadata = fs::metadata(rt, path).ok()?;
-    if metadata.is_file() {
-        Some(metadata.len())
-    } else {
-        None
-    }
+    metadata.is_file().then_some(metadata.len())
 }
 
 fn open<'m, 'a>(
@@ -263,10 +248,7 @@ fn run_matches(rt: &HostRuntime, matches: &ArgMatches<'_>) -> u8 {
     let style = style(rt, task.color);
     let mut err = match Terminal::new(rt.alloc(), rt.stderr(), style, &is_shown) {
         Ok(terminal) => Watched::new(terminal),
-        Err(_) => {
-            report_memory(&mut Watched::new(rt.stderr()));
-            return 2;
-        }
+        Err(_) => return out_of_memory(&mut Watched::new(rt.stderr())),
     };
     if !task.has_files() {
         let _ = err.write_all(WRITE_USAGE);

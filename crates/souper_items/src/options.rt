@@ -122,42 +122,31 @@ fn color_arg<'a>(alloc: Global) -> Arg<'a> {
 }
 
 fn quiet_arg<'a>(alloc: Global) -> Arg<'a> {
-    flag(alloc, "quiet", "Show no progress at a terminal").short('q')
+    flag(alloc, "quiet")
+        .short('q')
+        .help("Show no progress at a terminal")
 }
 
-fn flag<'a>(alloc: Global, name: &'a str, help: &'a str) -> Arg<'a> {
-    Arg::new(alloc, name)
-        .long(name)
-        .action(ArgAction::SetTrue)
-        .help(help)
+fn flag<'a>(alloc: Global, name: &'a str) -> Arg<'a> {
+    Arg::new(alloc, name).long(name).action(ArgAction::SetTrue)
 }
 
 // A command that writes records, with their options.
 fn writer<'a>(alloc: Global, name: &'a str, about: &'a str) -> Result<Command<'a>, AllocError> {
     Command::new(alloc, name)
         .about(about)
-        .arg(flag(
-            alloc,
-            "null",
-            "End each record with a NUL character instead",
-        )
-        .short('z'))?
-        .arg(flag(
-            alloc,
-            "key",
-            "Begin each record with a comment: the SHA-256 of its text",
-        ))?
-        .arg(flag(
-            alloc,
-            "rename",
-            "Name the values %0, %1, .. in printed order",
-        ))?
-        .arg(flag(
-            alloc,
-            "keep-going",
-            "Go on after an invalid item; the status is then 1",
-        )
-        .short('k'))?
+        .arg(
+            flag(alloc, "null")
+                .short('z')
+                .help("End each record with a NUL character instead"),
+        )?
+        .arg(flag(alloc, "key").help("Begin each record with a comment: the SHA-256 of its text"))?
+        .arg(flag(alloc, "rename").help("Name the values %0, %1, .. in printed order"))?
+        .arg(
+            flag(alloc, "keep-going")
+                .short('k')
+                .help("Go on after an invalid item; the status is then 1"),
+        )?
         .arg(color_arg(alloc))?
         .arg(quiet_arg(alloc))?
         .arg(kind_arg(alloc))?
@@ -173,23 +162,25 @@ fn format<'a>(alloc: Global) -> Result<Command<'a>, AllocError> {
     .after_help(FORMAT_EXAMPLE)
     .visible_alias("each")?
     .arg(
-        flag(
-            alloc,
-            "json",
-            "Write a line of JSON for each item and each parse error",
-        )
-        .alias("jsonl")?
-        .conflicts_with("null")?,
+        flag(alloc, "json")
+            .help("Write a line of JSON for each item and each parse error")
+            .alias("jsonl")?
+            .conflicts_with("null")?,
     )?
     .arg(
-        flag(alloc, "write", "Rewrite each file by its canonical text")
+        flag(alloc, "write")
             .short('w')
+            .help("Rewrite each file by its canonical text")
             .conflicts_with("null")?
             .conflicts_with("key")?
             .conflicts_with("json")?
             .conflicts_with("keep-going")?,
     )?
-    .arg(flag(alloc, "force", "Rewrite write-protected files too").requires_arg("write")?)
+    .arg(
+        flag(alloc, "force")
+            .help("Rewrite write-protected files too")
+            .requires_arg("write")?,
+    )
 }
 
 fn uniq<'a>(alloc: Global) -> Result<Command<'a>, AllocError> {
@@ -199,25 +190,23 @@ fn uniq<'a>(alloc: Global) -> Result<Command<'a>, AllocError> {
         "Writes the record of the first item of each graph in all files",
     )?
     .after_help(UNIQ_EXAMPLE)
-    .arg(flag(
-        alloc,
-        "count",
-        "Write at the end, each after a comment with its count",
+    .arg(
+        flag(alloc, "count")
+            .short('c')
+            .help("Write at the end, each after a comment with its count"),
+    )?
+    .arg(
+        flag(alloc, "repeated").short('d').help(
+            "Write at the end, only graphs that more than one item has",
+        ),
     )
-    .short('c'))?
-    .arg(flag(
-        alloc,
-        "repeated",
-        "Write at the end, only graphs that more than one item has",
-    )
-    .short('d'))
 }
 
 fn check<'a>(alloc: Global) -> Result<Command<'a>, AllocError> {
     Command::new(alloc, "check")
         .about("Says which files are not canonical, and the first line that is not")
         .after_help(CHECK_EXAMPLE)
-        .arg(flag(alloc, "diff", "Write what would change, as a unified diff"))?
+        .arg(flag(alloc, "diff").help("Write what would change, as a unified diff"))?
         .arg(color_arg(alloc))?
         .arg(quiet_arg(alloc))?
         .arg(kind_arg(alloc))?

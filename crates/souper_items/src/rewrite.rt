@@ -1,11 +1,12 @@
 //! Files that are rewritten by their canonical texts.
 
 use crate::progress::{Meter, Metered};
+use crate::{failed, out_of_memory};
 use souper_format::watched::Watched;
 use souper_ir::parse::WholeItem;
 use souper_records::layout::{Layout, PLAIN};
 use souper_records::records::records_of_text;
-use souper_records::report::{report_error, report_fault, report_memory};
+use souper_records::report::report_error;
 use std::alloc::{AllocError, Global};
 use std::fs::{File, Metadata, OpenOptions};
 use std::io::{ErrorKind, Read, Write};
@@ -108,26 +109,19 @@ fn replace<E: Write>(
     let alloc = rt.alloc();
     let path = match new_path(alloc, target.path.as_path()) {
         Ok(path) => path,
-        Err(_) => {
-            report_memory(err);
-            return 2;
-        }
+        Err(_) => return out_of_memory(err),
     };
     let path = path.as_path();
     let file = match create(rt, path) {
         Ok(file) => file,
-        Err(fault) => {
-            report_fault(alloc, path.as_str(), &left_over(fault), err);
-            return 2;
-        }
+        Err(fault) => return failed(alloc, path.as_str(), &left_over(fault), err),
     };
     let filled = fill(file, &target.metadata, text);
     match filled.and_then(|()| fs::rename(rt, path, target.path.as_path())) {
         Ok(()) => 0,
         Err(fault) => {
             let _ = fs::remove_file(rt, path);
-            report_fault(alloc, name, &fault, err);
-            2
+            failed(alloc, name, &fault, err)
         }
     }
 }
@@ -146,17 +140,11 @@ pub(crate) fn rewrite<T: WholeItem + Drop, E: Write>(
     let alloc = rt.alloc();
     let target = match read_target(rt, force, meter, name) {
         Ok(target) => target,
-        Err(fault) => {
-            report_fault(alloc, name, &fault, err);
-            return 2;
-        }
+        Err(fault) => return failed(alloc, name, &fault, err),
     };
     let source = match str::from_utf8(&target.bytes) {
         Ok(source) => source,
-        Err(_) => {
-            report_fault(alloc, name, &io::Error::from(ErrorKind::InvalidData), err);
-            return 2;
-        }
+        Err(_) => return failed(alloc, name, &io::Error::from(ErrorKind::InvalidData), err),
     };
     let layout = Layout { rename, ..PLAIN };
     match records_of_text::<T>(alloc, layout, source, Some(name)) {

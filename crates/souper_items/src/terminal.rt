@@ -146,8 +146,7 @@ fn keep_source(line: &str, source: &mut String) -> Result<Part, AllocError> {
 // Of bytes that are no text the ASCII characters.
 fn append_ascii(line: &[u8], shown: &mut String) -> Result<Part, AllocError> {
     for byte in line {
-        let is_ascii = *byte < 0x80;
-        let c = if is_ascii {
+        let c = if byte.is_ascii() {
             *byte as char
         } else {
             char::REPLACEMENT_CHARACTER
@@ -167,11 +166,7 @@ fn after_location(text: &str) -> Option<&str> {
     let (line, rest) = text.split_once(':')?;
     let (column, rest) = rest.split_once(':')?;
     let message = rest.strip_prefix(' ')?;
-    if is_number(line) && is_number(column) {
-        Some(message)
-    } else {
-        None
-    }
+    (is_number(line) && is_number(column)).then_some(message)
 }
 
 // The length of `NAME:LINE:COLUMN: `, if the line begins with that.
