@@ -182,10 +182,10 @@ class Graphviz(unittest.TestCase):
             self.assert_reads(one.kind, one.text)
 
     def test_the_stored_answers(self) -> None:
-        for record in VALID[::4]:
+        for record in VALID:
             self.assert_reads(record.kind, record.text)
 
-    def test_it_draws_every_stored_answer(self) -> None:
+    def test_it_draws_the_stored_answers(self) -> None:
         graphs = "".join(draw.dot(record.kind, record.text) for record in VALID if len(record.text) < 2000)
         found = graphviz("plain", graphs)
         self.assertGreater(found.count("\nstop"), 200)

@@ -80,7 +80,8 @@ def read(kind: Kind | str, text: str | bytes) -> list[Item]:
          |      ^
     """
     kind, data = Kind(kind), _utf8(text)
-    outcome, out = _written(_library.LIBRARY.souper_read, (NUMBERS[kind],), data, 3 * len(data) + 256)
+    room = 3 * len(data) + 256
+    outcome, out = _written(_library.LIBRARY.souper_read, (NUMBERS[kind],), data, room)
     if outcome.status != DONE:
         raise _failure(outcome, data, out)
     return decode(kind, out)

@@ -11,6 +11,7 @@ import os
 import sys
 from collections.abc import Callable
 from pathlib import Path
+from typing import Any
 
 from ._errors import Refused
 from ._values import Kind
@@ -35,15 +36,12 @@ class Failure(Exception):
 
 def add_kind(parser: argparse.ArgumentParser, default: str | None = None) -> None:
     """Adds the argument KIND, which may be left out if it has a default."""
-    parser.add_argument(
-        "kind",
-        nargs="?" if default else None,
-        default=default,
-        choices=[kind.value for kind in Kind],
-        metavar="KIND",
-        help="lhs (left-hand sides), rhs (right-hand sides) or rep (replacements)"
-        + (f"; {default} if it is left out" if default else ""),
-    )
+    help = "lhs (left-hand sides), rhs (right-hand sides) or rep (replacements)"
+    options: dict[str, Any] = {"choices": [kind.value for kind in Kind], "metavar": "KIND"}
+    if default is not None:
+        help += f"; {default} if it is left out"
+        options |= {"nargs": "?", "default": default}
+    parser.add_argument("kind", help=help, **options)
 
 
 def source(path: str | None) -> tuple[str, bytes]:
