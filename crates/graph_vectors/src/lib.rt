@@ -1,4 +1,4 @@
-//! Tests of graphs: arenas, builders, nodes, printed orders and texts.
+//! Tests of graphs: arenas, builders, nodes, printed orders, texts and flaws.
 //!
 //! The values of the tests were worked out by hand from the rules of the language.
 #![tactic(auto)]
@@ -9,6 +9,8 @@ mod arenas;
 mod builders;
 #[cfg(test)]
 mod fixtures;
+#[cfg(test)]
+mod flaws;
 #[cfg(test)]
 mod instructions;
 #[cfg(test)]

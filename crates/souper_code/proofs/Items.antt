@@ -89,6 +89,16 @@ stopped {V} k all done left r e has some none is =
       | OutOfMemory ↦ λ none. inr refl
     ] none)
 
+-- the bytes begin with the code of no item, unless memory ran out
+pub no_front : {V : Type 0} (k : ItemType) (code : List ℕ) (r : Result V DecodeError) (e : DecodeError) → IsNone code_of (CodableItem k) code e → r ≡ Err e
+    → IfErr r (λ e. BeginsWithNone k code ⊎ (e ≡ OutOfMemory))
+no_front {V} k code r e none is =
+    subst (λ (r : Result V DecodeError). IfErr r (λ e. BeginsWithNone k code ⊎ (e ≡ OutOfMemory))) (sym is)
+    (elim e as (λ (e : DecodeError). IsNone code_of (CodableItem k) code e → BeginsWithNone k code ⊎ (e ≡ OutOfMemory)) [
+      | NoCode ↦ λ none. inl none
+      | OutOfMemory ↦ λ none. inr refl
+    ] none)
+
 -- no items have the code of no bytes, and nothing of it is left
 pub of_nothing : (k : ItemType) (all : List ℕ) (done : List Item) (left : List ℕ) → HasRead k all done left → all ≡ [] → (done ≡ []) × (left ≡ [])
 of_nothing k all done left has none =

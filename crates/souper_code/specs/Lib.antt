@@ -4,3 +4,4 @@ pub mod Codable
 pub mod Reading
 pub mod Writing
 pub mod Judging
+pub mod FrontFlaw

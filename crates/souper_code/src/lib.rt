@@ -20,10 +20,11 @@
 //! an item begins the code of another.
 //!
 //! [`encode::Encode`] gives the code of an item, [`decode::Decode`] the item that a code begins with, [`decode::decode_items`] the
-//! items of a code, and [`write::write_items`] their canonical texts. Reading takes time and memory in proportion to the code,
+//! items of a code, [`write::write_items`] their canonical texts, and [`flaw::first_flaw`] why an item is not well formed. Reading takes time and memory in proportion to the code,
 //! whatever lengths stand in it.
 #![tactic(auto)]
 
 pub mod decode;
 pub mod encode;
+pub mod flaw;
 pub mod write;

@@ -7,3 +7,4 @@ pub mod Judging
 pub mod RoundTrip
 pub mod Texts
 pub mod Lookups
+pub mod FlawSearch

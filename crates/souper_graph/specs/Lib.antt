@@ -24,3 +24,5 @@ pub mod Building
 pub mod Judging
 pub mod Marks
 pub mod Walks
+pub mod Flaws
+pub mod FlawSearch

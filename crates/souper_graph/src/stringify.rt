@@ -7,6 +7,7 @@ mod leaves;
 mod lines;
 mod marks;
 mod names;
+mod needed;
 mod nodes;
 mod numbers;
 mod order;

@@ -78,7 +78,7 @@ pub AreMet-from_below : (ss : List PlainStatement) (limit : ℕ) (us : List Use)
 AreMet-from_below ss limit us h = λ u k. (All-has (IsMetBelow ss limit) us u h k).1
 
 -- a statement that is valid at its position, and back
-closed_of_stands : (ss : List PlainStatement) (p : ℕ) (s : PlainStatement) → slice_get ss p ≡ Some s → MayStandAt ss p → Closed ss p s
+pub closed_of_stands : (ss : List PlainStatement) (p : ℕ) (s : PlainStatement) → slice_get ss p ≡ Some s → MayStandAt ss p → Closed ss p s
 closed_of_stands ss p s e h =
     let parts = subst (MayStand ss p) e h in
     record {
@@ -94,7 +94,7 @@ stands_any ss p (Some s) h =
     let closed = h s refl in
     (closed.fits, All-from_has (IsMetBelow ss p) (uses_of s) (λ u k. (closed.below u k, closed.met u k)), closed.agrees)
 
-stands_of_closed : (ss : List PlainStatement) (p : ℕ) → ((s : PlainStatement) → slice_get ss p ≡ Some s → Closed ss p s) → MayStandAt ss p
+pub stands_of_closed : (ss : List PlainStatement) (p : ℕ) → ((s : PlainStatement) → slice_get ss p ≡ Some s → Closed ss p s) → MayStandAt ss p
 stands_of_closed ss p h = stands_any ss p (slice_get ss p) h
 
 pub ending_of_well_formed : (a : Item) → WellFormed a → StandsEnding a.statements a.ending

@@ -57,7 +57,7 @@ is_name_true : (o : Option (List ℕ)) (n : List ℕ) → is_name o n ≡ true �
 is_name_true None n e = absurd (false≢true e)
 is_name_true (Some m) n e = ap (λ (x : List ℕ). Some x) ((bytes_eq-Decides m n).0 e)
 
-has_name_true : (ss : List PlainStatement) (ids : List ℕ) (n : List ℕ) → has_name ss ids n ≡ true → (p : ℕ) × Has ids p × (assigned_name_at ss p ≡ Some n)
+pub has_name_true : (ss : List PlainStatement) (ids : List ℕ) (n : List ℕ) → has_name ss ids n ≡ true → (p : ℕ) × Has ids p × (assigned_name_at ss p ≡ Some n)
 has_name_true ss [] n e = absurd (false≢true e)
 has_name_true ss (p ∷ ps) n e =
     elim (or_true (is_name (assigned_name_at ss p) n) (has_name ss ps n) e) [
@@ -145,7 +145,7 @@ not_apart ss ids i d n once lt named found apart =
     let same = apart w.0 (get_or ids i d) n (Has-taken ids i w.0 w.1) (Has-at ids i d lt) w.2 named in
     Distinct-at ids i d once lt (subst (λ (z : ℕ). Has (take i ids) z) same w.1)
 
-name_source : (o : Option PlainStatement) (n : List ℕ) → assigned_name o ≡ Some n → (v : PlainAssignment) × (o ≡ Some (assigned v)) × (v.name ≡ n)
+pub name_source : (o : Option PlainStatement) (n : List ℕ) → assigned_name o ≡ Some n → (v : PlainAssignment) × (o ≡ Some (assigned v)) × (v.name ≡ n)
 name_source None n e = absurd (cc)
 name_source (Some (assigned v)) n e = (v, refl, cc)
 name_source (Some (condition p)) n e = absurd (cc)

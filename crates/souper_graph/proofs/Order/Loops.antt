@@ -38,10 +38,10 @@ popped ss w s s' m ids turns e e' r a b =
     let P : List Entry → Type 0 = λ z. Running ss w z m ids turns in
     subst P (top s s' e a ∙ ap (λ x. x ∷ reverse s') b) r
 
-uses_there : (g : List Statement) (i : ℕ) (n : Statement) → slice_get g i ≡ Some n → uses_at (map view_statement g) i ≡ uses_of (view_statement n)
+pub uses_there : (g : List Statement) (i : ℕ) (n : Statement) → slice_get g i ≡ Some n → uses_at (map view_statement g) i ≡ uses_of (view_statement n)
 uses_there g i n e = ap uses_of_optional (slice_get-map view_statement g i ∙ ap (option_map view_statement) e)
 
-inside_there : (g : List Statement) (i : ℕ) (n : Statement) → slice_get g i ≡ Some n → i < length (map view_statement g)
+pub inside_there : (g : List Statement) (i : ℕ) (n : Statement) → slice_get g i ≡ Some n → i < length (map view_statement g)
 inside_there g i n e = let l = length-map g view_statement in let h = slice_get_within g i n e in omega arith
 
 -- nothing is walked yet

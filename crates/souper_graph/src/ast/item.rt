@@ -1,6 +1,6 @@
 //! What left-hand sides, right-hand sides and replacements have in common.
 
-ghost use Rattle.std.specs.Prelude.{◌≡◌, ◌↔◌, true, false, map, IfOk, IfErr, OnOk, OnErr, IsTrue};
+ghost use Rattle.std.specs.Prelude.{◌≡◌, ◌↔◌, true, false, map, IfOk, IfErr, IfSome, OnOk, OnErr, IsNone, IsTrue};
 ghost use Rattle.std.specs.String.{string_bytes};
 ghost use Rattle.souper_graph.specs.Values.{Item as PlainItem};
 ghost use Rattle.souper_graph.specs.View.{view_statement, view_left_hand_side, view_right_hand_side, view_replacement};
@@ -10,10 +10,12 @@ ghost use Rattle.souper_graph.specs.PrintOrder.{IsPrintOrder};
 ghost use Rattle.souper_graph.specs.ItemText.{IsItemText, AppendsItemText};
 ghost use Rattle.souper_graph.specs.Renaming.{IsRenamed};
 ghost use Rattle.souper_graph.specs.WellFormed.{WellFormed};
+ghost use Rattle.souper_graph.specs.Flaws.{IsFirstFlaw};
 ghost use Rattle.souper_graph.specs.Endings.{replacement_ending};
 ghost use Rattle.souper_graph.specs.Syntax.Spelling.{ItemType, left_hand_side, right_hand_side, replacement, IsEndingOf};
 
 use crate::ast::arenas::Arena;
+use crate::ast::flaws::Flaw;
 use crate::ast::items::{LeftHandSide, Replacement, RightHandSide};
 use crate::ast::operands::Operand;
 use crate::ast::statements::Statement;
@@ -73,6 +75,11 @@ pub trait Item {
     fn is_well_formed(&self) -> Result<bool, AllocError>
         ensures { IfOk result (λ answer. IsTrue answer ↔ WellFormed (view self.now)) };
 
+    /// The first flaw, or `None` if the item is well formed, as [`LeftHandSide::flaw`] returns it.
+    fn flaw(&self) -> Result<Option<Flaw>, AllocError>
+        ensures none { IfOk result (λ found. IsNone found ↔ WellFormed (view self.now)) }
+        ensures first { IfOk result (λ found. IfSome found (IsFirstFlaw (view self.now))) };
+
     /// The item has the last lines of its type.
     ghost ends: { (item : Self) → IsEndingOf item_type (view item).ending };
 }
@@ -118,6 +125,10 @@ impl Item for LeftHandSide {
     fn is_well_formed(&self) -> Result<bool, AllocError> {
         LeftHandSide::is_well_formed(self)
     }
+
+    fn flaw(&self) -> Result<Option<Flaw>, AllocError> {
+        LeftHandSide::flaw(self)
+    }
 }
 
 impl Item for RightHandSide {
@@ -160,6 +171,10 @@ impl Item for RightHandSide {
 
     fn is_well_formed(&self) -> Result<bool, AllocError> {
         RightHandSide::is_well_formed(self)
+    }
+
+    fn flaw(&self) -> Result<Option<Flaw>, AllocError> {
+        RightHandSide::flaw(self)
     }
 }
 
@@ -215,5 +230,9 @@ impl Item for Replacement {
 
     fn is_well_formed(&self) -> Result<bool, AllocError> {
         Replacement::is_well_formed(self)
+    }
+
+    fn flaw(&self) -> Result<Option<Flaw>, AllocError> {
+        Replacement::flaw(self)
     }
 }

@@ -11,7 +11,10 @@ ghost use Rattle.souper_graph.specs.Judging.{StandsEnding, AllStand};
 
 mod apart;
 mod closed;
+mod finding;
 mod fitting;
+mod reasons;
+mod uses;
 
 use crate::ast::arenas::Arena;
 use crate::ast::ids::Id;

@@ -92,14 +92,14 @@ impl Parts<'_> {
 
 // What a trace entry names: a use, or a path condition for its own sake.
 #[derive(Clone, Copy)]
-enum Target {
+pub(crate) enum Target {
     Value(ValueId),
     Block(BlockId),
     Condition(Id<Statement>),
 }
 
 impl Target {
-    fn position(&self) -> Id<Statement>
+    pub(crate) fn position(&self) -> Id<Statement>
         ensures { result ≡ position_of_target self.now }
     {
         match self {
@@ -144,7 +144,7 @@ fn order_between(
 }
 
 // Appends the roots that name a value.
-fn push_roots(targets: &mut Vec<Target>, roots: &[Operand]) -> Result<(), TextError>
+pub(crate) fn push_roots(targets: &mut Vec<Target>, roots: &[Operand]) -> Result<(), TextError>
     ensures ok { OnOk result (targets.new.items ≡ targets.old.items ++ map target_of (uses_of_operands roots.now)) }
     ensures err { IfErr result (λ error. error ≡ OutOfMemory) }
 {
@@ -157,7 +157,7 @@ fn push_roots(targets: &mut Vec<Target>, roots: &[Operand]) -> Result<(), TextEr
 }
 
 // Appends the path conditions.
-fn push_conditions(
+pub(crate) fn push_conditions(
     targets: &mut Vec<Target>,
     statements: &Arena<Statement>,
 ) -> Result<(), TextError>

@@ -14,7 +14,7 @@ use std::alloc::AllocError;
 use std::collections::BTreeSet;
 
 #[tactic(auto, using(crate::proofs::Lookups::assigned_name_is))]
-fn name_at(statements: &Arena<Statement>, id: Id<Statement>) -> Option<&str>
+pub(crate) fn name_at(statements: &Arena<Statement>, id: Id<Statement>) -> Option<&str>
     ensures { option_copied result ≡ assigned_name_at (map view_statement statements.now) id }
 {
     Some(statements.assignment(id.into())?.name.as_str())

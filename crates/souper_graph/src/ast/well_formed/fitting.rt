@@ -10,7 +10,7 @@ use crate::ast::attributes::{Attribute, RootAttribute};
 use crate::ast::operands::{Operand, Type};
 use crate::ast::statements::{Assignment, AssignmentRhs, Statement};
 
-fn optional_type_fits(ty: Option<Type>) -> bool
+pub(crate) fn optional_type_fits(ty: Option<Type>) -> bool
     ensures { IsTrue result ↔ FitsOptionalType ty }
 {
     match ty {
@@ -28,7 +28,7 @@ pub(crate) fn operand_fits(operand: Operand) -> bool
     }
 }
 
-fn operands_fit(operands: &[Operand]) -> bool
+pub(crate) fn operands_fit(operands: &[Operand]) -> bool
     ensures { IsTrue result ↔ AllByRecursion FitsOperand operands.now }
 {
     for operand in operands {
@@ -62,7 +62,7 @@ fn attribute_fits(attribute: &Attribute) -> bool
     }
 }
 
-fn attributes_fit(attributes: &[Attribute]) -> bool
+pub(crate) fn attributes_fit(attributes: &[Attribute]) -> bool
     ensures { IsTrue result ↔ AllByRecursion FitsAttribute (map view_attribute attributes.now) }
 {
     for attribute in attributes {
@@ -94,7 +94,7 @@ pub(crate) fn root_attributes_fit(attributes: &[RootAttribute]) -> bool
     true
 }
 
-fn rhs_fits(value: &AssignmentRhs) -> bool
+pub(crate) fn rhs_fits(value: &AssignmentRhs) -> bool
     ensures { IsTrue result ↔ FitsRhs (view_rhs value.now) }
 {
     match value {
@@ -126,7 +126,7 @@ fn are_name_bytes(bytes: &[u8]) -> bool
     true
 }
 
-fn is_name(name: &str) -> bool
+pub(crate) fn is_name(name: &str) -> bool
     ensures { IsTrue result ↔ IsName name.now }
 {
     match name.as_bytes().split_first() {
