@@ -13,7 +13,7 @@ use Rattle.souper_ir.specs.declared.parse.ParseError.{ParseError}
 use Rattle.souper_ir.specs.declared.parse.ParseErrorKind.{ParseErrorKind}
 use Rattle.souper_ir.specs.declared.parse.ParseErrorKind.TheVariants.{Parse}
 use Rattle.souper_ir.specs.Answers.{IsStrError}
-use Rattle.souper_ir.specs.Errors.{kind_of, offset_of, shown_error, ShowsPlace, OnKind}
+use Rattle.souper_ir.specs.Errors.{kind_of, offset_of, shown_error, HasLocation, ShowsPlace, OnKind}
 use Rattle.souper_ir.specs.Places.{IsRefusalText, shown_refusal}
 use Rattle.examples_using.specs.Reports.{IsReport}
 
@@ -27,7 +27,7 @@ of_count source items n (Err e) spells is written = tt
 -- a refusal of the text at some offset, as the error has it
 abbrev pub IsRefused : List ℕ → ParseError → Type 0
 IsRefused source e = (offset : ℕ) × (offset_of e ≡ Some offset) × (offset ≤ length source) × SpellsNone left_hand_side source
-    × ShowsPlace (Some (codes "input.souper")) source offset e
+    × ShowsPlace (Some (codes "input.souper")) source offset e × HasLocation source e
 
 -- the bytes that are written for an offset and an error
 abbrev refusal_line : ℕ → Option (List ℕ) → Option (List ℕ)
@@ -36,7 +36,7 @@ refusal_line offset shown = Some (codes "refused at byte ") ++? (Some (decimal o
 of_refused : {E : Type 0} (source : List ℕ) (e : ParseError) (offset : ℕ) (r : Result (String Global) E)
     → IsRefused source e → Some offset ≡ offset_of e
     → IfOk r (λ s. IfSome (refusal_line offset (shown_error e)) (λ bs. string_bytes s ≡ bs)) → IfOk r (λ s. IsReport source (string_bytes s))
-of_refused source e offset (Ok s) (at, is_at, within, nothing, p) is written =
+of_refused source e offset (Ok s) (at, is_at, within, nothing, p, located) is written =
     let text : List ℕ = shown_refusal (codes "input.souper") p.line p.column p.text p.message in
     let same : at ≡ offset = ap (λ (o : Option ℕ). unwrap_or o 0) (sym is_at ∙ sym is) in
     inr (

@@ -104,7 +104,7 @@ fn refused_stream(rt: &impl Abort, alloc: Global) -> Met {
     let want = Want {
         status: 1,
         records: b"%b = var\ninfer %b\n\n",
-        line: b"a.opt:3:6: no value named '%x' in scope\n     |\n   3 | infer %x\n     |      ^\n",
+        line: b"a.opt:3:7: no value named '%x' in scope\n     |\n   3 | infer %x\n     |       ^\n",
     };
     run(
         rt,
@@ -151,8 +151,8 @@ fn writing_an_object(rt: HostRuntime) -> Result<(), Fail> {
 fn refusal_object(rt: &impl Abort, alloc: Global) -> Met {
     let want = Want {
         status: 1,
-        records: b"{\"column\":6,\"file\":\"a.opt\",\"line\":1,\"message\":\"no value named '%x' in scope\",\"offset\":6}\n",
-        line: b"a.opt:1:6: no value named '%x' in scope\n     |\n   1 | infer %x\n     |      ^\n",
+        records: b"{\"column\":7,\"file\":\"a.opt\",\"line\":1,\"message\":\"no value named '%x' in scope\",\"offset\":6}\n",
+        line: b"a.opt:1:7: no value named '%x' in scope\n     |\n   1 | infer %x\n     |       ^\n",
     };
     run(rt, alloc, Command::Objects, b"infer %x\n", want)
 }

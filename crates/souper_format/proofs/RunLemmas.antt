@@ -3,7 +3,7 @@ use Rattle.std.proofs.Common.{◌≡◌, ◌≤◌, ℕ, List, [], ◌∷◌, �
 use Rattle.std.specs.Str.{IsUtf8}
 use Rattle.std.specs.Io.KnownBytes.{Consumes, IsAtEnd}
 use Rattle.souper_graph.specs.Syntax.Spelling.{ItemType, SpellsNone}
-use Rattle.souper_ir.specs.Errors.{kind_of, offset_of, ShowsPlace, OnKind}
+use Rattle.souper_ir.specs.Errors.{kind_of, offset_of, HasLocation, ShowsPlace, OnKind}
 use Rattle.souper_ir.specs.Answers.{IsStrError}
 use Rattle.souper_ir.specs.declared.parse.ParseError.{ParseError}
 use Rattle.souper_ir.specs.declared.parse.ParseErrorKind.{ParseErrorKind}
@@ -16,11 +16,11 @@ use Rattle.souper_format.specs.Runs.{Formats, ReportedRefusal, IsRun, IsKnownRun
 -- a refusal at an offset of the source, as the parser returns it
 abbrev pub IsRefusal : ItemType → Option (List ℕ) → List ℕ → ParseError → Type 0
 IsRefusal k file source e = (offset : ℕ) × (offset_of e ≡ Some offset) × (offset ≤ length source) × SpellsNone k source
-    × ShowsPlace file source offset e
+    × ShowsPlace file source offset e × HasLocation source e
 
 pub reported_refusal : (k : ItemType) (file : Option (List ℕ)) (source : List ℕ) (err : Stream) (e : ParseError)
     → IsRefusal k file source e → ReportedLine err e → ReportedRefusal file source err
-reported_refusal k file source err e (offset, at, within, none, p) reported works =
+reported_refusal k file source err e (offset, at, within, none, p, located) reported works =
     let (line, (bytes, are_shown, is_line), given) = reported works in
     let same = subst (λ o. IfSome o (λ s. bytes ≡ s)) p.shown_is are_shown in
     (offset, _, within, (p.line, p.column, (p.message, p.text, p.is_place, refl)), subst (IsGiven err) (is_line ∙ ap (λ (s : List ℕ). s ++ 10 ∷ []) same) given)

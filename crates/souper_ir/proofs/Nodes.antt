@@ -10,3 +10,4 @@ pub mod Taken
 pub mod Statements
 pub mod NextStatements
 pub mod Ahead
+pub mod Ends

@@ -1,14 +1,14 @@
 -- Definitions. What a call returns for a text that it refuses.
 use Rattle.std.specs.Prelude.{◌≡◌, ℕ, ◌≤◌, List, length, Option, Some}
 use Rattle.souper_ir.specs.declared.parse.error.ParseError.{ParseError}
-use Rattle.souper_ir.specs.Errors.{kind_of, offset_of, ShowsPlace, OnKind}
+use Rattle.souper_ir.specs.Errors.{kind_of, offset_of, HasLocation, ShowsPlace, OnKind}
 use Rattle.souper_graph.specs.Syntax.Spelling.{ItemType, SpellsNone}
 
--- The error is out of memory, or the text spells no items of the type: then its offset is within the text, and it has
--- that place of the text and shows it under that file name.
+-- The error is out of memory, or the text spells no items of the type: then its offset is within the text, it has that place
+-- of the text and shows it under that file name, and it says where the text is at fault.
 abbrev pub IsStrError : ItemType → Option (List ℕ) → List ℕ → ParseError → Type 0
 IsStrError k file source e = OnKind (kind_of e)
     ⊥
     ((offset : ℕ) × (offset_of e ≡ Some offset) × (offset ≤ length source) × SpellsNone k source
-    × ShowsPlace file source offset e)
+    × ShowsPlace file source offset e × HasLocation source e)
     (Unit {0})

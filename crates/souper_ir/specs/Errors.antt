@@ -1,5 +1,5 @@
 -- Definitions. What an error reports: its kind, its offset and the text that it shows.
-use Rattle.std.specs.Prelude.{◌≡◌, ℕ, ◌+◌, ◌^◌, ◌<◌, List, [], ◌++◌, length, ◌⊎◌, codes, Option, None, Some, Result, Ok, Err, IfSome, IsOk, option_map, string_bytes}
+use Rattle.std.specs.Prelude.{◌≡◌, ℕ, Bool, false, ◌+◌, ◌^◌, ◌<◌, List, [], ◌++◌, length, ◌⊎◌, codes, Option, None, Some, Result, Ok, Err, IfSome, IsOk, option_map, string_bytes}
 use Rattle.std.specs.Fmt.{WritesOnOk, WritesStyledOnOk}
 use Rattle.std.specs.declared.fmt.Error.{Error as FormatError}
 use Rattle.std.specs.declared.fmt.Formatter.{Formatter}
@@ -12,10 +12,12 @@ use Rattle.souper_ir.specs.declared.parse.error.ParseErrorKind.TheVariants.{Io, 
 use Rattle.souper_ir.specs.declared.parse.error.ReadError.{ReadError}
 use Rattle.souper_ir.specs.declared.parse.error.ReadError.TheVariants.{Refused as RefusedRead, Memory as MemoryRead}
 use Rattle.souper_ir.specs.declared.parse.error.Refusal.{Refusal}
+use Rattle.souper_ir.specs.declared.parse.place.Location.{Location}
 use Rattle.souper_ir.specs.declared.parse.place.Place.{Place}
+use Rattle.souper_ir.specs.declared.parse.place.Places.{Places}
 use Rattle.souper_ir.specs.declared.parse.error.Before.{Before}
 use Rattle.souper_ir.specs.Joining.{IsLines}
-use Rattle.souper_ir.specs.Places.{newlines, IsPlace, direct_text, file_or_unknown, shown_refusal}
+use Rattle.souper_ir.specs.Places.{newlines, IsPlace, IsFault, direct_text, file_or_unknown, shown_refusal}
 
 -- one of three facts, by the kind: for `Io`, `Parse` and `Memory`
 abbrev pub OnKind : ParseErrorKind → Type 0 → Type 0 → Type 0 → Type 0
@@ -60,9 +62,27 @@ fault_of_cause _ = None
 abbrev pub fault_of : ParseError → Option Error
 fault_of e = fault_of_cause e.cause
 
+-- whether the text ended where more is wanted
+abbrev pub at_end_of_cause : Cause → Bool
+at_end_of_cause (ParseCause refusal) = refusal.value.at_end
+at_end_of_cause _ = false
+
+-- `e.is_at_end()`
+abbrev pub at_end_of : ParseError → Bool
+at_end_of e = at_end_of_cause e.cause
+
+-- the location of a refusal, if it was given one
+abbrev pub location_of_cause : Cause → Option Location
+location_of_cause (ParseCause refusal) = option_map (λ (places : Places). places.location) refusal.value.places
+location_of_cause _ = None
+
+-- `e.location()`
+abbrev pub location_of : ParseError → Option Location
+location_of e = location_of_cause e.cause
+
 -- the place of a refusal, if it was given one
 abbrev pub place_of_cause : Cause → Option Place
-place_of_cause (ParseCause refusal) = refusal.value.place
+place_of_cause (ParseCause refusal) = option_map (λ (places : Places). places.place) refusal.value.places
 place_of_cause _ = None
 
 abbrev pub place_of : ParseError → Option Place
@@ -81,14 +101,37 @@ abbrev pub shown_at : Place → List ℕ → List ℕ
 shown_at place message =
     shown_refusal (file_or_unknown (option_map string_bytes place.file)) place.line place.column (string_bytes place.text) message
 
+-- the same, with the line and the column of a location
+abbrev pub shown_at_location : Place → Location → List ℕ → List ℕ
+shown_at_location place location message =
+    shown_refusal (file_or_unknown (option_map string_bytes place.file)) location.line location.column (string_bytes location.text) message
+
 -- the text that shows a refusal, with its place or without
-abbrev pub shown_by_place : Option Place → ℕ → List ℕ → List ℕ
+abbrev pub shown_by_place : Option Places → ℕ → List ℕ → List ℕ
 shown_by_place None offset message = direct_text offset message
-shown_by_place (Some place) offset message = shown_at place message
+shown_by_place (Some places) offset message = shown_at places.place message
 
 -- the text that a refusal shows
 abbrev pub shown_refusal_of : Refusal → List ℕ
-shown_refusal_of refusal = shown_by_place refusal.place refusal.offset (string_bytes refusal.message)
+shown_refusal_of refusal = shown_by_place refusal.places refusal.offset (string_bytes refusal.message)
+
+-- the text that shows a refusal at its location, if it has one
+abbrev pub located_by : Option Places → ℕ → List ℕ → List ℕ
+located_by None offset message = direct_text offset message
+located_by (Some places) offset message = shown_at_location places.place places.location message
+
+abbrev pub located_refusal_of : Refusal → List ℕ
+located_refusal_of refusal = located_by refusal.places refusal.offset (string_bytes refusal.message)
+
+-- the text that a cause shows, with the location of a refusal
+abbrev pub located_cause : Cause → Option (List ℕ)
+located_cause (IoCause fault) = None
+located_cause (ParseCause refusal) = Some (located_refusal_of refusal.value)
+located_cause MemoryCause = Some (codes "out of memory")
+
+-- the text that the error shows with its location, but for the text of an I/O error
+abbrev pub located_error : ParseError → Option (List ℕ)
+located_error e = located_cause e.cause
 
 -- the text that a cause shows
 abbrev pub shown_cause : Cause → Option (List ℕ)
@@ -109,6 +152,28 @@ ShowsFault took f r g = IsOk r →
 abbrev pub IsPlaceIn : Option (List ℕ) → List ℕ → ℕ → Place → Type 0
 IsPlaceIn file source offset place =
     (option_map string_bytes place.file ≡ file) × IsPlace source offset place.line place.column (string_bytes place.text)
+
+-- the place has this line, column and line text, in a source that has that file name
+abbrev pub IsPlaceOn : Option (List ℕ) → ℕ → ℕ → List ℕ → Place → Type 0
+IsPlaceOn file line column text place =
+    (option_map string_bytes place.file ≡ file) × (place.line ≡ line) × (place.column ≡ column) × (string_bytes place.text ≡ text)
+
+-- where a source is at fault, if it was refused at that offset or where it ends: the offset, line, column and line text
+abbrev pub IsLocationIn : List ℕ → ℕ → Bool → Location → Type 0
+IsLocationIn source offset at_end location =
+    IsFault source offset at_end location.offset × IsPlace source (location.offset + 1) location.line location.column (string_bytes location.text)
+
+-- the place and the location of a refusal of the source, which has that file name
+abbrev pub ArePlacesIn : Option (List ℕ) → List ℕ → ℕ → Bool → Places → Type 0
+ArePlacesIn file source offset at_end places = IsPlaceIn file source offset places.place × IsLocationIn source offset at_end places.location
+
+-- the error says where the source is at fault
+pub record HasLocation (source : List ℕ) (e : ParseError) : Type 0 where
+  pub location : Location
+  pub offset : ℕ
+  pub location_is : location_of e ≡ Some location
+  pub offset_is : offset_of e ≡ Some offset
+  pub is_location : IsLocationIn source offset (at_end_of e) location
 
 -- the error has the line and the column of that offset of the source, and a message, and shows them
 pub record ShowsPlace (file : Option (List ℕ)) (source : List ℕ) (offset : ℕ) (e : ParseError) : Type 0 where
@@ -139,6 +204,10 @@ pub record IsBefore (before : Before) (text : List ℕ) : Type 0 where
   pub lines : IsLines text
   pub bytes_are : length text ≡ before.bytes
   pub lines_are : newlines text ≡ before.lines
+
+-- the error of a source that comes after other lines says where both together are at fault
+abbrev pub HasLocationAfter : Before → List ℕ → ParseError → Type 0
+HasLocationAfter before source e = (text : List ℕ) → IsBefore before text → length (text ++ source) + 1 < 2 ^ 64 → HasLocation (text ++ source) e
 
 -- what became of a refusal at that offset of the source, before which other lines come: it shows its place in these lines and
 -- the source together, or memory ran out for that. The place of an offset is the place of the byte before it, which must be there.

@@ -1,5 +1,6 @@
 -- Definitions. The place of an offset in a source, and the text that shows a refusal there.
-use Rattle.std.specs.Prelude.{◌≡◌, ℕ, ◌+◌, ◌-◌, ◌≤◌, List, [], ◌∷◌, ◌++◌, ◌⊎◌, ◌==◌, length, replicate, count_by, codes, decimal, Option, None, Some}
+use Rattle.std.specs.Prelude.{◌≡◌, ℕ, Bool, true, false, ◌+◌, ◌-◌, ◌≤◌, List, [], ◌∷◌, ◌++◌, ◌⊎◌, ◌==◌, length, replicate, count_by, codes, decimal, Option, None, Some}
+use Rattle.std.specs.Str.{IsAsciiWhitespaceFrom}
 
 -- the byte is the last of the text
 abbrev pub EndsIn : List ℕ → ℕ → Type 0
@@ -32,6 +33,24 @@ pub record IsPlace (source : List ℕ) (offset line column : ℕ) (text : List �
   pub until : offset - 1 ≤ length front + length body
   pub line_is : line ≡ newlines front + 1
   pub column_is : column ≡ offset - 1 - length front + 1
+
+-- the line with this number begins at `start`, not after the byte before the offset, and rest is the source from there on
+pub record IsLineFrom (source : List ℕ) (offset number start : ℕ) (rest : List ℕ) : Type 0 where
+  pub front : List ℕ
+  pub parts : source ≡ front ++ rest
+  pub long : length front ≡ start
+  pub begins : (front ≡ []) ⊎ EndsIn front 10
+  pub counted : number ≡ newlines front + 1
+  pub below : start ≤ offset - 1
+
+-- only white space comes at that offset of the source and after it
+abbrev pub IsEnd : List ℕ → ℕ → Type 0
+IsEnd source at = (at ≤ length source) × IsAsciiWhitespaceFrom source at
+
+-- where a source is at fault that is refused at an offset: there, or where it ends
+abbrev pub IsFault : List ℕ → ℕ → Bool → ℕ → Type 0
+IsFault source offset false at = at ≡ offset
+IsFault source offset true at = IsEnd source at
 
 -- an offset has one place
 abbrev pub OnePlace : Type 0

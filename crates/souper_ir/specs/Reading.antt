@@ -5,7 +5,7 @@ use Rattle.souper_graph.specs.Syntax.Optional.{◌>>=◌}
 use Rattle.souper_ir.specs.declared.parse.error.ParseErrorKind.{ParseErrorKind}
 use Rattle.souper_ir.specs.declared.parse.error.ParseErrorKind.TheVariants.{Io, Parse, Memory}
 use Rattle.souper_ir.specs.declared.parse.error.ParseError.{ParseError}
-use Rattle.souper_ir.specs.Errors.{kind_of, offset_of, shown_error}
+use Rattle.souper_ir.specs.Errors.{kind_of, offset_of, at_end_of, shown_error}
 use Rattle.souper_ir.specs.Places.{IsDirectRefusalText}
 use Rattle.souper_graph.specs.Syntax.Tokens.{Lexeme}
 use Rattle.souper_ir.specs.Parsing.{Cause, refused, no_memory, Parsing}
@@ -21,13 +21,14 @@ cause_of e = cause_by (kind_of e) (offset_of e)
 
 -- The error leaves the parser failed by its cause, which is no I/O error. A parser that had failed fails by the same
 -- cause again, or with out of memory. The offset of a refusal is within the text, and it shows that offset and some
--- message.
+-- message. If it says that the text ended, all tokens were taken.
 pub record Fails (e : ParseError) (old new : Parsing) : Type 0 where
   pub stays : new.failed ≡ cause_of e
   pub caused : cause_of e ≢ None
   pub again : (c : Cause) → old.failed ≡ Some c → cause_of e ≢ Some no_memory → cause_of e ≡ Some c
   pub within : (o : ℕ) → cause_of e ≡ Some (refused o) → o ≤ new.len
   pub shown : (o : ℕ) → cause_of e ≡ Some (refused o) → IsSomeAnd (shown_error e) (IsDirectRefusalText o)
+  pub ended : at_end_of e ≡ true → new.tokens ≡ []
   pub len : new.len ≡ old.len
 
 -- the error is out of memory, and leaves the parser failed by it
@@ -81,5 +82,6 @@ fails_later e p q r f l h = record {
   again = λ c x. h.again c (f ∙ x);
   within = h.within;
   shown = h.shown;
+  ended = h.ended;
   len = h.len ∙ l;
 }

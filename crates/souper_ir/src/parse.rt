@@ -25,7 +25,7 @@ mod traits;
 mod unstyled;
 mod words;
 
-pub use error::{Before, ParseError, ParseErrorKind};
+pub use error::{Before, ParseError, ParseErrorKind, WithLocation};
 pub use files::{parse_left_hand_sides_file, parse_replacements_file, parse_right_hand_sides_file};
 pub use item::{
     WholeItem, parse_into, parse_left_hand_sides_str, parse_replacements_str,
@@ -33,5 +33,6 @@ pub use item::{
 };
 pub use memory::Memory;
 pub use parser::{Parser, Result};
+pub use place::Location;
 pub use sink::Sink;
 pub use traits::{Parse, Peek};

@@ -10,9 +10,9 @@ use Rattle.serde_json.specs.Data.{Data, object, Members, no_members, member}
 use Rattle.serde_json.specs.Written.{compact_text, members_text, comma_if}
 use Rattle.souper_graph.specs.Syntax.Tokens.{IsOneLine}
 use Rattle.souper_ir.specs.declared.parse.error.ParseError.{ParseError}
-use Rattle.souper_ir.specs.Errors.{offset_of, line_of, column_of, message_of}
+use Rattle.souper_ir.specs.Errors.{offset_of, message_of}
 use Rattle.souper_records.specs.Records.{key_of}
-use Rattle.souper_records.specs.Objects.{item_object, refusal_object, optional_number, optional_string}
+use Rattle.souper_records.specs.Objects.{column_at, item_object, line_at, optional_number, optional_string, refusal_object}
 
 -- ---- numbers
 
@@ -96,4 +96,4 @@ string_line (Some s) = quoted_line s
 
 pub refusal_line : (name : List ℕ) (e : ParseError) → IsOneLine (compact_text (refusal_object name e))
 refusal_line name e =
-    (refl, members_line false (fields (refusal_object name e)) (number_line (column_of e), (quoted_line name, (number_line (line_of e), (string_line (message_of e), (number_line (offset_of e), tt))))))
+    (refl, members_line false (fields (refusal_object name e)) (number_line (column_at e), (quoted_line name, (number_line (line_at e), (string_line (message_of e), (number_line (offset_of e), tt))))))

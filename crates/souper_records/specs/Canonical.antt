@@ -12,8 +12,7 @@ use Rattle.souper_ir.specs.Places.{newlines}
 use Rattle.souper_stream.specs.Reading.{AreAll}
 use Rattle.souper_format.specs.Streams.{Stream, IsGiven, IsGivenNothing}
 use Rattle.souper_format.specs.Formatted.{IsFormatted}
-use Rattle.souper_format.specs.Reporting.{ReportedLine}
-use Rattle.souper_records.specs.Reports.{ReportedMemory, ReportedFault}
+use Rattle.souper_records.specs.Reports.{ReportedLine, ReportedMemory, ReportedFault}
 use Rattle.souper_records.specs.Runs.{OnStatus}
 
 -- the text is what the formatter writes of it: the canonical texts of the items that it spells, a newline after each

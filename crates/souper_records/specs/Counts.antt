@@ -15,6 +15,8 @@ count_of key xs a = min (count_by (λ b. bytes_eq (key a) (key b)) xs) (2 ^ 64 -
 abbrev pub counts_by : {A : Type 0} → (A → List ℕ) → List A → List (List ℕ × ℕ)
 counts_by key xs = map (λ a. (key a, count_of key xs a)) (firsts_by key [] xs)
 
+-- ---- The next two definitions are the code's, step by step. The promises are in `counts_by` alone, and a proof joins the two.
+
 -- the counts of keys, with one more of a key: its count is one more, or is 1 after all if there was none
 abbrev pub tally : List (List ℕ × ℕ) → List ℕ → List (List ℕ × ℕ)
 tally [] k = (k, one_more 0) ∷ []

@@ -1,5 +1,5 @@
 -- Definitions. The JSON objects of items and of refusals.
-use Rattle.std.specs.Prelude.{Bool, ℕ, List, [], ◌++◌, flat_map, codes, Option, None, Some}
+use Rattle.std.specs.Prelude.{Bool, ℕ, List, [], ◌++◌, flat_map, codes, Option, None, Some, option_map}
 use Rattle.serde_json.specs.Data.{Data, null, number, unsigned, string, object, member, no_members}
 use Rattle.serde_json.specs.Written.{compact_text}
 use Rattle.std.specs.List.{AllByRecursion}
@@ -7,7 +7,8 @@ use Rattle.souper_graph.specs.Values.{Item}
 use Rattle.souper_graph.specs.Syntax.Spelling.{ItemType}
 use Rattle.souper_stream.specs.Segments.{HasNoCut}
 use Rattle.souper_ir.specs.declared.parse.error.ParseError.{ParseError}
-use Rattle.souper_ir.specs.Errors.{offset_of, line_of, column_of, message_of}
+use Rattle.souper_ir.specs.declared.parse.place.Location.{Location}
+use Rattle.souper_ir.specs.Errors.{location_of, message_of, offset_of}
 use Rattle.souper_format.specs.Streams.{Stream, IsGiven}
 use Rattle.souper_records.specs.Records.{key_of}
 use Rattle.souper_records.specs.Uniques.{text_by}
@@ -28,10 +29,17 @@ abbrev pub optional_string : Option (List ℕ) → Data
 optional_string None = null
 optional_string (Some text) = string text
 
+-- the line and the column of the location of a refusal
+abbrev pub line_at : ParseError → Option ℕ
+line_at e = option_map (λ (location : Location). location.line) (location_of e)
+
+abbrev pub column_at : ParseError → Option ℕ
+column_at e = option_map (λ (location : Location). location.column) (location_of e)
+
 -- the object of a refusal of the stream of this name
 abbrev pub refusal_object : List ℕ → ParseError → Data
 refusal_object name e =
-    object (member (codes "column") (optional_number (column_of e)) (member (codes "file") (string name) (member (codes "line") (optional_number (line_of e))
+    object (member (codes "column") (optional_number (column_at e)) (member (codes "file") (string name) (member (codes "line") (optional_number (line_at e))
     (member (codes "message") (optional_string (message_of e)) (member (codes "offset") (optional_number (offset_of e)) no_members)))))
 
 -- the text of an object, with no space in it, and a newline

@@ -10,10 +10,10 @@ use Rattle.souper_ir.specs.Errors.{kind_of}
 use Rattle.souper_ir.specs.Sinks.{PrefixSpells}
 use Rattle.souper_stream.specs.Segments.{Line, concat, all_lines, HasNoCut, AreParts, PartsSpell}
 use Rattle.souper_stream.specs.declared.reader.ItemReader.{ItemReader}
-use Rattle.souper_stream.specs.Parts.{IsPlacedIn, IsOnLine, HasParts, is_segmented}
+use Rattle.souper_records.specs.Reports.{IsErrorLine}
+use Rattle.souper_stream.specs.Parts.{IsLocatedIn, IsPlacedIn, IsOnLine, HasParts, is_segmented}
 use Rattle.souper_stream.specs.Reading.{AreAll, NeverSpells}
 use Rattle.souper_format.specs.Streams.{Stream, IsGiven, IsGivenNothing}
-use Rattle.souper_format.specs.Reporting.{IsErrorLine}
 use Rattle.souper_records.specs.declared.layout.Layout.{Layout}
 use Rattle.souper_records.specs.declared.parts.Source.{Source}
 use Rattle.souper_records.specs.declared.stop.Stop.{Stop}
@@ -27,7 +27,8 @@ pub record Outcome : Type 0 where
   pub items : List Item
   pub refusal : Option ParseError
 
--- A refused part, after the parsed text `done`. It is one segment. The refusal has and shows its location in the text read of the stream.
+-- A refused part, after the parsed text `done`. It is one segment. The refusal has its place in the text read of the stream, and says where
+-- that is at fault.
 pub record IsRefusedPart (k : ItemType) (file start : Option (List ℕ)) (done : List ℕ) (part : List Line) (items : List Item) (e : ParseError) : Type 0 where
   pub kind : kind_of e ≡ Parse
   pub segment : HasNoCut k part
@@ -37,6 +38,7 @@ pub record IsRefusedPart (k : ItemType) (file start : Option (List ℕ)) (done :
   pub read : List ℕ
   pub consumed : Consumes start now read
   pub placed : IsPlacedIn file read done (concat part) e
+  pub located : IsLocatedIn done (concat part) e
 
 -- the part spells the items, or it was refused
 abbrev pub IsOutcome : ItemType → Option (List ℕ) → Option (List ℕ) → List ℕ → List Line → List Item → Option ParseError → Type 0

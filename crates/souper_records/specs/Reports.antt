@@ -1,10 +1,9 @@
 -- Definitions. The lines that the program reports an error with.
-use Rattle.std.specs.Prelude.{◌≡◌, ◌⊎◌, ℕ, List, ◌++◌, false, codes}
-use Rattle.souper_ir.specs.Errors.{kind_of}
+use Rattle.std.specs.Prelude.{◌≡◌, ◌⊎◌, ℕ, List, ◌++◌, false, codes, IfSome}
+use Rattle.souper_ir.specs.Errors.{kind_of, located_error}
 use Rattle.souper_ir.specs.declared.parse.ParseError.{ParseError}
 use Rattle.souper_ir.specs.declared.parse.ParseErrorKind.TheVariants.{Io, Parse}
 use Rattle.souper_format.specs.Streams.{Stream, IsGiven}
-use Rattle.souper_format.specs.Reporting.{ReportedLine}
 
 -- the program's name, and what it says
 abbrev pub program_line : List ℕ → List ℕ
@@ -18,17 +17,29 @@ named_line name says = codes "souper_items: " ++ (name ++ (codes ": " ++ (says +
 abbrev pub IsMemoryLine : List ℕ → Type 0
 IsMemoryLine line = line ≡ program_line (codes "out of memory")
 
--- the line that says this of the stream; if memory ran out for it, the line for that
-abbrev pub IsNamedLine : List ℕ → List ℕ → List ℕ → Type 0
-IsNamedLine name says line = (line ≡ named_line name says) ⊎ IsMemoryLine line
+-- the line of bytes of a stream that are not UTF-8: its name, and on which line and at which byte
+abbrev pub text_fault_line : List ℕ → List ℕ → List ℕ
+text_fault_line name says = name ++ (codes ":" ++ (says ++ codes "\n"))
 
 -- the line of a fault of the stream; if memory ran out for it, the line for that
 abbrev pub IsFaultLine : List ℕ → List ℕ → Type 0
-IsFaultLine name line = ((shown : List ℕ) × (line ≡ named_line name shown)) ⊎ IsMemoryLine line
+IsFaultLine name line = ((shown : List ℕ) × ((line ≡ named_line name shown) ⊎ (line ≡ text_fault_line name shown))) ⊎ IsMemoryLine line
 
 -- unless the writer has failed, a line with the property P was written to it
 abbrev pub Reported : Stream → (List ℕ → Type 0) → Type 0
 Reported err P = err.failed ≡ false → (line : List ℕ) × P line × IsGiven err line
+
+-- the bytes are the text that the error shows with its location, if that text is known
+abbrev pub IsShown : ParseError → List ℕ → Type 0
+IsShown e bytes = IfSome (located_error e) (λ shown. bytes ≡ shown)
+
+-- the line of an error
+abbrev pub IsErrorLine : ParseError → List ℕ → Type 0
+IsErrorLine e line = (shown : List ℕ) × IsShown e shown × (line ≡ shown ++ codes "\n")
+
+-- unless the writer has failed, the line of the error was written to it
+abbrev pub ReportedLine : Stream → ParseError → Type 0
+ReportedLine err e = err.failed ≡ false → (line : List ℕ) × IsErrorLine e line × IsGiven err line
 
 -- out of memory was reported
 abbrev pub ReportedMemory : Stream → Type 0

@@ -8,10 +8,11 @@ use crate::layout::PLAIN;
 use crate::records::records_of_text;
 use crate::report::{report_error, report_fault, report_line, report_memory};
 use souper_format::watched::Watched;
-use souper_ir::parse::{ParseError, WholeItem};
+use souper_ir::parse::{Before, ParseError, WholeItem};
+use souper_stream::not_utf8;
 use std::alloc::Global;
-use std::io::{BufRead, ErrorKind, Write};
-use std::{io, str};
+use std::io::{BufRead, Write};
+use std::str;
 
 // The line, counted from 1, on which the texts first differ, or none if they are the same.
 fn differing_line(text: &[u8], other: &[u8]) -> Option<usize>
@@ -93,7 +94,8 @@ pub fn check_run<T: WholeItem + Drop, R: BufRead, E: Write>(
     let source = match str::from_utf8(&bytes) {
         Ok(source) => source,
         Err(_) => {
-            report_fault(alloc, name, &io::Error::from(ErrorKind::InvalidData), err);
+            let before = Before { bytes: 0, lines: 0 };
+            report_fault(alloc, name, &not_utf8(before, &bytes), err);
             return 2;
         }
     };

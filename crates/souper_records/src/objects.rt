@@ -57,10 +57,14 @@ fn refusal_object(alloc: Global, name: &str, error: &ParseError) -> Result<Value
     ensures { IfOk result (λ value. view value ≡ refusal_object name.now error.now) }
 {
     let message = string(alloc, error.message())?;
+    let (line, column) = match error.location() {
+        Some(location) => (Some(location.line), Some(location.column)),
+        None => (None, None),
+    };
     json!(in alloc; {
-        "column": number(error.column()),
+        "column": number(column),
         "file": name,
-        "line": number(error.line()),
+        "line": number(line),
         "message": message,
         "offset": number(error.offset())
     })
@@ -169,8 +173,8 @@ impl<T: StreamItem + Drop> PartSink<T> for Objects {
 ///
 /// The object of an item has its canonical `text`, the `key` of the text ([`key_of`](crate::records::key_of)), the name of the stream
 /// as `file`, and the 1-based `line` of the first token of its segment. With `rename` the names in the text are by the printed order
-/// of the item. The object of a refusal has `file`, `offset`, `line`, `column` and `message`: the refusal shows this line and column,
-/// of the byte before the offset. It comes after the objects of the items that its segment begins with, and the refusal is also written
+/// of the item. The object of a refusal has `file`, `offset`, `line`, `column` and `message`: the line and the column are those of its
+/// location ([`ParseError::location`]). It comes after the objects of the items that its segment begins with, and the refusal is also written
 /// to `err`, with a newline.
 pub fn write_objects<T: StreamItem + Drop, R: BufRead, W: Write, E: Write>(
     alloc: Global,

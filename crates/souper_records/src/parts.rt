@@ -9,9 +9,8 @@ ghost use Rattle.souper_records.specs.Stops.{IfInput, UnlessOutput};
 ghost use Rattle.souper_records.specs.Outcomes.{Outcome, Begins, WritesPart, WritesParts, StopsAfter, WroteParts};
 
 use crate::options::ReadOptions;
-use crate::report::report_line;
+use crate::report::{line_of_error, report_line};
 use crate::stop::Stop;
-use souper_format::report::line_of_error;
 use souper_format::watched::Watched;
 use souper_ir::parse::{ParseError, ParseErrorKind};
 use souper_stream::{ChunkSink, ItemReader, StreamItem};

@@ -1,15 +1,14 @@
 //! The lines that report an error, each to a stream that may fail.
-ghost use Rattle.std.specs.Prelude.{◌≡◌, true, false, string_bytes};
+ghost use Rattle.std.specs.Prelude.{◌≡◌, true, false, string_bytes, IfOk};
 ghost use Rattle.souper_format.specs.Streams.{stream, IsGiven};
 ghost use Rattle.souper_format.specs.Watching.{has_failed};
-ghost use Rattle.souper_records.specs.Reports.{IsNamedLine, ReportedMemory, Reported, ReportedFault, ReportedError};
+ghost use Rattle.souper_records.specs.Reports.{IsErrorLine, IsFaultLine, ReportedMemory, Reported, ReportedFault, ReportedError};
 
-use souper_format::report::line_of_error;
 use souper_format::watched::Watched;
 use souper_ir::parse::{ParseError, ParseErrorKind};
-use std::alloc::Global;
+use std::alloc::{AllocError, Global};
 use std::io;
-use std::io::Write;
+use std::io::{ErrorKind, Write};
 
 /// Reports out of memory, without allocating.
 pub fn report_memory<E: Write>(err: &mut Watched<E>)
@@ -19,14 +18,16 @@ pub fn report_memory<E: Write>(err: &mut Watched<E>)
     let _ = err.write_all(b"souper_items: out of memory\n");
 }
 
-// Reports a message about the stream of this name: `souper_items: NAME: MESSAGE`, and a newline.
-fn report<E: Write>(alloc: Global, name: &str, says: &str, err: &mut Watched<E>)
-    ensures reported { Reported (stream E.contents err.old err.new) (IsNamedLine name.now says.now) }
-    ensures stays { has_failed err.old ≡ true → has_failed err.new ≡ true }
+// The line of a fault of the stream of this name. That of bytes that are not UTF-8 begins with the name and the number of their line.
+fn fault_line(alloc: Global, name: &str, fault: &io::Error) -> Result<String, AllocError>
+    ensures { IfOk result (λ line. IsFaultLine name.now (string_bytes line)) }
 {
-    match format!(in alloc; "souper_items: {name}: {says}\n") {
-        Ok(line) => report_line(&line, err),
-        Err(_) => report_memory(err),
+    let says = fault.to_string(alloc)?;
+    match says.strip_prefix("line ") {
+        Some(says) if fault.kind() == ErrorKind::InvalidData => {
+            format!(in alloc; "{name}:{says}\n")
+        }
+        _ => format!(in alloc; "souper_items: {name}: {says}\n"),
     }
 }
 
@@ -35,10 +36,19 @@ pub fn report_fault<E: Write>(alloc: Global, name: &str, fault: &io::Error, err:
     ensures reported { ReportedFault name.now (stream E.contents err.old err.new) }
     ensures stays { has_failed err.old ≡ true → has_failed err.new ≡ true }
 {
-    match fault.to_string(alloc) {
-        Ok(says) => report(alloc, name, says.as_str(), err),
+    match fault_line(alloc, name, fault) {
+        Ok(line) => report_line(&line, err),
         Err(_) => report_memory(err),
     }
+}
+
+/// The text that the error shows with its location, and a newline.
+pub(crate) fn line_of_error(alloc: Global, error: &ParseError) -> Result<String, AllocError>
+    ensures { IfOk result (λ line. IsErrorLine error.now (string_bytes line)) }
+{
+    let mut line = error.with_location().to_string(alloc)?;
+    line.push('\n')?;
+    Ok(line)
 }
 
 /// Writes the line.

@@ -11,7 +11,7 @@ use Rattle.souper_ir.specs.declared.parse.error.ParseErrorKind.TheVariants.{Pars
 use Rattle.souper_ir.specs.Joining.{IsLines}
 use Rattle.souper_ir.specs.Places.{newlines, IsLineText, IsPlace}
 use Rattle.souper_ir.proofs.Items.Parting.{lines_end}
-use Rattle.souper_ir.specs.Errors.{kind_of, IsPlacedAfter, IsRefusalAt}
+use Rattle.souper_ir.specs.Errors.{kind_of, HasLocation, HasLocationAfter, IsPlacedAfter, IsRefusalAt}
 use Rattle.souper_stream.specs.declared.buffer.Buffer.{Buffer}
 use Rattle.souper_stream.specs.Buffering.{held, unparsed, Parses, Buffers, IsEmpty, Passes, Drains}
 use Rattle.souper_stream.proofs.Texts.{lines_append}
@@ -159,6 +159,12 @@ module _ (file : Option (List ℕ)) (done after : List ℕ) (b : Buffer) (len of
       let few = length-append p.gone (take (b.parsed + len) (held b)) in
       let begun : (0 < b.parsed + offset) ⊎ (p.gone ≡ []) = elim p.placed [ inl k ↦ inl (omega arith) | inr k ↦ inr k ] in
       subst (λ (x : List ℕ). IsRefusalAt file x (length done + offset) shown) text_is (subst (λ (n : ℕ). IsRefusalAt file (p.gone ++ take (b.parsed + len) (held b)) n shown) at_offset (at p.gone (p.counted (omega arith)) begun (omega arith)))
+
+  pub buffers_located : HasLocationAfter b.before (take (b.parsed + len) (held b)) shown → length text + 1 < 2 ^ 64 → HasLocation text shown
+  buffers_located at small =
+      let sizes = ap length text_is in
+      let few = length-append p.gone (take (b.parsed + len) (held b)) in
+      subst (λ (x : List ℕ). HasLocation x shown) text_is (at p.gone (p.counted (omega arith)) (omega arith))
 
   pub buffers_placed : IsLines (take len (unparsed b)) ⊎ (after ≡ []) → kind_of shown ≡ Parse → IsPlacedAfter file b.before (take (b.parsed + len) (held b)) (b.parsed + offset) shown → length (text ++ after) + 1 < 2 ^ 64 → IsRefusalAt file (text ++ after) (length done + offset) shown
   buffers_placed ends kind located small = over ends (placed_there kind located (omega (arith, small, length-append text after)))

@@ -8,7 +8,7 @@ use Rattle.souper_graph.specs.Syntax.Tokens.{Lexeme, ident}
 use Rattle.souper_graph.specs.Syntax.Spelling.{ItemType, TextSpells, SpellsNone}
 use Rattle.souper_ir.specs.declared.parse.error.ParseError.{ParseError}
 use Rattle.souper_ir.specs.declared.parse.error.ParseErrorKind.TheVariants.{Parse}
-use Rattle.souper_ir.specs.Errors.{kind_of, IsRefusalAt}
+use Rattle.souper_ir.specs.Errors.{kind_of, HasLocation, IsRefusalAt}
 use Rattle.souper_ir.specs.Joining.{IsLines}
 use Rattle.souper_ir.specs.Sinks.{TakesText, PrefixSpells}
 use Rattle.souper_ir.proofs.Items.Parting.{Within, Beyond, parted_twice}
@@ -24,7 +24,7 @@ use Rattle.souper_stream.proofs.Bytes.{all_after}
 use Rattle.souper_stream.proofs.Parting.{quiet_rest, quiet_starts}
 use Rattle.souper_stream.proofs.LineLists.{starts_not_none, starts_with_more, concat-append, tokens-append, lines-append, are_front, lines_front, lines_back, lines_of, no_bytes, lines_whole, lines_exist}
 use Rattle.souper_stream.proofs.SegmentLaws.{lines_start, none_with}
-use Rattle.souper_stream.proofs.Buffers.{buffers_none, buffers_more, buffers_placed}
+use Rattle.souper_stream.proofs.Buffers.{buffers_located, buffers_none, buffers_more, buffers_placed}
 use Rattle.souper_stream.proofs.Refusing.{RefusesText}
 
 -- ---- lists of lines and of parts
@@ -285,6 +285,9 @@ module _ (k : ItemType) (start now : Option (List ℕ)) (ps : List (List Line)) 
           subst (λ (y : List ℕ). IsRefusalAt file y (length done + b.offset) e) (sym whole_there)
               (buffers_placed file done after r.buffer len b.offset e h.buffers some fits b.within (subst (λ (y : List ℕ). IsLines y ⊎ (after ≡ [])) (sym part_text) (ends c.cut)) kind b.placed (omega (arith, small, ap length whole_there))),
         );
+        located = λ small.
+            let part_there : done ++ take len (unparsed r.buffer) ≡ done ++ concat c.front = ap (λ (y : List ℕ). done ++ y) part_text in
+            subst (λ (y : List ℕ). HasLocation y e) part_there (buffers_located file done after r.buffer len b.offset e h.buffers some fits b.within b.located (omega (arith, small, ap length part_there)));
       }
     where
       ends : IsCut k c.front c.back ⊎ ((c.back ≡ []) × (r.ended ≡ true)) → IsLines (concat c.front) ⊎ (concat c.back ++ passed.lines.lost ≡ [])
@@ -339,4 +342,5 @@ refused_after k file start now ps holds old mid new q e back t = record {
   ends = t.ends;
   never = t.never;
   placed = t.placed;
+  located = t.located;
 }

@@ -160,4 +160,9 @@ reached_refusal k file before mid after holds keeps first old new empty full p q
       let both = length-append (concat (all_lines r.parts)) (concat t.part) in
       let within = at.2 in
       (at.0, omega arith, at.3);
+  located = λ small.
+      let whole = ap length t.whole ∙ length-append (concat (all_lines (r.parts ++ t.part ∷ []))) t.after in
+      let part = done_more r.parts t.part in
+      let long = ap length part in
+      (concat (all_lines r.parts) ++ concat t.part, t.after, t.whole ∙ ap (λ (x : List ℕ). x ++ t.after) part, t.located (omega arith));
 }

@@ -60,6 +60,9 @@ shows_line named equals = named
 shows_line named colon = named
 shows_line named _ = false
 
+-- ---- The next three definitions are the code's, step by step. The promises are in `LastEnds` and `starts_line` alone, and a proof joins
+-- the two.
+
 -- the scanner state after no tokens
 abbrev pub first_state : ScanState
 first_state = record { after_name = false; ends_item = false }

@@ -5,7 +5,7 @@ use Rattle.std.specs.Io.KnownBytes.{Consumes}
 use Rattle.souper_graph.specs.Syntax.Spelling.{ItemType, TextSpells, SpellsNone}
 use Rattle.souper_graph.specs.Values.{Item}
 use Rattle.souper_ir.specs.declared.parse.error.ParseError.{ParseError}
-use Rattle.souper_ir.specs.Errors.{IsRefusalAt}
+use Rattle.souper_ir.specs.Errors.{HasLocation, IsRefusalAt}
 use Rattle.souper_ir.specs.Joining.{IsLines}
 use Rattle.souper_ir.specs.Sinks.{PrefixSpells, TakesOver}
 use Rattle.souper_stream.specs.declared.buffer.Buffer.{Buffer}
@@ -76,9 +76,13 @@ is_segmented r = r.by_segments
 abbrev pub line_of : ItemReader → ℕ
 line_of r = r.line
 
--- the refusal of a part, after the parsed text `done`, has and shows its location in the text read
+-- the refusal of a part, after the parsed text `done`, has and shows its place in the text read
 abbrev pub IsPlacedIn : Option (List ℕ) → List ℕ → List ℕ → List ℕ → ParseError → Type 0
 IsPlacedIn file read done part e = length read + 1 < 2 ^ 64 → (offset : ℕ) × (length done ≤ offset) × (offset ≤ length (done ++ part)) × IsRefusalAt file read offset e
+
+-- the refusal of a part, after the parsed text `done`, says where the text read up to the part's end is at fault
+abbrev pub IsLocatedIn : List ℕ → List ℕ → ParseError → Type 0
+IsLocatedIn done part e = length (done ++ part) + 1 < 2 ^ 64 → HasLocation (done ++ part) e
 
 -- The first `len` unparsed bytes were parsed, and `rejected` bytes are left of their chunk. If none are, what is not needed was dropped.
 pub record Advances (old : Buffer) (ended failed : Bool) (new : ItemReader) (len rejected : ℕ) : Type 0 where
@@ -104,7 +108,7 @@ pub record TakesPart {S : Type 0} (k : ItemType) (start now : Option (List ℕ))
   pub taken : Holds holds items old new
 
 -- The next segment spells no items: whatever follows the text read, the whole stream spells none. The sink took items that the segment
--- begins with. The refusal has and shows its location in the text read.
+-- begins with. The refusal has and shows its place in the text read, and says where that is at fault.
 pub record RefusesPart {S : Type 0} (k : ItemType) (file start now : Option (List ℕ)) (ps : List (List Line)) (holds : S → S → List Item → Type 0) (old new : S) (r : ItemReader) (e : ParseError) : Type 0 where
   pub part : List Line
   pub goes_on : HasParts k start now (ps ++ part ∷ []) r
@@ -121,6 +125,7 @@ pub record RefusesPart {S : Type 0} (k : ItemType) (file start now : Option (Lis
   pub ends : IsLines (concat part) ⊎ (after ≡ [])
   pub never : NeverSpells k (AreAll start read) read
   pub placed : IsPlacedIn file read (concat (all_lines ps)) (concat part) e
+  pub located : IsLocatedIn (concat (all_lines ps)) (concat part) e
 
 -- a chunk was left as it was, and the sink took items
 pub record LeavesChunk {S : Type 0} (r q : ItemReader) (holds : S → S → List Item → Type 0) (old new : S) : Type 0 where

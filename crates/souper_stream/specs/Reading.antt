@@ -1,10 +1,11 @@
 -- Definitions. Reads of a stream, and their outcomes.
-use Rattle.std.specs.Prelude.{◌≡◌, ◌⊎◌, ℕ, ◌+◌, ◌^◌, ◌<◌, ◌≤◌, Bool, true, false, List, [], ◌++◌, length, Option, IfSome}
+use Rattle.std.specs.Prelude.{◌≡◌, ◌⊎◌, ℕ, ◌+◌, ◌-◌, ◌^◌, ◌<◌, ◌≤◌, Bool, true, false, List, [], ◌++◌, length, take, Option, IfSome}
 use Rattle.std.specs.Io.KnownBytes.{Consumes}
 use Rattle.souper_graph.specs.Values.{Item}
+use Rattle.souper_graph.specs.Syntax.Tokens.{IsOneLine}
 use Rattle.souper_graph.specs.Syntax.Spelling.{ItemType, SpellsNone}
 use Rattle.souper_ir.specs.declared.parse.error.ParseError.{ParseError}
-use Rattle.souper_ir.specs.Errors.{IsRefusalAt}
+use Rattle.souper_ir.specs.Errors.{HasLocation, IsRefusalAt}
 use Rattle.souper_ir.specs.Joining.{IsLines}
 use Rattle.souper_ir.specs.Places.{EndsIn}
 use Rattle.souper_ir.specs.Sinks.{TakesOver, TakesText, PrefixSpells}
@@ -30,6 +31,13 @@ pub record ReadsLines (before after : Option (List ℕ)) (old new : List ℕ) (e
   pub read : ReadsMore before after old new ended more
   pub ends : ended ≡ false → EndsIn more 10
 
+-- at most one line was appended to the buffer: a newline is its last byte alone, and if the input has ended, it has none
+pub record AppendsLine (old new : List ℕ) (ended : Bool) : Type 0 where
+  pub line : List ℕ
+  pub held : new ≡ old ++ line
+  pub one_line : IsOneLine (take (length line - 1) line)
+  pub no_newline : ended ≡ true → IsOneLine line
+
 -- whole lines were read and appended to the buffer, and with the input's end a part of one; bytes after them are lost, if a read failed
 pub record Fills (before after : Option (List ℕ)) (old new : List ℕ) (ended failed : Bool) : Type 0 where
   pub more : List ℕ
@@ -53,7 +61,7 @@ abbrev pub NeverSpells : ItemType → Type 0 → List ℕ → Type 0
 NeverSpells k all read = ((more : List ℕ) → SpellsNone k (read ++ more)) ⊎ (all × SpellsNone k read)
 
 -- The text read of a stream is refused: whatever follows, the whole spells no items. The sink took items that it begins with. The error
--- has and shows its location in the text read.
+-- has and shows its place in the text read, and says where the text up to the end of the refused segment is at fault.
 pub record IsStreamRefused {S : Type 0} (k : ItemType) (file : Option (List ℕ)) (before after : Option (List ℕ)) (holds : S → S → List Item → Type 0) (old new : S) (e : ParseError) : Type 0 where
   pub read : List ℕ
   pub consumed : Consumes before after read
@@ -62,3 +70,4 @@ pub record IsStreamRefused {S : Type 0} (k : ItemType) (file : Option (List ℕ)
   pub begun : PrefixSpells k read taken
   pub never : NeverSpells k (AreAll before read) read
   pub placed : length read + 1 < 2 ^ 64 → (offset : ℕ) × (offset ≤ length read) × IsRefusalAt file read offset e
+  pub located : length read + 1 < 2 ^ 64 → (front : List ℕ) × (after : List ℕ) × (read ≡ front ++ after) × HasLocation front e

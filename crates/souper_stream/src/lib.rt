@@ -9,6 +9,7 @@
 
 mod buffer;
 mod cuts;
+mod faults;
 mod item;
 pub mod laws;
 mod lines;
@@ -16,6 +17,7 @@ mod read;
 mod reader;
 mod sink;
 
+pub use faults::not_utf8;
 pub use item::StreamItem;
 pub use read::{read_chunks_into, read_into};
 pub use reader::ItemReader;

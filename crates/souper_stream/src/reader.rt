@@ -1,19 +1,22 @@
 //! The reader of a stream: chunks of whole segments, and the segments of a chunk that spells no items.
 ghost use Rattle.std.specs.Prelude.{◌≡◌, ◌+◌, ◌<◌, ◌≤◌, ℕ, List, [], length, take, true, false, Option, is_some, IfOk, IfErr, IfSome, IfNone, OnOk, vec_len, option_copied, IsUtf8};
 ghost use Rattle.souper_graph.specs.Syntax.Spelling.{ItemType};
-ghost use Rattle.souper_ir.specs.Errors.{kind_of, offset_of, IsLocatedAfter};
+ghost use Rattle.souper_ir.specs.Errors.{kind_of, offset_of, HasLocationAfter, IsLocatedAfter};
 ghost use Rattle.souper_ir.specs.Sinks.{TakesText};
 ghost use Rattle.souper_stream.specs.Buffering.{held, unparsed};
-ghost use Rattle.souper_stream.specs.Segments.{Line};
-ghost use Rattle.souper_stream.specs.Reading.{Reads, ReadsMore, ReadsLines, Fills};
+ghost use Rattle.souper_stream.specs.Segments.{Line, concat, AreLines, IsFirstSegment};
+ghost use Rattle.souper_stream.specs.Reading.{Reads, ReadsMore, ReadsLines, AppendsLine, Fills};
 ghost use Rattle.souper_stream.specs.Parts.{Advances, LeavesChunk, Rejects, HasParts, HasAll, HasLine, line_of, is_segmented, IsNext, TakesPart, RefusesPart};
 
 use crate::buffer::{Buffer, newline_count};
 use crate::cuts::{last_cut, segment_len};
+use crate::faults::not_utf8;
 use crate::item::StreamItem;
 use crate::lines::{first_offset, lines_len, utf8};
 use crate::sink::ChunkSink;
-use souper_ir::parse::{Memory, ParseError, ParseErrorKind, Result, Sink, parse_with_memory};
+use souper_ir::parse::{
+    Before, Memory, ParseError, ParseErrorKind, Result, Sink, parse_with_memory,
+};
 use std::alloc::{AllocError, Global};
 use std::io;
 use std::io::{BufRead, ErrorKind};
@@ -55,9 +58,10 @@ fn fill_blocks<R: BufRead>(reader: &mut R, bytes: &mut Vec<u8>, goal: usize) -> 
 }
 
 // Reads a line, and returns whether the input has ended: it is then empty, or has no newline.
-#[tactic(auto, using(crate::proofs::Bytes::line_reads))]
+#[tactic(auto, using(crate::proofs::Bytes::line_reads, crate::proofs::Bytes::line_appended))]
 fn read_line<R: BufRead>(reader: &mut R, bytes: &mut Vec<u8>) -> io::Result<bool>
     ensures read { IfOk result (λ ended. ReadsLines (R.remaining reader.old) (R.remaining reader.new) bytes.old.items bytes.new.items ended) }
+    ensures line { IfOk result (AppendsLine bytes.old.items bytes.new.items) }
     ensures failed { IfErr result (λ e. (more : List ℕ) × Reads (R.remaining reader.old) (R.remaining reader.new) bytes.old.items bytes.new.items more) }
 {
     let len = reader.read_until(b'\n', bytes)?;
@@ -102,7 +106,7 @@ fn read_error(fault: io::Error) -> ParseError
     }
 }
 
-// Gives an error of the first `len` unparsed bytes its location in the stream.
+// Gives an error of the first `len` unparsed bytes its place and its location in the stream.
 fn place(
     alloc: Global,
     buffer: &Buffer,
@@ -112,11 +116,37 @@ fn place(
 ) -> ParseError
     requires within { buffer.now.start + buffer.now.parsed + len ≤ vec_len buffer.now.bytes }
     requires offset { IfSome (offset_of error) (λ offset. offset ≤ len) }
-    ensures { kind_of result ≡ ParseErrorKind.Parse → IsLocatedAfter (option_copied filename.entry) buffer.now.before (take (buffer.now.parsed + len) (held buffer.now)) buffer.now.parsed error result }
+    ensures located { kind_of result ≡ ParseErrorKind.Parse → IsLocatedAfter (option_copied filename.entry) buffer.now.before (take (buffer.now.parsed + len) (held buffer.now)) buffer.now.parsed error result }
+    ensures location { kind_of result ≡ ParseErrorKind.Parse → HasLocationAfter buffer.now.before (take (buffer.now.parsed + len) (held buffer.now)) result }
 {
     match utf8(buffer.held(len)) {
         Ok(source) => error.locate_after(alloc, buffer.before, source, buffer.parsed, filename),
         Err(fault) => ParseError::from(fault),
+    }
+}
+
+// The fault of the first `len` unparsed bytes, which are not UTF-8.
+fn not_text(buffer: &Buffer, len: usize) -> io::Error
+    requires { buffer.now.start + buffer.now.parsed + len ≤ vec_len buffer.now.bytes }
+{
+    let lines = newline_count(buffer.held(0));
+    let before = Before {
+        bytes: buffer.before.bytes.saturating_add(buffer.parsed),
+        lines: buffer.before.lines.saturating_add(lines),
+    };
+    not_utf8(before, &buffer.unparsed()[..len])
+}
+
+// The length of the first segment of the first `rejected` unparsed bytes.
+fn first_segment_len<T: StreamItem>(buffer: &Buffer, rejected: usize) -> io::Result<usize>
+    requires { buffer.now.start + buffer.now.parsed + rejected ≤ vec_len buffer.now.bytes }
+    ensures segment { IfOk result (λ len. (ls : List Line) → take rejected (unparsed buffer.now) ≡ concat ls → AreLines ls → IsFirstSegment T.item_type ls len) }
+    ensures within { IfOk result (λ len. len ≤ rejected) }
+    ensures some { IfOk result (λ len. 0 < rejected → 0 < len) }
+{
+    match segment_len::<T>(&buffer.unparsed()[..rejected]) {
+        Ok(len) => Ok(len),
+        Err(_) => Err(not_text(buffer, rejected)),
     }
 }
 
@@ -128,7 +158,10 @@ fn text_and_line(buffer: &Buffer, len: usize) -> io::Result<(&str, usize)>
     ensures utf8 { IfOk result (λ next. IsUtf8 next.0.now) }
     ensures line { IfOk result (λ next. HasLine buffer.now len next.1) }
 {
-    let text = utf8(&buffer.unparsed()[..len])?;
+    let text = match utf8(&buffer.unparsed()[..len]) {
+        Ok(text) => text,
+        Err(_) => return Err(not_text(buffer, len)),
+    };
     let gap = &text.as_bytes()[..first_offset(text)];
     let lines = newline_count(buffer.held(0)).saturating_add(newline_count(gap));
     Ok((
@@ -357,7 +390,7 @@ impl ItemReader {
             → RefusesPart T.item_type (option_copied filename.entry) start now ps S.holds sink.old sink.new self.new e) }
     {
         let rejected = self.rejected;
-        let len = segment_len::<T>(&self.buffer.unparsed()[..rejected])?;
+        let len = first_segment_len::<T>(&self.buffer, rejected)?;
         let (text, line) = text_and_line(&self.buffer, len)?;
         self.line = line;
         let parsed = match parse_with_memory::<T, S>(alloc, &mut self.memory, text, None, sink) {
@@ -375,8 +408,8 @@ impl ItemReader {
     /// compared with some sink, since items of a chunk may be taken back. After the call [`line`](ItemReader::line) returns the line of the
     /// part's first token.
     ///
-    /// - `Parse`: the next segment spells no items. The sink has taken items that it begins with. The error has and shows its location in
-    ///   the stream. The next call reads the next segment.
+    /// - `Parse`: the next segment spells no items. The sink has taken items that it begins with. The error has and shows its place in
+    ///   the stream, and its location is there too. The next call reads the next segment.
     /// - `Io`: a read failed, or the bytes read are not UTF-8. The segments that were whole before them came in the calls before.
     /// - `Memory`: memory ran out, or the sink returned so.
     ///

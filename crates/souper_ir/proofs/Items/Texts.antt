@@ -9,7 +9,7 @@ use Rattle.souper_ir.specs.declared.parse.error.Cause.{Cause as ErrorCause}
 use Rattle.souper_ir.specs.declared.parse.error.Cause.TheVariants.{Io as IoCause, Parse as ParseCause, Memory as MemoryCause}
 use Rattle.souper_graph.specs.Syntax.Tokens.{Lexeme, spelling, IsLastGap, Begins, IsTextOf, AreTokensOf}
 use Rattle.souper_graph.specs.Syntax.Spelling.{kinds, ItemType, list_spells, TextSpells, SpellsNone}
-use Rattle.souper_ir.specs.Errors.{OnKind, kind_of, kind_of_cause, offset_of, offset_of_cause, IsRefusalAt, IsLocated}
+use Rattle.souper_ir.specs.Errors.{OnKind, kind_of, kind_of_cause, offset_of, offset_of_cause, HasLocation, IsRefusalAt, IsLocated}
 use Rattle.souper_ir.specs.Answers.{IsStrError}
 use Rattle.souper_ir.specs.Parsing.{Cause, refused, Parsing}
 use Rattle.souper_ir.specs.Reading.{cause_of, IfRefused}
@@ -48,7 +48,7 @@ none_spelled k bs e p q o live only h cause items spelled =
 module _ (k : ItemType) (file : Option (List ℕ)) (bs : List ℕ) (e new : ParseError) (p q : Parsing)
     (live : p.failed ≡ None) (len : p.len ≡ length bs)
     (only : (ts : List (ℕ × Lexeme)) → IsTextOf bs ts → (p.tokens ≡ ts) × (p.faulty ≡ false))
-    (h : ListRefusal k e p q) where
+    (h : ListRefusal k e p q) (location : kind_of new ≡ Parse → HasLocation bs new) where
   memory_answer : kind_of new ≡ Memory → IsStrError k file bs new
   memory_answer m = rw m tt
 
@@ -56,7 +56,7 @@ module _ (k : ItemType) (file : Option (List ℕ)) (bs : List ℕ) (e new : Pars
   refusal_answer o at r =
       let cause = offset_cause e o at in
       let bound : o ≤ length bs = (let within = h.failed.within o cause in omega (arith, within, h.failed.len, len)) in
-      rw r.0 (o, r.1, bound, none_spelled k bs e p q o live only h cause, r.2)
+      rw r.0 (o, r.1, bound, none_spelled k bs e p q o live only h cause, r.2, location r.0)
 
   by_offset : (o : Option ℕ) → offset_of e ≡ o → IfSome o (λ offset. (kind_of new ≡ Memory) ⊎ IsRefusalAt file bs offset new) → kind_of e ≡ Parse → IsStrError k file bs new
   by_offset None at r kind = absurd (h.failed.caused (rw (kind, at) refl))

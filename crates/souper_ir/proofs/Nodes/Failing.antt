@@ -1,5 +1,5 @@
 -- How a parser fails.
-use Rattle.std.proofs.Common.{◌≡◌, ◌≢◌, ℕ, ◌≤◌, List, Option, Some, None, sym, ◌∙◌, ap, subst, arith}
+use Rattle.std.proofs.Common.{◌≡◌, ◌≢◌, ℕ, ◌≤◌, true, List, [], Option, Some, None, sym, ◌∙◌, ap, subst, arith}
 use Rattle.std.specs.Prelude.{IsSomeAnd, Result, Ok, Err, IfErr}
 use Rattle.souper_ir.specs.declared.parse.error.ParseError.{ParseError}
 use Rattle.souper_ir.specs.declared.parse.error.ParseErrorKind.{ParseErrorKind}
@@ -7,20 +7,21 @@ use Rattle.souper_ir.specs.declared.parse.error.ParseErrorKind.TheVariants.{Io}
 use Rattle.souper_graph.specs.Syntax.Tokens.{Lexeme}
 use Rattle.souper_graph.specs.Syntax.Spelling.{Scope}
 use Rattle.souper_ir.specs.Places.{IsDirectRefusalText}
-use Rattle.souper_ir.specs.Errors.{kind_of, offset_of, shown_error}
+use Rattle.souper_ir.specs.Errors.{kind_of, offset_of, at_end_of, shown_error}
 use Rattle.souper_ir.specs.Parsing.{Cause, refused, no_memory, Parsing}
 use Rattle.souper_ir.specs.Reading.{cause_by, cause_of, Fails, IfRefused}
 use Rattle.souper_ir.specs.Grammar.{Refusal}
 
 pub refused_fails : (e : ParseError) (p q : Parsing) (o : ℕ) → cause_of e ≡ Some (refused o) → IsSomeAnd (shown_error e) (IsDirectRefusalText o)
-    → o ≤ p.len → ((c : Cause) → p.failed ≡ Some c → c ≡ refused o) → q.failed ≡ Some (refused o) → q.len ≡ p.len → Fails e p q
-refused_fails e p q o cause shown bound before after l = record {
+    → o ≤ p.len → ((c : Cause) → p.failed ≡ Some c → c ≡ refused o) → q.failed ≡ Some (refused o) → (at_end_of e ≡ true → q.tokens ≡ []) → q.len ≡ p.len → Fails e p q
+refused_fails e p q o cause shown bound before after ended l = record {
   stays = after ∙ sym cause;
   caused = λ none. let clash : Some (refused o) ≡ None = sym cause ∙ none in absurd cc;
   again = λ c x not_memory. cause ∙ ap Some (sym (before c x));
   within = λ n x. let same : ◌≡◌ {A = Option Cause} (Some (refused o)) (Some (refused n)) = sym cause ∙ x in let e2 : o ≡ n = cc in omega arith;
   shown = λ n x. let same : ◌≡◌ {A = Option Cause} (Some (refused o)) (Some (refused n)) = sym cause ∙ x in let e2 : o ≡ n = cc in
       subst (λ (i : ℕ). IsSomeAnd (shown_error e) (IsDirectRefusalText i)) e2 shown;
+  ended = ended;
   len = l;
 }
 
@@ -38,6 +39,7 @@ fails_first e p q r live l h = record {
   again = λ c x. let clash : ◌≡◌ {A = Option Cause} None (Some c) = sym live ∙ x in absurd cc;
   within = h.within;
   shown = h.shown;
+  ended = h.ended;
   len = h.len ∙ l;
 }
 

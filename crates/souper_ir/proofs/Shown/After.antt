@@ -1,8 +1,10 @@
--- The place of an offset in a text that comes after other lines.
-use Rattle.std.proofs.Common.{◌≡◌, ◌⊎◌, inl, inr, ℕ, ◌+◌, ◌-◌, ◌^◌, ◌<◌, cond, List, [], ◌∷◌, ◌++◌, length, sym, ap, ◌∙◌, subst, arith, append_assoc, append-nil, length-append}
-use Rattle.std.specs.Prelude.{◌==◌}
+-- Places and locations in a text that comes after other lines.
+use Rattle.std.proofs.Common.{◌≡◌, refl, ◌⊎◌, inl, inr, ℕ, ◌+◌, ◌-◌, ◌^◌, ◌<◌, cond, List, [], ◌∷◌, ◌++◌, length, sym, ap, ◌∙◌, subst, arith, append_assoc, append-nil, length-append}
+use Rattle.std.specs.Prelude.{◌==◌, Bool, true, false, ◌≤◌}
+use Rattle.std.specs.Char.{is_ascii_whitespace}
+use Rattle.std.proofs.lemmas.List.{get_or-append_right}
 use Rattle.std.proofs.lemmas.List.Sums.{sum_by-append, count_by-le-length}
-use Rattle.souper_ir.specs.Places.{EndsIn, newlines, IsPlace}
+use Rattle.souper_ir.specs.Places.{EndsIn, newlines, IsFault, IsLineFrom, IsPlace}
 use Rattle.souper_ir.specs.Joining.{IsLines}
 
 newlines-append : (xs ys : List ℕ) → newlines (xs ++ ys) ≡ newlines xs + newlines ys
@@ -49,3 +51,42 @@ line_fits before source o line column text h fits =
     let lines = count_by-le-length (λ b. b == 10) before in
     let line_is = h.line_is in
     omega arith
+
+-- ---- locations
+
+-- a line that begins there has a number that is no larger
+pub number_fits : {source rest : List ℕ} {offset number start : ℕ} → IsLineFrom source offset number start rest → (0 < number) × (number ≤ start + 1)
+number_fits h =
+    let few = count_by-le-length (λ b. b == 10) h.front in
+    let long = h.long in
+    let counted = h.counted in
+    (omega arith, omega arith)
+
+-- the place of the byte at the offset, found from the line of the byte before it
+pub place_next : {source rest text : List ℕ} {offset number start line column : ℕ} → IsLineFrom source offset number start rest → IsPlace rest (offset + 1 - start) line column text
+    → IsPlace source (offset + 1) (line + (number - 1)) column text
+place_next {source} {rest} {text} {offset} {number} {start} {line} {column} f h =
+    let below = f.below in
+    let long = f.long in
+    let counted = f.counted in
+    let placed = place_after f.front rest (offset + 1 - start) line column text f.begins (inl (omega arith)) h in
+    let to : length f.front + (offset + 1 - start) ≡ offset + 1 = omega arith in
+    let lines : line + newlines f.front ≡ line + (number - 1) = omega arith in
+    subst (λ (s : List ℕ). IsPlace s (offset + 1) (line + (number - 1)) column text) (sym f.parts)
+    (subst (λ (n : ℕ). IsPlace (f.front ++ rest) (offset + 1) n column text) lines
+    (subst (λ (n : ℕ). IsPlace (f.front ++ rest) n (line + newlines f.front) column text) to placed))
+
+-- where a source is at fault, it is after other lines too
+pub fault_after : (before source : List ℕ) (offset : ℕ) (at_end : Bool) (at : ℕ) → IsFault source offset at_end at → IsFault (before ++ source) (length before + offset) at_end (length before + at)
+fault_after before source offset false at h = ap (λ (n : ℕ). length before + n) h
+fault_after before source offset true at h =
+    let long = length-append before source in
+    let within = h.0 in (
+      omega arith,
+      λ i from below. subst (λ (c : ℕ). is_ascii_whitespace c ≡ true) (sym (get_or-append_right before source (length before) i 0 refl (omega arith))) (h.1 (i - length before) (omega arith) (omega arith)),
+    )
+
+-- the offset of a location is within its source
+pub fault_within : (source : List ℕ) (offset : ℕ) (at_end : Bool) (at : ℕ) → IsFault source offset at_end at → offset ≤ length source → at ≤ length source
+fault_within source offset false at h within = omega (arith, h, within)
+fault_within source offset true at h within = h.0

@@ -10,7 +10,7 @@ use Rattle.std.proofs.lemmas.Bool.{ne_eqb}
 use Rattle.std.proofs.lemmas.Grind.{put_four}
 use Rattle.std.proofs.lemmas.List.Sums.{sum_by-append}
 use Rattle.std.proofs.lemmas.Str.Pattern.{strip_suffix_char}
-use Rattle.souper_ir.specs.Places.{EndsIn, newlines, IsWithoutReturn, IsPlace, right_aligned, shown_refusal, direct_text}
+use Rattle.souper_ir.specs.Places.{EndsIn, newlines, IsWithoutReturn, IsLineFrom, IsPlace, right_aligned, shown_refusal, direct_text}
 
 pub newlines-append : (xs ys : List ℕ) → newlines (xs ++ ys) ≡ newlines xs + newlines ys
 newlines-append xs ys = sum_by-append (λ b. cond (eqb b 10) 1 0) xs ys
@@ -61,6 +61,9 @@ reached_more {source} {rest} {body} {after} {number} {start} {position} r line p
       below = omega arith;
     }
 
+pub line_from : {source rest : List ℕ} {offset number start : ℕ} → IsReached source rest number start (offset - 1) → IsLineFrom source offset number start rest
+line_from r = record { front = r.front; parts = r.parts; long = r.long; begins = r.begins; counted = r.counted; below = r.below }
+
 pub place_within : {source rest body after text : List ℕ} {offset number start : ℕ} → IsReached source rest number start (offset - 1)
     → BeginsWithLine rest body after → offset - 1 ≤ start + length body → IsWithoutReturn body text
     → IsPlace source offset number (offset - 1 - start + 1) text
@@ -79,7 +82,7 @@ place_within {source} {rest} {body} {after} {text} {offset} {number} {start} r l
 }
 
 pub place_last : {source rest : List ℕ} {offset number start : ℕ} → IsReached source rest number start (offset - 1)
-    → ((i : ℕ) → i < length rest → get_or rest i 0 ≢ 10) → offset ≤ length source
+    → ((i : ℕ) → i < length rest → get_or rest i 0 ≢ 10) → offset ≤ length source + 1
     → IsPlace source offset number (offset - 1 - start + 1) rest
 place_last {source} {rest} {offset} {number} {start} r none within = record {
   front = r.front;

@@ -1,10 +1,11 @@
 //! The error of a parse.
-ghost use Rattle.std.specs.Prelude.{◌≡◌, ◌≢◌, ◌≤◌, ◌+◌, ◌⊎◌, ◌↔◌, length, string_bytes, option_copied, IfOk, IfErr, IfSome, IsSome, Some};
-ghost use Rattle.std.specs.Fmt.{DisplaysOnOk, DisplaysStyledOnOk};
+ghost use Rattle.std.specs.Prelude.{◌≡◌, ◌≢◌, ◌≤◌, ◌+◌, ◌⊎◌, ◌↔◌, length, string_bytes, option_copied, option_map, IfOk, IfErr, IfSome, IsSome, Some};
+ghost use Rattle.std.specs.Fmt.{DisplaysOnOk, DisplaysStyledOnOk, WritesOnOk};
+ghost use Rattle.souper_ir.specs.declared.parse.place.Places.{Places};
 ghost use Rattle.souper_ir.specs.Places.{direct_text};
-ghost use Rattle.souper_ir.specs.Errors.{error_of, widened, kind_of, offset_of, place_of, line_of, column_of, message_of, fault_of, shown_error, shown_refusal_of, IsLocated, IsPlacedAfter, IsLocatedAfter, IsRefusalAt, ShowsFault};
+ghost use Rattle.souper_ir.specs.Errors.{error_of, widened, kind_of, offset_of, at_end_of, place_of, line_of, column_of, location_of, message_of, fault_of, shown_error, shown_refusal_of, located_error, located_refusal_of, IsLocated, IsPlacedAfter, IsLocatedAfter, IsRefusalAt, HasLocation, HasLocationAfter, ShowsFault};
 
-use crate::parse::place::Place;
+use crate::parse::place::{Location, Place, Places};
 use crate::parse::unstyled::write_unstyled;
 use arrayvec::ArrayString;
 use std::alloc::{AllocError, AllocFailed, Global};
@@ -43,12 +44,14 @@ enum Cause {
     Memory,
 }
 
-// A refusal of a text. It has no place until its source is known.
+// A refusal of a text. It has no place and no location until its source is known.
 #[derive(Drop)]
 pub(crate) struct Refusal {
     offset: usize,
+    // Whether the text ended where more is wanted.
+    at_end: bool,
     message: String,
-    place: Option<Place>,
+    places: Option<Places>,
 }
 
 /// Why a reader failed: a `ParseError` that is no I/O error, small enough for registers.
@@ -63,16 +66,19 @@ impl ReadError {
     pub(crate) fn refused(
         alloc: Global,
         offset: usize,
+        at_end: bool,
         message: String,
     ) -> Result<ReadError, AllocError>
         ensures kind { IfOk result (λ error. kind_of (error_of error) ≡ ParseErrorKind.Parse) }
         ensures offset { IfOk result (λ error. offset_of (error_of error) ≡ Some offset) }
+        ensures at_end { IfOk result (λ error. at_end_of (error_of error) ≡ at_end) }
         ensures shown { IfOk result (λ error. shown_error (error_of error) ≡ Some (direct_text offset (string_bytes message))) }
     {
         let refusal = Refusal {
             offset,
+            at_end,
             message,
-            place: None,
+            places: None,
         };
         Ok(ReadError::Refused(Box::new(alloc, refusal)?))
     }
@@ -125,10 +131,11 @@ impl ParseError {
         }
     }
 
-    /// Gives a refusal its place in the source.
+    /// Gives a refusal its place and its location in the source.
     pub(crate) fn locate(self, alloc: Global, source: &str, file: Option<&str>) -> ParseError
         requires { IfSome (offset_of self) (λ offset. offset ≤ length source.now) }
-        ensures { IsLocated (option_copied file.entry) source.now self result }
+        ensures located { IsLocated (option_copied file.entry) source.now self result }
+        ensures location { kind_of result ≡ ParseErrorKind.Parse → HasLocation source.now result }
     {
         match self.cause {
             Cause::Parse(refusal) => locate(refusal, alloc, source, file),
@@ -136,11 +143,12 @@ impl ParseError {
         }
     }
 
-    /// Gives a refusal of a part of a text its place in the whole text.
+    /// Gives a refusal of a part of a text its place and its location in the whole text.
     ///
-    /// The part begins at the byte `skipped` of `source`, and `before` says what comes before `source`. A refusal is then at
-    /// that place of the whole text, and shows it, unless memory runs out for that. Other errors stay as they are. The place of
-    /// an offset is the place of the byte before it: if anything comes before `source`, the offset in `source` must not be 0.
+    /// The part begins at the byte `skipped` of `source` and ends where `source` does, and `before` says what comes before
+    /// `source`. A refusal is then at that place of the whole text, and shows it, unless memory runs out for that. Other errors stay
+    /// as they are. The place of an offset is the place of the byte before it: if anything comes before `source`, the offset in
+    /// `source` must not be 0.
     pub fn locate_after(
         self,
         alloc: Global,
@@ -151,6 +159,7 @@ impl ParseError {
     ) -> ParseError
         requires { IfSome (offset_of self) (λ offset. skipped + offset ≤ length source.now) }
         ensures located { IsLocatedAfter (option_copied file.entry) before source.now skipped self result }
+        ensures location { kind_of result ≡ ParseErrorKind.Parse → HasLocationAfter before source.now result }
         ensures message { kind_of result ≡ ParseErrorKind.Parse → message_of result ≡ message_of self }
     {
         match self.cause {
@@ -212,11 +221,39 @@ impl ParseError {
         }
     }
 
+    /// Where the text is at fault, which is not where the error shows it to be (see [`ParseError::offset`]): `Some` if and only if
+    /// the source is known, as for the refusals of the `_str` and `_file` calls.
+    pub fn location(&self) -> Option<&Location>
+        ensures { option_copied result ≡ location_of self.now }
+    {
+        match &self.cause {
+            Cause::Parse(refusal) => refusal.location(),
+            _ => None,
+        }
+    }
+
+    /// Shows the error with the line and the column of its location, in the form of the error's own text.
+    pub fn with_location(&self) -> WithLocation<'_>
+        ensures { result.error.now ≡ self.now }
+    {
+        WithLocation { error: self }
+    }
+
+    /// Whether the text ended where more is wanted, so that a longer text might not be refused.
+    pub fn is_at_end(&self) -> bool
+        ensures { result ≡ at_end_of self.now }
+    {
+        match &self.cause {
+            Cause::Parse(refusal) => refusal.at_end,
+            _ => false,
+        }
+    }
+
     fn place(&self) -> Option<&Place>
         ensures { option_copied result ≡ place_of self.now }
     {
         match &self.cause {
-            Cause::Parse(refusal) => refusal.place.as_ref(),
+            Cause::Parse(refusal) => refusal.place(),
             _ => None,
         }
     }
@@ -234,14 +271,15 @@ impl ParseError {
     }
 }
 
-// Gives a refusal its place in the source.
+// Gives a refusal its place and its location in the source.
 fn locate(mut refusal: Box<Refusal>, alloc: Global, source: &str, file: Option<&str>) -> ParseError
     requires { refusal.value.offset ≤ length source.now }
-    ensures { (kind_of result ≡ ParseErrorKind.Memory) ⊎ IsRefusalAt (option_copied file.entry) source.now refusal.value.offset result }
+    ensures placed { (kind_of result ≡ ParseErrorKind.Memory) ⊎ IsRefusalAt (option_copied file.entry) source.now refusal.value.offset result }
+    ensures location { kind_of result ≡ ParseErrorKind.Parse → HasLocation source.now result }
 {
-    match Place::new(alloc, source, refusal.offset, file) {
-        Ok(place) => {
-            refusal.place = Some(place);
+    match Places::new(alloc, source, refusal.offset, refusal.at_end, file) {
+        Ok(places) => {
+            refusal.places = Some(places);
             ParseError {
                 cause: Cause::Parse(refusal),
             }
@@ -250,7 +288,7 @@ fn locate(mut refusal: Box<Refusal>, alloc: Global, source: &str, file: Option<&
     }
 }
 
-// Gives a refusal of a part of a text its place in the whole text.
+// Gives a refusal of a part of a text its place and its location in the whole text.
 fn locate_after(
     mut refusal: Box<Refusal>,
     alloc: Global,
@@ -261,13 +299,16 @@ fn locate_after(
 ) -> ParseError
     requires { skipped + refusal.value.offset ≤ length source.now }
     ensures placed { IsPlacedAfter (option_copied file.entry) before source.now (skipped + refusal.value.offset) result }
+    ensures location { kind_of result ≡ ParseErrorKind.Parse → HasLocationAfter before source.now result }
     ensures message { kind_of result ≡ ParseErrorKind.Parse → message_of result ≡ Some (string_bytes refusal.value.message) }
 {
     let offset = skipped + refusal.offset;
-    match Place::new(alloc, source, offset, file) {
-        Ok(mut place) => {
-            place.line = place.line.saturating_add(before.lines);
-            refusal.place = Some(place);
+    match Places::new(alloc, source, offset, refusal.at_end, file) {
+        Ok(mut places) => {
+            places.place.line = places.place.line.saturating_add(before.lines);
+            places.location.line = places.location.line.saturating_add(before.lines);
+            places.location.offset = places.location.offset.saturating_add(before.bytes);
+            refusal.places = Some(places);
             refusal.offset = offset.saturating_add(before.bytes);
             ParseError {
                 cause: Cause::Parse(refusal),
@@ -282,8 +323,8 @@ impl fmt::Display for Refusal {
 
     fn fmt<W: fmt::Write>(&self, f: &mut fmt::Formatter<W>) -> fmt::Result {
         let message = self.message.as_str();
-        match &self.place {
-            Some(place) => place.show(f, message),
+        match &self.places {
+            Some(places) => places.place.show(f, message),
             None => {
                 let offset = self.offset;
                 write!(
@@ -291,6 +332,57 @@ impl fmt::Display for Refusal {
                     "unknown:1:1: {message}\n     |\n   1 | byte offset {offset}\n     | ^"
                 )
             }
+        }
+    }
+}
+
+impl Refusal {
+    fn place(&self) -> Option<&Place>
+        ensures { option_copied result ≡ option_map (λ (places : Places). places.place) self.now.places }
+    {
+        match &self.places {
+            Some(places) => Some(&places.place),
+            None => None,
+        }
+    }
+
+    fn location(&self) -> Option<&Location>
+        ensures { option_copied result ≡ option_map (λ (places : Places). places.location) self.now.places }
+    {
+        match &self.places {
+            Some(places) => Some(&places.location),
+            None => None,
+        }
+    }
+
+    // Shows the refusal at its location, if it has one.
+    fn show_location<W: fmt::Write>(&self, f: &mut fmt::Formatter<W>) -> fmt::Result
+        ensures { WritesOnOk W.write_str_gives f.old result (located_refusal_of self.now) f.new }
+    {
+        match &self.places {
+            Some(places) => {
+                places
+                    .place
+                    .show_location(&places.location, f, self.message.as_str())
+            }
+            None => fmt::Display::fmt(self, f),
+        }
+    }
+}
+
+/// An error that is shown with its location ([`ParseError::with_location`]).
+#[derive(Clone, Copy)]
+pub struct WithLocation<'a> {
+    error: &'a ParseError,
+}
+
+impl fmt::Display for WithLocation<'_> {
+    ghost output = { λ shown. located_error shown.error.now };
+
+    fn fmt<W: fmt::Write>(&self, f: &mut fmt::Formatter<W>) -> fmt::Result {
+        match &self.error.cause {
+            Cause::Parse(refusal) => refusal.show_location(f),
+            _ => fmt::Display::fmt(self.error, f),
         }
     }
 }
@@ -386,7 +478,7 @@ mod tests {
         let alloc = rt.alloc();
         let source = "hello, how are you?\n> I am good, thanks\nthats good\n";
         let message = String::from_str(alloc, "missing apostrophe")?;
-        let refusal = ReadError::refused(alloc, 45, message)?;
+        let refusal = ReadError::refused(alloc, 45, false, message)?;
         let error = ParseError::from(refusal).locate(alloc, source, Some("path/to/foo.txt"));
         let shown = error.to_string(alloc)?;
         let wanted =

@@ -12,9 +12,9 @@ ghost use Rattle.souper_ir.specs.NamesView.{is_named, entry_in_scope};
 ghost use Rattle.souper_ir.specs.Grammar.{Comes, peek_at};
 ghost use Rattle.souper_ir.specs.MarkView.{lexeme_of_mark};
 ghost use Rattle.souper_ir.specs.Parsing.{Cause, refused};
-ghost use Rattle.souper_ir.specs.Errors.{error_of, widened, shown_error};
+ghost use Rattle.souper_ir.specs.Errors.{error_of, widened, shown_error, at_end_of};
 ghost use Rattle.souper_ir.specs.Places.{IsDirectRefusalText};
-ghost use Rattle.souper_ir.specs.Reading.{Fails, FailsForMemory, Gives, IsRead, cause_of, look_at, take_at};
+ghost use Rattle.souper_ir.specs.Reading.{Fails, FailsForMemory, Gives, IfRefused, IsRead, cause_of, look_at, take_at};
 
 use crate::parse::error::{ParseError, ReadError};
 use crate::parse::memory::Memory;
@@ -24,7 +24,7 @@ use crate::parse::recent::Recent;
 use crate::parse::spare::Spare;
 use crate::parse::tokens::{Mark, byte_of};
 use souper_graph::ast::{Arena, Assignment, AssignmentRhs, BlockId, Id, Statement, ValueId};
-use souper_lexer::{Lexer, Token};
+use souper_lexer::{Fault, FaultKind, Lexer, Token};
 use std::alloc::{AllocError, Global};
 use std::marker::Model;
 use std::{fmt, mem};
@@ -136,23 +136,26 @@ impl<'a> Parser<'a> {
     fn refusal(
         &self,
         offset: usize,
+        at_end: bool,
         message: Message<'_>,
     ) -> std::result::Result<ReadError, AllocError>
-        ensures { IfOk result (λ error. (cause_of (error_of error) ≡ Some (refused offset)) × IsSomeAnd (shown_error (error_of error)) (IsDirectRefusalText offset)) }
+        ensures { IfOk result (λ error. (cause_of (error_of error) ≡ Some (refused offset)) × IsSomeAnd (shown_error (error_of error)) (IsDirectRefusalText offset) × (at_end_of (error_of error) ≡ at_end)) }
     {
         let text = message.to_string(self.alloc)?;
-        ReadError::refused(self.alloc, offset, text)
+        ReadError::refused(self.alloc, offset, at_end, text)
     }
 
     // Fails at the offset, and from now on. If there is no memory for the refusal, it fails with out of memory.
     #[cold]
     #[inline(never)]
-    fn fail_at(&mut self, offset: usize, message: Message<'_>) -> ReadError
+    fn fail_at(&mut self, offset: usize, at_end: bool, message: Message<'_>) -> ReadError
         requires within { offset ≤ self.old.len }
         requires again { (c : Cause) → self.old.failed ≡ Some c → c ≡ refused offset }
-        ensures { Fails (error_of result) self.old self.new }
+        requires at_end { at_end ≡ true → self.old.tokens ≡ [] }
+        ensures fails { Fails (error_of result) self.old self.new }
+        ensures at_end { IfRefused (cause_of (error_of result)) (at_end_of (error_of result) ≡ at_end) }
     {
-        match self.refusal(offset, message) {
+        match self.refusal(offset, at_end, message) {
             Ok(error) => {
                 self.failed = Some(Failure::Refused(offset));
                 error
@@ -169,7 +172,7 @@ impl<'a> Parser<'a> {
         ensures { Fails (error_of result) self.old self.new }
     {
         match self.failed {
-            Some(Failure::Refused(offset)) => self.fail_at(offset, Message::AlreadyFailed),
+            Some(Failure::Refused(offset)) => self.fail_at(offset, false, Message::AlreadyFailed),
             _ => ReadError::Memory,
         }
     }
@@ -181,9 +184,34 @@ impl<'a> Parser<'a> {
         ensures { Fails (error_of result) self.old self.new }
     {
         match self.failed {
-            None => self.fail_at(self.offset, message),
+            None => self.fail_at(self.offset, false, message),
             Some(_) => self.fail_again(),
         }
+    }
+
+    /// Refuses the end of the text, where the token last lexed begins.
+    #[cold]
+    #[inline(never)]
+    pub(crate) fn refuse_end(&mut self, message: Message<'_>) -> ReadError
+        requires live { self.old.failed ≡ None }
+        requires ended { self.old.tokens ≡ [] }
+        ensures fails { Fails (error_of result) self.old self.new }
+        ensures at_end { IfRefused (cause_of (error_of result)) (at_end_of (error_of result) ≡ true) }
+    {
+        self.fail_at(self.offset, true, message)
+    }
+
+    // Refuses what is no token.
+    #[cold]
+    #[inline(never)]
+    fn refuse_fault(&mut self, fault: Fault) -> ReadError
+        requires within { fault.offset ≤ self.old.len }
+        requires live { self.old.failed ≡ None }
+        requires none { self.old.tokens ≡ [] }
+        ensures { Fails (error_of result) self.old self.new }
+    {
+        let at_end = matches!(fault.kind, FaultKind::UnexpectedEnd);
+        self.fail_at(fault.offset, at_end, Message::Lexical(fault.kind))
     }
 
     /// Fails with out of memory.
@@ -207,7 +235,7 @@ impl<'a> Parser<'a> {
         }
         if self.ahead.is_none() {
             if let Err(fault) = self.lexer.lex(&mut self.ahead, &mut self.offset) {
-                return Err(self.fail_at(fault.offset, Message::Lexical(fault.kind)));
+                return Err(self.refuse_fault(fault));
             }
         }
         match self.ahead {
@@ -220,14 +248,15 @@ impl<'a> Parser<'a> {
     #[inline(always)]
     #[tactic(auto, unfolding(crate::specs::Reading::take_at))]
     pub(crate) fn token(&mut self) -> Read<Token<'a>>
-        ensures { Gives lexeme_of (widened result) (take_at self.old) self.old self.new }
+        ensures taken { Gives lexeme_of (widened result) (take_at self.old) self.old self.new }
+        ensures ended { self.old.tokens ≡ [] → self.old.faulty ≡ false → self.old.failed ≡ None → IfErr result (λ e. IfRefused (cause_of (error_of e)) (at_end_of (error_of e) ≡ true)) }
     {
         if self.failed.is_some() {
             return Err(self.fail_again());
         }
         if self.ahead.is_none() {
             if let Err(fault) = self.lexer.lex(&mut self.ahead, &mut self.offset) {
-                return Err(self.fail_at(fault.offset, Message::Lexical(fault.kind)));
+                return Err(self.refuse_fault(fault));
             }
         }
         match self.ahead {
@@ -237,7 +266,7 @@ impl<'a> Parser<'a> {
             }
             None => {
                 let last = self.lexer.len().saturating_sub(1);
-                Err(self.fail_at(last, Message::UnexpectedEnd))
+                Err(self.fail_at(last, true, Message::UnexpectedEnd))
             }
         }
     }
@@ -475,7 +504,7 @@ impl<'a> Parser<'a> {
                     // The names lack the earlier definition now, so the cause is set first.
                     let offset = self.offset;
                     self.failed = Some(Failure::Refused(offset));
-                    return Err(self.fail_at(offset, Message::CannotRedefine(name)));
+                    return Err(self.fail_at(offset, false, Message::CannotRedefine(name)));
                 }
                 Ok(())
             }

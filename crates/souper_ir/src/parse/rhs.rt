@@ -112,7 +112,7 @@ pub(crate) fn instruction(parser: &mut Parser<'_>) -> Read<Instruction>
     instruction_of(parser, opcode)
 }
 
-// The word of a right side. The end of the text is refused where the last token begins.
+// The word of a right side. The offset of a refusal of the text's end is where the last token begins.
 #[tactic(auto, unfolding(crate::specs::NodeReadings::rhs_word_at, crate::specs::NodeReadings::accept))]
 fn rhs_word(parser: &mut Parser<'_>) -> Read<RhsWord>
     ensures { Gives (λ w. w) (widened result) (rhs_word_at parser.old) parser.old parser.new }
@@ -121,7 +121,7 @@ fn rhs_word(parser: &mut Parser<'_>) -> Read<RhsWord>
         Some(word) => word,
         None => {
             if !token_comes(parser)? {
-                return Err(parser.refuse(Message::ExpectedRhs));
+                return Err(parser.refuse_end(Message::ExpectedRhs));
             }
             match parser.token()? {
                 Token::Ident(word) => word,

@@ -68,6 +68,11 @@ fn first_line_that_differs_is_told(rt: HostRuntime) {
 
 #[test]
 fn refused_texts_are_told(rt: HostRuntime) {
-    is_lhs_told(&rt, rt.alloc(), b"%x = var\ninfer %y\n", (1, "a.opt:2:6: "));
-    is_lhs_told(&rt, rt.alloc(), b"\xff", (2, "souper_items: a.opt: "));
+    is_lhs_told(&rt, rt.alloc(), b"%x = var\ninfer %y\n", (1, "a.opt:2:7: "));
+    is_lhs_told(
+        &rt,
+        rt.alloc(),
+        b"\xff",
+        (2, "a.opt:1: not UTF-8 at byte 0\n"),
+    );
 }

@@ -41,7 +41,7 @@ impl Write for Pipe {
 const SOURCE: &[u8] = b"%x = var\ninfer %x\ninfer %y\n%z = var\ninfer %z\n";
 
 const REFUSAL: &str =
-    "a.opt:3:6: no value named '%y' in scope\n     |\n   3 | infer %y\n     |      ^\n";
+    "a.opt:3:7: no value named '%y' in scope\n     |\n   3 | infer %y\n     |       ^\n";
 
 type Reader<'a> = BufReader<&'a [u8]>;
 

@@ -1,5 +1,5 @@
 //! Reads and writes that fail.
-use crate::checks::equal;
+use crate::checks::{equal, text};
 use crate::faulty::{BrokenReader, FaultyReader, FaultyWriter};
 use crate::records::support::{Command, did, headed, run_over, run_to};
 use souper_format::watched::Watched;
@@ -132,8 +132,8 @@ fn bytes_that_are_no_text_are_reported(rt: HostRuntime) {
         Command::Each(PLAIN),
         &mut reader,
     );
-    let found = (run.status, headed(&run.err, READ_ERROR));
-    equal(&rt, found, (2, READ_ERROR));
+    let found = (run.status, text(&run.err));
+    equal(&rt, found, (2, "a.opt:3: not UTF-8 at byte 18\n"));
 }
 
 // A run in which one read is interrupted.

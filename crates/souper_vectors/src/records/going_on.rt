@@ -49,26 +49,26 @@ infer %f
 
 ";
 
-const REPORTED: &str = "a.opt:5:9: expected a constant, var, block, phi, or instruction
+const REPORTED: &str = "a.opt:5:10: expected a constant, var, block, phi, or instruction
      |
    5 | %2:i32 = foo %1
-     |         ^
-a.opt:10:16: unexpected '$'
+     |          ^
+a.opt:10:17: unexpected '$'
      |
   10 | %b:i8 = add %a, $
-     |                ^
-a.opt:14:9: unexpected '$'
+     |                 ^
+a.opt:14:10: unexpected '$'
      |
   14 | infer %c $
-     |         ^
-a.opt:17:6: no value named '%d' in scope
+     |          ^
+a.opt:17:7: no value named '%d' in scope
      |
   17 | infer %d
-     |      ^
-a.opt:19:5: unexpected EOF
+     |       ^
+a.opt:19:6: unexpected EOF
      |
   19 | infer
-     |     ^
+     |      ^
 ";
 
 #[test]
@@ -82,7 +82,7 @@ fn items_before_a_refused_one_of_the_line_are_written(rt: HostRuntime) {
     let source = "result 1 result 2 result result\nresult 3\nresult 4";
     let want = "result 1\nresult 2\nresult 3\nresult 4\n";
     let report =
-        "a.opt:1:25: expected an integer literal\n     |\n   1 | result 1 result 2 result result\n     |                         ^\n";
+        "a.opt:1:26: expected an integer literal\n     |\n   1 | result 1 result 2 result result\n     |                          ^\n";
     each_text::<RightHandSide>(&rt, rt.alloc(), source, (1, want, report));
 }
 
@@ -115,22 +115,22 @@ infer %e
 
 ";
 
-const REPORTED_OF_SHARED: &str = "a.opt:1:18: unexpected '$'
+const REPORTED_OF_SHARED: &str = "a.opt:1:19: unexpected '$'
      |
    1 | %x = var infer %x $
-     |                  ^
-a.opt:3:14: expected a constant, var, block, phi, or instruction
+     |                   ^
+a.opt:3:15: expected a constant, var, block, phi, or instruction
      |
    3 | infer %y %z = foo infer %z
-     |              ^
-a.opt:6:8: unexpected '$'
+     |               ^
+a.opt:6:9: unexpected '$'
      |
    6 | %a %b = $
-     |        ^
-a.opt:10:5: unexpected '$'
+     |         ^
+a.opt:10:6: unexpected '$'
      |
   10 | %d = $
-     |     ^
+     |      ^
 ";
 
 // Behind a line with several items, or with the end of one, the item of the next line is read.
@@ -187,7 +187,7 @@ fn keeps_the_others(rt: &impl Abort, alloc: Global, bad: usize) {
     let run = run_over::<LeftHandSide, BufReader<&[u8]>>(alloc, Command::EachGoingOn, &mut reader);
     let line = bad.saturating_mul(3).saturating_add(1);
     let report = format!(in alloc;
-        "a.opt:{line}:6: no value named '%a' in scope\n     |\n{line:>4} | infer %a\n     |      ^\n"
+        "a.opt:{line}:7: no value named '%a' in scope\n     |\n{line:>4} | infer %a\n     |       ^\n"
     ).expect(rt, "memory");
     let found = (run.status, run.out.len(), text(&run.err));
     equal(rt, (bad, found), (bad, (1, 4 * 19, report.as_str())));
@@ -214,7 +214,7 @@ fn first_items_are_written_around_a_refused_one(rt: HostRuntime) {
     did(
         &rt,
         run,
-        (1, want, "a.opt:3:6: no value named '%b' in scope\n"),
+        (1, want, "a.opt:3:7: no value named '%b' in scope\n"),
     );
 }
 
@@ -233,8 +233,8 @@ fn fault_is_reported_after_the_refusals(rt: HostRuntime) {
     let found = (
         run.status,
         text(&run.out),
-        lines.starts_with("a.opt:3:6: no value named '%b' in scope\n"),
-        lines.contains("\nsouper_items: a.opt: "),
+        lines.starts_with("a.opt:3:7: no value named '%b' in scope\n"),
+        lines.ends_with("\na.opt:6: not UTF-8 at byte 45\n"),
     );
     equal(&rt, found, (2, "%a = var\ninfer %a\n\n", true, true));
 }

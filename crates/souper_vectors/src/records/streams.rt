@@ -67,8 +67,8 @@ fn writes_before(rt: &impl Abort, alloc: Global, count: usize, place: &str) {
 
 #[test]
 fn items_before_a_refusal_are_written(rt: HostRuntime) {
-    writes_before(&rt, rt.alloc(), 0, "a.opt:1:5: ");
-    writes_before(&rt, rt.alloc(), 1, "a.opt:4:5: ");
-    writes_before(&rt, rt.alloc(), 2, "a.opt:7:5: ");
-    writes_before(&rt, rt.alloc(), 5000, "a.opt:15001:5: ");
+    writes_before(&rt, rt.alloc(), 0, "a.opt:1:6: ");
+    writes_before(&rt, rt.alloc(), 1, "a.opt:4:6: ");
+    writes_before(&rt, rt.alloc(), 2, "a.opt:7:6: ");
+    writes_before(&rt, rt.alloc(), 5000, "a.opt:15001:6: ");
 }

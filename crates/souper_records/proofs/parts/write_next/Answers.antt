@@ -50,7 +50,7 @@ returns-in_ok-write_part-in-Err-clause-part g c = λ start ps had.
       had = t.goes_on;
       is = record {
         on_line = subst (λ (n : ℕ). IsOnLine (concat (all_lines ps)) (concat t.part) n) (sym c.line-line-in-Err.ensures) t.on_line;
-        is = record { kind = kind; segment = t.segment; none = t.none; begun = t.begun; now = now; read = t.read; consumed = t.consumed; placed = t.placed };
+        is = record { kind = kind; segment = t.segment; none = t.none; begun = t.begun; now = now; read = t.read; consumed = t.consumed; placed = t.placed; located = t.located };
       };
       uncut = λ e. t.segment;
       any = refl;

@@ -27,9 +27,9 @@ returns-in-Err-clause-gaps g c = λ h.
 pub returns-in-Err-clause-refused : goal.returns-in-Err-clause-refused
 returns-in-Err-clause-refused g c =
     located_answer g.T.Item.item_type (option_copied c.args.filename) c.args.source.now c.in-Err.error c.locate.result c.args.parser.now c.items.new.parser
-    c.requires.live c.requires.len c.requires.only c.in-Err.ensures.err c.locate.ensures
+    c.requires.live c.requires.len c.requires.only c.in-Err.ensures.err c.locate.ensures.location c.locate.ensures.located
 
 pub returns-in-Err-clause-before : goal.returns-in-Err-clause-before
 returns-in-Err-clause-before g c =
     taken_before g.S.Sink.holds g.T.Item.item_type (option_copied c.args.filename) c.args.source.now c.in-Err.error c.locate.result c.args.parser.now c.args.sink.now c.items.new.sink
-    c.requires.tokens c.locate.ensures c.in-Err.ensures.first
+    c.requires.tokens c.locate.ensures.located c.in-Err.ensures.first

@@ -19,7 +19,7 @@ returns-then-is_some c =
     let are = c.self.invariant.names (live_inside c.self.inside.failed (subst (λ (p : Parsing). p.failed ≡ None) (sym c.self.view_is) c.requires)) in
     let old = is_old c.self.inside.names (map view_statement c.self.inside.statements) c.args.name.now c.in-Ok.replaced are.entered (sym c.in-Ok.ensures.replaced) (sym (c.if-is_some.ensures ∙ ap (λ (o : Option NameEntry). is_some o) c.in_scope.ensures)) in (
       refused_for (cause_of (error_of c.fail_at.result)) (not_begun c.args.name.now c.args.self.now old.0 (subst (λ (p : Parsing). position_of p.scope c.args.name.now ≡ Some old.0) c.self.view_is old.1)),
-      fails_first (error_of c.fail_at.result) c.args.self.now _ c.fail_at.new.self c.requires (ap (λ (p : Parsing). p.len) c.self.view_is) c.fail_at.ensures,
+      fails_first (error_of c.fail_at.result) c.args.self.now _ c.fail_at.new.self c.requires (ap (λ (p : Parsing). p.len) c.self.view_is) c.fail_at.ensures.fails,
     )
 
 -- nothing of the name was entered, or what was is not in scope
