@@ -37,6 +37,15 @@ fn is_unseen(c: char) -> bool {
     c.width() == Some(0)
 }
 
+// The columns of a code point that is shown by its number, as `<U+FEFF>`.
+fn number_columns(c: char) -> usize {
+    match c {
+        '\0'..='\u{ffff}' => 8,
+        '\u{10000}'..='\u{fffff}' => 9,
+        _ => 10,
+    }
+}
+
 impl Style {
     // The most columns of a line that are shown; of one that is shown as it is, bytes.
     fn limit(self) -> usize {
@@ -51,7 +60,7 @@ impl Style {
         let shown = clean(c);
         match self {
             Style::Bytes => c.len_utf8(),
-            _ if is_unseen(shown) => if c as u32 > 0xffff { 9 } else { 8 },
+            _ if is_unseen(shown) => number_columns(shown),
             _ => shown.width().unwrap_or(1),
         }
     }

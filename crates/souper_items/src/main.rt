@@ -3,6 +3,7 @@
 
 mod differ;
 mod excerpt;
+mod hint;
 mod options;
 mod progress;
 mod rewrite;
@@ -11,6 +12,7 @@ mod terminal;
 use clap::ArgMatches;
 use differ::check_diff;
 use excerpt::Style;
+use hint::hint;
 use options::{Action, Color, Task, grammar, read_task};
 use progress::{Meter, Metered};
 use rewrite::rewrite;
@@ -67,6 +69,9 @@ struct Session<'s, W, E> {
     seen: Seen,
     out: Watched<W>,
     err: Watched<E>,
+
+    // Whether a parse error was shown.
+    is_refused: &'s Cell<bool>,
 }
 
 // Each method returns a status of the program.
@@ -160,6 +165,16 @@ impl<'s, W: Write, E: Write> Session<'s, W, E> {
             return self.standard_input(meter);
         }
         meter.begin(path, len_of(self.rt, path));
+        self.is_refused.set(false);
+        let status = self.named(meter, path);
+        if self.is_refused.get() && len_of(self.rt, path).is_some() {
+            hint(self.rt, self.task.kind, path, &mut self.err);
+        }
+        status
+    }
+
+    // A file that is no standard input.
+    fn named(&mut self, meter: &mut Meter<'s>, path: &'s str) -> u8 {
         if let Action::Write { rename, force } = self.task.action {
             return self.rewrite(rename, force, meter, path);
         }
@@ -245,8 +260,9 @@ fn run_matches(rt: &HostRuntime, matches: &ArgMatches<'_>) -> u8 {
         None => return 2,
     };
     let is_shown = Cell::new(false);
+    let is_refused = Cell::new(false);
     let style = style(rt, task.color);
-    let mut err = match Terminal::new(rt.alloc(), rt.stderr(), style, &is_shown) {
+    let mut err = match Terminal::new(rt.alloc(), rt.stderr(), style, &is_shown, &is_refused) {
         Ok(terminal) => Watched::new(terminal),
         Err(_) => return out_of_memory(&mut Watched::new(rt.stderr())),
     };
@@ -260,6 +276,7 @@ fn run_matches(rt: &HostRuntime, matches: &ArgMatches<'_>) -> u8 {
         seen: Seen::new(rt.alloc()),
         out: Watched::new(rt.stdout()),
         err,
+        is_refused: &is_refused,
     }
     .run(&is_shown)
 }
@@ -267,8 +284,8 @@ fn run_matches(rt: &HostRuntime, matches: &ArgMatches<'_>) -> u8 {
 // The longest path of Linux, in bytes.
 const PATH_MAX: usize = 4096;
 
-// Reports the first argument that is not UTF-8, with its other bytes as in `\xff`.
-fn report_argument(rt: &HostRuntime) -> anyhow::Result<()> {
+// Reports an argument that is not UTF-8: the first of at most `PATH_MAX` bytes, with its other bytes as in `\xff`, or none by name.
+fn report_argument(rt: &HostRuntime) -> io::Result<()> {
     let mut buf = [0; PATH_MAX];
     for index in 1..usize::MAX {
         let bytes = match rt.arg(index, &mut buf) {
@@ -278,13 +295,12 @@ fn report_argument(rt: &HostRuntime) -> anyhow::Result<()> {
         };
         if str::from_utf8(bytes).is_err() {
             let shown = bytes.escape_ascii();
-            eprintln!(rt;
+            return eprintln!(rt;
                 "souper_items: argument {index} is not UTF-8: {shown}; nothing was read"
-            )?;
-            break;
+            );
         }
     }
-    Ok(())
+    eprintln!(rt; "souper_items: an argument is not UTF-8; nothing was read")
 }
 
 // The words of the command line, or none if one is not UTF-8, which was reported.

@@ -14,6 +14,14 @@ const STEP: u64 = 1 << 24;
 // Bytes in a MiB, as a power of two.
 const MIB: u32 = 20;
 
+// Line wrapping is off while a report is written, so that it takes one line of a narrow terminal.
+const WRAP_OFF: &str = "\x1b[?7l";
+
+const WRAP_ON: &str = "\x1b[?7h";
+
+// Erases the rest of the line.
+const ERASE: &str = "\x1b[K";
+
 /// Shows on a terminal how much was read of a file, and how fast.
 #[derive(Drop)]
 pub(crate) struct Meter<'a> {
@@ -59,9 +67,10 @@ impl<'a> Meter<'a> {
         self.next = STEP;
     }
 
-    // `NAME: 144 of 605 MiB, 52 MiB/s`, without what is not known.
+    // `NAME: 144 of 605 MiB, 52 MB/s`, without what is not known. It is one text, so that it is written at once.
     fn report(&self) -> Result<String, AllocError> {
         let mut report = String::new(self.rt.alloc());
+        report.push_str(WRAP_OFF)?;
         for c in self.name.chars() {
             Style::Clean.append_char(c, &mut report)?;
         }
@@ -70,6 +79,7 @@ impl<'a> Meter<'a> {
             write!(report, " of {}", len >> MIB).map_err(|_| AllocError)?;
         }
         report.push_str(" MiB")?;
+        // 1,000 bytes per millisecond are 1 MB/s, which is meant here: 1,000,000 bytes per second.
         let elapsed = self.start.and_then(|start| start.elapsed(self.rt).ok());
         if let Some(elapsed) = elapsed
             && let Ok(millis) = u64::try_from(elapsed.as_millis())
@@ -77,6 +87,9 @@ impl<'a> Meter<'a> {
         {
             write!(report, ", {speed} MB/s").map_err(|_| AllocError)?;
         }
+        report.push_str(ERASE)?;
+        report.push_str(WRAP_ON)?;
+        report.push('\r')?;
         Ok(report)
     }
 
@@ -86,7 +99,7 @@ impl<'a> Meter<'a> {
         if self.shows && self.read >= self.next {
             self.next = self.read.saturating_add(STEP);
             if let Ok(report) = self.report() {
-                let _ = eprint!(self.rt; "{report}\x1b[K\r");
+                let _ = eprint!(self.rt; "{report}");
                 self.is_shown.set(true);
             }
         }
@@ -95,7 +108,7 @@ impl<'a> Meter<'a> {
     /// Removes the report from the screen.
     pub(crate) fn clear(&self) {
         if self.is_shown.replace(false) {
-            let _ = eprint!(self.rt; "\x1b[K");
+            let _ = eprint!(self.rt; "{ERASE}");
         }
     }
 }

@@ -3,10 +3,11 @@
 use crate::progress::{Meter, Metered};
 use crate::{failed, out_of_memory};
 use souper_format::watched::Watched;
-use souper_ir::parse::WholeItem;
+use souper_ir::parse::{Before, WholeItem};
 use souper_records::layout::{Layout, PLAIN};
 use souper_records::records::records_of_text;
 use souper_records::report::report_error;
+use souper_stream::not_utf8;
 use std::alloc::{AllocError, Global};
 use std::fs::{File, Metadata, OpenOptions};
 use std::io::{ErrorKind, Read, Write};
@@ -22,6 +23,7 @@ struct Target {
     bytes: Vec<u8>,
 }
 
+// Of the message at most 80 bytes are kept.
 fn refusal(says: &'static str) -> io::Error {
     io::Error::new(ErrorKind::InvalidInput, says)
 }
@@ -84,9 +86,7 @@ fn create(rt: &HostRuntime, path: Path<'_>) -> io::Result<File> {
 // What is said of a new file that is there already.
 fn left_over(fault: io::Error) -> io::Error {
     if fault.kind() == ErrorKind::AlreadyExists {
-        refusal(
-            "left by a run that was interrupted, or of one that still runs; if none runs, remove it",
-        )
+        refusal("left by an interrupted run, or in use; if no other run uses it, remove it")
     } else {
         fault
     }
@@ -144,7 +144,10 @@ pub(crate) fn rewrite<T: WholeItem + Drop, E: Write>(
     };
     let source = match str::from_utf8(&target.bytes) {
         Ok(source) => source,
-        Err(_) => return failed(alloc, name, &io::Error::from(ErrorKind::InvalidData), err),
+        Err(_) => {
+            let before = Before { bytes: 0, lines: 0 };
+            return failed(alloc, name, &not_utf8(before, &target.bytes), err);
+        }
     };
     let layout = Layout { rename, ..PLAIN };
     match records_of_text::<T>(alloc, layout, source, Some(name)) {

@@ -39,6 +39,9 @@ pub(crate) struct Terminal<'a, W> {
     // Whether a report of progress is on the line of the cursor.
     is_shown: &'a Cell<bool>,
 
+    // Is set where a parse error is shown.
+    is_refused: &'a Cell<bool>,
+
     line: Vec<u8>,
 
     // The line of the source.
@@ -56,6 +59,7 @@ impl<'a, W: Write> Terminal<'a, W> {
         inner: W,
         style: Style,
         is_shown: &'a Cell<bool>,
+        is_refused: &'a Cell<bool>,
     ) -> Result<Terminal<'a, W>, AllocError>
     where
         W: Drop,
@@ -64,6 +68,7 @@ impl<'a, W: Write> Terminal<'a, W> {
             inner,
             style,
             is_shown,
+            is_refused,
             line: Vec::with_capacity(alloc, ROOM)?,
             source: String::new(alloc),
             shown: String::with_capacity(alloc, ROOM)?,
@@ -84,6 +89,9 @@ impl<'a, W: Write> Terminal<'a, W> {
         };
         self.line.clear();
         self.part = next?;
+        if self.part == Part::Source {
+            self.is_refused.set(true);
+        }
         if self.is_shown.replace(false) {
             self.inner.write_all(ERASE)?;
         }

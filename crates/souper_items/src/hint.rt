@@ -1,0 +1,86 @@
+//! Hints for who gave another kind than a file has.
+
+use souper_format::command::Kind;
+use souper_format::watched::Watched;
+use souper_ir::ast::{LeftHandSide, Replacement, RightHandSide};
+use souper_ir::parse::{Sink, WholeItem};
+use souper_stream::{ChunkSink, ItemReader, StreamItem};
+use std::alloc::AllocError;
+use std::fs::File;
+use std::io::{BufReader, Read, Take, Write};
+
+// Whether items were taken, and none was taken back.
+#[derive(Drop)]
+struct Taken {
+    some: bool,
+    all: bool,
+}
+
+impl<T: WholeItem + Drop> Sink<T> for Taken {
+    ghost holds = { λ first taken items. Unit {0} };
+
+    fn take(&mut self, _item: T) -> Result<(), AllocError> {
+        self.some = true;
+        Ok(())
+    }
+}
+
+impl<T: WholeItem + Drop> ChunkSink<T> for Taken {
+    fn rollback(&mut self) {
+        self.all = false;
+    }
+}
+
+// How many bytes of a file are tried.
+const TRIED: u64 = 1 << 16;
+
+// How many bytes are asked for at a time, and from how many on a cut point is looked for: few beside those that are tried, so that one is
+// looked for before they end.
+const BLOCK: usize = 1 << 14;
+
+const CHUNK: usize = 1 << 15;
+
+// Whether the file begins with items of the type: those up to a cut point in the bytes that are tried, or all of a short file.
+fn begins_with<T: StreamItem + Drop>(rt: &HostRuntime, path: &str) -> bool {
+    let Ok(file) = File::open(rt, path) else {
+        return false;
+    };
+    let Ok(mut reader) = BufReader::with_capacity(rt.alloc(), BLOCK, file.take(TRIED)) else {
+        return false;
+    };
+    let mut parts = ItemReader::new(rt.alloc(), CHUNK);
+    let mut taken = Taken {
+        some: false,
+        all: true,
+    };
+    let read = parts.read_part::<T, BufReader<Take<File>>, Taken>(
+        rt.alloc(),
+        &mut reader,
+        None,
+        &mut taken,
+    );
+    read.is_ok() && taken.some && taken.all
+}
+
+// The other kind as which the file reads.
+fn other_kind(rt: &HostRuntime, kind: Kind, path: &str) -> Option<&'static str> {
+    if kind != Kind::Lhs && begins_with::<LeftHandSide>(rt, path) {
+        return Some("lhs");
+    }
+    if kind != Kind::Rhs && begins_with::<RightHandSide>(rt, path) {
+        return Some("rhs");
+    }
+    if kind != Kind::Rep && begins_with::<Replacement>(rt, path) {
+        return Some("rep");
+    }
+    None
+}
+
+/// Reports as which other kind the file reads, if its beginning does.
+pub(crate) fn hint<E: Write>(rt: &HostRuntime, kind: Kind, path: &str, err: &mut Watched<E>) {
+    if let Some(name) = other_kind(rt, kind, path) {
+        let _ = err.write_all(b"hint: this reads as ");
+        let _ = err.write_all(name.as_bytes());
+        let _ = err.write_all(b"\n");
+    }
+}
