@@ -58,6 +58,27 @@ enum {
     SOUPER_NULL = 4    /* a byte 0 after each text in place of the newline */
 };
 
+/* Where an item is not well formed. */
+enum {
+    SOUPER_AT_STATEMENT = 1, /* at the statement at `position` */
+    SOUPER_AT_INFER = 2,     /* at the infer line */
+    SOUPER_AT_RESULT = 3,    /* at the result line */
+    SOUPER_AT_CAND = 4       /* at the cand line */
+};
+
+/* Why, in the order in which the reasons are looked for at one statement or line. */
+enum {
+    SOUPER_INVALID_NAME = 1,              /* the name is not % and letters, digits, _ or . */
+    SOUPER_EMPTY_BITS = 2,                /* a list of bits is empty */
+    SOUPER_ZERO_WIDTH = 3,                /* a width is 0 */
+    SOUPER_USE_BEFORE_DEFINITION = 4,     /* an operand or the block is not a statement before this one */
+    SOUPER_NOT_AN_ASSIGNMENT = 5,         /* an operand is no assignment */
+    SOUPER_NOT_A_BLOCK = 6,               /* what is used as a block is none */
+    SOUPER_VALUE_COUNT = 7,               /* a phi has not one value per predecessor of its block */
+    SOUPER_PREDECESSOR_OUT_OF_RANGE = 8,  /* the block of a condition has no such predecessor */
+    SOUPER_DUPLICATE_NAME = 9             /* a needed assignment before it has the same name */
+};
+
 /* What a call did. What is not named for the status is 0. */
 typedef struct SouperOutcome {
     uint32_t status;
@@ -67,6 +88,23 @@ typedef struct SouperOutcome {
     size_t line;    /* REFUSED: the line of the last of these bytes, or of the first of the text if there is none; from 1 */
     size_t column;  /* REFUSED: its column, from 1 */
 } SouperOutcome;
+
+/* Where a text is at fault. With another status than REFUSED the other numbers are 0. */
+typedef struct SouperLocation {
+    uint32_t status; /* DONE: the text spells items. REFUSED, NO_KIND, OUT_OF_MEMORY, NOT_UTF8: as above */
+    uint32_t at_end; /* 1: the text ended where more is wanted; else 0 */
+    size_t offset;   /* where the token at fault begins or, if the text ended, the white space at its end */
+    size_t line;     /* its line, from 1 */
+    size_t column;   /* its column, in bytes and from 1 */
+} SouperLocation;
+
+/* The first flaw of an item. What is not named for the status is 0. */
+typedef struct SouperFlaw {
+    uint32_t status;
+    uint32_t location; /* NOT_WELL_FORMED: one of the four */
+    uint32_t reason;   /* NOT_WELL_FORMED: one of the nine */
+    size_t position;   /* AT_STATEMENT: the position of the statement among those of the item, from 0 */
+} SouperFlaw;
 
 /* Writes the canonical text of each item that the text spells, a newline after each, to the beginning of `out`.
  *
@@ -97,6 +135,13 @@ SOUPER_CALL SouperOutcome souper_read(uint32_t kind, const uint8_t *text, size_t
  * The other bytes of `out` are as before; unless the status is DONE, all of them. */
 SOUPER_CALL SouperOutcome souper_write(uint32_t kind, const uint8_t *code, size_t code_length, uint8_t *out, size_t out_length);
 
+/* Where the item whose code the bytes begin with is not well formed first, and why. What comes after its code is not read: the
+ * `offset` of NOT_WELL_FORMED from souper_write is where such a code begins.
+ *
+ * DONE: the item is well formed. NOT_WELL_FORMED: it is not; of its needed statements in their order, and then of its last lines,
+ * the first that is not is told. NO_CODE: the bytes begin with the code of no item of the kind. NO_KIND, OUT_OF_MEMORY. */
+SOUPER_CALL SouperFlaw souper_flaw(uint32_t kind, const uint8_t *code, size_t code_length);
+
 /* Writes the record of each item that the text spells to the beginning of `out`: its canonical text and a newline, and what
  * the flags add or change. The program souper_items writes the same records.
  *
@@ -109,6 +154,9 @@ SOUPER_CALL SouperOutcome souper_key(uint32_t kind, uint32_t flags, const uint8_
  * DONE: yes. DIFFERENT: no; the text spells items, and souper_format would write other bytes. REFUSED: the text spells
  * no list of such items. With these, `length` is what souper_format would write. NO_KIND, OUT_OF_MEMORY, NOT_UTF8. */
 SOUPER_CALL SouperOutcome souper_check(uint32_t kind, const uint8_t *text, size_t text_length);
+
+/* Where the text is at fault. The numbers of an outcome are of the byte before; these are for editors. */
+SOUPER_CALL SouperLocation souper_locate(uint32_t kind, const uint8_t *text, size_t text_length);
 
 /* Whether two texts spell lists of one length, in which each item is the same graph as the one at its index in the other.
  *

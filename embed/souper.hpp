@@ -707,7 +707,69 @@ enum class status : std::uint32_t {
     no_flags = SOUPER_NO_FLAGS
 };
 
-/// What a `try_` call reports. What is not named for the status is 0 or empty.
+/// A statement or a last line of an item.
+enum class flaw_location : std::uint32_t {
+    at_statement = SOUPER_AT_STATEMENT,
+    at_infer = SOUPER_AT_INFER,
+    at_result = SOUPER_AT_RESULT,
+    at_cand = SOUPER_AT_CAND
+};
+
+/// Why an item is not well formed, in the order in which the reasons are looked for at one statement or line.
+enum class flaw_reason : std::uint32_t {
+    invalid_name = SOUPER_INVALID_NAME,                      ///< the name is not % and letters, digits, _ or .
+    empty_bits = SOUPER_EMPTY_BITS,                          ///< a list of bits is empty
+    zero_width = SOUPER_ZERO_WIDTH,                          ///< a width is 0
+    use_before_definition = SOUPER_USE_BEFORE_DEFINITION,    ///< an operand or the block is not a statement before this one
+    not_an_assignment = SOUPER_NOT_AN_ASSIGNMENT,            ///< an operand is no assignment
+    not_a_block = SOUPER_NOT_A_BLOCK,                        ///< what is used as a block is none
+    value_count = SOUPER_VALUE_COUNT,                        ///< a phi has not one value per predecessor of its block
+    predecessor_out_of_range = SOUPER_PREDECESSOR_OUT_OF_RANGE, ///< the block of a condition has no such predecessor
+    duplicate_name = SOUPER_DUPLICATE_NAME                   ///< a needed assignment before it has the same name
+};
+
+/// The first flaw of an item: of its needed statements in their order, and then of its last lines.
+struct flaw {
+    flaw_location location = flaw_location::at_statement;
+    flaw_reason reason = flaw_reason::invalid_name;
+    std::size_t position = 0; ///< at_statement: its position, from 0; else 0
+    std::string name = {};    ///< at_statement: the name, if it is an assignment; else empty
+
+    /// Where and why, as `not_well_formed` shows it after the item.
+    std::string shown() const {
+        static constexpr const char *lines[] = {"infer line", "result line", "cand line"};
+        static constexpr const char *reasons[] = {"the name is not % and letters, digits, _ or .",
+                                                  "a list of bits is empty",
+                                                  "a width is 0",
+                                                  "it uses what is not a statement before it",
+                                                  "an operand is no assignment",
+                                                  "what it uses as a block is none",
+                                                  "it has not one value per predecessor of its block",
+                                                  "its block has no such predecessor",
+                                                  "an assignment before it has the same name"};
+        std::string text = location == flaw_location::at_statement ? "statement " + std::to_string(position)
+                                                                : lines[static_cast<std::uint32_t>(location) - SOUPER_AT_INFER];
+        if (!name.empty()) {
+            text += " (" + name + ")";
+        }
+        return text + ": " + reasons[static_cast<std::uint32_t>(reason) - SOUPER_INVALID_NAME];
+    }
+};
+
+/// Where a text is at fault: where the token at fault begins or, if the text ended where more is wanted, where it ends, without the
+/// white space at its end.
+struct location {
+    std::size_t offset; ///< in bytes, from the first byte of the text
+    std::size_t line;   ///< from 1
+    std::size_t column; ///< in bytes and from 1
+
+    friend bool operator==(const location &a, const location &b) noexcept {
+        return a.offset == b.offset && a.line == b.line && a.column == b.column;
+    }
+    friend bool operator!=(const location &a, const location &b) noexcept { return !(a == b); }
+};
+
+/// What a `try_` call reports. What is not named for the status is 0, false or empty.
 struct error {
     status what = status::done;
     unsigned input = 0;     ///< refused, not_utf8: which text of the call, 0 the first, 1 the second
@@ -716,6 +778,9 @@ struct error {
     std::size_t line = 0;   ///< refused: the line of the last of these bytes, or of the first byte if there is none; from 1
     std::size_t column = 0; ///< refused: its column, in bytes and from 1
     std::string shown = {}; ///< refused: why and where, in four lines without a newline at the end
+    std::optional<flaw> why = {}; ///< not_well_formed: the first flaw of the item; none if the item has no code
+    std::optional<souper::location> location = {}; ///< refused: where the text is at fault; none if memory ran out for it
+    bool at_end = false; ///< refused: whether the text ended where more is wanted; false without a location
 };
 
 /// What `records` returns of an item.
@@ -1133,25 +1198,54 @@ template <typename Call> bool collect(std::string &out, std::size_t room, error 
     return false;
 }
 
+// The same of a text, which is located if it is refused.
+template <typename Call> bool collect_of(kind k, std::string_view text, std::string &out, std::size_t room, error &e, Call call) {
+    if (collect(out, room, e, call)) {
+        return true;
+    }
+    if (e.what == status::refused) {
+        const SouperLocation found = souper_locate(static_cast<std::uint32_t>(k), bytes(text), text.size());
+        if (found.status == SOUPER_REFUSED) {
+            e.location = location{found.offset, found.line, found.column};
+            e.at_end = found.at_end != 0;
+        }
+    }
+    return false;
+}
+
 inline bool format(kind k, std::string_view text, std::string &out, error &e) {
-    return collect(out, text.size() + text.size() / 4 + 256, e, [k, text](std::uint8_t *to, std::size_t room) {
+    return collect_of(k, text, out, text.size() + text.size() / 4 + 256, e, [k, text](std::uint8_t *to, std::size_t room) {
         return souper_format(static_cast<std::uint32_t>(k), bytes(text), text.size(), to, room);
     });
 }
 
 inline bool key(kind k, std::string_view text, flags f, std::string &out, error &e) {
-    return collect(out, text.size() + text.size() / 4 + 256, e, [k, text, f](std::uint8_t *to, std::size_t room) {
+    return collect_of(k, text, out, text.size() + text.size() / 4 + 256, e, [k, text, f](std::uint8_t *to, std::size_t room) {
         return souper_key(static_cast<std::uint32_t>(k), static_cast<std::uint32_t>(f), bytes(text), text.size(), to, room);
     });
 }
 
 inline bool read(kind k, std::string_view text, std::vector<item> &items, error &e) {
     std::string code;
-    return collect(code, 3 * text.size() + 256, e,
-                   [k, text](std::uint8_t *to, std::size_t room) {
-                       return souper_read(static_cast<std::uint32_t>(k), bytes(text), text.size(), to, room);
-                   })
+    return collect_of(k, text, code, 3 * text.size() + 256, e,
+                      [k, text](std::uint8_t *to, std::size_t room) {
+                          return souper_read(static_cast<std::uint32_t>(k), bytes(text), text.size(), to, room);
+                      })
         && decode(k, code, items, e);
+}
+
+// The first flaw of an item, with whose code the bytes begin.
+inline std::optional<flaw> flaw_of(kind k, std::string_view code, const item &one) {
+    const SouperFlaw found = souper_flaw(static_cast<std::uint32_t>(k), bytes(code), code.size());
+    if (found.status != SOUPER_NOT_WELL_FORMED) {
+        return std::nullopt;
+    }
+    flaw why{static_cast<flaw_location>(found.location), static_cast<flaw_reason>(found.reason), found.position};
+    const assignment *at = why.location == flaw_location::at_statement ? one.at(id{found.position}) : nullptr;
+    if (at != nullptr) {
+        why.name = at->name;
+    }
+    return why;
 }
 
 inline bool write(kind k, const item *items, std::size_t count, std::string &out, error &e) {
@@ -1163,6 +1257,9 @@ inline bool write(kind k, const item *items, std::size_t count, std::string &out
             return souper_write(static_cast<std::uint32_t>(k), bytes(code), code.size(), to, room);
         })) {
         return true;
+    }
+    if (e.what == status::not_well_formed) {
+        e.why = flaw_of(k, std::string_view(code).substr(e.offset), items[e.index]);
     }
     // What has no code has a name that is not UTF-8, another number of operands, or last lines of another kind.
     e.what = e.what == status::no_code ? status::not_well_formed : e.what;
@@ -1189,7 +1286,8 @@ inline bool records(kind k, std::string_view text, bool rename, std::vector<reco
     return true;
 }
 
-// Whether a question was answered. What a refusal shows is asked of souper_format, as the question has no buffer.
+// Whether a question was answered. What a refusal shows is asked of souper_format, as the question has no buffer. `format` also
+// locates the refusal.
 inline bool answer(kind k, std::string_view text, const SouperOutcome &outcome, bool &yes, error &e) {
     yes = outcome.status == SOUPER_DONE;
     if (yes || outcome.status == SOUPER_DIFFERENT) {
@@ -1328,9 +1426,10 @@ inline namespace SOUPER_FORM {
 /// A text spells no list of items of the kind. `what()` shows why and where, in four lines.
 class refused : public std::runtime_error {
 public:
-    refused(const std::string &shown, const SouperOutcome &outcome)
+    refused(const std::string &shown, const SouperOutcome &outcome, const std::optional<souper::location> &at = std::nullopt,
+            bool ended = false)
         : std::runtime_error(shown), offset(outcome.offset), line(outcome.line), column(outcome.column), input(outcome.input),
-          text(std::make_shared<const std::string>(shown)) {}
+          location(at), at_end(ended), text(std::make_shared<const std::string>(shown)) {}
 
     /// What `what()` shows, also after a byte 0.
     const std::string &shown() const noexcept { return *text; }
@@ -1339,6 +1438,8 @@ public:
     std::size_t line;   ///< the line of the last of these, or of the first byte if there is none; from 1
     std::size_t column; ///< its column, in bytes and from 1
     unsigned input;     ///< which text of the call: 0 the first, 1 the second
+    std::optional<souper::location> location; ///< where the text is at fault; none if memory ran out for it
+    bool at_end; ///< whether the text ended where more is wanted; false without a location
 
 private:
     std::shared_ptr<const std::string> text;
@@ -1355,10 +1456,12 @@ public:
 /// An item is not well formed, so it has no canonical text.
 class not_well_formed : public std::invalid_argument {
 public:
-    explicit not_well_formed(std::size_t which)
-        : std::invalid_argument("item " + std::to_string(which) + " is not well formed"), index(which) {}
+    explicit not_well_formed(std::size_t which, std::optional<flaw> reason = std::nullopt)
+        : std::invalid_argument("item " + std::to_string(which) + " is not well formed" + (reason ? ": " + reason->shown() : "")),
+          index(which), why(reason ? std::make_shared<const flaw>(*reason) : nullptr) {}
 
-    std::size_t index; ///< which item, from 0
+    std::size_t index;               ///< which item, from 0
+    std::shared_ptr<const flaw> why; ///< its first flaw; null if a value of the item has no code
 };
 
 /// Bytes are the code of no list of items of the kind.
@@ -1376,7 +1479,8 @@ namespace detail {
 [[noreturn]] inline void fail(const error &e) {
     switch (e.what) {
     case status::refused:
-        throw refused(e.shown, SouperOutcome{SOUPER_REFUSED, e.input, e.shown.size(), e.offset, e.line, e.column});
+        throw refused(e.shown, SouperOutcome{SOUPER_REFUSED, e.input, e.shown.size(), e.offset, e.line, e.column}, e.location,
+                      e.at_end);
     case status::not_utf8:
         throw not_utf8(e.input);
     case status::no_kind:
@@ -1386,7 +1490,7 @@ namespace detail {
     case status::no_code:
         throw bad_code(e.index, e.offset);
     case status::not_well_formed:
-        throw not_well_formed(e.index);
+        throw not_well_formed(e.index, e.why);
     case status::done:
     case status::out_of_memory:
         break;

@@ -195,6 +195,14 @@ class Answers(unittest.TestCase):
         self.assertEqual(refusal.input, input, record)
         outcome = LIBRARY.souper_check(list(Kind).index(record.kind), record.text, len(record.text))
         self.assertEqual(refusal.offset, outcome.offset, record)
+        location = refusal.location
+        assert location is not None
+        *lines, last = record.text[: location.offset].split(b"\n")
+        self.assertEqual(location[1:], (len(lines) + 1, len(last) + 1), record)
+        if refusal.at_end:
+            self.assertEqual(location.offset, len(record.text.rstrip(b" \t\n\f\r")), record)
+        else:
+            self.assertEqual(location.offset, refusal.offset, record)
 
     def test_refusals(self) -> None:
         for record in REFUSED:
@@ -219,6 +227,56 @@ class Answers(unittest.TestCase):
             return items, written, souper.keys(record.kind, record.text)
         except souper.Refused as refusal:
             return refusal.args
+
+
+class Locations(unittest.TestCase):
+    """Where texts are at fault: offsets, lines and columns that were counted by hand."""
+
+    def assert_located(
+        self, kind: Kind, text: str, location: tuple[int, int, int], at_end: bool = False
+    ) -> None:
+        calls = [*each_call(kind, text.encode()), partial(souper.same, kind, "", text)]
+        for call in calls:
+            with self.assertRaises(souper.Refused) as raised:
+                call()
+            found = raised.exception
+            self.assertEqual((found.location, found.at_end), (location, at_end), text)
+            self.assertIs(type(found.location), souper.Location)
+            self.assertIs(type(found.at_end), bool)
+
+    def test_where_the_token_at_fault_begins(self) -> None:
+        for text, location in (
+            ("%x = var\n%y = frob %x\ninfer %y", (14, 2, 6)),
+            ("%x = var\n%x = var\ninfer %x", (9, 2, 1)),
+            ("%x = var\ninfer %x\n\n%y = var\ninfer %z\n", (34, 5, 7)),
+            ("5", (0, 1, 1)),
+            ("%x = var ; é\ninfer\u2003%x 5", (25, 2, 12)),
+        ):
+            self.assert_located(Kind.LHS, text, location)
+
+    def test_a_text_that_ends_early(self) -> None:
+        for end in ("", "\n", " \t\n  "):
+            self.assert_located(Kind.LHS, "%x = var\ninfer" + end, (14, 2, 6), True)
+        self.assert_located(Kind.RHS, "result 1\nresult", (15, 2, 7), True)
+        self.assert_located(Kind.REP, "%x = var\ncand %x", (16, 2, 8), True)
+
+    def test_the_numbers_that_are_shown(self) -> None:
+        with self.assertRaises(souper.Refused) as raised:
+            souper.read("lhs", "%x = var\n%x = var\ninfer %x")
+        refusal = raised.exception
+        shown = (refusal.offset, refusal.line, refusal.column)
+        self.assertEqual((shown, refusal.args[1:]), ((9, 1, 9), (9, 1, 9, 0)))
+        self.assertEqual(repr(refusal.location), "Location(offset=9, line=2, column=1)")
+
+    def test_out_of_memory_for_the_location(self) -> None:
+        refused = _library.Outcome(status=1, offset=9, line=1, column=9)
+        library = mock.Mock(**{"souper_format.return_value": refused})
+        library.souper_locate.return_value = _library.LocationNumbers(status=3)
+        with mock.patch.object(_library, "LIBRARY", library):
+            with self.assertRaises(souper.Refused) as raised:
+                souper.format("lhs", "")
+        found = raised.exception
+        self.assertEqual((found.offset, found.location, found.at_end), (9, None, False))
 
 
 class Instructions(unittest.TestCase):
@@ -340,10 +398,26 @@ class IllFormed(unittest.TestCase):
         with self.assertRaises(souper.NotWellFormed) as raised:
             souper.write("lhs", [self.GOOD, item, self.GOOD, item])
         self.assertEqual(raised.exception.index, 1)
-        self.assertEqual(str(raised.exception), "item 1 is not well formed")
+        self.assertEqual(str(raised.exception), f"item 1 is not well formed: {raised.exception.flaw}")
+        self.assertIsInstance(raised.exception.flaw, souper.Flaw)
         self.assertRaises(souper.NotWellFormed, souper.canonical, "lhs", item)
         self.assertRaises(souper.NotWellFormed, souper.key, "lhs", item)
         self.assertEqual(souper.decode("lhs", souper.encode("lhs", [item])), [item])
+
+    def assert_shown(self, item: Item, shown: str) -> None:
+        with self.assertRaises(souper.NotWellFormed) as raised:
+            souper.write(item.kind, iter([item]))
+        self.assertEqual(str(raised.exception), f"item 0 is not well formed: {shown}")
+
+    def test_flaws(self) -> None:
+        x = Assignment("%x", 8, Var())
+        pc = Pc(Value(0), Constant(1))
+        twice = Item((x, pc, x), Infer(Value(2)))
+        self.assert_shown(twice, "statement 2 (%x): an assignment before it has the same name")
+        later = Item((x, Pc(Value(2), Constant(1))), Infer(Value(0)))
+        self.assert_shown(later, "statement 1: it uses what is not a statement before it")
+        self.assert_shown(Item((), Infer(Value(0))), "infer line: an operand is no assignment")
+        self.assert_shown(Item((), souper.Result(Constant(1, 0))), "result line: a width is 0")
 
     def test_names(self) -> None:
         for name in ("", "x", "%", "%x y", "%x\ninfer", "%é", "%x\0"):
@@ -698,8 +772,11 @@ class Arguments(unittest.TestCase):
         self.assertEqual(len(souper.write("lhs", item).splitlines()), 302)
 
     def test_exceptions_are_pickled(self) -> None:
-        errors: list[Exception] = [souper.NotWellFormed(3), souper.NoCode(2, 40)]
+        flaw = souper.Flaw(0, souper.FlawReason.ZERO_WIDTH, "%x")
+        errors: list[Exception] = [souper.NotWellFormed(3), souper.NotWellFormed(3, flaw)]
+        errors.append(souper.NoCode(2, 40))
         errors.append(souper.Refused("shown", 1, 2, 3, 1))
+        errors.append(souper.Refused("shown", 1, 2, 3, 1, souper.Location(1, 2, 4), True))
         for error in errors:
             found = pickle.loads(pickle.dumps(error))
             self.assertIs(type(found), type(error))

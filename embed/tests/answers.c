@@ -46,6 +46,28 @@ static int is_place(const Record *record, SouperOutcome outcome) {
         && memcmp(record->answer, head, strlen(head)) == 0;
 }
 
+/* The line and the column are those of the byte at the offset, or of the end. A token is not at fault in white space. */
+static int is_location(const Record *record, SouperOutcome outcome, SouperLocation location) {
+    size_t line = 1, column = 1;
+    if (location.status != SOUPER_REFUSED || location.at_end > 1 || location.offset > record->text_length) {
+        return 0;
+    }
+    for (size_t i = 0; i < location.offset; i++) {
+        column = record->text[i] == '\n' ? 1 : column + 1;
+        line += record->text[i] == '\n';
+    }
+    for (size_t i = location.offset; location.at_end && i < record->text_length; i++) {
+        if (strchr(" \t\n\f\r", record->text[i]) == NULL || record->text[i] == 0) {
+            return 0;
+        }
+    }
+    return location.line == line && location.column == column && (location.at_end || location.offset == outcome.offset);
+}
+
+static int is_located(SouperLocation a, uint32_t status, uint32_t at_end, size_t offset, size_t line, size_t column) {
+    return a.status == status && a.at_end == at_end && a.offset == offset && a.line == line && a.column == column;
+}
+
 static void lengths(const Record *record) {
     for (size_t length = 0; length < record->answer_length; length++) {
         uint8_t *out = buffer(length);
@@ -128,8 +150,10 @@ static void questions(const Record *record, SouperOutcome format) {
     SouperOutcome first = souper_same(record->kind, record->text, record->text_length, record->answer, record->answer_length);
     SouperOutcome second = souper_same(record->kind, (const uint8_t *)"", 0, record->text, record->text_length);
     SouperOutcome wanted = nothing;
+    SouperLocation location = souper_locate(record->kind, record->text, record->text_length);
     if (record->status == SOUPER_REFUSED) {
         expect(is_place(record, format), "its place", record);
+        expect(is_location(record, format, location), "its location", record);
         expect(equal(check, format), "the check of what is refused", record);
         expect(equal(first, format), "a first text that is refused", record);
         format.input = 1;
@@ -139,6 +163,7 @@ static void questions(const Record *record, SouperOutcome format) {
     int is_same = record->text_length == record->answer_length && memcmp(record->text, record->answer, record->text_length) == 0;
     wanted.length = record->answer_length;
     expect(equal(format, wanted), "an outcome without a place", record);
+    expect(is_located(location, SOUPER_DONE, 0, 0, 0, 0), "no location", record);
     wanted.status = is_same ? SOUPER_DONE : SOUPER_DIFFERENT;
     expect(equal(check, wanted), "whether it is canonical", record);
     wanted = nothing;
@@ -167,6 +192,31 @@ static const Record *next_of_kind(const Record *record, const Record *end) {
     return NULL;
 }
 
+/* Offset, line and column are counted by hand. */
+static void locations(void) {
+    static const struct {
+        uint32_t kind;
+        const char *text;
+        uint32_t at_end;
+        size_t offset, line, column;
+    } rows[] = {
+        {SOUPER_LHS, "%x = var\n%y = frob %x\ninfer %y", 0, 14, 2, 6},
+        {SOUPER_LHS, "%x = var\n%x = var\ninfer %x", 0, 9, 2, 1},
+        {SOUPER_LHS, "%x = var\ninfer %x\n\n%y = var\ninfer %z\n", 0, 34, 5, 7},
+        {SOUPER_LHS, "5", 0, 0, 1, 1},
+        {SOUPER_LHS, "%x = var ; \u00e9\ninfer\u2003%x 5", 0, 25, 2, 12},
+        {SOUPER_LHS, "%x = var\ninfer", 1, 14, 2, 6},
+        {SOUPER_LHS, "%x = var\ninfer\n", 1, 14, 2, 6},
+        {SOUPER_LHS, "%x = var\ninfer \t\n  ", 1, 14, 2, 6},
+        {SOUPER_RHS, "result 1\nresult", 1, 15, 2, 7},
+        {SOUPER_REP, "%x = var\ncand %x", 1, 16, 2, 8},
+    };
+    for (size_t i = 0; i < sizeof rows / sizeof *rows; i++) {
+        SouperLocation found = souper_locate(rows[i].kind, (const uint8_t *)rows[i].text, strlen(rows[i].text));
+        expect(is_located(found, SOUPER_REFUSED, rows[i].at_end, rows[i].offset, rows[i].line, rows[i].column), rows[i].text, NULL);
+    }
+}
+
 /* What no number may do: a kind that is none, bytes that are no text, no bytes. */
 static void numbers(void) {
     static const uint32_t none[] = {3, 7, 256, 0x80000000u, UINT32_MAX};
@@ -180,6 +230,8 @@ static void numbers(void) {
         expect(equal(souper_write(none[i], bad, sizeof bad, &byte, 1), no_kind) && byte == 0xaa, "no kind, write", NULL);
         expect(equal(souper_key(none[i], 0, bad, sizeof bad, &byte, 1), no_kind) && byte == 0xaa, "no kind, key", NULL);
         expect(equal(souper_check(none[i], bad, sizeof bad), no_kind), "no kind, check", NULL);
+        expect(is_located(souper_locate(none[i], bad, sizeof bad), SOUPER_NO_KIND, 0, 0, 0, 0), "no kind, locate", NULL);
+        expect(souper_flaw(none[i], bad, sizeof bad).status == SOUPER_NO_KIND, "no kind, flaw", NULL);
         expect(equal(souper_same(none[i], bad, sizeof bad, bad, sizeof bad), no_kind), "no kind, same", NULL);
     }
     for (uint32_t kind = SOUPER_LHS; kind <= SOUPER_REP; kind++) {
@@ -191,11 +243,15 @@ static void numbers(void) {
         expect(souper_key(kind, 8, bad, sizeof bad, &byte, 1).status == SOUPER_NO_FLAGS && byte == 0xaa, "no flags", NULL);
         expect(souper_write(kind, bad, sizeof bad, &byte, 1).status == SOUPER_NO_CODE && byte == 0xaa, "no code", NULL);
         expect(equal(souper_check(kind, bad, sizeof bad), no_text), "no text, check", NULL);
+        expect(is_located(souper_locate(kind, bad, sizeof bad), SOUPER_NOT_UTF8, 0, 0, 0, 0), "no text, locate", NULL);
+        expect(souper_flaw(kind, bad, sizeof bad).status == SOUPER_NO_CODE, "no code, flaw", NULL);
         expect(equal(souper_same(kind, bad, sizeof bad, &empty, 0), no_text), "no text, first", NULL);
         expect(equal(souper_same(kind, &empty, 0, bad, sizeof bad), second), "no text, second", NULL);
         expect(equal(souper_format(kind, &empty, 0, &byte, 0), nothing), "no bytes", NULL);
         expect(equal(souper_write(kind, &empty, 0, &byte, 0), nothing), "no bytes, write", NULL);
         expect(equal(souper_check(kind, &empty, 0), nothing), "no bytes, check", NULL);
+        expect(is_located(souper_locate(kind, &empty, 0), SOUPER_DONE, 0, 0, 0, 0), "no bytes, locate", NULL);
+        expect(souper_flaw(kind, &empty, 0).status == SOUPER_NO_CODE, "no bytes, flaw", NULL);
         expect(equal(souper_same(kind, &empty, 0, &empty, 0), nothing), "no bytes, same", NULL);
     }
 }
@@ -215,6 +271,7 @@ int main(int argc, char **argv) {
             neighbors(&records[i], next);
         }
     }
+    locations();
     numbers();
     free_records(records);
     return summary("C: the stored answers, every length of the buffer, the questions, codes and records");

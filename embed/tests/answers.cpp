@@ -19,7 +19,8 @@ template <typename Call> bool is_refused(Call call, std::string_view shown, unsi
     } catch (const souper::refused &refusal) {
         const std::string head = "unknown:" + std::to_string(refusal.line) + ":" + std::to_string(refusal.column) + ": ";
         return refusal.shown() == shown && refusal.what() == shown.substr(0, shown.find('\0')) && refusal.input == input
-            && refusal.offset + 1 >= refusal.column && shown.substr(0, head.size()) == head;
+            && refusal.offset + 1 >= refusal.column && shown.substr(0, head.size()) == head && refusal.location
+            && (refusal.at_end || refusal.location->offset == refusal.offset);
     }
 }
 
@@ -67,6 +68,50 @@ void long_answers() {
     expect(is_refused([&] { return souper::same(souper::kind::lhs, "", line); }, shown, 1), "a long refusal of same", nullptr);
 }
 
+// Where a call finds a text at fault; nothing if it does not refuse it.
+template <typename Call> std::optional<souper::location> location_of(Call call, unsigned input, bool at_end) {
+    try {
+        call();
+        return std::nullopt;
+    } catch (const souper::refused &refusal) {
+        return refusal.input == input && refusal.at_end == at_end ? refusal.location : std::nullopt;
+    }
+}
+
+void located(const char *what, souper::kind kind, std::string_view text, const souper::location &at, bool at_end = false) {
+    expect(location_of([&] { souper::format(kind, text); }, 0, at_end) == at, what, nullptr);
+    expect(location_of([&] { souper::check(kind, text); }, 0, at_end) == at, what, nullptr);
+    expect(location_of([&] { souper::same(kind, text, "x"); }, 0, at_end) == at, what, nullptr);
+    expect(location_of([&] { souper::same(kind, "", text); }, 1, at_end) == at, what, nullptr);
+    expect(location_of([&] { souper::read(kind, text); }, 0, at_end) == at, what, nullptr);
+    expect(location_of([&] { souper::key(kind, text); }, 0, at_end) == at, what, nullptr);
+    expect(location_of([&] { souper::records(kind, text, true); }, 0, at_end) == at, what, nullptr);
+}
+
+// Offset, line and column are counted by hand.
+void locations() {
+    const souper::kind lhs = souper::kind::lhs;
+    located("a wrong word on line 2", lhs, "%x = var\n%y = frob %x\ninfer %y", {14, 2, 6});
+    located("a second definition", lhs, "%x = var\n%x = var\ninfer %x", {9, 2, 1});
+    located("the second item", lhs, "%x = var\ninfer %x\n\n%y = var\ninfer %z\n", {34, 5, 7});
+    located("the first byte", lhs, "5", {0, 1, 1});
+    located("columns in bytes", lhs, "%x = var ; \u00e9\ninfer\u2003%x 5", {25, 2, 12});
+    located("an early end", lhs, "%x = var\ninfer", {14, 2, 6}, true);
+    located("an early end, a newline", lhs, "%x = var\ninfer\n", {14, 2, 6}, true);
+    located("an early end, blanks", lhs, "%x = var\ninfer \t\n  ", {14, 2, 6}, true);
+    located("an early end of right-hand sides", souper::kind::rhs, "result 1\nresult", {15, 2, 7}, true);
+    located("an early end of a replacement", souper::kind::rep, "%x = var\ncand %x", {16, 2, 8}, true);
+    try {
+        souper::format(lhs, "%x = var\n%x = var\ninfer %x");
+        expect(false, "the numbers that the refusal shows", nullptr);
+    } catch (const souper::refused &refusal) {
+        expect(refusal.offset == 9 && refusal.line == 1 && refusal.column == 9, "the numbers that the refusal shows", nullptr);
+    }
+    const SouperOutcome outcome = {SOUPER_REFUSED, 0, 5, 1, 1, 1};
+    const souper::refused made("shown", outcome);
+    expect(!made.location && !made.at_end && made.offset == 1, "an exception without a location", nullptr);
+}
+
 void wrong_kind() {
     try {
         souper::format(static_cast<souper::kind>(7), "");
@@ -94,6 +139,7 @@ int main(int argc, char **argv) {
     }
     bytes();
     long_answers();
+    locations();
     wrong_kind();
     free_records(records);
     return summary("C++: the stored answers, exceptions, views without bytes");

@@ -290,6 +290,26 @@ void ill_formed(const char *what, const item &bad) {
     expect(is_ill_formed(k, {bad}, 0) && is_ill_formed(k, {good, good, bad, good}, 2), what, nullptr);
 }
 
+// What the exception for a left-hand side shows.
+void shows(const char *what, const item &bad, const std::string &shown) {
+    try {
+        souper::write(kind::lhs, {bad});
+        expect(false, what, nullptr);
+    } catch (const souper::not_well_formed &error) {
+        expect(error.what() == "item 0 is not well formed" + shown, what, nullptr);
+    }
+}
+
+void flaws() {
+    const souper::var var;
+    const item twice{{souper::assignment{"%x", 8, var, {}}, souper::pc{id{0}, souper::constant{1, {}}},
+                      souper::assignment{"%x", 8, var, {}}},
+                     souper::infer{id{2}, {}}};
+    shows("a name twice", twice, ": statement 2 (%x): an assignment before it has the same name");
+    shows("no statement", item{{}, souper::infer{id{0}, {}}}, ": infer line: an operand is no assignment");
+    shows("no code", item{{souper::assignment{"%x", 65536, var, {}}}, souper::infer{id{0}, {}}}, "");
+}
+
 item lhs_of(souper::assignment assigned) {
     return item{{std::move(assigned)}, souper::infer{id{0}, {}}};
 }
@@ -412,6 +432,7 @@ int main(int argc, char **argv) {
     operations();
     walks();
     ill_formed_values();
+    flaws();
     ill_formed_graphs();
     numbers();
     record_formats();

@@ -37,10 +37,20 @@ void __wrap_free(void *block) {
     __real_free(block);
 }
 
-enum { FORMAT, CHECK, SAME, READ, WRITE, KEY, CALLS };
+enum { FORMAT, CHECK, SAME, READ, WRITE, KEY, LOCATE, FLAW, CALLS };
 
 static uint8_t out[1 << 16], code[1 << 16];
 static size_t code_length;
+
+static SouperOutcome locate(const Record *record) {
+    SouperLocation location = souper_locate(record->kind, record->text, record->text_length);
+    return (SouperOutcome){location.status, 0, 0, location.offset, location.line, location.column};
+}
+
+static SouperOutcome flaw(const Record *record) {
+    SouperFlaw found = souper_flaw(record->kind, code, code_length);
+    return (SouperOutcome){found.status, 0, 0, found.position, 0, 0};
+}
 
 static SouperOutcome call(int which, const Record *record) {
     switch (which) {
@@ -56,6 +66,10 @@ static SouperOutcome call(int which, const Record *record) {
         return souper_write(record->kind, code, code_length, out, record->answer_length);
     case KEY:
         return souper_key(record->kind, SOUPER_KEY | SOUPER_RENAME, record->text, record->text_length, out, sizeof out);
+    case LOCATE:
+        return locate(record);
+    case FLAW:
+        return flaw(record);
     default:
         return souper_same(record->kind, record->text, record->text_length, record->answer, record->answer_length);
     }
@@ -96,7 +110,7 @@ static void refuse_each(int which, const Record *record) {
 
 /* Whether the call can be asked: the code of a text that is refused is none. */
 static int has_call(int which, const Record *record) {
-    if (which != WRITE) {
+    if (which != WRITE && which != FLAW) {
         return 1;
     }
     refused = 0;

@@ -21,7 +21,7 @@ const char *const canonical = "%x:i8 = var\n%y = add %x, 1\ninfer %y\n\n";
 
 bool is_none(const error &e) {
     return e.what == status::done && e.input == 0 && e.index == 0 && e.offset == 0 && e.line == 0 && e.column == 0
-        && e.shown.empty();
+        && e.shown.empty() && !e.why && !e.location && !e.at_end;
 }
 
 void done() {
@@ -60,9 +60,11 @@ void refused() {
     expect(wanted.offset > 0 && wanted.line == 2 && wanted.column > 0
                && wanted.shown.find("unknown value '%z'") != std::string::npos,
            "what a refusal shows", nullptr);
+    expect(wanted.location == souper::location{12, 2, 4} && !wanted.at_end, "its location", nullptr);
     const auto is_wanted = [&wanted](const error &got, unsigned input) {
         return got.what == wanted.what && got.input == input && got.index == 0 && got.offset == wanted.offset
-            && got.line == wanted.line && got.column == wanted.column && got.shown == wanted.shown;
+            && got.line == wanted.line && got.column == wanted.column && got.shown == wanted.shown
+            && got.location == wanted.location && got.at_end == wanted.at_end;
     };
     expect(!souper::try_check(kind::lhs, bad, yes, e) && is_wanted(e, 0) && !yes, "check, refused", nullptr);
     expect(!souper::try_same(kind::lhs, bad, "", yes, e) && is_wanted(e, 0), "same, refused first", nullptr);
@@ -72,6 +74,8 @@ void refused() {
            nullptr);
     expect(!souper::try_records(kind::lhs, bad, true, records, e) && is_wanted(e, 0) && records.empty(), "records, refused",
            nullptr);
+    expect(!souper::try_read(kind::lhs, "%x = var\ninfer \n", items, e) && e.location == souper::location{14, 2, 6} && e.at_end,
+           "read, an early end", nullptr);
 }
 
 void other_errors() {

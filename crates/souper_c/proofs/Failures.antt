@@ -5,7 +5,7 @@ use Rattle.std.proofs.lemmas.Bool.{cases_lt}
 use Rattle.souper_graph.specs.Syntax.Spelling.{ItemType, SpellsNone}
 use Rattle.souper_ir.specs.Laws.Peeks.{some_is}
 use Rattle.souper_ir.specs.Answers.{IsStrError}
-use Rattle.souper_ir.specs.Errors.{offset_of, line_of, column_of, shown_error, ShowsPlace, OnKind}
+use Rattle.souper_ir.specs.Errors.{offset_of, line_of, column_of, shown_error, HasLocation, ShowsPlace, OnKind}
 use Rattle.souper_ir.specs.Places.{IsRefusalTextAt}
 use Rattle.souper_ir.specs.declared.parse.ParseError.{ParseError}
 use Rattle.souper_c.specs.Kinds.{type_of_number}
@@ -19,13 +19,13 @@ use Rattle.souper_c.specs.declared.inputs.Failure.TheVariants.{NoKind, NotUtf8, 
 -- a refusal of the source, as the parser returns it
 abbrev IsRefusal : ItemType → List ℕ → ParseError → Type 0
 IsRefusal k source e = (offset : ℕ) × (offset_of e ≡ Some offset) × (offset ≤ length source) × SpellsNone k source
-    × ShowsPlace None source offset e
+    × ShowsPlace None source offset e × HasLocation source e
 
 -- the same, by the numbers and the text that the error has
 by_numbers : (k : ItemType) (source : List ℕ) (e : ParseError) (offset line column : ℕ) (shown : List ℕ) → IsRefusal k source e
     → offset_of e ≡ Some offset → line_of e ≡ Some line → column_of e ≡ Some column → shown_error e ≡ Some shown
     → SpellsNone k source × (offset ≤ length source) × IsRefusalTextAt None source offset line column shown
-by_numbers k source e offset line column shown (found, at, within, none, p) is_offset is_line is_column is_shown =
+by_numbers k source e offset line column shown (found, at, within, none, p, located) is_offset is_line is_column is_shown =
     let same : found ≡ offset = some_is (sym at ∙ is_offset) in
     let same_line : p.line ≡ line = some_is (sym p.line_is ∙ is_line) in
     let same_column : p.column ≡ column = some_is (sym p.column_is ∙ is_column) in (

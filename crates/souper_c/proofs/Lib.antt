@@ -1,3 +1,4 @@
 pub mod Failures
+pub mod Locations
 pub mod Same
 pub mod Writing

@@ -1,4 +1,6 @@
 pub mod Kinds
 pub mod Outcomes
 pub mod Failures
+pub mod Locations
 pub mod Records
+pub mod FlawAnswers

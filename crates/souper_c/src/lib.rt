@@ -5,7 +5,9 @@
 #![tactic(auto)]
 
 mod codes;
+mod flaw;
 mod inputs;
+mod location;
 mod outcome;
 mod records;
 #[cfg(test)]
@@ -20,14 +22,22 @@ ghost use Rattle.souper_c.specs.Outcomes.{HasNoPlace, BeginsWith, WritesTexts, W
 ghost use Rattle.souper_code.specs.Writing.{IsNoCode, IsNoCodeAt, IsCodeOfWellFormed, IsIllFormedAt};
 ghost use Rattle.souper_c.specs.Records.{RecordsTo, WritesRecords};
 ghost use Rattle.souper_c.specs.Failures.{short_outcome};
+ghost use Rattle.souper_c.specs.Locations.{HasNoLocation, LocatesFault};
+ghost use Rattle.souper_c.specs.FlawAnswers.{answer_without, IsFlawAnswer};
 
 use crate::codes::code;
+pub use crate::flaw::SouperFlaw;
+use crate::flaw::flaw_of_code;
 use crate::inputs::{Failure, canonical_text, items, read_kind};
+pub use crate::location::SouperLocation;
+use crate::location::locate;
 pub use crate::outcome::SouperOutcome;
 use crate::outcome::{DIFFERENT, DONE, NO_FLAGS, NO_KIND, OUT_OF_MEMORY, SHORT};
 use crate::records::{layout_of, records};
 use crate::texts::{outcome_of_stop, texts_of_code};
+use souper_format::command::Kind;
 use souper_format::same::same;
+use souper_ir::ast::{LeftHandSide, Replacement, RightHandSide};
 use std::alloc::Global;
 
 // Writes the bytes to the beginning of the buffer, if it has the room.
@@ -222,6 +232,28 @@ pub extern "C" fn souper_write(
     }
 }
 
+/// Where the item whose code `code` begins with is not well formed first, and why.
+///
+/// The kinds are as for [`souper_format`]. What comes after the code of the item is not read. The status is
+///
+/// - 0: the item is well formed.
+/// - 2: the kind is no kind.
+/// - 3: memory ran out.
+/// - 7: the bytes begin with the code of no item of the kind.
+/// - 8: the item is not well formed. `location`, `position` and `reason` are the numbers of its first flaw.
+#[unsafe(no_mangle)]
+pub extern "C" fn souper_flaw(alloc: Global, kind: u32, code: &[u8]) -> SouperFlaw
+    ensures no_kind { type_of_number kind ≡ None → result ≡ answer_without 2 }
+    ensures answered { IsKind kind → OfType kind (λ k. IsFlawAnswer k code.now result) }
+{
+    match read_kind(kind) {
+        Some(Kind::Lhs) => flaw_of_code::<LeftHandSide>(alloc, code),
+        Some(Kind::Rhs) => flaw_of_code::<RightHandSide>(alloc, code),
+        Some(Kind::Rep) => flaw_of_code::<Replacement>(alloc, code),
+        None => SouperFlaw::without(NO_KIND),
+    }
+}
+
 /// Whether `text` is canonical: the canonical text of each item that it spells, a newline after each.
 ///
 /// The kinds and the statuses 2, 3 and 4 are as for [`souper_format`]. Else the status is
@@ -252,6 +284,22 @@ pub extern "C" fn souper_check(alloc: Global, kind: u32, text: &[u8]) -> SouperO
         }
         Err(failure) => failure.outcome(0),
     }
+}
+
+/// Where `text` is at fault: unlike the place that an outcome has, where the token at fault begins, or where the text ends.
+///
+/// The kinds are as for [`souper_format`]. The status is 0 if the text spells items of the kind, and 1 if it is refused, with its location.
+/// Else it is 2, 3 or 4, as for [`souper_format`].
+#[unsafe(no_mangle)]
+pub extern "C" fn souper_locate(alloc: Global, kind: u32, text: &[u8]) -> SouperLocation
+    ensures known { result.status ≤ 4 }
+    ensures spelled { result.status ≡ 0 → SpellsSome kind text.now }
+    ensures refused { result.status ≡ 1 → LocatesFault kind text.now result }
+    ensures no_kind { (result.status ≡ 2) ↔ (type_of_number kind ≡ None) }
+    ensures no_text { (result.status ≡ 4) ↔ (IsKind kind × ¬ (IsUtf8 text.now)) }
+    ensures no_location { (result.status ≡ 1) ⊎ HasNoLocation result }
+{
+    locate(alloc, kind, text)
 }
 
 /// Whether two texts spell lists of one length, in which each item is the same graph as the one at its index in the

@@ -51,9 +51,9 @@ the values, and `Builder`.
 
 **Texts.** A text is a `str`, or `bytes` in UTF-8. Offsets and columns are in bytes of UTF-8.
 
-**Errors.** `Refused` if a text is invalid, `UnicodeError` if it is not UTF-8, `NotWellFormed` if an
-item has no canonical text, `NoCode` if bytes are the code of no items; these are `ValueError`.
-`MemoryError` if an allocation fails.
+**Errors.** `Refused`, with its `Location`, if a text is invalid, `UnicodeError` if it is not UTF-8,
+`NotWellFormed`, with the item's first `Flaw`, if an item has no canonical text, `NoCode` if bytes
+are the code of no items; these are `ValueError`. `MemoryError` if an allocation fails.
 
 **Threads.** There is no state, and values are immutable. Calls may run at once on any threads, and
 while the library works, other threads of Python run. A `Builder` is for one thread at a time.
@@ -67,7 +67,7 @@ from ._builder import Builder
 from ._calls import Record, canonical, check, format, key, keys, read, record_text, records, same
 from ._calls import write
 from ._code import decode, encode
-from ._errors import NoCode, NotWellFormed, Refused
+from ._errors import Flaw, FlawReason, Location, NoCode, NotWellFormed, Refused
 from ._values import (
     Assignment,
     Attribute,
@@ -115,6 +115,8 @@ __all__ = [
     "Constant",
     "DemandedBits",
     "Ending",
+    "Flaw",
+    "FlawReason",
     "HarvestedFromUse",
     "HasExternalUses",
     "Infer",
@@ -122,6 +124,7 @@ __all__ = [
     "Item",
     "Kind",
     "KnownBits",
+    "Location",
     "Negative",
     "NoCode",
     "NonNegative",

@@ -9,10 +9,10 @@ from typing import Any, NamedTuple
 from . import _library
 from ._checks import check_type
 from ._code import decode, encode
-from ._errors import NotWellFormed, Refused
+from ._errors import Flaw, FlawReason, Location, NotWellFormed, Refused
 from ._library import DIFFERENT, DONE, NOT_UTF8, NOT_WELL_FORMED, OUT_OF_MEMORY, REFUSED, SHORT
 from ._library import KEY, NUL, NUMBERS, RENAME, Outcome
-from ._values import Item, Kind
+from ._values import Assignment, Item, Kind
 
 
 def _utf8(text: str | bytes) -> bytes:
@@ -39,10 +39,20 @@ def _formatted(kind: Kind, data: bytes) -> tuple[Outcome, bytes]:
     return _written(_library.LIBRARY.souper_format, (NUMBERS[kind],), data, room)
 
 
-def _failure(outcome: Outcome, data: bytes, shown: bytes) -> Exception:
+def _refused(kind: Kind, outcome: Outcome, data: bytes, shown: bytes) -> Refused:
+    found = _library.LIBRARY.souper_locate(NUMBERS[kind], data, len(data))
+    location, at_end = None, False
+    if found.status == REFUSED:
+        location = Location(found.offset, found.line, found.column)
+        at_end = found.at_end == 1
+    numbers = (outcome.offset, outcome.line, outcome.column, outcome.input)
+    return Refused(shown.decode(), *numbers, location, at_end)
+
+
+def _failure(kind: Kind, outcome: Outcome, data: bytes, shown: bytes) -> Exception:
     """Why a call has no answer. `data` is the text that the outcome is about, `shown` a refusal."""
     if outcome.status == REFUSED:
-        return Refused(shown.decode(), outcome.offset, outcome.line, outcome.column, outcome.input)
+        return _refused(kind, outcome, data, shown)
     if outcome.status == OUT_OF_MEMORY:
         return MemoryError()
     if outcome.status == NOT_UTF8:
@@ -60,8 +70,8 @@ def _answer(kind: Kind, outcome: Outcome, data: bytes) -> bool:
     if outcome.status == REFUSED:
         again, shown = _formatted(kind, data)
         if again.status != REFUSED:
-            raise _failure(again, data, b"")
-    raise _failure(outcome, data, shown)
+            raise _failure(kind, again, data, b"")
+    raise _failure(kind, outcome, data, shown)
 
 
 def read(kind: Kind | str, text: str | bytes) -> list[Item]:
@@ -83,8 +93,25 @@ def read(kind: Kind | str, text: str | bytes) -> list[Item]:
     room = 3 * len(data) + 256
     outcome, out = _written(_library.LIBRARY.souper_read, (NUMBERS[kind],), data, room)
     if outcome.status != DONE:
-        raise _failure(outcome, data, out)
+        raise _failure(kind, outcome, data, out)
     return decode(kind, out)
+
+
+_LINES = ("infer", "result", "cand")
+_REASONS = tuple(FlawReason)
+
+
+def _flaw(kind: Kind, code: bytes, item: Item) -> Flaw | None:
+    """The first flaw of an item, with whose code the bytes begin."""
+    found = _library.LIBRARY.souper_flaw(NUMBERS[kind], code, len(code))
+    if found.status != NOT_WELL_FORMED:
+        return None
+    reason = _REASONS[found.reason - 1]
+    if found.location > 1:
+        return Flaw(_LINES[found.location - 2], reason)
+    statement = item.statements[found.position]
+    name = statement.name if isinstance(statement, Assignment) else None
+    return Flaw(found.position, reason, name)
 
 
 def write(kind: Kind | str, items: Iterable[Item]) -> str:
@@ -97,14 +124,18 @@ def write(kind: Kind | str, items: Iterable[Item]) -> str:
     >>> write("lhs", [Item((), Infer(Value(0)))])
     Traceback (most recent call last):
         ...
-    souper.NotWellFormed: item 0 is not well formed
+    souper.NotWellFormed: item 0 is not well formed: infer line: an operand is no assignment
     """
-    kind, code = Kind(kind), encode(kind, items)
+    kind = Kind(kind)
+    check_type("items", items, "an iterable of items", Iterable)
+    items = list(items)
+    code = encode(kind, items)
     outcome, out = _written(_library.LIBRARY.souper_write, (NUMBERS[kind],), code, len(code) + 256)
     if outcome.status == NOT_WELL_FORMED:
-        raise NotWellFormed(outcome.length)
+        index, begin = outcome.length, outcome.offset
+        raise NotWellFormed(index, _flaw(kind, code[begin:], items[index]))
     if outcome.status != DONE:
-        raise _failure(outcome, code, out)
+        raise _failure(kind, outcome, code, out)
     return out.decode()
 
 
@@ -130,9 +161,10 @@ def format(kind: Kind | str, text: str | bytes) -> str:
     '%x = var\\ninfer %x\\n\\n'
     """
     data = _utf8(text)
-    outcome, out = _formatted(Kind(kind), data)
+    kind = Kind(kind)
+    outcome, out = _formatted(kind, data)
     if outcome.status != DONE:
-        raise _failure(outcome, data, out)
+        raise _failure(kind, outcome, data, out)
     return out.decode()
 
 
@@ -207,11 +239,12 @@ def record_text(
     '%0 = var\\ninfer %0\\n\\n'
     """
     data = _utf8(text)
+    kind = Kind(kind)
     flags = (KEY if key else 0) | (RENAME if rename else 0) | (NUL if nul else 0)
-    head = (NUMBERS[Kind(kind)], flags)
+    head = (NUMBERS[kind], flags)
     outcome, out = _written(_library.LIBRARY.souper_key, head, data, 2 * len(data) + 256)
     if outcome.status != DONE:
-        raise _failure(outcome, data, out)
+        raise _failure(kind, outcome, data, out)
     return out.decode()
 
 

@@ -33,6 +33,40 @@ class Outcome(ctypes.Structure):
     ]
 
 
+class FlawNumbers(ctypes.Structure):
+    """The first flaw of an item, ``SouperFlaw`` of C."""
+
+    status: int
+    location: int
+    reason: int
+    position: int
+
+    _fields_ = [
+        ("status", ctypes.c_uint32),
+        ("location", ctypes.c_uint32),
+        ("reason", ctypes.c_uint32),
+        ("position", ctypes.c_size_t),
+    ]
+
+
+class LocationNumbers(ctypes.Structure):
+    """Where a text is at fault, ``SouperLocation`` of C."""
+
+    status: int
+    at_end: int
+    offset: int
+    line: int
+    column: int
+
+    _fields_ = [
+        ("status", ctypes.c_uint32),
+        ("at_end", ctypes.c_uint32),
+        ("offset", ctypes.c_size_t),
+        ("line", ctypes.c_size_t),
+        ("column", ctypes.c_size_t),
+    ]
+
+
 _BYTES = [ctypes.c_char_p, ctypes.c_size_t]
 _ROOM = [ctypes.POINTER(ctypes.c_char), ctypes.c_size_t]
 SIGNATURES: dict[str, list[Any]] = {
@@ -42,7 +76,11 @@ SIGNATURES: dict[str, list[Any]] = {
     "souper_key": [ctypes.c_uint32, ctypes.c_uint32, *_BYTES, *_ROOM],
     "souper_check": [ctypes.c_uint32, *_BYTES],
     "souper_same": [ctypes.c_uint32, *_BYTES, *_BYTES],
+    "souper_flaw": [ctypes.c_uint32, *_BYTES],
+    "souper_locate": [ctypes.c_uint32, *_BYTES],
 }
+# What a function returns that is no `Outcome`.
+_RESULTS: dict[str, Any] = {"souper_flaw": FlawNumbers, "souper_locate": LocationNumbers}
 
 
 def _load() -> ctypes.CDLL:
@@ -53,7 +91,7 @@ def _load() -> ctypes.CDLL:
         for name, arguments in SIGNATURES.items():
             function = getattr(library, name)
             function.argtypes = arguments
-            function.restype = Outcome
+            function.restype = _RESULTS.get(name, Outcome)
     except (OSError, AttributeError) as error:
         raise ImportError(
             f"{error}: build the library by embed/python/build, or set SOUPER_LIB to its path",

@@ -39,6 +39,18 @@ pub struct Record {
     pub null: bool,
 }
 
+/// Where a text is at fault: where the token at fault begins or, if the text ended where more is wanted, where it ends, without
+/// the white space at its end.
+#[derive(Clone, Copy, Debug, PartialEq, Eq, Hash)]
+pub struct Location {
+    /// In bytes, from the first byte of the text.
+    pub offset: usize,
+    /// From 1.
+    pub line: usize,
+    /// In bytes and from 1.
+    pub column: usize,
+}
+
 /// Why and where a text was refused.
 #[derive(Clone, Debug, PartialEq, Eq)]
 pub struct Refusal {
@@ -47,6 +59,8 @@ pub struct Refusal {
     line: usize,
     column: usize,
     input: usize,
+    location: Option<Location>,
+    at_end: bool,
 }
 
 impl Refusal {
@@ -68,6 +82,25 @@ impl Refusal {
     /// The column of that byte, in bytes and from 1.
     pub fn column(&self) -> usize {
         self.column
+    }
+
+    /// Where the text is at fault. The line and the column of [`Refusal::line`] and [`Refusal::column`] are of the byte before.
+    /// `None` if memory ran out for it.
+    ///
+    /// ```
+    /// use souper_ir::canonical::{format, Error, Kind, Location};
+    ///
+    /// let Err(Error::Refused(refusal)) = format(Kind::Lhs, "%x = var\ninfer %y") else { panic!("%y is unknown") };
+    /// assert_eq!(refusal.location(), Some(Location { offset: 15, line: 2, column: 7 }));
+    /// assert!(!refusal.is_at_end());
+    /// ```
+    pub fn location(&self) -> Option<Location> {
+        self.location
+    }
+
+    /// Whether the text ended where more is wanted, so that a longer text might not be refused. False without a location.
+    pub fn is_at_end(&self) -> bool {
+        self.at_end
     }
 
     /// Which text of the call was refused: 0 for the first, 1 for the second.
@@ -161,7 +194,7 @@ pub(crate) fn written(call: Call, kind: Kind, text: &str, room: usize) -> Result
     let outcome = raw::call(call, kind, text.as_bytes(), room, &mut out);
     match outcome.status {
         raw::DONE => Ok(out),
-        raw::REFUSED => Err(refused(&outcome, string(out))),
+        raw::REFUSED => Err(refused(kind, text, &outcome, string(out))),
         _ => Err(Error::OutOfMemory),
     }
 }
@@ -175,7 +208,7 @@ fn answer(kind: Kind, outcome: &Outcome, text: &str) -> Result<bool, Error> {
             let mut shown = Vec::new();
             let input = text.as_bytes();
             match raw::call(Call::Format, kind, input, outcome.length, &mut shown).status {
-                raw::REFUSED => Err(refused(outcome, string(shown))),
+                raw::REFUSED => Err(refused(kind, text, outcome, string(shown))),
                 _ => Err(Error::OutOfMemory),
             }
         }
@@ -192,12 +225,21 @@ fn string(bytes: Vec<u8>) -> String {
     String::from_utf8(bytes).expect("the library writes UTF-8")
 }
 
-fn refused(outcome: &Outcome, shown: String) -> Error {
+// The error of a text that was refused with that outcome.
+fn refused(kind: Kind, text: &str, outcome: &Outcome, shown: String) -> Error {
+    let found = raw::locate(kind, text);
+    let location = (found.status == raw::REFUSED).then_some(Location {
+        offset: found.offset,
+        line: found.line,
+        column: found.column,
+    });
     Error::Refused(Refusal {
         shown,
         offset: outcome.offset,
         line: outcome.line,
         column: outcome.column,
         input: outcome.input as usize,
+        location,
+        at_end: found.at_end != 0,
     })
 }

@@ -16,12 +16,14 @@
 //! ```
 mod decoder;
 mod encoder;
+mod flaw;
 
 use crate::ast::{LeftHandSide, Replacement, RightHandSide};
 use crate::canonical::{self, Kind};
 use crate::raw::{self, Call};
 use decoder::{Decode, Decoder};
 use encoder::Encode;
+pub use flaw::{Flaw, FlawLocation, FlawReason};
 use std::fmt;
 
 /// A type of item: [`LeftHandSide`], [`RightHandSide`] or [`Replacement`].
@@ -29,7 +31,7 @@ pub trait Item: Decode + Encode {
     /// The kind of the texts that spell such items.
     const KIND: Kind;
 
-    /// The canonical text, as `Display` writes it, or why there is none. (`to_string` and `write!` panic if there is none.)
+    /// The canonical text, as `Display` writes it, or an error if there is none. (`to_string` and `write!` panic if there is none.)
     ///
     /// ```
     /// use souper_ir::ast::LeftHandSide;
@@ -53,7 +55,7 @@ pub trait Item: Decode + Encode {
     ///
     /// # Errors
     ///
-    /// [`Error::NotWellFormed`] or [`Error::OutOfMemory`].
+    /// [`Error::NotWellFormed`], of which [`Item::flaw`] says why, or [`Error::OutOfMemory`].
     fn to_text(&self) -> Result<String, Error> {
         let mut code = Vec::new();
         self.encode(&mut code);
@@ -61,6 +63,35 @@ pub trait Item: Decode + Encode {
         // The newline that the library writes after each item.
         text.pop();
         Ok(text)
+    }
+
+    /// The first flaw of the item, or `None` if it is [well formed](crate::ast).
+    ///
+    /// ```
+    /// use souper_ir::ast::LeftHandSide;
+    /// use souper_ir::code::Item;
+    /// use souper_ir::parse::parse_left_hand_sides_str;
+    ///
+    /// let mut item = parse_left_hand_sides_str("%x = var  infer %x", None)?.remove(0);
+    /// assert_eq!(item.flaw()?, None);
+    /// item.statements = Default::default();
+    /// let flaw = item.flaw()?.expect("the root is gone");
+    /// assert_eq!(flaw.to_string(), "infer line: an operand is no assignment");
+    /// # Ok::<(), Box<dyn std::error::Error>>(())
+    /// ```
+    ///
+    /// # Errors
+    ///
+    /// [`Error::OutOfMemory`].
+    fn flaw(&self) -> Result<Option<Flaw>, Error> {
+        let mut code = Vec::new();
+        self.encode(&mut code);
+        let found = raw::flaw(Self::KIND, &code);
+        match found.status {
+            raw::DONE => Ok(None),
+            raw::NOT_WELL_FORMED => Ok(Flaw::new(found, self.statements())),
+            _ => Err(Error::OutOfMemory),
+        }
     }
 }
 
@@ -102,7 +133,7 @@ impl std::error::Error for NoCode {}
 pub enum Error {
     /// It is the code of no list of items of the kind.
     NoCode(NoCode),
-    /// An item is not [well formed](crate::ast).
+    /// An item is not [well formed](crate::ast). [`Item::flaw`] says where it is not, and why.
     NotWellFormed {
         /// The index of the item, from 0.
         index: usize,

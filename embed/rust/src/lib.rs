@@ -66,7 +66,7 @@
 //! | `souper-ir` 2.1.0 | This crate |
 //! |---|---|
 //! | `Display` drops path conditions | it prints the canonical text, with the path conditions and the statements that they need |
-//! | `Display` prints texts that cannot be read, or panics | it gives `fmt::Error` for an item that is not [well formed](ast), and then `to_string` panics, and `write!` to an `io::Write` too; [`code::Item::to_text`] returns why |
+//! | `Display` prints texts that cannot be read, or panics | it gives `fmt::Error` for an item that is not [well formed](ast), and then `to_string` panics, and `write!` to an `io::Write` too; [`code::Item::to_text`] returns an error, and [`code::Item::flaw`] why |
 //! | a builder's value without a name may get the name of another value | it gets the next number that no name of the builder has |
 //! | a `blockpc` may name a predecessor that its block has not | the text is refused |
 //! | `cand %1, %2` is refused | it is read, and printed without the comma |
@@ -77,7 +77,8 @@
 //! | memory that runs out ends the process | in the library it is an error; where this crate makes values, it ends the process |
 //!
 //! Besides the original, there are [`canonical`] (texts without values), [`code`] (the byte code of items),
-//! [`ast::Constant::from_bits`] and [`parse::ParseError::refusal`].
+//! [`ast::Constant::from_bits`], and [`refusal`](parse::ParseError::refusal), [`location`](parse::ParseError::location) and
+//! [`is_at_end`](parse::ParseError::is_at_end) of [`parse::ParseError`].
 //!
 //! There is no state; calls may run on any threads at once.
 //!

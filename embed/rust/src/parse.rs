@@ -33,7 +33,7 @@
 //! # Ok::<(), souper_ir::parse::ParseError>(())
 //! ```
 use crate::ast::{LeftHandSide, Replacement, RightHandSide};
-use crate::canonical::{self, Refusal};
+use crate::canonical::{self, Location, Refusal};
 use crate::code::{self, Item};
 use std::path::{Path, PathBuf};
 use std::{fmt, io};
@@ -61,6 +61,17 @@ impl ParseError {
             Reason::Refused(refusal, _) => Some(refusal),
             _ => None,
         }
+    }
+
+    /// Where the text is at fault: [`Refusal::location`]. `None` also if a file could not be read, or if memory ran out.
+    pub fn location(&self) -> Option<Location> {
+        self.refusal()?.location()
+    }
+
+    /// Whether the text ended where more is wanted: [`Refusal::is_at_end`]. False also if a file could not be read, or if memory
+    /// ran out.
+    pub fn is_at_end(&self) -> bool {
+        self.refusal().is_some_and(Refusal::is_at_end)
     }
 }
 

@@ -24,6 +24,25 @@ pub(crate) struct Outcome {
     pub(crate) column: usize,
 }
 
+#[repr(C)]
+#[derive(Clone, Copy)]
+pub(crate) struct Flaw {
+    pub(crate) status: u32,
+    pub(crate) location: u32,
+    pub(crate) reason: u32,
+    pub(crate) position: usize,
+}
+
+#[repr(C)]
+#[derive(Clone, Copy)]
+pub(crate) struct Location {
+    pub(crate) status: u32,
+    pub(crate) at_end: u32,
+    pub(crate) offset: usize,
+    pub(crate) line: usize,
+    pub(crate) column: usize,
+}
+
 extern "C" {
     fn souper_format(kind: u32, text: *const u8, n: usize, out: *mut u8, room: usize) -> Outcome;
     fn souper_read(kind: u32, text: *const u8, n: usize, out: *mut u8, room: usize) -> Outcome;
@@ -38,6 +57,8 @@ extern "C" {
     ) -> Outcome;
     fn souper_check(kind: u32, text: *const u8, n: usize) -> Outcome;
     fn souper_same(kind: u32, a: *const u8, n: usize, b: *const u8, m: usize) -> Outcome;
+    fn souper_flaw(kind: u32, code: *const u8, n: usize) -> Flaw;
+    fn souper_locate(kind: u32, text: *const u8, n: usize) -> Location;
 }
 
 /// A call that writes to a buffer.
@@ -102,4 +123,14 @@ pub(crate) fn check(kind: Kind, text: &str) -> Outcome {
 pub(crate) fn same(kind: Kind, a: &str, b: &str) -> Outcome {
     // SAFETY: the pointers of slices are not null.
     unsafe { souper_same(kind as u32, a.as_ptr(), a.len(), b.as_ptr(), b.len()) }
+}
+
+pub(crate) fn flaw(kind: Kind, code: &[u8]) -> Flaw {
+    // SAFETY: the pointer of a slice is not null.
+    unsafe { souper_flaw(kind as u32, code.as_ptr(), code.len()) }
+}
+
+pub(crate) fn locate(kind: Kind, text: &str) -> Location {
+    // SAFETY: the pointer of a slice is not null.
+    unsafe { souper_locate(kind as u32, text.as_ptr(), text.len()) }
 }

@@ -4,6 +4,14 @@ mod common;
 use common::{records, Record};
 use souper_ir::canonical::{check, format, same, Error, Kind};
 
+// The line and the column of the byte after that many.
+fn place(text: &str, before: usize) -> (usize, usize) {
+    let lines: Vec<_> = text.as_bytes()[..before]
+        .split(|byte| *byte == b'\n')
+        .collect();
+    (lines.len(), lines[lines.len() - 1].len() + 1)
+}
+
 fn refuses(error: Error, record: &Record, input: usize) {
     let Error::Refused(refusal) = &error else {
         panic!("{error}")
@@ -14,11 +22,23 @@ fn refuses(error: Error, record: &Record, input: usize) {
     );
     assert_eq!(error.to_string(), record.answer);
     // The byte before the offset, or the first.
-    let before = &record.text.as_bytes()[..refusal.offset().saturating_sub(1)];
-    let lines: Vec<_> = before.split(|byte| *byte == b'\n').collect();
     assert_eq!(
         (refusal.line(), refusal.column()),
-        (lines.len(), lines[lines.len() - 1].len() + 1)
+        place(&record.text, refusal.offset().saturating_sub(1))
+    );
+    let location = refusal.location().expect("there is memory");
+    let expected = if refusal.is_at_end() {
+        record
+            .text
+            .trim_end_matches(|c| " \t\n\r\u{c}".contains(c))
+            .len()
+    } else {
+        refusal.offset()
+    };
+    assert_eq!(location.offset, expected);
+    assert_eq!(
+        (location.line, location.column),
+        place(&record.text, expected)
     );
 }
 

@@ -4,6 +4,7 @@ use souper_ir::ast::{
     LeftHandSideBuilder, Operand, Pc, Phi, ReplacementBuilder, RootAttribute, Statement, Type,
     ValueId,
 };
+use souper_ir::code::{FlawLocation, FlawReason, Item as _};
 use souper_ir::{code, parse};
 use std::fmt::{Display, Write};
 
@@ -156,6 +157,22 @@ fn an_item_that_is_not_well_formed_is_not_printed() {
     let none = Some(Type { width: 0 });
     let x = lhs.assignment(None, none, AssignmentRhs::Var, vec![]);
     is_not_printed(&lhs.finish(x, []));
+}
+
+#[test]
+fn the_first_flaw_is_told() {
+    let mut lhs = LeftHandSideBuilder::default();
+    let x = var(&mut lhs, "%x");
+    lhs.pc(x, number(1));
+    let (a, b) = (x.into(), x.into());
+    let again = lhs.assignment(Some("%x".into()), None, Instruction::Xor { a, b }, vec![]);
+    let flaw = lhs.clone().finish(again, []).flaw().unwrap().unwrap();
+    assert_eq!(flaw.location, FlawLocation::Statement(2));
+    assert_eq!(flaw.reason, FlawReason::DuplicateName);
+    assert_eq!(flaw.name.as_deref(), Some("%x"));
+    let shown = "statement 2 (%x): an assignment before it has the same name";
+    assert_eq!(flaw.to_string(), shown);
+    assert_eq!(lhs.finish(x, []).flaw(), Ok(None));
 }
 
 #[test]

@@ -1,7 +1,9 @@
-//! Errors of the functions of `parse`.
+//! Errors of the functions of `parse`, and where texts are at fault.
+use souper_ir::canonical::{check, format, key, same, Error, Kind, Location, Record};
+use souper_ir::code;
 use souper_ir::parse::{
     parse_left_hand_sides_file, parse_left_hand_sides_str, parse_replacements_file,
-    parse_right_hand_sides_file, ParseError,
+    parse_replacements_str, parse_right_hand_sides_file, parse_right_hand_sides_str, ParseError,
 };
 use std::path::{Path, PathBuf};
 
@@ -37,6 +39,84 @@ fn a_refusal_shows_the_file_and_the_line() {
     );
 }
 
+// The error of reading the text as values.
+fn parse_error(kind: Kind, text: &str) -> ParseError {
+    match kind {
+        Kind::Lhs => parse_left_hand_sides_str(text, None).unwrap_err(),
+        Kind::Rhs => parse_right_hand_sides_str(text, None).unwrap_err(),
+        Kind::Rep => parse_replacements_str(text, None).unwrap_err(),
+    }
+}
+
+// Each call finds the text at fault there.
+fn is_located(kind: Kind, text: &str, (offset, line, column): (usize, usize, usize), at_end: bool) {
+    let location = Some(Location {
+        offset,
+        line,
+        column,
+    });
+    let error = parse_error(kind, text);
+    assert_eq!(
+        (error.location(), error.is_at_end()),
+        (location, at_end),
+        "{text}"
+    );
+    for error in [
+        format(kind, text).unwrap_err(),
+        key(kind, text, Record::default()).unwrap_err(),
+        check(kind, text).unwrap_err(),
+        same(kind, text, "x").unwrap_err(),
+        same(kind, "", text).unwrap_err(),
+        code::read(kind, text).unwrap_err(),
+    ] {
+        let Error::Refused(refusal) = error else {
+            panic!("{error}")
+        };
+        assert_eq!(
+            (refusal.location(), refusal.is_at_end()),
+            (location, at_end),
+            "{text}"
+        );
+    }
+}
+
+#[test]
+fn a_text_is_located_where_the_token_at_fault_begins() {
+    for (text, location) in [
+        ("%x = var\n%y = frob %x\ninfer %y", (14, 2, 6)),
+        ("%x = var\n%x = var\ninfer %x", (9, 2, 1)),
+        ("%x = var\ninfer %x\n\n%y = var\ninfer %z\n", (34, 5, 7)),
+        ("5", (0, 1, 1)),
+        ("%x = var ; \u{e9}\ninfer\u{2003}%x 5", (25, 2, 12)),
+    ] {
+        is_located(Kind::Lhs, text, location, false);
+    }
+}
+
+#[test]
+fn a_text_that_ends_early_is_located_at_its_end_without_white_space() {
+    for text in [
+        "%x = var\ninfer",
+        "%x = var\ninfer\n",
+        "%x = var\ninfer \t\n  ",
+    ] {
+        is_located(Kind::Lhs, text, (14, 2, 6), true);
+    }
+    is_located(Kind::Rhs, "result 1\nresult", (15, 2, 7), true);
+    is_located(Kind::Rep, "%x = var\ncand %x", (16, 2, 8), true);
+}
+
+#[test]
+fn the_numbers_that_a_refusal_shows_are_of_the_byte_before() {
+    let error = parse_error(Kind::Lhs, "%x = var\n%x = var\ninfer %x");
+    let refusal = error.refusal().unwrap();
+    assert_eq!(
+        (refusal.offset(), refusal.line(), refusal.column()),
+        (9, 1, 9)
+    );
+    assert_eq!(refusal, &refusal.clone());
+}
+
 #[test]
 fn a_file_is_read() {
     let file = File::new("lhs", b"%x = var infer %x %y = var infer %y");
@@ -62,6 +142,7 @@ fn a_file_that_is_not_there_is_an_io_error() {
     ] {
         assert_eq!(error.to_string(), format!("IO error: {expected}"));
         assert!(error.refusal().is_none());
+        assert!(error.location().is_none() && !error.is_at_end());
     }
 }
 
