@@ -7,8 +7,8 @@ use souper_records::layout::PLAIN;
 use souper_records::run::each_run;
 use souper_stream::StreamItem;
 use std::alloc::Global;
-use std::io;
 use std::io::BufReader;
+use std::{io, str};
 
 // So few bytes are read at a time that most items lie in several reads.
 const CAPACITY: usize = 7;
@@ -41,7 +41,17 @@ fn made_of<T: StreamItem + Drop>(alloc: Global, text: &str) -> io::Result<Made> 
     })
 }
 
-// True if the records of the text are the stored texts, or it is refused as stored.
+// What a parse error says, on its first line, after the name, the line and the column.
+fn message_of(shown: &str) -> Option<&str> {
+    let (_, rest) = shown.split_once(':')?;
+    let (_, rest) = rest.split_once(':')?;
+    let (_, rest) = rest.split_once(':')?;
+    let (message, _) = rest.split_once('\n')?;
+    Some(message)
+}
+
+// True if the records of the text are the stored texts, or it is refused with the stored message. A stored error has the place that
+// `ParseError` shows, a stream's error its location.
 fn is_as_stored(alloc: Global, stored: &Record<'_>) -> io::Result<bool> {
     let made = match stored.kind {
         Kind::Lhs => made_of::<LeftHandSide>(alloc, stored.text)?,
@@ -49,8 +59,11 @@ fn is_as_stored(alloc: Global, stored: &Record<'_>) -> io::Result<bool> {
         Kind::Rep => made_of::<Replacement>(alloc, stored.text)?,
     };
     if stored.is_refused {
-        let shown = made.err.as_slice().strip_suffix(b"\n");
-        Ok(made.status == 1 && shown == Some(stored.answer.as_bytes()))
+        let shown = str::from_utf8(&made.err).unwrap_or("");
+        match (message_of(shown), message_of(stored.answer)) {
+            (Some(message), Some(wanted)) => Ok(made.status == 1 && message == wanted),
+            _ => Ok(false),
+        }
     } else {
         let is_silent = made.status == 0 && made.err.is_empty();
         Ok(is_silent && made.out.as_slice() == stored.answer.as_bytes())
