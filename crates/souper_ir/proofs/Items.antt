@@ -6,3 +6,4 @@ pub mod Texts
 pub mod OneText
 pub mod Joining
 pub mod Parting
+pub mod Starts

@@ -20,12 +20,3 @@ PrefixSpells k source items = (ts : List (ℕ × Lexeme)) × (rest : List ℕ) �
 -- the sink took the items that tokens spell with which the text begins
 abbrev pub TakesPrefix : {S : Type 0} → (S → S → List Item → Type 0) → ItemType → List ℕ → S → S → Type 0
 TakesPrefix holds k source old new = (items : List Item) × PrefixSpells k source items × TakesOver holds items old new
-
--- the sink took the items that the parser's first tokens spell
-pub record TakesFirst {S : Type 0} (holds : S → S → List Item → Type 0) (k : ItemType) (p : Parsing) (old new : S) : Type 0 where
-  pub items : List Item
-  pub used : List (ℕ × Lexeme)
-  pub others : List (ℕ × Lexeme)
-  pub parts : p.tokens ≡ used ++ others
-  pub spelled : list_spells k items (kinds used)
-  pub taken : TakesOver holds items old new

@@ -18,7 +18,8 @@ use Rattle.souper_ir.specs.NodeReadings.{starts_statement, is_any}
 use Rattle.souper_ir.specs.Laws.Statements.{begins_line, starts_begins, infer_ends, operand_ends, cand_ends, statement_first}
 use Rattle.souper_ir.specs.Laws.Items.{joined_last, joined_longer, starts_ahead, item_alone}
 use Rattle.souper_ir.specs.ItemRuns.{ItemsTaken, SpellsAll, ListRefusal}
-use Rattle.souper_ir.specs.Sinks.{TakesOver, TakesFirst}
+use Rattle.souper_ir.specs.Sinks.{TakesOver}
+use Rattle.souper_ir.specs.Starts.{SpellEachFrom, TakesFirst}
 use Rattle.souper_lexer.proofs.TokenLaws.{one_reading}
 use Rattle.souper_ir.proofs.Nodes.Failing.{refused_for}
 use Rattle.souper_ir.proofs.Items.WellFormed.{taken_well}
@@ -85,7 +86,7 @@ last_later : (v : Item) (vs : List Item) (t : Lexeme) → LastGoesOn item_contin
 last_later v [] t h = absurd h
 last_later v (w ∷ vs) t h = h
 
-last_of_push : (vs : List Item) (v : Item) (t : Lexeme) → LastGoesOn item_continues (vs ++ v ∷ []) t → item_continues v t
+pub last_of_push : (vs : List Item) (v : Item) (t : Lexeme) → LastGoesOn item_continues (vs ++ v ∷ []) t → item_continues v t
 last_of_push [] v t h = h
 last_of_push (w ∷ []) v t h = h
 last_of_push (w ∷ (x ∷ xs)) v t h = last_of_push (x ∷ xs) v t h
@@ -95,7 +96,7 @@ no_start [] more st e = st
 no_start (t ∷ a) more st e = absurd cc
 
 -- an item has a token
-item_some : (k : ItemType) (a : Item) (ts more : List Lexeme) → item_spells k a ts → ts ++ more ≡ [] → ⊥
+pub item_some : (k : ItemType) (a : Item) (ts more : List Lexeme) → item_spells k a ts → ts ++ more ≡ [] → ⊥
 item_some k a ts more h e = no_start ts more (item_begins k a ts h) e
 
 -- the first items of two lists that the same tokens spell
@@ -121,11 +122,18 @@ text_alone k bs vs ws m n =
 
 -- ---- the loop
 
-list_push : (k : ItemType) (vs : List Item) (v : Item) (a b : List Lexeme) → list_spells k vs a → item_spells k v b → list_spells k (vs ++ v ∷ []) (a ++ b)
+pub none_follow : (ts : List Lexeme) → Free (λ t. LastGoesOn item_continues [] t) ts
+none_follow [] = tt
+none_follow (t ∷ ts) = λ h. h
+
+unfoldable pub none_taken : (k : ItemType) (p : Parsing) → p.scope ≡ [] → ItemsTaken k [] p p
+none_taken k p empty = record { used = []; parts = refl; spelled = refl; free = none_follow (kinds p.tokens); state = refl; empty = empty }
+
+pub list_push : (k : ItemType) (vs : List Item) (v : Item) (a b : List Lexeme) → list_spells k vs a → item_spells k v b → list_spells k (vs ++ v ∷ []) (a ++ b)
 list_push k [] v a b m sp = joined_last a b m sp
 list_push k (w ∷ ws) v a b m sp = joined_longer b m (list_push k ws v m.suffix b m.second sp)
 
-pub runs_on : (k : ItemType) (vs : List Item) (v : Item) (p q r : Parsing) → ItemsTaken k vs p q → Took (item_spells_after k) item_continues (λ s. []) v q r → ItemsTaken k (vs ++ v ∷ []) p r
+unfoldable pub runs_on : (k : ItemType) (vs : List Item) (v : Item) (p q r : Parsing) → ItemsTaken k vs p q → Took (item_spells_after k) item_continues (λ s. []) v q r → ItemsTaken k (vs ++ v ∷ []) p r
 runs_on k vs v p q r so took =
     let scope : q.scope ≡ [] = ap (λ (x : Parsing). x.scope) so.state ∙ so.empty in
     let sp : item_spells k v (kinds took.used) = subst (λ (x : List PlainStatement). item_spells_after k x v (kinds took.used)) scope took.spelled in
@@ -153,14 +161,21 @@ none_left : (faulty : Bool) (ts : List (ℕ × Lexeme)) → Stops (λ t. is_any 
 none_left faulty [] h = (refl, h)
 none_left faulty (t ∷ ts) h = absurd (h refl)
 
-pub all_taken : (k : ItemType) (vs : List Item) (p q r : Parsing) → ItemsTaken k vs p q → IsRead (peek_at is_any q) false q r → SpellsAll k vs p
-all_taken k vs p q r so h =
+all_used : (k : ItemType) (vs : List Item) (p q r : Parsing) → (so : ItemsTaken k vs p q) → IsRead (peek_at is_any q) false q r → (p.tokens ≡ so.used) × (q.faulty ≡ false)
+all_used k vs p q r so h =
     let seen = peeked is_any q r false h.0 in
     let none = none_left q.faulty q.tokens (peeked_no is_any q.faulty q.tokens seen.2) in
-    let whole : p.tokens ≡ so.used = so.parts ∙ ap (λ (x : List (ℕ × Lexeme)). so.used ++ x) none.0 ∙ append-nil so.used in
+    (so.parts ∙ ap (λ (x : List (ℕ × Lexeme)). so.used ++ x) none.0 ∙ append-nil so.used, none.1)
+
+pub all_from : (k : ItemType) (vs : List Item) (starts : List ℕ) (p q r : Parsing) → (so : ItemsTaken k vs p q) → SpellEachFrom k vs starts so.used → IsRead (peek_at is_any q) false q r → SpellEachFrom k vs starts p.tokens
+all_from k vs starts p q r so each h = subst (λ (x : List (ℕ × Lexeme)). SpellEachFrom k vs starts x) (sym (all_used k vs p q r so h).0) each
+
+pub all_taken : (k : ItemType) (vs : List Item) (p q r : Parsing) → ItemsTaken k vs p q → IsRead (peek_at is_any q) false q r → SpellsAll k vs p
+all_taken k vs p q r so h =
+    let all = all_used k vs p q r so h in
     record {
-      spelled = subst (λ (x : List (ℕ × Lexeme)). list_spells k vs (kinds x)) (sym whole) so.spelled;
-      sound = sym (ap (λ (x : Parsing). x.faulty) so.state) ∙ none.1;
+      spelled = subst (λ (x : List (ℕ × Lexeme)). list_spells k vs (kinds x)) (sym all.0) so.spelled;
+      sound = sym (ap (λ (x : Parsing). x.faulty) so.state) ∙ all.1;
     }
 
 failed_same : (k : ItemType) (vs : List Item) (p q : Parsing) → ItemsTaken k vs p q → q.failed ≡ p.failed
@@ -268,6 +283,7 @@ pushed_some (w ∷ vs) v e = absurd cc
 
 -- ---- what a sink took before a refusal
 
-pub taken_first : {S : Type 0} (holds : S → S → List Item → Type 0) (k : ItemType) (items : List Item) (f : Option Cause) (p q : Parsing) (old new : S) → ItemsTaken k items p q → TakesOver holds items old new
-    → IfRefused f (TakesFirst holds k p old new)
-taken_first holds k items f p q old new so taken = refused_for f (record { items = items; used = so.used; others = q.tokens; parts = so.parts; spelled = so.spelled; taken = taken })
+pub taken_first : {S : Type 0} (holds : S → S → List Item → Type 0) (k : ItemType) (items : List Item) (starts : List ℕ) (kept : List ℕ → Type 0) (f : Option Cause) (p q : Parsing) (old new : S) → (so : ItemsTaken k items p q) → TakesOver holds items old new
+    → SpellEachFrom k items starts so.used → kept starts → IfRefused f (TakesFirst holds k kept p old new)
+taken_first holds k items starts kept f p q old new so taken each has =
+    refused_for f (record { items = items; starts = starts; used = so.used; others = q.tokens; parts = so.parts; spelled = so.spelled; each = each; taken = taken; has = has })

@@ -14,7 +14,8 @@ use Rattle.souper_ir.specs.Answers.{IsStrError}
 use Rattle.souper_ir.specs.Parsing.{Cause, refused, Parsing}
 use Rattle.souper_ir.specs.Reading.{cause_of, IfRefused}
 use Rattle.souper_ir.specs.ItemRuns.{SpellsAll, NoList, ListRefusal}
-use Rattle.souper_ir.specs.Sinks.{TakesFirst, TakesPrefix}
+use Rattle.souper_ir.specs.Sinks.{TakesPrefix}
+use Rattle.souper_ir.specs.Starts.{PrefixSpellsFrom, TakesFirst, TakesFrom}
 
 -- the tokens of a text without a fault are those that it is a text of
 pub is_text : (bs : List ℕ) (ts : List (ℕ × Lexeme)) (faulty : Bool) → AreTokensOf bs ts faulty → faulty ≡ false → IsTextOf bs ts
@@ -73,16 +74,22 @@ module _ (k : ItemType) (file : Option (List ℕ)) (bs : List ℕ) (e new : Pars
 
 -- ---- what a sink took before a refusal
 
-pub begins_prefix : (ts us : List (ℕ × Lexeme)) (n : ℕ) (bs rest : List ℕ) → Begins n bs (ts ++ us) rest → (mid : List ℕ) × Begins n bs ts mid
+begins_prefix : (ts us : List (ℕ × Lexeme)) (n : ℕ) (bs rest : List ℕ) → Begins n bs (ts ++ us) rest → (mid : List ℕ) × Begins n bs ts mid
 begins_prefix [] us n bs rest h = (bs, refl)
 begins_prefix (t ∷ ts) us n bs rest h =
     let r = begins_prefix ts us (t.0 + length (spelling t.1)) h.after rest h.more in
     (r.0, record { gap = h.gap; after = h.after; stands = h.stands; offset_is = h.offset_is; more = r.1 })
 
-prefix_taken : {S : Type 0} (holds : S → S → List Item → Type 0) (k : ItemType) (bs : List ℕ) (p : Parsing) (old new : S) → AreTokensOf bs p.tokens p.faulty → TakesFirst holds k p old new → TakesPrefix holds k bs old new
-prefix_taken holds k bs p old new h t =
-    let b = begins_prefix t.used t.others 0 bs h.rest (subst (λ (x : List (ℕ × Lexeme)). Begins 0 bs x h.rest) t.parts h.front) in
-    (t.items, (t.used, b.0, b.1, t.spelled), t.taken)
+abbrev pub TakesBefore : {S : Type 0} → (S → S → List Item → Type 0) → ItemType → (List ℕ → Type 0) → List ℕ → S → S → Type 0
+TakesBefore holds k kept bs old new = TakesPrefix holds k bs old new × TakesFrom holds (PrefixSpellsFrom k bs) kept old new
+
+prefix_taken : {S : Type 0} (holds : S → S → List Item → Type 0) (k : ItemType) (kept : List ℕ → Type 0) (bs : List ℕ) (p : Parsing) (old new : S) → AreTokensOf bs p.tokens p.faulty → TakesFirst holds k kept p old new
+    → TakesBefore holds k kept bs old new
+prefix_taken holds k kept bs p old new h t =
+    let b = begins_prefix t.used t.others 0 bs h.rest (subst (λ (x : List (ℕ × Lexeme)). Begins 0 bs x h.rest) t.parts h.front) in (
+      (t.items, (t.used, b.0, b.1, t.spelled), t.taken),
+      record { items = t.items; starts = t.starts; spelled = (t.used, b.0, b.1, t.each); taken = t.taken; has = t.has },
+    )
 
 parse_cause : (e : ParseError) → kind_of e ≡ Parse → (o : ℕ) × (cause_of e ≡ Some (refused o))
 parse_cause e kind = under e.cause refl
@@ -100,8 +107,8 @@ located_kind file bs e new l kind = under (kind_of e) refl l
     under Parse at same = at
     under Memory at same = sym (ap kind_of same) ∙ kind
 
-pub taken_before : {S : Type 0} (holds : S → S → List Item → Type 0) (k : ItemType) (file : Option (List ℕ)) (bs : List ℕ) (e new : ParseError) (p : Parsing) (old now : S)
-    → AreTokensOf bs p.tokens p.faulty → IsLocated file bs e new → IfRefused (cause_of e) (TakesFirst holds k p old now) → kind_of new ≡ Parse → TakesPrefix holds k bs old now
-taken_before holds k file bs e new p old now h l first kind =
+pub taken_before : {S : Type 0} (holds : S → S → List Item → Type 0) (k : ItemType) (kept : List ℕ → Type 0) (file : Option (List ℕ)) (bs : List ℕ) (e new : ParseError) (p : Parsing) (old now : S)
+    → AreTokensOf bs p.tokens p.faulty → IsLocated file bs e new → IfRefused (cause_of e) (TakesFirst holds k kept p old now) → kind_of new ≡ Parse → TakesBefore holds k kept bs old now
+taken_before holds k kept file bs e new p old now h l first kind =
     let c = parse_cause e (located_kind file bs e new l kind) in
-    prefix_taken holds k bs p old now h (subst (λ (x : Option Cause). IfRefused x (TakesFirst holds k p old now)) c.1 first)
+    prefix_taken holds k kept bs p old now h (subst (λ (x : Option Cause). IfRefused x (TakesFirst holds k kept p old now)) c.1 first)

@@ -1,6 +1,6 @@
 //! Whole items.
 
-ghost use Rattle.std.specs.Prelude.{◌≡◌, ℕ, List, length, map, false, None, IfOk, OnOk, IfErr, IsOkAnd, option_copied, []};
+ghost use Rattle.std.specs.Prelude.{◌≡◌, ℕ, List, length, map, false, None, IfOk, OnOk, IfErr, IsOkAnd, option_copied, is_some, []};
 ghost use Rattle.std.specs.List.{AllByRecursion};
 ghost use Rattle.souper_graph.specs.View.{view_left_hand_side, view_right_hand_side, view_replacement};
 ghost use Rattle.souper_graph.specs.WellFormed.{WellFormed, EachClosed};
@@ -17,16 +17,17 @@ ghost use Rattle.souper_ir.specs.Items.{Enters, TakesStatements, StatedRefusal};
 ghost use Rattle.souper_ir.specs.Laws.Items.{item_alone};
 ghost use Rattle.souper_ir.specs.ItemRuns.{SpellsAll, ListRefusal};
 ghost use Rattle.souper_ir.specs.Answers.{IsStrError};
-ghost use Rattle.souper_ir.specs.Sinks.{TakesOver, TakesText, TakesPrefix, TakesFirst};
+ghost use Rattle.souper_ir.specs.Sinks.{TakesOver, TakesText, TakesPrefix};
+ghost use Rattle.souper_ir.specs.Starts.{HasStarts, TakesFirst, Keeps, SpellEachFrom, PrefixSpellsFrom, TextSpellsFrom, TakesFrom, starts_kept, starts_of};
 
 use crate::parse::error::ParseErrorKind;
 use crate::parse::last_lines::{cand, infer, result};
-use crate::parse::memory::Memory;
+use crate::parse::memory::{Kept, Memory};
 use crate::parse::parser::{Parser, Read, Result};
 use crate::parse::rhs::rhs;
 use crate::parse::sink::Sink;
 use crate::parse::statements::{attributes, block_pc, entered_heading, pc};
-use crate::parse::tokens::{token_comes, word_comes};
+use crate::parse::tokens::word_comes;
 use crate::parse::traits::Parse;
 use souper_graph::ast::{
     Arena, Assignment, Item, LeftHandSide, Replacement, RightHandSide, Statement,
@@ -266,26 +267,33 @@ fn next_item<T: WholeItem>(parser: &mut Parser<'_>, dropped: Option<Arena<Statem
     T::item(parser)
 }
 
-// Passes the items up to the end of the text to the sink. `dropped` are the statements of the item before, if it came back.
+// Passes the items up to the end of the text to the sink.
+#[tactic(auto, using(crate::proofs::Items::Starts::keeps_asked))]
 fn items<T: WholeItem, S: Sink<T>>(
-    dropped: &mut Option<Arena<Statement>>,
+    kept: &mut Kept,
     parser: &mut Parser<'_>,
     sink: &mut S,
 ) -> Result<()>
     requires scope { parser.old.scope ≡ [] }
     requires lexemes { AllByRecursion IsLexeme (kinds parser.old.tokens) }
-    ensures ok { OnOk result ((items : List PlainItem) × SpellsAll T.item_type items parser.old × TakesOver S.holds items sink.old sink.new) }
+    ensures ok { OnOk result ((items : List PlainItem) × (starts : List ℕ) × SpellsAll T.item_type items parser.old × SpellEachFrom T.item_type items starts parser.old.tokens
+        × TakesOver S.holds items sink.old sink.new × Keeps kept.old kept.new starts) }
     ensures err { IfErr result (λ e. ListRefusal T.item_type e parser.old parser.new) }
-    ensures first { IfErr result (λ e. IfRefused (cause_of e) (TakesFirst S.holds T.item_type parser.old sink.old sink.new)) }
+    ensures first { IfErr result (λ e. IfRefused (cause_of e) (TakesFirst S.holds T.item_type (Keeps kept.old kept.new) parser.old sink.old sink.new)) }
+    ensures asked { is_some (starts_kept kept.new) ≡ is_some (starts_kept kept.old) }
     // The end of the text needs no memory.
     ensures ended { (parser.old.tokens ≡ []) → (parser.old.faulty ≡ false) → (parser.old.failed ≡ None) → IsOkAnd result (λ _. sink.new ≡ sink.old) }
 {
-    while token_comes(parser)? {
-        let item = next_item::<T>(parser, dropped.take())?;
-        *dropped = match sink.take_over(item) {
+    while let Some(start) = parser.next_start()? {
+        let item = next_item::<T>(parser, kept.statements.take())?;
+        kept.statements = match sink.take_over(item) {
             Ok(statements) => statements,
             Err(_) => return Err(parser.want_memory().into()),
         };
+        match kept.add_start(start) {
+            Ok(()) => {}
+            Err(_) => return Err(parser.want_memory().into()),
+        }
     }
     Ok(())
 }
@@ -296,7 +304,7 @@ fn whole_text<T: WholeItem, S: Sink<T>>(
     alloc: Global,
     source: &str,
     filename: Option<&str>,
-    dropped: &mut Option<Arena<Statement>>,
+    kept: &mut Kept,
     parser: &mut Parser<'_>,
     sink: &mut S,
 ) -> Result<()>
@@ -306,11 +314,14 @@ fn whole_text<T: WholeItem, S: Sink<T>>(
     requires scope { parser.old.scope ≡ [] }
     requires live { parser.old.failed ≡ None }
     ensures taken { OnOk result (TakesText S.holds T.item_type source.now sink.old sink.new) }
+    ensures starts { OnOk result (TakesFrom S.holds (TextSpellsFrom T.item_type source.now) (Keeps kept.old kept.new) sink.old sink.new) }
     ensures refused { IfErr result (λ e. IsStrError T.item_type (option_copied filename.entry) source.now e) }
     ensures before { IfErr result (λ e. kind_of e ≡ ParseErrorKind.Parse → TakesPrefix S.holds T.item_type source.now sink.old sink.new) }
+    ensures starts_before { IfErr result (λ e. kind_of e ≡ ParseErrorKind.Parse → TakesFrom S.holds (PrefixSpellsFrom T.item_type source.now) (Keeps kept.old kept.new) sink.old sink.new) }
+    ensures asked { is_some (starts_kept kept.new) ≡ is_some (starts_kept kept.old) }
     ensures gaps { IsLastGap source.now → IsOkAnd result (λ _. sink.new ≡ sink.old) }
 {
-    match items::<T, S>(dropped, parser, sink) {
+    match items::<T, S>(kept, parser, sink) {
         Ok(()) => Ok(()),
         Err(error) => Err(error.locate(alloc, source, filename)),
     }
@@ -334,11 +345,19 @@ pub fn parse_into<T: WholeItem, S: Sink<T>>(
     ensures gaps { IsLastGap source.now → IsOkAnd result (λ _. sink.new ≡ sink.old) }
 {
     let mut parser = Parser::new(alloc, source);
-    whole_text::<T, S>(alloc, source, filename, &mut None, &mut parser, sink)
+    whole_text::<T, S>(
+        alloc,
+        source,
+        filename,
+        &mut Kept::none(),
+        &mut parser,
+        sink,
+    )
 }
 
 /// [`parse_into`] for many short texts, one after the other: the items are read into the memory of items that a sink gave back before
-/// ([`Sink::take_over`]), of this text or of those before it.
+/// ([`Sink::take_over`]), of this text or of those before it. A memory that is asked for them ([`Memory::with_starts`]) has the offsets of
+/// the items of the text then, or, if it is refused, those of the items before the one that was.
 pub fn parse_with_memory<T: WholeItem, S: Sink<T>>(
     alloc: Global,
     memory: &mut Memory,
@@ -349,15 +368,16 @@ pub fn parse_with_memory<T: WholeItem, S: Sink<T>>(
     ensures taken { OnOk result (TakesText S.holds T.item_type source.now sink.old sink.new) }
     ensures refused { IfErr result (λ e. IsStrError T.item_type (option_copied filename.entry) source.now e) }
     ensures before { IfErr result (λ e. kind_of e ≡ ParseErrorKind.Parse → TakesPrefix S.holds T.item_type source.now sink.old sink.new) }
+    ensures starts { OnOk result (TakesFrom S.holds (TextSpellsFrom T.item_type source.now) (HasStarts memory.old memory.new) sink.old sink.new) }
+    ensures starts_before { IfErr result (λ e. kind_of e ≡ ParseErrorKind.Parse → TakesFrom S.holds (PrefixSpellsFrom T.item_type source.now) (HasStarts memory.old memory.new) sink.old sink.new) }
+    ensures asked { is_some (starts_of memory.new) ≡ is_some (starts_of memory.old) }
     ensures gaps { IsLastGap source.now → IsOkAnd result (λ _. sink.new ≡ sink.old) }
 {
-    let Memory {
-        spare,
-        mut statements,
-    } = mem::replace(memory, Memory::new(alloc));
+    let Memory { spare, mut kept } = mem::replace(memory, Memory::new(alloc));
+    kept.restart();
     let mut parser = Parser::reusing(alloc, source, spare);
-    let parsed = whole_text::<T, S>(alloc, source, filename, &mut statements, &mut parser, sink);
-    *memory = parser.into_memory(statements);
+    let parsed = whole_text::<T, S>(alloc, source, filename, &mut kept, &mut parser, sink);
+    *memory = parser.into_memory(kept);
     parsed
 }
 

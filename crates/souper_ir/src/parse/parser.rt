@@ -14,10 +14,11 @@ ghost use Rattle.souper_ir.specs.MarkView.{lexeme_of_mark};
 ghost use Rattle.souper_ir.specs.Parsing.{Cause, refused};
 ghost use Rattle.souper_ir.specs.Errors.{error_of, widened, shown_error, at_end_of};
 ghost use Rattle.souper_ir.specs.Places.{IsDirectRefusalText};
+ghost use Rattle.souper_ir.specs.Starts.{StartsAt, starts_kept, starts_of};
 ghost use Rattle.souper_ir.specs.Reading.{Fails, FailsForMemory, Gives, IfRefused, IsRead, cause_of, look_at, take_at};
 
 use crate::parse::error::{ParseError, ReadError};
-use crate::parse::memory::Memory;
+use crate::parse::memory::{Kept, Memory};
 use crate::parse::message::Message;
 use crate::parse::names::{Entry, Names};
 use crate::parse::recent::Recent;
@@ -242,6 +243,28 @@ impl<'a> Parser<'a> {
             Some((_, token)) => Ok(Some(token)),
             None => Ok(None),
         }
+    }
+
+    /// The offset of the next token, which is not taken, or `None` at the end of the text.
+    #[tactic(auto, unfolding(crate::specs::Reading::look_at, crate::specs::Grammar::peek_at))]
+    pub(crate) fn next_start(&mut self) -> Read<Option<usize>>
+        ensures next { Gives is_some (widened result) (peek_at is_any self.old) self.old self.new }
+        ensures start { IfOk result (λ start. IfSome start (λ offset. StartsAt offset self.old.tokens)) }
+        // The end of the text needs no memory.
+        ensures ended { self.old.tokens ≡ [] → self.old.faulty ≡ false → self.old.failed ≡ None → IsOk result }
+    {
+        if self.failed.is_some() {
+            return Err(self.fail_again());
+        }
+        if self.ahead.is_none() {
+            if let Err(fault) = self.lexer.lex(&mut self.ahead, &mut self.offset) {
+                return Err(self.refuse_fault(fault));
+            }
+        }
+        let Some((offset, _)) = self.ahead else {
+            return Ok(None);
+        };
+        Ok(Some(offset))
     }
 
     /// The next token, taken. The end of the text is refused.
@@ -590,8 +613,14 @@ impl<'a> Parser<'a> {
         }
     }
 
-    /// Ends a text: returns its memory, for the next one. `dropped` are the statements of the last item, if it came back.
-    pub(crate) fn into_memory(self, dropped: Option<Arena<Statement>>) -> Memory {
+    /// Ends a text: returns its memory, for the next one.
+    pub(crate) fn into_memory(self, kept: Kept) -> Memory
+        ensures { starts_of result ≡ starts_kept kept }
+    {
+        let Kept {
+            statements: dropped,
+            starts,
+        } = kept;
         let Parser {
             alloc,
             mut spare,
@@ -611,6 +640,9 @@ impl<'a> Parser<'a> {
                 None
             }
         };
-        Memory { spare, statements }
+        Memory {
+            spare,
+            kept: Kept { statements, starts },
+        }
     }
 }

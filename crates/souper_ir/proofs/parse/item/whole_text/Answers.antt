@@ -1,6 +1,6 @@
 use Rattle.std.proofs.Common.{[]}
 use Rattle.std.specs.Prelude.{option_copied}
-use Rattle.souper_ir.proofs.Items.Texts.{all_spelled, gap_text, located_answer, taken_before}
+use Rattle.souper_ir.proofs.Items.Texts.{all_spelled, is_text, gap_text, located_answer, taken_before}
 use Rattle.souper_ir.proofs.Items.WellFormed.{text_lexemes}
 use Rattle.souper_ir.proofs.parse.item.whole_text.Goals as goal
 
@@ -10,9 +10,18 @@ items-requires-clause-lexemes g c = text_lexemes c.args.source.now c.args.parser
 pub returns-in-Ok-clause-taken : goal.returns-in-Ok-clause-taken
 returns-in-Ok-clause-taken g c = (
   c.in-Ok.ensures.ok.0,
-  all_spelled g.T.Item.item_type _ c.args.source.now c.args.parser.now c.requires.tokens c.in-Ok.ensures.ok.1,
-  c.in-Ok.ensures.ok.2,
+  all_spelled g.T.Item.item_type _ c.args.source.now c.args.parser.now c.requires.tokens c.in-Ok.ensures.ok.2,
+  c.in-Ok.ensures.ok.4,
 )
+
+pub returns-in-Ok-clause-starts : goal.returns-in-Ok-clause-starts
+returns-in-Ok-clause-starts g c = record {
+  items = c.in-Ok.ensures.ok.0;
+  starts = c.in-Ok.ensures.ok.1;
+  spelled = (c.args.parser.now.tokens, is_text c.args.source.now c.args.parser.now.tokens c.args.parser.now.faulty c.requires.tokens c.in-Ok.ensures.ok.2.sound, c.in-Ok.ensures.ok.3);
+  taken = c.in-Ok.ensures.ok.4;
+  has = c.in-Ok.ensures.ok.5;
+}
 
 pub returns-in-Ok-clause-gaps : goal.returns-in-Ok-clause-gaps
 returns-in-Ok-clause-gaps g c = λ h.
@@ -30,6 +39,11 @@ returns-in-Err-clause-refused g c =
     c.requires.live c.requires.len c.requires.only c.in-Err.ensures.err c.locate.ensures.location c.locate.ensures.located
 
 pub returns-in-Err-clause-before : goal.returns-in-Err-clause-before
-returns-in-Err-clause-before g c =
-    taken_before g.S.Sink.holds g.T.Item.item_type (option_copied c.args.filename) c.args.source.now c.in-Err.error c.locate.result c.args.parser.now c.args.sink.now c.items.new.sink
-    c.requires.tokens c.locate.ensures.located c.in-Err.ensures.first
+returns-in-Err-clause-before g c = λ kind.
+    (taken_before g.S.Sink.holds g.T.Item.item_type _ (option_copied c.args.filename) c.args.source.now c.in-Err.error c.locate.result c.args.parser.now c.args.sink.now c.items.new.sink
+    c.requires.tokens c.locate.ensures.located c.in-Err.ensures.first kind).0
+
+pub returns-in-Err-clause-starts_before : goal.returns-in-Err-clause-starts_before
+returns-in-Err-clause-starts_before g c = λ kind.
+    (taken_before g.S.Sink.holds g.T.Item.item_type _ (option_copied c.args.filename) c.args.source.now c.in-Err.error c.locate.result c.args.parser.now c.args.sink.now c.items.new.sink
+    c.requires.tokens c.locate.ensures.located c.in-Err.ensures.first kind).1
