@@ -61,7 +61,7 @@ pub(crate) struct Source<'a> {
 }
 
 impl<'a> Source<'a> {
-    /// With recovery a cut point is looked for in what the reader shows and the line after it, and then whenever the buffer has doubled.
+    /// With recovery a cut point is looked for in what the reader shows, and on to the end of a line; then whenever the buffer has doubled.
     pub(crate) fn new(alloc: Global, options: ReadOptions<'a>) -> Source<'a>
         ensures options { result.options ≡ options.entry }
         ensures begins { Begins result }

@@ -68,13 +68,19 @@ fn read_line<R: BufRead>(reader: &mut R, bytes: &mut Vec<u8>) -> io::Result<bool
     Ok(len == 0 || bytes[bytes.len() - 1] != b'\n')
 }
 
-// Reads until `goal` bytes are buffered, and the line after them, or until the input has ended. Returns whether it has ended.
+// Reads until `goal` bytes are buffered, and on to the end of a line, or until the input has ended. Returns whether it has ended. Some bytes
+// are read in any case, if there are any.
 fn fill_lines<R: BufRead>(reader: &mut R, bytes: &mut Vec<u8>, goal: usize) -> io::Result<bool>
     ensures read { IfOk result (λ ended. ReadsLines (R.remaining reader.old) (R.remaining reader.new) bytes.old.items bytes.new.items ended) }
     ensures failed { IfErr result (λ e. (more : List ℕ) × Reads (R.remaining reader.old) (R.remaining reader.new) bytes.old.items bytes.new.items more) }
 {
+    let start = bytes.len();
     if fill_blocks(reader, bytes, goal)? {
         return Ok(true);
+    }
+    let len = bytes.len();
+    if len > start && bytes[len - 1] == b'\n' {
+        return Ok(false);
     }
     read_line(reader, bytes)
 }
@@ -209,7 +215,7 @@ pub struct ItemReader {
 
 impl ItemReader {
     /// A reader at the start of a stream. `min_chunk` is the chunk size in bytes: a cut point is looked for when the buffer has
-    /// grown by `min_chunk` bytes, and by the line after them. If none is found, it is looked for again when the buffer has doubled.
+    /// grown by `min_chunk` bytes, and to the end of a line. If none is found, it is looked for again when the buffer has doubled.
     /// With a small chunk size items are passed to the sink sooner; with a larger one reading takes less time.
     #[tactic(auto, using(crate::proofs::Passing::read_none))]
     pub fn new(alloc: Global, min_chunk: usize) -> ItemReader
