@@ -41,7 +41,7 @@ buffers_more done bytes more parsed before p = record {
   one_line = subst (λ (x : List ℕ). IsOneLine x) (sym (take-append-le (parsed - 1) bytes more (omega (arith, p.within)))) p.one_line;
 }
 
-newlines-append : (xs ys : List ℕ) → newlines (xs ++ ys) ≡ newlines xs + newlines ys
+pub newlines-append : (xs ys : List ℕ) → newlines (xs ++ ys) ≡ newlines xs + newlines ys
 newlines-append xs ys = sum_by-append (λ b. cond (b == 10) 1 0) xs ys
 
 -- the same is held

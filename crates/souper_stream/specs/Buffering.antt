@@ -15,6 +15,10 @@ held b = drop b.start b.bytes.items
 abbrev pub unparsed : Buffer → List ℕ
 unparsed b = drop b.parsed (held b)
 
+-- the numbers of bytes and of lines of a text
+abbrev pub Counts : Before → List ℕ → Type 0
+Counts before text = (before.bytes ≡ length text) × (before.lines ≡ newlines text)
+
 -- The parsed text: whole lines, which were counted, and then at most one line, the first `parsed` of the bytes in the buffer.
 pub record Parses (done bytes : List ℕ) (parsed : ℕ) (before : Before) : Type 0 where
   pub gone : List ℕ

@@ -1,4 +1,8 @@
 //! The fault of bytes that are not UTF-8.
+ghost use Rattle.std.specs.Prelude.{◌≡◌, ◌^◌, ◌<◌, ◌++◌, ℕ, List, length, take};
+ghost use Rattle.std.specs.IoError.{error_kind};
+ghost use Rattle.std.specs.Str.Lossy.{utf8_valid_len};
+ghost use Rattle.souper_stream.specs.Buffering.{Counts};
 
 use crate::buffer::newline_count;
 use arrayvec::ArrayString;
@@ -10,16 +14,28 @@ use std::{io, str};
 // The longest text of a fault that takes no memory, in bytes.
 const ROOM: usize = 80;
 
+// The numbers of bytes and lines before the first byte that is in no character, of bytes that come after others.
+fn before_fault(before: Before, bytes: &[u8]) -> Before
+    ensures { (text : List ℕ) → Counts before text → length (text ++ bytes.now) < 2 ^ 64 → Counts result (text ++ take (utf8_valid_len bytes.now) bytes.now) }
+{
+    let valid = match str::from_utf8(bytes) {
+        Ok(_) => bytes,
+        Err(fault) => &bytes[..fault.valid_up_to()],
+    };
+    Before {
+        bytes: before.bytes.saturating_add(valid.len()),
+        lines: before.lines.saturating_add(newline_count(valid)),
+    }
+}
+
 /// The fault of bytes that are not UTF-8, which come after others: `line L: not UTF-8 at byte N`. It is the line of the first byte that is
 /// in no character, from 1, and the number of bytes before it.
-pub fn not_utf8(before: Before, bytes: &[u8]) -> io::Error {
-    let valid = match str::from_utf8(bytes) {
-        Ok(_) => bytes.len(),
-        Err(fault) => fault.valid_up_to(),
-    };
-    let newlines = newline_count(bytes.get(..valid).unwrap_or(bytes));
-    let line = before.lines.saturating_add(newlines).saturating_add(1);
-    let offset = before.bytes.saturating_add(valid);
+pub fn not_utf8(before: Before, bytes: &[u8]) -> io::Error
+    ensures { error_kind result ≡ ErrorKind.InvalidData }
+{
+    let valid = before_fault(before, bytes);
+    let line = valid.lines.saturating_add(1);
+    let offset = valid.bytes;
     let mut says = ArrayString::<ROOM>::new();
     match write!(says, "line {line}: not UTF-8 at byte {offset}") {
         Ok(()) => io::Error::new(ErrorKind::InvalidData, says.as_str()),
