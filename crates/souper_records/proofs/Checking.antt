@@ -12,6 +12,7 @@ use Rattle.souper_ir.specs.Places.{newlines}
 use Rattle.souper_graph.specs.Text.{texts_of}
 use Rattle.souper_records.specs.Canonical.{IsCanonical, BeginApart, DifferOnLine, IsOtherLine, ReportedOtherLine, IsWhole, IsCheckRun}
 use Rattle.souper_records.specs.Reports.{ReportedError}
+use Rattle.souper_records.proofs.Outcomes.{some_fault}
 use Rattle.souper_format.specs.Streams.{Stream}
 use Rattle.souper_ir.specs.Answers.{IsStrError}
 use Rattle.souper_ir.specs.declared.parse.error.ParseError.{ParseError}
@@ -64,5 +65,5 @@ pub check_refused : (k : ItemType) (name : List ℕ) (before after : Option (Lis
     → IsWhole before after read → IsStrError k (Some name) read e → ReportedError name err status e → IsCheckRun k name before after err status
 check_refused k name before after read err e status whole refused (inl (one, kind, line)) =
     rw one (read, whole, (λ h. (rw kind at refused).3 h.0 h.1), inl (e, kind, refused, line))
-check_refused k name before after read err e status whole refused (inr (inl (two, kind, line))) = rw two (inl line)
+check_refused k name before after read err e status whole refused (inr (inl (two, kind, (fault, is, line)))) = rw two (inl (some_fault fault name err line))
 check_refused k name before after read err e status whole refused (inr (inr (two, line))) = rw two (inr line)

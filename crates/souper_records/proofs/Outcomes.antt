@@ -28,7 +28,7 @@ use Rattle.souper_records.specs.declared.stop.Stop.{Stop}
 use Rattle.souper_records.specs.declared.stop.Stop.TheVariants.{Input, Output, Memory}
 use Rattle.souper_records.specs.Stops.{IfInput, UnlessOutput}
 use Rattle.souper_records.specs.Runs.{output_name, EndsWithFault, IsPartsEnd, IsRun}
-use Rattle.souper_records.specs.Reports.{IsMemoryLine, IsFaultLine, Reported}
+use Rattle.souper_records.specs.Reports.{IsMemoryLine, IsFaultLine, Reported, ReportedFault, ReportedFaultOf}
 use Rattle.souper_records.specs.Outcomes.{Outcome, IsOutcome, IsOutcomeAfter, AreOutcomes, parts_of, items_of, refusals_of, any_refused, AreErrorLines, AreReported, AreReportedThen, WritesPart, WritesParts, ReadsParts, EndsRefused, IsBegun, StopsAfter, WroteParts}
 
 -- ---- lists of outcomes
@@ -76,6 +76,10 @@ module _ {W : Type 0} (bytes_of : W → Option (List ℕ)) (x y z : Watched W) (
       let (s, lines, given) = told (stream bytes_of x y) es r (worked works) in
       let (line, is, more) = h works in
       (s, line, lines, is, Appends-trans _ _ _ s line given more)
+
+-- a fault was reported
+pub some_fault : (fault : Error) (name : List ℕ) (err : Stream) → ReportedFaultOf fault name err → ReportedFault name err
+some_fault fault name err h works = let (line, is, given) = h works in (line, (fault, is), given)
 
 -- ---- part after part
 
@@ -248,7 +252,7 @@ module _ {W E : Type 0} (out_of : W → Option (List ℕ)) (err_of : E → Optio
   -- the output has failed
   output_ends : (fault : Error) (status : ℕ) (os : List Outcome) → IsBegun k name recover before os → AreReported (stream err_of u v) (refusals_of os) → has_failed z ≡ true → EndsWithFault fault (stream err_of v w) status → run status
   output_ends fault status os begun reported bad (inl (kind, broken, quiet)) = rw broken (refl, (os, begun, bad, reported_none err_of u v w stays (refusals_of os) reported quiet))
-  output_ends fault status os begun reported bad (inr (kind, two, line)) = rw two (os, begun, inr (bad, told_then os (IsFaultLine output_name) reported line))
+  output_ends fault status os begun reported bad (inr (kind, two, line)) = rw two (os, begun, inr (bad, told_then os (IsFaultLine output_name) reported (some_fault fault output_name (stream err_of v w) line)))
 
   pub run_ends : (parts : Result Bool Stop) (status : ℕ) → IfOk parts (λ refused. WritesParts k name recover before after so_far (stream err_of u v) refused) → IfErr parts (λ stop. StopsAfter k name recover before known_so_far (has_failed y) (stream err_of u v) stop)
       → IfErr parts (λ stop. IfInput stop (λ e. kind_of e ≡ Io)) → IsPartsEnd name parts (stream out_of y z) (stream err_of v w) status → run status
@@ -256,7 +260,7 @@ module _ {W E : Type 0} (out_of : W → Option (List ℕ)) (err_of : E → Optio
   run_ends (Ok true) status p stops input (inl (one_is, kept, quiet)) = rw one_is (whole true kept quiet p)
   run_ends (Ok refused) status p stops input (inr (bad, (fault, ends))) = output_ends fault status p.outcomes (after, p.reads, last_alone refused p) p.reported bad ends
   run_ends (Err (Input e)) status p stops input (kept, inl (one, kind, line)) = absurd (let bad : Io ≡ Parse = sym input ∙ kind in cc)
-  run_ends (Err (Input e)) status p (os, begun, reported, so) input (kept, inr (inl (two, kind, line))) = rw two (os, begun, inl (known_so kept os so, inl (told_then os (IsFaultLine name) reported line)))
+  run_ends (Err (Input e)) status p (os, begun, reported, so) input (kept, inr (inl (two, kind, (fault, is, line)))) = rw two (os, begun, inl (known_so kept os so, inl (told_then os (IsFaultLine name) reported (some_fault fault name (stream err_of v w) line))))
   run_ends (Err (Input e)) status p (os, begun, reported, so) input (kept, inr (inr (two, line))) = rw two (os, begun, inl (known_so kept os so, inr (told_then os IsMemoryLine reported line)))
   run_ends (Err (Output f)) status p (os, begun, reported, bad) input (kept, ends) = output_ends f status os begun reported (out_stays bad) ends
   run_ends (Err Memory) status p (os, begun, reported, so) input (kept, (two, line)) = rw two (os, begun, inl (known_so kept os so, inr (told_then os IsMemoryLine reported line)))

@@ -1,6 +1,9 @@
 -- Definitions. The lines that the program reports an error with.
-use Rattle.std.specs.Prelude.{◌≡◌, ◌⊎◌, ℕ, List, ◌++◌, false, codes, IfSome}
-use Rattle.souper_ir.specs.Errors.{kind_of, located_error}
+use Rattle.std.specs.Prelude.{◌≡◌, ◌⊎◌, ℕ, List, ◌++◌, false, codes, Some, IfSome}
+use Rattle.std.specs.declared.io.Error.{Error}
+use Rattle.std.specs.declared.io.ErrorKind.TheVariants.{InvalidData}
+use Rattle.std.specs.IoError.{error_kind}
+use Rattle.souper_ir.specs.Errors.{fault_of, kind_of, located_error}
 use Rattle.souper_ir.specs.declared.parse.ParseError.{ParseError}
 use Rattle.souper_ir.specs.declared.parse.ParseErrorKind.TheVariants.{Io, Parse}
 use Rattle.souper_format.specs.Streams.{Stream, IsGiven}
@@ -21,9 +24,14 @@ IsMemoryLine line = line ≡ program_line (codes "out of memory")
 abbrev pub text_fault_line : List ℕ → List ℕ → List ℕ
 text_fault_line name says = name ++ (codes ":" ++ (says ++ codes "\n"))
 
--- the line of a fault of the stream; if memory ran out for it, the line for that
+-- The line of this fault of the stream: it names the program, unless the stream has bytes that are not UTF-8. If memory ran out for it, the
+-- line for that.
+abbrev pub IsFaultLineOf : Error → List ℕ → List ℕ → Type 0
+IsFaultLineOf fault name line = ((shown : List ℕ) × ((line ≡ named_line name shown) ⊎ ((error_kind fault ≡ InvalidData) × (line ≡ text_fault_line name shown)))) ⊎ IsMemoryLine line
+
+-- the line of a fault of the stream
 abbrev pub IsFaultLine : List ℕ → List ℕ → Type 0
-IsFaultLine name line = ((shown : List ℕ) × ((line ≡ named_line name shown) ⊎ (line ≡ text_fault_line name shown))) ⊎ IsMemoryLine line
+IsFaultLine name line = (fault : Error) × IsFaultLineOf fault name line
 
 -- unless the writer has failed, a line with the property P was written to it
 abbrev pub Reported : Stream → (List ℕ → Type 0) → Type 0
@@ -45,12 +53,16 @@ ReportedLine err e = err.failed ≡ false → (line : List ℕ) × IsErrorLine e
 abbrev pub ReportedMemory : Stream → Type 0
 ReportedMemory err = Reported err IsMemoryLine
 
+-- this fault of the stream was reported
+abbrev pub ReportedFaultOf : Error → List ℕ → Stream → Type 0
+ReportedFaultOf fault name err = Reported err (IsFaultLineOf fault name)
+
 -- a fault of the stream was reported
 abbrev pub ReportedFault : List ℕ → Stream → Type 0
 ReportedFault name err = Reported err (IsFaultLine name)
 
--- The status is 1 if the text was refused, and the line of the refusal was written. It is 2 if a read failed, and that was reported,
+-- The status is 1 if the text was refused, and the line of the refusal was written. It is 2 if a read failed, and its fault was reported,
 -- or if memory ran out, for the items or for the line of a refusal, and that was reported.
 abbrev pub ReportedError : List ℕ → Stream → ℕ → ParseError → Type 0
 ReportedError name err status e = ((status ≡ 1) × (kind_of e ≡ Parse) × ReportedLine err e)
-    ⊎ (((status ≡ 2) × (kind_of e ≡ Io) × ReportedFault name err) ⊎ ((status ≡ 2) × ReportedMemory err))
+    ⊎ (((status ≡ 2) × (kind_of e ≡ Io) × ((fault : Error) × (fault_of e ≡ Some fault) × ReportedFaultOf fault name err)) ⊎ ((status ≡ 2) × ReportedMemory err))

@@ -15,7 +15,7 @@ use Rattle.souper_records.specs.declared.stop.Stop.TheVariants.{Input, Output, M
 use Rattle.souper_records.specs.Uniques.{WritesFirstRecords, WritesSeenFirsts, summary_of, WritesSummaryBegun}
 use Rattle.souper_records.specs.Objects.{WritesObjects}
 use Rattle.souper_records.specs.Outcomes.{Outcome, refusals_of, AreReported, AreReportedThen, WritesParts, IsBegun, OfItems, WritesRecords}
-use Rattle.souper_records.specs.Reports.{IsMemoryLine, IsFaultLine, ReportedMemory, ReportedFault, ReportedError}
+use Rattle.souper_records.specs.Reports.{IsMemoryLine, IsFaultLine, ReportedMemory, ReportedFault, ReportedFaultOf, ReportedError}
 
 -- a fact for each of the four statuses
 abbrev pub OnStatus : ℕ → Type 0 → Type 0 → Type 0 → Type 0 → Type 0
@@ -31,7 +31,7 @@ output_name = codes "write error"
 -- the status after a fault of the output: nothing is reported of a pipe that nobody reads
 abbrev pub EndsWithFault : Error → Stream → ℕ → Type 0
 EndsWithFault fault err status = ((error_kind fault ≡ BrokenPipe) × (status ≡ BROKEN_PIPE) × IsGivenNothing err)
-    ⊎ (¬ (error_kind fault ≡ BrokenPipe) × (status ≡ 2) × ReportedFault output_name err)
+    ⊎ (¬ (error_kind fault ≡ BrokenPipe) × (status ≡ 2) × ReportedFaultOf fault output_name err)
 
 -- the output has failed
 abbrev pub EndsWithOutput : Stream → Stream → ℕ → Type 0

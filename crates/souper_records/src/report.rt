@@ -2,7 +2,7 @@
 ghost use Rattle.std.specs.Prelude.{◌≡◌, true, false, string_bytes, IfOk};
 ghost use Rattle.souper_format.specs.Streams.{stream, IsGiven};
 ghost use Rattle.souper_format.specs.Watching.{has_failed};
-ghost use Rattle.souper_records.specs.Reports.{IsErrorLine, IsFaultLine, ReportedMemory, Reported, ReportedFault, ReportedError};
+ghost use Rattle.souper_records.specs.Reports.{IsErrorLine, IsFaultLineOf, ReportedMemory, Reported, ReportedFaultOf, ReportedError};
 
 use souper_format::watched::Watched;
 use souper_ir::parse::{ParseError, ParseErrorKind};
@@ -20,7 +20,7 @@ pub fn report_memory<E: Write>(err: &mut Watched<E>)
 
 // The line of a fault of the stream of this name. That of bytes that are not UTF-8 begins with the name and the number of their line.
 fn fault_line(alloc: Global, name: &str, fault: &io::Error) -> Result<String, AllocError>
-    ensures { IfOk result (λ line. IsFaultLine name.now (string_bytes line)) }
+    ensures { IfOk result (λ line. IsFaultLineOf fault.now name.now (string_bytes line)) }
 {
     let says = fault.to_string(alloc)?;
     match says.strip_prefix("line ") {
@@ -33,7 +33,7 @@ fn fault_line(alloc: Global, name: &str, fault: &io::Error) -> Result<String, Al
 
 /// Reports a fault of the stream of this name.
 pub fn report_fault<E: Write>(alloc: Global, name: &str, fault: &io::Error, err: &mut Watched<E>)
-    ensures reported { ReportedFault name.now (stream E.contents err.old err.new) }
+    ensures reported { ReportedFaultOf fault.now name.now (stream E.contents err.old err.new) }
     ensures stays { has_failed err.old ≡ true → has_failed err.new ≡ true }
 {
     match fault_line(alloc, name, fault) {
