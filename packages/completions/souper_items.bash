@@ -25,8 +25,8 @@ _souper_items() {
         return
     fi
     case ${COMP_WORDS[1]} in
-    format | each) options="$shared -z --null --key --rename -k --keep-going --json -w --write --force" ;;
-    uniq) options="$shared -z --null --key --rename -k --keep-going -c --count -d --repeated" ;;
+    format | each) options="$shared -z --null --key --rename -k --keep-going --line-buffered --json -w --write --force" ;;
+    uniq) options="$shared -z --null --key --rename -k --keep-going --line-buffered -c --count -d --repeated" ;;
     check) options="$shared --diff" ;;
     help)
         [[ $COMP_CWORD -eq 2 ]] && mapfile -t COMPREPLY < <(compgen -W 'format uniq check' -- "$word")

@@ -1,7 +1,7 @@
 -- The buffer of a stream, and the parsed text.
 use Rattle.std.proofs.Common.{◌≡◌, ◌⊎◌, inl, inr, ℕ, ◌+◌, ◌-◌, ◌^◌, ◌<◌, ◌≤◌, cond, List, [], ◌∷◌, ◌++◌, length, take, drop, Option, refl, sym, ap, ◌∙◌, subst, arith, append_assoc, append-nil, length-append}
 use Rattle.std.specs.Prelude.{◌==◌}
-use Rattle.std.proofs.lemmas.List.{take-append-le, drop-drop, length-drop, length-take}
+use Rattle.std.proofs.lemmas.List.{take-append-le, drop-drop, drop-take, length-drop, length-take}
 use Rattle.std.proofs.lemmas.List.Sums.{sum_by-append, count_by-le-length}
 use Rattle.std.proofs.Math.Seq.{take-add}
 use Rattle.souper_graph.specs.Syntax.Tokens.{IsOneLine}
@@ -13,7 +13,7 @@ use Rattle.souper_ir.specs.Places.{newlines, IsLineText, IsPlace}
 use Rattle.souper_ir.proofs.Items.Parting.{lines_end}
 use Rattle.souper_ir.specs.Errors.{kind_of, HasLocation, HasLocationAfter, IsPlacedAfter, IsRefusalAt}
 use Rattle.souper_stream.specs.declared.buffer.Buffer.{Buffer}
-use Rattle.souper_stream.specs.Buffering.{held, unparsed, Parses, Buffers, IsEmpty, Passes, Drains}
+use Rattle.souper_stream.specs.Buffering.{held, unparsed, Parses, Buffers, last_part, IsSound, IsEmpty, Passes, Drains}
 use Rattle.souper_stream.proofs.Texts.{lines_append}
 
 -- nothing was read
@@ -52,6 +52,16 @@ module _ (old new : Buffer) (d : Drains old new) where
   pub unparsed_drained : unparsed new ≡ unparsed old
   unparsed_drained = λ i. drop (d.parsed_is i) (drop (d.start_is i) (d.bytes_are i))
 
+-- nothing is there that was parsed last
+pub sound_drained : (old new : Buffer) → Drains old new → IsSound old → IsSound new
+sound_drained old new d s =
+    let bytes = ap length d.bytes_are in
+    let start = d.start_is in
+    let parsed = d.parsed_is in
+    let last = d.last_is in
+    let within = s.within in
+    record { within = omega (arith, length-drop old.start old.bytes.items); last = omega arith }
+
 -- more text was parsed
 module _ (old new : Buffer) (len : ℕ) (f : Passes old len new) where
   sum : f.line + new.parsed ≡ old.parsed + len
@@ -62,6 +72,18 @@ module _ (old new : Buffer) (len : ℕ) (f : Passes old len new) where
 
   pub unparsed_passed : unparsed new ≡ drop len (unparsed old)
   unparsed_passed = ap (drop new.parsed) held_passed ∙ drop-drop new.parsed f.line (held old) ∙ ap (λ (m : ℕ). drop m (held old)) sum ∙ sym (drop-drop len old.parsed (held old))
+
+  end_passed : new.start + new.parsed ≡ old.start + old.parsed + len
+  end_passed = omega (arith, f.start_is, f.parsed_is)
+
+  pub sound_passed : old.start + old.parsed + len ≤ length old.bytes.items → IsSound new
+  sound_passed fits = let last = f.last_is in record { within = omega (arith, end_passed, ap length f.bytes_are, fits); last = omega (arith, end_passed) }
+
+  pub part_passed : last_part new ≡ take len (unparsed old)
+  part_passed =
+      let end = old.start + old.parsed in
+      let begin : new.start + new.parsed - new.last ≡ end = omega (arith, end_passed, f.last_is) in
+      (λ i. drop (begin i) (take (end_passed i) (f.bytes_are i))) ∙ drop-take end len old.bytes.items ∙ ap (take len) (sym (drop-drop old.parsed old.start old.bytes.items))
 
   pub buffers_passed : (done : List ℕ) → Buffers done old → len ≤ length (unparsed old) → Buffers (done ++ take len (unparsed old)) new
   buffers_passed done p fits =

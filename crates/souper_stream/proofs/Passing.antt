@@ -14,7 +14,7 @@ use Rattle.souper_ir.specs.Sinks.{TakesText, PrefixSpells}
 use Rattle.souper_ir.proofs.Items.Parting.{Within, Beyond, parted_twice}
 use Rattle.souper_stream.specs.declared.buffer.Buffer.{Buffer}
 use Rattle.souper_stream.specs.declared.reader.ItemReader.{ItemReader}
-use Rattle.souper_stream.specs.Buffering.{held, unparsed, Buffers, IsEmpty}
+use Rattle.souper_stream.specs.Buffering.{held, unparsed, Buffers, IsEmpty, Drains}
 use Rattle.souper_stream.specs.Lines.{NoStart}
 use Rattle.souper_stream.specs.Segments.{Line, concat, IsLine, AreLines, tokens_of_lines, EndsItem, Starts, HasNoCut, IsCut, AreCut, all_lines, AreParts, CutsAt, IsFirstSegment}
 use Rattle.souper_stream.specs.Parts.{IsChunk, and_next, HasLines, HasRead, HasParts, HasAll, IsNext, HasLine, is_segmented, IsOnLine, Advances, Holds, TakesPart, RefusesPart}
@@ -24,7 +24,7 @@ use Rattle.souper_stream.proofs.Bytes.{all_after}
 use Rattle.souper_stream.proofs.Parting.{quiet_rest, quiet_starts}
 use Rattle.souper_stream.proofs.LineLists.{starts_not_none, starts_with_more, concat-append, tokens-append, lines-append, are_front, lines_front, lines_back, lines_of, no_bytes, lines_whole, lines_exist}
 use Rattle.souper_stream.proofs.SegmentLaws.{lines_start, none_with}
-use Rattle.souper_stream.proofs.Buffers.{buffers_located, buffers_none, buffers_more, buffers_placed}
+use Rattle.souper_stream.proofs.Buffers.{buffers_located, buffers_none, buffers_more, buffers_placed, buffers_drained, unparsed_drained, sound_drained}
 use Rattle.souper_stream.proofs.Refusing.{RefusesText}
 
 -- ---- lists of lines and of parts
@@ -73,7 +73,7 @@ read_none k start b empty = (
     cut = tt;
     some = λ e f. refl;
     chunk = λ some. absurd (omega arith);
-    drained = λ e. empty.start_is;
+    sound = let bytes = ap length empty.bytes_are in let start = empty.start_is in let parsed = empty.parsed_is in let last = empty.last_is in record { within = omega arith; last = omega arith };
   },
 )
 
@@ -86,16 +86,15 @@ all_consumed start now ls ended failed h well =
     (same, subst (λ (x : List ℕ). Consumes start now x) same h.consumed)
 
 pub read_more : (k : ItemType) (start mid after : Option (List ℕ)) (ps : List (List Line)) (p : ItemReader) (b : Buffer) (ended failed : Bool) → HasParts k start mid ps p → p.ended ≡ false → is_some p.fault ≡ false → p.rejected ≡ 0 → Fills mid after p.buffer.bytes.items b.bytes.items ended failed
-    → b.start ≡ p.buffer.start → b.parsed ≡ p.buffer.parsed → b.before ≡ p.buffer.before → (ls : List Line) × HasRead k start after ps ls b ended failed p.rejected
-read_more k start mid after ps p b ended failed (ls, h) going well none f start_is parsed_is before_is =
+    → b.start ≡ p.buffer.start → b.parsed ≡ p.buffer.parsed → b.last ≡ p.buffer.last → b.before ≡ p.buffer.before → (ls : List Line) × HasRead k start after ps ls b ended failed p.rejected
+read_more k start mid after ps p b ended failed (ls, h) going well none f start_is parsed_is last_is before_is =
     let (ms, ms_are, more_is) = lines_exist f.more in
     let all = all_lines ps ++ ls in
     let as_list = append_assoc (all_lines ps) ls ms in
     let each = h.lines.whole going in
     let before = (all_consumed start mid all p.ended (is_some p.fault) h.lines well).1 in
     let text : concat (all ++ ms) ≡ concat all ++ f.more = concat-append all ms ∙ ap (λ (x : List ℕ). concat all ++ x) (sym more_is) in
-    let no_start : p.buffer.start ≡ 0 = h.drained none in
-    let held_is : held b ≡ held p.buffer ++ f.more = (λ i. drop ((start_is ∙ no_start) i) (f.held i)) ∙ ap (λ (n : ℕ). drop n p.buffer.bytes.items ++ f.more) (sym no_start) in (
+    let held_is : held b ≡ held p.buffer ++ f.more = (λ i. drop (start_is i) (f.held i)) ∙ drop-append-le p.buffer.start p.buffer.bytes.items f.more (omega (arith, h.sound.within)) in (
       ls ++ ms,
       record {
         lines = subst (λ (x : List Line). HasLines start after x ended failed) as_list (record {
@@ -112,9 +111,24 @@ read_more k start mid after ps p b ended failed (ls, h) going well none f start_
         cut = next_longer k ps ls ms (h.some going) h.cut;
         some = λ e f. h.some going (nil_from_length ls (omega (arith, ap length f, length-append ls ms)));
         chunk = λ some. absurd (omega arith);
-        drained = λ e. start_is ∙ no_start;
+        sound = let start = start_is in let parsed = parsed_is in let last = last_is in record { within = omega (arith, ap length f.held, length-append p.buffer.bytes.items f.more, h.sound.within); last = omega (arith, h.sound.last) };
       },
     )
+
+-- what is not needed any more was dropped
+pub dropped : (k : ItemType) (start now : Option (List ℕ)) (ps : List (List Line)) (r q : ItemReader) → Drains r.buffer q.buffer → q.ended ≡ r.ended → q.fault ≡ r.fault → q.rejected ≡ r.rejected → HasParts k start now ps r → HasParts k start now ps q
+dropped k start now ps r q d ended fault rejected (ls, h) = rw (ended, fault, rejected) (
+  ls,
+  record {
+    lines = h.lines;
+    buffers = buffers_drained r.buffer q.buffer d (concat (all_lines ps)) h.buffers;
+    rest = unparsed_drained r.buffer q.buffer d ∙ h.rest;
+    cut = h.cut;
+    some = h.some;
+    chunk = h.chunk;
+    sound = sound_drained r.buffer q.buffer d h.sound;
+  },
+)
 
 -- a chunk is next
 pub next_cut : (k : ItemType) (start now : Option (List ℕ)) (ps : List (List Line)) (r : ItemReader) (cut : ℕ) → HasParts k start now ps r → 0 < cut → ((ls : List Line) → unparsed r.buffer ≡ concat ls → AreLines ls → CutsAt k ls cut) → IsNext k start now ps r cut
@@ -213,7 +227,7 @@ never_after k start now ps part back q h none = under q.ended refl
 -- a chunk is to be read segment by segment
 pub begin_chunk : (k : ItemType) (start now : Option (List ℕ)) (ps : List (List Line)) (r q : ItemReader) (len : ℕ) → IsNext k start now ps r len → 0 < len → q.buffer ≡ r.buffer → q.ended ≡ r.ended → q.fault ≡ r.fault → q.rejected ≡ len → HasParts k start now ps q
 begin_chunk k start now ps r q len n some buffer ended fault rejected =
-    rw (buffer, ended, fault, rejected) (n.0, record { lines = n.1.lines; buffers = n.1.buffers; rest = n.1.rest; cut = n.1.cut; some = n.1.some; chunk = n.3; drained = λ e. absurd (omega arith) })
+    rw (buffer, ended, fault, rejected) (n.0, record { lines = n.1.lines; buffers = n.1.buffers; rest = n.1.rest; cut = n.1.cut; some = n.1.some; chunk = n.3; sound = n.1.sound })
 
 chunk_within : (k : ItemType) (ended : Bool) (ls : List Line) (len : ℕ) (b : Buffer) → unparsed b ≡ concat ls → IsChunk k ended ls len → len ≤ length (unparsed b)
 chunk_within k ended ls len b rest c = grind (arith, concat-append, length-append {A = ℕ})
@@ -242,7 +256,7 @@ module _ (k : ItemType) (start now : Option (List ℕ)) (ps : List (List Line)) 
         cut = part_cut k r.ended ps c.front c.back (let n = c.len_is in omega arith) (subst (λ (y : List Line). AreCut k (and_next ps y)) c.whole h.cut) c.cut;
         some = λ going none. elim c.cut [ inl cut ↦ absurd (starts_not_none c.back cut.1 none) | inr end ↦ (let no = end.1 in absurd cc) ];
         chunk = left;
-        drained = advances.drained;
+        sound = advances.sound;
       })
 
   on_line : IsOnLine (concat (all_lines ps)) (concat c.front) q.line
@@ -250,7 +264,7 @@ module _ (k : ItemType) (start now : Option (List ℕ)) (ps : List (List Line)) 
   on_line = subst (λ (y : List ℕ). IsOnLine (concat (all_lines ps)) y q.line) part_text (line (concat (all_lines ps)) h.buffers)
 
   pub part_taken : {S : Type 0} (holds : S → S → List Item → Type 0) (old new : S) → (is_segmented q ≡ true → HasNoCut k c.front) → TakesText holds k (take len (unparsed r.buffer)) old new → TakesPart k start now ps holds old new q
-  part_taken holds old new uncut t = record { part = c.front; goes_on = (c.back, passed); on_line = on_line; uncut = uncut; items = t.0; spelled = subst (λ (y : List ℕ). TextSpells k y t.0) part_text t.1; taken = λ first y. t.2 first [] y }
+  part_taken holds old new uncut t = record { part = c.front; goes_on = (c.back, passed); text = advances.part ∙ part_text; on_line = on_line; uncut = uncut; items = t.0; spelled = subst (λ (y : List ℕ). TextSpells k y t.0) part_text t.1; taken = λ first y. t.2 first [] y }
 
   pub part_refused : {S : Type 0} (holds : S → S → List Item → Type 0) (old new : S) (file : Option (List ℕ)) (e : ParseError) → HasNoCut k c.front → kind_of e ≡ Parse → RefusesText k file r.buffer len holds old new e → RefusesPart k file start now ps holds old new q e
   unfolding passed
@@ -266,6 +280,7 @@ module _ (k : ItemType) (start now : Option (List ℕ)) (ps : List (List Line)) 
       record {
         part = c.front;
         goes_on = (c.back, passed);
+        text = advances.part ∙ part_text;
         on_line = on_line;
         segment = uncut;
         none = none;
@@ -323,12 +338,13 @@ module _ (k : ItemType) (start now : Option (List ℕ)) (ps : List (List Line)) 
 
 -- a sink that held nothing before items were taken back
 pub taken_after : {S : Type 0} (k : ItemType) (start now : Option (List ℕ)) (ps : List (List Line)) (holds : S → S → List Item → Type 0) (old mid new : S) (q : ItemReader) → Holds holds [] old mid → TakesPart k start now ps holds mid new q → TakesPart k start now ps holds old new q
-taken_after k start now ps holds old mid new q back t = record { part = t.part; goes_on = t.goes_on; on_line = t.on_line; uncut = t.uncut; items = t.items; spelled = t.spelled; taken = λ first h. t.taken first (back first h) }
+taken_after k start now ps holds old mid new q back t = record { part = t.part; goes_on = t.goes_on; text = t.text; on_line = t.on_line; uncut = t.uncut; items = t.items; spelled = t.spelled; taken = λ first h. t.taken first (back first h) }
 
 pub refused_after : {S : Type 0} (k : ItemType) (file start now : Option (List ℕ)) (ps : List (List Line)) (holds : S → S → List Item → Type 0) (old mid new : S) (q : ItemReader) (e : ParseError) → Holds holds [] old mid → RefusesPart k file start now ps holds mid new q e → RefusesPart k file start now ps holds old new q e
 refused_after k file start now ps holds old mid new q e back t = record {
   part = t.part;
   goes_on = t.goes_on;
+  text = t.text;
   on_line = t.on_line;
   segment = t.segment;
   none = t.none;

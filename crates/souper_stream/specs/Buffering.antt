@@ -15,6 +15,15 @@ held b = drop b.start b.bytes.items
 abbrev pub unparsed : Buffer → List ℕ
 unparsed b = drop b.parsed (held b)
 
+-- the bytes that were parsed last
+abbrev pub last_part : Buffer → List ℕ
+last_part b = drop (b.start + b.parsed - b.last) (take (b.start + b.parsed) b.bytes.items)
+
+-- the bytes that were parsed, and among them the last, are in the buffer
+pub record IsSound (b : Buffer) : Type 0 where
+  pub within : b.start + b.parsed ≤ length b.bytes.items
+  pub last : b.last ≤ b.start + b.parsed
+
 -- the numbers of bytes and of lines of a text
 abbrev pub Counts : Before → List ℕ → Type 0
 Counts before text = (before.bytes ≡ length text) × (before.lines ≡ newlines text)
@@ -38,6 +47,7 @@ pub record IsEmpty (b : Buffer) : Type 0 where
   pub bytes_are : b.bytes.items ≡ []
   pub start_is : b.start ≡ 0
   pub parsed_is : b.parsed ≡ 0
+  pub last_is : b.last ≡ 0
   pub bytes_before : b.before.bytes ≡ 0
   pub lines_before : b.before.lines ≡ 0
 
@@ -49,13 +59,15 @@ pub record Passes (old : Buffer) (len : ℕ) (new : Buffer) : Type 0 where
   pub bytes_are : new.bytes.items ≡ old.bytes.items
   pub start_is : new.start ≡ old.start + line
   pub parsed_is : new.parsed + line ≡ old.parsed + len
+  pub last_is : new.last ≡ len
   pub one_line : IsOneLine (take (new.parsed - 1) (held new))
   pub bytes_before : new.before.bytes ≡ min (old.before.bytes + line) (2 ^ 64 - 1)
   pub lines_before : new.before.lines ≡ min (old.before.lines + newlines (take line (held old))) (2 ^ 64 - 1)
 
--- what is held is all that is left
+-- what is held is all that is left, and no bytes count as parsed last
 pub record Drains (old new : Buffer) : Type 0 where
   pub bytes_are : new.bytes.items ≡ held old
   pub start_is : new.start ≡ 0
   pub parsed_is : new.parsed ≡ old.parsed
+  pub last_is : new.last ≡ 0
   pub before_is : new.before ≡ old.before

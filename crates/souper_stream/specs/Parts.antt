@@ -10,7 +10,7 @@ use Rattle.souper_ir.specs.Joining.{IsLines}
 use Rattle.souper_ir.specs.Sinks.{PrefixSpells, TakesOver}
 use Rattle.souper_stream.specs.declared.buffer.Buffer.{Buffer}
 use Rattle.souper_stream.specs.declared.reader.ItemReader.{ItemReader}
-use Rattle.souper_stream.specs.Buffering.{unparsed, Buffers}
+use Rattle.souper_stream.specs.Buffering.{unparsed, last_part, IsSound, Buffers}
 use Rattle.souper_stream.specs.Lines.{first_line}
 use Rattle.souper_stream.specs.Segments.{Line, concat, IsLine, AreLines, HasNoCut, IsCut, AreCut, all_lines, AreParts}
 use Rattle.souper_stream.specs.Reading.{AreAll, NeverSpells}
@@ -46,7 +46,7 @@ pub record HasRead (k : ItemType) (start now : Option (List ℕ)) (ps : List (Li
   pub cut : AreCut k (and_next ps ls)
   pub some : ended ≡ false → ls ≡ [] → ps ≡ []
   pub chunk : 0 < rejected → IsChunk k ended ls rejected
-  pub drained : rejected ≡ 0 → b.start ≡ 0
+  pub sound : IsSound b
 
 -- these parts of a stream were read and parsed
 abbrev pub HasParts : ItemType → Option (List ℕ) → Option (List ℕ) → List (List Line) → ItemReader → Type 0
@@ -76,6 +76,10 @@ is_segmented r = r.by_segments
 abbrev pub line_of : ItemReader → ℕ
 line_of r = r.line
 
+-- `r.part()`
+abbrev pub part_of : ItemReader → List ℕ
+part_of r = last_part r.buffer
+
 -- the refusal of a part, after the parsed text `done`, has and shows its place in the text read
 abbrev pub IsPlacedIn : Option (List ℕ) → List ℕ → List ℕ → List ℕ → ParseError → Type 0
 IsPlacedIn file read done part e = length read + 1 < 2 ^ 64 → (offset : ℕ) × (length done ≤ offset) × (offset ≤ length (done ++ part)) × IsRefusalAt file read offset e
@@ -84,14 +88,15 @@ IsPlacedIn file read done part e = length read + 1 < 2 ^ 64 → (offset : ℕ) �
 abbrev pub IsLocatedIn : List ℕ → List ℕ → ParseError → Type 0
 IsLocatedIn done part e = length (done ++ part) + 1 < 2 ^ 64 → HasLocation (done ++ part) e
 
--- The first `len` unparsed bytes were parsed, and `rejected` bytes are left of their chunk. If none are, what is not needed was dropped.
+-- the first `len` unparsed bytes were parsed, and `rejected` bytes are left of their chunk
 pub record Advances (old : Buffer) (ended failed : Bool) (new : ItemReader) (len rejected : ℕ) : Type 0 where
   pub ended_is : new.ended ≡ ended
   pub failed_is : is_some new.fault ≡ failed
   pub rejected_is : new.rejected ≡ rejected
   pub buffers : (done : List ℕ) → Buffers done old → Buffers (done ++ take len (unparsed old)) new.buffer
   pub rest : unparsed new.buffer ≡ drop len (unparsed old)
-  pub drained : rejected ≡ 0 → new.buffer.start ≡ 0
+  pub part : part_of new ≡ take len (unparsed old)
+  pub sound : IsSound new.buffer
 
 -- a sink that held nothing holds the items
 abbrev pub Holds : {S : Type 0} → (S → S → List Item → Type 0) → List Item → S → S → Type 0
@@ -101,6 +106,7 @@ Holds {S} holds items old new = (first : S) → holds first old [] → holds fir
 pub record TakesPart {S : Type 0} (k : ItemType) (start now : Option (List ℕ)) (ps : List (List Line)) (holds : S → S → List Item → Type 0) (old new : S) (r : ItemReader) : Type 0 where
   pub part : List Line
   pub goes_on : HasParts k start now (ps ++ part ∷ []) r
+  pub text : part_of r ≡ concat part
   pub on_line : IsOnLine (concat (all_lines ps)) (concat part) (line_of r)
   pub uncut : is_segmented r ≡ true → HasNoCut k part
   pub items : List Item
@@ -112,6 +118,7 @@ pub record TakesPart {S : Type 0} (k : ItemType) (start now : Option (List ℕ))
 pub record RefusesPart {S : Type 0} (k : ItemType) (file start now : Option (List ℕ)) (ps : List (List Line)) (holds : S → S → List Item → Type 0) (old new : S) (r : ItemReader) (e : ParseError) : Type 0 where
   pub part : List Line
   pub goes_on : HasParts k start now (ps ++ part ∷ []) r
+  pub text : part_of r ≡ concat part
   pub on_line : IsOnLine (concat (all_lines ps)) (concat part) (line_of r)
   pub segment : HasNoCut k part
   pub none : SpellsNone k (concat part)

@@ -1,7 +1,7 @@
 //! The buffer of a stream.
 ghost use Rattle.std.specs.Prelude.{◌≡◌, ◌+◌, ◌<◌, ◌≤◌, length, take, vec_len, OnOk};
 ghost use Rattle.souper_ir.specs.Places.{newlines};
-ghost use Rattle.souper_stream.specs.Buffering.{held, unparsed, IsEmpty, Passes, Drains};
+ghost use Rattle.souper_stream.specs.Buffering.{held, unparsed, last_part, IsSound, IsEmpty, Passes, Drains};
 
 use crate::lines::last_line_start;
 use souper_ir::parse::Before;
@@ -18,6 +18,9 @@ pub(crate) struct Buffer {
 
     /// The number of parsed bytes from there on.
     pub(crate) parsed: usize,
+
+    /// The number of bytes that were parsed last, if they are still there.
+    pub(crate) last: usize,
 
     /// The numbers of bytes and lines before that line.
     pub(crate) before: Before,
@@ -59,6 +62,7 @@ impl Buffer {
             bytes: Vec::new(alloc),
             start: 0,
             parsed: 0,
+            last: 0,
             before: Before { bytes: 0, lines: 0 },
         }
     }
@@ -69,6 +73,15 @@ impl Buffer {
         ensures { result.now ≡ take (self.now.parsed + len) (held self.now) }
     {
         &self.bytes[self.start..self.start + self.parsed + len]
+    }
+
+    /// The bytes that were parsed last.
+    pub(crate) fn last_part(&self) -> &[u8]
+        requires { IsSound self.now }
+        ensures { result.now ≡ last_part self.now }
+    {
+        let end = self.start + self.parsed;
+        &self.bytes[end - self.last..end]
     }
 
     /// The bytes that are not parsed.
@@ -92,9 +105,10 @@ impl Buffer {
         self.before.lines = self.before.lines.saturating_add(count);
         self.start += line;
         self.parsed = self.parsed + len - line;
+        self.last = len;
     }
 
-    /// Drops the lines that are not needed any more.
+    /// Drops the lines that are not needed any more, and with them the bytes that were parsed last.
     #[tactic(auto, using(std::proofs::lemmas::List::take_rest))]
     pub(crate) fn drain(&mut self, alloc: Global) -> Result<(), AllocError>
         requires { self.old.start ≤ vec_len self.old.bytes }
@@ -102,6 +116,7 @@ impl Buffer {
     {
         self.bytes = self.bytes[self.start..].to_vec(alloc)?;
         self.start = 0;
+        self.last = 0;
         Ok(())
     }
 }

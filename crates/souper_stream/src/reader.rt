@@ -6,7 +6,7 @@ ghost use Rattle.souper_ir.specs.Sinks.{TakesText};
 ghost use Rattle.souper_stream.specs.Buffering.{held, unparsed};
 ghost use Rattle.souper_stream.specs.Segments.{Line, concat, AreLines, IsFirstSegment};
 ghost use Rattle.souper_stream.specs.Reading.{Reads, ReadsMore, ReadsLines, AppendsLine, Fills};
-ghost use Rattle.souper_stream.specs.Parts.{Advances, LeavesChunk, Rejects, HasParts, HasAll, HasLine, line_of, is_segmented, IsNext, TakesPart, RefusesPart};
+ghost use Rattle.souper_stream.specs.Parts.{Advances, LeavesChunk, Rejects, HasParts, HasAll, HasLine, line_of, part_of, is_segmented, IsNext, TakesPart, RefusesPart};
 
 use crate::buffer::{Buffer, newline_count};
 use crate::cuts::{last_cut, segment_len};
@@ -191,8 +191,8 @@ pub struct ItemReader {
     // Bytes to read before looking for a cut point.
     min_chunk: usize,
 
-    // Buffer length at which to look for the next cut point.
-    goal: usize,
+    // Whether a cut point is looked for whenever something was read, and not only when the buffer has doubled.
+    is_eager: bool,
 
     // Whether each chunk is read segment by segment.
     by_segments: bool,
@@ -216,7 +216,8 @@ pub struct ItemReader {
 impl ItemReader {
     /// A reader at the start of a stream. `min_chunk` is the chunk size in bytes: a cut point is looked for when the buffer has
     /// grown by `min_chunk` bytes, and to the end of a line. If none is found, it is looked for again when the buffer has doubled.
-    /// With a small chunk size items are passed to the sink sooner; with a larger one reading takes less time.
+    /// With a small chunk size items are passed to the sink sooner ([`eager`](ItemReader::eager) too); with a larger one reading takes less
+    /// time.
     #[tactic(auto, using(crate::proofs::Passing::read_none))]
     pub fn new(alloc: Global, min_chunk: usize) -> ItemReader
         ensures chunks { is_segmented result ≡ false }
@@ -225,7 +226,7 @@ impl ItemReader {
         ItemReader {
             buffer: Buffer::new(alloc),
             min_chunk,
-            goal: min_chunk,
+            is_eager: false,
             by_segments: false,
             ended: false,
             fault: None,
@@ -246,6 +247,15 @@ impl ItemReader {
         }
     }
 
+    /// The same reader, which, if it is eager, looks for a cut point each time that it has read something, up to the end of a line. With a
+    /// chunk size of 1 the items of a segment are passed to the sink as soon as the line after it can be read. Long segments take longer.
+    pub fn eager(self, is_eager: bool) -> ItemReader
+        ensures same { is_segmented result ≡ is_segmented self }
+        ensures parts { (k : ItemType) (start : Option (List ℕ)) (now : Option (List ℕ)) (ps : List (List Line)) → HasParts k start now ps self → HasParts k start now ps result }
+    {
+        ItemReader { is_eager, ..self }
+    }
+
     /// The 1-based line of the first token of the last part, refused or not. If no token is found, since there is none or a lexical error
     /// comes first, it is the line on which the part begins.
     pub fn line(&self) -> usize
@@ -254,13 +264,22 @@ impl ItemReader {
         self.line
     }
 
-    // Reads more of the stream, if it has not ended. The error of a read that fails is returned by the next call, after the segments before it.
-    fn read_more<R: BufRead>(&mut self, reader: &mut R) -> io::Result<()>
+    /// The text of the last part, refused or not. Before the first part and after the end it is empty.
+    pub fn part(&self) -> &[u8]
+        requires { (k : ItemType) × (start : Option (List ℕ)) × (now : Option (List ℕ)) × (ps : List (List Line)) × HasParts k start now ps self.now }
+        ensures { result.now ≡ part_of self.now }
+    {
+        self.buffer.last_part()
+    }
+
+    // Reads until `goal` bytes are buffered, if the stream has not ended. The error of a read that fails is returned by the next call, after the segments before it.
+    fn read_more<R: BufRead>(&mut self, reader: &mut R, goal: usize) -> io::Result<()>
         requires parsed { self.old.buffer.start + self.old.buffer.parsed ≤ vec_len self.old.buffer.bytes }
         requires none { self.old.rejected ≡ 0 }
         ensures same { is_segmented self.new ≡ is_segmented self.old }
         ensures parsed { self.new.buffer.start + self.new.buffer.parsed ≤ vec_len self.new.buffer.bytes }
         ensures none { self.new.rejected ≡ 0 }
+        ensures start { self.new.buffer.start ≡ self.old.buffer.start }
         ensures read { OnOk result ((k : ItemType) (start : Option (List ℕ)) (ps : List (List Line)) → HasParts k start (R.remaining reader.old) ps self.old → HasParts k start (R.remaining reader.new) ps self.new) }
     {
         if self.ended {
@@ -269,23 +288,31 @@ impl ItemReader {
         if let Some(fault) = self.fault.take() {
             return Err(fault);
         }
-        match fill(reader, &mut self.buffer.bytes, self.goal) {
+        match fill(reader, &mut self.buffer.bytes, goal) {
             Ok(ended) => self.ended = ended,
             Err(fault) => self.fault = Some(fault),
         }
         Ok(())
     }
 
-    // Reads up to the end of the next chunk, and returns its length in bytes, which is 0 if the stream has ended.
-    fn next_chunk<T: StreamItem, R: BufRead>(&mut self, reader: &mut R) -> io::Result<usize>
+    // Drops what is not needed any more, reads up to the end of the next chunk, and returns its length in bytes, which is 0 if the stream
+    // has ended.
+    fn next_chunk<T: StreamItem, R: BufRead>(
+        &mut self,
+        alloc: Global,
+        reader: &mut R,
+    ) -> io::Result<usize>
         requires parsed { self.old.buffer.start + self.old.buffer.parsed ≤ vec_len self.old.buffer.bytes }
         requires none { self.old.rejected ≡ 0 }
         ensures same { is_segmented self.new ≡ is_segmented self.old }
         ensures next { IfOk result (λ len. (start : Option (List ℕ)) (ps : List (List Line)) → HasParts T.item_type start (R.remaining reader.old) ps self.old
             → IsNext T.item_type start (R.remaining reader.new) ps self.new len) }
+        ensures drained { IfOk result (λ len. self.new.buffer.start ≡ 0) }
     {
+        self.buffer.drain(alloc)?;
+        let mut goal = self.buffer.bytes.len().saturating_add(self.min_chunk);
         for _turn in 0..u64::MAX {
-            self.read_more::<R>(reader)?;
+            self.read_more::<R>(reader, goal)?;
             if self.ended {
                 return Ok(self.buffer.unparsed().len());
             }
@@ -293,31 +320,26 @@ impl ItemReader {
             if cut > 0 {
                 return Ok(cut);
             }
-            self.goal = self.buffer.bytes.len().saturating_mul(2);
+            let len = self.buffer.bytes.len();
+            goal = if self.is_eager {
+                len.saturating_add(1)
+            } else {
+                len.saturating_mul(2)
+            };
         }
         Err(io::Error::from(ErrorKind::Other))
     }
 
     // The first `len` unparsed bytes were parsed, and `rejected` bytes are left of their chunk. If none are, another chunk comes next.
-    fn pass(
-        &mut self,
-        alloc: Global,
-        len: usize,
-        rejected: usize,
-    ) -> std::result::Result<(), AllocError>
+    fn pass(&mut self, len: usize, rejected: usize)
         requires some { 0 < len }
         requires within { self.old.buffer.start + self.old.buffer.parsed + len ≤ vec_len self.old.buffer.bytes }
-        ensures advanced { OnOk result (Advances self.old.buffer self.old.ended (is_some self.old.fault) self.new len rejected) }
+        ensures advanced { Advances self.old.buffer self.old.ended (is_some self.old.fault) self.new len rejected }
         ensures line { self.new.line ≡ self.old.line }
         ensures same { is_segmented self.new ≡ is_segmented self.old }
     {
         self.buffer.pass(len);
         self.rejected = rejected;
-        if rejected == 0 {
-            self.buffer.drain(alloc)?;
-            self.goal = self.buffer.bytes.len().saturating_add(self.min_chunk);
-        }
-        Ok(())
     }
 
     // Passes the items of the next chunk, which has `len` bytes, to the sink. An error that is not out of memory leaves the chunk.
@@ -337,7 +359,7 @@ impl ItemReader {
         let (text, line) = text_and_line(&self.buffer, len)?;
         parse_with_memory::<T, S>(alloc, &mut self.memory, text, None, sink)?;
         self.line = line;
-        self.pass(alloc, len, 0)?;
+        self.pass(len, 0);
         Ok(())
     }
 
@@ -359,7 +381,7 @@ impl ItemReader {
         ensures failed { IfErr result (λ e. kind_of e ≡ ParseErrorKind.Parse → ⊥) }
         ensures same { is_segmented self.new ≡ is_segmented self.old }
     {
-        let len = match self.next_chunk::<T, R>(reader) {
+        let len = match self.next_chunk::<T, R>(alloc, reader) {
             Ok(0) => return Ok(Some(false)),
             Ok(len) => len,
             Err(fault) => return Err(read_error(fault)),
@@ -403,7 +425,7 @@ impl ItemReader {
             Ok(()) => Ok(true),
             Err(error) => Err(place(alloc, &self.buffer, len, error, filename)),
         };
-        self.pass(alloc, len, rejected - len)?;
+        self.pass(len, rejected - len);
         parsed
     }
 
@@ -412,7 +434,7 @@ impl ItemReader {
     ///
     /// Each call of one stream is given the same reader and type of items, and the sink may be another each time. It must hold no items,
     /// compared with some sink, since items of a chunk may be taken back. After the call [`line`](ItemReader::line) returns the line of the
-    /// part's first token.
+    /// part's first token, and [`part`](ItemReader::part) its text.
     ///
     /// - `Parse`: the next segment spells no items. The sink has taken items that it begins with. The error has and shows its place in
     ///   the stream, and its location is there too. The next call reads the next segment.

@@ -29,6 +29,7 @@ returns c =
       bytes_are = refl;
       start_is = refl;
       parsed_is = omega arith;
+      last_is = refl;
       one_line = subst (λ (x : List ℕ). IsOneLine x) last at.one_line;
       bytes_before = c.saturating_add-self.ensures;
       lines_before = rw (← front, ← lines, ← c.newline_count-count.ensures) c.saturating_add-self-2.ensures;

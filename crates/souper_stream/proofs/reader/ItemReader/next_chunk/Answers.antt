@@ -1,6 +1,24 @@
-use Rattle.std.proofs.Common.{◌∙◌, length, ap}
-use Rattle.souper_stream.proofs.Passing.{next_cut, next_end}
+use Rattle.std.proofs.Common.{◌∙◌, length, refl, ap, arith}
+use Rattle.std.proofs.lemmas.List.{length-drop}
+use Rattle.souper_stream.specs.declared.reader.ItemReader.{ItemReader}
+use Rattle.souper_stream.proofs.Passing.{dropped, next_cut, next_end}
 use Rattle.souper_stream.proofs.reader.ItemReader.next_chunk.Goals as goal
+
+pub loop-turn-init : goal.loop-turn-init
+loop-turn-init g c =
+    let r : ItemReader = c.args.self.now in
+    let d = c.in_ok-drain.ensures in
+    let q : ItemReader = record r { buffer = c.drain.new.self } in
+    let bytes = ap length d.bytes_are in
+    let start = d.start_is in
+    let parsed = d.parsed_is in
+    record {
+      same = refl;
+      parsed = omega (arith, c.requires.parsed, r.buffer.bytes.ok, q.buffer.bytes.ok, length-drop r.buffer.start r.buffer.bytes.items);
+      none = c.requires.none;
+      drained = d.start_is;
+      parts = λ start ps had. dropped g.T.Item.item_type start (g.R.Read.remaining c.args.reader.now) ps r q d refl refl refl had;
+    }
 
 pub returns-then-self-clause-next : goal.returns-then-self-clause-next
 returns-then-self-clause-next g c = λ start ps had.
@@ -19,5 +37,6 @@ loop-turn-preserved g c = record {
   same = c.read_more.ensures.same ∙ c.loop-turn.invariant.same;
   parsed = c.read_more.ensures.parsed;
   none = c.read_more.ensures.none;
+  drained = c.read_more.ensures.start ∙ c.loop-turn.invariant.drained;
   parts = λ start ps had. c.in_ok-read_more.ensures.read g.T.Item.item_type start ps (c.loop-turn.invariant.parts start ps had);
 }

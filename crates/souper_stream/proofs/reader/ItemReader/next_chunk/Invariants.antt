@@ -1,4 +1,4 @@
--- The same parts were parsed as before.
+-- The same parts were parsed as before, and what is not needed of them was dropped.
 use Rattle.std.proofs.Common.{◌≡◌, ◌≤◌, ◌+◌, List}
 use Rattle.std.specs.Prelude.{ℕ, Option, vec_len}
 use Rattle.souper_stream.specs.Segments.{Line}
@@ -10,5 +10,6 @@ invariant-loop-turn g l = record {
   same : is_segmented l.self ≡ is_segmented l.fn.self;
   parsed : l.self.buffer.start + l.self.buffer.parsed ≤ vec_len l.self.buffer.bytes;
   none : l.self.rejected ≡ 0;
+  drained : l.self.buffer.start ≡ 0;
   parts : (start : Option (List ℕ)) (ps : List (List Line)) → HasParts g.T.Item.item_type start (g.R.Read.remaining l.fn.reader) ps l.fn.self → HasParts g.T.Item.item_type start (g.R.Read.remaining l.reader) ps l.self;
 }

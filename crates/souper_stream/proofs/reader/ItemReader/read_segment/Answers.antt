@@ -12,9 +12,9 @@ returns-clause-taken g c =
     let len = c.in_ok-len.len in
     let some : 0 < len = c.in_ok-len.ensures.some c.requires.some in
     let segment = c.in_ok-len.ensures.segment in
-    let line = rw (← c.in_ok-pass.ensures.line) at c.in_ok-text.ensures.line in
+    let line = rw (← c.pass.ensures.line) at c.in_ok-text.ensures.line in
     elim c.match-parse_with_memory.branch [
-      | in-Ok w ↦ rw w.parsed-is (λ start now ps had. segment_taken k start now ps r c.pass.new.self len c.requires.some some segment c.in_ok-pass.ensures.advanced line had g.S.Sink.holds c.args.sink.now c.parse_with_memory.new.sink
+      | in-Ok w ↦ rw w.parsed-is (λ start now ps had. segment_taken k start now ps r c.pass.new.self len c.requires.some some segment c.pass.ensures.advanced line had g.S.Sink.holds c.args.sink.now c.parse_with_memory.new.sink
           (rw c.in_ok-text.ensures.text at w.in-Ok.ensures.taken))
       | in-Err w ↦ rw w.parsed-is tt
     ]
@@ -26,12 +26,12 @@ returns-clause-refused g c =
     let len = c.in_ok-len.len in
     let some : 0 < len = c.in_ok-len.ensures.some c.requires.some in
     let segment = c.in_ok-len.ensures.segment in
-    let line = rw (← c.in_ok-pass.ensures.line) at c.in_ok-text.ensures.line in
+    let line = rw (← c.pass.ensures.line) at c.in_ok-text.ensures.line in
     let file = option_copied c.args.filename in
     let holds = g.S.Sink.holds in
     let text = c.in_ok-text.text.now in
     elim c.match-parse_with_memory.branch [
       | in-Ok w ↦ rw w.parsed-is tt
-      | in-Err w ↦ rw w.parsed-is (λ kind start now ps had. segment_refused k start now ps r c.pass.new.self len c.requires.some some segment c.in_ok-pass.ensures.advanced line had holds c.args.sink.now c.parse_with_memory.new.sink file w.place.result kind
+      | in-Err w ↦ rw w.parsed-is (λ kind start now ps had. segment_refused k start now ps r c.pass.new.self len c.requires.some some segment c.pass.ensures.advanced line had holds c.args.sink.now c.parse_with_memory.new.sink file w.place.result kind
           (text_refused k file r.buffer len holds c.args.sink.now c.parse_with_memory.new.sink text w.in-Err.error w.place.result c.in_ok-text.ensures.text w.in-Err.ensures.before w.in-Err.ensures.refused kind (w.place.ensures.located kind) (w.place.ensures.location kind)))
     ]

@@ -1,0 +1,49 @@
+-- Definitions. Where two texts differ first, and how far texts that come part by part are compared.
+use Rattle.std.specs.Prelude.{◌≡◌, ◌⊎◌, ℕ, ◌+◌, ◌-◌, ◌^◌, ◌<◌, ◌≤◌, min, true, false, List, [], ◌∷◌, ◌++◌, length, take, drop}
+use Rattle.souper_ir.specs.Places.{newlines}
+use Rattle.souper_records.specs.declared.comparison.Comparison.{Comparison}
+
+-- both texts have bytes, and the first ones differ
+abbrev pub FirstDiffer : List ℕ → List ℕ → Type 0
+FirstDiffer [] other = ⊥
+FirstDiffer (a ∷ text) [] = ⊥
+FirstDiffer (a ∷ text) (b ∷ other) = ¬ (a ≡ b)
+
+-- one of the texts has no bytes
+abbrev pub OneIsEmpty : List ℕ → List ℕ → Type 0
+OneIsEmpty text other = (text ≡ []) ⊎ (other ≡ [])
+
+-- the first bytes of the texts differ, or one of the texts has no bytes
+abbrev pub BeginApart : List ℕ → List ℕ → Type 0
+BeginApart [] [] = ⊥
+BeginApart [] (b ∷ other) = Unit {0}
+BeginApart (a ∷ text) [] = Unit {0}
+BeginApart (a ∷ text) (b ∷ other) = ¬ (a ≡ b)
+
+-- the texts are the same up to a byte of this line, counted from 1, and differ there
+abbrev pub DifferOnLine : List ℕ → List ℕ → ℕ → Type 0
+DifferOnLine text other line = (same : List ℕ) × (rest : List ℕ) × (more : List ℕ)
+    × (text ≡ same ++ rest) × (other ≡ same ++ more) × BeginApart rest more × (line ≡ newlines same + 1)
+
+-- the texts differ, first on this line, if numbers of 64 bits can count the lines
+abbrev pub DifferFrom : List ℕ → List ℕ → ℕ → Type 0
+DifferFrom text other line = ¬ (text ≡ other) × (length text + 1 < 2 ^ 64 → DifferOnLine text other line)
+
+-- the texts begin with the same bytes, this many, and no more: the next ones differ, or one of the texts ends there
+pub record AgreeUpTo (text other : List ℕ) (len : ℕ) : Type 0 where
+  pub within : len ≤ length text
+  pub within_other : len ≤ length other
+  pub same : take len other ≡ take len text
+  pub apart : FirstDiffer (drop len text) (drop len other) ⊎ OneIsEmpty (drop len text) (drop len other)
+
+-- What is known of the texts that came: the bytes that both begin with, the line after these, and what follows. If that differs, it is not
+-- kept.
+pub record IsCompared (c : Comparison) (text other : List ℕ) : Type 0 where
+  pub same : List ℕ
+  pub rest : List ℕ
+  pub more : List ℕ
+  pub text_is : text ≡ same ++ rest
+  pub other_is : other ≡ same ++ more
+  pub line_is : c.line ≡ min (newlines same + 1) (2 ^ 64 - 1)
+  pub apart : c.differs ≡ true → FirstDiffer rest more
+  pub kept : c.differs ≡ false → (c.text.items ≡ rest) × (c.other.items ≡ more) × OneIsEmpty rest more
