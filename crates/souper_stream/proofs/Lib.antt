@@ -7,6 +7,7 @@ pub mod Bytes
 mod LineLists
 mod Scanning
 mod WithoutEnd
+pub mod LastCut
 pub mod SegmentLaws
 mod Buffers
 mod Refusing

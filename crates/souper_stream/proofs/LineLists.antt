@@ -122,7 +122,7 @@ line_first (l ∷ ls) text n e lines some len =
     let long : length l ≡ n = sym (len ∙ ap length (ap (take_through 10) e ∙ first_through l ls lines)) in
     (ls, ap (λ (x : Line). x ∷ ls) (sym (ap (take n) e ∙ take_at l (concat ls) n long)), ap (drop n) e ∙ drop_at l (concat ls) n long)
 
-lines_unique : (ls ms : List Line) → AreLines ls → AreLines ms → concat ls ≡ concat ms → ls ≡ ms
+pub lines_unique : (ls ms : List Line) → AreLines ls → AreLines ms → concat ls ≡ concat ms → ls ≡ ms
 lines_unique [] ms h k e = sym (no_bytes ms k (sym (ap length e)))
 lines_unique (l ∷ ls) [] h k e = no_bytes (l ∷ ls) h (ap length e)
 lines_unique (l ∷ ls) (m ∷ ms) h k e =

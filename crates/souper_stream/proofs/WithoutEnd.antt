@@ -73,7 +73,7 @@ no_end_tokens k (t ∷ ts) n bs rest h q = (
 
 -- ---- lines
 
-line_boundary : (l rest : List ℕ) → IsLine l → IsUtf8 (l ++ rest) → IsCharBoundary (l ++ rest) (length l)
+pub line_boundary : (l rest : List ℕ) → IsLine l → IsUtf8 (l ++ rest) → IsCharBoundary (l ++ rest) (length l)
 line_boundary l rest h utf8 =
     let xs = l ++ rest in
     let at : get_or xs (length h.0) 0 ≡ 10 =
@@ -81,7 +81,7 @@ line_boundary l rest h utf8 =
     let long : length h.0 + 1 ≡ length l = sym (ap length h.2 ∙ length-append h.0 (10 ∷ [])) in
     subst (λ (m : ℕ). IsCharBoundary xs m) long (IsCharBoundary-after_ascii xs (length h.0) utf8 (omega (arith, length-append l rest)) (omega arith))
 
-no_end_lines : (k : ItemType) (ls : List Line) → AllByRecursion IsLine ls → IsUtf8 (concat ls) → NoEndWord k (concat ls) → AllByRecursion (λ l. NoEnd k (tokens_of l)) ls
+pub no_end_lines : (k : ItemType) (ls : List Line) → AllByRecursion IsLine ls → IsUtf8 (concat ls) → NoEndWord k (concat ls) → AllByRecursion (λ l. NoEnd k (tokens_of l)) ls
 no_end_lines k [] each utf8 none = tt
 no_end_lines k (l ∷ ls) each utf8 none =
     let xs = l ++ concat ls in

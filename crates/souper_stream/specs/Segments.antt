@@ -1,7 +1,7 @@
 -- Definitions. The segments of a text: lines, cut where an item ends and a line of the next begins, as far as tokens show it. A line
 -- starts if it begins with a statement, or with one of an item's last lines. A lexical fault hides the tokens after it on its line, and
 -- no others; so the next segment can be parsed though this one is invalid.
-use Rattle.std.specs.Prelude.{◌≡◌, ◌⊎◌, ◌↔◌, ℕ, ◌-◌, ◌<◌, true, List, [], ◌∷◌, ◌++◌, length, take, drop}
+use Rattle.std.specs.Prelude.{◌≡◌, ◌⊎◌, ◌↔◌, ℕ, ◌-◌, ◌<◌, ◌≤◌, true, List, [], ◌∷◌, ◌++◌, length, take, drop, IsUtf8}
 use Rattle.souper_graph.specs.Values.{Item}
 use Rattle.souper_graph.specs.Syntax.Tokens.{Lexeme, IsOneLine}
 use Rattle.souper_graph.specs.Syntax.Spelling.{kinds, ItemType, TextSpells}
@@ -94,7 +94,11 @@ pub record CutsAt (k : ItemType) (ls : List Line) (len : ℕ) : Type 0 where
   pub len_is : length (concat front) ≡ len
   pub cut : IsCut k front back
 
--- they are the first segment
+-- no cut point is after the first `len` bytes of the lines
+abbrev pub HasNoCutAfter : ItemType → List Line → ℕ → Type 0
+HasNoCutAfter k ls len = (front back : List Line) → ls ≡ front ++ back → IsCut k front back → length (concat front) ≤ len
+
+-- the first `len` bytes of the lines are the first segment
 pub record IsFirstSegment (k : ItemType) (ls : List Line) (len : ℕ) : Type 0 where
   pub front : List Line
   pub back : List Line
@@ -103,7 +107,16 @@ pub record IsFirstSegment (k : ItemType) (ls : List Line) (len : ℕ) : Type 0 w
   pub uncut : HasNoCut k front
   pub cut : (back ≡ []) ⊎ IsCut k front back
 
--- the last line of a text is after them
+-- a line is not UTF-8, and no cut point is between the lines before it
+pub record HasBadLine (k : ItemType) (ls : List Line) : Type 0 where
+  pub front : List Line
+  pub line : Line
+  pub back : List Line
+  pub whole : ls ≡ front ++ line ∷ back
+  pub uncut : HasNoCut k front
+  pub fault : ¬ (IsUtf8 line)
+
+-- the last line of a text is after the first `start` bytes
 pub record IsLastLineAt (text : List ℕ) (start : ℕ) : Type 0 where
   pub before : start < length text
   pub lines : IsLines (take start text)

@@ -1,8 +1,8 @@
 //! Where a text is cut.
-ghost use Rattle.std.specs.Prelude.{◌≡◌, ◌<◌, ◌≤◌, List, length, take, IfOk};
+ghost use Rattle.std.specs.Prelude.{◌≡◌, ◌⊎◌, ◌<◌, ◌≤◌, List, length, take, IfOk, IfSome, IfNone, OnErr, IsUtf8};
 ghost use Rattle.souper_ir.specs.Joining.{IsLines};
 ghost use Rattle.souper_stream.specs.Lines.{PassesOver};
-ghost use Rattle.souper_stream.specs.Segments.{Line, concat, AreLines, CutsAt, IsFirstSegment};
+ghost use Rattle.souper_stream.specs.Segments.{Line, concat, AreLines, HasNoCut, CutsAt, HasNoCutAfter, IsFirstSegment, HasBadLine};
 
 use crate::item::StreamItem;
 use crate::lines::{
@@ -33,11 +33,18 @@ fn pass_without_end<T: StreamItem>(bytes: &[u8], before: ScanState, owed: usize)
     )
 }
 
-/// The length of the first segment of the text, in bytes. The error says that the bytes are not UTF-8, up to the line after it.
-pub(crate) fn segment_len<T: StreamItem>(text: &[u8]) -> io::Result<usize>
+/// The length of the first segment of the text, in bytes: up to its first cut point or, if it has none, its end.
+///
+/// A *cut point* is where an item of the type ends and a line of the next begins, as the tokens of the lines show it: the last statement
+/// or last line that begins before it is a terminator, and the line after it begins with a statement or with one of an item's last lines.
+/// Whether the segment spells items plays no part. A last line without a newline counts as a line.
+///
+/// The error says that the bytes are not UTF-8, in the segment or in the line after it.
+pub fn segment_len<T: StreamItem>(text: &[u8]) -> io::Result<usize>
     ensures segment { IfOk result (λ len. (ls : List Line) → text.now ≡ concat ls → AreLines ls → IsFirstSegment T.item_type ls len) }
     ensures within { IfOk result (λ len. len ≤ length text.now) }
     ensures some { IfOk result (λ len. 0 < length text.now → 0 < len) }
+    ensures failed { OnErr result ((ls : List Line) → text.now ≡ concat ls → AreLines ls → HasBadLine T.item_type ls) }
 {
     let mut rest = text;
     let mut state = ScanState::new();
@@ -56,28 +63,42 @@ pub(crate) fn segment_len<T: StreamItem>(text: &[u8]) -> io::Result<usize>
     Ok(text.len() - rest.len())
 }
 
+// The first cut point of the text, if it has one before a line that is not UTF-8.
+fn first_cut<T: StreamItem>(text: &[u8]) -> Option<usize>
+    ensures cut { IfSome result (λ len. (ls : List Line) → text.now ≡ concat ls → AreLines ls → IsFirstSegment T.item_type ls len) }
+    ensures some { IfSome result (λ len. 0 < length text.now → 0 < len) }
+    ensures within { IfSome result (λ len. len < length text.now) }
+    ensures none { IfNone result ((ls : List Line) → text.now ≡ concat ls → AreLines ls → HasNoCut T.item_type ls ⊎ HasBadLine T.item_type ls) }
+{
+    match segment_len::<T>(text) {
+        Ok(len) if len < text.len() => Some(len),
+        Ok(_) => None,
+        Err(_) => None,
+    }
+}
+
 // The last cut point of the text after a line that begins at `start`, or 0 if none is there.
 fn last_cut_after<T: StreamItem>(text: &[u8], start: usize) -> usize
     requires within { start ≤ length text.now }
     requires lines { IsLines (take start text.now) }
-    ensures { 0 < result → (ls : List Line) → text.now ≡ concat ls → AreLines ls → CutsAt T.item_type ls result }
+    ensures cut { 0 < result → (ls : List Line) → text.now ≡ concat ls → AreLines ls → CutsAt T.item_type ls result }
+    ensures last { IsUtf8 text.now → (0 < result) ⊎ (start ≡ 0) → (ls : List Line) → text.now ≡ concat ls → AreLines ls → HasNoCutAfter T.item_type ls result }
 {
     let mut cut = start;
-    loop {
-        match segment_len::<T>(&text[cut..]) {
-            Ok(len) if len < text.len() - cut => cut += len,
-            _ => break,
-        }
+    while let Some(len) = first_cut::<T>(&text[cut..]) {
+        cut += len;
     }
-    if cut > start {
-        return cut;
-    }
-    0
+    if cut > start { cut } else { 0 }
 }
 
-/// The offset of the last cut point of the text, in bytes, or 0 if there is none.
-pub(crate) fn last_cut<T: StreamItem>(text: &[u8]) -> usize
-    ensures { 0 < result → (ls : List Line) → text.now ≡ concat ls → AreLines ls → CutsAt T.item_type ls result }
+/// The offset of the last cut point of whole lines, in bytes, or 0 if there is none. What is before it spells items if each of its segments
+/// does, whatever comes after it.
+///
+/// [`segment_len`] says what a cut point is. The text is to be UTF-8 and to end in a newline, as [`lines_len`](crate::lines_len) says; else a
+/// cut point is returned, or 0, but maybe not the last.
+pub fn last_cut<T: StreamItem>(text: &[u8]) -> usize
+    ensures cut { 0 < result → (ls : List Line) → text.now ≡ concat ls → AreLines ls → CutsAt T.item_type ls result }
+    ensures last { IsUtf8 text.now → IsLines text.now → (ls : List Line) → text.now ≡ concat ls → AreLines ls → HasNoCutAfter T.item_type ls result }
 {
     // No line before the last one with an end word is lexed at first. If no cut point is after that line, the search begins four times as
     // far from the end, and so on.

@@ -17,8 +17,10 @@ mod read;
 mod reader;
 mod sink;
 
+pub use cuts::{last_cut, segment_len};
 pub use faults::not_utf8;
 pub use item::StreamItem;
+pub use lines::lines_len;
 pub use read::{read_chunks_into, read_into};
 pub use reader::ItemReader;
 pub use sink::ChunkSink;

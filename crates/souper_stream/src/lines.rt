@@ -1,5 +1,5 @@
 //! The lines of a text, and which of them begin or end an item.
-ghost use Rattle.std.specs.Prelude.{◌≡◌, ◌≤◌, ◌<◌, ◌∷◌, [], length, take, drop, true, false, IfOk, IfSome, IsUtf8};
+ghost use Rattle.std.specs.Prelude.{◌≡◌, ◌≤◌, ◌<◌, ◌∷◌, [], length, take, drop, true, false, IfOk, IfSome, IfNone, OnErr, IsUtf8};
 ghost use Rattle.std.specs.Io.{StartsWith};
 ghost use Rattle.std.specs.Io.BufRead.{take_through};
 ghost use Rattle.souper_graph.specs.Syntax.Tokens.{IsOneLine};
@@ -164,6 +164,7 @@ pub(crate) fn starts_line(line: &str) -> bool
 pub(crate) fn utf8(bytes: &[u8]) -> io::Result<&str>
     ensures same { IfOk result (λ text. text.now ≡ bytes.now) }
     ensures utf8 { IfOk result (λ text. IsUtf8 text.now) }
+    ensures failed { OnErr result (¬ (IsUtf8 bytes.now)) }
 {
     match str::from_utf8(bytes) {
         Ok(text) => Ok(text),
@@ -193,9 +194,9 @@ pub(crate) fn last_line_start(text: &[u8]) -> usize
     lines_len(&text[..text.len() - 1])
 }
 
-/// The length of the whole lines that the bytes begin with.
+/// The length in bytes of the whole lines that the bytes begin with: up to the last newline, and 0 if there is none.
 #[tactic(auto, using(crate::proofs::LineLists::one_after))]
-pub(crate) fn lines_len(bytes: &[u8]) -> usize
+pub fn lines_len(bytes: &[u8]) -> usize
     ensures bound { result ≤ length bytes.now }
     ensures lines { IsLines (take result bytes.now) }
     ensures rest { IsOneLine (drop result bytes.now) }
@@ -249,10 +250,11 @@ pub(crate) fn len_without_end<T: StreamItem>(bytes: &[u8]) -> (usize, usize)
 
 // The end of the first byte of the last occurrence of the word, if items of the type end with a line that it begins. Else 0.
 fn last_occurrence<T: StreamItem>(bytes: &[u8], word: &str) -> usize
-    ensures { result ≤ length bytes.now }
+    ensures within { result ≤ length bytes.now }
+    ensures none { result ≡ 0 → end_word T.item_type word.now ≡ true → IsAbsent word.now bytes.now }
 {
     // Where the word does not occur, a search forward finds that out faster.
-    if !T::ends_with(word) || memmem::find(bytes, word.as_bytes()).is_none() {
+    if !T::ends_with(word) || before_word::<T>(bytes, word).len() == bytes.len() {
         return 0;
     }
     match memmem::rfind(bytes, word.as_bytes()) {
@@ -263,7 +265,8 @@ fn last_occurrence<T: StreamItem>(bytes: &[u8], word: &str) -> usize
 
 /// The offset of the last line in which a word occurs that items of the type end with, be it in a token or in a comment.
 pub(crate) fn last_line_with_end<T: StreamItem>(bytes: &[u8]) -> Option<usize>
-    ensures { IfSome result (λ start. IsLines (take start bytes.now) × (start ≤ length bytes.now)) }
+    ensures line { IfSome result (λ start. IsLines (take start bytes.now) × (start ≤ length bytes.now)) }
+    ensures none { IfNone result (NoEndWord T.item_type bytes.now) }
 {
     let infer = last_occurrence::<T>(bytes, "infer");
     let result = last_occurrence::<T>(bytes, "result");

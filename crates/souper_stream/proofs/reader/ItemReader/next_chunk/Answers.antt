@@ -30,7 +30,7 @@ pub returns-then-cut-gt0-clause-next : goal.returns-then-cut-gt0-clause-next
 returns-then-cut-gt0-clause-next g c = λ start ps had.
     let k = g.T.Item.item_type in
     let more = c.in_ok-read_more.ensures.read k start ps (c.loop-turn.invariant.parts start ps had) in
-    next_cut k start (g.R.Read.remaining c.read_more.new.reader) ps c.read_more.new.self c.last_cut-cut.result more c.if-cut-gt0.true (λ ls e lines. c.last_cut-cut.ensures c.if-cut-gt0.true ls (c.unparsed-in-loop-turn.ensures ∙ e) lines)
+    next_cut k start (g.R.Read.remaining c.read_more.new.reader) ps c.read_more.new.self c.last_cut-cut.result more c.if-cut-gt0.true (λ ls e lines. c.last_cut-cut.ensures.cut c.if-cut-gt0.true ls (c.unparsed-in-loop-turn.ensures ∙ e) lines)
 
 pub loop-turn-preserved : goal.loop-turn-preserved
 loop-turn-preserved g c = record {
