@@ -2,3 +2,4 @@ pub mod Failures
 pub mod Locations
 pub mod Same
 pub mod Writing
+pub mod WholeLines

@@ -4,3 +4,4 @@ pub mod Failures
 pub mod Locations
 pub mod Records
 pub mod FlawAnswers
+pub mod Cuts

@@ -5,6 +5,7 @@
 #![tactic(auto)]
 
 mod codes;
+mod cuts;
 mod flaw;
 mod inputs;
 mod location;
@@ -23,9 +24,11 @@ ghost use Rattle.souper_code.specs.Writing.{IsNoCode, IsNoCodeAt, IsCodeOfWellFo
 ghost use Rattle.souper_c.specs.Records.{RecordsTo, WritesRecords};
 ghost use Rattle.souper_c.specs.Failures.{short_outcome};
 ghost use Rattle.souper_c.specs.Locations.{HasNoLocation, LocatesFault};
+ghost use Rattle.souper_c.specs.Cuts.{OfWholeLines, CutsLast, HasFirstSegment, HasBadStart};
 ghost use Rattle.souper_c.specs.FlawAnswers.{answer_without, IsFlawAnswer};
 
 use crate::codes::code;
+use crate::cuts::{find_first_segment, find_last_cut};
 pub use crate::flaw::SouperFlaw;
 use crate::flaw::flaw_of_code;
 use crate::inputs::{Failure, canonical_text, items, read_kind};
@@ -344,4 +347,47 @@ pub extern "C" fn souper_same(alloc: Global, kind: u32, a: &[u8], b: &[u8]) -> S
         Ok(false) => SouperOutcome::new(DIFFERENT, 0),
         Err(_) => SouperOutcome::new(OUT_OF_MEMORY, 0),
     }
+}
+
+/// The offset of the last cut point of the whole lines that `text` begins with: up to its last newline. The bytes after that are passed
+/// over, as more of their line may come.
+///
+/// A cut point is where an item ends and a line of the next begins, as the tokens of the lines show it, be the items valid or not. So what
+/// is before one can be read by itself. The kinds are as for [`souper_format`], and the status is
+///
+/// - 0: `length` is the offset, in bytes; 0 if there is no cut point.
+/// - 2: the kind is no kind.
+/// - 4: the lines are not UTF-8.
+#[unsafe(no_mangle)]
+pub extern "C" fn souper_last_cut(kind: u32, text: &[u8]) -> SouperOutcome
+    ensures known { (result.status ≡ 0) ⊎ (result.status ≡ 2) ⊎ (result.status ≡ 4) }
+    ensures cut { result.status ≡ 0 → CutsLast kind text.now result.length }
+    ensures no_kind { (result.status ≡ 2) ↔ (type_of_number kind ≡ None) }
+    ensures no_text { (result.status ≡ 4) ↔ (IsKind kind × OfWholeLines text.now (λ lines. ¬ (IsUtf8 lines))) }
+    ensures no_place { HasNoPlace result × (result.input ≡ 0) }
+    ensures no_length { (result.status ≡ 0) ⊎ (result.length ≡ 0) }
+{
+    find_last_cut(kind, text)
+}
+
+/// The length of the first segment of `text`: up to its first cut point or, if it has none, its end. [`souper_last_cut`] says what a cut
+/// point is.
+///
+/// The text is to end at a cut point, or where its stream ends: a last line without a newline counts as a line. The kinds are as for
+/// [`souper_format`], and the status is
+///
+/// - 0: `length` is the length, in bytes.
+/// - 2: the kind is no kind.
+/// - 4: a line of the first segment is not UTF-8, or the line after it.
+#[unsafe(no_mangle)]
+pub extern "C" fn souper_first_segment(kind: u32, text: &[u8]) -> SouperOutcome
+    ensures known { (result.status ≡ 0) ⊎ (result.status ≡ 2) ⊎ (result.status ≡ 4) }
+    ensures segment { result.status ≡ 0 → HasFirstSegment kind text.now result.length }
+    ensures no_kind { (result.status ≡ 2) ↔ (type_of_number kind ≡ None) }
+    ensures no_text { result.status ≡ 4 → HasBadStart kind text.now }
+    ensures text { IsKind kind → IsUtf8 text.now → result.status ≡ 0 }
+    ensures no_place { HasNoPlace result × (result.input ≡ 0) }
+    ensures no_length { (result.status ≡ 0) ⊎ (result.length ≡ 0) }
+{
+    find_first_segment(kind, text)
 }

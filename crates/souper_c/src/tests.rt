@@ -1,6 +1,7 @@
 //! Each call with each of its statuses, but for out of memory.
 use crate::{
-    SouperOutcome, souper_check, souper_format, souper_key, souper_read, souper_same, souper_write,
+    SouperOutcome, souper_check, souper_first_segment, souper_format, souper_key, souper_last_cut,
+    souper_read, souper_same, souper_write,
 };
 use std::alloc::Global;
 use std::fmt::Debug;
@@ -251,4 +252,34 @@ fn questions_are_answered(rt: HostRuntime) {
     compares(&rt, alloc, b"%x=var infer %x", b"%y=var %x=var infer %x", 0);
     compares(&rt, alloc, b"%x=var infer %x", b"%y=var infer %y", 6);
     compares(&rt, alloc, b"%x=var infer %x", b"", 6);
+}
+
+#[test]
+fn cut_points_are_found(rt: HostRuntime) {
+    let text = b"%x = var\ninfer %x\n%y = var\ninfer %y\n%z = var\n%";
+    equal(&rt, souper_last_cut(0, text), plain(0, 36));
+    equal(&rt, souper_last_cut(0, &text[..45]), plain(0, 36));
+    equal(&rt, souper_last_cut(0, &text[..44]), plain(0, 18));
+    equal(&rt, souper_last_cut(1, text), plain(0, 0));
+    equal(&rt, souper_first_segment(0, text), plain(0, 18));
+    equal(&rt, souper_first_segment(0, &text[18..]), plain(0, 18));
+    equal(&rt, souper_first_segment(0, &text[36..]), plain(0, 10));
+    equal(&rt, souper_first_segment(1, text), plain(0, 46));
+    equal(&rt, souper_first_segment(0, b""), plain(0, 0));
+    // Invalid items are cut as well.
+    let text = b"result\nresult 1\nresult 2";
+    equal(&rt, souper_last_cut(1, text), plain(0, 7));
+    equal(&rt, souper_first_segment(1, text), plain(0, 7));
+    equal(&rt, souper_first_segment(1, &text[7..]), plain(0, 9));
+}
+
+#[test]
+fn kinds_and_bytes_of_cuts_are_tested(rt: HostRuntime) {
+    equal(&rt, souper_last_cut(3, b"\xff\n"), plain(2, 0));
+    equal(&rt, souper_last_cut(1, b"result 1\n\xff\n"), plain(4, 0));
+    equal(&rt, souper_last_cut(1, b"result 1\n\xff"), plain(0, 0));
+    equal(&rt, souper_first_segment(3, b"\xff"), plain(2, 0));
+    equal(&rt, souper_first_segment(1, b"result 1\n\xff"), plain(4, 0));
+    let bad = b"result 1\nresult 2\n\xff";
+    equal(&rt, souper_first_segment(1, bad), plain(0, 9));
 }

@@ -17,7 +17,7 @@ use Rattle.souper_stream.specs.Segments.{Line, concat, AreLines, tokens_of, toke
 use Rattle.souper_stream.proofs.Nodes.{all_append}
 use Rattle.souper_stream.proofs.EndLines.{NoEnd}
 use Rattle.souper_stream.proofs.Parting.{quiet_rest, quiet_starts, starts_longer}
-use Rattle.souper_stream.proofs.LineLists.{concat-append, tokens-append, lines_back, are_front, lines_whole, lines_split, lines_unique, no_bytes, line_first}
+use Rattle.souper_stream.proofs.LineLists.{concat-append, tokens-append, lines_back, are_front, lines_exist, lines_whole, lines_split, lines_unique, no_bytes, line_first}
 use Rattle.souper_stream.proofs.Scanning.{Scanned, lines_left}
 use Rattle.souper_stream.proofs.WithoutEnd.{line_boundary, no_end_lines}
 
@@ -120,9 +120,12 @@ utf8_line : (front back : List Line) (line : Line) → AreLines (front ++ line �
 utf8_line [] back line lines h = (utf8_first line back lines h).0
 utf8_line (l ∷ front) back line lines h = utf8_line front back line (lines_back (l ∷ []) (front ++ line ∷ back) lines) (utf8_first l (front ++ line ∷ back) lines h).1
 
-pub text_has_bad_line : (k : ItemType) (ls : List Line) → AreLines ls → IsUtf8 (concat ls) → HasBadLine k ls → ⊥
-text_has_bad_line k ls lines utf8 b =
-    b.fault (utf8_line b.front b.back b.line (subst (λ (x : List Line). AreLines x) b.whole lines) (subst (λ (x : List Line). IsUtf8 (concat x)) b.whole utf8))
+-- a text that is UTF-8 has no bad line
+pub utf8_has_no_bad_line : (k : ItemType) (text : List ℕ) → IsUtf8 text → ((ls : List Line) → text ≡ concat ls → AreLines ls → HasBadLine k ls) → ⊥
+utf8_has_no_bad_line k text utf8 bad =
+    let (ls, lines, e) = lines_exist text in
+    let b = bad ls e lines in
+    b.fault (utf8_line b.front b.back b.line (subst (λ (x : List Line). AreLines x) b.whole lines) (subst (λ (x : List Line). IsUtf8 (concat x)) b.whole (subst (λ (x : List ℕ). IsUtf8 x) e utf8)))
 
 -- ---- the last cut point
 
