@@ -11,6 +11,7 @@ use Rattle.serde_json.specs.Written.{compact_text, members_text, comma_if}
 use Rattle.souper_graph.specs.Syntax.Tokens.{IsOneLine}
 use Rattle.souper_ir.specs.declared.parse.error.ParseError.{ParseError}
 use Rattle.souper_ir.specs.Errors.{offset_of, message_of}
+use Rattle.souper_stream.specs.declared.starts.Start.{Start}
 use Rattle.souper_records.specs.Records.{key_of}
 use Rattle.souper_records.specs.Objects.{column_at, item_object, line_at, optional_number, optional_string, refusal_object}
 
@@ -83,8 +84,8 @@ members_line later (member k d ms) h =
     comma true = (refl, tt)
     comma false = tt
 
-pub item_line : (name : List ℕ) (line : ℕ) (text : List ℕ) → IsOneLine (compact_text (item_object name line text))
-item_line name line text = (refl, members_line false (fields (item_object name line text)) (quoted_line name, (quoted_line (key_of text), (decimal_line line, (quoted_line text, tt)))))
+pub item_line : (name : List ℕ) (start : Start) (text : List ℕ) → IsOneLine (compact_text (item_object name start text))
+item_line name start text = (refl, members_line false (fields (item_object name start text)) (quoted_line name, (quoted_line (key_of text), (decimal_line start.line, (decimal_line start.offset, (quoted_line text, tt))))))
 
 number_line : (n : Option ℕ) → IsOneLine (compact_text (optional_number n))
 number_line None = (refl, (refl, (refl, (refl, tt))))

@@ -18,7 +18,7 @@ use Rattle.souper_ir.specs.Errors.{kind_of}
 use Rattle.souper_ir.specs.Sinks.{PrefixSpells}
 use Rattle.souper_stream.specs.declared.reader.ItemReader.{ItemReader}
 use Rattle.souper_stream.specs.Segments.{Line, concat, all_lines, HasNoCut, AreParts, PartsSpell}
-use Rattle.souper_stream.specs.Parts.{HasParts, HasAll, is_segmented}
+use Rattle.souper_stream.specs.Parts.{HasParts, HasAll, asks_for_starts}
 use Rattle.souper_stream.proofs.SegmentLaws.{spells_by_parts, none_with}
 use Rattle.souper_stream.proofs.Reached.{prefix_of, parts_begin}
 use Rattle.souper_format.specs.declared.watched.Watched.{Watched}
@@ -37,6 +37,12 @@ pub outcomes_more : (k : ItemType) (file start : Option (List ℕ)) (before : Li
 outcomes_more k file start before [] o h is = (subst (λ (x : List (List Line)). IsOutcomeAfter k file start (concat (all_lines x)) o) (append-nil before) is, tt)
 outcomes_more k file start before (p ∷ os) o h is =
     (h.0, outcomes_more k file start (before ++ p.part ∷ []) os o h.1 (subst (λ (x : List (List Line)). IsOutcomeAfter k file start (concat (all_lines x)) o) (sym (append_assoc before (p.part ∷ []) (parts_of os))) is))
+
+-- where the items of one more begin
+started_more : (k : ItemType) (before : List (List Line)) (os : List Outcome) (o : Outcome) → AreStarted k before os → IsStarted k (concat (all_lines (before ++ parts_of os))) o → AreStarted k before (os ++ o ∷ [])
+started_more k before [] o h is = (subst (λ (x : List (List Line)). IsStarted k (concat (all_lines x)) o) (append-nil before) is, tt)
+started_more k before (p ∷ os) o h is =
+    (h.0, started_more k (before ++ p.part ∷ []) os o h.1 (subst (λ (x : List (List Line)). IsStarted k (concat (all_lines x)) o) (sym (append_assoc before (p.part ∷ []) (parts_of os))) is))
 
 pub parts_more : (os : List Outcome) (o : Outcome) → parts_of (os ++ o ∷ []) ≡ parts_of os ++ o.part ∷ []
 parts_more os o = map-append (λ (x : Outcome). x.part) os (o ∷ [])
@@ -84,18 +90,18 @@ some_fault fault name err h works = let (line, is, given) = h works in (line, (f
 -- ---- part after part
 
 -- the output of the parts so far
-pub record Reached (k : ItemType) (file start mid : Option (List ℕ)) (segmented : Bool) (wrote : List Outcome → Type 0) (err : Stream) (any : Bool) (r : ItemReader) : Type 0 where
+pub record Reached (k : ItemType) (file start mid : Option (List ℕ)) (asked : Bool) (wrote : List Outcome → Type 0) (err : Stream) (any : Bool) (r : ItemReader) : Type 0 where
   pub outcomes : List Outcome
   pub had : HasParts k start mid (parts_of outcomes) r
   pub are : AreOutcomes k file start [] outcomes
-  pub uncut : segmented ≡ true → AllByRecursion (HasNoCut k) (parts_of outcomes)
+  pub started : asked ≡ true → AreStarted k [] outcomes
   pub written : wrote outcomes
   pub reported : AreReported err (refusals_of outcomes)
   pub any_is : any ≡ any_refused outcomes
 
-abbrev pub reached_more : {k : ItemType} {file start mid after : Option (List ℕ)} {segmented : Bool} {wrote both : List Outcome → Type 0} {more : Outcome → Type 0} {any refused : Bool} {p q : ItemReader} {E : Type 0} (bytes_of : E → Option (List ℕ)) (x y z : Watched E) (stays : has_failed y ≡ true → has_failed z ≡ true)
-    → is_segmented q ≡ segmented → ((os : List Outcome) (o : Outcome) → wrote os → more o → both (os ++ o ∷ [])) → (r : Reached k file start mid segmented wrote (stream bytes_of x y) any p) → WritesPart k file start after (parts_of r.outcomes) more (stream bytes_of y z) refused q
-    → Reached k file start after segmented both (stream bytes_of x z) (any || refused) q
+abbrev pub reached_more : {k : ItemType} {file start mid after : Option (List ℕ)} {asked : Bool} {wrote both : List Outcome → Type 0} {more : Outcome → Type 0} {any refused : Bool} {p q : ItemReader} {E : Type 0} (bytes_of : E → Option (List ℕ)) (x y z : Watched E) (stays : has_failed y ≡ true → has_failed z ≡ true)
+    → asks_for_starts q ≡ asked → ((os : List Outcome) (o : Outcome) → wrote os → more o → both (os ++ o ∷ [])) → (r : Reached k file start mid asked wrote (stream bytes_of x y) any p) → WritesPart k file start after (parts_of r.outcomes) more (stream bytes_of y z) refused q
+    → Reached k file start after asked both (stream bytes_of x z) (any || refused) q
 reached_more {k} {file} {start} {after = after} {q = q} bytes_of x y z stays same join r w =
     let os = r.outcomes in
     let o = w.outcome in
@@ -103,7 +109,7 @@ reached_more {k} {file} {start} {after = after} {q = q} bytes_of x y z stays sam
       outcomes = os ++ o ∷ [];
       had = subst (λ (ps : List (List Line)). HasParts k start after ps q) (sym (parts_more os o)) w.had;
       are = outcomes_more k file start [] os o r.are w.is;
-      uncut = λ e. subst (AllByRecursion (HasNoCut k)) (sym (parts_more os o)) (All-both (HasNoCut k) (parts_of os) (o.part ∷ []) (r.uncut e) (w.uncut (same ∙ e), tt));
+      started = λ e. started_more k [] os o (r.started e) (w.begin (same ∙ e));
       written = join os o r.written w.are_written;
       reported = subst (AreReported (stream bytes_of x z)) (sym (filter_map-append (λ (p : Outcome). p.refusal) os (o ∷ []))) (reported_both bytes_of x y z stays (refusals_of os) (refusals_of (o ∷ [])) r.reported w.reported);
       any_is = (λ i. r.any_is i || w.any i) ∙ sym (list_any-append (λ (p : Outcome). is_some p.refusal) os (o ∷ []));
@@ -114,7 +120,7 @@ reached_more {k} {file} {start} {after = after} {q = q} bytes_of x y z stays sam
 -- no part was refused
 none_refused : (k : ItemType) (file start : Option (List ℕ)) (before : List (List Line)) (os : List Outcome) → AreOutcomes k file start before os → any_refused os ≡ false → (refusals_of os ≡ []) × PartsSpell k (parts_of os) (items_of os)
 none_refused k file start before [] h none = (refl, refl)
-none_refused k file start before (o ∷ os) h none = under o.refusal h.0.is none (λ rest. none_refused k file start (before ++ o.part ∷ []) os h.1 rest)
+none_refused k file start before (o ∷ os) h none = under o.refusal h.0 none (λ rest. none_refused k file start (before ++ o.part ∷ []) os h.1 rest)
   where
     under : (r : Option ParseError) → IsOutcome k file start (concat (all_lines before)) o.part o.items r → (is_some r || any_refused os) ≡ false → (any_refused os ≡ false → (refusals_of os ≡ []) × PartsSpell k (parts_of os) (items_of os))
         → (cons_option r (refusals_of os) ≡ []) × PartsSpell k (o.part ∷ parts_of os) (o.items ++ items_of os)
@@ -125,7 +131,7 @@ none_refused k file start before (o ∷ os) h none = under o.refusal h.0.is none
 one_refused : (k : ItemType) (file start : Option (List ℕ)) (before : List (List Line)) (os : List Outcome) → AreOutcomes k file start before os → any_refused os ≡ true
     → (front : List (List Line)) × (part : List Line) × (back : List (List Line)) × (parts_of os ≡ front ++ part ∷ back) × SpellsNone k (concat part)
 one_refused k file start before [] h any = absurd cc
-one_refused k file start before (o ∷ os) h any = under o.refusal h.0.is any (λ rest. one_refused k file start (before ++ o.part ∷ []) os h.1 rest)
+one_refused k file start before (o ∷ os) h any = under o.refusal h.0 any (λ rest. one_refused k file start (before ++ o.part ∷ []) os h.1 rest)
   where
     under : (r : Option ParseError) → IsOutcome k file start (concat (all_lines before)) o.part o.items r → (is_some r || any_refused os) ≡ true
         → (any_refused os ≡ true → (front : List (List Line)) × (part : List Line) × (back : List (List Line)) × (parts_of os ≡ front ++ part ∷ back) × SpellsNone k (concat part))
@@ -135,12 +141,12 @@ one_refused k file start before (o ∷ os) h any = under o.refusal h.0.is any (�
 
 -- ---- the end
 
-module _ {k : ItemType} {name : List ℕ} {start mid : Option (List ℕ)} {segmented : Bool} {wrote : List Outcome → Type 0} {err : Stream} {any : Bool} {p : ItemReader} (r : Reached k (Some name) start mid segmented wrote err any p) (recover : Bool) (quiet : recover ≡ false → any ≡ false) where
+module _ {k : ItemType} {name : List ℕ} {start mid : Option (List ℕ)} {asked : Bool} {wrote : List Outcome → Type 0} {err : Stream} {any : Bool} {p : ItemReader} (r : Reached k (Some name) start mid asked wrote err any p) (recover : Bool) (quiet : recover ≡ false → any ≡ false) where
   none_spelled : any_refused r.outcomes ≡ false → PartsSpell k (parts_of r.outcomes) (items_of r.outcomes)
   none_spelled none = (none_refused k (Some name) start [] r.outcomes r.are none).1
 
   -- the stream has ended
-  pub reached_end : {after : Option (List ℕ)} → HasAll k start after (parts_of r.outcomes) → WritesParts k name recover start after (WroteParts k segmented wrote) err any
+  pub reached_end : {after : Option (List ℕ)} → HasAll k start after (parts_of r.outcomes) → WritesParts k name recover start after (WroteParts k asked wrote) err any
   reached_end (read, consumed, all, parts) = record {
     outcomes = r.outcomes;
     reads = record {
@@ -157,7 +163,7 @@ module _ {k : ItemType} {name : List ℕ} {start mid : Option (List ℕ)} {segme
     never = λ some. (let (front, part, back, whole, none) = one_refused k (Some name) start [] r.outcomes r.are (sym r.any_is ∙ some) in
         inr (all, none_with k read front back part (subst (AreParts k read) whole parts) none));
     stopped = λ stops some. (let none = quiet stops in absurd cc);
-    are_written = (r.written, r.uncut);
+    are_written = (r.written, r.started);
     reported = r.reported;
   }
     where
@@ -172,9 +178,9 @@ module _ {k : ItemType} {name : List ℕ} {start mid : Option (List ℕ)} {segme
       (r.outcomes, (mid, reads, λ stops. inl (sym r.any_is ∙ quiet stops)), r.reported, unless)
 
 -- the last part was refused, and reading ends with it
-pub reached_refusal : {k : ItemType} {name : List ℕ} {start mid after : Option (List ℕ)} {segmented : Bool} {wrote both : List Outcome → Type 0} {more : Outcome → Type 0} {any : Bool} {p q : ItemReader} {E : Type 0} (bytes_of : E → Option (List ℕ)) (x y z : Watched E) (stays : has_failed y ≡ true → has_failed z ≡ true)
-    → is_segmented q ≡ segmented → ((os : List Outcome) (o : Outcome) → wrote os → more o → both (os ++ o ∷ [])) → (r : Reached k (Some name) start mid segmented wrote (stream bytes_of x y) any p) → WritesPart k (Some name) start after (parts_of r.outcomes) more (stream bytes_of y z) true q
-    → (recover : Bool) → recover ≡ false → any ≡ false → WritesParts k name recover start after (WroteParts k segmented both) (stream bytes_of x z) true
+pub reached_refusal : {k : ItemType} {name : List ℕ} {start mid after : Option (List ℕ)} {asked : Bool} {wrote both : List Outcome → Type 0} {more : Outcome → Type 0} {any : Bool} {p q : ItemReader} {E : Type 0} (bytes_of : E → Option (List ℕ)) (x y z : Watched E) (stays : has_failed y ≡ true → has_failed z ≡ true)
+    → asks_for_starts q ≡ asked → ((os : List Outcome) (o : Outcome) → wrote os → more o → both (os ++ o ∷ [])) → (r : Reached k (Some name) start mid asked wrote (stream bytes_of x y) any p) → WritesPart k (Some name) start after (parts_of r.outcomes) more (stream bytes_of y z) true q
+    → (recover : Bool) → recover ≡ false → any ≡ false → WritesParts k name recover start after (WroteParts k asked both) (stream bytes_of x z) true
 reached_refusal {k} {name} {start} {both = both} bytes_of x y z stays same join r w recover stops quiet =
     let os = r.outcomes in
     let o = w.outcome in
@@ -197,7 +203,7 @@ reached_refusal {k} {name} {start} {both = both} bytes_of x y z stays same join 
       spelled = λ e. absurd cc;
       never = λ e. t.never;
       stopped = λ e f. record { front = os; last = o; whole = refl; none = none; begun = begun };
-      are_written = (now.written, now.uncut);
+      are_written = (now.written, now.started);
       reported = now.reported;
     }
 

@@ -1,23 +1,23 @@
 -- Definitions. The JSON objects of items and of refusals.
-use Rattle.std.specs.Prelude.{Bool, ℕ, List, [], ◌++◌, flat_map, codes, Option, None, Some, option_map}
+use Rattle.std.specs.Prelude.{Bool, ℕ, List, [], ◌++◌, flat_map, map, codes, Option, None, Some, option_map}
 use Rattle.serde_json.specs.Data.{Data, null, number, unsigned, string, object, member, no_members}
 use Rattle.serde_json.specs.Written.{compact_text}
-use Rattle.std.specs.List.{AllByRecursion}
+use Rattle.std.specs.List.{zip}
 use Rattle.souper_graph.specs.Values.{Item}
 use Rattle.souper_graph.specs.Syntax.Spelling.{ItemType}
-use Rattle.souper_stream.specs.Segments.{HasNoCut}
+use Rattle.souper_stream.specs.declared.starts.Start.{Start}
 use Rattle.souper_ir.specs.declared.parse.error.ParseError.{ParseError}
 use Rattle.souper_ir.specs.declared.parse.place.Location.{Location}
 use Rattle.souper_ir.specs.Errors.{location_of, message_of, offset_of}
 use Rattle.souper_format.specs.Streams.{Stream, IsGiven}
 use Rattle.souper_records.specs.Records.{key_of}
 use Rattle.souper_records.specs.Uniques.{text_by}
-use Rattle.souper_records.specs.Outcomes.{Outcome, parts_of}
+use Rattle.souper_records.specs.Outcomes.{Outcome, AreStarted}
 
--- the object of an item that has this text, in the stream of this name, on this line
-abbrev pub item_object : List ℕ → ℕ → List ℕ → Data
-item_object name line text =
-    object (member (codes "file") (string name) (member (codes "key") (string (key_of text)) (member (codes "line") (number (unsigned line)) (member (codes "text") (string text) no_members))))
+-- the object of an item that has this text, in the stream of this name, and begins there
+abbrev pub item_object : List ℕ → Start → List ℕ → Data
+item_object name start text =
+    object (member (codes "file") (string name) (member (codes "key") (string (key_of text)) (member (codes "line") (number (unsigned start.line)) (member (codes "offset") (number (unsigned start.offset)) (member (codes "text") (string text) no_members)))))
 
 -- a number that may be missing
 abbrev pub optional_number : Option ℕ → Data
@@ -46,13 +46,13 @@ refusal_object name e =
 abbrev pub object_line : Data → List ℕ
 object_line d = compact_text d ++ codes "\n"
 
--- the line of an item that has this text
-abbrev pub text_line : List ℕ → ℕ → List ℕ → List ℕ
-text_line name line text = object_line (item_object name line text)
+-- the line of an item that has this text and begins there
+abbrev pub text_line : List ℕ → Start × List ℕ → List ℕ
+text_line name item = object_line (item_object name item.0 item.1)
 
--- the line of an item, or of the item with names by its printed order
-abbrev pub item_line : Bool → List ℕ → ℕ → Item → List ℕ
-item_line rename name line item = text_line name line (text_by rename item)
+-- the lines of items that begin there and have these texts
+abbrev pub text_lines : List ℕ → List Start → List (List ℕ) → List ℕ
+text_lines name starts texts = flat_map (text_line name) (zip starts texts)
 
 -- the line of a refusal, if there is one
 abbrev pub refusal_line : List ℕ → Option ParseError → List ℕ
@@ -61,12 +61,12 @@ refusal_line name (Some e) = object_line (refusal_object name e)
 
 -- the lines of a part: of its items, or of the ones that it begins with, and of its refusal, if it is refused
 abbrev pub part_lines : Bool → List ℕ → Outcome → List ℕ
-part_lines rename name o = flat_map (item_line rename name o.line) o.items ++ refusal_line name o.refusal
+part_lines rename name o = text_lines name o.starts (map (text_by rename) o.items) ++ refusal_line name o.refusal
 
 -- the lines of all parts
 abbrev pub objects_of : Bool → List ℕ → List Outcome → List ℕ
 objects_of rename name os = flat_map (part_lines rename name) os
 
--- the lines of the parts were written, and nothing else; each part is one segment
+-- the lines of the parts were written, and nothing else; their items begin there
 abbrev pub WritesObjects : ItemType → Bool → List ℕ → Stream → List Outcome → Type 0
-WritesObjects k rename name out os = IsGiven out (objects_of rename name os) × AllByRecursion (HasNoCut k) (parts_of os)
+WritesObjects k rename name out os = IsGiven out (objects_of rename name os) × AreStarted k [] os

@@ -11,7 +11,10 @@ use Rattle.souper_ir.specs.Sinks.{PrefixSpells}
 use Rattle.souper_stream.specs.Segments.{Line, concat, all_lines, HasNoCut, AreParts, PartsSpell}
 use Rattle.souper_stream.specs.declared.reader.ItemReader.{ItemReader}
 use Rattle.souper_records.specs.Reports.{IsErrorLine}
-use Rattle.souper_stream.specs.Parts.{IsLocatedIn, IsPlacedIn, IsOnLine, HasParts, is_segmented}
+use Rattle.souper_ir.specs.Starts.{PrefixSpellsFrom, TextSpellsFrom}
+use Rattle.souper_stream.specs.declared.starts.Start.{Start}
+use Rattle.souper_stream.specs.Starts.{BeginThere}
+use Rattle.souper_stream.specs.Parts.{IsLocatedIn, IsPlacedIn, HasParts, asks_for_starts}
 use Rattle.souper_stream.specs.Reading.{AreAll, NeverSpells}
 use Rattle.souper_format.specs.Streams.{Stream, IsGiven, IsGivenNothing}
 use Rattle.souper_records.specs.declared.layout.Layout.{Layout}
@@ -20,10 +23,10 @@ use Rattle.souper_records.specs.declared.stop.Stop.{Stop}
 use Rattle.souper_records.specs.Stops.{UnlessOutput}
 use Rattle.souper_records.specs.Records.{records_of}
 
--- the outcome of a part: the line of its first token, its items, or the ones that it begins with, and its refusal, if it is refused
+-- the outcome of a part: its items, or the ones that it begins with, where they begin, if that was asked for, and its refusal, if it is refused
 pub record Outcome : Type 0 where
   pub part : List Line
-  pub line : ℕ
+  pub starts : List Start
   pub items : List Item
   pub refusal : Option ParseError
 
@@ -46,9 +49,22 @@ IsOutcome k file start done part items None = TextSpells k (concat part) items
 IsOutcome k file start done part items (Some e) = IsRefusedPart k file start done part items e
 
 -- the outcome of a part, given the parsed text `done` before it
-pub record IsOutcomeAfter (k : ItemType) (file start : Option (List ℕ)) (done : List ℕ) (o : Outcome) : Type 0 where
-  pub on_line : IsOnLine done (concat o.part) o.line
-  pub is : IsOutcome k file start done o.part o.items o.refusal
+abbrev pub IsOutcomeAfter : ItemType → Option (List ℕ) → Option (List ℕ) → List ℕ → Outcome → Type 0
+IsOutcomeAfter k file start done o = IsOutcome k file start done o.part o.items o.refusal
+
+-- the offsets of items that the part spells, or begins with
+abbrev pub SpellsThere : ItemType → List ℕ → Option ParseError → List Item → List ℕ → Type 0
+SpellsThere k part None = TextSpellsFrom k part
+SpellsThere k part (Some e) = PrefixSpellsFrom k part
+
+-- the items of a part begin there, given the parsed text `done` before it
+abbrev pub IsStarted : ItemType → List ℕ → Outcome → Type 0
+IsStarted k done o = BeginThere (SpellsThere k (concat o.part) o.refusal) done (concat o.part) o.items o.starts
+
+-- the items of each part do, given the parts before it
+abbrev pub AreStarted : ItemType → List (List Line) → List Outcome → Type 0
+AreStarted k before [] = Unit {0}
+AreStarted k before (o ∷ os) = IsStarted k (concat (all_lines before)) o × AreStarted k (before ++ o.part ∷ []) os
 
 -- the outcome of each part, given the parts before it
 abbrev pub AreOutcomes : ItemType → Option (List ℕ) → Option (List ℕ) → List (List Line) → List Outcome → Type 0
@@ -100,7 +116,7 @@ pub record WritesPart (k : ItemType) (file start now : Option (List ℕ)) (ps : 
   pub outcome : Outcome
   pub had : HasParts k start now (ps ++ outcome.part ∷ []) r
   pub is : IsOutcomeAfter k file start (concat (all_lines ps)) outcome
-  pub uncut : is_segmented r ≡ true → HasNoCut k outcome.part
+  pub begin : asks_for_starts r ≡ true → IsStarted k (concat (all_lines ps)) outcome
   pub any : refused ≡ any_refused (outcome ∷ [])
   pub after : refused ≡ true → IsRefusedAfter k start now ps outcome
   pub are_written : written outcome
@@ -145,9 +161,9 @@ IsBegun k name recover before os = (now : Option (List ℕ)) × (r : ReadsParts 
 abbrev pub StopsAfter : ItemType → List ℕ → Bool → Option (List ℕ) → (List Outcome → Type 0) → Bool → Stream → Stop → Type 0
 StopsAfter k name recover before written failed err stop = (os : List Outcome) × IsBegun k name recover before os × AreReported err (refusals_of os) × UnlessOutput stop failed (written os)
 
--- the outcomes were written; and if each part is one segment, no cut point is in any
+-- the outcomes were written; and if it was asked where items begin, they begin there
 abbrev pub WroteParts : ItemType → Bool → (List Outcome → Type 0) → List Outcome → Type 0
-WroteParts k segmented wrote os = wrote os × (segmented ≡ true → AllByRecursion (HasNoCut k) (parts_of os))
+WroteParts k asked wrote os = wrote os × (asked ≡ true → AreStarted k [] os)
 
 -- the items of the outcomes were written, also the ones that refused parts begin with
 abbrev pub OfItems : (List Item → Type 0) → List Outcome → Type 0

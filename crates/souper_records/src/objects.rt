@@ -6,7 +6,7 @@ ghost use Rattle.souper_ir.specs.Errors.{kind_of};
 ghost use Rattle.souper_format.specs.Streams.{stream};
 ghost use Rattle.souper_format.specs.Watching.{has_failed};
 ghost use Rattle.souper_records.specs.Stops.{IfInput};
-ghost use Rattle.souper_records.specs.Objects.{item_object, refusal_object, refusal_line, object_line, text_line, objects_of, optional_number, optional_string, WritesObjects};
+ghost use Rattle.souper_records.specs.Objects.{item_object, refusal_object, refusal_line, object_line, text_lines, objects_of, optional_number, optional_string, WritesObjects};
 ghost use Rattle.souper_records.specs.Outcomes.{WritesParts, StopsAfter};
 ghost use Rattle.souper_records.specs.Uniques.{text_by};
 ghost use Rattle.serde_json.specs.View.{view};
@@ -20,7 +20,7 @@ use serde_json::{Value, json};
 use souper_format::watched::Watched;
 use souper_ir::ast::{Arena, Statement};
 use souper_ir::parse::{ParseError, ParseErrorKind, Sink, WholeItem};
-use souper_stream::{ChunkSink, StreamItem};
+use souper_stream::{ChunkSink, Start, StreamItem};
 use std::alloc::{AllocError, Global};
 use std::io::{BufRead, Write};
 
@@ -44,12 +44,18 @@ fn string(alloc: Global, text: Option<&str>) -> Result<Value, AllocError>
     }
 }
 
-// The object of an item with this text. `line` is the line of its part.
-fn item_object(alloc: Global, name: &str, line: usize, text: &str) -> Result<Value, AllocError>
-    ensures { IfOk result (λ value. view value ≡ item_object name.now line text.now) }
+// The object of an item with this text, which begins at `start`.
+fn item_object(alloc: Global, name: &str, start: Start, text: &str) -> Result<Value, AllocError>
+    ensures { IfOk result (λ value. view value ≡ item_object name.now start text.now) }
 {
     let key = key_of(alloc, text)?;
-    json!(in alloc; {"file": name, "key": key.as_str(), "line": line, "text": text})
+    json!(in alloc; {
+        "file": name,
+        "key": key.as_str(),
+        "line": start.line,
+        "offset": start.offset,
+        "text": text
+    })
 }
 
 // The object of the refusal.
@@ -82,11 +88,11 @@ fn append_line(alloc: Global, object: &Value, out: &mut String) -> Result<(), Al
 
 // The lines of a part's items, which have these texts.
 fn item_lines(alloc: Global, place: Place<'_>, texts: &[String]) -> Result<String, AllocError>
-    ensures { IfOk result (λ out. string_bytes out ≡ flat_map (text_line place.entry.name.now place.entry.line) (map string_bytes texts.now)) }
+    ensures { IfOk result (λ out. string_bytes out ≡ text_lines place.entry.name.now place.entry.starts.now (map string_bytes texts.now)) }
 {
     let mut out = String::new(alloc);
-    for text in texts {
-        let object = item_object(alloc, place.name, place.line, text.as_str())?;
+    for (start, text) in place.starts.iter().zip(texts) {
+        let object = item_object(alloc, place.name, *start, text.as_str())?;
         append_line(alloc, &object, &mut out)?;
     }
     Ok(out)
@@ -99,7 +105,7 @@ fn part_lines(
     refusal: Option<&ParseError>,
     texts: &[String],
 ) -> Result<String, AllocError>
-    ensures { IfOk result (λ out. string_bytes out ≡ flat_map (text_line place.entry.name.now place.entry.line) (map string_bytes texts.now)
+    ensures { IfOk result (λ out. string_bytes out ≡ text_lines place.entry.name.now place.entry.starts.now (map string_bytes texts.now)
         ++ refusal_line place.entry.name.now (option_copied refusal.entry)) }
 {
     let mut out = item_lines(alloc, place, texts)?;
@@ -167,12 +173,11 @@ impl<T: StreamItem + Drop> PartSink<T> for Objects {
     }
 }
 
-/// Writes a JSON object for each item of the stream and each refusal, in order, each on a line of its own, segment by segment
-/// ([`ItemReader::by_segments`](souper_stream::ItemReader::by_segments)). Returns whether a segment was refused, as
+/// Writes a JSON object for each item of the stream and each refusal, in order, each on a line of its own. Returns whether a segment was refused, as
 /// [`write_records`](crate::each::write_records) does, and fails like it.
 ///
 /// The object of an item has its canonical `text`, the `key` of the text ([`key_of`](crate::records::key_of)), the name of the stream
-/// as `file`, and the 1-based `line` of the first token of its segment. With `rename` the names in the text are by the printed order
+/// as `file`, and where its first token is: the `offset` in bytes, and the 1-based `line`. With `rename` the names in the text are by the printed order
 /// of the item. The object of a refusal has `file`, `offset`, `line`, `column` and `message`: the line and the column are those of its
 /// location ([`ParseError::location`]). It comes after the objects of the items that its segment begins with, and the refusal is also written
 /// to `err`, with a newline.
@@ -197,6 +202,6 @@ pub fn write_objects<T: StreamItem + Drop, R: BufRead, W: Write, E: Write>(
         text: String::new(alloc),
         texts: Vec::new(alloc),
     };
-    let source = Source::by_segments(alloc, options);
+    let source = Source::with_starts(alloc, options);
     write_parts::<T, Objects, R, W, E>(alloc, source, &mut objects, reader, out, err)
 }

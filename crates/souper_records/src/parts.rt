@@ -2,7 +2,7 @@
 ghost use Rattle.std.specs.Prelude.{◌≡◌, ◌++◌, ◌∷◌, ℕ, [], List, true, Option, Some, IfOk, IfErr, IfSome, IfNone, OnOk, option_copied};
 ghost use Rattle.souper_ir.specs.Errors.{kind_of};
 ghost use Rattle.souper_stream.specs.Segments.{Line};
-ghost use Rattle.souper_stream.specs.Parts.{HasParts, HasAll, is_segmented};
+ghost use Rattle.souper_stream.specs.Parts.{HasParts, HasAll, asks_for_starts};
 ghost use Rattle.souper_format.specs.Streams.{stream};
 ghost use Rattle.souper_format.specs.Watching.{watched_inner, has_failed};
 ghost use Rattle.souper_records.specs.Stops.{IfInput, UnlessOutput};
@@ -13,7 +13,7 @@ use crate::report::{line_of_error, report_line};
 use crate::stop::Stop;
 use souper_format::watched::Watched;
 use souper_ir::parse::{ParseError, ParseErrorKind};
-use souper_stream::{ChunkSink, ItemReader, StreamItem};
+use souper_stream::{ChunkSink, ItemReader, Start, StreamItem};
 use std::alloc::Global;
 use std::io;
 use std::io::{BufRead, ErrorKind, Write};
@@ -24,8 +24,8 @@ pub(crate) struct Place<'a> {
     /// The name of the stream.
     pub(crate) name: &'a str,
 
-    /// The 1-based line of the part's first token.
-    pub(crate) line: usize,
+    /// Where the items of the part begin, if that is asked for.
+    pub(crate) starts: &'a [Start],
 }
 
 /// A sink whose output is written after each part of a stream.
@@ -43,7 +43,7 @@ pub(crate) trait PartSink<T: StreamItem + Drop>: ChunkSink<T> {
         out: &mut Watched<W>,
     ) -> Result<(), Stop>
         ensures written { OnOk result ((first : Self) (start : Option (List ℕ)) (os : List Outcome) (before : Self) (o : Outcome) → wrote place.entry.name.now first start before (W.contents (watched_inner out.old)) os
-            → Self.holds before before [] → Self.holds before self.old o.items → o.line ≡ place.entry.line → o.refusal ≡ option_copied refusal.entry
+            → Self.holds before before [] → Self.holds before self.old o.items → o.starts ≡ place.entry.starts.now → o.refusal ≡ option_copied refusal.entry
             → wrote place.entry.name.now first start self.new (W.contents (watched_inner out.new)) (os ++ o ∷ [])) }
         ensures none { OnOk result (Self.holds self.new self.new []) }
         ensures input { IfErr result (λ stop. IfInput stop (λ e. ⊥)) }
@@ -53,6 +53,11 @@ pub(crate) trait PartSink<T: StreamItem + Drop>: ChunkSink<T> {
 // Bytes to read before looking for a cut point, if reading ends with the first refusal.
 const CHUNK: usize = 65536;
 
+// The chunk size of the reader.
+fn min_chunk(options: ReadOptions<'_>) -> usize {
+    if options.recover { 1 } else { CHUNK }
+}
+
 /// A stream that is read part by part.
 #[derive(Drop)]
 pub(crate) struct Source<'a> {
@@ -61,27 +66,26 @@ pub(crate) struct Source<'a> {
 }
 
 impl<'a> Source<'a> {
-    /// With recovery a cut point is looked for in what the reader shows, and on to the end of a line; then whenever the buffer has doubled.
+    /// With recovery a cut point is looked for in what the reader shows, up to the end of a line, and then whenever the buffer has doubled.
     pub(crate) fn new(alloc: Global, options: ReadOptions<'a>) -> Source<'a>
         ensures options { result.options ≡ options.entry }
         ensures begins { Begins result }
     {
-        let min_chunk = if options.recover { 1 } else { CHUNK };
         Source {
             options,
-            parts: ItemReader::new(alloc, min_chunk),
+            parts: ItemReader::new(alloc, min_chunk(options)),
         }
     }
 
-    /// Each part is one segment.
-    pub(crate) fn by_segments(alloc: Global, options: ReadOptions<'a>) -> Source<'a>
+    /// The same, and the reader is asked where the items begin.
+    pub(crate) fn with_starts(alloc: Global, options: ReadOptions<'a>) -> Source<'a>
         ensures options { result.options ≡ options.entry }
-        ensures segments { is_segmented result.parts ≡ true }
+        ensures asked { asks_for_starts result.parts ≡ true }
         ensures begins { Begins result }
     {
         Source {
             options,
-            parts: ItemReader::by_segments(alloc, 1),
+            parts: ItemReader::with_starts(alloc, min_chunk(options)),
         }
     }
 }
@@ -99,7 +103,7 @@ fn write_next<T: StreamItem + Drop, S: PartSink<T>, R: BufRead, W: Write, E: Wri
     requires none { S.holds sink.old sink.old [] }
     requires had { (start : Option (List ℕ)) × (ps : List (List Line)) × HasParts T.item_type start (R.remaining reader.old) ps source.old.parts }
     ensures options { source.new.options ≡ source.old.options }
-    ensures same { is_segmented source.new.parts ≡ is_segmented source.old.parts }
+    ensures same { asks_for_starts source.new.parts ≡ asks_for_starts source.old.parts }
     ensures part { IfOk result (λ more. IfSome more (λ refused. (start : Option (List ℕ)) (ps : List (List Line)) → HasParts T.item_type start (R.remaining reader.old) ps source.old.parts
         → WritesPart T.item_type (Some source.old.options.name.now) start (R.remaining reader.new) ps (λ o. (first : S) (before : Option (List ℕ)) (os : List Outcome) → S.wrote source.old.options.name.now first before sink.old (W.contents (watched_inner out.old)) os
         → S.wrote source.old.options.name.now first before sink.new (W.contents (watched_inner out.new)) (os ++ o ∷ [])) (stream E.contents err.old err.new) refused source.new.parts)) }
@@ -118,15 +122,15 @@ fn write_next<T: StreamItem + Drop, S: PartSink<T>, R: BufRead, W: Write, E: Wri
         .read_part::<T, R, S>(alloc, reader, Some(name), sink)
     {
         Ok(true) => {
-            let line = source.parts.line();
-            sink.write_part(alloc, Place { name, line }, None, out)?;
+            let starts = source.parts.starts();
+            sink.write_part(alloc, Place { name, starts }, None, out)?;
             Ok(Some(false))
         }
         Ok(false) => Ok(None),
         Err(error) if error.kind() == ParseErrorKind::Parse => {
             let shown = line_of_error(alloc, &error)?;
-            let line = source.parts.line();
-            sink.write_part(alloc, Place { name, line }, Some(&error), out)?;
+            let starts = source.parts.starts();
+            sink.write_part(alloc, Place { name, starts }, Some(&error), out)?;
             report_line(&shown, err);
             Ok(Some(true))
         }
@@ -147,9 +151,9 @@ pub(crate) fn write_parts<T: StreamItem + Drop, S: PartSink<T>, R: BufRead, W: W
     requires started { S.wrote source.options.name.now sink.old (W.contents (watched_inner out.old)) sink.old (W.contents (watched_inner out.old)) [] }
     requires begins { Begins source }
     ensures written { IfOk result (λ refused. WritesParts T.item_type source.entry.options.name.now source.entry.options.recover (R.remaining reader.old) (R.remaining reader.new)
-        (WroteParts T.item_type (is_segmented source.entry.parts) (S.wrote source.entry.options.name.now sink.old (W.contents (watched_inner out.old)) sink.new (W.contents (watched_inner out.new)))) (stream E.contents err.old err.new) refused) }
+        (WroteParts T.item_type (asks_for_starts source.entry.parts) (S.wrote source.entry.options.name.now sink.old (W.contents (watched_inner out.old)) sink.new (W.contents (watched_inner out.new)))) (stream E.contents err.old err.new) refused) }
     ensures stopped { IfErr result (λ stop. StopsAfter T.item_type source.entry.options.name.now source.entry.options.recover (R.remaining reader.old)
-        (λ os. (s : S) × WroteParts T.item_type (is_segmented source.entry.parts) (S.wrote source.entry.options.name.now sink.old (W.contents (watched_inner out.old)) s (W.contents (watched_inner out.new))) os) (has_failed out.new) (stream E.contents err.old err.new) stop) }
+        (λ os. (s : S) × WroteParts T.item_type (asks_for_starts source.entry.parts) (S.wrote source.entry.options.name.now sink.old (W.contents (watched_inner out.old)) s (W.contents (watched_inner out.new))) os) (has_failed out.new) (stream E.contents err.old err.new) stop) }
     ensures input { IfErr result (λ stop. IfInput stop (λ e. kind_of e ≡ ParseErrorKind.Io)) }
     ensures stays { has_failed err.old ≡ true → has_failed err.new ≡ true }
 {

@@ -13,3 +13,4 @@ mod Buffers
 mod Refusing
 pub mod Passing
 pub mod Reached
+mod Starting

@@ -5,19 +5,21 @@ use Rattle.std.proofs.lemmas.List.{nil_from_length, take_at, drop_at, drop-appen
 use Rattle.std.proofs.KnownBytes.{Consumes-nil, Consumes-trans}
 use Rattle.souper_graph.specs.Values.{Item}
 use Rattle.souper_graph.specs.Syntax.Tokens.{Lexeme, ident}
-use Rattle.souper_graph.specs.Syntax.Spelling.{ItemType, TextSpells, SpellsNone}
+use Rattle.souper_graph.specs.Syntax.Spelling.{ItemType, SpellsNone}
 use Rattle.souper_ir.specs.declared.parse.error.ParseError.{ParseError}
 use Rattle.souper_ir.specs.declared.parse.error.ParseErrorKind.TheVariants.{Parse}
 use Rattle.souper_ir.specs.Errors.{kind_of, HasLocation, IsRefusalAt}
 use Rattle.souper_ir.specs.Joining.{IsLines}
-use Rattle.souper_ir.specs.Sinks.{TakesText, PrefixSpells}
+use Rattle.souper_ir.specs.Starts.{TextSpellsFrom, PrefixSpellsFrom, TakesFrom}
+use Rattle.souper_stream.specs.Starts.{BeginThere}
+use Rattle.souper_stream.proofs.Starting.{text_spells, prefix_spells}
 use Rattle.souper_ir.proofs.Items.Parting.{Within, Beyond, parted_twice}
 use Rattle.souper_stream.specs.declared.buffer.Buffer.{Buffer}
 use Rattle.souper_stream.specs.declared.reader.ItemReader.{ItemReader}
 use Rattle.souper_stream.specs.Buffering.{held, unparsed, Buffers, IsEmpty, Drains}
 use Rattle.souper_stream.specs.Lines.{NoStart}
 use Rattle.souper_stream.specs.Segments.{Line, concat, IsLine, AreLines, tokens_of_lines, EndsItem, Starts, HasNoCut, IsCut, AreCut, all_lines, AreParts, CutsAt, IsFirstSegment}
-use Rattle.souper_stream.specs.Parts.{IsChunk, and_next, HasLines, HasRead, HasParts, HasAll, IsNext, HasLine, is_segmented, IsOnLine, Advances, Holds, TakesPart, RefusesPart}
+use Rattle.souper_stream.specs.Parts.{IsChunk, and_next, HasLines, HasRead, HasParts, HasAll, IsNext, StartNow, Advances, Holds, TakesPart, RefusesPart}
 use Rattle.souper_stream.specs.Reading.{AreAll, Fills, NeverSpells}
 use Rattle.souper_stream.proofs.Nodes.{all_append}
 use Rattle.souper_stream.proofs.Bytes.{all_after}
@@ -237,7 +239,7 @@ chunk_fits k ended ls len b rest c some = omega (arith, chunk_within k ended ls 
 
 -- the next part was parsed
 module _ (k : ItemType) (start now : Option (List ℕ)) (ps : List (List Line)) (ls : List Line) (r q : ItemReader) (len rejected m : ℕ) (h : HasRead k start now ps ls r.buffer r.ended (is_some r.fault) m) (c : IsChunk k r.ended ls len) (some : 0 < len) (advances : Advances r.buffer r.ended (is_some r.fault) q len rejected)
-    (left : 0 < rejected → IsChunk k r.ended c.back rejected) (line : HasLine r.buffer len q.line) where
+    (left : 0 < rejected → IsChunk k r.ended c.back rejected) where
   text : unparsed r.buffer ≡ concat c.front ++ concat c.back
   text = h.rest ∙ ap concat c.whole ∙ concat-append c.front c.back
 
@@ -259,14 +261,18 @@ module _ (k : ItemType) (start now : Option (List ℕ)) (ps : List (List Line)) 
         sound = advances.sound;
       })
 
-  on_line : IsOnLine (concat (all_lines ps)) (concat c.front) q.line
-  unfolding HasLine
-  on_line = subst (λ (y : List ℕ). IsOnLine (concat (all_lines ps)) y q.line) part_text (line (concat (all_lines ps)) h.buffers)
+  pub part_taken : {S : Type 0} (holds : S → S → List Item → Type 0) (old new : S) → TakesFrom holds (TextSpellsFrom k (take len (unparsed r.buffer))) (StartNow r.buffer len q) old new → TakesPart k start now ps holds old new q
+  part_taken holds old new t = record {
+    part = c.front;
+    goes_on = (c.back, passed);
+    text = advances.part ∙ part_text;
+    items = t.items;
+    begin = λ asked. subst (λ (y : List ℕ). BeginThere (TextSpellsFrom k y) (concat (all_lines ps)) y t.items q.starts.items) part_text (t.starts, t.spelled, t.has asked (concat (all_lines ps)) h.buffers);
+    spelled = text_spells k (concat c.front) t.items t.starts (subst (λ (y : List ℕ). TextSpellsFrom k y t.items t.starts) part_text t.spelled);
+    taken = λ first y. t.taken first [] y;
+  }
 
-  pub part_taken : {S : Type 0} (holds : S → S → List Item → Type 0) (old new : S) → (is_segmented q ≡ true → HasNoCut k c.front) → TakesText holds k (take len (unparsed r.buffer)) old new → TakesPart k start now ps holds old new q
-  part_taken holds old new uncut t = record { part = c.front; goes_on = (c.back, passed); text = advances.part ∙ part_text; on_line = on_line; uncut = uncut; items = t.0; spelled = subst (λ (y : List ℕ). TextSpells k y t.0) part_text t.1; taken = λ first y. t.2 first [] y }
-
-  pub part_refused : {S : Type 0} (holds : S → S → List Item → Type 0) (old new : S) (file : Option (List ℕ)) (e : ParseError) → HasNoCut k c.front → kind_of e ≡ Parse → RefusesText k file r.buffer len holds old new e → RefusesPart k file start now ps holds old new q e
+  pub part_refused : {S : Type 0} (holds : S → S → List Item → Type 0) (old new : S) (file : Option (List ℕ)) (e : ParseError) → HasNoCut k c.front → kind_of e ≡ Parse → RefusesText k file r.buffer len (StartNow r.buffer len q) holds old new e → RefusesPart k file start now ps holds old new q e
   unfolding passed
   part_refused holds old new file e uncut kind b =
       let none : SpellsNone k (concat c.front) = subst (λ (y : List ℕ). SpellsNone k y) part_text b.none in
@@ -281,12 +287,12 @@ module _ (k : ItemType) (start now : Option (List ℕ)) (ps : List (List Line)) 
         part = c.front;
         goes_on = (c.back, passed);
         text = advances.part ∙ part_text;
-        on_line = on_line;
         segment = uncut;
         none = none;
-        items = b.begun.0;
-        begun = subst (λ (y : List ℕ). PrefixSpells k y b.begun.0) part_text b.begun.1;
-        taken = λ first y. b.begun.2 first [] y;
+        items = b.begun.items;
+        begin = λ asked. subst (λ (y : List ℕ). BeginThere (PrefixSpellsFrom k y) done y b.begun.items q.starts.items) part_text (b.begun.starts, b.begun.spelled, b.begun.has asked done h.buffers);
+        begun = prefix_spells k (concat c.front) b.begun.items b.begun.starts (subst (λ (y : List ℕ). PrefixSpellsFrom k y b.begun.items b.begun.starts) part_text b.begun.spelled);
+        taken = λ first y. b.begun.taken first [] y;
         read = read;
         after = after;
         consumed = passed.lines.consumed;
@@ -312,12 +318,12 @@ module _ (k : ItemType) (start now : Option (List ℕ)) (ps : List (List Line)) 
       ends (inr end) = inr (λ i. concat (end.0 i) ++ passed.lines.none_lost (advances.failed_is ∙ h.lines.not_failed end.1) i)
 
 -- the next chunk
-pub chunk_taken : (k : ItemType) (start now : Option (List ℕ)) (ps : List (List Line)) (r q : ItemReader) (len : ℕ) {S : Type 0} (holds : S → S → List Item → Type 0) (old new : S) → IsNext k start now ps r len → 0 < len → Advances r.buffer r.ended (is_some r.fault) q len 0 → HasLine r.buffer len q.line
-    → is_segmented q ≡ false → TakesText holds k (take len (unparsed r.buffer)) old new → TakesPart k start now ps holds old new q
-chunk_taken k start now ps r q len holds old new n some advances line chunks t = part_taken k start now ps n.0 r q len 0 r.rejected n.1 (n.3 some) some advances (λ s. absurd (omega arith)) line holds old new (λ e. absurd cc) t
+pub chunk_taken : (k : ItemType) (start now : Option (List ℕ)) (ps : List (List Line)) (r q : ItemReader) (len : ℕ) {S : Type 0} (holds : S → S → List Item → Type 0) (old new : S) → IsNext k start now ps r len → 0 < len → Advances r.buffer r.ended (is_some r.fault) q len 0
+    → TakesFrom holds (TextSpellsFrom k (take len (unparsed r.buffer))) (StartNow r.buffer len q) old new → TakesPart k start now ps holds old new q
+chunk_taken k start now ps r q len holds old new n some advances t = part_taken k start now ps n.0 r q len 0 r.rejected n.1 (n.3 some) some advances (λ s. absurd (omega arith)) holds old new t
 
 -- the first segment of a chunk
-module _ (k : ItemType) (start now : Option (List ℕ)) (ps : List (List Line)) (r q : ItemReader) (len : ℕ) (begun : 0 < r.rejected) (some : 0 < len) (segment : (ls : List Line) → take r.rejected (unparsed r.buffer) ≡ concat ls → AreLines ls → IsFirstSegment k ls len) (advances : Advances r.buffer r.ended (is_some r.fault) q len (r.rejected - len)) (line : HasLine r.buffer len q.line) (had : HasParts k start now ps r) where
+module _ (k : ItemType) (start now : Option (List ℕ)) (ps : List (List Line)) (r q : ItemReader) (len : ℕ) (begun : 0 < r.rejected) (some : 0 < len) (segment : (ls : List Line) → take r.rejected (unparsed r.buffer) ≡ concat ls → AreLines ls → IsFirstSegment k ls len) (advances : Advances r.buffer r.ended (is_some r.fault) q len (r.rejected - len)) (had : HasParts k start now ps r) where
   abbrev chunk : IsChunk k r.ended had.0 r.rejected
   chunk = had.1.chunk begun
 
@@ -328,27 +334,27 @@ module _ (k : ItemType) (start now : Option (List ℕ)) (ps : List (List Line)) 
       segment c.front (ap (take r.rejected) text ∙ take_at (concat c.front) (concat c.back) r.rejected c.len_is)
       (are_front c.front c.back (subst (λ (x : List Line). AreLines x) c.whole (lines_back (all_lines ps) had.0 had.1.lines.are)))
 
-  pub segment_taken : {S : Type 0} (holds : S → S → List Item → Type 0) (old new : S) → TakesText holds k (take len (unparsed r.buffer)) old new → TakesPart k start now ps holds old new q
+  pub segment_taken : {S : Type 0} (holds : S → S → List Item → Type 0) (old new : S) → TakesFrom holds (TextSpellsFrom k (take len (unparsed r.buffer))) (StartNow r.buffer len q) old new → TakesPart k start now ps holds old new q
   segment_taken holds old new t =
-      part_taken k start now ps had.0 r q len (r.rejected - len) r.rejected had.1 (segment_chunk k r.ended had.0 r.rejected len chunk first) some advances (segment_left k r.ended had.0 r.rejected len chunk first) line holds old new (λ e. first.uncut) t
+      part_taken k start now ps had.0 r q len (r.rejected - len) r.rejected had.1 (segment_chunk k r.ended had.0 r.rejected len chunk first) some advances (segment_left k r.ended had.0 r.rejected len chunk first) holds old new t
 
-  pub segment_refused : {S : Type 0} (holds : S → S → List Item → Type 0) (old new : S) (file : Option (List ℕ)) (e : ParseError) → kind_of e ≡ Parse → RefusesText k file r.buffer len holds old new e → RefusesPart k file start now ps holds old new q e
+  pub segment_refused : {S : Type 0} (holds : S → S → List Item → Type 0) (old new : S) (file : Option (List ℕ)) (e : ParseError) → kind_of e ≡ Parse → RefusesText k file r.buffer len (StartNow r.buffer len q) holds old new e → RefusesPart k file start now ps holds old new q e
   segment_refused holds old new file e kind b =
-      part_refused k start now ps had.0 r q len (r.rejected - len) r.rejected had.1 (segment_chunk k r.ended had.0 r.rejected len chunk first) some advances (segment_left k r.ended had.0 r.rejected len chunk first) line holds old new file e first.uncut kind b
+      part_refused k start now ps had.0 r q len (r.rejected - len) r.rejected had.1 (segment_chunk k r.ended had.0 r.rejected len chunk first) some advances (segment_left k r.ended had.0 r.rejected len chunk first) holds old new file e first.uncut kind b
 
 -- a sink that held nothing before items were taken back
 pub taken_after : {S : Type 0} (k : ItemType) (start now : Option (List ℕ)) (ps : List (List Line)) (holds : S → S → List Item → Type 0) (old mid new : S) (q : ItemReader) → Holds holds [] old mid → TakesPart k start now ps holds mid new q → TakesPart k start now ps holds old new q
-taken_after k start now ps holds old mid new q back t = record { part = t.part; goes_on = t.goes_on; text = t.text; on_line = t.on_line; uncut = t.uncut; items = t.items; spelled = t.spelled; taken = λ first h. t.taken first (back first h) }
+taken_after k start now ps holds old mid new q back t = record { part = t.part; goes_on = t.goes_on; text = t.text; items = t.items; begin = t.begin; spelled = t.spelled; taken = λ first h. t.taken first (back first h) }
 
 pub refused_after : {S : Type 0} (k : ItemType) (file start now : Option (List ℕ)) (ps : List (List Line)) (holds : S → S → List Item → Type 0) (old mid new : S) (q : ItemReader) (e : ParseError) → Holds holds [] old mid → RefusesPart k file start now ps holds mid new q e → RefusesPart k file start now ps holds old new q e
 refused_after k file start now ps holds old mid new q e back t = record {
   part = t.part;
   goes_on = t.goes_on;
   text = t.text;
-  on_line = t.on_line;
   segment = t.segment;
   none = t.none;
   items = t.items;
+  begin = t.begin;
   begun = t.begun;
   taken = λ first h. t.taken first (back first h);
   read = t.read;

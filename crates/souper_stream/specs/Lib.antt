@@ -3,3 +3,4 @@ pub mod Segments
 pub mod Reading
 pub mod Buffering
 pub mod Parts
+pub mod Starts

@@ -1,11 +1,9 @@
 -- Definitions. Which tokens begin a statement or one of an item's last lines.
-use Rattle.std.specs.Prelude.{◌≡◌, ◌⊎◌, ◌||◌, Bool, true, false, cond, ℕ, ◌+◌, ◌≤◌, List, [], ◌∷◌, ◌++◌, length, take, drop, codes, bytes_eq, IsUtf8}
+use Rattle.std.specs.Prelude.{◌≡◌, ◌⊎◌, ◌||◌, Bool, true, false, cond, ℕ, ◌≤◌, List, [], ◌∷◌, ◌++◌, length, take, drop, codes, bytes_eq, IsUtf8}
 use Rattle.souper_graph.specs.Syntax.Tokens.{Lexeme, ident, val_name, equals, colon}
 use Rattle.souper_graph.specs.Syntax.Spelling.{ItemType, left_hand_side, right_hand_side, replacement}
-use Rattle.souper_lexer.specs.TokenReading.{lexed_of}
 use Rattle.souper_ir.specs.NodeReadings.{is_name}
 use Rattle.souper_ir.specs.Joining.{IsLines}
-use Rattle.souper_ir.specs.Places.{newlines}
 use Rattle.souper_stream.specs.declared.lines.ScanState.{ScanState}
 
 -- the word begins one of an item's last lines
@@ -75,15 +73,6 @@ state_after k s t = record { after_name = is_name t; ends_item = cond (shows_lin
 abbrev pub scanned : ItemType → ScanState → List Lexeme → ScanState
 scanned k s [] = s
 scanned k s (t ∷ ts) = scanned k (state_after k s t) ts
-
--- the offset of the first token, or 0 if there is none
-abbrev pub first_offset : List (ℕ × Lexeme) → ℕ
-first_offset [] = 0
-first_offset (t ∷ ts) = t.0
-
--- the 1-based line of the first token of a part, after the parsed text `done`
-abbrev pub first_line : List ℕ → List ℕ → ℕ
-first_line done part = newlines (done ++ take (first_offset (lexed_of 0 part).tokens) part) + 1
 
 -- the word is nowhere in the bytes
 abbrev pub IsAbsent : List ℕ → List ℕ → Type 0

@@ -11,7 +11,9 @@ use Rattle.souper_ir.specs.Sinks.{PrefixSpells, TakesOver}
 use Rattle.souper_stream.specs.declared.buffer.Buffer.{Buffer}
 use Rattle.souper_stream.specs.declared.reader.ItemReader.{ItemReader}
 use Rattle.souper_stream.specs.Buffering.{unparsed, last_part, IsSound, Buffers}
-use Rattle.souper_stream.specs.Lines.{first_line}
+use Rattle.souper_ir.specs.Starts.{PrefixSpellsFrom, TextSpellsFrom, starts_of}
+use Rattle.souper_stream.specs.declared.starts.Start.{Start}
+use Rattle.souper_stream.specs.Starts.{AreStarts, BeginThere}
 use Rattle.souper_stream.specs.Segments.{Line, concat, IsLine, AreLines, HasNoCut, IsCut, AreCut, all_lines, AreParts}
 use Rattle.souper_stream.specs.Reading.{AreAll, NeverSpells}
 
@@ -60,21 +62,21 @@ HasAll k start now ps = (read : List ℕ) × Consumes start now read × AreAll s
 abbrev pub IsNext : ItemType → Option (List ℕ) → Option (List ℕ) → List (List Line) → ItemReader → ℕ → Type 0
 IsNext k start now ps r len = (ls : List Line) × HasRead k start now ps ls r.buffer r.ended (is_some r.fault) r.rejected × (len ≡ 0 → HasAll k start now ps) × (0 < len → IsChunk k r.ended ls len)
 
--- The line of a part, after the parsed text `done`. Numbers have 64 bits.
-abbrev pub IsOnLine : List ℕ → List ℕ → ℕ → Type 0
-IsOnLine done part line = length (done ++ part) + 1 < 2 ^ 64 → line ≡ first_line done part
+-- the reader is asked where items begin
+abbrev pub asks_for_starts : ItemReader → Bool
+asks_for_starts r = is_some (starts_of r.memory)
 
--- the line of the first `len` unparsed bytes
-unfoldable pub HasLine : Buffer → ℕ → ℕ → Type 0
-HasLine b len line = (done : List ℕ) → Buffers done b → IsOnLine done (take len (unparsed b)) line
+-- `r.starts()`
+abbrev pub starts_of_part : ItemReader → List Start
+starts_of_part r = r.starts.items
 
--- each part is one segment
-abbrev pub is_segmented : ItemReader → Bool
-is_segmented r = r.by_segments
+-- the bytes at these offsets of the first `len` unparsed bytes are there
+abbrev pub StartThere : Buffer → ℕ → List ℕ → List Start → Type 0
+StartThere b len offsets starts = (done : List ℕ) → Buffers done b → length (done ++ take len (unparsed b)) + 1 < 2 ^ 64 → AreStarts done (take len (unparsed b)) offsets starts
 
--- `r.line()`
-abbrev pub line_of : ItemReader → ℕ
-line_of r = r.line
+-- the same, if the reader is asked
+abbrev pub StartNow : Buffer → ℕ → ItemReader → List ℕ → Type 0
+StartNow b len r offsets = asks_for_starts r ≡ true → StartThere b len offsets r.starts.items
 
 -- `r.part()`
 abbrev pub part_of : ItemReader → List ℕ
@@ -107,9 +109,8 @@ pub record TakesPart {S : Type 0} (k : ItemType) (start now : Option (List ℕ))
   pub part : List Line
   pub goes_on : HasParts k start now (ps ++ part ∷ []) r
   pub text : part_of r ≡ concat part
-  pub on_line : IsOnLine (concat (all_lines ps)) (concat part) (line_of r)
-  pub uncut : is_segmented r ≡ true → HasNoCut k part
   pub items : List Item
+  pub begin : asks_for_starts r ≡ true → BeginThere (TextSpellsFrom k (concat part)) (concat (all_lines ps)) (concat part) items (starts_of_part r)
   pub spelled : TextSpells k (concat part) items
   pub taken : Holds holds items old new
 
@@ -119,10 +120,10 @@ pub record RefusesPart {S : Type 0} (k : ItemType) (file start now : Option (Lis
   pub part : List Line
   pub goes_on : HasParts k start now (ps ++ part ∷ []) r
   pub text : part_of r ≡ concat part
-  pub on_line : IsOnLine (concat (all_lines ps)) (concat part) (line_of r)
   pub segment : HasNoCut k part
   pub none : SpellsNone k (concat part)
   pub items : List Item
+  pub begin : asks_for_starts r ≡ true → BeginThere (PrefixSpellsFrom k (concat part)) (concat (all_lines ps)) (concat part) items (starts_of_part r)
   pub begun : PrefixSpells k (concat part) items
   pub taken : Holds holds items old new
   pub read : List ℕ

@@ -1,7 +1,7 @@
 //! The buffer of a stream.
-ghost use Rattle.std.specs.Prelude.{◌≡◌, ◌+◌, ◌<◌, ◌≤◌, length, take, vec_len, OnOk};
+ghost use Rattle.std.specs.Prelude.{◌≡◌, ℕ, ◌+◌, ◌^◌, ◌<◌, ◌≤◌, List, length, take, vec_len, OnOk};
 ghost use Rattle.souper_ir.specs.Places.{newlines};
-ghost use Rattle.souper_stream.specs.Buffering.{held, unparsed, last_part, IsSound, IsEmpty, Passes, Drains};
+ghost use Rattle.souper_stream.specs.Buffering.{Buffers, Counts, held, unparsed, last_part, IsSound, IsEmpty, Passes, Drains};
 
 use crate::lines::last_line_start;
 use souper_ir::parse::Before;
@@ -82,6 +82,20 @@ impl Buffer {
     {
         let end = self.start + self.parsed;
         &self.bytes[end - self.last..end]
+    }
+
+    /// The numbers of bytes and lines that were parsed.
+    pub(crate) fn passed(&self) -> Before
+        requires { self.now.start + self.now.parsed ≤ vec_len self.now.bytes }
+        ensures { (done : List ℕ) → Buffers done self.now → length done + 1 < 2 ^ 64 → Counts result done }
+    {
+        Before {
+            bytes: self.before.bytes.saturating_add(self.parsed),
+            lines: self
+                .before
+                .lines
+                .saturating_add(newline_count(self.held(0))),
+        }
     }
 
     /// The bytes that are not parsed.

@@ -16,6 +16,7 @@ mod lines;
 mod read;
 mod reader;
 mod sink;
+mod starts;
 
 pub use cuts::{last_cut, segment_len};
 pub use faults::not_utf8;
@@ -24,3 +25,4 @@ pub use lines::lines_len;
 pub use read::{read_chunks_into, read_into};
 pub use reader::ItemReader;
 pub use sink::ChunkSink;
+pub use starts::Start;

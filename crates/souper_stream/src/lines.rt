@@ -4,11 +4,10 @@ ghost use Rattle.std.specs.Io.{StartsWith};
 ghost use Rattle.std.specs.Io.BufRead.{take_through};
 ghost use Rattle.souper_graph.specs.Syntax.Tokens.{IsOneLine};
 ghost use Rattle.souper_graph.specs.Syntax.Spelling.{kinds};
-ghost use Rattle.souper_lexer.specs.TokenReading.{lexed_of};
 ghost use Rattle.souper_lexer.specs.TokenView.{lexeme_of, Yields};
 ghost use Rattle.souper_ir.specs.NodeReadings.{is_name};
 ghost use Rattle.souper_ir.specs.Joining.{IsLines};
-ghost use Rattle.souper_stream.specs.Lines.{last_word, line_word, is_end_word, shows_line, defines, starts_line, first_offset, end_word, first_state, state_after, scanned, IsAbsent, NoEndWord, IsWithoutEnd};
+ghost use Rattle.souper_stream.specs.Lines.{last_word, line_word, is_end_word, shows_line, defines, starts_line, end_word, first_state, state_after, scanned, IsAbsent, NoEndWord, IsWithoutEnd};
 ghost use Rattle.souper_stream.specs.Segments.{tokens_of, IsLastLineAt};
 
 use crate::item::StreamItem;
@@ -55,16 +54,6 @@ fn next_token<'a>(lexer: &mut Lexer<'a>) -> Result<Option<(usize, Token<'a>)>, F
     let (mut ahead, mut offset) = (None, 0);
     lexer.lex(&mut ahead, &mut offset)?;
     Ok(ahead)
-}
-
-/// The offset of the first token of the text, in bytes; 0 if there is none.
-pub(crate) fn first_offset(text: &str) -> usize
-    ensures offset { result ≡ first_offset (lexed_of 0 text.now).tokens }
-    ensures within { result ≤ length text.now }
-{
-    let (mut ahead, mut offset) = (None, 0);
-    let _ = Lexer::new(text).lex(&mut ahead, &mut offset);
-    offset
 }
 
 // Whether the token is a word that begins a terminator.

@@ -2,21 +2,22 @@
 ghost use Rattle.std.specs.Prelude.{◌≡◌, ◌+◌, ◌<◌, ◌≤◌, ℕ, List, [], length, take, true, false, Option, is_some, IfOk, IfErr, IfSome, IfNone, OnOk, vec_len, option_copied, IsUtf8};
 ghost use Rattle.souper_graph.specs.Syntax.Spelling.{ItemType};
 ghost use Rattle.souper_ir.specs.Errors.{kind_of, offset_of, HasLocationAfter, IsLocatedAfter};
-ghost use Rattle.souper_ir.specs.Sinks.{TakesText};
+ghost use Rattle.souper_ir.specs.Starts.{TakesFrom, TextSpellsFrom, starts_of};
+ghost use Rattle.std.specs.IoError.{error_kind};
+ghost use Rattle.souper_stream.specs.Starts.{Ascend};
 ghost use Rattle.souper_stream.specs.Buffering.{held, unparsed};
 ghost use Rattle.souper_stream.specs.Segments.{Line, concat, AreLines, IsFirstSegment};
 ghost use Rattle.souper_stream.specs.Reading.{Reads, ReadsMore, ReadsLines, AppendsLine, Fills};
-ghost use Rattle.souper_stream.specs.Parts.{Advances, LeavesChunk, Rejects, HasParts, HasAll, HasLine, line_of, part_of, is_segmented, IsNext, TakesPart, RefusesPart};
+ghost use Rattle.souper_stream.specs.Parts.{Advances, LeavesChunk, Rejects, HasParts, HasAll, part_of, asks_for_starts, starts_of_part, StartThere, StartNow, IsNext, TakesPart, RefusesPart};
 
-use crate::buffer::{Buffer, newline_count};
+use crate::buffer::Buffer;
 use crate::cuts::{last_cut, segment_len};
 use crate::faults::not_utf8;
 use crate::item::StreamItem;
-use crate::lines::{first_offset, lines_len, utf8};
+use crate::lines::{lines_len, utf8};
 use crate::sink::ChunkSink;
-use souper_ir::parse::{
-    Before, Memory, ParseError, ParseErrorKind, Result, Sink, parse_with_memory,
-};
+use crate::starts::{Start, starts_in};
+use souper_ir::parse::{Memory, ParseError, ParseErrorKind, Result, Sink, parse_with_memory};
 use std::alloc::{AllocError, Global};
 use std::io;
 use std::io::{BufRead, ErrorKind};
@@ -134,13 +135,9 @@ fn place(
 // The fault of the first `len` unparsed bytes, which are not UTF-8.
 fn not_text(buffer: &Buffer, len: usize) -> io::Error
     requires { buffer.now.start + buffer.now.parsed + len ≤ vec_len buffer.now.bytes }
+    ensures { error_kind result ≡ ErrorKind.InvalidData }
 {
-    let lines = newline_count(buffer.held(0));
-    let before = Before {
-        bytes: buffer.before.bytes.saturating_add(buffer.parsed),
-        lines: buffer.before.lines.saturating_add(lines),
-    };
-    not_utf8(before, &buffer.unparsed()[..len])
+    not_utf8(buffer.passed(), &buffer.unparsed()[..len])
 }
 
 // The length of the first segment of the first `rejected` unparsed bytes.
@@ -156,24 +153,16 @@ fn first_segment_len<T: StreamItem>(buffer: &Buffer, rejected: usize) -> io::Res
     }
 }
 
-// The first `len` unparsed bytes as text, and the 1-based line of its first token. The error says that they are not UTF-8.
-#[tactic(auto, unfolding(crate::specs::Parts::HasLine))]
-fn text_and_line(buffer: &Buffer, len: usize) -> io::Result<(&str, usize)>
+// The first `len` unparsed bytes as text. The error says that they are not UTF-8.
+fn text_of(buffer: &Buffer, len: usize) -> io::Result<&str>
     requires { buffer.now.start + buffer.now.parsed + len ≤ vec_len buffer.now.bytes }
-    ensures text { IfOk result (λ next. next.0.now ≡ take len (unparsed buffer.now)) }
-    ensures utf8 { IfOk result (λ next. IsUtf8 next.0.now) }
-    ensures line { IfOk result (λ next. HasLine buffer.now len next.1) }
+    ensures text { IfOk result (λ text. text.now ≡ take len (unparsed buffer.now)) }
+    ensures utf8 { IfOk result (λ text. IsUtf8 text.now) }
 {
-    let text = match utf8(&buffer.unparsed()[..len]) {
-        Ok(text) => text,
-        Err(_) => return Err(not_text(buffer, len)),
-    };
-    let gap = &text.as_bytes()[..first_offset(text)];
-    let lines = newline_count(buffer.held(0)).saturating_add(newline_count(gap));
-    Ok((
-        text,
-        buffer.before.lines.saturating_add(lines).saturating_add(1),
-    ))
+    match utf8(&buffer.unparsed()[..len]) {
+        Ok(text) => Ok(text),
+        Err(_) => Err(not_text(buffer, len)),
+    }
 }
 
 /// Reads a stream part by part.
@@ -194,9 +183,6 @@ pub struct ItemReader {
     // Whether a cut point is looked for whenever something was read, and not only when the buffer has doubled.
     is_eager: bool,
 
-    // Whether each chunk is read segment by segment.
-    by_segments: bool,
-
     // Whether the input has ended.
     ended: bool,
 
@@ -206,8 +192,8 @@ pub struct ItemReader {
     // The number of unparsed bytes that are read segment by segment: the rest of a chunk.
     rejected: usize,
 
-    // The line of the first token of the last part.
-    line: usize,
+    // Where the items of the last part begin, if that is asked for.
+    starts: Vec<Start>,
 
     // The memory of items that were dropped.
     memory: Memory,
@@ -218,50 +204,53 @@ impl ItemReader {
     /// grown by `min_chunk` bytes, and to the end of a line. If none is found, it is looked for again when the buffer has doubled.
     /// With a small chunk size items are passed to the sink sooner ([`eager`](ItemReader::eager) too); with a larger one reading takes less
     /// time.
-    #[tactic(auto, using(crate::proofs::Passing::read_none))]
     pub fn new(alloc: Global, min_chunk: usize) -> ItemReader
-        ensures chunks { is_segmented result ≡ false }
+        ensures not_asked { asks_for_starts result ≡ false }
+        ensures begins { (k : ItemType) (start : Option (List ℕ)) → HasParts k start start [] result }
+    {
+        ItemReader::with_memory(alloc, min_chunk, Memory::new(alloc))
+    }
+
+    /// A reader that is asked where the items begin ([`starts`](ItemReader::starts)).
+    pub fn with_starts(alloc: Global, min_chunk: usize) -> ItemReader
+        ensures asked { asks_for_starts result ≡ true }
+        ensures begins { (k : ItemType) (start : Option (List ℕ)) → HasParts k start start [] result }
+    {
+        ItemReader::with_memory(alloc, min_chunk, Memory::with_starts(alloc))
+    }
+
+    #[tactic(auto, using(crate::proofs::Passing::read_none))]
+    fn with_memory(alloc: Global, min_chunk: usize, memory: Memory) -> ItemReader
+        ensures memory { result.memory ≡ memory }
         ensures begins { (k : ItemType) (start : Option (List ℕ)) → HasParts k start start [] result }
     {
         ItemReader {
             buffer: Buffer::new(alloc),
             min_chunk,
             is_eager: false,
-            by_segments: false,
             ended: false,
             fault: None,
             rejected: 0,
-            line: 1,
-            memory: Memory::new(alloc),
+            starts: Vec::new(alloc),
+            memory,
         }
     }
 
-    /// A reader that passes one segment to the sink each time.
-    pub fn by_segments(alloc: Global, min_chunk: usize) -> ItemReader
-        ensures segments { is_segmented result ≡ true }
-        ensures begins { (k : ItemType) (start : Option (List ℕ)) → HasParts k start start [] result }
+    /// Where the items of the last part begin in the stream, one for each item, in order; of a refused part, the items that it begins
+    /// with. There are none if they were not asked for ([`with_starts`](ItemReader::with_starts)).
+    pub fn starts(&self) -> &[Start]
+        ensures { result.now ≡ starts_of_part self.now }
     {
-        ItemReader {
-            by_segments: true,
-            ..ItemReader::new(alloc, min_chunk)
-        }
+        self.starts.as_slice()
     }
 
     /// The same reader, which, if it is eager, looks for a cut point each time that it has read something, up to the end of a line. With a
     /// chunk size of 1 the items of a segment are passed to the sink as soon as the line after it can be read. Long segments take longer.
     pub fn eager(self, is_eager: bool) -> ItemReader
-        ensures same { is_segmented result ≡ is_segmented self }
+        ensures same { asks_for_starts result ≡ asks_for_starts self }
         ensures parts { (k : ItemType) (start : Option (List ℕ)) (now : Option (List ℕ)) (ps : List (List Line)) → HasParts k start now ps self → HasParts k start now ps result }
     {
         ItemReader { is_eager, ..self }
-    }
-
-    /// The 1-based line of the first token of the last part, refused or not. If no token is found, since there is none or a lexical error
-    /// comes first, it is the line on which the part begins.
-    pub fn line(&self) -> usize
-        ensures { result ≡ line_of self.now }
-    {
-        self.line
     }
 
     /// The text of the last part, refused or not. Before the first part and after the end it is empty.
@@ -276,7 +265,7 @@ impl ItemReader {
     fn read_more<R: BufRead>(&mut self, reader: &mut R, goal: usize) -> io::Result<()>
         requires parsed { self.old.buffer.start + self.old.buffer.parsed ≤ vec_len self.old.buffer.bytes }
         requires none { self.old.rejected ≡ 0 }
-        ensures same { is_segmented self.new ≡ is_segmented self.old }
+        ensures same { asks_for_starts self.new ≡ asks_for_starts self.old }
         ensures parsed { self.new.buffer.start + self.new.buffer.parsed ≤ vec_len self.new.buffer.bytes }
         ensures none { self.new.rejected ≡ 0 }
         ensures start { self.new.buffer.start ≡ self.old.buffer.start }
@@ -304,7 +293,7 @@ impl ItemReader {
     ) -> io::Result<usize>
         requires parsed { self.old.buffer.start + self.old.buffer.parsed ≤ vec_len self.old.buffer.bytes }
         requires none { self.old.rejected ≡ 0 }
-        ensures same { is_segmented self.new ≡ is_segmented self.old }
+        ensures same { asks_for_starts self.new ≡ asks_for_starts self.old }
         ensures next { IfOk result (λ len. (start : Option (List ℕ)) (ps : List (List Line)) → HasParts T.item_type start (R.remaining reader.old) ps self.old
             → IsNext T.item_type start (R.remaining reader.new) ps self.new len) }
         ensures drained { IfOk result (λ len. self.new.buffer.start ≡ 0) }
@@ -335,11 +324,23 @@ impl ItemReader {
         requires some { 0 < len }
         requires within { self.old.buffer.start + self.old.buffer.parsed + len ≤ vec_len self.old.buffer.bytes }
         ensures advanced { Advances self.old.buffer self.old.ended (is_some self.old.fault) self.new len rejected }
-        ensures line { self.new.line ≡ self.old.line }
-        ensures same { is_segmented self.new ≡ is_segmented self.old }
+        ensures starts { self.new.starts ≡ self.old.starts }
+        ensures same { asks_for_starts self.new ≡ asks_for_starts self.old }
     {
         self.buffer.pass(len);
         self.rejected = rejected;
+    }
+
+    // Keeps where the items begin that were read of the first `len` unparsed bytes.
+    fn keep_starts(&mut self, alloc: Global, len: usize) -> std::result::Result<(), AllocError>
+        requires within { self.old.buffer.start + self.old.buffer.parsed + len ≤ vec_len self.old.buffer.bytes }
+        requires ascend { IfSome (starts_of self.old.memory) (λ offsets. Ascend 0 offsets len) }
+        ensures starts { OnOk result (IfSome (starts_of self.old.memory) (λ offsets. StartThere self.old.buffer len offsets self.new.starts.items)) }
+        ensures same { self.new ≡ record self.old { starts = self.new.starts } }
+    {
+        let part = &self.buffer.unparsed()[..len];
+        self.starts = starts_in(alloc, self.buffer.passed(), part, self.memory.starts())?;
+        Ok(())
     }
 
     // Passes the items of the next chunk, which has `len` bytes, to the sink. An error that is not out of memory leaves the chunk.
@@ -351,20 +352,20 @@ impl ItemReader {
     ) -> Result<()>
         requires some { 0 < len }
         requires within { self.old.buffer.start + self.old.buffer.parsed + len ≤ vec_len self.old.buffer.bytes }
-        ensures advanced { OnOk result (Advances self.old.buffer self.old.ended (is_some self.old.fault) self.new len 0 × HasLine self.old.buffer len self.new.line) }
-        ensures taken { OnOk result (TakesText S.holds T.item_type (take len (unparsed self.old.buffer)) sink.old sink.new) }
-        ensures same { is_segmented self.new ≡ is_segmented self.old }
+        ensures advanced { OnOk result (Advances self.old.buffer self.old.ended (is_some self.old.fault) self.new len 0) }
+        ensures taken { OnOk result (TakesFrom S.holds (TextSpellsFrom T.item_type (take len (unparsed self.old.buffer))) (StartNow self.old.buffer len self.new) sink.old sink.new) }
+        ensures same { asks_for_starts self.new ≡ asks_for_starts self.old }
         ensures left { IfErr result (λ e. (kind_of e ≡ ParseErrorKind.Memory → ⊥) → LeavesChunk self.old self.new S.holds sink.old sink.new) }
     {
-        let (text, line) = text_and_line(&self.buffer, len)?;
+        let text = text_of(&self.buffer, len)?;
         parse_with_memory::<T, S>(alloc, &mut self.memory, text, None, sink)?;
-        self.line = line;
+        self.keep_starts(alloc, len)?;
         self.pass(len, 0);
         Ok(())
     }
 
-    // Passes the items of the next chunk to the sink, and returns true; false if the stream has ended. If the chunk spells no items, or is
-    // to be read segment by segment, it returns none, and the sink has no items of it.
+    // Passes the items of the next chunk to the sink, and returns true; false if the stream has ended. If the chunk spells no items,
+    // it returns none, and the sink has no items of it.
     fn read_chunk<T: StreamItem + Drop, R: BufRead, S: ChunkSink<T>>(
         &mut self,
         alloc: Global,
@@ -379,17 +380,13 @@ impl ItemReader {
             → HasAll T.item_type start (R.remaining reader.new) ps × (sink.new ≡ sink.old))) }
         ensures rejected { IfOk result (λ done. IfNone done (Rejects T.item_type (R.remaining reader.old) (R.remaining reader.new) self.old self.new S.holds sink.old sink.new)) }
         ensures failed { IfErr result (λ e. kind_of e ≡ ParseErrorKind.Parse → ⊥) }
-        ensures same { is_segmented self.new ≡ is_segmented self.old }
+        ensures same { asks_for_starts self.new ≡ asks_for_starts self.old }
     {
         let len = match self.next_chunk::<T, R>(alloc, reader) {
             Ok(0) => return Ok(Some(false)),
             Ok(len) => len,
             Err(fault) => return Err(read_error(fault)),
         };
-        if self.by_segments {
-            self.rejected = len;
-            return Ok(None);
-        }
         match self.parse_chunk::<T, S>(alloc, len, sink) {
             Ok(()) => Ok(Some(true)),
             Err(error) if error.kind() == ParseErrorKind::Memory => Err(error),
@@ -411,7 +408,7 @@ impl ItemReader {
         requires some { 0 < self.old.rejected }
         requires within { self.old.buffer.start + self.old.buffer.parsed + self.old.rejected ≤ vec_len self.old.buffer.bytes }
         ensures more { IfOk result (λ more. more ≡ true) }
-        ensures same { is_segmented self.new ≡ is_segmented self.old }
+        ensures same { asks_for_starts self.new ≡ asks_for_starts self.old }
         ensures taken { IfOk result (λ more. (start now : Option (List ℕ)) (ps : List (List Line)) → HasParts T.item_type start now ps self.old
             → TakesPart T.item_type start now ps S.holds sink.old sink.new self.new) }
         ensures refused { IfErr result (λ e. kind_of e ≡ ParseErrorKind.Parse → (start now : Option (List ℕ)) (ps : List (List Line)) → HasParts T.item_type start now ps self.old
@@ -419,12 +416,15 @@ impl ItemReader {
     {
         let rejected = self.rejected;
         let len = first_segment_len::<T>(&self.buffer, rejected)?;
-        let (text, line) = text_and_line(&self.buffer, len)?;
-        self.line = line;
+        let text = text_of(&self.buffer, len)?;
         let parsed = match parse_with_memory::<T, S>(alloc, &mut self.memory, text, None, sink) {
             Ok(()) => Ok(true),
-            Err(error) => Err(place(alloc, &self.buffer, len, error, filename)),
+            Err(error) if error.kind() == ParseErrorKind::Parse => {
+                Err(place(alloc, &self.buffer, len, error, filename))
+            }
+            Err(error) => return Err(error),
         };
+        self.keep_starts(alloc, len)?;
         self.pass(len, rejected - len);
         parsed
     }
@@ -433,8 +433,8 @@ impl ItemReader {
     /// nothing was left of it.
     ///
     /// Each call of one stream is given the same reader and type of items, and the sink may be another each time. It must hold no items,
-    /// compared with some sink, since items of a chunk may be taken back. After the call [`line`](ItemReader::line) returns the line of the
-    /// part's first token, and [`part`](ItemReader::part) its text.
+    /// compared with some sink, since items of a chunk may be taken back. After the call [`part`](ItemReader::part) returns the text of the
+    /// part, and [`starts`](ItemReader::starts) where its items begin, if that is asked for.
     ///
     /// - `Parse`: the next segment spells no items. The sink has taken items that it begins with. The error has and shows its place in
     ///   the stream, and its location is there too. The next call reads the next segment.
@@ -456,7 +456,7 @@ impl ItemReader {
             → HasAll T.item_type start (R.remaining reader.new) ps × (sink.new ≡ sink.old)) }
         ensures refused { IfErr result (λ e. kind_of e ≡ ParseErrorKind.Parse → (start : Option (List ℕ)) (ps : List (List Line)) → HasParts T.item_type start (R.remaining reader.old) ps self.old
             → RefusesPart T.item_type (option_copied filename.entry) start (R.remaining reader.new) ps S.holds sink.old sink.new self.new e) }
-        ensures same { is_segmented self.new ≡ is_segmented self.old }
+        ensures same { asks_for_starts self.new ≡ asks_for_starts self.old }
     {
         if self.rejected > 0 {
             return self.read_segment::<T, S>(alloc, filename, sink);

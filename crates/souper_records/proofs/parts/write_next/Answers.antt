@@ -3,8 +3,6 @@ use Rattle.std.specs.String.{string_bytes}
 use Rattle.std.proofs.KnownBytes.{Keeps-refl}
 use Rattle.souper_ir.specs.declared.parse.error.ParseErrorKind.TheVariants.{Parse}
 use Rattle.souper_ir.specs.Errors.{kind_of}
-use Rattle.souper_stream.specs.Segments.{concat, all_lines}
-use Rattle.souper_stream.specs.Parts.{IsOnLine}
 use Rattle.souper_stream.proofs.Reached.{refusal_begun}
 use Rattle.souper_records.specs.Outcomes.{Outcome}
 use Rattle.souper_records.proofs.parts.write_next.Goals as goal
@@ -12,12 +10,12 @@ use Rattle.souper_records.proofs.parts.write_next.Goals as goal
 pub returns-in_ok-write_part-in-Ok-true-clause-part : goal.returns-in_ok-write_part-in-Ok-true-clause-part
 returns-in_ok-write_part-in-Ok-true-clause-part g c = λ start ps had.
     let t = (rw c.in-Ok-true.is at c.read_part.ensures.read) c.in-Ok-true.field-0-test start ps had in
-    let o : Outcome = record { part = t.part; line = c.line-line.result; items = t.items; refusal = None } in
+    let o : Outcome = record { part = t.part; starts = c.starts-starts.result.now; items = t.items; refusal = None } in
     record {
       outcome = o;
       had = t.goes_on;
-      is = record { on_line = subst (λ (n : ℕ). IsOnLine (concat (all_lines ps)) (concat t.part) n) (sym c.line-line.ensures) t.on_line; is = t.spelled };
-      uncut = t.uncut;
+      is = t.spelled;
+      begin = rw (← c.starts-starts.ensures) at t.begin;
       any = refl;
       after = λ e. absurd cc;
       are_written = λ first before os h. c.in_ok-write_part-in-Ok-true.ensures.written first before os c.args.sink.now o h c.requires.none (t.taken c.args.sink.now c.requires.none) refl refl;
@@ -44,15 +42,12 @@ returns-in_ok-write_part-in-Err-clause-part g c = λ start ps had.
     let now = g.R.Read.remaining c.read_part.new.reader in
     let kind : kind_of c.in-Err.error ≡ Parse = search rules in
     let t = c.in-Err.ensures.refused kind start ps had in
-    let o : Outcome = record { part = t.part; line = c.line-line-in-Err.result; items = t.items; refusal = Some c.in-Err.error } in
+    let o : Outcome = record { part = t.part; starts = c.starts-starts-in-Err.result.now; items = t.items; refusal = Some c.in-Err.error } in
     record {
       outcome = o;
       had = t.goes_on;
-      is = record {
-        on_line = subst (λ (n : ℕ). IsOnLine (concat (all_lines ps)) (concat t.part) n) (sym c.line-line-in-Err.ensures) t.on_line;
-        is = record { kind = kind; segment = t.segment; none = t.none; begun = t.begun; now = now; read = t.read; consumed = t.consumed; placed = t.placed; located = t.located };
-      };
-      uncut = λ e. t.segment;
+      is = record { kind = kind; segment = t.segment; none = t.none; begun = t.begun; now = now; read = t.read; consumed = t.consumed; placed = t.placed; located = t.located };
+      begin = rw (← c.starts-starts-in-Err.ensures) at t.begin;
       any = refl;
       after = λ e. record {
         read = t.read;

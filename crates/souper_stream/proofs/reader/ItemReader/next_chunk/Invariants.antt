@@ -2,12 +2,12 @@
 use Rattle.std.proofs.Common.{◌≡◌, ◌≤◌, ◌+◌, List}
 use Rattle.std.specs.Prelude.{ℕ, Option, vec_len}
 use Rattle.souper_stream.specs.Segments.{Line}
-use Rattle.souper_stream.specs.Parts.{HasParts, is_segmented}
+use Rattle.souper_stream.specs.Parts.{HasParts, asks_for_starts}
 use Rattle.souper_stream.proofs.reader.ItemReader.next_chunk.Given as goal
 
 abbrev pub invariant-loop-turn : goal.invariant-loop-turn
 invariant-loop-turn g l = record {
-  same : is_segmented l.self ≡ is_segmented l.fn.self;
+  same : asks_for_starts l.self ≡ asks_for_starts l.fn.self;
   parsed : l.self.buffer.start + l.self.buffer.parsed ≤ vec_len l.self.buffer.bytes;
   none : l.self.rejected ≡ 0;
   drained : l.self.buffer.start ≡ 0;

@@ -1,4 +1,4 @@
-use Rattle.std.proofs.Common.{rules, ◌≡◌, ◌<◌, ◌∙◌, refl, arith}
+use Rattle.std.proofs.Common.{rules, ◌≡◌, ◌<◌, refl, arith}
 use Rattle.souper_ir.specs.declared.parse.error.ParseErrorKind.TheVariants.{Memory}
 use Rattle.souper_ir.specs.Errors.{kind_of}
 use Rattle.souper_stream.specs.declared.reader.ItemReader.{ItemReader}
@@ -7,17 +7,6 @@ use Rattle.souper_stream.proofs.reader.ItemReader.read_chunk.Goals as goal
 
 pub returns-in-Ok-eq0-clause-ended : goal.returns-in-Ok-eq0-clause-ended
 returns-in-Ok-eq0-clause-ended g c = λ e start ps had. ((c.in-Ok-eq0.ensures.next start ps had).2 c.in-Ok-eq0.field-0-test, refl)
-
-pub returns-then-self-clause-rejected : goal.returns-then-self-clause-rejected
-returns-then-self-clause-rejected g c =
-    let some : 0 < c.in-Ok.len = omega (arith, c.in-Ok.len-test) in
-    let r = c.next_chunk.new.self in
-    let q : ItemReader = record r { rejected = c.in-Ok.len } in
-    record {
-      some = some;
-      goes_on = λ start ps had. begin_chunk g.T.Item.item_type start (g.R.Read.remaining c.next_chunk.new.reader) ps r q c.in-Ok.len (c.in-Ok.ensures.next start ps had) some refl refl refl refl;
-      none = λ first h. h;
-    }
 
 pub parse_chunk-requires-clause-within : goal.parse_chunk-requires-clause-within
 parse_chunk-requires-clause-within g c =
@@ -31,7 +20,7 @@ returns-in-Ok-parse_chunk-clause-read g c = λ e start ps had.
     let some : 0 < c.in-Ok.len = omega (arith, c.in-Ok.len-test) in
     let t = c.in-Ok-parse_chunk.ensures in
     chunk_taken g.T.Item.item_type start (g.R.Read.remaining c.next_chunk.new.reader) ps c.next_chunk.new.self c.parse_chunk.new.self c.in-Ok.len g.S.Sink.holds c.args.sink.now c.parse_chunk.new.sink (c.in-Ok.ensures.next start ps had) some
-    t.advanced.0 t.advanced.1 (t.same ∙ c.if-self.false) t.taken
+    t.advanced t.taken
 
 pub returns-in-Err-2-clause-rejected : goal.returns-in-Err-2-clause-rejected
 returns-in-Err-2-clause-rejected g c =

@@ -1,0 +1,162 @@
+-- Where items begin: their offsets ascend within a text, and give places in a stream.
+use Rattle.std.proofs.Common.{◌≡◌, ℕ, ◌+◌, ◌-◌, ◌<◌, ◌≤◌, true, false, List, [], ◌∷◌, ◌++◌, length, take, drop, append_assoc, append-nil, get_or, min, Option, None, Some, is_some, refl, sym, ◌∙◌, ap, subst, arith, length-append}
+use Rattle.std.specs.Prelude.{◌^◌, ◌==◌, IfSome, option_map}
+use Rattle.std.proofs.lemmas.List.{drop_more, take_more, take_all, length-take}
+use Rattle.std.proofs.lemmas.List.Sums.{count_by-le-length}
+use Rattle.souper_ir.specs.declared.parse.error.Before.{Before}
+use Rattle.souper_stream.specs.Buffering.{Counts}
+use Rattle.souper_stream.proofs.Buffers.{newlines-append}
+use Rattle.souper_graph.specs.Values.{Item}
+use Rattle.souper_graph.specs.Syntax.Tokens.{Lexeme, spelling, Begins}
+use Rattle.souper_graph.specs.Syntax.Spelling.{kinds, ItemType, list_spells, TextSpells}
+use Rattle.souper_ir.specs.declared.parse.memory.Memory.{Memory}
+use Rattle.souper_ir.specs.Laws.Steps.{kinds-append}
+use Rattle.souper_ir.specs.Sinks.{PrefixSpells}
+use Rattle.souper_ir.specs.Starts.{StartsAt, SpellEachFrom, TextSpellsFrom, PrefixSpellsFrom, TakesFrom, HasStarts, starts_of}
+use Rattle.souper_ir.specs.Places.{newlines}
+use Rattle.souper_stream.specs.declared.starts.Start.{Start}
+use Rattle.souper_stream.specs.Starts.{Ascend, IsStart, AreStarts}
+use Rattle.std.proofs.Math.Seq.{take-add}
+
+-- after some tokens the others begin further on, and no later than the end
+skip : (us ts : List (ℕ × Lexeme)) (n : ℕ) (bs rest : List ℕ) → Begins n bs (us ++ ts) rest → (m : ℕ) × (cs : List ℕ) × Begins m cs ts rest × (n ≤ m) × (m + length cs ≡ n + length bs)
+skip [] ts n bs rest h = (n, bs, h, omega arith, refl)
+skip (u ∷ us) ts n bs rest h =
+    let next = u.0 + length (spelling u.1) in
+    let (m, cs, begun, from, to) = skip us ts next h.after rest h.more in
+    let long : length bs ≡ length h.gap + (length (spelling u.1) + length h.after) = omega (arith, ap length h.stands.text, length-append h.gap (spelling u.1 ++ h.after), length-append (spelling u.1) h.after) in
+    (m, cs, begun, omega (arith, from, h.offset_is), omega (arith, to, h.offset_is, long))
+
+-- the others begin after the first of some tokens
+others_after : (us ts : List (ℕ × Lexeme)) (start n : ℕ) (bs rest : List ℕ) → StartsAt start us → Begins n bs (us ++ ts) rest → (n ≤ start) × ((m : ℕ) × (cs : List ℕ) × Begins m cs ts rest × (start ≤ m) × (m + length cs ≡ n + length bs))
+others_after [] ts start n bs rest at h = absurd at
+others_after (u ∷ us) ts start n bs rest at h =
+    let next = u.0 + length (spelling u.1) in
+    let (m, cs, begun, from, to) = skip us ts next h.after rest h.more in
+    let long : length bs ≡ length h.gap + (length (spelling u.1) + length h.after) = omega (arith, ap length h.stands.text, length-append h.gap (spelling u.1 ++ h.after), length-append (spelling u.1) h.after) in
+    (omega (arith, h.offset_is, at), (m, cs, begun, omega (arith, from, at), omega (arith, to, h.offset_is, long)))
+
+-- the bound below may be lower
+ascend_from : (m n : ℕ) (offsets : List ℕ) (to : ℕ) → m ≤ n → Ascend n offsets to → Ascend m offsets to
+ascend_from m n [] to le a = omega (arith, le, a)
+ascend_from m n (offset ∷ offsets) to le a = let from = a.0 in (omega (arith, le, from), a.1)
+
+each_ascend : (k : ItemType) (items : List Item) (starts : List ℕ) (ts : List (ℕ × Lexeme)) (n : ℕ) (bs rest : List ℕ) → SpellEachFrom k items starts ts → Begins n bs ts rest → Ascend n starts (n + length bs)
+each_ascend k [] [] ts n bs rest e h = omega arith
+each_ascend k [] (start ∷ starts) ts n bs rest e h = absurd e
+each_ascend k (a ∷ items) [] ts n bs rest e h = absurd e
+each_ascend k (a ∷ items) (start ∷ starts) ts n bs rest e h =
+    let (from, (m, cs, begun, after, to)) = others_after e.used e.others start n bs rest e.starts (subst (λ (x : List (ℕ × Lexeme)). Begins n bs x rest) e.whole h) in
+    (from, ascend_from start m starts (n + length bs) after (subst (λ (x : ℕ). Ascend m starts x) to (each_ascend k items starts e.others m cs rest e.further begun)))
+
+pub text_ascends : (k : ItemType) (bs : List ℕ) (items : List Item) (starts : List ℕ) → TextSpellsFrom k bs items starts → Ascend 0 starts (length bs)
+text_ascends k bs items starts (ts, (rest, begun, gap), each) = let all : Ascend 0 starts (0 + length bs) = each_ascend k items starts ts 0 bs rest each begun in subst (λ (n : ℕ). Ascend 0 starts n) (omega arith) all
+
+pub prefix_ascends : (k : ItemType) (bs : List ℕ) (items : List Item) (starts : List ℕ) → PrefixSpellsFrom k bs items starts → Ascend 0 starts (length bs)
+prefix_ascends k bs items starts (ts, rest, begun, each) = let all : Ascend 0 starts (0 + length bs) = each_ascend k items starts ts 0 bs rest each begun in subst (λ (n : ℕ). Ascend 0 starts n) (omega arith) all
+
+-- the items are spelled, wherever they begin
+each_spells : (k : ItemType) (items : List Item) (starts : List ℕ) (ts : List (ℕ × Lexeme)) → SpellEachFrom k items starts ts → list_spells k items (kinds ts)
+each_spells k [] [] ts e = ap kinds e
+each_spells k [] (start ∷ starts) ts e = absurd e
+each_spells k (a ∷ items) [] ts e = absurd e
+each_spells k (a ∷ items) (start ∷ starts) ts e =
+    record { prefix = kinds e.used; suffix = kinds e.others; whole = ap kinds e.whole ∙ kinds-append e.used e.others; first = e.spelled; second = each_spells k items starts e.others e.further }
+
+pub text_spells : (k : ItemType) (bs : List ℕ) (items : List Item) (starts : List ℕ) → TextSpellsFrom k bs items starts → TextSpells k bs items
+text_spells k bs items starts (ts, is, each) = (ts, is, each_spells k items starts ts each)
+
+pub prefix_spells : (k : ItemType) (bs : List ℕ) (items : List Item) (starts : List ℕ) → PrefixSpellsFrom k bs items starts → PrefixSpells k bs items
+prefix_spells k bs items starts (ts, rest, begun, each) = (ts, rest, begun, each_spells k items starts ts each)
+
+-- ---- offsets that a memory has, if it is asked
+
+pub kept_there : (a m : Memory) (P : List ℕ → Type 0) (offsets : List ℕ) → HasStarts a m offsets → P offsets → IfSome (starts_of m) P
+kept_there a m P offsets h p = under (starts_of a) h
+  where
+    under : (o : Option (List ℕ)) → starts_of m ≡ option_map (λ before. offsets) o → IfSome (starts_of m) P
+    under None e = subst (λ (x : Option (List ℕ)). IfSome x P) (sym e) tt
+    under (Some before) e = subst (λ (x : Option (List ℕ)). IfSome x P) (sym e) p
+
+pub kept_now : (a m : Memory) (P : List ℕ → Type 0) (offsets : List ℕ) → HasStarts a m offsets → IfSome (starts_of m) P → is_some (starts_of m) ≡ true → P offsets
+kept_now a m P offsets h p asked = under (starts_of a) h
+  where
+    under : (o : Option (List ℕ)) → starts_of m ≡ option_map (λ before. offsets) o → P offsets
+    under None e = let no : false ≡ true = sym (ap is_some e) ∙ asked in absurd cc
+    under (Some before) e = subst (λ (x : Option (List ℕ)). IfSome x P) e p
+
+pub takes_with : {S : Type 0} (holds : S → S → List Item → Type 0) (spells : List Item → List ℕ → Type 0) (P Q : List ℕ → Type 0) (old new : S) → ((offsets : List ℕ) → P offsets → Q offsets) → TakesFrom holds spells P old new → TakesFrom holds spells Q old new
+takes_with holds spells P Q old new step t = record { items = t.items; starts = t.starts; spelled = t.spelled; taken = t.taken; has = step t.starts t.has }
+
+-- ---- the loop over the offsets of a part
+
+pub ascend_within : (from : ℕ) (offsets : List ℕ) (to : ℕ) → Ascend from offsets to → from ≤ to
+ascend_within from [] to a = a
+ascend_within from (offset ∷ offsets) to a = let first = a.0 in let last = ascend_within offset offsets to a.1 in omega arith
+
+pub starts_more : (done part offsets : List ℕ) (offset : ℕ) (starts : List Start) (start : Start) → AreStarts done part offsets starts → IsStart done part offset start → AreStarts done part (offsets ++ offset ∷ []) (starts ++ start ∷ [])
+starts_more done part [] offset [] start a is = (is, refl)
+starts_more done part [] offset (s ∷ starts) start a is = absurd (cc a)
+starts_more done part (o ∷ offsets) offset [] start a is = absurd a
+starts_more done part (o ∷ offsets) offset (s ∷ starts) start a is = (a.0, starts_more done part offsets offset starts start a.1 is)
+
+pub lines_more : (done part : List ℕ) (from to : ℕ) → from ≤ to → newlines (done ++ take to part) ≡ newlines (done ++ take from part) + newlines (take (to - from) (drop from part))
+lines_more done part from to le =
+    let there : take to part ≡ take from part ++ take (to - from) (drop from part) = ap (λ (n : ℕ). take n part) (omega arith) ∙ take-add from (to - from) part in
+    ap (λ (x : List ℕ). newlines (done ++ x)) there ∙ ap newlines (sym (append_assoc done (take from part) (take (to - from) (drop from part)))) ∙ newlines-append (done ++ take from part) (take (to - from) (drop from part))
+
+-- the offsets that are left ascend from the last one on, and the others were told
+pub record Told (before : Before) (part offsets : List ℕ) (index passed lines : ℕ) (starts : List Start) : Type 0 where
+  pub rest : Ascend passed (drop index offsets) (length part)
+  pub are : (done : List ℕ) → Counts before done → length (done ++ part) + 1 < 2 ^ 64 → (lines ≡ newlines (done ++ take passed part)) × AreStarts done part (take index offsets) starts
+
+pub none_told : (before : Before) (part offsets : List ℕ) → Ascend 0 offsets (length part) → Told before part offsets 0 0 before.lines []
+none_told before part offsets a = record { rest = a; are = λ done counts small. (counts.1 ∙ ap newlines (sym (append-nil done)), refl) }
+
+module _ (before : Before) (part offsets : List ℕ) (index passed lines : ℕ) (starts : List Start) (told : Told before part offsets index passed lines starts) (less : index < length offsets) where
+  abbrev offset : ℕ
+  offset = get_or offsets index 0
+
+  next_ascends : Ascend passed (offset ∷ drop (index + 1) offsets) (length part)
+  next_ascends = subst (λ (x : List ℕ). Ascend passed x (length part)) (drop_more offsets index 0 less) told.rest
+
+  pub from_there : passed ≤ offset
+  from_there = next_ascends.0
+
+  pub to_end : offset ≤ length part
+  to_end = ascend_within offset (drop (index + 1) offsets) (length part) next_ascends.1
+
+  pub one_told : (more : ℕ) (start : Start) (new : List Start) → more ≡ min (lines + newlines (take (offset - passed) (drop passed part))) (2 ^ 64 - 1) → new ≡ starts ++ start ∷ [] → start.offset ≡ min (before.bytes + offset) (2 ^ 64 - 1) → start.line ≡ min (more + 1) (2 ^ 64 - 1)
+      → Told before part offsets (index + 1) offset more new
+  one_told more start new lines_are new_is offset_is line_is = record {
+    rest = next_ascends.1;
+    are = λ done counts small. (
+        let t = told.are done counts small in
+        let long = length-append done part in
+        let step = lines_more done part passed offset from_there in
+        let few = count_by-le-length (λ b. b == 10) (done ++ take offset part) in
+        let short = length-append done (take offset part) in
+        let cut = length-take offset part in
+        let bytes = counts.0 in
+        let here = t.0 in
+        let end = to_end in
+        let more_is : more ≡ newlines (done ++ take offset part) = omega (arith, lines_are, here, step, few, short, cut, end, long, small) in (
+          more_is,
+          rw (new_is, take_more offsets index 0 less) (starts_more done part (take index offsets) offset starts start t.1 (omega (arith, offset_is, bytes, end, long, small), omega (arith, line_is, more_is, few, short, cut, end, long, small))),
+        ));
+  }
+
+pub all_told : (before : Before) (part offsets : List ℕ) (index passed lines : ℕ) (starts : List Start) → Told before part offsets index passed lines starts → length offsets ≤ index → (done : List ℕ) → Counts before done → length (done ++ part) + 1 < 2 ^ 64 → AreStarts done part offsets starts
+all_told before part offsets index passed lines starts told end done counts small = subst (λ (x : List ℕ). AreStarts done part x starts) (take_all index offsets end) (told.are done counts small).1
+
+-- ---- what a parse of a part says of the offsets that the memory has
+
+pub text_within : {S : Type 0} (holds : S → S → List Item → Type 0) (k : ItemType) (text : List ℕ) (a m : Memory) (len : ℕ) (old new : S) → length text ≡ len → TakesFrom holds (TextSpellsFrom k text) (HasStarts a m) old new → IfSome (starts_of m) (λ offsets. Ascend 0 offsets len)
+text_within holds k text a m len old new long t = subst (λ (n : ℕ). IfSome (starts_of m) (λ offsets. Ascend 0 offsets n)) long (kept_there a m (λ offsets. Ascend 0 offsets (length text)) t.starts t.has (text_ascends k text t.items t.starts t.spelled))
+
+pub prefix_within : {S : Type 0} (holds : S → S → List Item → Type 0) (k : ItemType) (text : List ℕ) (a m : Memory) (len : ℕ) (old new : S) → length text ≡ len → TakesFrom holds (PrefixSpellsFrom k text) (HasStarts a m) old new → IfSome (starts_of m) (λ offsets. Ascend 0 offsets len)
+prefix_within holds k text a m len old new long t = subst (λ (n : ℕ). IfSome (starts_of m) (λ offsets. Ascend 0 offsets n)) long (kept_there a m (λ offsets. Ascend 0 offsets (length text)) t.starts t.has (prefix_ascends k text t.items t.starts t.spelled))
+
+pub kept_starts : (known : Option (List ℕ)) (P : List ℕ → Type 0) (offsets : List ℕ) → IfSome known (λ starts. offsets ≡ starts) → P offsets → IfSome known P
+kept_starts None P offsets e p = tt
+kept_starts (Some starts) P offsets e p = subst P e p
