@@ -64,7 +64,7 @@ fn recover<T: Generated>(
     }
 }
 
-// Reading by chunks gives the items and errors of the segments, and of a valid text the items of the whole.
+// Reading by chunks of any size gives the same items and errors, and of a valid text the items of the whole.
 fn recovers<T: Generated>(
     alloc: Global,
     generator: &mut Generator,
@@ -74,12 +74,12 @@ fn recovers<T: Generated>(
     let min_chunk = generator.below(300);
     let chunks = recover::<T>(alloc, generator, ItemReader::new(alloc, min_chunk), text)?;
     let min_chunk = generator.below(300);
-    let reader = ItemReader::by_segments(alloc, min_chunk);
-    let segments = recover::<T>(alloc, generator, reader, text)?;
+    let reader = ItemReader::with_starts(alloc, min_chunk).eager(true);
+    let others = recover::<T>(alloc, generator, reader, text)?;
     law(
         alloc,
-        chunks == segments,
-        "chunks have the items and errors of their segments",
+        chunks == others,
+        "chunks of another size have the same items and errors",
         text,
     )?;
     law(

@@ -5,3 +5,4 @@ mod Counting
 mod Seeing
 mod Outcomes
 mod ObjectLines
+mod ItemLines

@@ -1,7 +1,7 @@
 -- Part after part: the text read of a stream, the output, and the reports.
 use Rattle.std.proofs.Common.{◌≡◌, ◌⊎◌, inl, inr, ℕ, Bool, true, false, ◌||◌, List, [], ◌∷◌, ◌++◌, is_some, Option, Some, None, refl, sym, ap, ◌∙◌, subst, append_assoc, append-nil}
 use Rattle.std.specs.Prelude.{Result, Ok, Err, IfOk, IfErr}
-use Rattle.std.specs.List.{cons_option, AllByRecursion}
+use Rattle.std.specs.List.{cons_option}
 use Rattle.std.specs.declared.io.Error.{Error}
 use Rattle.std.proofs.KnownBytes.{Appends-nil, Appends-trans, Appends-kept, Keeps-trans}
 use Rattle.std.proofs.lemmas.Bool.{false_from_ne_true, both_ways}
@@ -11,13 +11,12 @@ use Rattle.std.proofs.lemmas.List.Elements.{filter_map-append}
 use Rattle.std.proofs.lemmas.List.Folds.{list_any-append}
 use Rattle.souper_graph.specs.Values.{Item}
 use Rattle.souper_graph.specs.Syntax.Spelling.{ItemType, TextSpells, SpellsNone}
-use Rattle.souper_graph.proofs.Judging.Closed.{All-both}
 use Rattle.souper_ir.specs.declared.parse.error.ParseError.{ParseError}
 use Rattle.souper_ir.specs.declared.parse.error.ParseErrorKind.TheVariants.{Io, Parse}
 use Rattle.souper_ir.specs.Errors.{kind_of}
 use Rattle.souper_ir.specs.Sinks.{PrefixSpells}
 use Rattle.souper_stream.specs.declared.reader.ItemReader.{ItemReader}
-use Rattle.souper_stream.specs.Segments.{Line, concat, all_lines, HasNoCut, AreParts, PartsSpell}
+use Rattle.souper_stream.specs.Segments.{Line, concat, all_lines, AreParts, PartsSpell}
 use Rattle.souper_stream.specs.Parts.{HasParts, HasAll, asks_for_starts}
 use Rattle.souper_stream.proofs.SegmentLaws.{spells_by_parts, none_with}
 use Rattle.souper_stream.proofs.Reached.{prefix_of, parts_begin}
@@ -29,7 +28,7 @@ use Rattle.souper_records.specs.declared.stop.Stop.TheVariants.{Input, Output, M
 use Rattle.souper_records.specs.Stops.{IfInput, UnlessOutput}
 use Rattle.souper_records.specs.Runs.{output_name, EndsWithFault, IsPartsEnd, IsRun}
 use Rattle.souper_records.specs.Reports.{IsMemoryLine, IsFaultLine, Reported, ReportedFault, ReportedFaultOf}
-use Rattle.souper_records.specs.Outcomes.{Outcome, IsOutcome, IsOutcomeAfter, AreOutcomes, parts_of, items_of, refusals_of, any_refused, AreErrorLines, AreReported, AreReportedThen, WritesPart, WritesParts, ReadsParts, EndsRefused, IsBegun, StopsAfter, WroteParts}
+use Rattle.souper_records.specs.Outcomes.{Outcome, IsOutcome, IsOutcomeAfter, AreOutcomes, IsStarted, AreStarted, parts_of, items_of, refusals_of, any_refused, AreErrorLines, AreReported, AreReportedThen, WritesPart, WritesParts, ReadsParts, EndsRefused, IsBegun, StopsAfter, WroteParts}
 
 -- ---- lists of outcomes
 
@@ -39,7 +38,7 @@ outcomes_more k file start before (p ∷ os) o h is =
     (h.0, outcomes_more k file start (before ++ p.part ∷ []) os o h.1 (subst (λ (x : List (List Line)). IsOutcomeAfter k file start (concat (all_lines x)) o) (sym (append_assoc before (p.part ∷ []) (parts_of os))) is))
 
 -- where the items of one more begin
-started_more : (k : ItemType) (before : List (List Line)) (os : List Outcome) (o : Outcome) → AreStarted k before os → IsStarted k (concat (all_lines (before ++ parts_of os))) o → AreStarted k before (os ++ o ∷ [])
+pub started_more : (k : ItemType) (before : List (List Line)) (os : List Outcome) (o : Outcome) → AreStarted k before os → IsStarted k (concat (all_lines (before ++ parts_of os))) o → AreStarted k before (os ++ o ∷ [])
 started_more k before [] o h is = (subst (λ (x : List (List Line)). IsStarted k (concat (all_lines x)) o) (append-nil before) is, tt)
 started_more k before (p ∷ os) o h is =
     (h.0, started_more k (before ++ p.part ∷ []) os o h.1 (subst (λ (x : List (List Line)). IsStarted k (concat (all_lines x)) o) (sym (append_assoc before (p.part ∷ []) (parts_of os))) is))

@@ -3,7 +3,6 @@ use Rattle.std.specs.Prelude.{Bool, ℕ, List, [], ◌++◌, flat_map, map, code
 use Rattle.serde_json.specs.Data.{Data, null, number, unsigned, string, object, member, no_members}
 use Rattle.serde_json.specs.Written.{compact_text}
 use Rattle.std.specs.List.{zip}
-use Rattle.souper_graph.specs.Values.{Item}
 use Rattle.souper_graph.specs.Syntax.Spelling.{ItemType}
 use Rattle.souper_stream.specs.declared.starts.Start.{Start}
 use Rattle.souper_ir.specs.declared.parse.error.ParseError.{ParseError}

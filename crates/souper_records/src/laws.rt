@@ -3,11 +3,12 @@ ghost use Rattle.std.specs.Prelude.{ℕ, List};
 ghost use Rattle.serde_json.specs.Written.{compact_text};
 ghost use Rattle.souper_graph.specs.Syntax.Tokens.{IsOneLine};
 ghost use Rattle.souper_ir.specs.declared.parse.error.ParseError.{ParseError};
+ghost use Rattle.souper_stream.specs.declared.starts.Start.{Start};
 ghost use Rattle.souper_records.specs.Objects.{item_object, refusal_object};
 
 /// The text of an object has no newline, so the output has one line for each object.
 #[tactic(auto, using(crate::proofs::ObjectLines::item_line, crate::proofs::ObjectLines::refusal_line))]
 pub fn law_of_objects()
-    ensures items { (name : List ℕ) (line : ℕ) (text : List ℕ) → IsOneLine (compact_text (item_object name line text)) }
+    ensures items { (name : List ℕ) (start : Start) (text : List ℕ) → IsOneLine (compact_text (item_object name start text)) }
     ensures refusals { (name : List ℕ) (e : ParseError) → IsOneLine (compact_text (refusal_object name e)) }
 {}

@@ -6,7 +6,7 @@ ghost use Rattle.souper_ir.specs.Errors.{kind_of};
 ghost use Rattle.souper_format.specs.Streams.{stream};
 ghost use Rattle.souper_format.specs.Watching.{has_failed};
 ghost use Rattle.souper_records.specs.Stops.{IfInput};
-ghost use Rattle.souper_records.specs.Objects.{item_object, refusal_object, refusal_line, object_line, text_lines, objects_of, optional_number, optional_string, WritesObjects};
+ghost use Rattle.souper_records.specs.Objects.{item_object, refusal_object, refusal_line, object_line, text_line, text_lines, objects_of, optional_number, optional_string, WritesObjects};
 ghost use Rattle.souper_records.specs.Outcomes.{WritesParts, StopsAfter};
 ghost use Rattle.souper_records.specs.Uniques.{text_by};
 ghost use Rattle.serde_json.specs.View.{view};
@@ -86,14 +86,27 @@ fn append_line(alloc: Global, object: &Value, out: &mut String) -> Result<(), Al
     out.push_str("\n")
 }
 
+// Appends the line of an item with this text, which begins at `start`.
+fn append_item(
+    alloc: Global,
+    name: &str,
+    start: Start,
+    text: &str,
+    out: &mut String,
+) -> Result<(), AllocError>
+    ensures { OnOk result (string_bytes out.new ≡ string_bytes out.old ++ text_line name.now (start, text.now)) }
+{
+    let object = item_object(alloc, name, start, text)?;
+    append_line(alloc, &object, out)
+}
+
 // The lines of a part's items, which have these texts.
 fn item_lines(alloc: Global, place: Place<'_>, texts: &[String]) -> Result<String, AllocError>
     ensures { IfOk result (λ out. string_bytes out ≡ text_lines place.entry.name.now place.entry.starts.now (map string_bytes texts.now)) }
 {
     let mut out = String::new(alloc);
     for (start, text) in place.starts.iter().zip(texts) {
-        let object = item_object(alloc, place.name, *start, text.as_str())?;
-        append_line(alloc, &object, &mut out)?;
+        append_item(alloc, place.name, *start, text.as_str(), &mut out)?;
     }
     Ok(out)
 }

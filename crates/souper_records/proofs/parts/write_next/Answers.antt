@@ -1,8 +1,9 @@
-use Rattle.std.proofs.Common.{rules, ◌≡◌, ℕ, [], None, Some, refl, sym, subst, append-nil}
+use Rattle.std.proofs.Common.{rules, ◌≡◌, [], None, Some, refl, sym, subst, append-nil}
 use Rattle.std.specs.String.{string_bytes}
 use Rattle.std.proofs.KnownBytes.{Keeps-refl}
 use Rattle.souper_ir.specs.declared.parse.error.ParseErrorKind.TheVariants.{Parse}
 use Rattle.souper_ir.specs.Errors.{kind_of}
+use Rattle.souper_stream.specs.Parts.{starts_of_part}
 use Rattle.souper_stream.proofs.Reached.{refusal_begun}
 use Rattle.souper_records.specs.Outcomes.{Outcome}
 use Rattle.souper_records.proofs.parts.write_next.Goals as goal
@@ -10,15 +11,15 @@ use Rattle.souper_records.proofs.parts.write_next.Goals as goal
 pub returns-in_ok-write_part-in-Ok-true-clause-part : goal.returns-in_ok-write_part-in-Ok-true-clause-part
 returns-in_ok-write_part-in-Ok-true-clause-part g c = λ start ps had.
     let t = (rw c.in-Ok-true.is at c.read_part.ensures.read) c.in-Ok-true.field-0-test start ps had in
-    let o : Outcome = record { part = t.part; starts = c.starts-starts.result.now; items = t.items; refusal = None } in
+    let o : Outcome = record { part = t.part; starts = starts_of_part c.read_part.new.self; items = t.items; refusal = None } in
     record {
       outcome = o;
       had = t.goes_on;
       is = t.spelled;
-      begin = rw (← c.starts-starts.ensures) at t.begin;
+      begin = t.begin;
       any = refl;
       after = λ e. absurd cc;
-      are_written = λ first before os h. c.in_ok-write_part-in-Ok-true.ensures.written first before os c.args.sink.now o h c.requires.none (t.taken c.args.sink.now c.requires.none) refl refl;
+      are_written = λ first before os h. c.in_ok-write_part-in-Ok-true.ensures.written first before os c.args.sink.now o h c.requires.none (t.taken c.args.sink.now c.requires.none) (sym c.starts-starts.ensures) refl;
       reported = Keeps-refl _;
     }
 
@@ -42,12 +43,12 @@ returns-in_ok-write_part-in-Err-clause-part g c = λ start ps had.
     let now = g.R.Read.remaining c.read_part.new.reader in
     let kind : kind_of c.in-Err.error ≡ Parse = search rules in
     let t = c.in-Err.ensures.refused kind start ps had in
-    let o : Outcome = record { part = t.part; starts = c.starts-starts-in-Err.result.now; items = t.items; refusal = Some c.in-Err.error } in
+    let o : Outcome = record { part = t.part; starts = starts_of_part c.read_part.new.self; items = t.items; refusal = Some c.in-Err.error } in
     record {
       outcome = o;
       had = t.goes_on;
       is = record { kind = kind; segment = t.segment; none = t.none; begun = t.begun; now = now; read = t.read; consumed = t.consumed; placed = t.placed; located = t.located };
-      begin = rw (← c.starts-starts-in-Err.ensures) at t.begin;
+      begin = t.begin;
       any = refl;
       after = λ e. record {
         read = t.read;
@@ -57,6 +58,6 @@ returns-in_ok-write_part-in-Err-clause-part g c = λ start ps had.
         never = t.never;
         begun = refusal_begun k _ start now ps g.S.Sink.holds c.args.sink.now c.read_part.new.sink c.read_part.new.self c.in-Err.error t;
       };
-      are_written = λ first before os h. c.in_ok-write_part-in-Err.ensures.written first before os c.args.sink.now o h c.requires.none (t.taken c.args.sink.now c.requires.none) refl refl;
+      are_written = λ first before os h. c.in_ok-write_part-in-Err.ensures.written first before os c.args.sink.now o h c.requires.none (t.taken c.args.sink.now c.requires.none) (sym c.starts-starts-in-Err.ensures) refl;
       reported = λ works. (let line = string_bytes c.in_ok-shown-in-Err.shown in (line, (line, [], sym (append-nil line), c.in_ok-shown-in-Err.ensures, refl), c.report_line.ensures.given works));
     }
