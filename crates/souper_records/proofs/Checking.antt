@@ -1,42 +1,33 @@
--- Where two texts differ. A text has one list of items, so it is canonical or not.
-use Rattle.std.proofs.Common.{◌≡◌, inl, inr, ℕ, ◌+◌, List, [], ◌∷◌, ◌++◌, length, take, drop, Option, Some, refl, sym, ap, ◌∙◌, subst, take-append-drop}
-use Rattle.std.proofs.lemmas.List.{append_cancel_left}
+-- Canonical texts. A text has one list of items, so it is canonical or not.
+use Rattle.std.proofs.Common.{◌≡◌, inl, inr, ℕ, false, List, [], Option, Some, refl, sym, ap, ◌∙◌, subst}
 use Rattle.std.specs.Prelude.{None, IsNone, IfNone, IfSome}
-use Rattle.std.specs.Io.{appended_bytes}
-use Rattle.std.specs.Io.KnownBytes.{Consumes, IsAtEnd}
-use Rattle.std.proofs.KnownBytes.{Consumes-whole}
+use Rattle.std.specs.declared.io.Error.{Error}
+use Rattle.std.proofs.KnownBytes.{Appends-nil, Appends-trans, Appends-kept}
 use Rattle.souper_graph.specs.Values.{Item}
 use Rattle.souper_graph.specs.Syntax.Spelling.{ItemType, TextSpells}
-use Rattle.souper_ir.proofs.Items.Lists.{text_alone}
-use Rattle.souper_ir.specs.Places.{newlines}
 use Rattle.souper_graph.specs.Text.{texts_of}
-use Rattle.souper_records.specs.Canonical.{IsCanonical, BeginApart, DifferOnLine, IsOtherLine, ReportedOtherLine, IsWhole, IsCheckRun}
-use Rattle.souper_records.specs.Reports.{ReportedError}
-use Rattle.souper_records.proofs.Outcomes.{some_fault}
-use Rattle.souper_format.specs.Streams.{Stream}
-use Rattle.souper_ir.specs.Answers.{IsStrError}
 use Rattle.souper_ir.specs.declared.parse.error.ParseError.{ParseError}
-
--- ---- where texts differ
-
-pub differ_at : (text other : List ℕ) (i line : ℕ) → take i other ≡ take i text → line ≡ newlines (take i text) + 1 → BeginApart (drop i text) (drop i other) → DifferOnLine text other line
-differ_at text other i line same is h = (take i text, drop i text, drop i other, sym (take-append-drop i text), sym (take-append-drop i other) ∙ ap (λ (x : List ℕ). x ++ drop i other) same, h, is)
-
--- the same text does not differ from itself
-none_apart : (x : List ℕ) → BeginApart x x → ⊥
-none_apart [] h = h
-none_apart (a ∷ x) h = h refl
-
-differ_not : (text other : List ℕ) (line : ℕ) → DifferOnLine text other line → ¬ (text ≡ other)
-differ_not text other line (same, rest, more, first, second, h, is) e =
-    none_apart more (subst (λ x. BeginApart x more) (append_cancel_left same rest more (sym first ∙ e ∙ second)) h)
+use Rattle.souper_ir.specs.declared.parse.error.ParseErrorKind.TheVariants.{Io, Parse}
+use Rattle.souper_ir.specs.Errors.{kind_of}
+use Rattle.souper_ir.proofs.Items.Lists.{text_alone}
+use Rattle.souper_stream.specs.Segments.{concat, all_lines}
+use Rattle.souper_format.specs.declared.watched.Watched.{Watched}
+use Rattle.souper_format.specs.Streams.{Stream, stream, IsGiven, IsGivenNothing}
+use Rattle.souper_records.specs.declared.comparison.Comparison.{Comparison}
+use Rattle.souper_records.specs.Comparisons.{DifferOnLine, DifferFrom, IsCompared}
+use Rattle.souper_records.specs.Canonical.{IsCanonical, IsOtherLine, other_line, ReportedOtherLine, IsWhole, IsCheckRun}
+use Rattle.souper_records.specs.Outcomes.{Outcome, AreOutcomes, parts_of, items_of, refusals_of, any_refused, AreReported, WritesParts}
+use Rattle.souper_records.specs.Reports.{IsMemoryLine, IsFaultLine, Reported, ReportedFaultOf, ReportedError}
+use Rattle.souper_records.proofs.Comparing.{apart_not}
+use Rattle.souper_records.proofs.Outcomes.{none_refused, some_fault}
 
 -- ---- canonical texts
 
 -- a text that differs is not canonical
 other_not : (k : ItemType) (source : List ℕ) (line : ℕ) → IsOtherLine k source line → IsCanonical k source → ⊥
 other_not k source line (items, spelled, differs) (others, spells, canonical) =
-    differ_not source (texts_of items) line differs (canonical ∙ ap texts_of (text_alone k source others items spells spelled))
+    let (same, rest, more, first, second, apart, is) = differs in
+    apart_not source (texts_of items) same rest more first second apart (canonical ∙ ap texts_of (text_alone k source others items spells spelled))
 
 -- whether it is, and on which line it first differs, from its canonical texts
 module _ (k : ItemType) (source : List ℕ) (items : List Item) (spelled : TextSpells k source items) where
@@ -48,22 +39,63 @@ module _ (k : ItemType) (source : List ℕ) (items : List Item) (spelled : TextS
   other_if None differs = tt
   other_if (Some line) differs = (items, spelled, differs)
 
-pub whole_from : (before after : Option (List ℕ)) (old new text : List ℕ) → old ≡ [] → Consumes before after (appended_bytes old new) → IsAtEnd after → text ≡ new → IsWhole before after text
-whole_from before after old new text none consumed ended is =
-    let read : Consumes before after text = subst (Consumes before after) (ap (λ (x : List ℕ). drop (length x) new) none ∙ sym is) consumed in
-    (read, Consumes-whole before after text (λ all. all ≡ text) read ended refl)
+-- ---- streams
 
--- a text that differs
-pub check_other : (k : ItemType) (name : List ℕ) (before after : Option (List ℕ)) (read : List ℕ) (err : Stream) (line status : ℕ)
-    → IsWhole before after read → IsOtherLine k read line → ReportedOtherLine name line err status → IsCheckRun k name before after err status
-check_other k name before after read err line status whole other (inl (one, says)) =
-    rw one (read, whole, other_not k read line other, inr (line, other, says))
-check_other k name before after read err line status whole other (inr (two, memory)) = rw two (inr memory)
+-- the whole stream was read, and compared with the canonical texts of the items that it spells
+pub record IsChecked (k : ItemType) (before after : Option (List ℕ)) (c : Comparison) : Type 0 where
+  pub read : List ℕ
+  pub whole : IsWhole before after read
+  pub items : List Item
+  pub spelled : TextSpells k read items
+  pub compared : IsCompared c read (texts_of items)
 
--- a refused text is not canonical
-pub check_refused : (k : ItemType) (name : List ℕ) (before after : Option (List ℕ)) (read : List ℕ) (err : Stream) (e : ParseError) (status : ℕ)
-    → IsWhole before after read → IsStrError k (Some name) read e → ReportedError name err status e → IsCheckRun k name before after err status
-check_refused k name before after read err e status whole refused (inl (one, kind, line)) =
-    rw one (read, whole, (λ h. (rw kind at refused).3 h.0 h.1), inl (e, kind, refused, line))
-check_refused k name before after read err e status whole refused (inr (inl (two, kind, (fault, is, line)))) = rw two (inl (some_fault fault name err line))
-check_refused k name before after read err e status whole refused (inr (inr (two, line))) = rw two (inr line)
+abbrev pub compared_parts : Comparison → List Outcome → Type 0
+compared_parts c os = IsCompared c (concat (all_lines (parts_of os))) (texts_of (items_of os))
+
+-- nothing was reported if no part was refused
+pub none_reported : (k : ItemType) (name : List ℕ) (before : Option (List ℕ)) (err : Stream) (os : List Outcome) → AreOutcomes k (Some name) before [] os → any_refused os ≡ false → AreReported err (refusals_of os) → IsGivenNothing err
+none_reported k name before err os are none reported = subst (AreReported err) (none_refused k (Some name) before [] os are none).0 reported
+
+pub checked_parts : (k : ItemType) (name : List ℕ) (before after : Option (List ℕ)) (c : Comparison) (err : Stream) → WritesParts k name false before after (compared_parts c) err false → IsChecked k before after c × IsGivenNothing err
+checked_parts k name before after c err p =
+    let (all, parts) = p.ended (inr refl) in
+    let os = p.outcomes in (
+      record {
+        read = p.reads.read;
+        whole = (p.reads.consumed, all);
+        items = items_of os;
+        spelled = p.spelled refl;
+        compared = subst (λ (x : List ℕ). IsCompared c x (texts_of (items_of os))) (sym parts.whole) p.are_written;
+      },
+      none_reported k name before err os p.reads.are (sym p.any) p.reported,
+    )
+
+-- The reports come after none.
+module _ {E : Type 0} (err_of : E → Option (List ℕ)) (x y z : Watched E) (quiet : IsGivenNothing (stream err_of x y)) where
+  given_after : (bytes : List ℕ) → IsGiven (stream err_of y z) bytes → IsGiven (stream err_of x z) bytes
+  given_after bytes given = Appends-trans _ _ _ [] bytes (Appends-kept _ _ _ [] (Appends-nil _) quiet) given
+
+  reported_after : (P : List ℕ → Type 0) → Reported (stream err_of y z) P → Reported (stream err_of x z) P
+  reported_after P r works = let (line, is, given) = r works in (line, is, given_after line given)
+
+  module _ (k : ItemType) (name : List ℕ) (before after : Option (List ℕ)) where
+    abbrev run : ℕ → Type 0
+    run status = IsCheckRun k name before after (stream err_of x z) status
+
+    -- a text that differs
+    pub check_other : (c : Comparison) (line status : ℕ) → (h : IsChecked k before after c) → DifferFrom h.read (texts_of h.items) line → ReportedOtherLine name line (stream err_of y z) status → run status
+    check_other c line status h differs (inl (one, says)) =
+        rw one (inl (h.read, h.whole, (λ canonical. differs.0 (canonical.2 ∙ ap texts_of (text_alone k h.read canonical.0 h.items canonical.1 h.spelled))), (line, (λ small. (h.items, h.spelled, differs.1 small)), λ works. given_after (other_line name line) (says works))))
+    check_other c line status h differs (inr (two, memory)) = rw two (inr (reported_after IsMemoryLine memory))
+
+    -- reading stopped
+    pub check_memory : Reported (stream err_of y z) IsMemoryLine → run 2
+    check_memory r = inr (reported_after IsMemoryLine r)
+
+    pub check_fault : (fault : Error) → ReportedFaultOf fault name (stream err_of y z) → run 2
+    check_fault fault r = inl (reported_after (IsFaultLine name) (some_fault fault name (stream err_of y z) r))
+
+    pub check_stopped : (e : ParseError) (status : ℕ) → kind_of e ≡ Io → ReportedError name (stream err_of y z) status e → run status
+    check_stopped e status io (inl (one, kind, line)) = absurd (let bad : Io ≡ Parse = sym io ∙ kind in cc)
+    check_stopped e status io (inr (inl (two, kind, (fault, is, line)))) = rw two (check_fault fault line)
+    check_stopped e status io (inr (inr (two, line))) = rw two (check_memory line)

@@ -1,3 +1,4 @@
+mod Comparing
 mod Checking
 mod Firsts
 mod Tallies

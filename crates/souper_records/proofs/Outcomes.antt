@@ -117,7 +117,7 @@ reached_more {k} {file} {start} {after = after} {q = q} bytes_of x y z stays sam
 -- ---- refusals
 
 -- no part was refused
-none_refused : (k : ItemType) (file start : Option (List ℕ)) (before : List (List Line)) (os : List Outcome) → AreOutcomes k file start before os → any_refused os ≡ false → (refusals_of os ≡ []) × PartsSpell k (parts_of os) (items_of os)
+pub none_refused : (k : ItemType) (file start : Option (List ℕ)) (before : List (List Line)) (os : List Outcome) → AreOutcomes k file start before os → any_refused os ≡ false → (refusals_of os ≡ []) × PartsSpell k (parts_of os) (items_of os)
 none_refused k file start before [] h none = (refl, refl)
 none_refused k file start before (o ∷ os) h none = under o.refusal h.0 none (λ rest. none_refused k file start (before ++ o.part ∷ []) os h.1 rest)
   where
@@ -174,7 +174,7 @@ module _ {k : ItemType} {name : List ℕ} {start mid : Option (List ℕ)} {asked
   stopped_after known failed stop unless =
       let (read, rest, consumed, whole, begun) = parts_begin k start mid (parts_of r.outcomes) p r.had in
       let reads : ReadsParts k name start mid r.outcomes = record { read = read; rest = rest; consumed = consumed; whole = whole; are = r.are; begun = λ none. begun (items_of r.outcomes) (none_spelled none) } in
-      (r.outcomes, (mid, reads, λ stops. inl (sym r.any_is ∙ quiet stops)), r.reported, unless)
+      (r.outcomes, (mid, reads, λ stops. inl (sym r.any_is ∙ quiet stops)), (λ stops. sym r.any_is ∙ quiet stops), r.reported, unless)
 
 -- the last part was refused, and reading ends with it
 pub reached_refusal : {k : ItemType} {name : List ℕ} {start mid after : Option (List ℕ)} {asked : Bool} {wrote both : List Outcome → Type 0} {more : Outcome → Type 0} {any : Bool} {p q : ItemReader} {E : Type 0} (bytes_of : E → Option (List ℕ)) (x y z : Watched E) (stays : has_failed y ≡ true → has_failed z ≡ true)
@@ -229,7 +229,7 @@ parts_mapped f kept w = record {
 }
 
 pub stops_mapped : (k : ItemType) (name : List ℕ) (recover : Bool) (before : Option (List ℕ)) (one other : List Outcome → Type 0) (failed : Bool) (err : Stream) (stop : Stop) → ((os : List Outcome) → one os → other os) → StopsAfter k name recover before one failed err stop → StopsAfter k name recover before other failed err stop
-stops_mapped k name recover before one other failed err stop f (os, begun, reported, written) = (os, begun, reported, known_mapped stop failed (one os) (other os) (f os) written)
+stops_mapped k name recover before one other failed err stop f (os, begun, none, reported, written) = (os, begun, none, reported, known_mapped stop failed (one os) (other os) (f os) written)
 
 -- ---- runs
 
@@ -265,7 +265,7 @@ module _ {W E : Type 0} (out_of : W → Option (List ℕ)) (err_of : E → Optio
   run_ends (Ok true) status p stops input (inl (one_is, kept, quiet)) = rw one_is (whole true kept quiet p)
   run_ends (Ok refused) status p stops input (inr (bad, (fault, ends))) = output_ends fault status p.outcomes (after, p.reads, last_alone refused p) p.reported bad ends
   run_ends (Err (Input e)) status p stops input (kept, inl (one, kind, line)) = absurd (let bad : Io ≡ Parse = sym input ∙ kind in cc)
-  run_ends (Err (Input e)) status p (os, begun, reported, so) input (kept, inr (inl (two, kind, (fault, is, line)))) = rw two (os, begun, inl (known_so kept os so, inl (told_then os (IsFaultLine name) reported (some_fault fault name (stream err_of v w) line))))
-  run_ends (Err (Input e)) status p (os, begun, reported, so) input (kept, inr (inr (two, line))) = rw two (os, begun, inl (known_so kept os so, inr (told_then os IsMemoryLine reported line)))
-  run_ends (Err (Output f)) status p (os, begun, reported, bad) input (kept, ends) = output_ends f status os begun reported (out_stays bad) ends
-  run_ends (Err Memory) status p (os, begun, reported, so) input (kept, (two, line)) = rw two (os, begun, inl (known_so kept os so, inr (told_then os IsMemoryLine reported line)))
+  run_ends (Err (Input e)) status p (os, begun, none, reported, so) input (kept, inr (inl (two, kind, (fault, is, line)))) = rw two (os, begun, inl (known_so kept os so, inl (told_then os (IsFaultLine name) reported (some_fault fault name (stream err_of v w) line))))
+  run_ends (Err (Input e)) status p (os, begun, none, reported, so) input (kept, inr (inr (two, line))) = rw two (os, begun, inl (known_so kept os so, inr (told_then os IsMemoryLine reported line)))
+  run_ends (Err (Output f)) status p (os, begun, none, reported, bad) input (kept, ends) = output_ends f status os begun reported (out_stays bad) ends
+  run_ends (Err Memory) status p (os, begun, none, reported, so) input (kept, (two, line)) = rw two (os, begun, inl (known_so kept os so, inr (told_then os IsMemoryLine reported line)))

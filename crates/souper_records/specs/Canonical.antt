@@ -1,35 +1,20 @@
 -- Definitions. Canonical texts, and what each status of a run that looks for them says.
-use Rattle.std.specs.Prelude.{◌≡◌, ◌⊎◌, ℕ, ◌+◌, List, [], ◌∷◌, ◌++◌, Option, Some, false, codes, decimal}
+use Rattle.std.specs.Prelude.{◌≡◌, ◌⊎◌, ℕ, ◌+◌, ◌^◌, ◌<◌, List, ◌++◌, length, Option, true, false, codes, decimal}
 use Rattle.std.specs.Io.KnownBytes.{Consumes}
 use Rattle.souper_graph.specs.Text.{texts_of}
 use Rattle.souper_graph.specs.Values.{Item}
 use Rattle.souper_graph.specs.Syntax.Spelling.{ItemType, TextSpells}
-use Rattle.souper_ir.specs.Answers.{IsStrError}
-use Rattle.souper_ir.specs.declared.parse.ParseError.{ParseError}
-use Rattle.souper_ir.specs.declared.parse.ParseErrorKind.TheVariants.{Parse}
-use Rattle.souper_ir.specs.Errors.{kind_of}
-use Rattle.souper_ir.specs.Places.{newlines}
 use Rattle.souper_stream.specs.Reading.{AreAll}
 use Rattle.souper_format.specs.Streams.{Stream, IsGiven, IsGivenNothing}
 use Rattle.souper_format.specs.Formatted.{IsFormatted}
-use Rattle.souper_records.specs.Reports.{ReportedLine, ReportedMemory, ReportedFault}
+use Rattle.souper_records.specs.Comparisons.{DifferOnLine}
+use Rattle.souper_records.specs.Outcomes.{WritesParts}
+use Rattle.souper_records.specs.Reports.{ReportedMemory, ReportedFault}
 use Rattle.souper_records.specs.Runs.{OnStatus}
 
 -- the text is what the formatter writes of it: the canonical texts of the items that it spells, a newline after each
 abbrev pub IsCanonical : ItemType → List ℕ → Type 0
 IsCanonical k text = IsFormatted k text text
-
--- the first bytes of the texts differ, or one of the texts has no bytes
-abbrev pub BeginApart : List ℕ → List ℕ → Type 0
-BeginApart [] [] = ⊥
-BeginApart [] (b ∷ other) = Unit {0}
-BeginApart (a ∷ text) [] = Unit {0}
-BeginApart (a ∷ text) (b ∷ other) = ¬ (a ≡ b)
-
--- the texts are the same up to a byte of this line, counted from 1, and differ there
-abbrev pub DifferOnLine : List ℕ → List ℕ → ℕ → Type 0
-DifferOnLine text other line = (same : List ℕ) × (rest : List ℕ) × (more : List ℕ)
-    × (text ≡ same ++ rest) × (other ≡ same ++ more) × BeginApart rest more × (line ≡ newlines same + 1)
 
 -- the text differs from the canonical texts of the items that it spells, on this line first
 abbrev pub IsOtherLine : ItemType → List ℕ → ℕ → Type 0
@@ -47,16 +32,20 @@ ReportedOtherLine name line err status = ((status ≡ 1) × (err.failed ≡ fals
 abbrev pub IsWhole : Option (List ℕ) → Option (List ℕ) → List ℕ → Type 0
 IsWhole before after read = Consumes before after read × AreAll before read
 
--- the text is refused, and that was reported; or it spells items, and on which line it is not canonical was reported
+-- the text spells items, and is not canonical: on which line it differs first was reported, if numbers of 64 bits can count the lines
 abbrev pub ReportedOther : ItemType → List ℕ → List ℕ → Stream → Type 0
-ReportedOther k name read err = ((e : ParseError) × (kind_of e ≡ Parse) × IsStrError k (Some name) read e × ReportedLine err e)
-    ⊎ ((line : ℕ) × IsOtherLine k read line × (err.failed ≡ false → IsGiven err (other_line name line)))
+ReportedOther k name read err = (line : ℕ) × (length read + 1 < 2 ^ 64 → IsOtherLine k read line) × (err.failed ≡ false → IsGiven err (other_line name line))
 
--- what the status says: 0, the whole stream is canonical, and nothing was reported; 1, it is not, and that was reported; 2,
--- something failed, and that was reported
+-- The stream is refused: it begins with parts of which the last alone spells no items, and the refusal of that was reported. Whatever
+-- follows the text read, the stream spells no items.
+abbrev pub ReportedRefusal : ItemType → List ℕ → Option (List ℕ) → Option (List ℕ) → Stream → Type 0
+ReportedRefusal k name before after err = WritesParts k name false before after (λ os. Unit {0}) err true
+
+-- What the status says: 0, the whole stream is canonical, and nothing was reported; 1, it is not, and that was reported, or it is refused;
+-- 2, something failed, and that was reported.
 abbrev pub IsCheckRun : ItemType → List ℕ → Option (List ℕ) → Option (List ℕ) → Stream → ℕ → Type 0
 IsCheckRun k name before after err status = OnStatus status
     ((read : List ℕ) × IsWhole before after read × IsCanonical k read × IsGivenNothing err)
-    ((read : List ℕ) × IsWhole before after read × (IsCanonical k read → ⊥) × ReportedOther k name read err)
+    (((read : List ℕ) × IsWhole before after read × (IsCanonical k read → ⊥) × ReportedOther k name read err) ⊎ ReportedRefusal k name before after err)
     (ReportedFault name err ⊎ ReportedMemory err)
     ⊥

@@ -4,6 +4,7 @@ pub mod Reports
 pub mod Outcomes
 pub mod Objects
 pub mod Runs
+pub mod Comparisons
 pub mod Canonical
 pub mod Firsts
 pub mod Counts

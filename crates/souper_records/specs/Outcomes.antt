@@ -156,10 +156,10 @@ pub record WritesParts (k : ItemType) (name : List ℕ) (recover : Bool) (before
 abbrev pub IsBegun : ItemType → List ℕ → Bool → Option (List ℕ) → List Outcome → Type 0
 IsBegun k name recover before os = (now : Option (List ℕ)) × (r : ReadsParts k name before now os) × (recover ≡ false → (any_refused os ≡ false) ⊎ EndsRefused k r.read os)
 
--- reading or writing stopped after these parts: their refusals were reported, and unless the output is the cause their outcomes were
--- written; if it is, it has failed
+-- Reading or writing stopped after these parts: without recovery none of them is refused, their refusals were reported, and unless the
+-- output is the cause their outcomes were written; if it is, it has failed.
 abbrev pub StopsAfter : ItemType → List ℕ → Bool → Option (List ℕ) → (List Outcome → Type 0) → Bool → Stream → Stop → Type 0
-StopsAfter k name recover before written failed err stop = (os : List Outcome) × IsBegun k name recover before os × AreReported err (refusals_of os) × UnlessOutput stop failed (written os)
+StopsAfter k name recover before written failed err stop = (os : List Outcome) × IsBegun k name recover before os × (recover ≡ false → any_refused os ≡ false) × AreReported err (refusals_of os) × UnlessOutput stop failed (written os)
 
 -- the outcomes were written; and if it was asked where items begin, they begin there
 abbrev pub WroteParts : ItemType → Bool → (List Outcome → Type 0) → List Outcome → Type 0

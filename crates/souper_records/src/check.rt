@@ -1,38 +1,40 @@
 //! Whether a text is canonical.
 ghost use Rattle.std.specs.Prelude.{◌≡◌, ◌↔◌, Some, IfOk, IfErr, IfSome, IfNone, IsNone};
+ghost use Rattle.std.specs.String.{string_bytes};
 ghost use Rattle.souper_ir.specs.Answers.{IsStrError};
+ghost use Rattle.souper_stream.specs.Segments.{concat, all_lines};
 ghost use Rattle.souper_format.specs.Streams.{stream};
-ghost use Rattle.souper_records.specs.Canonical.{IsCanonical, DifferOnLine, IsOtherLine, ReportedOtherLine, IsCheckRun};
+ghost use Rattle.souper_records.specs.Canonical.{IsCanonical, IsOtherLine, ReportedOtherLine, IsCheckRun};
+ghost use Rattle.souper_records.specs.Comparisons.{DifferOnLine, IsCompared};
+ghost use Rattle.souper_records.specs.Outcomes.{parts_of, items_of};
+ghost use Rattle.souper_records.specs.Records.{records_of};
 
+use crate::comparison::{Comparison, common_front};
+use crate::each::Records;
 use crate::layout::PLAIN;
+use crate::options::ReadOptions;
+use crate::parts::{PartSink, Place, Source, write_parts};
 use crate::records::records_of_text;
 use crate::report::{report_error, report_fault, report_line, report_memory};
+use crate::stop::Stop;
 use souper_format::watched::Watched;
-use souper_ir::parse::{Before, ParseError, WholeItem};
-use souper_stream::not_utf8;
-use std::alloc::Global;
+use souper_ir::ast::{Arena, Statement};
+use souper_ir::parse::{ParseError, Sink, WholeItem};
+use souper_stream::{ChunkSink, StreamItem};
+use std::alloc::{AllocError, Global};
+use std::io;
 use std::io::{BufRead, Write};
-use std::str;
 
 // The line, counted from 1, on which the texts first differ, or none if they are the same.
 fn differing_line(text: &[u8], other: &[u8]) -> Option<usize>
     ensures same { IfNone result (text.now ≡ other.now) }
     ensures differs { IfSome result (DifferOnLine text.now other.now) }
 {
-    let mut line = 1;
-    for (index, byte) in text.iter().enumerate() {
-        if index == other.len() || other[index] != *byte {
-            return Some(line);
-        }
-        if *byte == b'\n' {
-            line += 1;
-        }
+    let (len, newlines) = common_front(text, other);
+    if len == text.len() && len == other.len() {
+        return None;
     }
-    if text.len() == other.len() {
-        None
-    } else {
-        Some(line)
-    }
+    Some(newlines + 1)
 }
 
 /// The line of the text, counted from 1, on which it first differs from what [`format_text`](souper_format::items::format_text) returns
@@ -68,16 +70,58 @@ fn report_other_line<E: Write>(alloc: Global, name: &str, line: usize, err: &mut
     }
 }
 
-/// Reads the whole stream, and returns the status of the program: whether it is canonical ([`first_other_line`]). The stream and its
-/// canonical text are held in memory.
+// The records of the items of a part, and how far the stream so far is the same as the records of its items.
+#[derive(Drop)]
+struct Checked {
+    records: Records,
+    comparison: Comparison,
+}
+
+impl<T: WholeItem + Drop> Sink<T> for Checked {
+    ghost holds = { λ first checked items. (checked.comparison ≡ first.comparison) × (checked.records.layout ≡ first.records.layout) × (string_bytes checked.records.out ≡ records_of first.records.layout items) };
+
+    fn take(&mut self, item: T) -> Result<(), AllocError> {
+        Sink::<T>::take(&mut self.records, item)
+    }
+
+    fn take_over(&mut self, item: T) -> Result<Option<Arena<Statement>>, AllocError> {
+        Sink::<T>::take_over(&mut self.records, item)
+    }
+}
+
+impl<T: WholeItem + Drop> ChunkSink<T> for Checked {
+    fn rollback(&mut self) {
+        ChunkSink::<T>::rollback(&mut self.records);
+    }
+}
+
+// Compares each part with its records, and drops them. Nothing is written.
+impl<T: StreamItem + Drop> PartSink<T> for Checked {
+    ghost wrote = { λ name a x b y os. (b.records.layout ≡ a.records.layout) × IsCompared b.comparison (concat (all_lines (parts_of os))) (records_of a.records.layout (items_of os)) };
+
+    fn write_part<W: Write>(
+        &mut self,
+        _alloc: Global,
+        place: Place<'_>,
+        _refusal: Option<&ParseError>,
+        _out: &mut Watched<W>,
+    ) -> Result<(), Stop> {
+        self.comparison
+            .append(place.text, self.records.out.as_bytes())?;
+        self.records.out.clear();
+        Ok(())
+    }
+}
+
+/// Reads the stream part by part, and returns the status of the program: whether it is canonical ([`first_other_line`]).
 ///
 /// - 0: it is, and nothing was written to `err`.
 /// - 1: it is not, and a line was written to `err` that says so, with the name and the number of the first line that differs:
-///   `NAME:LINE: not canonical`; or it is refused, and the refusal was written, which shows the name, and a newline.
+///   `NAME:LINE: not canonical`; or it is refused, and the first refusal was written, which shows the name, and a newline.
 /// - 2: a read failed, the input is not UTF-8, or memory ran out. A line that says so was written to `err`.
 ///
 /// If a write to `err` fails, the status is the same.
-pub fn check_run<T: WholeItem + Drop, R: BufRead, E: Write>(
+pub fn check_run<T: StreamItem + Drop, R: BufRead, E: Write>(
     alloc: Global,
     reader: &mut R,
     name: &str,
@@ -86,22 +130,39 @@ pub fn check_run<T: WholeItem + Drop, R: BufRead, E: Write>(
     ensures { IsCheckRun T.item_type name.now (R.remaining reader.old) (R.remaining reader.new)
         (stream E.contents err.old err.new) result }
 {
-    let mut bytes = Vec::new(alloc);
-    if let Err(fault) = reader.read_to_end(&mut bytes) {
-        report_fault(alloc, name, &fault, err);
-        return 2;
-    }
-    let source = match str::from_utf8(&bytes) {
-        Ok(source) => source,
-        Err(_) => {
-            let before = Before { bytes: 0, lines: 0 };
-            report_fault(alloc, name, &not_utf8(before, &bytes), err);
-            return 2;
-        }
+    let options = ReadOptions {
+        name,
+        recover: false,
+        line_buffered: false,
     };
-    match first_other_line::<T>(alloc, source, name) {
-        Ok(None) => 0,
-        Ok(Some(line)) => report_other_line(alloc, name, line, err),
-        Err(error) => report_error(alloc, name, &error, err),
+    let source = Source::new(alloc, options);
+    let mut checked = Checked {
+        records: Records::new(alloc, PLAIN),
+        comparison: Comparison::new(alloc),
+    };
+    let mut out = Watched::new(io::sink());
+    match write_parts::<T, Checked, R, io::Sink, E>(
+        alloc,
+        source,
+        &mut checked,
+        reader,
+        &mut out,
+        err,
+    ) {
+        Ok(true) => 1,
+        Ok(false) => match checked.comparison.differing_line() {
+            None => 0,
+            Some(line) => report_other_line(alloc, name, line, err),
+        },
+        Err(Stop::Input(error)) => report_error(alloc, name, &error, err),
+        // Nothing is written to `out`.
+        Err(Stop::Output(fault)) => {
+            report_fault(alloc, name, &fault, err);
+            2
+        }
+        Err(Stop::Memory) => {
+            report_memory(err);
+            2
+        }
     }
 }

@@ -63,7 +63,7 @@ impl Comparison {
         self.other.extend_from_slice(other)?;
         let (len, newlines) = common_front(&self.text, &self.other);
         self.line = self.line.saturating_add(newlines);
-        self.differs = len < self.text.len() && len < self.other.len();
+        self.differs = len < self.text.len().min(self.other.len());
         self.text = self.text[len..].to_vec(self.alloc)?;
         self.other = self.other[len..].to_vec(self.alloc)?;
         Ok(())

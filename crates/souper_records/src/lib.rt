@@ -4,6 +4,7 @@
 #![tactic(auto)]
 
 pub mod check;
+mod comparison;
 pub mod counts;
 pub mod each;
 pub mod laws;

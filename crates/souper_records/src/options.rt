@@ -8,4 +8,8 @@ pub struct ReadOptions<'a> {
 
     /// Whether reading resumes after a refusal. Else it ends with the first one.
     pub recover: bool,
+
+    /// Whether the output of a segment is written as soon as the line after it can be read. `out` should then have no buffer. Else more is
+    /// read at once, in less time.
+    pub line_buffered: bool,
 }

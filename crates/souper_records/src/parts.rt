@@ -1,7 +1,7 @@
 //! The parts of a stream, whose output is written one after the other.
 ghost use Rattle.std.specs.Prelude.{◌≡◌, ◌++◌, ◌∷◌, ℕ, [], List, true, Option, Some, IfOk, IfErr, IfSome, IfNone, OnOk, option_copied};
 ghost use Rattle.souper_ir.specs.Errors.{kind_of};
-ghost use Rattle.souper_stream.specs.Segments.{Line};
+ghost use Rattle.souper_stream.specs.Segments.{Line, concat};
 ghost use Rattle.souper_stream.specs.Parts.{HasParts, HasAll, asks_for_starts};
 ghost use Rattle.souper_format.specs.Streams.{stream};
 ghost use Rattle.souper_format.specs.Watching.{watched_inner, has_failed};
@@ -18,7 +18,7 @@ use std::alloc::Global;
 use std::io;
 use std::io::{BufRead, ErrorKind, Write};
 
-/// The location of a part of a stream.
+/// A part of a stream, and its location.
 #[derive(Clone, Copy)]
 pub(crate) struct Place<'a> {
     /// The name of the stream.
@@ -26,6 +26,9 @@ pub(crate) struct Place<'a> {
 
     /// Where the items of the part begin, if that is asked for.
     pub(crate) starts: &'a [Start],
+
+    /// The text of the part.
+    pub(crate) text: &'a [u8],
 }
 
 /// A sink whose output is written after each part of a stream.
@@ -43,7 +46,7 @@ pub(crate) trait PartSink<T: StreamItem + Drop>: ChunkSink<T> {
         out: &mut Watched<W>,
     ) -> Result<(), Stop>
         ensures written { OnOk result ((first : Self) (start : Option (List ℕ)) (os : List Outcome) (before : Self) (o : Outcome) → wrote place.entry.name.now first start before (W.contents (watched_inner out.old)) os
-            → Self.holds before before [] → Self.holds before self.old o.items → o.starts ≡ place.entry.starts.now → o.refusal ≡ option_copied refusal.entry
+            → Self.holds before before [] → Self.holds before self.old o.items → o.starts ≡ place.entry.starts.now → concat o.part ≡ place.entry.text.now → o.refusal ≡ option_copied refusal.entry
             → wrote place.entry.name.now first start self.new (W.contents (watched_inner out.new)) (os ++ o ∷ [])) }
         ensures none { OnOk result (Self.holds self.new self.new []) }
         ensures input { IfErr result (λ stop. IfInput stop (λ e. ⊥)) }
@@ -55,7 +58,11 @@ const CHUNK: usize = 65536;
 
 // The chunk size of the reader.
 fn min_chunk(options: ReadOptions<'_>) -> usize {
-    if options.recover { 1 } else { CHUNK }
+    if options.recover || options.line_buffered {
+        1
+    } else {
+        CHUNK
+    }
 }
 
 /// A stream that is read part by part.
@@ -66,14 +73,15 @@ pub(crate) struct Source<'a> {
 }
 
 impl<'a> Source<'a> {
-    /// With recovery a cut point is looked for in what the reader shows, up to the end of a line, and then whenever the buffer has doubled.
+    /// With recovery a cut point is looked for in what the reader shows, and on to the end of a line; then whenever the buffer has doubled,
+    /// or for lines whenever the reader has shown more.
     pub(crate) fn new(alloc: Global, options: ReadOptions<'a>) -> Source<'a>
         ensures options { result.options ≡ options.entry }
         ensures begins { Begins result }
     {
         Source {
             options,
-            parts: ItemReader::new(alloc, min_chunk(options)),
+            parts: ItemReader::new(alloc, min_chunk(options)).eager(options.line_buffered),
         }
     }
 
@@ -85,7 +93,7 @@ impl<'a> Source<'a> {
     {
         Source {
             options,
-            parts: ItemReader::with_starts(alloc, min_chunk(options)),
+            parts: ItemReader::with_starts(alloc, min_chunk(options)).eager(options.line_buffered),
         }
     }
 }
@@ -122,15 +130,16 @@ fn write_next<T: StreamItem + Drop, S: PartSink<T>, R: BufRead, W: Write, E: Wri
         .read_part::<T, R, S>(alloc, reader, Some(name), sink)
     {
         Ok(true) => {
-            let starts = source.parts.starts();
-            sink.write_part(alloc, Place { name, starts }, None, out)?;
+            let (starts, text) = (source.parts.starts(), source.parts.part());
+            sink.write_part(alloc, Place { name, starts, text }, None, out)?;
             Ok(Some(false))
         }
         Ok(false) => Ok(None),
         Err(error) if error.kind() == ParseErrorKind::Parse => {
             let shown = line_of_error(alloc, &error)?;
-            let starts = source.parts.starts();
-            sink.write_part(alloc, Place { name, starts }, Some(&error), out)?;
+            let (starts, text) = (source.parts.starts(), source.parts.part());
+            let place = Place { name, starts, text };
+            sink.write_part(alloc, place, Some(&error), out)?;
             report_line(&shown, err);
             Ok(Some(true))
         }

@@ -119,6 +119,7 @@ pub fn each_run<T: StreamItem + Drop, R: BufRead, W: Write, E: Write>(
     let options = ReadOptions {
         name,
         recover: false,
+        line_buffered: false,
     };
     let parts = write_records::<T, R, W, E>(alloc, layout, options, reader, out, err);
     end_parts(alloc, name, parts, out, err)
@@ -148,8 +149,53 @@ pub fn each_going_on_run<T: StreamItem + Drop, R: BufRead, W: Write, E: Write>(
     let options = ReadOptions {
         name,
         recover: true,
+        line_buffered: false,
     };
     let parts = write_records::<T, R, W, E>(alloc, layout, options, reader, out, err);
+    end_parts(alloc, name, parts, out, err)
+}
+
+/// Writes the record of each item of the stream to `out` ([`write_records`]), and returns the status of the program.
+///
+/// - 0: done, no part was refused, and nothing was written to `err`.
+/// - 1: a part was refused. Each refusal was written to `err`, in order, with a newline: with recovery all of the stream, else the first
+///   one, and nothing after it was read.
+/// - 2: a read or `out` failed, the input is not UTF-8, or memory ran out, and a line that says so was written to `err`, after the
+///   refusals so far. Unless `out` failed, the records of the parts so far were written, and nothing else.
+/// - 141 ([`BROKEN_PIPE`]): `out` failed, since it is a pipe that nobody reads. Only the refusals so far were written to `err`.
+///
+/// If a write to `err` fails, the status is the same.
+pub fn each_run_with<T: StreamItem + Drop, R: BufRead, W: Write, E: Write>(
+    alloc: Global,
+    layout: Layout,
+    options: ReadOptions<'_>,
+    reader: &mut R,
+    out: &mut Watched<W>,
+    err: &mut Watched<E>,
+) -> u8
+    ensures { IsRecordsRun T.item_type layout options.entry.name.now options.entry.recover (R.remaining reader.old) (R.remaining reader.new)
+        (stream W.contents out.old out.new) (stream E.contents err.old err.new) result }
+{
+    let name = options.name;
+    let parts = write_records::<T, R, W, E>(alloc, layout, options, reader, out, err);
+    end_parts(alloc, name, parts, out, err)
+}
+
+/// Writes a JSON object for each item of the stream and each refusal to `out` ([`write_objects`]). Returns the status of the program, as
+/// [`each_run_with`] does.
+pub fn objects_run_with<T: StreamItem + Drop, R: BufRead, W: Write, E: Write>(
+    alloc: Global,
+    rename: bool,
+    options: ReadOptions<'_>,
+    reader: &mut R,
+    out: &mut Watched<W>,
+    err: &mut Watched<E>,
+) -> u8
+    ensures { IsObjectsRun T.item_type rename options.entry.name.now options.entry.recover (R.remaining reader.old) (R.remaining reader.new)
+        (stream W.contents out.old out.new) (stream E.contents err.old err.new) result }
+{
+    let name = options.name;
+    let parts = write_objects::<T, R, W, E>(alloc, rename, options, reader, out, err);
     end_parts(alloc, name, parts, out, err)
 }
 
@@ -169,6 +215,7 @@ pub fn objects_run<T: StreamItem + Drop, R: BufRead, W: Write, E: Write>(
     let options = ReadOptions {
         name,
         recover: true,
+        line_buffered: false,
     };
     let parts = write_objects::<T, R, W, E>(alloc, rename, options, reader, out, err);
     end_parts(alloc, name, parts, out, err)
@@ -193,6 +240,7 @@ pub fn uniq_run<T: StreamItem + Drop, R: BufRead, W: Write, E: Write>(
     let options = ReadOptions {
         name,
         recover: false,
+        line_buffered: false,
     };
     let parts = write_firsts::<T, R, W, E>(layout, options, seen, reader, out, err);
     end_parts(alloc, name, parts, out, err)
@@ -217,7 +265,28 @@ pub fn uniq_going_on_run<T: StreamItem + Drop, R: BufRead, W: Write, E: Write>(
     let options = ReadOptions {
         name,
         recover: true,
+        line_buffered: false,
     };
+    let parts = write_firsts::<T, R, W, E>(layout, options, seen, reader, out, err);
+    end_parts(alloc, name, parts, out, err)
+}
+
+/// Writes the record of each item of the stream that is the same graph as no earlier one to `out` ([`write_firsts`]), and returns the
+/// status of the program, as [`each_run_with`] does, with the records of first items. After status 2 or 141 nothing is known of `seen`, which is
+/// not to be used again.
+pub fn uniq_run_with<T: StreamItem + Drop, R: BufRead, W: Write, E: Write>(
+    layout: Layout,
+    options: ReadOptions<'_>,
+    seen: &mut Seen,
+    reader: &mut R,
+    out: &mut Watched<W>,
+    err: &mut Watched<E>,
+) -> u8
+    ensures { (earlier : List Item) → HasSeen T.item_type layout.rename earlier seen.old
+        → IsFirstsRun T.item_type layout earlier options.entry.name.now options.entry.recover (R.remaining reader.old) (R.remaining reader.new)
+        (stream W.contents out.old out.new) seen.new (stream E.contents err.old err.new) result }
+{
+    let (alloc, name) = (seen.alloc, options.name);
     let parts = write_firsts::<T, R, W, E>(layout, options, seen, reader, out, err);
     end_parts(alloc, name, parts, out, err)
 }

@@ -1,26 +1,31 @@
-use Rattle.std.proofs.Common.{◌<◌, ◌≤◌, length, drop, sym, arith, drop-cons}
-use Rattle.std.proofs.lemmas.List.{drop_all}
-use Rattle.souper_records.specs.Canonical.{BeginApart}
-use Rattle.souper_records.proofs.Checking.{differ_at}
+use Rattle.std.proofs.Common.{◌≡◌, ◌+◌, ℕ, List, [], ◌++◌, length, take, drop, sym, ap, ◌∙◌, arith, take-append-drop}
+use Rattle.std.proofs.lemmas.List.{length-drop}
+use Rattle.souper_records.proofs.Comparing.{agree_apart}
 use Rattle.souper_records.proofs.check.differing_line.Goals as goal
-use Rattle.souper_records.proofs.check.differing_line.Goals.{then-index-other-via-then-index-other, then-index-other-via-else-index-other+then-other-index}
+use Rattle.souper_records.proofs.check.differing_line.Goals.{else-len-text-via-then-len-text+else-len-other, else-len-text-via-else-len-text}
 
-pub returns-then-index-other-clause-differs : goal.returns-then-index-other-clause-differs
-returns-then-index-other-clause-differs c =
+pub returns-clause-differs : goal.returns-clause-differs
+returns-clause-differs c =
     let text = c.args.text.now in
     let other = c.args.other.now in
-    let i = c.loop-index.index in
-    let less : i < length text = omega arith in
-    let apart : BeginApart (drop i text) (drop i other) = elim c.then-index-other.branch [
-      | then-index-other-via-then-index-other w ↦ rw (drop-cons text i 0 less, drop_all i other (omega arith)) tt
-      | then-index-other-via-else-index-other+then-other-index w ↦ rw (drop-cons text i 0 less, drop-cons other i 0 (omega arith)) (λ same. w.if-other-index.true (sym same))
-    ] in
-    differ_at text other i c.loop-index.line c.loop-index.invariant.same c.loop-index.invariant.line apart
-
-pub returns-else-text-other-clause-differs : goal.returns-else-text-other-clause-differs
-returns-else-text-other-clause-differs c =
-    let text = c.args.text.now in
-    let other = c.args.other.now in
-    let i = c.loop-index.index in
-    let past : length text ≤ i = omega arith in
-    differ_at text other i c.loop-index.line c.loop-index.invariant.same c.loop-index.invariant.line (rw (drop_all i text past, drop-cons other i 0 (omega arith)) tt)
+    let len = c.common_front-len.result.0 in
+    let agree = c.common_front-len.ensures.same in
+    let some : (drop len text ≡ []) × (drop len other ≡ []) → ⊥ = λ none.
+    let end = ap length none.0 in
+    let other_end = ap length none.1 in
+    let long = length-drop len text in
+    let other_long = length-drop len other in
+    let within = agree.within in
+    let other_within = agree.within_other in
+    elim c.else-len-text.branch [
+      | else-len-text-via-then-len-text+else-len-other w ↦ absurd (omega arith)
+      | else-len-text-via-else-len-text w ↦ absurd (omega arith)
+    ] in (
+      take len text,
+      drop len text,
+      drop len other,
+      sym (take-append-drop len text),
+      sym (take-append-drop len other) ∙ ap (λ (x : List ℕ). x ++ drop len other) agree.same,
+      agree_apart text other len agree some,
+      ap (λ (n : ℕ). n + 1) c.common_front-len.ensures.newlines,
+    )

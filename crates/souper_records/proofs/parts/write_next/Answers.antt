@@ -1,4 +1,4 @@
-use Rattle.std.proofs.Common.{rules, ◌≡◌, [], None, Some, refl, sym, subst, append-nil}
+use Rattle.std.proofs.Common.{rules, ◌≡◌, [], None, Some, refl, sym, ◌∙◌, subst, append-nil}
 use Rattle.std.specs.String.{string_bytes}
 use Rattle.std.proofs.KnownBytes.{Keeps-refl}
 use Rattle.souper_ir.specs.declared.parse.error.ParseErrorKind.TheVariants.{Parse}
@@ -7,6 +7,19 @@ use Rattle.souper_stream.specs.Parts.{starts_of_part}
 use Rattle.souper_stream.proofs.Reached.{refusal_begun}
 use Rattle.souper_records.specs.Outcomes.{Outcome}
 use Rattle.souper_records.proofs.parts.write_next.Goals as goal
+
+pub part-text-requires : goal.part-text-requires
+part-text-requires g c =
+    let p = c.requires.had in
+    let t = (rw c.in-Ok-true.is at c.read_part.ensures.read) c.in-Ok-true.field-0-test p.0 p.1 p.2 in
+    (g.T.Item.item_type, p.0, g.R.Read.remaining c.read_part.new.reader, _, t.goes_on)
+
+pub part-text-requires-in-Err : goal.part-text-requires-in-Err
+part-text-requires-in-Err g c =
+    let p = c.requires.had in
+    let kind : kind_of c.in-Err.error ≡ Parse = search rules in
+    let t = c.in-Err.ensures.refused kind p.0 p.1 p.2 in
+    (g.T.Item.item_type, p.0, g.R.Read.remaining c.read_part.new.reader, _, t.goes_on)
 
 pub returns-in_ok-write_part-in-Ok-true-clause-part : goal.returns-in_ok-write_part-in-Ok-true-clause-part
 returns-in_ok-write_part-in-Ok-true-clause-part g c = λ start ps had.
@@ -19,7 +32,7 @@ returns-in_ok-write_part-in-Ok-true-clause-part g c = λ start ps had.
       begin = t.begin;
       any = refl;
       after = λ e. absurd cc;
-      are_written = λ first before os h. c.in_ok-write_part-in-Ok-true.ensures.written first before os c.args.sink.now o h c.requires.none (t.taken c.args.sink.now c.requires.none) (sym c.starts-starts.ensures) refl;
+      are_written = λ first before os h. c.in_ok-write_part-in-Ok-true.ensures.written first before os c.args.sink.now o h c.requires.none (t.taken c.args.sink.now c.requires.none) (sym c.starts-starts.ensures) (sym (c.part-text.ensures ∙ t.text)) refl;
       reported = Keeps-refl _;
     }
 
@@ -58,6 +71,6 @@ returns-in_ok-write_part-in-Err-clause-part g c = λ start ps had.
         never = t.never;
         begun = refusal_begun k _ start now ps g.S.Sink.holds c.args.sink.now c.read_part.new.sink c.read_part.new.self c.in-Err.error t;
       };
-      are_written = λ first before os h. c.in_ok-write_part-in-Err.ensures.written first before os c.args.sink.now o h c.requires.none (t.taken c.args.sink.now c.requires.none) (sym c.starts-starts-in-Err.ensures) refl;
+      are_written = λ first before os h. c.in_ok-write_part-in-Err.ensures.written first before os c.args.sink.now o h c.requires.none (t.taken c.args.sink.now c.requires.none) (sym c.starts-starts-in-Err.ensures) (sym (c.part-text-in-Err.ensures ∙ t.text)) refl;
       reported = λ works. (let line = string_bytes c.in_ok-shown-in-Err.shown in (line, (line, [], sym (append-nil line), c.in_ok-shown-in-Err.ensures, refl), c.report_line.ensures.given works));
     }

@@ -11,7 +11,7 @@ use Rattle.souper_records.proofs.Seeing.{keeps_one, keeps_join}
 use Rattle.souper_records.proofs.uniq.FirstsPartSink.write_part.Goals as goal
 
 pub returns-clause-written : goal.returns-clause-written
-returns-clause-written g c = on_ok_weaker c.write_texts.result (λ w first from os before o wrote idle taken line refusal.
+returns-clause-written g c = on_ok_weaker c.write_texts.result (λ w first from os before o wrote idle taken line text refusal.
     let old = g.W.Write.contents (watched_inner c.args.out.now) in
     let new = g.W.Write.contents (watched_inner c.write_texts.new.out) in
     let k = g.T.Item.item_type in
