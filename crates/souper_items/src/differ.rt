@@ -8,6 +8,7 @@ use souper_records::check::check_run;
 use souper_records::layout::PLAIN;
 use souper_records::records::records_of_text;
 use souper_records::run::report_output;
+use souper_stream::StreamItem;
 use std::alloc::{AllocError, Global};
 use std::io::{BufRead, Write};
 
@@ -26,7 +27,7 @@ fn diff<T: WholeItem + Drop>(
 }
 
 /// As [`check_run`], and writes the diff to `out`.
-pub(crate) fn check_diff<T: WholeItem + Drop, R: BufRead, W: Write, E: Write>(
+pub(crate) fn check_diff<T: StreamItem + Drop, R: BufRead, W: Write, E: Write>(
     alloc: Global,
     reader: &mut R,
     name: &str,

@@ -21,9 +21,10 @@ use souper_format::watched::Watched;
 use souper_ir::ast::{LeftHandSide, Replacement, RightHandSide};
 use souper_records::check::check_run;
 use souper_records::layout::Layout;
+use souper_records::options::ReadOptions;
 use souper_records::report::{report_fault, report_memory};
 use souper_records::run::{
-    count_run, each_going_on_run, each_run, objects_run, report_output, uniq_going_on_run, uniq_run,
+    count_run, each_run_with, objects_run_with, report_output, uniq_run_with,
 };
 use souper_records::seen::Seen;
 use souper_stream::StreamItem;
@@ -76,57 +77,46 @@ struct Session<'s, W, E> {
 
 // Each method returns a status of the program.
 impl<'s, W: Write, E: Write> Session<'s, W, E> {
-    // The distinct items of a stream of items of the type.
-    fn uniq<T: StreamItem + Drop, R: BufRead>(
-        &mut self,
-        layout: Layout,
-        reader: &mut R,
-        name: &str,
-    ) -> u8 {
-        let alloc = self.rt.alloc();
-        let (seen, out, err) = (&mut self.seen, &mut self.out, &mut self.err);
-        if self.task.keep_going {
-            uniq_going_on_run::<T, R, W, E>(alloc, layout, seen, reader, name, out, err)
-        } else {
-            uniq_run::<T, R, W, E>(alloc, layout, seen, reader, name, out, err)
-        }
-    }
-
-    // The same without output: the records come at the end.
+    // The distinct items of a stream of items of the type, without output: the records come at the end.
     fn count<T: StreamItem + Drop, R: BufRead>(
         &mut self,
         layout: Layout,
+        options: ReadOptions<'_>,
         reader: &mut R,
-        name: &str,
     ) -> u8 {
-        let alloc = self.rt.alloc();
         let layout = Layout {
             key: false,
             ..layout
         };
         let mut out = Watched::new(io::sink());
         let (seen, err) = (&mut self.seen, &mut self.err);
-        if self.task.keep_going {
-            uniq_going_on_run::<T, R, io::Sink, E>(alloc, layout, seen, reader, name, &mut out, err)
-        } else {
-            uniq_run::<T, R, io::Sink, E>(alloc, layout, seen, reader, name, &mut out, err)
-        }
+        uniq_run_with::<T, R, io::Sink, E>(layout, options, seen, reader, &mut out, err)
     }
 
     // A stream of items of the type.
     fn items<T: StreamItem + Drop, R: BufRead>(&mut self, reader: &mut R, name: &str) -> u8 {
         let alloc = self.rt.alloc();
-        let (out, err) = (&mut self.out, &mut self.err);
+        let options = ReadOptions {
+            name,
+            recover: self.task.keep_going,
+            line_buffered: self.task.line_buffered,
+        };
+        let (seen, out, err) = (&mut self.seen, &mut self.out, &mut self.err);
         match self.task.action {
-            Action::Each(layout) if self.task.keep_going => {
-                each_going_on_run::<T, R, W, E>(alloc, layout, reader, name, out, err)
+            Action::Each(layout) => {
+                each_run_with::<T, R, W, E>(alloc, layout, options, reader, out, err)
             }
-            Action::Each(layout) => each_run::<T, R, W, E>(alloc, layout, reader, name, out, err),
             Action::Objects { rename } => {
-                objects_run::<T, R, W, E>(alloc, rename, reader, name, out, err)
+                let options = ReadOptions {
+                    recover: true,
+                    ..options
+                };
+                objects_run_with::<T, R, W, E>(alloc, rename, options, reader, out, err)
             }
-            Action::Uniq(layout) => self.uniq::<T, R>(layout, reader, name),
-            Action::Count(layout, _) => self.count::<T, R>(layout, reader, name),
+            Action::Uniq(layout) => {
+                uniq_run_with::<T, R, W, E>(layout, options, seen, reader, out, err)
+            }
+            Action::Count(layout, _) => self.count::<T, R>(layout, options, reader),
             Action::Check { diff: false } => check_run::<T, R, E>(alloc, reader, name, err),
             Action::Check { diff: true } => check_diff::<T, R, W, E>(alloc, reader, name, out, err),
             Action::Write { .. } => 2,

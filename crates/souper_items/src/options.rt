@@ -64,6 +64,9 @@ pub(crate) struct Task<'m, 'a> {
     /// Whether reading resumes after a refusal.
     pub(crate) keep_going: bool,
 
+    /// Whether each item is written once the line after it is there.
+    pub(crate) line_buffered: bool,
+
     pub(crate) color: Color,
 
     /// Whether no progress is shown.
@@ -131,8 +134,17 @@ fn flag<'a>(alloc: Global, name: &'a str) -> Arg<'a> {
     Arg::new(alloc, name).long(name).action(ArgAction::SetTrue)
 }
 
+fn line_buffered_arg<'a>(alloc: Global) -> Arg<'a> {
+    flag(alloc, "line-buffered").help("Write each item once the line after it is there")
+}
+
 // A command that writes records, with their options.
-fn writer<'a>(alloc: Global, name: &'a str, about: &'a str) -> Result<Command<'a>, AllocError> {
+fn writer<'a>(
+    alloc: Global,
+    name: &'a str,
+    about: &'a str,
+    line_buffered: Arg<'a>,
+) -> Result<Command<'a>, AllocError> {
     Command::new(alloc, name)
         .about(about)
         .arg(
@@ -147,6 +159,7 @@ fn writer<'a>(alloc: Global, name: &'a str, about: &'a str) -> Result<Command<'a
                 .short('k')
                 .help("Go on after an invalid item; the status is then 1"),
         )?
+        .arg(line_buffered)?
         .arg(color_arg(alloc))?
         .arg(quiet_arg(alloc))?
         .arg(kind_arg(alloc))?
@@ -158,6 +171,7 @@ fn format<'a>(alloc: Global) -> Result<Command<'a>, AllocError> {
         alloc,
         "format",
         "Writes the record of each item: its canonical text",
+        line_buffered_arg(alloc),
     )?
     .after_help(FORMAT_EXAMPLE)
     .visible_alias("each")?
@@ -174,7 +188,8 @@ fn format<'a>(alloc: Global) -> Result<Command<'a>, AllocError> {
             .conflicts_with("null")?
             .conflicts_with("key")?
             .conflicts_with("json")?
-            .conflicts_with("keep-going")?,
+            .conflicts_with("keep-going")?
+            .conflicts_with("line-buffered")?,
     )?
     .arg(
         flag(alloc, "force")
@@ -188,6 +203,9 @@ fn uniq<'a>(alloc: Global) -> Result<Command<'a>, AllocError> {
         alloc,
         "uniq",
         "Writes the record of the first item of each graph in all files",
+        line_buffered_arg(alloc)
+            .conflicts_with("count")?
+            .conflicts_with("repeated")?,
     )?
     .after_help(UNIQ_EXAMPLE)
     .arg(
@@ -288,10 +306,12 @@ fn read_action(name: &str, options: &ArgMatches<'_>) -> Option<Action> {
 pub(crate) fn read_task<'m, 'a>(matches: &'m ArgMatches<'a>) -> Option<Task<'m, 'a>> {
     let (name, options) = matches.subcommand()?;
     let action = read_action(name, options)?;
+    let is_check = matches!(action, Action::Check { .. });
     Some(Task {
         kind: Kind::from_word(options.get_str("KIND")?)?,
         action,
-        keep_going: !matches!(action, Action::Check { .. }) && options.get_flag("keep-going"),
+        keep_going: !is_check && options.get_flag("keep-going"),
+        line_buffered: !is_check && options.get_flag("line-buffered"),
         color: read_color(options),
         quiet: options.get_flag("quiet"),
         files: options.get_strs("FILE").unwrap_or_default(),
