@@ -5,6 +5,7 @@ mod closed;
 mod faults;
 mod going_on;
 mod layouts;
+mod lines;
 mod objects;
 mod streams;
 mod support;

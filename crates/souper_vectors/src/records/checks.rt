@@ -1,5 +1,6 @@
 //! Whether streams are canonical.
 use crate::checks::equal;
+use crate::records::streams::good_ones;
 use crate::records::support::headed;
 use souper_format::watched::Watched;
 use souper_ir::ast::{LeftHandSide, RightHandSide};
@@ -64,6 +65,39 @@ fn first_line_that_differs_is_told(rt: HostRuntime) {
     is_told::<RightHandSide>(&rt, rt.alloc(), b"result 1:i8\n\n", want);
     let want = (1, "a.opt:1: not canonical\n");
     is_told::<RightHandSide>(&rt, rt.alloc(), b"result 1:i8", want);
+}
+
+// Texts of several parts, of which this one has 90 KB.
+const MANY: usize = 5000;
+
+// The status and the report of a check of the items between the two texts.
+fn is_told_between(
+    rt: &impl Abort,
+    alloc: Global,
+    (before, after): (&str, &str),
+    want: (u8, &str),
+) {
+    let items = good_ones(rt, alloc, MANY);
+    let source = format!(in alloc; "{before}{items}{after}").expect(rt, before);
+    is_lhs_told(rt, alloc, source.as_bytes(), want);
+}
+
+#[test]
+fn first_difference_of_all_parts_is_told(rt: HostRuntime) {
+    is_told_between(&rt, rt.alloc(), ("", ""), (0, ""));
+    let want = (1, "a.opt:15001: not canonical\n");
+    is_told_between(&rt, rt.alloc(), ("", "%b = var ; b\ninfer %b\n"), want);
+    is_told_between(&rt, rt.alloc(), ("", "; b\n"), want);
+    is_told_between(&rt, rt.alloc(), ("", "\n"), want);
+    let want = (1, "a.opt:2: not canonical\n");
+    is_told_between(&rt, rt.alloc(), ("%b = var\ninfer %b;\n\n", "; b\n"), want);
+}
+
+// The refusal is reported in place of the difference.
+#[test]
+fn refusal_after_a_difference_is_told(rt: HostRuntime) {
+    let want = (1, "a.opt:15002:7: no value named '%y' in scope\n");
+    is_told_between(&rt, rt.alloc(), ("; b\n", "infer %y\n"), want);
 }
 
 #[test]

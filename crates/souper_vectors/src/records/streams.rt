@@ -34,7 +34,7 @@ fn records_are_what_the_formatter_writes(rt: HostRuntime) {
 }
 
 // `count` left-hand sides, as they are written.
-fn good_ones(rt: &impl Abort, alloc: Global, count: usize) -> String {
+pub(crate) fn good_ones(rt: &impl Abort, alloc: Global, count: usize) -> String {
     let mut source = String::new(alloc);
     for _ in 0..count {
         source
