@@ -1,5 +1,5 @@
 /* Souper IR for C and C++: canonical texts and their keys, whether two texts have the same graphs, whether a text is canonical,
- * and the code of graphs, which is read and written without a parser.
+ * the code of graphs, which is read and written without a parser, and where a stream of items may be cut.
  *
  * The functions are those of libsouper_c.a, whose contracts are proved. docs/EMBEDDING.md says what is proved, what is tested,
  * and how to build and link.
@@ -163,6 +163,21 @@ SOUPER_CALL SouperLocation souper_locate(uint32_t kind, const uint8_t *text, siz
  * DONE: yes. DIFFERENT: no. REFUSED: text number `input` spells no list of such items; `length` is what souper_format
  * would write for it. NO_KIND, OUT_OF_MEMORY, NOT_UTF8. The second text is read after the first. */
 SOUPER_CALL SouperOutcome souper_same(uint32_t kind, const uint8_t *a, size_t a_length, const uint8_t *b, size_t b_length);
+
+/* The last cut point of a text that begins where a stream does, or at a cut point of it: what comes before can be read by itself, by
+ * each call above. A stream is cut where an item ends and a line of the next begins, as the tokens of the lines show it, be the items
+ * valid or not. Between two cut points is a segment.
+ *
+ * DONE: `length` bytes come before it; 0 if there is none yet. NOT_UTF8: a line is not UTF-8. NO_KIND. The bytes after the last newline
+ * are passed over, so that a text may end within a line, and within a character. No memory is allocated. */
+SOUPER_CALL SouperOutcome souper_last_cut(uint32_t kind, const uint8_t *text, size_t text_length);
+
+/* The first segment of a text that ends at a cut point, or where its stream ends. If the segments of a refused text are read one by
+ * one, an invalid one takes no other with it.
+ *
+ * DONE: it has `length` bytes, up to the first cut point or else the end; 0 if the text is empty. NOT_UTF8: a line of it, or the line
+ * after it, is not UTF-8. NO_KIND. No memory is allocated. */
+SOUPER_CALL SouperOutcome souper_first_segment(uint32_t kind, const uint8_t *text, size_t text_length);
 
 #undef SOUPER_CALL
 
