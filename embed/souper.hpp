@@ -1,5 +1,5 @@
 // Souper IR for C++17: items as values, which are read, built and written; canonical texts and their keys; whether two texts have
-// the same graphs, whether a text is canonical.
+// the same graphs, whether a text is canonical; the items of a stream that comes in parts.
 //
 // Over souper.h, which says what the calls promise and what the caller sees to; these functions see to the pointers. Each has two
 // forms:
@@ -15,6 +15,7 @@
 
 #include "souper.h"
 
+#include <algorithm>
 #include <cstddef>
 #include <cstdint>
 #include <cstring>
@@ -774,8 +775,10 @@ struct error {
     status what = status::done;
     unsigned input = 0;     ///< refused, not_utf8: which text of the call, 0 the first, 1 the second
     std::size_t index = 0;  ///< no_code, not_well_formed: which item, from 0
-    std::size_t offset = 0; ///< refused: how many bytes were read; no_code, not_well_formed: where the code of the item begins
-    std::size_t line = 0;   ///< refused: the line of the last of these bytes, or of the first byte if there is none; from 1
+    std::size_t offset = 0; ///< refused: how many bytes were read; no_code, not_well_formed: where the code of the item begins;
+                            ///< not_utf8 of a stream: where the first byte is that is in no character
+    std::size_t line = 0;   ///< refused: the line of the last of these bytes, or of the first byte if there is none; not_utf8 of a
+                            ///< stream: the line of that byte; from 1
     std::size_t column = 0; ///< refused: its column, in bytes and from 1
     std::string shown = {}; ///< refused: why and where, in four lines without a newline at the end
     std::optional<flaw> why = {}; ///< not_well_formed: the first flaw of the item; none if the item has no code
@@ -1417,7 +1420,6 @@ inline namespace SOUPER_FORM {
 }
 
 } // namespace SOUPER_FORM
-#undef SOUPER_FORM
 
 // ----------------------------------------------------------------
 // The form with exceptions
@@ -1450,7 +1452,13 @@ class not_utf8 : public std::invalid_argument {
 public:
     explicit not_utf8(unsigned which) : std::invalid_argument("the text is not UTF-8"), input(which) {}
 
-    unsigned input; ///< which text of the call: 0 the first, 1 the second
+    not_utf8(std::size_t where, std::size_t on_line)
+        : std::invalid_argument("line " + std::to_string(on_line) + ": not UTF-8 at byte " + std::to_string(where)), offset(where),
+          line(on_line) {}
+
+    unsigned input = 0;     ///< which text of the call: 0 the first, 1 the second
+    std::size_t offset = 0; ///< of a stream: where the first byte is that is in no character
+    std::size_t line = 0;   ///< of a stream: its line, from 1; else 0
 };
 
 /// An item is not well formed, so it has no canonical text.
@@ -1482,7 +1490,7 @@ namespace detail {
         throw refused(e.shown, SouperOutcome{SOUPER_REFUSED, e.input, e.shown.size(), e.offset, e.line, e.column}, e.location,
                       e.at_end);
     case status::not_utf8:
-        throw not_utf8(e.input);
+        throw e.line > 0 ? not_utf8(e.offset, e.line) : not_utf8(e.input);
     case status::no_kind:
         throw std::invalid_argument("the kind is none");
     case status::no_flags:
@@ -1580,6 +1588,280 @@ inline std::vector<item> decode(kind k, std::string_view code) {
 }
 
 #endif
+
+// ----------------------------------------------------------------
+// Streams
+
+namespace detail {
+
+inline std::size_t newlines(std::string_view text) noexcept {
+    std::size_t count = 0;
+    for (const char byte : text) {
+        count += byte == '\n';
+    }
+    return count;
+}
+
+// The length of the character that the bytes begin with; 0 if they begin with none.
+inline std::size_t character(std::string_view text) noexcept {
+    const auto at = [text](std::size_t i) -> unsigned { return i < text.size() ? static_cast<unsigned char>(text[i]) : 0U; };
+    const auto follows = [at](std::size_t i) { return (at(i) & 0xc0U) == 0x80U; };
+    const unsigned first = at(0), second = at(1);
+    if (first < 0x80) {
+        return text.empty() ? 0 : 1;
+    }
+    if (first >= 0xc2 && first < 0xe0) {
+        return follows(1) ? 2 : 0;
+    }
+    if (first >= 0xe0 && first < 0xf0) {
+        return second >= (first == 0xe0 ? 0xa0U : 0x80U) && second < (first == 0xed ? 0xa0U : 0xc0U) && follows(2) ? 3 : 0;
+    }
+    if (first >= 0xf0 && first < 0xf5) {
+        return second >= (first == 0xf0 ? 0x90U : 0x80U) && second < (first == 0xf4 ? 0x90U : 0xc0U) && follows(2) && follows(3) ? 4 : 0;
+    }
+    return 0;
+}
+
+// The length of the white space and the comments that the text begins with. (Of white space that is not ASCII it knows nothing.)
+inline std::size_t gap(std::string_view text) noexcept {
+    std::size_t at = 0;
+    while (at < text.size() && (text[at] == ';' || text[at] == ' ' || (text[at] >= '\t' && text[at] <= '\r'))) {
+        at = text[at] == ';' ? std::min(text.find('\n', at), text.size()) : at + 1;
+    }
+    return at;
+}
+
+// What comes before a segment in its stream.
+struct before {
+    std::size_t bytes = 0;
+    std::size_t lines = 0;
+    std::string last_line = {};
+};
+
+// The four lines that show a refusal.
+inline std::string shown(std::string_view message, std::size_t line, std::size_t column, std::string_view text) {
+    const std::string number = std::to_string(line);
+    std::string all = "unknown:" + number + ":" + std::to_string(column) + ": ";
+    all.append(message).append("\n     |\n").append(number.size() < 4 ? 4 - number.size() : 0, ' ').append(number).append(" | ");
+    all.append(text).append("\n     | ").append(column - 1, ' ').append("^");
+    return all;
+}
+
+// Gives the refusal of a segment its place and its location in the stream.
+inline void place(error &e, const before &b) {
+    const std::string_view all = e.shown;
+    const std::size_t head = all.find(": ") + 2;
+    const std::size_t marks = all.rfind('\n'), line = all.rfind('\n', marks - 1), bar = all.rfind('\n', line - 1);
+    std::string_view text = all.substr(line + 1, marks - line - 1);
+    text.remove_prefix(text.find(" | ") + 3);
+    if (e.offset == 0 && b.bytes > 0) {
+        // The byte before is the newline of the line before.
+        e.line = b.lines;
+        e.column = b.last_line.size();
+        text = std::string_view(b.last_line).substr(0, e.column - 1);
+        text.remove_suffix(!text.empty() && text.back() == '\r');
+    } else {
+        e.line += b.lines;
+    }
+    e.shown = shown(all.substr(head, bar - head), e.line, e.column, text);
+    e.offset += b.bytes;
+    if (e.location) {
+        e.location->offset += b.bytes;
+        e.location->line += b.lines;
+    }
+}
+
+} // namespace detail
+
+inline namespace SOUPER_FORM {
+
+/// Reads the items of a stream that comes in parts, such as a socket, a pipe, or a file that is larger than memory.
+///
+/// The stream is cut where an item ends and a line of the next begins, as the tokens of the lines show it, and read on after an
+/// invalid segment, the lines between two cuts. An item is there when the first line of the next one is whole, or after `finish`.
+/// In memory are what was pushed since the last cut, which is an unfinished segment, and the items of the last cut segments.
+class reader {
+public:
+    /// With `by_segments` each segment is read by itself: `offset` and `line` are then those of the item, if its segment has no other.
+    /// It takes more time.
+    explicit reader(kind of, bool by_segments = false) noexcept : items_of(of), each_segment(by_segments) {}
+
+    /// The next bytes of the stream, cut anywhere. After `finish` this is a `std::logic_error`; without exceptions they are not taken.
+    void push(std::string_view part) {
+        if (ended) {
+#if defined(__cpp_exceptions)
+            throw std::logic_error("the stream has ended");
+#else
+            return;
+#endif
+        }
+        if (start > 0 && start >= buffer.size() - start) {
+            buffer.erase(0, start);
+            start = 0;
+        }
+        buffer.append(part);
+        const std::size_t newline = part.rfind('\n');
+        if (newline != std::string_view::npos) {
+            whole = buffer.size() - start - (part.size() - newline - 1);
+        }
+    }
+
+    /// Nothing comes after what was pushed.
+    void finish() noexcept { ended = true; }
+
+    /// See `next`.
+    [[nodiscard]] bool try_next(std::optional<item> &out, error &e) noexcept {
+        return detail::guarded(out, e, [this](auto &one, error &why) { return take(one, why); });
+    }
+
+#if defined(__cpp_exceptions)
+    /// The next item; none if more of the stream is wanted or, after `finish`, at its end.
+    ///
+    /// An invalid segment is thrown as `refused`, with its place and location in the stream, and gives no items. The next call reads on
+    /// after it. Bytes that are not UTF-8 are thrown as `not_utf8`, after the segments before them, and again by each call.
+    std::optional<item> next() {
+        return detail::output<std::optional<item>>([this](std::optional<item> &out, error &e) { return try_next(out, e); });
+    }
+#endif
+
+    /// Where the part begins that the last item came from, or that was refused: its first byte that is not in white space nor in a
+    /// comment. A part is one segment or more.
+    std::size_t offset() const noexcept { return part_offset; }
+
+    /// The line of that byte, from 1.
+    std::size_t line() const noexcept { return part_line; }
+
+private:
+    std::string_view unread() const noexcept { return std::string_view(buffer).substr(start); }
+
+    bool take(std::optional<item> &out, error &e) {
+        for (bool more = true; index == items.size();) {
+            if (!read_part(more, e)) {
+                return false;
+            }
+            if (!more) {
+                return true;
+            }
+        }
+        out = std::move(items[index++]);
+        return true;
+    }
+
+    // The length of the next chunk, which is cut at its end; 0 if there is none yet.
+    bool next_chunk(std::size_t &length, error &e) {
+        length = ended ? unread().size() : 0;
+        if (ended || whole < goal) {
+            return true;
+        }
+        const SouperOutcome cut = souper_last_cut(static_cast<std::uint32_t>(items_of), detail::bytes(unread()), whole);
+        if (cut.status == SOUPER_NO_KIND) {
+            detail::report(cut, e);
+            return false;
+        }
+        length = cut.status == SOUPER_DONE ? cut.length : whole;
+        // In a long segment a cut is looked for only when an eighth more is there, so that looking takes little of the time.
+        goal = length > 0 ? 1 : whole + 1 + (whole > step ? whole / 8 : 0);
+        return true;
+    }
+
+    // Reads the next part, if there is one.
+    bool read_part(bool &more, error &e) {
+        std::size_t length = rejected;
+        if (length == 0) {
+            if (!next_chunk(length, e) || length == 0) {
+                more = false;
+                return e.what == status::done;
+            }
+            if (!each_segment) {
+                if (read_text(length, e)) {
+                    return true;
+                }
+                if (e.what != status::refused && e.what != status::not_utf8) {
+                    return false;
+                }
+                e = error();
+            }
+            rejected = length;
+        }
+        return read_segment(e);
+    }
+
+    bool read_segment(error &e) {
+        const std::string_view rest = unread().substr(0, rejected);
+        const SouperOutcome segment = souper_first_segment(static_cast<std::uint32_t>(items_of), detail::bytes(rest), rest.size());
+        if (segment.status != SOUPER_DONE) {
+            detail::report(segment, e);
+            locate_bytes(rest, e);
+            return false;
+        }
+        const std::size_t left = rejected - segment.length;
+        if (!read_text(segment.length, e)) {
+            if (e.what != status::refused) {
+                return false;
+            }
+            detail::place(e, done);
+            pass(segment.length, {});
+        }
+        rejected = left;
+        return e.what == status::done;
+    }
+
+    // Reads the items of the first bytes, and passes over them.
+    bool read_text(std::size_t length, error &e) {
+        std::vector<item> found;
+        if (!detail::read(items_of, unread().substr(0, length), found, e)) {
+            return false;
+        }
+        pass(length, std::move(found));
+        return true;
+    }
+
+    void pass(std::size_t length, std::vector<item> found) {
+        const std::string_view text = unread().substr(0, length);
+        const std::size_t before = length > 1 ? text.rfind('\n', length - 2) : std::string_view::npos;
+        done.last_line = text.substr(before == std::string_view::npos ? 0 : before + 1);
+        const std::size_t empty = detail::gap(text);
+        part_offset = done.bytes + empty;
+        part_line = done.lines + detail::newlines(text.substr(0, empty)) + 1;
+        done.bytes += length;
+        done.lines += detail::newlines(text);
+        start += length;
+        whole -= std::min(length, whole);
+        goal = whole + 1;
+        items = std::move(found);
+        index = 0;
+    }
+
+    // Where the first byte is that is in no character.
+    void locate_bytes(std::string_view text, error &e) const noexcept {
+        std::size_t valid = 0, line_start = 0;
+        for (std::size_t length = 1; (length = detail::character(text.substr(valid))) > 0; valid += length) {
+            line_start = text[valid] == '\n' ? valid + 1 : line_start;
+        }
+        e.offset = done.bytes + valid;
+        e.line = done.lines + detail::newlines(text.substr(0, valid)) + 1;
+        e.column = valid - line_start + 1;
+    }
+
+    static constexpr std::size_t step = 65536;
+
+    kind items_of;
+    bool each_segment;
+    bool ended = false;
+    std::string buffer;
+    std::size_t start = 0;      // the read bytes of the buffer
+    std::size_t whole = 0;      // the unread bytes up to the last newline
+    std::size_t goal = 1;       // a cut is looked for when so many are there
+    std::size_t rejected = 0;   // the bytes of a chunk that are read segment by segment
+    detail::before done;
+    std::size_t part_offset = 0;
+    std::size_t part_line = 1;
+    std::vector<item> items; // of the last part
+    std::size_t index = 0;
+};
+
+} // namespace SOUPER_FORM
+#undef SOUPER_FORM
 
 } // namespace souper
 

@@ -51,6 +51,9 @@ the values, and `Builder`.
 
 **Texts.** A text is a `str`, or `bytes` in UTF-8. Offsets and columns are in bytes of UTF-8.
 
+**Streams.** ``stream(kind, file)`` gives the items of a binary file, which may be larger than memory,
+one by one, and a `Reader` those of what is pushed to it part by part.
+
 **Errors.** `Refused`, with its `Location`, if a text is invalid, `UnicodeError` if it is not UTF-8,
 `NotWellFormed`, with the item's first `Flaw`, if an item has no canonical text, `NoCode` if bytes
 are the code of no items; these are `ValueError`. `MemoryError` if an allocation fails.
@@ -67,7 +70,8 @@ from ._builder import Builder
 from ._calls import Record, canonical, check, format, key, keys, read, record_text, records, same
 from ._calls import write
 from ._code import decode, encode
-from ._errors import Flaw, FlawReason, Location, NoCode, NotWellFormed, Refused
+from ._errors import Flaw, FlawReason, Location, NoCode, NotUtf8, NotWellFormed, Refused
+from ._stream import Reader, stream
 from ._values import (
     Assignment,
     Attribute,
@@ -129,6 +133,7 @@ __all__ = [
     "NoCode",
     "NonNegative",
     "NonZero",
+    "NotUtf8",
     "NotWellFormed",
     "Op",
     "Operand",
@@ -136,6 +141,7 @@ __all__ = [
     "Phi",
     "PowerOfTwo",
     "Range",
+    "Reader",
     "Record",
     "Refused",
     "Replace",
@@ -159,6 +165,7 @@ __all__ = [
     "record_text",
     "records",
     "same",
+    "stream",
     "write",
 ]
 

@@ -58,6 +58,20 @@ class Refused(ValueError):
         return self.shown
 
 
+class NotUtf8(UnicodeError):
+    """Bytes of a stream are not UTF-8."""
+
+    def __init__(self, offset: int, line: int) -> None:
+        super().__init__(offset, line)
+        self.offset = offset
+        """Where the first byte is that is in no character."""
+        self.line = line
+        """Its line, from 1."""
+
+    def __str__(self) -> str:
+        return f"line {self.line}: not UTF-8 at byte {self.offset}"
+
+
 class FlawReason(Enum):
     """Why an item is not well formed, in the order in which the reasons are looked for."""
 

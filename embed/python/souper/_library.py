@@ -78,6 +78,8 @@ SIGNATURES: dict[str, list[Any]] = {
     "souper_same": [ctypes.c_uint32, *_BYTES, *_BYTES],
     "souper_flaw": [ctypes.c_uint32, *_BYTES],
     "souper_locate": [ctypes.c_uint32, *_BYTES],
+    "souper_last_cut": [ctypes.c_uint32, *_BYTES],
+    "souper_first_segment": [ctypes.c_uint32, *_BYTES],
 }
 # What a function returns that is no `Outcome`.
 _RESULTS: dict[str, Any] = {"souper_flaw": FlawNumbers, "souper_locate": LocationNumbers}

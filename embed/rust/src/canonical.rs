@@ -107,6 +107,48 @@ impl Refusal {
     pub fn input(&self) -> usize {
         self.input
     }
+
+    // Gives the refusal of a segment its place and its location in the stream.
+    pub(crate) fn place(&mut self, before: &Before) {
+        let last_line = String::from_utf8_lossy(&before.last_line);
+        // From the end: the caret, the line, the bar, and the message, which begins with the place.
+        let mut lines = self.shown.rsplitn(4, '\n');
+        let line = lines
+            .by_ref()
+            .nth(1)
+            .and_then(|line| line.split_once(" | "));
+        let message = lines.nth(1).and_then(|message| message.split_once(": "));
+        let (Some((_, mut text)), Some((_, message))) = (line, message) else {
+            unreachable!("a refusal has four lines")
+        };
+        if self.offset == 0 && before.bytes > 0 {
+            // The byte before is the newline of the line before.
+            (self.line, self.column) = (before.lines, before.last_line.len());
+            let whole = last_line.strip_suffix('\n').unwrap_or(&last_line);
+            text = whole.strip_suffix('\r').unwrap_or(whole);
+        } else {
+            self.line += before.lines;
+        }
+        let (number, column) = (self.line, self.column);
+        // A width of a format would panic past 65,535.
+        let spaces = " ".repeat(column - 1);
+        self.shown = format!(
+            "unknown:{number}:{column}: {message}\n     |\n{number:>4} | {text}\n     | {spaces}^"
+        );
+        self.offset += before.bytes;
+        if let Some(at) = &mut self.location {
+            at.offset += before.bytes;
+            at.line += before.lines;
+        }
+    }
+}
+
+// What comes before a segment in its stream.
+#[derive(Default)]
+pub(crate) struct Before {
+    pub(crate) bytes: usize,
+    pub(crate) lines: usize,
+    pub(crate) last_line: Vec<u8>,
 }
 
 impl fmt::Display for Refusal {

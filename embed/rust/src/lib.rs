@@ -76,8 +76,8 @@
 //! | the features `parse` and `stringify` | accepted, without effect: parsing and printing are always there |
 //! | memory that runs out ends the process | in the library it is an error; where this crate makes values, it ends the process |
 //!
-//! Besides the original, there are [`canonical`] (texts without values), [`code`] (the byte code of items),
-//! [`ast::Constant::from_bits`], and [`refusal`](parse::ParseError::refusal), [`location`](parse::ParseError::location) and
+//! Besides the original, there are [`canonical`] (texts without values), [`code`] (the byte code of items), [`stream`] (items of a
+//! stream that comes in parts), [`ast::Constant::from_bits`], and [`refusal`](parse::ParseError::refusal), [`location`](parse::ParseError::location) and
 //! [`is_at_end`](parse::ParseError::is_at_end) of [`parse::ParseError`].
 //!
 //! There is no state; calls may run on any threads at once.
@@ -96,3 +96,4 @@ pub mod code;
 mod display;
 pub mod parse;
 mod raw;
+pub mod stream;

@@ -59,6 +59,8 @@ extern "C" {
     fn souper_same(kind: u32, a: *const u8, n: usize, b: *const u8, m: usize) -> Outcome;
     fn souper_flaw(kind: u32, code: *const u8, n: usize) -> Flaw;
     fn souper_locate(kind: u32, text: *const u8, n: usize) -> Location;
+    fn souper_last_cut(kind: u32, text: *const u8, n: usize) -> Outcome;
+    fn souper_first_segment(kind: u32, text: *const u8, n: usize) -> Outcome;
 }
 
 /// A call that writes to a buffer.
@@ -133,4 +135,14 @@ pub(crate) fn flaw(kind: Kind, code: &[u8]) -> Flaw {
 pub(crate) fn locate(kind: Kind, text: &str) -> Location {
     // SAFETY: the pointer of a slice is not null.
     unsafe { souper_locate(kind as u32, text.as_ptr(), text.len()) }
+}
+
+pub(crate) fn last_cut(kind: Kind, text: &[u8]) -> Outcome {
+    // SAFETY: the pointer of a slice is not null.
+    unsafe { souper_last_cut(kind as u32, text.as_ptr(), text.len()) }
+}
+
+pub(crate) fn first_segment(kind: Kind, text: &[u8]) -> Outcome {
+    // SAFETY: the pointer of a slice is not null.
+    unsafe { souper_first_segment(kind as u32, text.as_ptr(), text.len()) }
 }

@@ -1,0 +1,230 @@
+"""The items of a stream that comes in parts."""
+
+from __future__ import annotations
+
+import re
+from collections.abc import Callable, Iterator
+from typing import BinaryIO
+
+from . import _library
+from ._calls import read
+from ._checks import check_type
+from ._errors import Location, NotUtf8, Refused
+from ._library import DONE, NUMBERS
+from ._values import Item, Kind
+
+_STEP = 65536
+"""In a longer segment a cut is looked for only when an eighth more is there."""
+
+
+class Reader:
+    """Reads the items of a stream that is pushed part by part, such as what a socket gives.
+
+    It is an iterator that ends when more of the stream is wanted, and goes on after the next
+    `push`. The stream is cut where an item ends and a line of the next begins, as the tokens of the
+    lines show it. Between two cuts is a *segment*. An item is there when the first line of the next
+    is whole, or after `finish`. In memory are what was pushed since the last cut, which is an
+    unfinished segment, and the items of the segments that were cut last.
+
+    An invalid segment gives no items. It raises `Refused`, with its place and `Location` in the
+    stream, and the next call of `next` reads on after it. With `refused` that function is called
+    with the exception instead, and the iterator goes on. At bytes that are not UTF-8 it raises
+    `NotUtf8`, after the segments before them, and is at its end.
+
+    With `by_segments` each segment is read by itself: `offset` and `line` are then those of the
+    item, if its segment has no other. It takes more time.
+
+    >>> reader = Reader("rhs", refused=lambda refusal: print("refused:", refusal.location))
+    >>> reader.push(b"result 1\\nresult\\nres")
+    >>> [item.ending for item in reader]
+    [Result(operand=Constant(value=1, width=None))]
+    >>> reader.push(b"ult 2")
+    >>> reader.finish()
+    >>> [item.ending for item in reader]
+    refused: Location(offset=15, line=2, column=7)
+    [Result(operand=Constant(value=2, width=None))]
+    """
+
+    def __init__(
+        self,
+        kind: Kind | str,
+        *,
+        by_segments: bool = False,
+        refused: Callable[[Refused], object] | None = None,
+    ) -> None:
+        self._kind = Kind(kind)
+        self._by_segments = by_segments
+        self._refused = refused
+        self._buffer = bytearray()
+        self._whole = 0  # the bytes up to the last newline
+        self._goal = 1  # a cut is looked for when so many bytes are there
+        self._rejected = 0  # the bytes of a chunk that are read segment by segment
+        self._is_finished = False
+        self._bytes = 0  # before the buffer, in the stream
+        self._lines = 0
+        self._last_line = b""
+        self._items: Iterator[Item] = iter(())
+        self.offset = 0
+        """Where the part begins that the last item came from, or that was refused: its first byte
+        that is not in white space nor in a comment. A part is one segment or more."""
+        self.line = 1
+        """The line of that byte."""
+
+    def push(self, part: bytes) -> None:
+        """Takes the next bytes of the stream, which may be cut anywhere.
+
+        `ValueError` after `finish`.
+        """
+        check_type("a part", part, "bytes", bytes, bytearray, memoryview)
+        if self._is_finished:
+            raise ValueError("the stream has ended")
+        part = bytes(part)
+        newline = part.rfind(b"\n")
+        if newline >= 0:
+            self._whole = len(self._buffer) + newline + 1
+        self._buffer += part
+
+    def finish(self) -> None:
+        """Says that nothing comes after what was pushed."""
+        self._is_finished = True
+
+    def __iter__(self) -> Reader:
+        return self
+
+    def __next__(self) -> Item:
+        while (item := next(self._items, None)) is None:
+            try:
+                if not self._read_part():
+                    raise StopIteration
+            except Refused as refusal:
+                if self._refused is None:
+                    raise
+                self._refused(refusal)
+        return item
+
+    def _next_chunk(self) -> int:
+        """The length of the next chunk, which is cut at its end; 0 if there is none yet."""
+        if self._is_finished:
+            return len(self._buffer)
+        if self._whole < self._goal:
+            return 0
+        lines = bytes(memoryview(self._buffer)[: self._whole])
+        cut = _library.LIBRARY.souper_last_cut(NUMBERS[self._kind], lines, len(lines))
+        if cut.status != DONE:
+            return self._whole
+        more = self._whole // 8 if self._whole > _STEP else 0
+        self._goal = self._whole + 1 + more
+        return int(cut.length)
+
+    def _read_part(self) -> bool:
+        """Reads the next part, if there is one."""
+        if not self._rejected:
+            length = self._next_chunk()
+            if not length:
+                return False
+            if not self._by_segments and self._reads_chunk(length):
+                return True
+            self._rejected = length
+        rest = bytes(memoryview(self._buffer)[: self._rejected])
+        segment = _library.LIBRARY.souper_first_segment(NUMBERS[self._kind], rest, len(rest))
+        if segment.status != DONE:
+            raise self._fail(rest)
+        left = self._rejected - segment.length
+        text = rest[: segment.length]
+        try:
+            items = read(self._kind, text)
+        except Refused as refusal:
+            placed = self._placed(refusal)
+            self._pass(text, [])
+            self._rejected = left
+            raise placed from None
+        self._pass(text, items)
+        self._rejected = left
+        return True
+
+    def _reads_chunk(self, length: int) -> bool:
+        text = bytes(memoryview(self._buffer)[:length])
+        try:
+            items = read(self._kind, text)
+        except (Refused, UnicodeDecodeError):
+            return False
+        self._pass(text, items)
+        return True
+
+    def _pass(self, text: bytes, items: list[Item]) -> None:
+        empty = text[: _gap(text)]
+        self.offset = self._bytes + len(empty)
+        self.line = self._lines + empty.count(b"\n") + 1
+        self._bytes += len(text)
+        self._lines += text.count(b"\n")
+        self._last_line = text[text.rfind(b"\n", 0, len(text) - 1) + 1 :]
+        self._items = iter(items)
+        del self._buffer[: len(text)]
+        self._whole = max(self._whole - len(text), 0)
+        self._goal = self._whole + 1
+
+    def _fail(self, text: bytes) -> Exception:
+        """Ends the stream at bytes that are not UTF-8."""
+        self._is_finished = True
+        self._buffer = bytearray()
+        self._rejected = 0
+        try:
+            text.decode()
+        except UnicodeDecodeError as error:
+            lines = text.count(b"\n", 0, error.start)
+            return NotUtf8(self._bytes + error.start, self._lines + lines + 1)
+        return RuntimeError("the library found no segment")
+
+    def _placed(self, refusal: Refused) -> Refused:
+        """The refusal of a segment, with its place and its location in the stream."""
+        head, _, line, _ = refusal.shown.rsplit("\n", 3)
+        message = head.partition(": ")[2]
+        text = line.partition(" | ")[2]
+        number, column = refusal.line + self._lines, refusal.column
+        if refusal.offset == 0 and self._bytes:
+            # The byte before is the newline of the line before.
+            number, column = self._lines, len(self._last_line)
+            text = self._last_line.decode().removesuffix("\n").removesuffix("\r")
+        at = refusal.location
+        if at is not None:
+            at = Location(at.offset + self._bytes, at.line + self._lines, at.column)
+        mark = " " * (column - 1) + "^"
+        shown = f"unknown:{number}:{column}: {message}\n     |\n{number:>4} | {text}\n     | {mark}"
+        offset = refusal.offset + self._bytes
+        return Refused(shown, offset, number, column, refusal.input, at, refusal.at_end)
+
+
+def _gap(text: bytes) -> int:
+    """The length of the white space and the comments that the text begins with.
+
+    Of white space that is not ASCII it knows nothing.
+    """
+    found = re.match(rb"(?:[ \t-\r]|;[^\n]*)*", text)
+    return found.end() if found else 0
+
+
+def stream(
+    kind: Kind | str,
+    file: BinaryIO,
+    *,
+    by_segments: bool = False,
+    refused: Callable[[Refused], object] | None = None,
+) -> Iterator[Item]:
+    """The items of a binary file, which may be larger than memory, and may be a pipe or a socket.
+
+    `Refused` at an invalid segment, which ends the iterator; with `refused` that function is called
+    with the exception instead, and the iterator goes on. `Reader` says more.
+
+    >>> import io
+    >>> file = io.BytesIO(b"result 1\\nresult\\nresult 2")
+    >>> [item.ending.operand.value for item in stream("rhs", file, refused=lambda refusal: None)]
+    [1, 2]
+    """
+    reader = Reader(kind, by_segments=by_segments, refused=refused)
+    # What is there is taken: `read` would wait for all bytes.
+    take = getattr(file, "read1", file.read)
+    while part := take(_STEP):
+        reader.push(part)
+        yield from reader
+    reader.finish()
+    yield from reader
