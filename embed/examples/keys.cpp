@@ -8,6 +8,12 @@
 #include <string>
 #include <vector>
 
+// What the first line of a refusal says after its place, which is that of the byte before the fault.
+static std::string message(const souper::refused &refusal) {
+    const std::string first = refusal.shown().substr(0, refusal.shown().find('\n'));
+    return first.substr(first.find(": ") + 2);
+}
+
 int main(int argc, char **argv) {
     std::map<std::string, std::vector<std::string>> files_of;
     int status = 0;
@@ -22,7 +28,8 @@ int main(int argc, char **argv) {
         try {
             files_of[souper::format(souper::kind::lhs, text)].push_back(argv[i]);
         } catch (const souper::refused &refusal) {
-            std::cerr << argv[i] << ":" << refusal.line << ":" << refusal.column << ": refused\n" << refusal.what() << "\n";
+            const auto at = refusal.location.value_or(souper::location{refusal.offset, refusal.line, refusal.column});
+            std::cerr << argv[i] << ":" << at.line << ":" << at.column << ": " << message(refusal) << "\n";
             status = 1;
         } catch (const souper::not_utf8 &error) {
             std::cerr << argv[i] << ": " << error.what() << "\n";

@@ -145,15 +145,15 @@ class Typing(unittest.TestCase):
             opened.kind(kind)
             self.assertEqual(opened.text("canonical"), souper.format(kind, text))
         opened.kind("rhs")
-        self.assertEqual(opened.text("status"), "Line 1, column 9: expected 'result'")
+        self.assertEqual(opened.text("status"), "Line 1, column 10: expected 'result'")
 
     def test_an_error(self) -> None:
         text = "%x = var\n%y = add %zebra, 1\ninfer %y"
         opened.set("text", text)
-        self.assertEqual(opened.text("status"), "Line 2, column 9: unknown value '%zebra'")
+        self.assertEqual(opened.text("status"), "Line 2, column 10: unknown value '%zebra'")
         self.assertEqual((opened.text("canonical"), opened.svg(), opened.text("keys")), (None, None, None))
         self.assertEqual(opened.text("error").split("\n")[0], "   2 | %y = add %zebra, 1")
-        self.assertEqual(self.caret(), 9)
+        self.assertEqual(self.caret(), 10)
         opened.browser.run("document.getElementById('go').click()")
         selected = "[document.activeElement.id, document.activeElement.selectionStart, document.activeElement.selectionEnd]"
         self.assertEqual(opened.browser.run(selected), ["text", text.index("%zebra"), text.index("%zebra") + 1])
@@ -187,9 +187,12 @@ class Typing(unittest.TestCase):
             opened.set("text", text)
             with self.assertRaises(souper.Refused) as raised:
                 souper.format("lhs", text)
-            line = text.split("\n")[raised.exception.line - 1].encode()
-            wanted = len(line[: raised.exception.column - 1].decode(errors="ignore")) + 1
-            self.assertEqual(self.caret(), wanted, (text, place))
+            location = raised.exception.location
+            assert location is not None
+            line = text.split("\n")[location.line - 1]
+            wanted = len(line.encode()[: location.column - 1].decode()) + 1
+            # After the end of the line no character is above the caret.
+            self.assertEqual(self.caret(), wanted if wanted <= len(line) else None, (text, place))
 
     def test_text_never_becomes_markup(self) -> None:
         for text in ("<img src=x onerror=alert(1)>", "%x = var </script><script>alert(1)</script>", "&lt;b&gt;", "infer %x <b>", "'\"><svg onload=alert(1)>",
@@ -218,7 +221,7 @@ class Typing(unittest.TestCase):
             (ITEM.replace("%x", "%a"), "Different, and the same modulo renaming."),
             (ITEM.replace("1", "2"), "Different, also modulo renaming."),
             (ITEM + "\n" + ITEM, "Different, also modulo renaming. First difference: item 2."),
-            ("infer %q", "Line 1, column 6: no value named '%q' in scope"),
+            ("infer %q", "Line 1, column 7: no value named '%q' in scope"),
             (ITEM, "Same: the texts have the same graphs."),
         ):
             opened.set("other", text)

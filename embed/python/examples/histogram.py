@@ -24,7 +24,9 @@ def texts(kind: str, paths: Iterable[Path]) -> Counter[str]:
         try:
             records = souper.records(kind, path.read_bytes(), rename=True)
         except souper.Refused as refusal:
-            sys.exit(f"{path}:{refusal.line}:{refusal.column}: refused\n{refusal}")
+            _, line, column = refusal.location or (0, refusal.line, refusal.column)
+            message = refusal.shown.partition("\n")[0].partition(": ")[2]
+            sys.exit(f"{path}:{line}:{column}: {message}")
         found.update(record.text for record in records)
     return found
 

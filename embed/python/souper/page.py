@@ -29,7 +29,7 @@ from typing import Any, TypeAlias
 
 from . import _programs
 from ._calls import format, records
-from ._errors import Refused
+from ._errors import Location, Refused
 from ._pictures import Box, pictures
 from ._values import Kind
 
@@ -93,16 +93,17 @@ def _box(box: Box) -> Json:
 
 def _error(refusal: Refused, text: str) -> Json:
     """A parse error. Positions in the text are in the units of the page's script, UTF-16."""
-    head, _, source, _ = refusal.shown.rsplit("\n", 3)
-    line = source.partition(" | ")[2]
-    before = text.encode()[: refusal.offset].decode(errors="ignore")
+    head = refusal.shown.rsplit("\n", 3)[0]
+    at = refusal.location or Location(refusal.offset, refusal.line, refusal.column)
+    *_, line = text.split("\n", at.line)[: at.line]
+    before = text.encode()[: at.offset].decode(errors="ignore")
     return {
         "message": head.removeprefix(f"unknown:{refusal.line}:{refusal.column}: "),
-        "line": refusal.line,
-        "column": refusal.column,
-        "source": line,
+        "line": at.line,
+        "column": at.column,
+        "source": line.removesuffix("\r"),
         # The caret is below the byte of the column, the first of which is the column 1.
-        "before": line.encode()[: refusal.column - 1].decode(errors="ignore"),
+        "before": line.encode()[: at.column - 1].decode(errors="ignore"),
         "position": len(before.encode("utf-16-le")) // 2,
     }
 
