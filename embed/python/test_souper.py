@@ -8,6 +8,7 @@ import copy
 import ctypes
 import doctest
 import hashlib
+import io
 import itertools
 import os
 import pickle
@@ -277,6 +278,189 @@ class Locations(unittest.TestCase):
                 souper.format("lhs", "")
         found = raised.exception
         self.assertEqual((found.offset, found.location, found.at_end), (9, None, False))
+
+
+class Streams(unittest.TestCase):
+    """The reader of streams: the items and refusals of the segments, however the stream comes."""
+
+    LHS = (
+        "; a comment first\n%x = var\ninfer %x\n\n%y:i8 = var ; é\r\n%z = add %y, 1\r\npc %z 1\r\n"
+        "infer %z\r\n%x = var\ninfer %q\n  # no comment\n%a = var\n%b = frob %a\ninfer %b\n%x = var\n"
+        "infer\n%x = var infer %x %y = var\ninfer %y (harvestedFromUse)\n; infer %x\n%x = var\n\n\n"
+        "; between\n infer %x\n%n = var\n%m = add %n,\n1\ninfer %m"
+    ).encode()
+    TEXTS = (
+        (Kind.LHS, LHS),
+        (Kind.REP, b"%x = var\ncand %x 1\n%x = var\ninfer %x\n%y = var\nresult %y\nresult 2\n\n"),
+        (Kind.RHS, b"result 1\nresult 2 result 3\nresult\nresult %x\n%x = var result %x\n\n"),
+        (Kind.RHS, b""),
+        (Kind.LHS, b"; no item"),
+        (Kind.RHS, b"result 5"),
+        (Kind.RHS, b"\n\nresult"),
+    )
+
+    def told(self, refusal: souper.Refused) -> object:
+        # If the token at fault begins the segment, the line before is shown.
+        message = refusal.shown.split("\n")[0]
+        return message, refusal.args[1:], refusal.location, refusal.at_end
+
+    def wanted(self, kind: Kind, text: bytes) -> list[object]:
+        """Each segment is read after as many blank bytes and lines as come before it."""
+        found: list[object] = []
+        at = 0
+        while at < len(text):
+            rest = text[at:]
+            length = LIBRARY.souper_first_segment(list(Kind).index(kind), rest, len(rest)).length
+            blank = re.sub(rb"[^\n]", b" ", text[:at])
+            try:
+                found += souper.read(kind, blank + rest[:length])
+            except souper.Refused as refusal:
+                found.append(self.told(refusal))
+            at += length
+        return found
+
+    def found(self, kind: Kind, parts: list[bytes], **options: bool) -> list[object]:
+        found: list[object] = []
+        reader = souper.Reader(kind, refused=lambda r: found.append(self.told(r)), **options)
+        for part in parts:
+            reader.push(part)
+            found.extend(reader)
+        reader.finish()
+        found.extend(reader)
+        return found
+
+    def parts(self, text: bytes, cuts: list[int]) -> list[bytes]:
+        return [text[a:b] for a, b in zip([0, *cuts], [*cuts, len(text)])]
+
+    def test_each_text_in_parts(self) -> None:
+        for kind, text in self.TEXTS:
+            wanted = self.wanted(kind, text)
+            for cut in range(len(text) + 1):
+                self.assertEqual(self.found(kind, self.parts(text, [cut])), wanted)
+            for by_segments in (False, True):
+                for parts in ([text], [text[i : i + 1] for i in range(len(text))]):
+                    found = self.found(kind, parts, by_segments=by_segments)
+                    self.assertEqual(found, wanted)
+        self.assertEqual(len(self.wanted(*self.TEXTS[0])), 9)
+
+    def test_each_split_of_a_small_text(self) -> None:
+        text = b"result 1\nresult"
+        wanted = self.wanted(Kind.RHS, text)
+        inner = range(1, len(text))
+        for split in range(1 << len(inner)):
+            cuts = [at for at in inner if split >> (at - 1) & 1]
+            if len(cuts) < 4 or split % 16 == 0:
+                self.assertEqual(self.found(Kind.RHS, self.parts(text, cuts)), wanted)
+
+    def test_random_cuts(self) -> None:
+        r = random.Random(5)
+        wanted = self.wanted(Kind.LHS, self.LHS)
+        for n in range(2000):
+            cuts = sorted(r.randrange(len(self.LHS)) for _ in range(r.randrange(12)))
+            found = self.found(Kind.LHS, self.parts(self.LHS, cuts), by_segments=n % 5 == 0)
+            self.assertEqual(found, wanted)
+
+    def test_the_stored_texts(self) -> None:
+        for kind in Kind:
+            text = b"\n".join(record.text for record in RECORDS if record.kind is kind)
+            parts = [text[i : i + 977] for i in range(0, len(text), 977)]
+            self.assertEqual(self.found(kind, parts), self.wanted(kind, text))
+
+    def test_what_a_refusal_shows_is_what_the_whole_text_shows(self) -> None:
+        texts = [record.text for record in REFUSED if record.kind is Kind.LHS]
+        for text in (*texts, b"result %x\n", b"\n\ninfer\n"):
+            for begun in (b"%x = var\ninfer %x (harvestedFromUse)\r\n", b"%x = var infer %x\n" * 12345):
+                self.assert_as_whole(begun + text)
+                if len(begun) > 1000 and len(text) > 20:
+                    break
+
+    def assert_as_whole(self, text: bytes) -> None:
+        with self.assertRaises(souper.Refused) as whole:
+            souper.format("lhs", text)
+        with self.assertRaises(souper.Refused) as raised:
+            for _ in souper.stream("lhs", io.BytesIO(text)):
+                pass
+        found, wanted = raised.exception, whole.exception
+        # A text that ends in its first invalid segment: the whole text may be at fault later.
+        if found.location == wanted.location:
+            self.assertEqual((found.args, found.at_end), (wanted.args, wanted.at_end), text)
+            self.assertEqual(found.shown, wanted.shown)
+
+    def test_reading_on(self) -> None:
+        reader = souper.Reader("rhs", by_segments=True)
+        reader.push(b"; first\nresult 1\nresult\nresult 2\nres")
+        self.assertEqual(next(reader).ending, souper.Result(Constant(1)))
+        self.assertEqual((reader.offset, reader.line), (8, 2))
+        with self.assertRaises(souper.Refused) as raised:
+            next(reader)
+        self.assertEqual((raised.exception.location, raised.exception.at_end), ((23, 3, 7), True))
+        self.assertEqual((reader.offset, reader.line), (17, 3))
+        self.assertIsNone(next(reader, None))
+        reader.push(b"ult 3")
+        self.assertIsNone(next(reader, None))
+        reader.push(b"\n")
+        self.assertEqual([item.ending.operand for item in reader], [Constant(2)])
+        reader.finish()
+        self.assertEqual([item.ending.operand for item in reader], [Constant(3)])
+        self.assertEqual((reader.offset, reader.line), (33, 5))
+        self.assertRaises(ValueError, reader.push, b"result 4")
+        self.assertIsNone(next(reader, None))
+
+    def test_bytes_that_are_not_utf8(self) -> None:
+        text = "result 1\nresult 2\n; é ".encode() + b"\xe2\x82\nresult 3\nresult 4\n"
+        for cut in range(len(text)):
+            reader = souper.Reader("rhs")
+            found = []
+            with self.assertRaises(souper.NotUtf8) as raised:
+                for part in (text[:cut], text[cut:]):
+                    reader.push(part)
+                    found.extend(reader)
+            self.assertEqual((raised.exception.offset, raised.exception.line), (23, 3))
+            self.assertEqual(str(raised.exception), "line 3: not UTF-8 at byte 23")
+            self.assertIsNone(next(reader, None))
+            self.assertLessEqual(len(found), 1)
+        self.assertIsInstance(pickle.loads(pickle.dumps(raised.exception)), UnicodeError)
+
+    def test_parts(self) -> None:
+        parts: list[Any] = [None, 5, "result 1", [b"result"]]
+        for part in parts:
+            self.assertRaises(TypeError, souper.Reader("rhs").push, part)
+        for kind in ("", None, 0):
+            self.assertRaises(ValueError, souper.Reader, kind)
+        self.assertEqual(len(self.found(Kind.RHS, [bytearray(b"result 1\n"), memoryview(b"result 2")])), 2)  # type: ignore[list-item]
+
+    def test_a_pipe_gives_items_as_they_come(self) -> None:
+        read, write = os.pipe()
+        with open(read, "rb") as file, open(write, "wb", buffering=0) as sink:
+            sink.write(b"result 1\nresult 2\n")
+            items = souper.stream("rhs", file)
+            self.assertEqual(next(items).ending, souper.Result(Constant(1)))
+            sink.write(b"result 3\n")
+            self.assertEqual(next(items).ending, souper.Result(Constant(2)))
+            sink.close()
+            self.assertEqual(next(items).ending, souper.Result(Constant(3)))
+            self.assertIsNone(next(items, None))
+
+    def test_memory_stays_flat(self) -> None:
+        text = b"%x:i8 = var\n%y = add %x, 1\npc %y 1\ninfer %y\n" * 400
+
+        class Long(io.RawIOBase):
+            left = 80
+
+            def read(self, size: int = -1) -> bytes:
+                self.left -= 1
+                return text if self.left >= 0 else b""
+
+        peaks = []
+        for n in (4, 80):
+            file = Long()
+            file.left = n
+            tracemalloc.start()
+            count = sum(1 for _ in souper.stream("lhs", file))  # type: ignore[arg-type]
+            peaks.append(tracemalloc.get_traced_memory()[1])
+            tracemalloc.stop()
+            self.assertEqual(count, 400 * n)
+        self.assertLess(peaks[1], 1.5 * peaks[0])
 
 
 class Instructions(unittest.TestCase):
@@ -775,6 +959,7 @@ class Arguments(unittest.TestCase):
         flaw = souper.Flaw(0, souper.FlawReason.ZERO_WIDTH, "%x")
         errors: list[Exception] = [souper.NotWellFormed(3), souper.NotWellFormed(3, flaw)]
         errors.append(souper.NoCode(2, 40))
+        errors.append(souper.NotUtf8(2, 1))
         errors.append(souper.Refused("shown", 1, 2, 3, 1))
         errors.append(souper.Refused("shown", 1, 2, 3, 1, souper.Location(1, 2, 4), True))
         for error in errors:
@@ -904,7 +1089,7 @@ class Programs(unittest.TestCase):
         path = str(ROOT / "examples/invalid.souper")
         found = python((HERE / "examples/histogram.py").read_text(), "lhs", path)
         self.assertEqual((found.returncode, found.stdout), (1, ""))
-        self.assertTrue(found.stderr.startswith(f"{path}:6:9: refused\n"))
+        self.assertEqual(found.stderr, f"{path}:6:10: unknown value '%z'\n")
 
 
 if __name__ == "__main__":
