@@ -183,6 +183,26 @@ static void neighbors(const Record *record, const Record *next) {
     expect(equal(outcome, wanted), "whether it is the same as the next", record);
 }
 
+/* The segments of a text's whole lines make up these lines, and the last begins at the last cut point. */
+static void cuts(const Record *record) {
+    size_t lines = record->text_length, at = 0, last = 0;
+    SouperOutcome wanted = nothing;
+    while (lines > 0 && record->text[lines - 1] != '\n') {
+        lines--;
+    }
+    while (at < lines) {
+        SouperOutcome segment = souper_first_segment(record->kind, record->text + at, lines - at);
+        wanted.length = segment.length;
+        expect(equal(segment, wanted) && segment.length > 0 && segment.length <= lines - at, "a segment", record);
+        expect(record->text[at + segment.length - 1] == '\n', "that a segment ends with a line", record);
+        last = at;
+        at += segment.length > 0 ? segment.length : lines;
+    }
+    wanted.length = last;
+    expect(at == lines, "that the segments make up the text", record);
+    expect(equal(souper_last_cut(record->kind, record->text, record->text_length), wanted), "the last cut point", record);
+}
+
 static const Record *next_of_kind(const Record *record, const Record *end) {
     for (const Record *next = record + 1; next < end; next++) {
         if (next->kind == record->kind && next->status == SOUPER_DONE && next->answer_length > 0) {
@@ -220,7 +240,7 @@ static void locations(void) {
 /* What no number may do: a kind that is none, bytes that are no text, no bytes. */
 static void numbers(void) {
     static const uint32_t none[] = {3, 7, 256, 0x80000000u, UINT32_MAX};
-    uint8_t byte = 0xaa, empty = 0, bad[] = {'%', 'x', 0xff};
+    uint8_t byte = 0xaa, empty = 0, bad[] = {'%', 'x', 0xff}, bad_line[] = {0xff, '\n'};
     SouperOutcome no_kind = nothing, no_text = nothing;
     no_kind.status = SOUPER_NO_KIND;
     no_text.status = SOUPER_NOT_UTF8;
@@ -232,6 +252,8 @@ static void numbers(void) {
         expect(equal(souper_check(none[i], bad, sizeof bad), no_kind), "no kind, check", NULL);
         expect(is_located(souper_locate(none[i], bad, sizeof bad), SOUPER_NO_KIND, 0, 0, 0, 0), "no kind, locate", NULL);
         expect(souper_flaw(none[i], bad, sizeof bad).status == SOUPER_NO_KIND, "no kind, flaw", NULL);
+        expect(equal(souper_last_cut(none[i], bad, sizeof bad), no_kind), "no kind, last cut", NULL);
+        expect(equal(souper_first_segment(none[i], bad, sizeof bad), no_kind), "no kind, first segment", NULL);
         expect(equal(souper_same(none[i], bad, sizeof bad, bad, sizeof bad), no_kind), "no kind, same", NULL);
     }
     for (uint32_t kind = SOUPER_LHS; kind <= SOUPER_REP; kind++) {
@@ -245,6 +267,9 @@ static void numbers(void) {
         expect(equal(souper_check(kind, bad, sizeof bad), no_text), "no text, check", NULL);
         expect(is_located(souper_locate(kind, bad, sizeof bad), SOUPER_NOT_UTF8, 0, 0, 0, 0), "no text, locate", NULL);
         expect(souper_flaw(kind, bad, sizeof bad).status == SOUPER_NO_CODE, "no code, flaw", NULL);
+        expect(equal(souper_last_cut(kind, bad, sizeof bad), nothing), "an unfinished line, last cut", NULL);
+        expect(equal(souper_last_cut(kind, bad_line, sizeof bad_line), no_text), "no text, last cut", NULL);
+        expect(equal(souper_first_segment(kind, bad, sizeof bad), no_text), "no text, first segment", NULL);
         expect(equal(souper_same(kind, bad, sizeof bad, &empty, 0), no_text), "no text, first", NULL);
         expect(equal(souper_same(kind, &empty, 0, bad, sizeof bad), second), "no text, second", NULL);
         expect(equal(souper_format(kind, &empty, 0, &byte, 0), nothing), "no bytes", NULL);
@@ -252,6 +277,8 @@ static void numbers(void) {
         expect(equal(souper_check(kind, &empty, 0), nothing), "no bytes, check", NULL);
         expect(is_located(souper_locate(kind, &empty, 0), SOUPER_DONE, 0, 0, 0, 0), "no bytes, locate", NULL);
         expect(souper_flaw(kind, &empty, 0).status == SOUPER_NO_CODE, "no bytes, flaw", NULL);
+        expect(equal(souper_last_cut(kind, &empty, 0), nothing), "no bytes, last cut", NULL);
+        expect(equal(souper_first_segment(kind, &empty, 0), nothing), "no bytes, first segment", NULL);
         expect(equal(souper_same(kind, &empty, 0, &empty, 0), nothing), "no bytes, same", NULL);
     }
 }
@@ -266,6 +293,7 @@ int main(int argc, char **argv) {
         codes(&records[i], outcome);
         recorded(&records[i]);
         questions(&records[i], outcome);
+        cuts(&records[i]);
         const Record *next = next_of_kind(&records[i], records + count);
         if (records[i].status == SOUPER_DONE && next != NULL) {
             neighbors(&records[i], next);

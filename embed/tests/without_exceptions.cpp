@@ -109,11 +109,31 @@ void other_errors() {
            "decode, another kind", nullptr);
 }
 
+void streams() {
+    souper::reader from(kind::rhs);
+    error e;
+    std::optional<item> one;
+    from.push("result 1\nresult\nresult 2\nresult 3\n\xff\n");
+    expect(from.try_next(one, e) && is_none(e) && one && from.line() == 1, "an item of a stream", nullptr);
+    expect(!from.try_next(one, e) && e.what == status::refused && !one && e.location == souper::location{15, 2, 7} && e.at_end,
+           "an invalid segment", nullptr);
+    expect(from.try_next(one, e) && is_none(e) && one, "the item after it", nullptr);
+    for (int again = 0; again < 2; again++) {
+        expect(!from.try_next(one, e) && e.what == status::not_utf8 && e.offset == 34 && e.line == 5 && e.column == 1 && e.shown.empty(),
+               "bytes that are not UTF-8", nullptr);
+    }
+    souper::reader ended(kind::rhs);
+    ended.finish();
+    ended.push("result 1");
+    expect(ended.try_next(one, e) && is_none(e) && !one, "a push after the end", nullptr);
+}
+
 } // namespace
 
 int main() {
     done();
     refused();
     other_errors();
+    streams();
     return summary("C++ without exceptions");
 }
