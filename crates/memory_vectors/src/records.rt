@@ -137,7 +137,7 @@ fn writing_first_items(rt: HostRuntime) -> Result<(), Fail> {
 fn item_object(rt: &impl Abort, alloc: Global) -> Met {
     let want = Want {
         status: 0,
-        records: b"{\"file\":\"a.opt\",\"key\":\"5c403662fcd26736aeae00bdfcb2bbb44ba7e2d5ecd0c212fa872ef39b72a9c8\",\"line\":1,\"text\":\"%b = var\\ninfer %b\\n\"}\n",
+        records: b"{\"file\":\"a.opt\",\"key\":\"5c403662fcd26736aeae00bdfcb2bbb44ba7e2d5ecd0c212fa872ef39b72a9c8\",\"line\":1,\"offset\":0,\"text\":\"%b = var\\ninfer %b\\n\"}\n",
         line: b"",
     };
     run(rt, alloc, Command::Objects, b"%b = var infer %b", want)
