@@ -17,7 +17,7 @@ use Rattle.souper_ir.specs.Errors.{kind_of}
 use Rattle.souper_ir.specs.Sinks.{PrefixSpells}
 use Rattle.souper_stream.specs.declared.reader.ItemReader.{ItemReader}
 use Rattle.souper_stream.specs.Segments.{Line, concat, all_lines, AreParts, PartsSpell}
-use Rattle.souper_stream.specs.Parts.{HasParts, HasAll, asks_for_starts}
+use Rattle.souper_stream.specs.Parts.{HasParts, HasAll, keeps_starts}
 use Rattle.souper_stream.proofs.SegmentLaws.{spells_by_parts, none_with}
 use Rattle.souper_stream.proofs.Reached.{prefix_of, parts_begin}
 use Rattle.souper_format.specs.declared.watched.Watched.{Watched}
@@ -28,7 +28,7 @@ use Rattle.souper_records.specs.declared.stop.Stop.TheVariants.{Input, Output, M
 use Rattle.souper_records.specs.Stops.{IfInput, UnlessOutput}
 use Rattle.souper_records.specs.Runs.{output_name, EndsWithFault, IsPartsEnd, IsRun}
 use Rattle.souper_records.specs.Reports.{IsMemoryLine, IsFaultLine, Reported, ReportedFault, ReportedFaultOf}
-use Rattle.souper_records.specs.Outcomes.{Outcome, IsOutcome, IsOutcomeAfter, AreOutcomes, IsStarted, AreStarted, parts_of, items_of, refusals_of, any_refused, AreErrorLines, AreReported, AreReportedThen, WritesPart, WritesParts, ReadsParts, EndsRefused, IsBegun, StopsAfter, WroteParts}
+use Rattle.souper_records.specs.Outcomes.{Outcome, IsOutcome, IsOutcomeAfter, AreOutcomes, HasItemStarts, HaveItemStarts, parts_of, items_of, refusals_of, any_refused, AreErrorLines, AreReported, AreReportedThen, WritesPart, WritesParts, ReadsParts, EndsRefused, IsBegun, StopsAfter, WroteParts}
 
 -- ---- lists of outcomes
 
@@ -38,10 +38,10 @@ outcomes_more k file start before (p ∷ os) o h is =
     (h.0, outcomes_more k file start (before ++ p.part ∷ []) os o h.1 (subst (λ (x : List (List Line)). IsOutcomeAfter k file start (concat (all_lines x)) o) (sym (append_assoc before (p.part ∷ []) (parts_of os))) is))
 
 -- where the items of one more begin
-pub started_more : (k : ItemType) (before : List (List Line)) (os : List Outcome) (o : Outcome) → AreStarted k before os → IsStarted k (concat (all_lines (before ++ parts_of os))) o → AreStarted k before (os ++ o ∷ [])
-started_more k before [] o h is = (subst (λ (x : List (List Line)). IsStarted k (concat (all_lines x)) o) (append-nil before) is, tt)
+pub started_more : (k : ItemType) (before : List (List Line)) (os : List Outcome) (o : Outcome) → HaveItemStarts k before os → HasItemStarts k (concat (all_lines (before ++ parts_of os))) o → HaveItemStarts k before (os ++ o ∷ [])
+started_more k before [] o h is = (subst (λ (x : List (List Line)). HasItemStarts k (concat (all_lines x)) o) (append-nil before) is, tt)
 started_more k before (p ∷ os) o h is =
-    (h.0, started_more k (before ++ p.part ∷ []) os o h.1 (subst (λ (x : List (List Line)). IsStarted k (concat (all_lines x)) o) (sym (append_assoc before (p.part ∷ []) (parts_of os))) is))
+    (h.0, started_more k (before ++ p.part ∷ []) os o h.1 (subst (λ (x : List (List Line)). HasItemStarts k (concat (all_lines x)) o) (sym (append_assoc before (p.part ∷ []) (parts_of os))) is))
 
 pub parts_more : (os : List Outcome) (o : Outcome) → parts_of (os ++ o ∷ []) ≡ parts_of os ++ o.part ∷ []
 parts_more os o = map-append (λ (x : Outcome). x.part) os (o ∷ [])
@@ -93,13 +93,13 @@ pub record Reached (k : ItemType) (file start mid : Option (List ℕ)) (asked : 
   pub outcomes : List Outcome
   pub had : HasParts k start mid (parts_of outcomes) r
   pub are : AreOutcomes k file start [] outcomes
-  pub started : asked ≡ true → AreStarted k [] outcomes
+  pub started : asked ≡ true → HaveItemStarts k [] outcomes
   pub written : wrote outcomes
   pub reported : AreReported err (refusals_of outcomes)
   pub any_is : any ≡ any_refused outcomes
 
 abbrev pub reached_more : {k : ItemType} {file start mid after : Option (List ℕ)} {asked : Bool} {wrote both : List Outcome → Type 0} {more : Outcome → Type 0} {any refused : Bool} {p q : ItemReader} {E : Type 0} (bytes_of : E → Option (List ℕ)) (x y z : Watched E) (stays : has_failed y ≡ true → has_failed z ≡ true)
-    → asks_for_starts q ≡ asked → ((os : List Outcome) (o : Outcome) → wrote os → more o → both (os ++ o ∷ [])) → (r : Reached k file start mid asked wrote (stream bytes_of x y) any p) → WritesPart k file start after (parts_of r.outcomes) more (stream bytes_of y z) refused q
+    → keeps_starts q ≡ asked → ((os : List Outcome) (o : Outcome) → wrote os → more o → both (os ++ o ∷ [])) → (r : Reached k file start mid asked wrote (stream bytes_of x y) any p) → WritesPart k file start after (parts_of r.outcomes) more (stream bytes_of y z) refused q
     → Reached k file start after asked both (stream bytes_of x z) (any || refused) q
 reached_more {k} {file} {start} {after = after} {q = q} bytes_of x y z stays same join r w =
     let os = r.outcomes in
@@ -178,7 +178,7 @@ module _ {k : ItemType} {name : List ℕ} {start mid : Option (List ℕ)} {asked
 
 -- the last part was refused, and reading ends with it
 pub reached_refusal : {k : ItemType} {name : List ℕ} {start mid after : Option (List ℕ)} {asked : Bool} {wrote both : List Outcome → Type 0} {more : Outcome → Type 0} {any : Bool} {p q : ItemReader} {E : Type 0} (bytes_of : E → Option (List ℕ)) (x y z : Watched E) (stays : has_failed y ≡ true → has_failed z ≡ true)
-    → asks_for_starts q ≡ asked → ((os : List Outcome) (o : Outcome) → wrote os → more o → both (os ++ o ∷ [])) → (r : Reached k (Some name) start mid asked wrote (stream bytes_of x y) any p) → WritesPart k (Some name) start after (parts_of r.outcomes) more (stream bytes_of y z) true q
+    → keeps_starts q ≡ asked → ((os : List Outcome) (o : Outcome) → wrote os → more o → both (os ++ o ∷ [])) → (r : Reached k (Some name) start mid asked wrote (stream bytes_of x y) any p) → WritesPart k (Some name) start after (parts_of r.outcomes) more (stream bytes_of y z) true q
     → (recover : Bool) → recover ≡ false → any ≡ false → WritesParts k name recover start after (WroteParts k asked both) (stream bytes_of x z) true
 reached_refusal {k} {name} {start} {both = both} bytes_of x y z stays same join r w recover stops quiet =
     let os = r.outcomes in

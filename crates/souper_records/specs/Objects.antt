@@ -11,7 +11,7 @@ use Rattle.souper_ir.specs.Errors.{location_of, message_of, offset_of}
 use Rattle.souper_format.specs.Streams.{Stream, IsGiven}
 use Rattle.souper_records.specs.Records.{key_of}
 use Rattle.souper_records.specs.Uniques.{text_by}
-use Rattle.souper_records.specs.Outcomes.{Outcome, AreStarted}
+use Rattle.souper_records.specs.Outcomes.{Outcome, HaveItemStarts}
 
 -- the object of an item that has this text, in the stream of this name, and begins there
 abbrev pub item_object : List ℕ → Start → List ℕ → Data
@@ -68,4 +68,4 @@ objects_of rename name os = flat_map (part_lines rename name) os
 
 -- the lines of the parts were written, and nothing else; their items begin there
 abbrev pub WritesObjects : ItemType → Bool → List ℕ → Stream → List Outcome → Type 0
-WritesObjects k rename name out os = IsGiven out (objects_of rename name os) × AreStarted k [] os
+WritesObjects k rename name out os = IsGiven out (objects_of rename name os) × HaveItemStarts k [] os

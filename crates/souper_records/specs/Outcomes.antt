@@ -13,8 +13,8 @@ use Rattle.souper_stream.specs.declared.reader.ItemReader.{ItemReader}
 use Rattle.souper_records.specs.Reports.{IsErrorLine}
 use Rattle.souper_ir.specs.Starts.{PrefixSpellsFrom, TextSpellsFrom}
 use Rattle.souper_stream.specs.declared.starts.Start.{Start}
-use Rattle.souper_stream.specs.Starts.{BeginThere}
-use Rattle.souper_stream.specs.Parts.{IsLocatedIn, IsPlacedIn, HasParts, asks_for_starts}
+use Rattle.souper_stream.specs.Starts.{ItemsStartAt}
+use Rattle.souper_stream.specs.Parts.{IsLocatedIn, IsPlacedIn, HasParts, keeps_starts}
 use Rattle.souper_stream.specs.Reading.{AreAll, NeverSpells}
 use Rattle.souper_format.specs.Streams.{Stream, IsGiven, IsGivenNothing}
 use Rattle.souper_records.specs.declared.layout.Layout.{Layout}
@@ -53,18 +53,18 @@ abbrev pub IsOutcomeAfter : ItemType → Option (List ℕ) → Option (List ℕ)
 IsOutcomeAfter k file start done o = IsOutcome k file start done o.part o.items o.refusal
 
 -- the offsets of items that the part spells, or begins with
-abbrev pub SpellsThere : ItemType → List ℕ → Option ParseError → List Item → List ℕ → Type 0
-SpellsThere k part None = TextSpellsFrom k part
-SpellsThere k part (Some e) = PrefixSpellsFrom k part
+abbrev pub SpellsAtOffsets : ItemType → List ℕ → Option ParseError → List Item → List ℕ → Type 0
+SpellsAtOffsets k part None = TextSpellsFrom k part
+SpellsAtOffsets k part (Some e) = PrefixSpellsFrom k part
 
 -- the items of a part begin there, given the parsed text `done` before it
-abbrev pub IsStarted : ItemType → List ℕ → Outcome → Type 0
-IsStarted k done o = BeginThere (SpellsThere k (concat o.part) o.refusal) done (concat o.part) o.items o.starts
+abbrev pub HasItemStarts : ItemType → List ℕ → Outcome → Type 0
+HasItemStarts k done o = ItemsStartAt (SpellsAtOffsets k (concat o.part) o.refusal) done (concat o.part) o.items o.starts
 
 -- the items of each part do, given the parts before it
-abbrev pub AreStarted : ItemType → List (List Line) → List Outcome → Type 0
-AreStarted k before [] = Unit {0}
-AreStarted k before (o ∷ os) = IsStarted k (concat (all_lines before)) o × AreStarted k (before ++ o.part ∷ []) os
+abbrev pub HaveItemStarts : ItemType → List (List Line) → List Outcome → Type 0
+HaveItemStarts k before [] = Unit {0}
+HaveItemStarts k before (o ∷ os) = HasItemStarts k (concat (all_lines before)) o × HaveItemStarts k (before ++ o.part ∷ []) os
 
 -- the outcome of each part, given the parts before it
 abbrev pub AreOutcomes : ItemType → Option (List ℕ) → Option (List ℕ) → List (List Line) → List Outcome → Type 0
@@ -116,7 +116,7 @@ pub record WritesPart (k : ItemType) (file start now : Option (List ℕ)) (ps : 
   pub outcome : Outcome
   pub had : HasParts k start now (ps ++ outcome.part ∷ []) r
   pub is : IsOutcomeAfter k file start (concat (all_lines ps)) outcome
-  pub begin : asks_for_starts r ≡ true → IsStarted k (concat (all_lines ps)) outcome
+  pub begin : keeps_starts r ≡ true → HasItemStarts k (concat (all_lines ps)) outcome
   pub any : refused ≡ any_refused (outcome ∷ [])
   pub after : refused ≡ true → IsRefusedAfter k start now ps outcome
   pub are_written : written outcome
@@ -163,7 +163,7 @@ StopsAfter k name recover before written failed err stop = (os : List Outcome) �
 
 -- the outcomes were written; and if it was asked where items begin, they begin there
 abbrev pub WroteParts : ItemType → Bool → (List Outcome → Type 0) → List Outcome → Type 0
-WroteParts k asked wrote os = wrote os × (asked ≡ true → AreStarted k [] os)
+WroteParts k asked wrote os = wrote os × (asked ≡ true → HaveItemStarts k [] os)
 
 -- the items of the outcomes were written, also the ones that refused parts begin with
 abbrev pub OfItems : (List Item → Type 0) → List Outcome → Type 0

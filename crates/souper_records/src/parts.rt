@@ -2,7 +2,7 @@
 ghost use Rattle.std.specs.Prelude.{◌≡◌, ◌++◌, ◌∷◌, ℕ, [], List, true, Option, Some, IfOk, IfErr, IfSome, IfNone, OnOk, option_copied};
 ghost use Rattle.souper_ir.specs.Errors.{kind_of};
 ghost use Rattle.souper_stream.specs.Segments.{Line, concat};
-ghost use Rattle.souper_stream.specs.Parts.{HasParts, HasAll, asks_for_starts};
+ghost use Rattle.souper_stream.specs.Parts.{HasParts, HasAll, keeps_starts};
 ghost use Rattle.souper_format.specs.Streams.{stream};
 ghost use Rattle.souper_format.specs.Watching.{watched_inner, has_failed};
 ghost use Rattle.souper_records.specs.Stops.{IfInput, UnlessOutput};
@@ -88,7 +88,7 @@ impl<'a> Source<'a> {
     /// The same, and the reader is asked where the items begin.
     pub(crate) fn with_starts(alloc: Global, options: ReadOptions<'a>) -> Source<'a>
         ensures options { result.options ≡ options.entry }
-        ensures asked { asks_for_starts result.parts ≡ true }
+        ensures asked { keeps_starts result.parts ≡ true }
         ensures begins { Begins result }
     {
         Source {
@@ -111,7 +111,7 @@ fn write_next<T: StreamItem + Drop, S: PartSink<T>, R: BufRead, W: Write, E: Wri
     requires none { S.holds sink.old sink.old [] }
     requires had { (start : Option (List ℕ)) × (ps : List (List Line)) × HasParts T.item_type start (R.remaining reader.old) ps source.old.parts }
     ensures options { source.new.options ≡ source.old.options }
-    ensures same { asks_for_starts source.new.parts ≡ asks_for_starts source.old.parts }
+    ensures same { keeps_starts source.new.parts ≡ keeps_starts source.old.parts }
     ensures part { IfOk result (λ more. IfSome more (λ refused. (start : Option (List ℕ)) (ps : List (List Line)) → HasParts T.item_type start (R.remaining reader.old) ps source.old.parts
         → WritesPart T.item_type (Some source.old.options.name.now) start (R.remaining reader.new) ps (λ o. (first : S) (before : Option (List ℕ)) (os : List Outcome) → S.wrote source.old.options.name.now first before sink.old (W.contents (watched_inner out.old)) os
         → S.wrote source.old.options.name.now first before sink.new (W.contents (watched_inner out.new)) (os ++ o ∷ [])) (stream E.contents err.old err.new) refused source.new.parts)) }
@@ -160,9 +160,9 @@ pub(crate) fn write_parts<T: StreamItem + Drop, S: PartSink<T>, R: BufRead, W: W
     requires started { S.wrote source.options.name.now sink.old (W.contents (watched_inner out.old)) sink.old (W.contents (watched_inner out.old)) [] }
     requires begins { Begins source }
     ensures written { IfOk result (λ refused. WritesParts T.item_type source.entry.options.name.now source.entry.options.recover (R.remaining reader.old) (R.remaining reader.new)
-        (WroteParts T.item_type (asks_for_starts source.entry.parts) (S.wrote source.entry.options.name.now sink.old (W.contents (watched_inner out.old)) sink.new (W.contents (watched_inner out.new)))) (stream E.contents err.old err.new) refused) }
+        (WroteParts T.item_type (keeps_starts source.entry.parts) (S.wrote source.entry.options.name.now sink.old (W.contents (watched_inner out.old)) sink.new (W.contents (watched_inner out.new)))) (stream E.contents err.old err.new) refused) }
     ensures stopped { IfErr result (λ stop. StopsAfter T.item_type source.entry.options.name.now source.entry.options.recover (R.remaining reader.old)
-        (λ os. (s : S) × WroteParts T.item_type (asks_for_starts source.entry.parts) (S.wrote source.entry.options.name.now sink.old (W.contents (watched_inner out.old)) s (W.contents (watched_inner out.new))) os) (has_failed out.new) (stream E.contents err.old err.new) stop) }
+        (λ os. (s : S) × WroteParts T.item_type (keeps_starts source.entry.parts) (S.wrote source.entry.options.name.now sink.old (W.contents (watched_inner out.old)) s (W.contents (watched_inner out.new))) os) (has_failed out.new) (stream E.contents err.old err.new) stop) }
     ensures input { IfErr result (λ stop. IfInput stop (λ e. kind_of e ≡ ParseErrorKind.Io)) }
     ensures stays { has_failed err.old ≡ true → has_failed err.new ≡ true }
 {

@@ -121,8 +121,7 @@ pub fn each_run<T: StreamItem + Drop, R: BufRead, W: Write, E: Write>(
         recover: false,
         line_buffered: false,
     };
-    let parts = write_records::<T, R, W, E>(alloc, layout, options, reader, out, err);
-    end_parts(alloc, name, parts, out, err)
+    each_run_with::<T, R, W, E>(alloc, layout, options, reader, out, err)
 }
 
 /// Writes the record of each item of the stream to `out` ([`write_records`]), and resumes after a refusal. Returns the status of the
@@ -151,8 +150,7 @@ pub fn each_going_on_run<T: StreamItem + Drop, R: BufRead, W: Write, E: Write>(
         recover: true,
         line_buffered: false,
     };
-    let parts = write_records::<T, R, W, E>(alloc, layout, options, reader, out, err);
-    end_parts(alloc, name, parts, out, err)
+    each_run_with::<T, R, W, E>(alloc, layout, options, reader, out, err)
 }
 
 /// Writes the record of each item of the stream to `out` ([`write_records`]), and returns the status of the program.
@@ -217,15 +215,14 @@ pub fn objects_run<T: StreamItem + Drop, R: BufRead, W: Write, E: Write>(
         recover: true,
         line_buffered: false,
     };
-    let parts = write_objects::<T, R, W, E>(alloc, rename, options, reader, out, err);
-    end_parts(alloc, name, parts, out, err)
+    objects_run_with::<T, R, W, E>(alloc, rename, options, reader, out, err)
 }
 
 /// Writes the record of each item of the stream that is the same graph as no earlier one to `out` ([`write_firsts`]), up to the first
 /// refusal, and returns the status of the program, as [`each_run`] does, with the records of first items. After status 2 or 141 nothing is
 /// known of `seen`, which is not to be used again.
 pub fn uniq_run<T: StreamItem + Drop, R: BufRead, W: Write, E: Write>(
-    alloc: Global,
+    _alloc: Global,
     layout: Layout,
     seen: &mut Seen,
     reader: &mut R,
@@ -242,15 +239,14 @@ pub fn uniq_run<T: StreamItem + Drop, R: BufRead, W: Write, E: Write>(
         recover: false,
         line_buffered: false,
     };
-    let parts = write_firsts::<T, R, W, E>(layout, options, seen, reader, out, err);
-    end_parts(alloc, name, parts, out, err)
+    uniq_run_with::<T, R, W, E>(layout, options, seen, reader, out, err)
 }
 
 /// Writes the record of each item of the stream that is the same graph as no earlier one to `out` ([`write_firsts`]), and resumes after a
 /// refusal. Returns the status of the program, as [`each_going_on_run`] does, with the records of first items. After status 2 or 141
 /// nothing is known of `seen`, which is not to be used again.
 pub fn uniq_going_on_run<T: StreamItem + Drop, R: BufRead, W: Write, E: Write>(
-    alloc: Global,
+    _alloc: Global,
     layout: Layout,
     seen: &mut Seen,
     reader: &mut R,
@@ -267,8 +263,7 @@ pub fn uniq_going_on_run<T: StreamItem + Drop, R: BufRead, W: Write, E: Write>(
         recover: true,
         line_buffered: false,
     };
-    let parts = write_firsts::<T, R, W, E>(layout, options, seen, reader, out, err);
-    end_parts(alloc, name, parts, out, err)
+    uniq_run_with::<T, R, W, E>(layout, options, seen, reader, out, err)
 }
 
 /// Writes the record of each item of the stream that is the same graph as no earlier one to `out` ([`write_firsts`]), and returns the

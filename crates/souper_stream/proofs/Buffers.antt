@@ -13,7 +13,7 @@ use Rattle.souper_ir.specs.Places.{newlines, IsLineText, IsPlace}
 use Rattle.souper_ir.proofs.Items.Parting.{lines_end}
 use Rattle.souper_ir.specs.Errors.{kind_of, HasLocation, HasLocationAfter, IsPlacedAfter, IsRefusalAt}
 use Rattle.souper_stream.specs.declared.buffer.Buffer.{Buffer}
-use Rattle.souper_stream.specs.Buffering.{held, unparsed, Parses, Buffers, last_part, IsSound, IsEmpty, Passes, Drains}
+use Rattle.souper_stream.specs.Buffering.{held, unparsed, Parses, Buffers, last_part, IsSound, IsEmpty, Passes, Drains, KeepsHeld}
 use Rattle.souper_stream.proofs.Texts.{lines_append}
 
 -- nothing was read
@@ -194,3 +194,6 @@ module _ (file : Option (List ℕ)) (done after : List ℕ) (b : Buffer) (len of
       over : IsLines (take len (unparsed b)) ⊎ (after ≡ []) → IsRefusalAt file text (length done + offset) shown → IsRefusalAt file (text ++ after) (length done + offset) shown
       over (inl lines) h = refusal_more file text after (length done + offset) shown (omega (arith, long)) (omega (arith, long)) (ends_in_lines done (take len (unparsed b)) (omega (arith, part_long)) lines) h
       over (inr none) h = subst (λ (x : List ℕ). IsRefusalAt file x (length done + offset) shown) (sym (ap (λ (x : List ℕ). text ++ x) none ∙ append-nil text)) h
+
+pub keeps_more : (a b c : Buffer) → KeepsHeld a b → (more : List ℕ) × (c.bytes.items ≡ b.bytes.items ++ more) → KeepsHeld a c
+keeps_more a b c h (more, e) = record { more = h.more ++ more; bytes_are = e ∙ ap (λ (x : List ℕ). x ++ more) h.bytes_are ∙ append_assoc (held a) h.more more }

@@ -11,7 +11,7 @@ use Rattle.souper_ir.specs.declared.parse.error.ParseErrorKind.TheVariants.{Pars
 use Rattle.souper_ir.specs.Errors.{kind_of, HasLocation, IsRefusalAt}
 use Rattle.souper_ir.specs.Joining.{IsLines}
 use Rattle.souper_ir.specs.Starts.{TextSpellsFrom, PrefixSpellsFrom, TakesFrom}
-use Rattle.souper_stream.specs.Starts.{BeginThere}
+use Rattle.souper_stream.specs.Starts.{ItemsStartAt}
 use Rattle.souper_stream.proofs.Starting.{text_spells, prefix_spells}
 use Rattle.souper_ir.proofs.Items.Parting.{Within, Beyond, parted_twice}
 use Rattle.souper_stream.specs.declared.buffer.Buffer.{Buffer}
@@ -19,7 +19,7 @@ use Rattle.souper_stream.specs.declared.reader.ItemReader.{ItemReader}
 use Rattle.souper_stream.specs.Buffering.{held, unparsed, Buffers, IsEmpty, Drains}
 use Rattle.souper_stream.specs.Lines.{NoStart}
 use Rattle.souper_stream.specs.Segments.{Line, concat, IsLine, AreLines, tokens_of_lines, EndsItem, Starts, HasNoCut, IsCut, AreCut, all_lines, AreParts, CutsAt, IsFirstSegment}
-use Rattle.souper_stream.specs.Parts.{IsChunk, and_next, HasLines, HasRead, HasParts, HasAll, IsNext, StartNow, Advances, Holds, TakesPart, RefusesPart}
+use Rattle.souper_stream.specs.Parts.{IsChunk, and_next, HasLines, HasRead, HasParts, HasAll, IsNext, HasNextStarts, Advances, Holds, TakesPart, RefusesPart}
 use Rattle.souper_stream.specs.Reading.{AreAll, Fills, NeverSpells}
 use Rattle.souper_stream.proofs.Nodes.{all_append}
 use Rattle.souper_stream.proofs.Bytes.{all_after}
@@ -261,18 +261,18 @@ module _ (k : ItemType) (start now : Option (List ℕ)) (ps : List (List Line)) 
         sound = advances.sound;
       })
 
-  pub part_taken : {S : Type 0} (holds : S → S → List Item → Type 0) (old new : S) → TakesFrom holds (TextSpellsFrom k (take len (unparsed r.buffer))) (StartNow r.buffer len q) old new → TakesPart k start now ps holds old new q
+  pub part_taken : {S : Type 0} (holds : S → S → List Item → Type 0) (old new : S) → TakesFrom holds (TextSpellsFrom k (take len (unparsed r.buffer))) (HasNextStarts r.buffer len q) old new → TakesPart k start now ps holds old new q
   part_taken holds old new t = record {
     part = c.front;
     goes_on = (c.back, passed);
     text = advances.part ∙ part_text;
     items = t.items;
-    begin = λ asked. subst (λ (y : List ℕ). BeginThere (TextSpellsFrom k y) (concat (all_lines ps)) y t.items q.starts.items) part_text (t.starts, t.spelled, t.has asked (concat (all_lines ps)) h.buffers);
+    begin = λ asked. subst (λ (y : List ℕ). ItemsStartAt (TextSpellsFrom k y) (concat (all_lines ps)) y t.items q.starts.items) part_text (t.starts, t.spelled, t.has asked (concat (all_lines ps)) h.buffers);
     spelled = text_spells k (concat c.front) t.items t.starts (subst (λ (y : List ℕ). TextSpellsFrom k y t.items t.starts) part_text t.spelled);
     taken = λ first y. t.taken first [] y;
   }
 
-  pub part_refused : {S : Type 0} (holds : S → S → List Item → Type 0) (old new : S) (file : Option (List ℕ)) (e : ParseError) → HasNoCut k c.front → kind_of e ≡ Parse → RefusesText k file r.buffer len (StartNow r.buffer len q) holds old new e → RefusesPart k file start now ps holds old new q e
+  pub part_refused : {S : Type 0} (holds : S → S → List Item → Type 0) (old new : S) (file : Option (List ℕ)) (e : ParseError) → HasNoCut k c.front → kind_of e ≡ Parse → RefusesText k file r.buffer len (HasNextStarts r.buffer len q) holds old new e → RefusesPart k file start now ps holds old new q e
   unfolding passed
   part_refused holds old new file e uncut kind b =
       let none : SpellsNone k (concat c.front) = subst (λ (y : List ℕ). SpellsNone k y) part_text b.none in
@@ -290,7 +290,7 @@ module _ (k : ItemType) (start now : Option (List ℕ)) (ps : List (List Line)) 
         segment = uncut;
         none = none;
         items = b.begun.items;
-        begin = λ asked. subst (λ (y : List ℕ). BeginThere (PrefixSpellsFrom k y) done y b.begun.items q.starts.items) part_text (b.begun.starts, b.begun.spelled, b.begun.has asked done h.buffers);
+        begin = λ asked. subst (λ (y : List ℕ). ItemsStartAt (PrefixSpellsFrom k y) done y b.begun.items q.starts.items) part_text (b.begun.starts, b.begun.spelled, b.begun.has asked done h.buffers);
         begun = prefix_spells k (concat c.front) b.begun.items b.begun.starts (subst (λ (y : List ℕ). PrefixSpellsFrom k y b.begun.items b.begun.starts) part_text b.begun.spelled);
         taken = λ first y. b.begun.taken first [] y;
         read = read;
@@ -319,7 +319,7 @@ module _ (k : ItemType) (start now : Option (List ℕ)) (ps : List (List Line)) 
 
 -- the next chunk
 pub chunk_taken : (k : ItemType) (start now : Option (List ℕ)) (ps : List (List Line)) (r q : ItemReader) (len : ℕ) {S : Type 0} (holds : S → S → List Item → Type 0) (old new : S) → IsNext k start now ps r len → 0 < len → Advances r.buffer r.ended (is_some r.fault) q len 0
-    → TakesFrom holds (TextSpellsFrom k (take len (unparsed r.buffer))) (StartNow r.buffer len q) old new → TakesPart k start now ps holds old new q
+    → TakesFrom holds (TextSpellsFrom k (take len (unparsed r.buffer))) (HasNextStarts r.buffer len q) old new → TakesPart k start now ps holds old new q
 chunk_taken k start now ps r q len holds old new n some advances t = part_taken k start now ps n.0 r q len 0 r.rejected n.1 (n.3 some) some advances (λ s. absurd (omega arith)) holds old new t
 
 -- the first segment of a chunk
@@ -334,11 +334,11 @@ module _ (k : ItemType) (start now : Option (List ℕ)) (ps : List (List Line)) 
       segment c.front (ap (take r.rejected) text ∙ take_at (concat c.front) (concat c.back) r.rejected c.len_is)
       (are_front c.front c.back (subst (λ (x : List Line). AreLines x) c.whole (lines_back (all_lines ps) had.0 had.1.lines.are)))
 
-  pub segment_taken : {S : Type 0} (holds : S → S → List Item → Type 0) (old new : S) → TakesFrom holds (TextSpellsFrom k (take len (unparsed r.buffer))) (StartNow r.buffer len q) old new → TakesPart k start now ps holds old new q
+  pub segment_taken : {S : Type 0} (holds : S → S → List Item → Type 0) (old new : S) → TakesFrom holds (TextSpellsFrom k (take len (unparsed r.buffer))) (HasNextStarts r.buffer len q) old new → TakesPart k start now ps holds old new q
   segment_taken holds old new t =
       part_taken k start now ps had.0 r q len (r.rejected - len) r.rejected had.1 (segment_chunk k r.ended had.0 r.rejected len chunk first) some advances (segment_left k r.ended had.0 r.rejected len chunk first) holds old new t
 
-  pub segment_refused : {S : Type 0} (holds : S → S → List Item → Type 0) (old new : S) (file : Option (List ℕ)) (e : ParseError) → kind_of e ≡ Parse → RefusesText k file r.buffer len (StartNow r.buffer len q) holds old new e → RefusesPart k file start now ps holds old new q e
+  pub segment_refused : {S : Type 0} (holds : S → S → List Item → Type 0) (old new : S) (file : Option (List ℕ)) (e : ParseError) → kind_of e ≡ Parse → RefusesText k file r.buffer len (HasNextStarts r.buffer len q) holds old new e → RefusesPart k file start now ps holds old new q e
   segment_refused holds old new file e kind b =
       part_refused k start now ps had.0 r q len (r.rejected - len) r.rejected had.1 (segment_chunk k r.ended had.0 r.rejected len chunk first) some advances (segment_left k r.ended had.0 r.rejected len chunk first) holds old new file e first.uncut kind b
 

@@ -71,3 +71,8 @@ pub record Drains (old new : Buffer) : Type 0 where
   pub parsed_is : new.parsed ≡ old.parsed
   pub last_is : new.last ≡ 0
   pub before_is : new.before ≡ old.before
+
+-- the parsed lines but the last were dropped, and bytes were read
+pub record KeepsHeld (old new : Buffer) : Type 0 where
+  pub more : List ℕ
+  pub bytes_are : new.bytes.items ≡ held old ++ more

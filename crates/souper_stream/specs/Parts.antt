@@ -10,10 +10,10 @@ use Rattle.souper_ir.specs.Joining.{IsLines}
 use Rattle.souper_ir.specs.Sinks.{PrefixSpells, TakesOver}
 use Rattle.souper_stream.specs.declared.buffer.Buffer.{Buffer}
 use Rattle.souper_stream.specs.declared.reader.ItemReader.{ItemReader}
-use Rattle.souper_stream.specs.Buffering.{unparsed, last_part, IsSound, Buffers}
+use Rattle.souper_stream.specs.Buffering.{unparsed, last_part, IsSound, Buffers, KeepsHeld}
 use Rattle.souper_ir.specs.Starts.{PrefixSpellsFrom, TextSpellsFrom, starts_of}
 use Rattle.souper_stream.specs.declared.starts.Start.{Start}
-use Rattle.souper_stream.specs.Starts.{AreStarts, BeginThere}
+use Rattle.souper_stream.specs.Starts.{AreStarts, ItemsStartAt}
 use Rattle.souper_stream.specs.Segments.{Line, concat, IsLine, AreLines, HasNoCut, IsCut, AreCut, all_lines, AreParts}
 use Rattle.souper_stream.specs.Reading.{AreAll, NeverSpells}
 
@@ -62,21 +62,26 @@ HasAll k start now ps = (read : List ℕ) × Consumes start now read × AreAll s
 abbrev pub IsNext : ItemType → Option (List ℕ) → Option (List ℕ) → List (List Line) → ItemReader → ℕ → Type 0
 IsNext k start now ps r len = (ls : List Line) × HasRead k start now ps ls r.buffer r.ended (is_some r.fault) r.rejected × (len ≡ 0 → HasAll k start now ps) × (0 < len → IsChunk k r.ended ls len)
 
--- the reader is asked where items begin
-abbrev pub asks_for_starts : ItemReader → Bool
-asks_for_starts r = is_some (starts_of r.memory)
+-- the reader keeps where items begin
+abbrev pub keeps_starts : ItemReader → Bool
+keeps_starts r = is_some (starts_of r.memory)
 
 -- `r.starts()`
 abbrev pub starts_of_part : ItemReader → List Start
 starts_of_part r = r.starts.items
 
--- the bytes at these offsets of the first `len` unparsed bytes are there
-abbrev pub StartThere : Buffer → ℕ → List ℕ → List Start → Type 0
-StartThere b len offsets starts = (done : List ℕ) → Buffers done b → length (done ++ take len (unparsed b)) + 1 < 2 ^ 64 → AreStarts done (take len (unparsed b)) offsets starts
+-- these are the starts of the bytes at these offsets of the first `len` unparsed bytes
+abbrev pub AreNextStarts : Buffer → ℕ → List ℕ → List Start → Type 0
+AreNextStarts b len offsets starts = (done : List ℕ) → Buffers done b → length (done ++ take len (unparsed b)) + 1 < 2 ^ 64 → AreStarts done (take len (unparsed b)) offsets starts
 
--- the same, if the reader is asked
-abbrev pub StartNow : Buffer → ℕ → ItemReader → List ℕ → Type 0
-StartNow b len r offsets = asks_for_starts r ≡ true → StartThere b len offsets r.starts.items
+-- the reader has these starts, if it keeps starts
+abbrev pub HasNextStarts : Buffer → ℕ → ItemReader → List ℕ → Type 0
+HasNextStarts b len r offsets = keeps_starts r ≡ true → AreNextStarts b len offsets r.starts.items
+
+-- If a chunk was read, the parsed text but for its last line was dropped before; else the buffer is the old one.
+pub record ReadsOn (old new : ItemReader) : Type 0 where
+  pub chunk : old.rejected ≡ 0 → KeepsHeld old.buffer new.buffer
+  pub segment : 0 < old.rejected → new.buffer.bytes.items ≡ old.buffer.bytes.items
 
 -- `r.part()`
 abbrev pub part_of : ItemReader → List ℕ
@@ -110,7 +115,7 @@ pub record TakesPart {S : Type 0} (k : ItemType) (start now : Option (List ℕ))
   pub goes_on : HasParts k start now (ps ++ part ∷ []) r
   pub text : part_of r ≡ concat part
   pub items : List Item
-  pub begin : asks_for_starts r ≡ true → BeginThere (TextSpellsFrom k (concat part)) (concat (all_lines ps)) (concat part) items (starts_of_part r)
+  pub begin : keeps_starts r ≡ true → ItemsStartAt (TextSpellsFrom k (concat part)) (concat (all_lines ps)) (concat part) items (starts_of_part r)
   pub spelled : TextSpells k (concat part) items
   pub taken : Holds holds items old new
 
@@ -123,7 +128,7 @@ pub record RefusesPart {S : Type 0} (k : ItemType) (file start now : Option (Lis
   pub segment : HasNoCut k part
   pub none : SpellsNone k (concat part)
   pub items : List Item
-  pub begin : asks_for_starts r ≡ true → BeginThere (PrefixSpellsFrom k (concat part)) (concat (all_lines ps)) (concat part) items (starts_of_part r)
+  pub begin : keeps_starts r ≡ true → ItemsStartAt (PrefixSpellsFrom k (concat part)) (concat (all_lines ps)) (concat part) items (starts_of_part r)
   pub begun : PrefixSpells k (concat part) items
   pub taken : Holds holds items old new
   pub read : List ℕ

@@ -1,14 +1,14 @@
 //! The reader of a stream: chunks of whole segments, and the segments of a chunk that spells no items.
-ghost use Rattle.std.specs.Prelude.{◌≡◌, ◌+◌, ◌<◌, ◌≤◌, ℕ, List, [], length, take, true, false, Option, is_some, IfOk, IfErr, IfSome, IfNone, OnOk, vec_len, option_copied, IsUtf8};
+ghost use Rattle.std.specs.Prelude.{◌≡◌, ◌+◌, ◌++◌, ◌<◌, ◌≤◌, ℕ, List, [], length, take, true, false, Option, is_some, IfOk, IfErr, IfSome, IfNone, OnOk, vec_len, option_copied, IsUtf8};
 ghost use Rattle.souper_graph.specs.Syntax.Spelling.{ItemType};
 ghost use Rattle.souper_ir.specs.Errors.{kind_of, offset_of, HasLocationAfter, IsLocatedAfter};
 ghost use Rattle.souper_ir.specs.Starts.{TakesFrom, TextSpellsFrom, starts_of};
 ghost use Rattle.std.specs.IoError.{error_kind};
 ghost use Rattle.souper_stream.specs.Starts.{Ascend};
-ghost use Rattle.souper_stream.specs.Buffering.{held, unparsed};
+ghost use Rattle.souper_stream.specs.Buffering.{held, unparsed, KeepsHeld};
 ghost use Rattle.souper_stream.specs.Segments.{Line, concat, AreLines, IsFirstSegment};
 ghost use Rattle.souper_stream.specs.Reading.{Reads, ReadsMore, ReadsLines, AppendsLine, Fills};
-ghost use Rattle.souper_stream.specs.Parts.{Advances, LeavesChunk, Rejects, HasParts, HasAll, part_of, asks_for_starts, starts_of_part, StartThere, StartNow, IsNext, TakesPart, RefusesPart};
+ghost use Rattle.souper_stream.specs.Parts.{Advances, LeavesChunk, Rejects, HasParts, HasAll, part_of, keeps_starts, starts_of_part, AreNextStarts, HasNextStarts, ReadsOn, IsNext, TakesPart, RefusesPart};
 
 use crate::buffer::Buffer;
 use crate::cuts::{last_cut, segment_len};
@@ -205,7 +205,7 @@ impl ItemReader {
     /// With a small chunk size items are passed to the sink sooner ([`eager`](ItemReader::eager) too); with a larger one reading takes less
     /// time.
     pub fn new(alloc: Global, min_chunk: usize) -> ItemReader
-        ensures not_asked { asks_for_starts result ≡ false }
+        ensures not_asked { keeps_starts result ≡ false }
         ensures begins { (k : ItemType) (start : Option (List ℕ)) → HasParts k start start [] result }
     {
         ItemReader::with_memory(alloc, min_chunk, Memory::new(alloc))
@@ -213,7 +213,7 @@ impl ItemReader {
 
     /// A reader that is asked where the items begin ([`starts`](ItemReader::starts)).
     pub fn with_starts(alloc: Global, min_chunk: usize) -> ItemReader
-        ensures asked { asks_for_starts result ≡ true }
+        ensures asked { keeps_starts result ≡ true }
         ensures begins { (k : ItemType) (start : Option (List ℕ)) → HasParts k start start [] result }
     {
         ItemReader::with_memory(alloc, min_chunk, Memory::with_starts(alloc))
@@ -247,7 +247,7 @@ impl ItemReader {
     /// The same reader, which, if it is eager, looks for a cut point each time that it has read something, up to the end of a line. With a
     /// chunk size of 1 the items of a segment are passed to the sink as soon as the line after it can be read. Long segments take longer.
     pub fn eager(self, is_eager: bool) -> ItemReader
-        ensures same { asks_for_starts result ≡ asks_for_starts self }
+        ensures same { keeps_starts result ≡ keeps_starts self }
         ensures parts { (k : ItemType) (start : Option (List ℕ)) (now : Option (List ℕ)) (ps : List (List Line)) → HasParts k start now ps self → HasParts k start now ps result }
     {
         ItemReader { is_eager, ..self }
@@ -265,10 +265,11 @@ impl ItemReader {
     fn read_more<R: BufRead>(&mut self, reader: &mut R, goal: usize) -> io::Result<()>
         requires parsed { self.old.buffer.start + self.old.buffer.parsed ≤ vec_len self.old.buffer.bytes }
         requires none { self.old.rejected ≡ 0 }
-        ensures same { asks_for_starts self.new ≡ asks_for_starts self.old }
+        ensures same { keeps_starts self.new ≡ keeps_starts self.old }
         ensures parsed { self.new.buffer.start + self.new.buffer.parsed ≤ vec_len self.new.buffer.bytes }
         ensures none { self.new.rejected ≡ 0 }
         ensures start { self.new.buffer.start ≡ self.old.buffer.start }
+        ensures kept { OnOk result ((more : List ℕ) × (self.new.buffer.bytes.items ≡ self.old.buffer.bytes.items ++ more)) }
         ensures read { OnOk result ((k : ItemType) (start : Option (List ℕ)) (ps : List (List Line)) → HasParts k start (R.remaining reader.old) ps self.old → HasParts k start (R.remaining reader.new) ps self.new) }
     {
         if self.ended {
@@ -293,10 +294,11 @@ impl ItemReader {
     ) -> io::Result<usize>
         requires parsed { self.old.buffer.start + self.old.buffer.parsed ≤ vec_len self.old.buffer.bytes }
         requires none { self.old.rejected ≡ 0 }
-        ensures same { asks_for_starts self.new ≡ asks_for_starts self.old }
+        ensures same { keeps_starts self.new ≡ keeps_starts self.old }
         ensures next { IfOk result (λ len. (start : Option (List ℕ)) (ps : List (List Line)) → HasParts T.item_type start (R.remaining reader.old) ps self.old
             → IsNext T.item_type start (R.remaining reader.new) ps self.new len) }
         ensures drained { IfOk result (λ len. self.new.buffer.start ≡ 0) }
+        ensures kept { OnOk result (KeepsHeld self.old.buffer self.new.buffer) }
     {
         self.buffer.drain(alloc)?;
         let mut goal = self.buffer.bytes.len().saturating_add(self.min_chunk);
@@ -324,8 +326,9 @@ impl ItemReader {
         requires some { 0 < len }
         requires within { self.old.buffer.start + self.old.buffer.parsed + len ≤ vec_len self.old.buffer.bytes }
         ensures advanced { Advances self.old.buffer self.old.ended (is_some self.old.fault) self.new len rejected }
+        ensures bytes { self.new.buffer.bytes.items ≡ self.old.buffer.bytes.items }
         ensures starts { self.new.starts ≡ self.old.starts }
-        ensures same { asks_for_starts self.new ≡ asks_for_starts self.old }
+        ensures same { keeps_starts self.new ≡ keeps_starts self.old }
     {
         self.buffer.pass(len);
         self.rejected = rejected;
@@ -335,7 +338,7 @@ impl ItemReader {
     fn keep_starts(&mut self, alloc: Global, len: usize) -> std::result::Result<(), AllocError>
         requires within { self.old.buffer.start + self.old.buffer.parsed + len ≤ vec_len self.old.buffer.bytes }
         requires ascend { IfSome (starts_of self.old.memory) (λ offsets. Ascend 0 offsets len) }
-        ensures starts { OnOk result (IfSome (starts_of self.old.memory) (λ offsets. StartThere self.old.buffer len offsets self.new.starts.items)) }
+        ensures starts { OnOk result (IfSome (starts_of self.old.memory) (λ offsets. AreNextStarts self.old.buffer len offsets self.new.starts.items)) }
         ensures same { self.new ≡ record self.old { starts = self.new.starts } }
     {
         let part = &self.buffer.unparsed()[..len];
@@ -353,8 +356,9 @@ impl ItemReader {
         requires some { 0 < len }
         requires within { self.old.buffer.start + self.old.buffer.parsed + len ≤ vec_len self.old.buffer.bytes }
         ensures advanced { OnOk result (Advances self.old.buffer self.old.ended (is_some self.old.fault) self.new len 0) }
-        ensures taken { OnOk result (TakesFrom S.holds (TextSpellsFrom T.item_type (take len (unparsed self.old.buffer))) (StartNow self.old.buffer len self.new) sink.old sink.new) }
-        ensures same { asks_for_starts self.new ≡ asks_for_starts self.old }
+        ensures bytes { OnOk result (self.new.buffer.bytes.items ≡ self.old.buffer.bytes.items) }
+        ensures taken { OnOk result (TakesFrom S.holds (TextSpellsFrom T.item_type (take len (unparsed self.old.buffer))) (HasNextStarts self.old.buffer len self.new) sink.old sink.new) }
+        ensures same { keeps_starts self.new ≡ keeps_starts self.old }
         ensures left { IfErr result (λ e. (kind_of e ≡ ParseErrorKind.Memory → ⊥) → LeavesChunk self.old self.new S.holds sink.old sink.new) }
     {
         let text = text_of(&self.buffer, len)?;
@@ -380,7 +384,8 @@ impl ItemReader {
             → HasAll T.item_type start (R.remaining reader.new) ps × (sink.new ≡ sink.old))) }
         ensures rejected { IfOk result (λ done. IfNone done (Rejects T.item_type (R.remaining reader.old) (R.remaining reader.new) self.old self.new S.holds sink.old sink.new)) }
         ensures failed { IfErr result (λ e. kind_of e ≡ ParseErrorKind.Parse → ⊥) }
-        ensures same { asks_for_starts self.new ≡ asks_for_starts self.old }
+        ensures kept { OnOk result (KeepsHeld self.old.buffer self.new.buffer) }
+        ensures same { keeps_starts self.new ≡ keeps_starts self.old }
     {
         let len = match self.next_chunk::<T, R>(alloc, reader) {
             Ok(0) => return Ok(Some(false)),
@@ -408,7 +413,9 @@ impl ItemReader {
         requires some { 0 < self.old.rejected }
         requires within { self.old.buffer.start + self.old.buffer.parsed + self.old.rejected ≤ vec_len self.old.buffer.bytes }
         ensures more { IfOk result (λ more. more ≡ true) }
-        ensures same { asks_for_starts self.new ≡ asks_for_starts self.old }
+        ensures bytes { OnOk result (self.new.buffer.bytes.items ≡ self.old.buffer.bytes.items) }
+        ensures refused_bytes { IfErr result (λ e. kind_of e ≡ ParseErrorKind.Parse → self.new.buffer.bytes.items ≡ self.old.buffer.bytes.items) }
+        ensures same { keeps_starts self.new ≡ keeps_starts self.old }
         ensures taken { IfOk result (λ more. (start now : Option (List ℕ)) (ps : List (List Line)) → HasParts T.item_type start now ps self.old
             → TakesPart T.item_type start now ps S.holds sink.old sink.new self.new) }
         ensures refused { IfErr result (λ e. kind_of e ≡ ParseErrorKind.Parse → (start now : Option (List ℕ)) (ps : List (List Line)) → HasParts T.item_type start now ps self.old
@@ -442,6 +449,8 @@ impl ItemReader {
     /// - `Memory`: memory ran out, or the sink returned so.
     ///
     /// After `Io` or `Memory` the stream cannot be read on, and the sink may have taken items.
+    ///
+    /// When a chunk is read, the text that was parsed before it is dropped, but for its last line, which locations need.
     pub fn read_part<T: StreamItem + Drop, R: BufRead, S: ChunkSink<T>>(
         &mut self,
         alloc: Global,
@@ -456,7 +465,9 @@ impl ItemReader {
             → HasAll T.item_type start (R.remaining reader.new) ps × (sink.new ≡ sink.old)) }
         ensures refused { IfErr result (λ e. kind_of e ≡ ParseErrorKind.Parse → (start : Option (List ℕ)) (ps : List (List Line)) → HasParts T.item_type start (R.remaining reader.old) ps self.old
             → RefusesPart T.item_type (option_copied filename.entry) start (R.remaining reader.new) ps S.holds sink.old sink.new self.new e) }
-        ensures same { asks_for_starts self.new ≡ asks_for_starts self.old }
+        ensures kept { OnOk result (ReadsOn self.old self.new) }
+        ensures refused_kept { IfErr result (λ e. kind_of e ≡ ParseErrorKind.Parse → ReadsOn self.old self.new) }
+        ensures same { keeps_starts self.new ≡ keeps_starts self.old }
     {
         if self.rejected > 0 {
             return self.read_segment::<T, S>(alloc, filename, sink);

@@ -20,7 +20,7 @@ _STEP = 65536
 class Reader:
     """Reads the items of a stream that is pushed part by part, such as what a socket gives.
 
-    It is an iterator that ends when more of the stream is wanted, and goes on after the next
+    It is an iterator that ends when more of the stream is wanted, and resumes after the next
     `push`. The stream is cut where an item ends and a line of the next begins, as the tokens of the
     lines show it. Between two cuts is a *segment*. An item is there when the first line of the next
     is whole, or after `finish`. In memory are what was pushed since the last cut, which is an
@@ -28,7 +28,7 @@ class Reader:
 
     An invalid segment gives no items. It raises `Refused`, with its place and `Location` in the
     stream, and the next call of `next` reads on after it. With `refused` that function is called
-    with the exception instead, and the iterator goes on. At bytes that are not UTF-8 it raises
+    with the exception instead, and the iterator resumes. At bytes that are not UTF-8 it raises
     `NotUtf8`, after the segments before them, and is at its end.
 
     With `by_segments` each segment is read by itself: `offset` and `line` are then those of the
@@ -213,7 +213,7 @@ def stream(
     """The items of a binary file, which may be larger than memory, and may be a pipe or a socket.
 
     `Refused` at an invalid segment, which ends the iterator; with `refused` that function is called
-    with the exception instead, and the iterator goes on. `Reader` says more.
+    with the exception instead, and the iterator resumes. `Reader` says more.
 
     >>> import io
     >>> file = io.BytesIO(b"result 1\\nresult\\nresult 2")

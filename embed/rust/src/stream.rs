@@ -9,7 +9,7 @@
 //! for item in items::<LeftHandSide, _>(stream) {
 //!     match item {
 //!         Ok(item) => read.push(item),
-//!         // Reading goes on after it.
+//!         // Reading resumes after it.
 //!         Err(Error::Refused(refusal)) => assert_eq!(refusal.location().map(|at| at.line), Some(4)),
 //!         Err(error) => return Err(error.into()),
 //!     }
@@ -19,7 +19,7 @@
 //! ```
 //!
 //! The stream is cut where an item ends and a line of the next begins, as the tokens of the lines show it. Between two cuts is a
-//! *segment*. An invalid segment is an [`Error::Refused`], which gives no items, and reading goes on after it. In memory are the bytes
+//! *segment*. An invalid segment is an [`Error::Refused`], which gives no items, and reading resumes after it. In memory are the bytes
 //! since the last cut, which is an unfinished segment, the part that came last, and the items of the segments that were cut last.
 use crate::canonical::{Before, Refusal};
 use crate::code::{self, Item};
@@ -113,7 +113,7 @@ const STEP: usize = 65536;
 
 /// Reads the items of a stream that is pushed part by part.
 ///
-/// As an iterator it ends when more of the stream is wanted, and goes on after the next [`push`](Reader::push).
+/// As an iterator it ends when more of the stream is wanted, and resumes after the next [`push`](Reader::push).
 ///
 /// ```
 /// use souper_ir::ast::RightHandSide;

@@ -52,7 +52,8 @@ impl Kept {
 /// The memory of items that a sink gave back ([`Sink::take_over`](crate::parse::Sink::take_over)):
 /// [`parse_with_memory`](crate::parse::parse_with_memory) reads the items of the next text into it.
 ///
-/// It keeps room for at most 64 statements (16 KiB), and at most 64 names of at most 64 bytes.
+/// It keeps room for at most 64 statements (16 KiB), and at most 64 names of at most 64 bytes; and, if it is asked
+/// ([`with_starts`](Memory::with_starts)), for the offsets of the items of a text.
 #[derive(Debug, Drop)]
 pub struct Memory {
     pub(crate) spare: Spare,

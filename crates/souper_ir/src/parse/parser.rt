@@ -223,11 +223,12 @@ impl<'a> Parser<'a> {
         ReadError::Memory
     }
 
-    /// The next token, which is not taken, or `None` at the end of the text.
+    // The offset of the next token, and the token, which is not taken, or `None` at the end of the text.
     #[inline(always)]
     #[tactic(auto, unfolding(crate::specs::Reading::look_at))]
-    pub(crate) fn lookahead(&mut self) -> Read<Option<Token<'a>>>
-        ensures next { Gives (option_map lexeme_of) (widened result) (look_at self.old) self.old self.new }
+    fn look(&mut self) -> Read<Option<(usize, Token<'a>)>>
+        ensures next { Gives (option_map (λ seen. lexeme_of seen.1)) (widened result) (look_at self.old) self.old self.new }
+        ensures start { IfOk result (λ next. IfSome next (λ seen. StartsAt seen.0 self.old.tokens)) }
         // The end of the text needs no memory.
         ensures ended { self.old.tokens ≡ [] → self.old.faulty ≡ false → self.old.failed ≡ None → IsOk result }
     {
@@ -239,7 +240,17 @@ impl<'a> Parser<'a> {
                 return Err(self.refuse_fault(fault));
             }
         }
-        match self.ahead {
+        Ok(self.ahead)
+    }
+
+    /// The next token, which is not taken, or `None` at the end of the text.
+    #[inline(always)]
+    pub(crate) fn lookahead(&mut self) -> Read<Option<Token<'a>>>
+        ensures next { Gives (option_map lexeme_of) (widened result) (look_at self.old) self.old self.new }
+        // The end of the text needs no memory.
+        ensures ended { self.old.tokens ≡ [] → self.old.faulty ≡ false → self.old.failed ≡ None → IsOk result }
+    {
+        match self.look()? {
             Some((_, token)) => Ok(Some(token)),
             None => Ok(None),
         }
@@ -253,15 +264,7 @@ impl<'a> Parser<'a> {
         // The end of the text needs no memory.
         ensures ended { self.old.tokens ≡ [] → self.old.faulty ≡ false → self.old.failed ≡ None → IsOk result }
     {
-        if self.failed.is_some() {
-            return Err(self.fail_again());
-        }
-        if self.ahead.is_none() {
-            if let Err(fault) = self.lexer.lex(&mut self.ahead, &mut self.offset) {
-                return Err(self.refuse_fault(fault));
-            }
-        }
-        let Some((offset, _)) = self.ahead else {
+        let Some((offset, _)) = self.look()? else {
             return Ok(None);
         };
         Ok(Some(offset))

@@ -1,6 +1,6 @@
 use Rattle.std.proofs.Common.{◌≡◌, ◌||◌, false, List, [], refl, sym, ap, ◌∙◌}
 use Rattle.std.proofs.KnownBytes.{Keeps-refl}
-use Rattle.souper_stream.specs.Parts.{asks_for_starts}
+use Rattle.souper_stream.specs.Parts.{keeps_starts}
 use Rattle.souper_format.specs.Watching.{watched_inner, has_failed}
 use Rattle.souper_records.specs.declared.stop.Stop.TheVariants.{Input}
 use Rattle.souper_records.specs.Outcomes.{Outcome, WroteParts}
@@ -37,7 +37,7 @@ pub returns-in-Err-clause-stopped : goal.returns-in-Err-clause-stopped
 returns-in-Err-clause-stopped g c =
     let i = c.loop-turn.invariant in
     let e = c.in-Err.ensures in
-    let known : List Outcome → Type 0 = λ os. (s : _) × WroteParts g.T.Item.item_type (asks_for_starts c.args.source.parts) (g.S.PartSink.wrote c.args.source.options.name.now c.args.sink.now (g.W.Write.contents (watched_inner c.args.out.now)) s (g.W.Write.contents (watched_inner c.write_next.new.out))) os in
+    let known : List Outcome → Type 0 = λ os. (s : _) × WroteParts g.T.Item.item_type (keeps_starts c.args.source.parts) (g.S.PartSink.wrote c.args.source.options.name.now c.args.sink.now (g.W.Write.contents (watched_inner c.args.out.now)) s (g.W.Write.contents (watched_inner c.write_next.new.out))) os in
     rw e.stopped (stopped_after i.reached c.args.source.options.recover i.quiet known _ c.in-Err.stop
     (known_mapped c.in-Err.stop _ _ _ (λ same. (c.loop-turn.sink, (rw same i.reached.written, i.reached.started))) e.unwritten))
 
@@ -62,5 +62,5 @@ loop-turn-preserved g c =
 pub returns-clause-stopped : goal.returns-clause-stopped
 returns-clause-stopped g c =
     let i = c.loop-turn.invariant in
-    let known : List Outcome → Type 0 = λ os. (s : _) × WroteParts g.T.Item.item_type (asks_for_starts c.args.source.parts) (g.S.PartSink.wrote c.args.source.options.name.now c.args.sink.now (g.W.Write.contents (watched_inner c.args.out.now)) s (g.W.Write.contents (watched_inner c.loop-turn.out))) os in
+    let known : List Outcome → Type 0 = λ os. (s : _) × WroteParts g.T.Item.item_type (keeps_starts c.args.source.parts) (g.S.PartSink.wrote c.args.source.options.name.now c.args.sink.now (g.W.Write.contents (watched_inner c.args.out.now)) s (g.W.Write.contents (watched_inner c.loop-turn.out))) os in
     stopped_after i.reached c.args.source.options.recover i.quiet known (has_failed c.loop-turn.out) (Input c.from.result) (c.loop-turn.sink, (i.reached.written, i.reached.started))

@@ -1,7 +1,9 @@
-use Rattle.std.proofs.Common.{◌∙◌, length, refl, ap, arith}
+use Rattle.std.proofs.Common.{◌∙◌, [], length, refl, sym, ap, arith, append-nil}
 use Rattle.std.proofs.lemmas.List.{length-drop}
 use Rattle.souper_stream.specs.declared.reader.ItemReader.{ItemReader}
+use Rattle.souper_stream.specs.Buffering.{held}
 use Rattle.souper_stream.proofs.Passing.{dropped, next_cut, next_end}
+use Rattle.souper_stream.proofs.Buffers.{keeps_more}
 use Rattle.souper_stream.proofs.reader.ItemReader.next_chunk.Goals as goal
 
 pub loop-turn-init : goal.loop-turn-init
@@ -17,6 +19,7 @@ loop-turn-init g c =
       parsed = omega (arith, c.requires.parsed, r.buffer.bytes.ok, q.buffer.bytes.ok, length-drop r.buffer.start r.buffer.bytes.items);
       none = c.requires.none;
       drained = d.start_is;
+      kept = record { more = []; bytes_are = d.bytes_are ∙ sym (append-nil (held r.buffer)) };
       parts = λ start ps had. dropped g.T.Item.item_type start (g.R.Read.remaining c.args.reader.now) ps r q d refl refl refl had;
     }
 
@@ -38,5 +41,12 @@ loop-turn-preserved g c = record {
   parsed = c.read_more.ensures.parsed;
   none = c.read_more.ensures.none;
   drained = c.read_more.ensures.start ∙ c.loop-turn.invariant.drained;
+  kept = keeps_more c.args.self.now.buffer c.loop-turn.self.buffer c.read_more.new.self.buffer c.loop-turn.invariant.kept c.in_ok-read_more.ensures.kept;
   parts = λ start ps had. c.in_ok-read_more.ensures.read g.T.Item.item_type start ps (c.loop-turn.invariant.parts start ps had);
 }
+
+pub returns-then-self-clause-kept : goal.returns-then-self-clause-kept
+returns-then-self-clause-kept g c = keeps_more c.args.self.now.buffer c.loop-turn.self.buffer c.read_more.new.self.buffer c.loop-turn.invariant.kept c.in_ok-read_more.ensures.kept
+
+pub returns-then-cut-gt0-clause-kept : goal.returns-then-cut-gt0-clause-kept
+returns-then-cut-gt0-clause-kept g c = keeps_more c.args.self.now.buffer c.loop-turn.self.buffer c.read_more.new.self.buffer c.loop-turn.invariant.kept c.in_ok-read_more.ensures.kept

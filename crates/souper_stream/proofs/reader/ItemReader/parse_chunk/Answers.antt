@@ -4,7 +4,7 @@ use Rattle.std.proofs.lemmas.Result.{err_from_is_err_and}
 use Rattle.souper_stream.proofs.Refusing.{chunk_left}
 use Rattle.souper_ir.specs.Starts.{TextSpellsFrom, HasStarts}
 use Rattle.souper_stream.specs.Buffering.{held, unparsed}
-use Rattle.souper_stream.specs.Parts.{StartThere, StartNow, asks_for_starts}
+use Rattle.souper_stream.specs.Parts.{AreNextStarts, HasNextStarts, keeps_starts}
 use Rattle.souper_stream.specs.declared.reader.ItemReader.{ItemReader}
 use Rattle.souper_stream.proofs.Starting.{kept_now, takes_with, text_within}
 use Rattle.souper_stream.proofs.reader.ItemReader.parse_chunk.Goals as goal
@@ -23,9 +23,9 @@ returns-clause-taken g c =
     let q = c.pass.new.self in
     let len = c.args.len in
     let same = c.keep_starts.ensures.same in
-    let there : (offsets : List ℕ) → HasStarts r.memory m offsets → StartNow r.buffer len q offsets =
-    λ offsets h asked. kept_now r.memory m (λ x. StartThere r.buffer len x q.starts.items) offsets h (rw (← c.pass.ensures.starts) at c.in_ok-keep_starts.ensures.starts) (sym (c.pass.ensures.same ∙ ap asks_for_starts same) ∙ asked) in
-    takes_with g.S.Sink.holds (TextSpellsFrom g.T.Item.item_type (take len (unparsed r.buffer))) (HasStarts r.memory m) (StartNow r.buffer len q) c.args.sink.now c.parse_with_memory.new.sink there (rw c.in_ok-text.ensures.text at c.in_ok-parse_with_memory.ensures.starts)
+    let there : (offsets : List ℕ) → HasStarts r.memory m offsets → HasNextStarts r.buffer len q offsets =
+    λ offsets h asked. kept_now r.memory m (λ x. AreNextStarts r.buffer len x q.starts.items) offsets h (rw (← c.pass.ensures.starts) at c.in_ok-keep_starts.ensures.starts) (sym (c.pass.ensures.same ∙ ap keeps_starts same) ∙ asked) in
+    takes_with g.S.Sink.holds (TextSpellsFrom g.T.Item.item_type (take len (unparsed r.buffer))) (HasStarts r.memory m) (HasNextStarts r.buffer len q) c.args.sink.now c.parse_with_memory.new.sink there (rw c.in_ok-text.ensures.text at c.in_ok-parse_with_memory.ensures.starts)
 
 pub returns-in_err-parse_with_memory-clause-left : goal.returns-in_err-parse_with_memory-clause-left
 returns-in_err-parse_with_memory-clause-left g c =

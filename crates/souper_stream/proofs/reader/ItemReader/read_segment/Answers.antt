@@ -4,7 +4,7 @@ use Rattle.std.proofs.Common.{rules, ◌≡◌, ◌<◌, ◌-◌, ℕ, List, len
 use Rattle.std.specs.Prelude.{option_copied}
 use Rattle.std.proofs.lemmas.List.{length-drop, length-take}
 use Rattle.souper_ir.specs.Starts.{TextSpellsFrom, PrefixSpellsFrom, HasStarts}
-use Rattle.souper_stream.specs.Parts.{Advances, StartThere, StartNow, asks_for_starts}
+use Rattle.souper_stream.specs.Parts.{Advances, AreNextStarts, HasNextStarts, keeps_starts}
 use Rattle.souper_stream.specs.Buffering.{held, unparsed}
 use Rattle.souper_stream.specs.declared.reader.ItemReader.{ItemReader}
 use Rattle.souper_stream.proofs.Passing.{segment_taken, segment_refused}
@@ -34,12 +34,12 @@ returns-clause-taken g c =
     let q = c.pass.new.self in
     let same = c.keep_starts.ensures.same in
     let advances : Advances r.buffer r.ended (is_some r.fault) q len (r.rejected - len) = subst (λ (x : ItemReader). Advances x.buffer x.ended (is_some x.fault) q len (r.rejected - len)) same c.pass.ensures.advanced in
-    let there : (offsets : List ℕ) → HasStarts r.memory m offsets → StartNow r.buffer len q offsets =
-    λ offsets h asked. kept_now r.memory m (λ x. StartThere r.buffer len x q.starts.items) offsets h (rw (← c.pass.ensures.starts) at c.in_ok-keep_starts.ensures.starts) (sym (c.pass.ensures.same ∙ ap asks_for_starts same) ∙ asked) in
+    let there : (offsets : List ℕ) → HasStarts r.memory m offsets → HasNextStarts r.buffer len q offsets =
+    λ offsets h asked. kept_now r.memory m (λ x. AreNextStarts r.buffer len x q.starts.items) offsets h (rw (← c.pass.ensures.starts) at c.in_ok-keep_starts.ensures.starts) (sym (c.pass.ensures.same ∙ ap keeps_starts same) ∙ asked) in
     let holds = g.S.Sink.holds in
     elim c.match-parse_with_memory.branch [
       | in-Ok w ↦ rw w.parsed-is (λ start now ps had. segment_taken k start now ps r q len c.requires.some some c.in_ok-len.ensures.segment advances had holds c.args.sink.now c.parse_with_memory.new.sink
-          (takes_with holds (TextSpellsFrom k (take len (unparsed r.buffer))) (HasStarts r.memory m) (StartNow r.buffer len q) c.args.sink.now c.parse_with_memory.new.sink there (rw c.in_ok-text.ensures.text at w.in-Ok.ensures.starts)))
+          (takes_with holds (TextSpellsFrom k (take len (unparsed r.buffer))) (HasStarts r.memory m) (HasNextStarts r.buffer len q) c.args.sink.now c.parse_with_memory.new.sink there (rw c.in_ok-text.ensures.text at w.in-Ok.ensures.starts)))
       | in-Err w ↦ rw w.parsed-is tt
     ]
 
@@ -53,14 +53,14 @@ returns-clause-refused g c =
     let q = c.pass.new.self in
     let same = c.keep_starts.ensures.same in
     let advances : Advances r.buffer r.ended (is_some r.fault) q len (r.rejected - len) = subst (λ (x : ItemReader). Advances x.buffer x.ended (is_some x.fault) q len (r.rejected - len)) same c.pass.ensures.advanced in
-    let there : (offsets : List ℕ) → HasStarts r.memory m offsets → StartNow r.buffer len q offsets =
-    λ offsets h asked. kept_now r.memory m (λ x. StartThere r.buffer len x q.starts.items) offsets h (rw (← c.pass.ensures.starts) at c.in_ok-keep_starts.ensures.starts) (sym (c.pass.ensures.same ∙ ap asks_for_starts same) ∙ asked) in
+    let there : (offsets : List ℕ) → HasStarts r.memory m offsets → HasNextStarts r.buffer len q offsets =
+    λ offsets h asked. kept_now r.memory m (λ x. AreNextStarts r.buffer len x q.starts.items) offsets h (rw (← c.pass.ensures.starts) at c.in_ok-keep_starts.ensures.starts) (sym (c.pass.ensures.same ∙ ap keeps_starts same) ∙ asked) in
     let text = c.in_ok-text.text.now in
     let file = option_copied c.args.filename in
     let holds = g.S.Sink.holds in
     elim c.match-parse_with_memory.branch [
       | in-Ok w ↦ rw w.parsed-is tt
       | in-Err w ↦ rw w.parsed-is (λ kind start now ps had. segment_refused k start now ps r q len c.requires.some some c.in_ok-len.ensures.segment advances had holds c.args.sink.now c.parse_with_memory.new.sink file w.place.result kind
-          (text_refused k file r.buffer len (StartNow r.buffer len q) holds c.args.sink.now c.parse_with_memory.new.sink text w.in-Err.error w.place.result c.in_ok-text.ensures.text
-          (λ e. takes_with holds (PrefixSpellsFrom k text) (HasStarts r.memory m) (StartNow r.buffer len q) c.args.sink.now c.parse_with_memory.new.sink there (w.in-Err.ensures.starts_before e)) w.in-Err.ensures.refused kind (w.place.ensures.located kind) (w.place.ensures.location kind)))
+          (text_refused k file r.buffer len (HasNextStarts r.buffer len q) holds c.args.sink.now c.parse_with_memory.new.sink text w.in-Err.error w.place.result c.in_ok-text.ensures.text
+          (λ e. takes_with holds (PrefixSpellsFrom k text) (HasStarts r.memory m) (HasNextStarts r.buffer len q) c.args.sink.now c.parse_with_memory.new.sink there (w.in-Err.ensures.starts_before e)) w.in-Err.ensures.refused kind (w.place.ensures.located kind) (w.place.ensures.location kind)))
     ]
