@@ -11,7 +11,7 @@ pub mod laws;
 pub mod layout;
 pub mod objects;
 pub mod options;
-mod parts;
+pub mod parts;
 pub mod records;
 pub mod report;
 pub mod run;

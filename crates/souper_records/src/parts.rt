@@ -20,21 +20,21 @@ use std::io::{BufRead, ErrorKind, Write};
 
 /// A part of a stream, and its location.
 #[derive(Clone, Copy)]
-pub(crate) struct Place<'a> {
+pub struct Place<'a> {
     /// The name of the stream.
-    pub(crate) name: &'a str,
+    pub name: &'a str,
 
     /// Where the items of the part begin, if that is asked for.
-    pub(crate) starts: &'a [Start],
+    pub starts: &'a [Start],
 
     /// The text of the part.
-    pub(crate) text: &'a [u8],
+    pub text: &'a [u8],
 }
 
 /// A sink whose output is written after each part of a stream.
-pub(crate) trait PartSink<T: StreamItem + Drop>: ChunkSink<T> {
-    // That the output of parts with these outcomes was written, given the name of the stream, the sink and the bytes of the output before
-    // the first part, and both after the last.
+pub trait PartSink<T: StreamItem + Drop>: ChunkSink<T> {
+    /// That the output of parts with these outcomes was written, given the name of the stream, the sink and the bytes of the output
+    /// before the first part, and both after the last.
     ghost wrote: { List ℕ → Self → Option (List ℕ) → Self → Option (List ℕ) → List Outcome → Type 0 };
 
     /// Writes the output of a part, whose items the sink holds, or the ones that it begins with if it was refused. Then it holds none.
@@ -67,15 +67,17 @@ fn min_chunk(options: ReadOptions<'_>) -> usize {
 
 /// A stream that is read part by part.
 #[derive(Drop)]
-pub(crate) struct Source<'a> {
+pub struct Source<'a> {
     options: ReadOptions<'a>,
     parts: ItemReader,
 }
 
 impl<'a> Source<'a> {
+    /// A stream that is to be read with these options.
+    ///
     /// With recovery a cut point is looked for in what the reader shows, and on to the end of a line; then whenever the buffer has doubled,
     /// or for lines whenever the reader has shown more.
-    pub(crate) fn new(alloc: Global, options: ReadOptions<'a>) -> Source<'a>
+    pub fn new(alloc: Global, options: ReadOptions<'a>) -> Source<'a>
         ensures options { result.options ≡ options.entry }
         ensures begins { Begins result }
     {
@@ -86,7 +88,7 @@ impl<'a> Source<'a> {
     }
 
     /// The same, and the reader is asked where the items begin.
-    pub(crate) fn with_starts(alloc: Global, options: ReadOptions<'a>) -> Source<'a>
+    pub fn with_starts(alloc: Global, options: ReadOptions<'a>) -> Source<'a>
         ensures options { result.options ≡ options.entry }
         ensures asked { keeps_starts result.parts ≡ true }
         ensures begins { Begins result }
@@ -147,8 +149,12 @@ fn write_next<T: StreamItem + Drop, S: PartSink<T>, R: BufRead, W: Write, E: Wri
     }
 }
 
-/// Writes the output of the parts of the stream, in order, and reports each refusal. Returns whether a part was refused.
-pub(crate) fn write_parts<T: StreamItem + Drop, S: PartSink<T>, R: BufRead, W: Write, E: Write>(
+/// Writes the output of the parts of the stream, in order, and reports each refusal to `err`. Returns whether a part was refused. Without
+/// recovery reading ends with the first refused part.
+///
+/// It stops if a read fails or bytes are not UTF-8 (`Stop::Input`), a write fails (`Stop::Output`), or memory runs out (`Stop::Memory`).
+/// Unless a write failed, the output of the parts so far was written, and nothing else.
+pub fn write_parts<T: StreamItem + Drop, S: PartSink<T>, R: BufRead, W: Write, E: Write>(
     alloc: Global,
     mut source: Source<'_>,
     sink: &mut S,
