@@ -1,0 +1,102 @@
+//! The names that an answer has: the names of a left-hand side, and then free numbers.
+
+ghost use Rattle.std.specs.Prelude.{◌≡◌, ◌≤◌, map, length, IfOk};
+ghost use Rattle.std.specs.String.{string_bytes};
+ghost use Rattle.souper_graph.specs.Text.{name_at};
+ghost use Rattle.souper_graph.specs.View.{view_statement};
+ghost use Rattle.souper_lookup.specs.Instance.{AreNames, AreExtended, HasSameElements};
+
+use indexmap::IndexSet;
+use souper_graph::ast::{Arena, Id, Statement};
+use std::alloc::{AllocError, Global};
+
+// The names of the statements at these positions, and then, up to `count` names in all, the first numbers from the number of
+// positions on that are none of these names.
+pub(crate) fn names_for(
+    alloc: Global,
+    statements: &Arena<Statement>,
+    ids: &[Id<Statement>],
+    count: usize,
+) -> Result<Vec<String>, AllocError>
+    ensures long { IfOk result (λ names. count ≤ length names.items) }
+    ensures names { length ids.now ≤ count → IfOk result (λ names. AreNames (map view_statement statements.now) ids.now count (map string_bytes names.items)) }
+{
+    let names = names_of(alloc, statements, ids)?;
+    let taken = set_of(alloc, &names)?;
+    let all = add_numbers(alloc, names, &taken, count)?;
+    Ok(all)
+}
+
+// The names of the statements at these positions, in order.
+fn names_of(
+    alloc: Global,
+    statements: &Arena<Statement>,
+    ids: &[Id<Statement>],
+) -> Result<Vec<String>, AllocError>
+    ensures { IfOk result (λ names. map string_bytes names.items ≡ map (name_at (map view_statement statements.now)) ids.now) }
+{
+    let mut names = Vec::new(alloc);
+    for id in ids {
+        names.push(name_of(alloc, statements, *id)?)?;
+    }
+    Ok(names)
+}
+
+// The name of the assignment at a position; empty if there is none.
+fn name_of(
+    alloc: Global,
+    statements: &Arena<Statement>,
+    id: Id<Statement>,
+) -> Result<String, AllocError>
+    ensures { IfOk result (λ name. string_bytes name ≡ name_at (map view_statement statements.now) id) }
+{
+    match statements.get(id) {
+        Some(statement) => match statement.as_assignment() {
+            Some(assignment) => assignment.name.clone(),
+            None => Ok(String::new(alloc)),
+        },
+        None => Ok(String::new(alloc)),
+    }
+}
+
+// A copy of the name.
+pub(crate) fn copied(name: &String) -> Result<String, AllocError>
+    ensures { IfOk result (λ copy. string_bytes copy ≡ string_bytes name.now) }
+{
+    name.clone()
+}
+
+// The set of these names.
+fn set_of(alloc: Global, names: &[String]) -> Result<IndexSet<String>, AllocError>
+    ensures { IfOk result (λ taken. HasSameElements (map string_bytes names.now) (map string_bytes taken.keys)) }
+{
+    let mut taken = IndexSet::new(alloc);
+    for name in names {
+        taken.insert(copied(name)?)?;
+    }
+    Ok(taken)
+}
+
+// Appends the first numbers from the number of names on that are not taken, up to `count` names in all.
+fn add_numbers(
+    alloc: Global,
+    mut names: Vec<String>,
+    taken: &IndexSet<String>,
+    count: usize,
+) -> Result<Vec<String>, AllocError>
+    ensures long { IfOk result (λ all. count ≤ length all.items) }
+    ensures numbered { HasSameElements (map string_bytes names.items) (map string_bytes taken.now.keys) → length names.items ≤ count
+        → IfOk result (λ all. AreExtended (map string_bytes names.items) count (map string_bytes all.items)) }
+{
+    let first = names.len() as u64;
+    for number in first..u64::MAX {
+        if names.len() >= count {
+            return Ok(names);
+        }
+        let name = format!(in alloc; "%{number}")?;
+        if !taken.contains(&name) {
+            names.push(name)?;
+        }
+    }
+    Err(AllocError)
+}
