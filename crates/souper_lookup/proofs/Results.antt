@@ -210,6 +210,11 @@ form-by a e q = go (form-of a e q)
     go (same i r at is) = (i, r, is)
     go (other i r at is) = (i, r, is)
 
+pub form-well : (a x : Item) → IsByResultOf x a → WellFormed a → WellFormed x
+form-well a x b wa =
+    let is : x ≡ ended_by a x.ending = λ j. record { statements = b.statements j; ending = x.ending } in
+    subst (λ (z : Item). WellFormed z) (sym is) (law-well a x.ending b.form wa).0
+
 -- a replacement by a result that was renamed is still one
 module _ (a x y : Item) (b : IsByResultOf x a) (n : IsRenamed x y) where
   renamed-form : IsByResult y.ending
@@ -224,7 +229,7 @@ module _ (a x y : Item) (b : IsByResultOf x a) (n : IsRenamed x y) where
     x-is = λ j. record { statements = b.statements j; ending = x.ending }
 
     wx : WellFormed x
-    wx = subst (λ (z : Item). WellFormed z) (sym x-is) (law-well a x.ending b.form wa).0
+    wx = form-well a x b wa
 
     y-is : y ≡ renamed x
     y-is = n.by_printed_order (well_formed_below x wx)

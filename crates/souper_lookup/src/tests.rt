@@ -270,7 +270,9 @@ fn check(rt: &impl Abort, alloc: Global, case: &str) {
     let (stored, rest) = parts.split_once("\n---\n").expect(rt, case);
     let (asked, want) = rest.split_once("\n---\n").expect(rt, case);
     let store = store_of(rt, alloc, stored);
-    for query in &parse_left_hand_sides_str(alloc, asked, None).expect(rt, case) {
+    let queries = parse_left_hand_sides_str(alloc, asked, None).expect(rt, case);
+    assert!(rt; queries.len() == 1, "{case}");
+    for query in &queries {
         let found = answers(rt, alloc, &store, query);
         assert!(rt; found.as_str() == want, "{case}");
     }

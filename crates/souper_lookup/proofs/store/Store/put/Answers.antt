@@ -9,6 +9,10 @@ use Rattle.souper_graph.specs.View.{view_infer, view_replacement}
 use Rattle.souper_lookup.specs.declared.store.Stored.{Stored}
 use Rattle.souper_lookup.specs.Stored.{Entry, view_stored, view_prepared, replacements_of, IsPushed, IsIndexOf}
 use Rattle.souper_lookup.proofs.Storing.{put-stored}
+use Rattle.std.proofs.lemmas.Result.{err_from_is_err_and}
+use Rattle.souper_graph.proofs.Judging.Closed.{fault_of_well_formed}
+use Rattle.souper_lookup.specs.Left.{with_infer}
+use Rattle.souper_lookup.proofs.Lefts.{left-well}
 use Rattle.souper_lookup.proofs.store.Store.put.Goals as goal
 
 pub returns-clause-put : goal.returns-clause-put
@@ -38,3 +42,10 @@ returns-clause-put c = λ entries h s t none.
           (put-stored items b (view_infer p.left.infer) p.result _ old.texts.keys c.insert.new.self.keys old.keys.keys c.file.new.keys.keys groups new p.text c.in_ok-key.key
           h.indexed s refl none t c.in_ok-key.ensures.printed added c.in_ok-file.ensures.keys pushed);
     }
+
+pub returns-in_err-key-clause-memory : goal.returns-in_err-key-clause-memory
+returns-in_err-key-clause-memory c = λ s.
+    let p = err_from_is_err_and c.from_residual.result c.from_residual.ensures.1 in
+    let b = view_prepared c.args.prepared in
+    let i = view_infer c.args.prepared.left.infer in
+    rw (p.1, p.2) (fault_of_well_formed (with_infer b i) _ (left-well b i refl s.well_formed) c.in_err-key.ensures.refused)
