@@ -10,8 +10,7 @@ use indexmap::IndexSet;
 use souper_graph::ast::{Arena, Id, Statement};
 use std::alloc::{AllocError, Global};
 
-// The names of the statements at these positions, and then, up to `count` names in all, the first numbers from the number of
-// positions on that are none of these names.
+// The names of the statements at these positions, and then the first free numbers from the number of positions on: `count` names in all.
 pub(crate) fn names_for(
     alloc: Global,
     statements: &Arena<Statement>,
@@ -77,7 +76,7 @@ fn set_of(alloc: Global, names: &[String]) -> Result<IndexSet<String>, AllocErro
     Ok(taken)
 }
 
-// Appends the first numbers from the number of names on that are not taken, up to `count` names in all.
+// Appends the first numbers, from the number of names on, that are not taken, until there are `count` names.
 fn add_numbers(
     alloc: Global,
     mut names: Vec<String>,
