@@ -1,9 +1,10 @@
 -- Groups by their keys.
-use Rattle.std.proofs.Common.{◌≡◌, ℕ, zero, suc, ◌+◌, ◌<◌, ◌≤◌, ◌++◌, length, map, List, [], ◌∷◌, Bool, true, false, ◌||◌, get_or, slice_set, refl, sym, ap, ◌∙◌, subst, arith, append-nil}
+use Rattle.std.proofs.Common.{◌≡◌, ℕ, zero, suc, ◌+◌, ◌<◌, ◌++◌, length, map, List, [], ◌∷◌, Bool, true, false, ◌||◌, get_or, slice_set, refl, sym, ap, ◌∙◌, subst, arith, append-nil}
 use Rattle.std.specs.Prelude.{String, if◌then◌else◌, bytes_eq}
 use Rattle.std.specs.List.{list_any, position_or_len}
 use Rattle.std.specs.String.{string_bytes, string_eq}
 use Rattle.indexmap.specs.IndexSet.{insert_key}
+use Rattle.std.proofs.lemmas.Bool.{or_parts}
 use Rattle.std.proofs.lemmas.List.{length_push}
 use Rattle.std.proofs.lemmas.Slice.Eq.{bytes_eq-Decides}
 use Rattle.souper_lookup.specs.Stored.{group, IsPushed}
@@ -21,10 +22,6 @@ apart t x k e n = under (bytes_eq t x) refl
 either : (a b : Bool) → (a || b) ≡ true → a ≡ false → b ≡ true
 either true b e f = absurd (cc)
 either false b e f = e
-
-neither : (a b : Bool) → (a || b) ≡ false → (a ≡ false) × (b ≡ false)
-neither true b e = absurd (cc)
-neither false b e = (refl, e)
 
 -- the index of a key
 abbrev pub here : List ℕ → List (List ℕ) → ℕ
@@ -81,7 +78,7 @@ module _ {A : Type 0} (t x : List ℕ) (a : A) where
   anew [] (g ∷ gs) e found = absurd (omega arith)
   anew (k ∷ ks) [] e found = absurd (omega arith)
   anew (k ∷ ks) (g ∷ gs) e found =
-      let n = neither (bytes_eq x k) (list_any (bytes_eq x) ks) found in
+      let n = or_parts (bytes_eq x k) (list_any (bytes_eq x) ks) found in
       later k g (group t ks gs) n.0 (bytes_eq t k) refl (group t (ks ++ x ∷ []) (gs ++ (a ∷ []) ∷ [])) (anew ks gs (omega arith) n.1)
 
 -- where a key is that is there, or not
@@ -95,7 +92,7 @@ found-within x (k ∷ ks) e = under (bytes_eq x k) refl (λ f. found-within x ks
 
 not-found : (x : List ℕ) (ks : List (List ℕ)) → list_any (bytes_eq x) ks ≡ false → here x ks ≡ length ks
 not-found x [] e = refl
-not-found x (k ∷ ks) e = let n = neither (bytes_eq x k) (list_any (bytes_eq x) ks) e in let l = not-found x ks n.1 in rw (n.0) (omega arith)
+not-found x (k ∷ ks) e = let n = or_parts (bytes_eq x k) (list_any (bytes_eq x) ks) e in let l = not-found x ks n.1 in rw (n.0) (omega arith)
 
 length-set : {X : Type 0} (xs : List X) (n : ℕ) (x : X) → length (slice_set xs n x) ≡ length xs
 length-set [] n x = refl

@@ -1,24 +1,24 @@
 -- The entries of a store, and its index.
-use Rattle.std.proofs.Common.{◌≡◌, ℕ, zero, suc, ◌+◌, ◌<◌, ◌≤◌, ◌++◌, inl, inr, length, map, List, [], ◌∷◌, Bool, true, false, cond, ◌||◌, Option, Some, None, get_or, slice_set, refl, sym, ap, ◌∙◌, subst, arith, append-nil, append_assoc}
-use Rattle.std.specs.Prelude.{String, if◌then◌else◌, bytes_eq, filter, nat_lt, flat_map}
+use Rattle.std.proofs.Common.{◌≡◌, ℕ, zero, suc, ◌+◌, ◌<◌, ◌≤◌, ◌++◌, inl, inr, length, map, List, [], ◌∷◌, Bool, true, false, cond, ◌||◌, Option, Some, None, slice_set, refl, sym, ap, ◌∙◌, subst, arith, append-nil, append_assoc}
+use Rattle.std.specs.Prelude.{String, if◌then◌else◌, bytes_eq, filter, nat_lt}
 use Rattle.std.specs.List.{slice_get, list_any, position, position_or_len, AllByRecursion}
 use Rattle.std.specs.String.{string_bytes, string_eq}
-use Rattle.indexmap.specs.IndexSet.{insert_key}
-use Rattle.std.proofs.lemmas.Bool.{cases_lt, lt-ltb}
+use Rattle.std.proofs.lemmas.Bool.{cases_lt, lt-ltb, both_ways, or_parts}
 use Rattle.std.proofs.lemmas.List.{map-append, length-map, length_push}
 use Rattle.std.proofs.lemmas.Bool.Decides.{nat_tests}
 use Rattle.std.proofs.lemmas.Grind.{flat_map-append}
 use Rattle.std.proofs.lemmas.Slice.Eq.{bytes_eq-Decides}
-use Rattle.souper_graph.specs.Values.{PlainInfer, Item}
+use Rattle.souper_graph.specs.Values.{Item}
 use Rattle.souper_graph.specs.Text.{text_of}
 use Rattle.souper_graph.specs.Renaming.{renamed, SameUpToNames}
 use Rattle.souper_graph.specs.WellFormed.{WellFormed}
-use Rattle.souper_graph.specs.Syntax.Spelling.{ItemType, replacement, IsEndingOf}
+use Rattle.souper_graph.specs.Syntax.Spelling.{replacement, IsEndingOf}
 use Rattle.souper_graph.proofs.Sameness.Renumbered.{ordered}
 use Rattle.souper_graph.proofs.Sameness.Renaming.{graph-renamed, renamed-graph}
 use Rattle.souper_ir.proofs.Items.OneText.{one_text}
-use Rattle.souper_lookup.specs.Stored.{Entry, replacements_of, Storable, NoneIsSame, NoTwoAreSame, raised, has_key, left_key, indices_from, optional_list, elements_at, group, IsIndexOf}
-use Rattle.souper_lookup.proofs.Strings.{among, inserted, place_of}
+use Rattle.souper_lookup.specs.Stored.{Entry, replacements_of, Storable, NoneIsSame, NoTwoAreSame, raised, has_key, left_key, indices_from, optional_list, elements_at, IsIndexOf}
+use Rattle.souper_lookup.proofs.Options.{some-is}
+use Rattle.souper_lookup.proofs.Strings.{place_of}
 use Rattle.souper_lookup.proofs.Grouping.{IsFiled}
 
 -- ---- one text for each graph
@@ -121,27 +121,15 @@ text-new (a ∷ items) b all s none = under (bytes_eq (text_of b) (text_of a)) r
 -- a text that none has is the text of another graph
 pub none-same : (items : List Item) (b : Item) → AllByRecursion Storable items → Storable b → list_any (bytes_eq (text_of b)) (map text_of items) ≡ false → NoneIsSame items b
 none-same [] b all s e = tt
-none-same (a ∷ items) b all s e = (
-  (λ same. first (bytes_eq (text_of b) (text_of a)) (list_any (bytes_eq (text_of b)) (map text_of items)) e ((bytes_eq-Decides (text_of b) (text_of a)).1 (sym ((one-text a b all.0 s).1 same)))),
-  none-same items b all.1 s (later (bytes_eq (text_of b) (text_of a)) (list_any (bytes_eq (text_of b)) (map text_of items)) e),
-)
-  where
-    first : (x y : Bool) → (x || y) ≡ false → x ≡ true → ⊥
-    first true y e f = absurd (cc)
-    first false y e f = absurd (cc)
-
-    later : (x y : Bool) → (x || y) ≡ false → y ≡ false
-    later true y e = absurd (cc)
-    later false y e = e
+none-same (a ∷ items) b all s e =
+    let parts = or_parts (bytes_eq (text_of b) (text_of a)) (list_any (bytes_eq (text_of b)) (map text_of items)) e in
+    ((λ same. both_ways (bytes_eq (text_of b) (text_of a)) parts.0 ((bytes_eq-Decides (text_of b) (text_of a)).1 (sym ((one-text a b all.0 s).1 same)))), none-same items b all.1 s parts.1)
 
 -- ---- one more of an entry
 
 pub same-replacements : (entries : List Entry) (n : ℕ) (e : Entry) → slice_get entries n ≡ Some e → replacements_of (slice_set entries n (raised e)) ≡ replacements_of entries
 same-replacements [] n e at = absurd (cc)
-same-replacements (x ∷ entries) zero e at = ap (λ (z : Entry). z.replacement ∷ replacements_of entries) (some-is at)
-  where
-    some-is : Some x ≡ Some e → e ≡ x
-    some-is q = cc
+same-replacements (x ∷ entries) zero e at = ap (λ (z : Entry). z.replacement ∷ replacements_of entries) (sym (some-is at))
 same-replacements (x ∷ entries) (suc n) e at = ap (λ (z : List Item). x.replacement ∷ z) (same-replacements entries n e at)
 
 -- the entry at the index of a text
@@ -149,9 +137,6 @@ text-at : (entries : List Entry) (n : ℕ) (t : List ℕ) → AllByRecursion Sto
     (e : Entry) × (slice_get entries n ≡ Some e) × (text_of e.replacement ≡ t) × Storable e.replacement
 text-at [] n t all e = absurd (cc)
 text-at (x ∷ entries) zero t all e = (x, refl, some-is e, all.0)
-  where
-    some-is : {A : Type 0} {a b : A} → Some a ≡ Some b → a ≡ b
-    some-is e = cc
 text-at (x ∷ entries) (suc n) t all e = text-at entries n t all.1 e
 
 passes : (t : List ℕ) (ks : List (List ℕ)) → position_or_len (bytes_eq t) ks < length ks → slice_get ks (position_or_len (bytes_eq t) ks) ≡ Some t
@@ -184,12 +169,9 @@ found-same entries texts t n b all are s is at =
     let e = text-at entries n (string_bytes t) all there in
     record { entry = e.0; there = e.1; same = (one-text e.0.replacement b e.3 s).0 (e.2 ∙ is) }
   where
-    some-is : {A : Type 0} {a b : A} → Some a ≡ Some b → b ≡ a
-    some-is e = cc
-
     place-some : {X : Type 0} (p : X → Bool) (xs : List X) (i : ℕ) → position p xs ≡ Some i → (i ≡ position_or_len p xs) × (position_or_len p xs < length xs)
     place-some p xs i e = elim (cases_lt (position_or_len p xs) (length xs)) [
-      | inl lt ↦ (some-is (ap (λ (b : Bool). cond b (Some (position_or_len p xs)) None) (sym (lt-ltb (position_or_len p xs) (length xs) lt)) ∙ e), lt)
+      | inl lt ↦ (sym (some-is (ap (λ (b : Bool). cond b (Some (position_or_len p xs)) None) (sym (lt-ltb (position_or_len p xs) (length xs) lt)) ∙ e)), lt)
       | inr le ↦ absurd (none (nat_lt (position_or_len p xs) (length xs)) (not-below le) e)
     ]
       where

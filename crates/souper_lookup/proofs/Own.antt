@@ -1,7 +1,6 @@
 -- A stored replacement is its own instance for a query that has names by its printed order.
-use Rattle.std.proofs.Common.{◌≡◌, ℕ, zero, suc, ◌+◌, ◌<◌, ◌≤◌, ◌++◌, inl, inr, length, map, take, List, [], ◌∷◌, true, Some, get_or, refl, sym, ap, ◌∙◌, subst, arith}
+use Rattle.std.proofs.Common.{◌≡◌, ℕ, zero, suc, ◌<◌, ◌≤◌, ◌++◌, inl, inr, length, map, take, List, [], ◌∷◌, true, Some, get_or, refl, sym, ap, ◌∙◌, subst, arith}
 use Rattle.std.specs.List.{slice_get}
-use Rattle.std.proofs.lemmas.Bool.{cases_lt}
 use Rattle.std.proofs.lemmas.List.{length-map, map-append}
 use Rattle.souper_graph.specs.Names.{IsName}
 use Rattle.souper_graph.specs.Values.{PlainStatement, PlainAssignment, assigned, condition, block_condition, PlainInfer, Item}
@@ -9,7 +8,7 @@ use Rattle.souper_graph.specs.Uses.{Has, is_condition, walks_of, walked, NeededI
 use Rattle.souper_graph.specs.Order.{printed_order}
 use Rattle.souper_graph.specs.WellFormed.{FitsStatement, WellFormed}
 use Rattle.souper_graph.specs.Text.{name_of, name_at}
-use Rattle.souper_graph.specs.Sameness.{carried, SameGraph, place}
+use Rattle.souper_graph.specs.Sameness.{SameGraph, place}
 use Rattle.souper_graph.specs.Renaming.{with_name, nameless, SameUpToNames, name_of_index, renamed}
 use Rattle.souper_graph.proofs.Judging.Needed.{statement_at, well_formed_stands, in-conditions}
 use Rattle.souper_graph.proofs.Sameness.Indices.{place-inside, place-at, Has-at}
@@ -19,11 +18,9 @@ use Rattle.souper_graph.proofs.Sameness.Renaming.{renamed-graph, renamed-there}
 use Rattle.souper_lookup.specs.Left.{infer_of, with_infer}
 use Rattle.souper_lookup.specs.Instance.{name_in, IsFresh, SameLeft, IsInstance}
 use Rattle.souper_lookup.specs.Stored.{Storable}
+use Rattle.souper_lookup.proofs.Options.{some-is}
 use Rattle.souper_lookup.proofs.Lefts.{left-well, law-begins, place-left, own-left-same, own-renamed-well}
 use Rattle.souper_lookup.proofs.Instances.{name-mapped, carried-name, rest-name}
-
-some-is : {A : Type 0} {x y : A} → Some x ≡ Some y → x ≡ y
-some-is e = cc
 
 -- a statement that has a name is an assignment
 name-assigned : (u : PlainStatement) (n : ℕ) (ns : List ℕ) → name_of (Some u) ≡ n ∷ ns → (v : PlainAssignment) × (u ≡ assigned v) × (v.name ≡ n ∷ ns)

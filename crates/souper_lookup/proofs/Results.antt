@@ -1,5 +1,5 @@
 -- Replacements by a result.
-use Rattle.std.proofs.Common.{◌≡◌, ℕ, ◌<◌, ◌++◌, inl, inr, map, List, [], ◌∷◌, Option, Some, None, refl, sym, ap, ◌∙◌, subst, arith}
+use Rattle.std.proofs.Common.{◌≡◌, ℕ, ◌++◌, inl, inr, map, List, [], ◌∷◌, Some, None, refl, sym, ap, ◌∙◌, subst}
 use Rattle.souper_graph.specs.declared.ast.operands.Operand.{Operand}
 use Rattle.souper_graph.specs.declared.ast.operands.Operand.TheVariants.{Value, Constant}
 use Rattle.souper_graph.specs.declared.ast.items.LeftHandSide.{LeftHandSide}
@@ -7,7 +7,7 @@ use Rattle.souper_graph.specs.declared.ast.items.Replacement.{Replacement}
 use Rattle.souper_graph.specs.declared.ast.items.Replacement.TheVariants.{LhsRhs, Cand as cand_variant}
 use Rattle.souper_graph.specs.Values.{PlainStatement, PlainRootAttribute, PlainInfer, PlainCand, Ending, inferred, resulting, replaced, candidate, Item}
 use Rattle.souper_graph.specs.View.{view_statement, view_infer, view_cand, view_left_hand_side, view_replacement}
-use Rattle.souper_graph.specs.Uses.{Has, value_use, position_of, uses_of_operand, conditions, walks_of, Needed, walked, used, NeededIn}
+use Rattle.souper_graph.specs.Uses.{Has, value_use, position_of, uses_of_operand, conditions, walks_of, NeededIn}
 use Rattle.souper_graph.specs.WellFormed.{WellFormed}
 use Rattle.souper_graph.specs.Text.{text_of}
 use Rattle.souper_graph.specs.ItemText.{IsItemText}
@@ -17,17 +17,12 @@ use Rattle.souper_graph.specs.Syntax.Spelling.{ItemType}
 use Rattle.souper_graph.proofs.Lists.{Has-left, Has-right, Has-cases}
 use Rattle.souper_graph.proofs.Judging.Needed.{well_formed_below}
 use Rattle.souper_graph.proofs.Sameness.Renaming.{renamed-again, renamed-alike}
-use Rattle.souper_lookup.specs.Left.{infer_of_operand, infer_of, with_infer, by_result, by_result_operand, ended_by, IsByResult, IsByResultOf, IsSplitOf}
+use Rattle.souper_lookup.specs.Left.{infer_of_operand, infer_of, by_result, by_result_operand, ended_by, IsByResult, IsByResultOf, IsSplitOf}
 use Rattle.souper_lookup.specs.Stored.{Storable, IsStoredFormOf}
-
-some-is : {A : Type 0} {x y : A} → Some x ≡ Some y → x ≡ y
-some-is e = cc
+use Rattle.souper_lookup.proofs.Options.{some-is}
+use Rattle.souper_lookup.proofs.Lefts.{needed-more}
 
 -- ---- a cand by a result
-
-needed-more : (ss : List PlainStatement) (v w : List ℕ) {j : ℕ} → ((i : ℕ) → Has v i → Has w i) → Needed ss v j → Needed ss w j
-needed-more ss v w {j = j} f (walked h) = walked (f j h)
-needed-more ss v w f (used n h) = used (needed-more ss v w f n) h
 
 module _ (ss : List PlainStatement) (i : PlainInfer) (r : Operand) where
   abbrev cand : Item

@@ -1,5 +1,5 @@
 -- Lists of strings by their bytes.
-use Rattle.std.proofs.Common.{◌≡◌, ℕ, ◌+◌, ◌++◌, map, List, [], ◌∷◌, Bool, true, false, not, ◌||◌, refl, ap, ◌∙◌}
+use Rattle.std.proofs.Common.{◌≡◌, ℕ, ◌+◌, ◌++◌, map, List, [], ◌∷◌, Bool, true, false, not, ◌||◌, refl, ap}
 use Rattle.std.specs.Prelude.{String, if◌then◌else◌, bytes_eq}
 use Rattle.std.specs.List.{list_any, position_or_len}
 use Rattle.std.specs.String.{string_bytes, string_eq}

@@ -1,8 +1,8 @@
-use Rattle.std.proofs.Common.{◌≡◌, ℕ, ◌+◌, ◌++◌, [], ◌∷◌, sym, ap, ◌∙◌, subst, map, length, List, true, false, Vec, Global, arith}
+use Rattle.std.proofs.Common.{◌≡◌, ℕ, ◌+◌, ◌++◌, [], ◌∷◌, sym, ap, ◌∙◌, subst, map, length, List, Vec, Global, arith}
 use Rattle.std.proofs.lemmas.List.{length_push, length-map, map-append}
 use Rattle.std.specs.Prelude.{String}
 use Rattle.std.specs.String.{string_bytes}
-use Rattle.souper_lookup.proofs.Fresh.{AreSoFar, so-far-none, so-far-pushed, so-far-taken, tested}
+use Rattle.souper_lookup.proofs.Fresh.{AreSoFar, so-far-pushed, so-far-taken, tested}
 use Rattle.souper_lookup.proofs.names.add_numbers.Goals as goal
 use Rattle.souper_lookup.proofs.names.add_numbers.Goals.{then-not-contains+in_ok-push, else-not-contains}
 

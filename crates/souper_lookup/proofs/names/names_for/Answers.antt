@@ -1,4 +1,4 @@
-use Rattle.std.proofs.Common.{◌≡◌, ℕ, List, Global, map, length, sym, ap, subst, arith}
+use Rattle.std.proofs.Common.{ℕ, List, Global, map, length, ap, subst, arith}
 use Rattle.std.specs.Prelude.{String}
 use Rattle.std.specs.String.{string_bytes}
 use Rattle.std.proofs.lemmas.List.{length-map}

@@ -1,6 +1,4 @@
-use Rattle.std.proofs.Common.{ap}
 use Rattle.souper_graph.specs.View.{view_replacement}
-use Rattle.souper_lookup.specs.Stored.{Entry}
 use Rattle.souper_lookup.proofs.Storing.{raised-at}
 use Rattle.souper_lookup.proofs.store.raise.Goals as goal
 

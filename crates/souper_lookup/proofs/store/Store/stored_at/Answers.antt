@@ -1,8 +1,8 @@
-use Rattle.std.proofs.Common.{◌≡◌, Vec, Global, Bor, List, Option, Some, None, ap, ◌∙◌, sym, subst, refl, get_or, map, take, arith}
+use Rattle.std.proofs.Common.{◌≡◌, Vec, Global, Bor, List, Some, ap, ◌∙◌, sym, refl, get_or, map, arith}
 use Rattle.std.specs.List.{slice_get}
 use Rattle.std.proofs.lemmas.Option.{slice_get-get_or, slice_get_past}
 use Rattle.souper_lookup.specs.declared.store.Stored.{Stored}
-use Rattle.souper_lookup.specs.Stored.{elements_at, view_stored}
+use Rattle.souper_lookup.specs.Stored.{view_stored}
 use Rattle.souper_lookup.proofs.Storing.{found-next, found-past}
 use Rattle.souper_lookup.proofs.store.Store.stored_at.Goals as goal
 use Rattle.souper_lookup.proofs.store.Store.stored_at.Goals.{in-Some+in_ok-push, in_default}
