@@ -106,6 +106,30 @@ cand-same ss ts i j r t s = record {
           (λ k. (cand_of (e k)).rhs),
         )
 
+-- and back
+cand-back : (ss ts : List PlainStatement) (i j : PlainInfer) (r t : Operand) → SameGraph (whole ss i r) (whole ts j t) → SameGraph (cand ss i r) (cand ts j t)
+cand-back ss ts i j r t s = record {
+  to = s.to;
+  needed = λ p d. up ts j t (s.needed p (down ss i r d));
+  onto = λ p d. let o = s.onto p (down ts j t d) in (o.0, up ss i r o.1, o.2);
+  one_to_one = λ p q dp dq e. s.one_to_one p q (down ss i r dp) (down ss i r dq) e;
+  contents = λ p u d e. s.contents p u (down ss i r d) e;
+  ending = λ k. candidate (record { lhs = Value (infer_in (s.ending k)).value; rhs = result_in (s.ending k); attributes = (infer_in (s.ending k)).attributes });
+  condition_order = s.condition_order;
+}
+  where
+    infer_in : Ending → PlainInfer
+    infer_in (inferred x) = x
+    infer_in (resulting x) = i
+    infer_in (replaced x y) = x
+    infer_in (candidate c) = i
+
+    result_in : Ending → Operand
+    result_in (inferred x) = r
+    result_in (resulting x) = x
+    result_in (replaced x y) = y
+    result_in (candidate c) = r
+
 -- what a form by a result is of
 data FormOf (a : Item) (e : Ending) : Type 0 where
   same : (i : PlainInfer) (r : Operand) → a.ending ≡ replaced i r → e ≡ replaced i r → FormOf a e
@@ -150,6 +174,19 @@ law-same a b d e p q s = go (form-of a d p) (form-of b e q)
 
 pub law-up-to-names : (a b : Item) (d e : Ending) → by_result a.ending ≡ Some d → by_result b.ending ≡ Some e → SameUpToNames a b → SameUpToNames (ended_by a d) (ended_by b e)
 law-up-to-names a b d e p q s = law-same (nameless a) (nameless b) d e p q s
+
+-- cands are the same graph if and only if they are so by a result
+pub law-cands : (a b : Item) (c k : PlainCand) (d e : Ending) → a.ending ≡ candidate c → b.ending ≡ candidate k → by_result a.ending ≡ Some d → by_result b.ending ≡ Some e →
+    (SameGraph a b → SameGraph (ended_by a d) (ended_by b e)) × (SameGraph (ended_by a d) (ended_by b e) → SameGraph a b)
+law-cands a b c k d e ca cb p q = (law-same a b d e p q, go (form-of a d p) (form-of b e q))
+  where
+    go : FormOf a d → FormOf b e → SameGraph (ended_by a d) (ended_by b e) → SameGraph a b
+    go (same i r at is) g s = absurd (cc)
+    go (other i r at is) (same j t at' is') s = absurd (cc)
+    go (other i r at is) (other j t at' is') s =
+        subst (λ (x : Ending). SameGraph (ended_by a x) b) (sym at) (subst (λ (x : Ending). SameGraph (cand a.statements i r) (ended_by b x)) (sym at')
+        (cand-back a.statements b.statements i j r t
+        (subst (λ (x : Ending). SameGraph (ended_by a x) (whole b.statements j t)) is (subst (λ (x : Ending). SameGraph (ended_by a d) (ended_by b x)) is' s))))
 
 -- ---- the stored form
 

@@ -1,4 +1,5 @@
-use Rattle.souper_lookup.proofs.Results.{law-well, law-same, law-up-to-names}
+use Rattle.souper_graph.specs.Renaming.{nameless}
+use Rattle.souper_lookup.proofs.Results.{law-well, law-same, law-up-to-names, law-cands}
 use Rattle.souper_lookup.proofs.laws.law_of_results.Goals as goal
 
 pub returns-clause-well_formed : goal.returns-clause-well_formed
@@ -9,3 +10,9 @@ returns-clause-same c = law-same
 
 pub returns-clause-up_to_names : goal.returns-clause-up_to_names
 returns-clause-up_to_names c = law-up-to-names
+
+pub returns-clause-cands : goal.returns-clause-cands
+returns-clause-cands c = law-cands
+
+pub returns-clause-cands_up_to_names : goal.returns-clause-cands_up_to_names
+returns-clause-cands_up_to_names c = λ a b. law-cands (nameless a) (nameless b)
