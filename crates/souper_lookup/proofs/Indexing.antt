@@ -68,7 +68,7 @@ get-there : {X : Type 0} (front back : List X) (x : X) → slice_get (front ++ x
 get-there [] back x = refl
 get-there (y ∷ front) back x = get-there front back x
 
--- the elements at the indices of those that pass a test
+-- the elements at the indices of the elements that pass a test
 elements-from : {X : Type 0} (p : X → Bool) (front back : List X) → elements_at (front ++ back) (indices_from p (length front) back) ≡ filter p back
 elements-from p front [] = refl
 elements-from {X = X} p front (x ∷ back) = under (p x) (elements-from p (front ++ x ∷ []) back)
