@@ -14,6 +14,7 @@ RECORDS is what one process writes without keys: souper_items format -z [--renam
     compare.py objects RECORDS FILE FOLDER    FILE has an object for each text, in order, with its key, and a line of its file that has a token
     compare.py redis RECORDS PREFIX PORT      the server has exactly these keys under PREFIX, with these texts and counts
     compare.py sqlite RECORDS STORE           the table has exactly these keys, texts and counts
+    compare.py postgres RECORDS ROWS          the same; ROWS is what COPY (SELECT key, text, count FROM item) TO STDOUT gives
 """
 import collections
 import hashlib
@@ -89,6 +90,13 @@ def of_sqlite(path):
     return stored
 
 
+def of_postgres(path):
+    rows = [line.split(b"\t") for line in pathlib.Path(path).read_bytes().splitlines()]
+    stored = {key: (text.replace(b"\\n", b"\n"), int(count)) for key, text, count in rows}
+    assert len(stored) == len(rows), "a key is there twice"
+    return stored
+
+
 class Redis:
     """What is asked of a server, in its protocol."""
 
@@ -149,6 +157,8 @@ def cases(task, records, *words):
         return are_stored(texts, of_redis(int(words[1]), words[0].encode()))
     if task == "sqlite":
         return are_stored(texts, of_sqlite(*words))
+    if task == "postgres":
+        return are_stored(texts, of_postgres(*words))
     sys.exit(__doc__)
 
 

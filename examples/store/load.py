@@ -3,12 +3,14 @@
 
     load.py redis PREFIX | redis-cli --pipe        a hash PREFIX:KEY for each key, with the fields `text` and `count`
     load.py sqlite | sqlite3 -bail STORE           a table item(key TEXT PRIMARY KEY, text TEXT, count INTEGER)
+    load.py postgres FILE | psql -q                the table item(key, text, count) of a database with table.sql, unless its table
+                                                   file(name) has FILE, the name of what the records were made from
 
 A record is `; KEY`, a newline, a canonical text, NUL, as `souper_items format -z --key` writes it, or that with its count before
 it, as `uniq -zc` writes it. The count in the store grows by that number, or by 1.
 
-Each key has to be the SHA-256 of its text, and the last record has to be whole. Else the status is 1; then SQLite adds nothing,
-and Redis the records before.
+Each key has to be the SHA-256 of its text, and the last record has to be whole. Else the status is 1; then SQLite and PostgreSQL
+add nothing, and Redis the records before.
 """
 import hashlib
 import re
@@ -59,8 +61,28 @@ def sqlite():
     yield b"COMMIT;\n"
 
 
+def postgres(name):
+    # Keys are added in their order, so that no two transactions wait for one another.
+    yield b"""\\set ON_ERROR_STOP 1
+BEGIN;
+WITH more AS (INSERT INTO file VALUES ('%s') ON CONFLICT DO NOTHING RETURNING 1) SELECT count(*) = 0 AS is_there FROM more \\gset
+\\if :is_there
+\\q
+\\endif
+CREATE TEMPORARY TABLE more(key TEXT, text TEXT, count BIGINT) ON COMMIT DROP;
+COPY more FROM STDIN;
+""" % name.encode().replace(b"'", b"''")
+    for count, key, text in records(sys.stdin.buffer):
+        yield b"%s\t%s\t%d\n" % (key, text.replace(b"\\", b"\\\\").replace(b"\t", b"\\t").replace(b"\n", b"\\n"), count)
+    yield b"""\\.
+INSERT INTO item SELECT key, min(text), sum(count) FROM more GROUP BY key ORDER BY key
+    ON CONFLICT (key) DO UPDATE SET count = item.count + excluded.count;
+COMMIT;
+"""
+
+
 if __name__ == "__main__":
-    stores = {"redis": (redis, 1), "sqlite": (sqlite, 0)}
+    stores = {"redis": (redis, 1), "sqlite": (sqlite, 0), "postgres": (postgres, 1)}
     words = sys.argv[1:]
     if not words or words[0] not in stores or len(words) != stores[words[0]][1] + 1:
         sys.exit(__doc__)

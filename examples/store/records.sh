@@ -17,16 +17,9 @@
 # so have all other files.
 set -o pipefail
 [ $# -ge 2 ] || { echo "usage: records.sh [--rename] KIND FOLDER" >&2; exit 2; }
-options=("${@:1:$#-1}") kind=${*: -2:1} folder=${*: -1}
+here=$(cd "$(dirname "$0")" && pwd) options=("${@:1:$#-1}") kind=${*: -2:1} folder=${*: -1}
 cd "$folder" || exit 2
-missing() { echo "records.sh: $1 is missing (Debian's package $2)" >&2 && exit 2; }
-parallel --version 2>/dev/null | grep -q '^GNU parallel' || missing "GNU parallel" parallel
-[ -z "$STORE_COPY" ] || command -v rsync >/dev/null || missing rsync rsync
-where=(${STORE_JOBS:+--jobs "$STORE_JOBS"})
-if [ -n "$STORE_HOSTS" ]; then
-    where=(-S "$STORE_HOSTS" --ssh "${STORE_SSH:-ssh}" --workdir "${STORE_COPY:-$PWD}")
-    if [ -n "$STORE_COPY" ]; then where+=(--transferfile {} --cleanup); fi
-fi
+. "$here/hosts.sh"
 find . -type f -name "*.$kind" -print0 | LC_ALL=C sort -z |
     parallel --null --no-run-if-empty --keep-order --max-args 8 --quote "${where[@]}" \
         "${SOUPER_ITEMS:-souper_items}" format -z --key "${options[@]}"
