@@ -13,5 +13,5 @@ psql -qX -v ON_ERROR_STOP=1 -f "$here/table.sql" 2>/dev/null || exit 2
 . "$here/hosts.sh"
 mapfile -t database < <(env | grep '^PG[A-Z]*=')
 find . -type f -name "*.$kind" -print0 | LC_ALL=C sort -z |
-    parallel --null --no-run-if-empty --quote "${where[@]}" \
-        env "${database[@]}" SOUPER_ITEMS="${SOUPER_ITEMS:-souper_items}" "$here/add_file.sh" "${@:1:$#-1}" {} "$PWD/{}"
+    parallel --null --no-run-if-empty --max-args 8 --quote "${where[@]}" \
+        env "${database[@]}" SOUPER_ITEMS="${SOUPER_ITEMS:-souper_items}" "$here/add_files.sh" "${@:1:$#-1}" "$PWD"

@@ -5,7 +5,8 @@
 #
 # The server listens at $STORE_ADDRESS (127.0.0.1), on a free port. To the command, $PGHOST, $PGPORT, $PGUSER and $PGDATABASE are set,
 # so that `psql` reaches it. Whoever reaches the address may connect. As root it runs as the user `postgres`.
-folder=$(mktemp -d) || exit 2
+# Not in $TMPDIR, which may be closed to the user `postgres`.
+folder=$(mktemp -d --tmpdir=/tmp) || exit 2
 server=''
 finish() {
     trap '' INT TERM HUP
