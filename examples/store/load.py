@@ -13,6 +13,7 @@ Each key has to be the SHA-256 of its text, and the last record has to be whole.
 add nothing, and Redis the records before.
 """
 import hashlib
+import os
 import re
 import sys
 
@@ -92,3 +93,6 @@ if __name__ == "__main__":
         sys.stdout.buffer.flush()
     except ValueError as fault:
         sys.exit(f"load.py: {fault}")
+    except BrokenPipeError:
+        # The reader wants no more, as psql for a file that was added before; its status says why.
+        os.dup2(os.open(os.devnull, os.O_WRONLY), sys.stdout.fileno())
