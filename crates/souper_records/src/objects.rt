@@ -86,8 +86,26 @@ fn append_line(alloc: Global, object: &Value, out: &mut String) -> Result<(), Al
     out.push_str("\n")
 }
 
-// Appends the line of an item with this text, which begins at `start`.
-fn append_item(
+/// Appends the line of the object of a refusal of the stream of this name ([`write_objects`]), if there is one. The error is out of
+/// memory.
+pub fn append_refusal(
+    alloc: Global,
+    name: &str,
+    refusal: Option<&ParseError>,
+    out: &mut String,
+) -> Result<(), AllocError>
+    ensures { OnOk result (string_bytes out.new ≡ string_bytes out.old ++ refusal_line name.now (option_copied refusal.entry)) }
+{
+    if let Some(error) = refusal {
+        let object = refusal_object(alloc, name, error)?;
+        append_line(alloc, &object, out)?;
+    }
+    Ok(())
+}
+
+/// Appends the line of the object of an item with this text, which begins at `start` in the stream of this name ([`write_objects`]). The
+/// error is out of memory.
+pub fn append_item(
     alloc: Global,
     name: &str,
     start: Start,
@@ -122,10 +140,7 @@ fn part_lines(
         ++ refusal_line place.entry.name.now (option_copied refusal.entry)) }
 {
     let mut out = item_lines(alloc, place, texts)?;
-    if let Some(error) = refusal {
-        let object = refusal_object(alloc, place.name, error)?;
-        append_line(alloc, &object, &mut out)?;
-    }
+    append_refusal(alloc, place.name, refusal, &mut out)?;
     Ok(out)
 }
 

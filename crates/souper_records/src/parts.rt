@@ -38,6 +38,8 @@ pub trait PartSink<T: StreamItem + Drop>: ChunkSink<T> {
     ghost wrote: { List ℕ → Self → Option (List ℕ) → Self → Option (List ℕ) → List Outcome → Type 0 };
 
     /// Writes the output of a part, whose items the sink holds, or the ones that it begins with if it was refused. Then it holds none.
+    ///
+    /// Errors: `Stop::Output` if `out` failed, or `Stop::Memory`; then nothing was written.
     fn write_part<W: Write>(
         &mut self,
         alloc: Global,

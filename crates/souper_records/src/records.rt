@@ -75,9 +75,11 @@ pub(crate) fn append_last_text<T: Item + Drop>(
     append_canonical(item, out)
 }
 
-/// Appends the text of an item that is dropped then to the texts. `text` is for it, so that the text that is kept has no more room than it
-/// needs.
-pub(crate) fn push_last_text<T: Item + Drop>(
+/// Appends the canonical text of an item that is dropped then to the texts; with `rename` the text with names by its printed order. The
+/// error is out of memory.
+///
+/// `text` is for it, so that the text that is kept has no more room than it needs.
+pub fn push_last_text<T: Item + Drop>(
     alloc: Global,
     rename: bool,
     item: &mut T,
@@ -124,8 +126,8 @@ fn append_delimited(delimiter: Delimiter, text: &str, out: &mut String) -> Resul
     }
 }
 
-// Appends the record of an item whose text this is.
-pub(crate) fn append_record_of_text(
+/// Appends the record of an item whose text this is. The error is out of memory.
+pub fn append_record_of_text(
     alloc: Global,
     layout: Layout,
     text: &str,

@@ -77,7 +77,7 @@ fn report_stop<E: Write>(alloc: Global, name: &str, stop: &Stop, err: &mut Watch
 }
 
 /// Flushes the output after all parts were written to it ([`write_parts`](crate::parts::write_parts)), or reports why not all were.
-/// Returns the status: 1 if any were refused.
+/// Returns the status of the program, as [`each_run_with`] does.
 pub fn end_parts<W: Write, E: Write>(
     alloc: Global,
     name: &str,

@@ -44,7 +44,8 @@ impl From<AllocError> for Stop {
     }
 }
 
-pub(crate) fn write_text<W: Write>(text: &String, out: &mut Watched<W>) -> Result<(), Stop>
+/// Writes the text to `out`. The error is of the output.
+pub fn write_text<W: Write>(text: &String, out: &mut Watched<W>) -> Result<(), Stop>
     ensures written { OnOk result (IsGiven (stream W.contents out.old out.new) (string_bytes text.now)) }
     ensures failed { IfErr result (λ stop. IfInput stop (λ e. ⊥) × UnlessOutput stop (has_failed out.new) ⊥) }
 {
