@@ -4,6 +4,6 @@ mod Firsts
 mod Tallies
 mod Counting
 mod Seeing
-mod Outcomes
+pub mod Outcomes
 mod ObjectLines
 mod ItemLines

@@ -1,0 +1,47 @@
+-- Definitions. What each status of a run says of the store, of the stream and of the writers.
+use Rattle.std.specs.Prelude.{◌⊎◌, ℕ, Bool, List, Option, Some}
+use Rattle.std.specs.Io.KnownBytes.{Consumes}
+use Rattle.souper_graph.specs.Values.{Item}
+use Rattle.souper_graph.specs.Syntax.Spelling.{left_hand_side, replacement, TextSpells}
+use Rattle.souper_ir.specs.declared.parse.error.ParseError.{ParseError}
+use Rattle.souper_stream.specs.Reading.{AreAll, NeverSpells}
+use Rattle.souper_format.specs.Streams.{Stream, IsGivenNothing}
+use Rattle.souper_lookup.specs.declared.store.Store.{Store}
+use Rattle.souper_lookup.specs.Stored.{Entry, AreAdded, Stores}
+use Rattle.souper_records.specs.Canonical.{IsWhole}
+use Rattle.souper_records.specs.Reports.{ReportedLine, ReportedFault, ReportedMemory}
+use Rattle.souper_records.specs.Runs.{OnStatus, IsRun}
+use Rattle.souper_find.specs.declared.search.Choice.{Choice}
+use Rattle.souper_find.specs.declared.search.Output.{Output}
+use Rattle.souper_find.specs.Answers.{WritesAnswers}
+
+-- the whole stream spells replacements, and they were added to a store that had these entries
+pub record IsFilled (entries : List Entry) (before after : Option (List ℕ)) (store : Store) : Type 0 where
+  pub read : List ℕ
+  pub whole : IsWhole before after read
+  pub items : List Item
+  pub spelled : TextSpells replacement read items
+  pub now : List Entry
+  pub added : AreAdded items entries now
+  pub stores : Stores now store
+
+-- whatever follows the text read, the stream spells no replacements, and this refusal of it was reported
+pub record IsUnfilled (before after : Option (List ℕ)) (err : Stream) : Type 0 where
+  pub read : List ℕ
+  pub consumed : Consumes before after read
+  pub never : NeverSpells replacement (AreAll before read) read
+  pub error : ParseError
+  pub reported : ReportedLine err error
+
+-- What the status of adding the replacements of a stream to a store says: 0, they were added, and nothing was reported; 1, the stream is
+-- refused, and that was reported; 2, a read failed or memory ran out, and that was reported.
+abbrev pub IsFillRun : List Entry → List ℕ → Option (List ℕ) → Option (List ℕ) → Store → Stream → ℕ → Type 0
+IsFillRun entries name before after store err status = OnStatus status
+    (IsFilled entries before after store × IsGivenNothing err)
+    (IsUnfilled before after err)
+    (ReportedFault name err ⊎ ReportedMemory err)
+    ⊥
+
+-- writing the answers for the left-hand sides of a stream
+abbrev pub IsFindRun : Choice → Output → List Entry → List ℕ → Bool → Option (List ℕ) → Option (List ℕ) → Stream → Stream → ℕ → Type 0
+IsFindRun c output entries name recover before after out err status = IsRun left_hand_side name recover before after (WritesAnswers c output entries name out) (WritesAnswers c output entries name out) out err status

@@ -1,0 +1,213 @@
+//! The answers of a store to the left-hand sides of a stream.
+
+ghost use Rattle.std.specs.Prelude.{◌≡◌, ◌++◌, List, map, flat_map, IfOk, IfErr, OnOk, Option, option_copied};
+ghost use Rattle.std.specs.List.{zip};
+ghost use Rattle.std.specs.Io.KnownBytes.{Appends};
+ghost use Rattle.std.specs.String.{string_bytes};
+ghost use Rattle.souper_graph.specs.Syntax.Spelling.{left_hand_side};
+ghost use Rattle.souper_ir.specs.Errors.{kind_of};
+ghost use Rattle.souper_format.specs.Streams.{stream};
+ghost use Rattle.souper_format.specs.Watching.{has_failed};
+ghost use Rattle.souper_lookup.specs.Stored.{Entry, Stores};
+ghost use Rattle.souper_records.specs.Stops.{IfInput};
+ghost use Rattle.souper_records.specs.Outcomes.{WritesParts, StopsAfter};
+ghost use Rattle.souper_records.specs.Records.{record_of_text};
+ghost use Rattle.souper_find.specs.Answers.{AreAllTexts, group_records, group_lines, part_text, AppendsAnswers, WritesAnswers};
+ghost use Rattle.souper_find.specs.Views.{view_texts};
+
+use crate::search::{Output, Search};
+use crate::texts::texts_for;
+use souper_format::watched::Watched;
+use souper_ir::ast::{Arena, LeftHandSide, Statement};
+use souper_ir::parse::{ParseError, ParseErrorKind, Sink, WholeItem};
+use souper_records::layout::Layout;
+use souper_records::objects::{append_item, append_refusal};
+use souper_records::options::ReadOptions;
+use souper_records::parts::{PartSink, Place, Source, write_parts};
+use souper_records::records::append_record_of_text;
+use souper_records::stop::{Stop, write_text};
+use souper_stream::{ChunkSink, Start};
+use std::alloc::{AllocError, Global};
+use std::io::{BufRead, Write};
+
+// Appends the records of items that have these texts.
+fn append_records(
+    alloc: Global,
+    layout: Layout,
+    texts: &[String],
+    out: &mut String,
+) -> Result<(), AllocError>
+    ensures { OnOk result (string_bytes out.new ≡ string_bytes out.old ++ flat_map (record_of_text layout) (map string_bytes texts.now)) }
+{
+    for text in texts {
+        append_record_of_text(alloc, layout, text.as_str(), out)?;
+    }
+    Ok(())
+}
+
+// Appends the lines of items that have these texts, for a left-hand side that begins at `start`.
+fn append_lines(
+    alloc: Global,
+    name: &str,
+    start: Start,
+    texts: &[String],
+    out: &mut String,
+) -> Result<(), AllocError>
+    ensures { OnOk result (string_bytes out.new ≡ string_bytes out.old ++ group_lines name.now (start, map string_bytes texts.now)) }
+{
+    for text in texts {
+        append_item(alloc, name, start, text.as_str(), out)?;
+    }
+    Ok(())
+}
+
+// The records for the left-hand sides of a part.
+fn part_records(
+    alloc: Global,
+    layout: Layout,
+    groups: &[Vec<String>],
+) -> Result<String, AllocError>
+    ensures { IfOk result (λ out. string_bytes out ≡ flat_map (group_records layout) (map view_texts groups.now)) }
+{
+    let mut out = String::new(alloc);
+    for texts in groups {
+        append_records(alloc, layout, texts.as_slice(), &mut out)?;
+    }
+    Ok(out)
+}
+
+// The lines for the left-hand sides of a part.
+fn part_lines(
+    alloc: Global,
+    place: Place<'_>,
+    groups: &[Vec<String>],
+) -> Result<String, AllocError>
+    ensures { IfOk result (λ out. string_bytes out ≡ flat_map (group_lines place.entry.name.now) (zip place.entry.starts.now (map view_texts groups.now))) }
+{
+    let mut out = String::new(alloc);
+    for (start, texts) in place.starts.iter().zip(groups) {
+        append_lines(alloc, place.name, *start, texts.as_slice(), &mut out)?;
+    }
+    Ok(out)
+}
+
+// What is written for a part.
+fn part_text(
+    alloc: Global,
+    output: Output,
+    place: Place<'_>,
+    refusal: Option<&ParseError>,
+    groups: &[Vec<String>],
+) -> Result<String, AllocError>
+    ensures { IfOk result (λ out. string_bytes out ≡ part_text output place.entry.name.now place.entry.starts.now (option_copied refusal.entry) (map view_texts groups.now)) }
+{
+    match output {
+        Output::Records(layout) => part_records(alloc, layout, groups),
+        Output::Objects { .. } => {
+            let mut out = part_lines(alloc, place, groups)?;
+            append_refusal(alloc, place.name, refusal, &mut out)?;
+            Ok(out)
+        }
+    }
+}
+
+// The texts that are written for the left-hand sides of a part.
+#[derive(Drop)]
+struct Answers<'s> {
+    alloc: Global,
+    search: Search<'s>,
+
+    // For the text of one item.
+    text: String,
+
+    // For each left-hand side, its texts.
+    groups: Vec<Vec<String>>,
+}
+
+impl Sink<LeftHandSide> for Answers<'_> {
+    ghost holds = { λ first answers items. (answers.search ≡ first.search) × ((entries : List Entry) → Stores entries first.search.store.now
+        → AreAllTexts first.search.choice first.search.output entries items (map view_texts answers.groups.items)) };
+
+    fn take(&mut self, item: LeftHandSide) -> Result<(), AllocError> {
+        self.take_over(item)?;
+        Ok(())
+    }
+
+    fn take_over(
+        &mut self,
+        mut item: LeftHandSide,
+    ) -> Result<Option<Arena<Statement>>, AllocError> {
+        match texts_for(self.alloc, self.search, &mut item, &mut self.text) {
+            Ok(texts) => {
+                self.groups.push(texts)?;
+                Ok(item.take_statements())
+            }
+            // A well-formed item has no bad id, so the error is out of memory.
+            Err(_) => Err(AllocError),
+        }
+    }
+}
+
+impl ChunkSink<LeftHandSide> for Answers<'_> {
+    fn rollback(&mut self) {
+        self.groups.clear();
+    }
+}
+
+// Writes what is written for the left-hand sides of each part, and drops the texts.
+impl PartSink<LeftHandSide> for Answers<'_> {
+    ghost wrote = { λ name a x b y os. (b.search ≡ a.search) × ((entries : List Entry) → Stores entries a.search.store.now
+        → AppendsAnswers a.search.choice a.search.output entries name x y os) };
+
+    fn write_part<W: Write>(
+        &mut self,
+        alloc: Global,
+        place: Place<'_>,
+        refusal: Option<&ParseError>,
+        out: &mut Watched<W>,
+    ) -> Result<(), Stop> {
+        let text = part_text(alloc, self.search.output, place, refusal, self.groups.as_slice())?;
+        write_text(&text, out)?;
+        self.groups.clear();
+        Ok(())
+    }
+}
+
+/// Writes for each left-hand side of the stream, in order, what the search asks for, part by part
+/// ([`ItemReader`](souper_stream::ItemReader)). Returns whether a part was refused, as
+/// [`write_records`](souper_records::each::write_records) does, and fails like it.
+///
+/// The answers are those of [`find`](souper_lookup::find::find), in its order.
+pub fn write_answers<R: BufRead, W: Write, E: Write>(
+    alloc: Global,
+    search: Search<'_>,
+    options: ReadOptions<'_>,
+    reader: &mut R,
+    out: &mut Watched<W>,
+    err: &mut Watched<E>,
+) -> Result<bool, Stop>
+    ensures written { IfOk result (λ refused. (entries : List Entry) → Stores entries search.entry.store.now
+        → WritesParts left_hand_side options.entry.name.now options.entry.recover (R.remaining reader.old) (R.remaining reader.new)
+        (WritesAnswers search.entry.choice search.entry.output entries options.entry.name.now (stream W.contents out.old out.new)) (stream E.contents err.old err.new) refused) }
+    ensures stopped { IfErr result (λ stop. (entries : List Entry) → Stores entries search.entry.store.now
+        → StopsAfter left_hand_side options.entry.name.now options.entry.recover (R.remaining reader.old)
+        (WritesAnswers search.entry.choice search.entry.output entries options.entry.name.now (stream W.contents out.old out.new)) (has_failed out.new) (stream E.contents err.old err.new) stop) }
+    ensures input { IfErr result (λ stop. IfInput stop (λ e. kind_of e ≡ ParseErrorKind.Io)) }
+    ensures stays { has_failed err.old ≡ true → has_failed err.new ≡ true }
+{
+    let mut answers = Answers {
+        alloc,
+        search,
+        text: String::new(alloc),
+        groups: Vec::new(alloc),
+    };
+    let source = Source::with_starts(alloc, options);
+    write_parts::<LeftHandSide, Answers<'_>, R, W, E>(
+        alloc,
+        source,
+        &mut answers,
+        reader,
+        out,
+        err,
+    )
+}

@@ -1,0 +1,9 @@
+//! What a store of replacements answers for streams of left-hand sides.
+//!
+//! The program `souper_items` calls the functions of [`run`].
+#![tactic(auto)]
+
+pub mod answers;
+pub mod run;
+pub mod search;
+mod texts;
