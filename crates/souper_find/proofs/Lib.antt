@@ -1,0 +1,3 @@
+mod Zipping
+mod Answering
+mod Filling

@@ -1,9 +1,10 @@
 -- Definitions. What each status of a run says of the store, of the stream and of the writers.
-use Rattle.std.specs.Prelude.{◌⊎◌, ℕ, Bool, List, Option, Some}
+use Rattle.std.specs.Prelude.{◌≡◌, ◌⊎◌, ℕ, ◌+◌, ◌^◌, ◌<◌, ◌≤◌, Bool, List, ◌++◌, length, Option, Some}
 use Rattle.std.specs.Io.KnownBytes.{Consumes}
 use Rattle.souper_graph.specs.Values.{Item}
 use Rattle.souper_graph.specs.Syntax.Spelling.{left_hand_side, replacement, TextSpells}
 use Rattle.souper_ir.specs.declared.parse.error.ParseError.{ParseError}
+use Rattle.souper_ir.specs.Errors.{HasLocation, IsRefusalAt}
 use Rattle.souper_stream.specs.Reading.{AreAll, NeverSpells}
 use Rattle.souper_format.specs.Streams.{Stream, IsGivenNothing}
 use Rattle.souper_lookup.specs.declared.store.Store.{Store}
@@ -25,12 +26,15 @@ pub record IsFilled (entries : List Entry) (before after : Option (List ℕ)) (s
   pub added : AreAdded items entries now
   pub stores : Stores now store
 
--- whatever follows the text read, the stream spells no replacements, and this refusal of it was reported
-pub record IsUnfilled (before after : Option (List ℕ)) (err : Stream) : Type 0 where
+-- Whatever follows the text read, the stream of this name spells no replacements. The refusal has and shows its place in that text, says
+-- where it is at fault, and was reported.
+pub record IsUnfilled (name : List ℕ) (before after : Option (List ℕ)) (err : Stream) : Type 0 where
   pub read : List ℕ
   pub consumed : Consumes before after read
   pub never : NeverSpells replacement (AreAll before read) read
   pub error : ParseError
+  pub placed : length read + 1 < 2 ^ 64 → (offset : ℕ) × (offset ≤ length read) × IsRefusalAt (Some name) read offset error
+  pub located : length read + 1 < 2 ^ 64 → (front : List ℕ) × (rest : List ℕ) × (read ≡ front ++ rest) × HasLocation front error
   pub reported : ReportedLine err error
 
 -- What the status of adding the replacements of a stream to a store says: 0, they were added, and nothing was reported; 1, the stream is
@@ -38,7 +42,7 @@ pub record IsUnfilled (before after : Option (List ℕ)) (err : Stream) : Type 0
 abbrev pub IsFillRun : List Entry → List ℕ → Option (List ℕ) → Option (List ℕ) → Store → Stream → ℕ → Type 0
 IsFillRun entries name before after store err status = OnStatus status
     (IsFilled entries before after store × IsGivenNothing err)
-    (IsUnfilled before after err)
+    (IsUnfilled name before after err)
     (ReportedFault name err ⊎ ReportedMemory err)
     ⊥
 

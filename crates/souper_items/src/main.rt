@@ -16,9 +16,12 @@ use hint::hint;
 use options::{Action, Color, Task, grammar, read_task};
 use progress::{Meter, Metered};
 use rewrite::rewrite;
+use souper_find::run::{fill_run, find_run};
+use souper_find::search::{Choice, Output, Search};
 use souper_format::command::Kind;
 use souper_format::watched::Watched;
 use souper_ir::ast::{LeftHandSide, Replacement, RightHandSide};
+use souper_lookup::store::Store;
 use souper_records::check::check_run;
 use souper_records::layout::Layout;
 use souper_records::options::ReadOptions;
@@ -68,6 +71,7 @@ struct Session<'s, W, E> {
     rt: &'s HostRuntime,
     task: &'s Task<'s, 's>,
     seen: Seen,
+    store: Store,
     out: Watched<W>,
     err: Watched<E>,
 
@@ -91,6 +95,28 @@ impl<'s, W: Write, E: Write> Session<'s, W, E> {
         let mut out = Watched::new(io::sink());
         let (seen, err) = (&mut self.seen, &mut self.err);
         uniq_run_with::<T, R, io::Sink, E>(layout, options, seen, reader, &mut out, err)
+    }
+
+    // A stream of left-hand sides that the store is asked for.
+    fn answers<R: BufRead>(
+        &mut self,
+        choice: Choice,
+        output: Output,
+        reader: &mut R,
+        name: &str,
+    ) -> u8 {
+        let search = Search {
+            store: &self.store,
+            choice,
+            output,
+        };
+        let options = ReadOptions {
+            name,
+            recover: self.task.keep_going || matches!(output, Output::Objects { .. }),
+            line_buffered: self.task.line_buffered,
+        };
+        let (out, err) = (&mut self.out, &mut self.err);
+        find_run::<R, W, E>(self.rt.alloc(), search, options, reader, out, err)
     }
 
     // A stream of items of the type.
@@ -119,11 +145,14 @@ impl<'s, W: Write, E: Write> Session<'s, W, E> {
             Action::Count(layout, _) => self.count::<T, R>(layout, options, reader),
             Action::Check { diff: false } => check_run::<T, R, E>(alloc, reader, name, err),
             Action::Check { diff: true } => check_diff::<T, R, W, E>(alloc, reader, name, out, err),
-            Action::Write { .. } => 2,
+            Action::Write { .. } | Action::Find { .. } => 2,
         }
     }
 
     fn stream<R: BufRead>(&mut self, reader: &mut R, name: &str) -> u8 {
+        if let Action::Find { choice, output } = self.task.action {
+            return self.answers(choice, output, reader, name);
+        }
         match self.task.kind {
             Kind::Lhs => self.items::<LeftHandSide, R>(reader, name),
             Kind::Rhs => self.items::<RightHandSide, R>(reader, name),
@@ -154,13 +183,51 @@ impl<'s, W: Write, E: Write> Session<'s, W, E> {
         if path == "-" {
             return self.standard_input(meter);
         }
+        self.begin(meter, path);
+        let status = self.named(meter, path);
+        self.end(self.task.kind, path);
+        status
+    }
+
+    fn begin(&self, meter: &mut Meter<'s>, path: &'s str) {
         meter.begin(path, len_of(self.rt, path));
         self.is_refused.set(false);
-        let status = self.named(meter, path);
+    }
+
+    // A hint after a refused file.
+    fn end(&mut self, kind: Kind, path: &str) {
         if self.is_refused.get() && len_of(self.rt, path).is_some() {
-            hint(self.rt, self.task.kind, path, &mut self.err);
+            hint(self.rt, kind, path, &mut self.err);
         }
+    }
+
+    // Adds the replacements of a file to the store.
+    fn fill(&mut self, meter: &mut Meter<'s>, path: &'s str) -> u8 {
+        self.begin(meter, path);
+        let (alloc, store, err) = (self.rt.alloc(), &mut self.store, &mut self.err);
+        let status = match open(self.rt, meter, path) {
+            Ok(mut reader) => fill_run::<BufReader<Metered<'_, '_, File>>, E>(
+                alloc,
+                store,
+                &mut reader,
+                path,
+                err,
+            ),
+            Err(fault) => failed(alloc, path, &fault, err),
+        };
+        self.end(Kind::Rep, path);
         status
+    }
+
+    // The status of the first file whose replacements could not all be added, or 0.
+    fn fill_all(&mut self, meter: &mut Meter<'s>) -> u8 {
+        for path in self.task.stores {
+            let status = self.fill(meter, path);
+            if status != 0 {
+                return status;
+            }
+        }
+        0
     }
 
     // A file that is no standard input.
@@ -174,8 +241,13 @@ impl<'s, W: Write, E: Write> Session<'s, W, E> {
         }
     }
 
-    // The greatest status of the files. It ends after a failed write; what remembers items also ends after status 2.
+    // The greatest status of the files. It ends after a failed write; what remembers items also ends after status 2. None is read unless
+    // the store has all its replacements.
     fn files(&mut self, meter: &mut Meter<'s>) -> u8 {
+        let filled = self.fill_all(meter);
+        if filled != 0 {
+            return filled;
+        }
         if self.task.files.is_empty() {
             return self.standard_input(meter);
         }
@@ -264,6 +336,7 @@ fn run_matches(rt: &HostRuntime, matches: &ArgMatches<'_>) -> u8 {
         rt,
         task: &task,
         seen: Seen::new(rt.alloc()),
+        store: Store::new(rt.alloc()),
         out: Watched::new(rt.stdout()),
         err,
         is_refused: &is_refused,

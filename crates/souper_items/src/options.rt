@@ -1,6 +1,7 @@
 //! The command line.
 
 use clap::{Arg, ArgAction, ArgMatches, Command};
+use souper_find::search::{Choice, Output};
 use souper_format::command::Kind;
 use souper_records::layout::{Delimiter, Layout, Summary};
 use std::alloc::{AllocError, Global};
@@ -35,6 +36,9 @@ pub(crate) enum Action {
 
     /// Each file is rewritten by its canonical text, or by that with names by the printed order; with `force` a write-protected one too.
     Write { rename: bool, force: bool },
+
+    /// What a store answers for each left-hand side is written.
+    Find { choice: Choice, output: Output },
 
     /// Whether the stream is canonical is found out, and if asked for, what would change.
     Check { diff: bool },
@@ -72,6 +76,9 @@ pub(crate) struct Task<'m, 'a> {
     /// Whether no progress is shown.
     pub(crate) quiet: bool,
 
+    /// The paths of the replacements that the store has.
+    pub(crate) stores: &'m [&'a str],
+
     /// The paths, of which `-` is standard input. If there are none, standard input is read.
     pub(crate) files: &'m [&'a str],
 }
@@ -84,6 +91,8 @@ Status: 0, done; 1, a file is invalid or not canonical; 2, usage, I/O or memory;
 const FORMAT_EXAMPLE: &str = "Example: souper_items format --key lhs a.lhs b.lhs > records";
 
 const UNIQ_EXAMPLE: &str = "Example: souper_items uniq --rename --count lhs *.lhs";
+
+const FIND_EXAMPLE: &str = "Example: souper_items find --in learned.rep harvest.lhs > answers.rep";
 
 const CHECK_EXAMPLE: &str = "Example: souper_items check --diff lhs *.lhs | patch -p1";
 
@@ -134,11 +143,18 @@ fn flag<'a>(alloc: Global, name: &'a str) -> Arg<'a> {
     Arg::new(alloc, name).long(name).action(ArgAction::SetTrue)
 }
 
+fn json_arg<'a>(alloc: Global, help: &'a str) -> Result<Arg<'a>, AllocError> {
+    flag(alloc, "json")
+        .help(help)
+        .alias("jsonl")?
+        .conflicts_with("null")
+}
+
 fn line_buffered_arg<'a>(alloc: Global) -> Arg<'a> {
     flag(alloc, "line-buffered").help("Write each item once the line after it is there")
 }
 
-// A command that writes records, with their options.
+// A command that writes records, with their options, without its arguments.
 fn writer<'a>(
     alloc: Global,
     name: &'a str,
@@ -161,9 +177,7 @@ fn writer<'a>(
         )?
         .arg(line_buffered)?
         .arg(color_arg(alloc))?
-        .arg(quiet_arg(alloc))?
-        .arg(kind_arg(alloc))?
-        .arg(files_arg(alloc))
+        .arg(quiet_arg(alloc))
 }
 
 fn format<'a>(alloc: Global) -> Result<Command<'a>, AllocError> {
@@ -175,12 +189,7 @@ fn format<'a>(alloc: Global) -> Result<Command<'a>, AllocError> {
     )?
     .after_help(FORMAT_EXAMPLE)
     .visible_alias("each")?
-    .arg(
-        flag(alloc, "json")
-            .help("Write a line of JSON for each item and each parse error")
-            .alias("jsonl")?
-            .conflicts_with("null")?,
-    )?
+    .arg(json_arg(alloc, "Write a line of JSON for each item and each parse error")?)?
     .arg(
         flag(alloc, "write")
             .short('w')
@@ -195,7 +204,9 @@ fn format<'a>(alloc: Global) -> Result<Command<'a>, AllocError> {
         flag(alloc, "force")
             .help("Rewrite write-protected files too")
             .requires_arg("write")?,
-    )
+    )?
+    .arg(kind_arg(alloc))?
+    .arg(files_arg(alloc))
 }
 
 fn uniq<'a>(alloc: Global) -> Result<Command<'a>, AllocError> {
@@ -217,7 +228,37 @@ fn uniq<'a>(alloc: Global) -> Result<Command<'a>, AllocError> {
         flag(alloc, "repeated").short('d').help(
             "Write at the end, only graphs that more than one item has",
         ),
-    )
+    )?
+    .arg(kind_arg(alloc))?
+    .arg(files_arg(alloc))
+}
+
+fn store_arg<'a>(alloc: Global) -> Arg<'a> {
+    Arg::new(alloc, "in")
+        .long("in")
+        .value_name("STORE")
+        .required(true)
+        .action(ArgAction::Append)
+        .help("A file of the replacements that the store has; may be given again")
+}
+
+fn find<'a>(alloc: Global) -> Result<Command<'a>, AllocError> {
+    writer(
+        alloc,
+        "find",
+        "Writes what replaces each left-hand side: the replacements of a store that have it, in its names",
+        line_buffered_arg(alloc),
+    )?
+    .after_help(FIND_EXAMPLE)
+    .arg(store_arg(alloc))?
+    .arg(flag(alloc, "first").help("Write the first replacement of each alone"))?
+    .arg(
+        flag(alloc, "unanswered")
+            .help("Write the left-hand sides that no replacement has instead")
+            .conflicts_with("first")?,
+    )?
+    .arg(json_arg(alloc, "Write a line of JSON for each replacement and each parse error")?)?
+    .arg(files_arg(alloc))
 }
 
 fn check<'a>(alloc: Global) -> Result<Command<'a>, AllocError> {
@@ -241,6 +282,7 @@ pub(crate) fn grammar<'a>(alloc: Global) -> Result<Command<'a>, AllocError> {
         .arg_required_else_help(true)
         .subcommand(format(alloc)?)?
         .subcommand(uniq(alloc)?)?
+        .subcommand(find(alloc)?)?
         .subcommand(check(alloc)?)
 }
 
@@ -291,14 +333,49 @@ fn read_uniq(options: &ArgMatches<'_>) -> Action {
     }
 }
 
+fn read_find(options: &ArgMatches<'_>) -> Action {
+    let choice = if options.get_flag("unanswered") {
+        Choice::Unanswered
+    } else if options.get_flag("first") {
+        Choice::First
+    } else {
+        Choice::All
+    };
+    let output = if options.get_flag("json") {
+        Output::Objects {
+            rename: options.get_flag("rename"),
+        }
+    } else {
+        Output::Records(read_layout(options))
+    };
+    Action::Find { choice, output }
+}
+
 fn read_action(name: &str, options: &ArgMatches<'_>) -> Option<Action> {
     match name {
         "format" => Some(read_format(options)),
         "uniq" => Some(read_uniq(options)),
+        "find" => Some(read_find(options)),
         "check" => Some(Action::Check {
             diff: options.get_flag("diff"),
         }),
         _ => None,
+    }
+}
+
+// The type of the items, which `find` has not among its arguments.
+fn read_kind(action: Action, options: &ArgMatches<'_>) -> Option<Kind> {
+    match action {
+        Action::Find { .. } => Some(Kind::Lhs),
+        _ => Kind::from_word(options.get_str("KIND")?),
+    }
+}
+
+// The paths of the store's replacements.
+fn read_stores<'m, 'a>(action: Action, options: &'m ArgMatches<'a>) -> &'m [&'a str] {
+    match action {
+        Action::Find { .. } => options.get_strs("in").unwrap_or_default(),
+        _ => &[],
     }
 }
 
@@ -308,12 +385,13 @@ pub(crate) fn read_task<'m, 'a>(matches: &'m ArgMatches<'a>) -> Option<Task<'m, 
     let action = read_action(name, options)?;
     let is_check = matches!(action, Action::Check { .. });
     Some(Task {
-        kind: Kind::from_word(options.get_str("KIND")?)?,
+        kind: read_kind(action, options)?,
         action,
         keep_going: !is_check && options.get_flag("keep-going"),
         line_buffered: !is_check && options.get_flag("line-buffered"),
         color: read_color(options),
         quiet: options.get_flag("quiet"),
+        stores: read_stores(action, options),
         files: options.get_strs("FILE").unwrap_or_default(),
     })
 }

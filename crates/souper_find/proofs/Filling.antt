@@ -1,0 +1,32 @@
+-- A store that takes the replacements of a stream.
+use Rattle.std.proofs.Common.{◌≡◌, inl, inr, ℕ, List, Option, Some, refl}
+use Rattle.souper_graph.specs.Values.{Item}
+use Rattle.souper_graph.specs.Syntax.Spelling.{replacement}
+use Rattle.souper_ir.specs.declared.parse.error.ParseError.{ParseError}
+use Rattle.souper_ir.specs.declared.parse.error.ParseErrorKind.TheVariants.{Parse}
+use Rattle.souper_ir.specs.Errors.{kind_of}
+use Rattle.souper_stream.specs.Reading.{IsStreamTaken, IsStreamRefused}
+use Rattle.souper_format.specs.Streams.{Stream}
+use Rattle.souper_lookup.specs.declared.store.Store.{Store}
+use Rattle.souper_lookup.specs.Stored.{Entry, AreAdded, Stores}
+use Rattle.souper_records.specs.Reports.{ReportedError}
+use Rattle.souper_records.proofs.Outcomes.{some_fault}
+use Rattle.souper_find.specs.Runs.{IsFilled, IsFillRun}
+
+-- what a store holds of the replacements that it took
+abbrev pub Holds : Store → Store → List Item → Type 0
+Holds first store items = (entries : List Entry) → Stores entries first → (now : List Entry) × AreAdded items entries now × Stores now store
+
+pub filled : (entries : List Entry) (before after : Option (List ℕ)) (old new : Store) → Stores entries old → IsStreamTaken replacement before after Holds old new → IsFilled entries before after new
+filled entries before after old new h t =
+    let (items, spelled, over) = t.taken in
+    let (now, added, stores) = over old _ (λ (es : List Entry) (s : Stores es old). (es, refl, s)) entries h in
+    record { read = t.read; whole = (t.consumed, t.all_read); items = items; spelled = spelled; now = now; added = added; stores = stores }
+
+pub fill_ends : (entries : List Entry) (name : List ℕ) (before after : Option (List ℕ)) (old new : Store) (err : Stream) (e : ParseError) (status : ℕ) → (kind_of e ≡ Parse → IsStreamRefused replacement (Some name) before after Holds old new e) → ReportedError name err status e
+    → IsFillRun entries name before after new err status
+fill_ends entries name before after old new err e status refused (inl (one, kind, line)) =
+    let r = refused kind in
+    rw one (record { read = r.read; consumed = r.consumed; never = r.never; error = e; placed = r.placed; located = r.located; reported = line })
+fill_ends entries name before after old new err e status refused (inr (inl (two, kind, (fault, is, line)))) = rw two (inl (some_fault fault name err line))
+fill_ends entries name before after old new err e status refused (inr (inr (two, line))) = rw two (inr line)
