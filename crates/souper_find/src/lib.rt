@@ -6,4 +6,6 @@
 pub mod answers;
 pub mod run;
 pub mod search;
+#[cfg(test)]
+mod tests;
 mod texts;
