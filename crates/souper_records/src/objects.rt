@@ -76,8 +76,9 @@ fn refusal_object(alloc: Global, name: &str, error: &ParseError) -> Result<Value
     })
 }
 
-// Appends the line of an object.
-fn append_line(alloc: Global, object: &Value, out: &mut String) -> Result<(), AllocError>
+/// Appends the line of an object that has no number with a fraction: its text, with no space in it, and a newline. The error is out of
+/// memory.
+pub fn append_line(alloc: Global, object: &Value, out: &mut String) -> Result<(), AllocError>
     requires { has_float (view object.now) ≡ false }
     ensures { OnOk result (string_bytes out.new ≡ string_bytes out.old ++ object_line (view object.now)) }
 {

@@ -59,8 +59,9 @@ fn append_renamed<T: Item + Drop>(item: &mut T, out: &mut String) -> Result<(), 
     }
 }
 
-/// As `append_text`, of an item that is dropped then.
-pub(crate) fn append_last_text<T: Item + Drop>(
+/// Appends the canonical text of an item that is dropped then; with `rename` the text with names by its printed order. The error is out of
+/// memory.
+pub fn append_last_text<T: Item + Drop>(
     rename: bool,
     item: &mut T,
     out: &mut String,
@@ -75,8 +76,7 @@ pub(crate) fn append_last_text<T: Item + Drop>(
     append_canonical(item, out)
 }
 
-/// Appends the canonical text of an item that is dropped then to the texts; with `rename` the text with names by its printed order. The
-/// error is out of memory.
+/// Appends the text of [`append_last_text`] to the texts. The error is out of memory.
 ///
 /// `text` is for it, so that the text that is kept has no more room than it needs.
 pub fn push_last_text<T: Item + Drop>(

@@ -1,0 +1,275 @@
+//! Replacements with the keys of their left-hand sides.
+//!
+//! The key of a left-hand side is what `key` is of it as an item with names by its printed order
+//! ([`key_of`](souper_records::records::key_of)): the same for left-hand sides that are the same graph up to names. So a store on disk finds the
+//! replacements of a left-hand side by its key.
+
+ghost use Rattle.std.specs.Prelude.{◌≡◌, ◌++◌, true, map, flat_map, IfOk, IfErr, OnOk, Option, option_copied, option_map};
+ghost use Rattle.std.specs.List.{zip};
+ghost use Rattle.std.specs.Io.KnownBytes.{Appends};
+ghost use Rattle.std.specs.String.{string_bytes};
+ghost use Rattle.serde_json.specs.View.{view};
+ghost use Rattle.serde_json.specs.Written.{has_float};
+ghost use Rattle.souper_graph.specs.Syntax.Spelling.{replacement};
+ghost use Rattle.souper_graph.specs.View.{view_replacement};
+ghost use Rattle.souper_graph.specs.WellFormed.{WellFormed};
+ghost use Rattle.souper_ir.specs.Errors.{kind_of};
+ghost use Rattle.souper_format.specs.Streams.{stream};
+ghost use Rattle.souper_format.specs.Watching.{has_failed};
+ghost use Rattle.souper_records.specs.Stops.{IfInput};
+ghost use Rattle.souper_records.specs.Objects.{optional_string};
+ghost use Rattle.souper_records.specs.Outcomes.{WritesParts, StopsAfter};
+ghost use Rattle.souper_find.specs.Answers.{renames};
+ghost use Rattle.souper_find.specs.Keyed.{lhs_key, keyed_by, view_keyed, lhs_line, keyed_record, keyed_object, keyed_line, part_keyed, keyed_of, WritesKeyed};
+
+use crate::search::Output;
+use serde_json::{Value, json};
+use souper_format::watched::Watched;
+use souper_ir::ast::{Arena, Replacement, Statement};
+use souper_ir::parse::{ParseError, ParseErrorKind, Sink, WholeItem};
+use souper_ir::stringify::TextError;
+use souper_lookup::keys::left_key;
+use souper_records::layout::Layout;
+use souper_records::objects::{append_line, append_refusal};
+use souper_records::options::ReadOptions;
+use souper_records::parts::{PartSink, Place, Source, write_parts};
+use souper_records::records::{append_last_text, append_record_of_text, key_of};
+use souper_records::stop::{Stop, write_text};
+use souper_stream::{ChunkSink, Start};
+use std::alloc::{AllocError, Global};
+use std::io::{BufRead, Write};
+
+/// The key of the left-hand side of the replacement, or `None` if it replaces a constant.
+///
+/// Errors: of a well-formed replacement `OutOfMemory` alone.
+pub fn lhs_key(alloc: Global, replacement: &Replacement) -> Result<Option<String>, TextError>
+    ensures { WellFormed (view_replacement replacement.now) → IfOk result (λ found. option_map string_bytes found ≡ lhs_key (view_replacement replacement.now)) }
+{
+    match left_key(replacement)? {
+        Some(text) => Ok(Some(key_of(alloc, text.as_str())?)),
+        None => Ok(None),
+    }
+}
+
+// The canonical text of a replacement, and the key of its left-hand side.
+#[derive(Drop)]
+pub(crate) struct Keyed {
+    pub(crate) text: String,
+    pub(crate) lhs_key: Option<String>,
+}
+
+// Of a replacement that is dropped then. `text` is for it.
+fn keyed(
+    alloc: Global,
+    rename: bool,
+    item: &mut Replacement,
+    text: &mut String,
+) -> Result<Keyed, TextError>
+    requires { WellFormed (view_replacement item.old) }
+    ensures { IfOk result (λ k. view_keyed k ≡ keyed_by rename (view_replacement item.old)) }
+{
+    let lhs_key = lhs_key(alloc, item)?;
+    text.clear();
+    append_last_text(rename, item, text)?;
+    let text = String::from_str(alloc, text.as_str())?;
+    Ok(Keyed { text, lhs_key })
+}
+
+fn append_lhs_line(key: &Option<String>, out: &mut String) -> Result<(), AllocError>
+    ensures { OnOk result (string_bytes out.new ≡ string_bytes out.old ++ lhs_line (option_map string_bytes key.now)) }
+{
+    if let Some(key) = key {
+        out.push_str("; lhs ")?;
+        out.push_str(key.as_str())?;
+        out.push_str("\n")?;
+    }
+    Ok(())
+}
+
+fn append_record(
+    alloc: Global,
+    layout: Layout,
+    item: &Keyed,
+    out: &mut String,
+) -> Result<(), AllocError>
+    ensures { OnOk result (string_bytes out.new ≡ string_bytes out.old ++ keyed_record layout (view_keyed item.now)) }
+{
+    append_lhs_line(&item.lhs_key, out)?;
+    append_record_of_text(alloc, layout, item.text.as_str(), out)
+}
+
+fn part_records(
+    alloc: Global,
+    layout: Layout,
+    items: &[Keyed],
+) -> Result<String, AllocError>
+    ensures { IfOk result (λ out. string_bytes out ≡ flat_map (keyed_record layout) (map view_keyed items.now)) }
+{
+    let mut out = String::new(alloc);
+    for item in items {
+        append_record(alloc, layout, item, &mut out)?;
+    }
+    Ok(out)
+}
+
+fn optional_string(alloc: Global, text: &Option<String>) -> Result<Value, AllocError>
+    ensures { IfOk result (λ value. view value ≡ optional_string (option_map string_bytes text.now)) }
+{
+    match text {
+        Some(text) => Value::try_from_str(alloc, text.as_str()),
+        None => Ok(Value::Null),
+    }
+}
+
+// The object of a replacement, which begins at `start`.
+fn keyed_object(
+    alloc: Global,
+    name: &str,
+    start: Start,
+    item: &Keyed,
+) -> Result<Value, AllocError>
+    ensures { IfOk result (λ value. view value ≡ keyed_object name.now start (view_keyed item.now)) }
+{
+    let key = key_of(alloc, item.text.as_str())?;
+    let lhs_key = optional_string(alloc, &item.lhs_key)?;
+    json!(in alloc; {
+        "file": name,
+        "key": key.as_str(),
+        "lhs_key": lhs_key,
+        "line": start.line,
+        "offset": start.offset,
+        "text": item.text.as_str()
+    })
+}
+
+fn append_object(
+    alloc: Global,
+    name: &str,
+    start: Start,
+    item: &Keyed,
+    out: &mut String,
+) -> Result<(), AllocError>
+    ensures { OnOk result (string_bytes out.new ≡ string_bytes out.old ++ keyed_line name.now (start, view_keyed item.now)) }
+{
+    let object = keyed_object(alloc, name, start, item)?;
+    append_line(alloc, &object, out)
+}
+
+fn part_lines(alloc: Global, place: Place<'_>, items: &[Keyed]) -> Result<String, AllocError>
+    ensures { IfOk result (λ out. string_bytes out ≡ flat_map (keyed_line place.entry.name.now) (zip place.entry.starts.now (map view_keyed items.now))) }
+{
+    let mut out = String::new(alloc);
+    for (start, item) in place.starts.iter().zip(items) {
+        append_object(alloc, place.name, *start, item, &mut out)?;
+    }
+    Ok(out)
+}
+
+// What is written for a part.
+fn part_text(
+    alloc: Global,
+    output: Output,
+    place: Place<'_>,
+    refusal: Option<&ParseError>,
+    items: &[Keyed],
+) -> Result<String, AllocError>
+    ensures { IfOk result (λ out. string_bytes out ≡ part_keyed output place.entry.name.now place.entry.starts.now (option_copied refusal.entry) (map view_keyed items.now)) }
+{
+    match output {
+        Output::Records(layout) => part_records(alloc, layout, items),
+        Output::Objects { .. } => {
+            let mut out = part_lines(alloc, place, items)?;
+            append_refusal(alloc, place.name, refusal, &mut out)?;
+            Ok(out)
+        }
+    }
+}
+
+// The replacements of a part.
+#[derive(Drop)]
+struct KeyedItems {
+    alloc: Global,
+    output: Output,
+
+    // For the text of one replacement.
+    text: String,
+    items: Vec<Keyed>,
+}
+
+impl Sink<Replacement> for KeyedItems {
+    ghost holds = { λ first keyed items. (keyed.output ≡ first.output) × (map view_keyed keyed.items.items ≡ map (keyed_by (renames first.output)) items) };
+
+    fn take(&mut self, item: Replacement) -> Result<(), AllocError> {
+        self.take_over(item)?;
+        Ok(())
+    }
+
+    fn take_over(
+        &mut self,
+        mut item: Replacement,
+    ) -> Result<Option<Arena<Statement>>, AllocError> {
+        match keyed(self.alloc, self.output.renames(), &mut item, &mut self.text) {
+            Ok(keyed) => {
+                self.items.push(keyed)?;
+                Ok(item.take_statements())
+            }
+            // A well-formed item has no bad id, so the error is out of memory.
+            Err(_) => Err(AllocError),
+        }
+    }
+}
+
+impl ChunkSink<Replacement> for KeyedItems {
+    fn rollback(&mut self) {
+        self.items.clear();
+    }
+}
+
+// Writes the replacements of each part, and drops them.
+impl PartSink<Replacement> for KeyedItems {
+    ghost wrote = { λ name a x b y os. (b.output ≡ a.output) × Appends x y (keyed_of a.output name os) };
+
+    fn write_part<W: Write>(
+        &mut self,
+        alloc: Global,
+        place: Place<'_>,
+        refusal: Option<&ParseError>,
+        out: &mut Watched<W>,
+    ) -> Result<(), Stop> {
+        let text = part_text(alloc, self.output, place, refusal, self.items.as_slice())?;
+        write_text(&text, out)?;
+        self.items.clear();
+        Ok(())
+    }
+}
+
+/// Writes each replacement of the stream, in order, with the key of its left-hand side, part by part
+/// ([`ItemReader`](souper_stream::ItemReader)). Returns whether a part was refused, as
+/// [`write_records`](souper_records::each::write_records) does, and fails like it.
+///
+/// A record has a comment line before it: `; lhs `, and the key. An object ([`write_objects`](souper_records::objects::write_objects)) has
+/// one member more, `lhs_key`: the key, or null. The replacement of a constant has no such line, and null.
+pub fn write_keyed<R: BufRead, W: Write, E: Write>(
+    alloc: Global,
+    output: Output,
+    options: ReadOptions<'_>,
+    reader: &mut R,
+    out: &mut Watched<W>,
+    err: &mut Watched<E>,
+) -> Result<bool, Stop>
+    ensures written { IfOk result (λ refused. WritesParts replacement options.entry.name.now options.entry.recover (R.remaining reader.old) (R.remaining reader.new)
+        (WritesKeyed output options.entry.name.now (stream W.contents out.old out.new)) (stream E.contents err.old err.new) refused) }
+    ensures stopped { IfErr result (λ stop. StopsAfter replacement options.entry.name.now options.entry.recover (R.remaining reader.old)
+        (WritesKeyed output options.entry.name.now (stream W.contents out.old out.new)) (has_failed out.new) (stream E.contents err.old err.new) stop) }
+    ensures input { IfErr result (λ stop. IfInput stop (λ e. kind_of e ≡ ParseErrorKind.Io)) }
+    ensures stays { has_failed err.old ≡ true → has_failed err.new ≡ true }
+{
+    let mut items = KeyedItems {
+        alloc,
+        output,
+        text: String::new(alloc),
+        items: Vec::new(alloc),
+    };
+    let source = Source::with_starts(alloc, options);
+    write_parts::<Replacement, KeyedItems, R, W, E>(alloc, source, &mut items, reader, out, err)
+}
