@@ -1,6 +1,6 @@
 #!/bin/bash
-# For the scripts of this folder, by `.`: sets `where`, the options by which GNU parallel runs processes on this host or on others, as records.sh
-# says. The status is 2 if a program is missing.
+# Sourced by the scripts of this folder. Sets `where`, the options by which GNU parallel runs processes on this host or on others, as
+# records.sh says. The status is 2 if a program is missing.
 missing() { echo "$(basename "$0"): $1 is missing (Debian's package $2)" >&2 && exit 2; }
 parallel --version 2>/dev/null | grep -q '^GNU parallel' || missing "GNU parallel" parallel
 [ -z "$STORE_COPY" ] || command -v rsync >/dev/null || missing rsync rsync

@@ -9,7 +9,7 @@ set -o pipefail
 [ $# -ge 2 ] || { echo "usage: postgres.sh [--rename] KIND FOLDER" >&2; exit 2; }
 here=$(cd "$(dirname "$0")" && pwd) kind=${*: -2:1} folder=${*: -1}
 cd "$folder" || exit 2
-psql -qX -v ON_ERROR_STOP=1 -f "$here/table.sql" 2>/dev/null || exit 2
+PGOPTIONS="$PGOPTIONS --client-min-messages=warning" psql -qX -v ON_ERROR_STOP=1 -f "$here/table.sql" || exit 2
 . "$here/hosts.sh"
 mapfile -t database < <(env | grep '^PG[A-Z]*=')
 find . -type f -name "*.$kind" -print0 | LC_ALL=C sort -z |

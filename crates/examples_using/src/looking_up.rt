@@ -1,9 +1,9 @@
 //! Looking up what replaces a left-hand side.
-ghost use Rattle.std.specs.Prelude.{List, map, IfOk};
+ghost use Rattle.std.specs.Prelude.{List, [], map, IfOk};
 ghost use Rattle.std.specs.List.{AllByRecursion};
 ghost use Rattle.souper_graph.specs.View.{view_replacement};
 ghost use Rattle.souper_graph.specs.WellFormed.{WellFormed};
-ghost use Rattle.souper_lookup.specs.Stored.{Entry, Stores};
+ghost use Rattle.souper_lookup.specs.Stored.{Entry, AreAdded, Stores};
 
 use souper_ir::ast::Replacement;
 use souper_ir::stringify::TextError;
@@ -12,7 +12,8 @@ use std::alloc::Global;
 
 /// A store of these replacements.
 pub fn store_of(alloc: Global, replacements: Vec<Replacement>) -> Result<Store, TextError>
-    ensures { AllByRecursion WellFormed (map view_replacement replacements.items) → IfOk result (λ store. (entries : List Entry) × Stores entries store) }
+    ensures { AllByRecursion WellFormed (map view_replacement replacements.items)
+        → IfOk result (λ store. (entries : List Entry) × AreAdded (map view_replacement replacements.items) [] entries × Stores entries store) }
 {
     let mut store = Store::new(alloc);
     for replacement in replacements {

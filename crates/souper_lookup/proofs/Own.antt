@@ -108,6 +108,9 @@ module _ (q a : Item) (wq : WellFormed q) (rq : WellFormed (renamed q)) (s : Sto
       ∙ taken-front (map f (printed_order l)) (map f begins.0) (length Q) (length-map (printed_order l) f ∙ left-long)
       ∙ ap (map f) left-order ∙ mapped-twice graph.to f Q ∙ map-same (λ p. f (graph.to p)) (name_at (renamed q).statements) Q lead-name
 
+  lead : length (map (name_at (renamed q).statements) Q) ≡ length Q
+  lead = length-map Q (name_at (renamed q).statements)
+
   -- the statement at an index
   abbrev pos : ℕ → ℕ
   pos k = get_or P k 0
@@ -175,6 +178,6 @@ module _ (q a : Item) (wq : WellFormed q) (rq : WellFormed (renamed q)) (s : Sto
     left = graph;
     same = unneeded-graph (nameless a) (nameless a) (record { same_ending = refl; same_conditions = refl; same_statements = λ p d. refl });
     ending = refl;
-    names = record { first = first-names; long = long; fresh = fresh };
+    names = record { first = ap (λ (z : ℕ). take z names) lead ∙ first-names; long = long; fresh = λ k le lt. let m = lead in subst (λ (z : ℕ). IsFresh z names k) (sym lead) (fresh k (omega arith) lt) };
     well_formed = s.well_formed;
   }

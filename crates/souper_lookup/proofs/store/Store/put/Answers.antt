@@ -23,13 +23,13 @@ returns-clause-put c = λ entries h s t none.
     let e : Entry = record { replacement = b; count = 1 } in
     let items = replacements_of entries in
     let groups : List (List ℕ) = map (λ v. v.items) old.groups.items in
-    let new : List (List ℕ) = map (λ v. v.items) c.file.new.groups.items in
+    let new : List (List ℕ) = map (λ v. v.items) c.add_to_group.new.groups.items in
     let kept : c.reserve-2.new.self.items ≡ old.stored.items = c.in_ok-reserve-2.ensures.items in
     let stored = ap (λ (z : List Stored). length z) kept ∙ sym (length-map old.stored.items view_stored) ∙ ap (λ (z : List Entry). length z) h.entries_are ∙ sym (length-map entries (λ (z : Entry). z.replacement)) in
     let long : c.len.result ≡ length items = omega (arith, c.len.ensures, c.reserve-2.new.self.ok, stored) in
     let pushed : length old.keys.keys ≡ length groups → IsPushed groups (position_or_len (string_eq c.in_ok-key.key) old.keys.keys) (length items) new =
     (λ paired. subst (λ (n : ℕ). IsPushed groups (position_or_len (string_eq c.in_ok-key.key) old.keys.keys) n new) long
-    (c.in_ok-file.ensures.pushed (let m = length-map old.groups.items (λ v. v.items) in omega arith))) in
+    (c.in_ok-add_to_group.ensures.pushed (let m = length-map old.groups.items (λ v. v.items) in omega arith))) in
     let added : c.insert.new.self.keys ≡ insert_key string_eq old.texts.keys p.text =
     c.in_ok-insert.ensures.keys ∙ ap (λ (z : List (String Global)). insert_key string_eq z p.text) c.in_ok-reserve.ensures.keys in
     record {
@@ -37,10 +37,10 @@ returns-clause-put c = λ entries h s t none.
           ap (map view_stored) (c.push_reserved.ensures.items ∙ ap (λ (z : List Stored). z ++ record { replacement = c.joined-replacement.result; count = 1 } ∷ []) kept)
           ∙ map-append view_stored old.stored.items (_ ∷ []) ∙ ap (λ (z : List Entry). z ++ record { replacement = view_replacement c.joined-replacement.result; count = 1 } ∷ []) h.entries_are
           ∙ ap (λ (z : Item). entries ++ record { replacement = z; count = 1 } ∷ []) c.joined-replacement.ensures;
-      indexed = subst (λ (z : List Item). IsIndexOf z (map string_bytes c.insert.new.self.keys) (map string_bytes c.file.new.keys.keys) new)
+      indexed = subst (λ (z : List Item). IsIndexOf z (map string_bytes c.insert.new.self.keys) (map string_bytes c.add_to_group.new.keys.keys) new)
           (sym (map-append (λ (z : Entry). z.replacement) entries (e ∷ [])))
-          (put-stored items b (view_infer p.left.infer) p.result _ old.texts.keys c.insert.new.self.keys old.keys.keys c.file.new.keys.keys groups new p.text c.in_ok-key.key
-          h.indexed s refl none t c.in_ok-key.ensures.printed added c.in_ok-file.ensures.keys pushed);
+          (put-stored items b (view_infer p.left.infer) p.result _ old.texts.keys c.insert.new.self.keys old.keys.keys c.add_to_group.new.keys.keys groups new p.text c.in_ok-key.key
+          h.indexed s refl none t c.in_ok-key.ensures.printed added c.in_ok-add_to_group.ensures.keys pushed);
     }
 
 pub returns-in_err-key-clause-memory : goal.returns-in_err-key-clause-memory
