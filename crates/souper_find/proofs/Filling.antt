@@ -1,5 +1,5 @@
 -- A store that takes the replacements of a stream.
-use Rattle.std.proofs.Common.{◌≡◌, inl, inr, ℕ, List, Option, Some, refl}
+use Rattle.std.proofs.Common.{◌≡◌, inl, inr, ℕ, List, [], Option, Some, refl}
 use Rattle.souper_graph.specs.Values.{Item}
 use Rattle.souper_graph.specs.Syntax.Spelling.{replacement}
 use Rattle.souper_ir.specs.declared.parse.error.ParseError.{ParseError}
@@ -20,7 +20,8 @@ Holds first store items = (entries : List Entry) → Stores entries first → (n
 pub filled : (entries : List Entry) (before after : Option (List ℕ)) (old new : Store) → Stores entries old → IsStreamTaken replacement before after Holds old new → IsFilled entries before after new
 filled entries before after old new h t =
     let (items, spelled, over) = t.taken in
-    let (now, added, stores) = over old _ (λ (es : List Entry) (s : Stores es old). (es, refl, s)) entries h in
+    let none : Holds old old [] = λ es s. (es, refl, s) in
+    let (now, added, stores) = over old [] none entries h in
     record { read = t.read; whole = (t.consumed, t.all_read); items = items; spelled = spelled; now = now; added = added; stores = stores }
 
 pub fill_ends : (entries : List Entry) (name : List ℕ) (before after : Option (List ℕ)) (old new : Store) (err : Stream) (e : ParseError) (status : ℕ) → (kind_of e ≡ Parse → IsStreamRefused replacement (Some name) before after Holds old new e) → ReportedError name err status e

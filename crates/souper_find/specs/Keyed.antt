@@ -1,5 +1,5 @@
 -- Definitions. Replacements with the keys of their left-hand sides.
-use Rattle.std.specs.Prelude.{◌≡◌, ℕ, Bool, List, [], ◌++◌, map, flat_map, codes, Option, None, Some, option_map, string_bytes}
+use Rattle.std.specs.Prelude.{ℕ, Bool, List, [], ◌++◌, map, flat_map, codes, Option, None, Some, option_map, string_bytes}
 use Rattle.std.specs.List.{zip}
 use Rattle.serde_json.specs.Data.{Data, number, unsigned, string, object, member, no_members}
 use Rattle.souper_graph.specs.Values.{PlainInfer, Item}

@@ -1,3 +1,4 @@
 pub mod Answers
+pub mod Keyed
 pub mod Views
 pub mod Runs

@@ -15,6 +15,7 @@ use Rattle.souper_records.specs.Runs.{OnStatus, IsRun}
 use Rattle.souper_find.specs.declared.search.Choice.{Choice}
 use Rattle.souper_find.specs.declared.search.Output.{Output}
 use Rattle.souper_find.specs.Answers.{WritesAnswers}
+use Rattle.souper_find.specs.Keyed.{WritesKeyed}
 
 -- the whole stream spells replacements, and they were added to a store that had these entries
 pub record IsFilled (entries : List Entry) (before after : Option (List ℕ)) (store : Store) : Type 0 where
@@ -49,3 +50,7 @@ IsFillRun entries name before after store err status = OnStatus status
 -- writing the answers for the left-hand sides of a stream
 abbrev pub IsFindRun : Choice → Output → List Entry → List ℕ → Bool → Option (List ℕ) → Option (List ℕ) → Stream → Stream → ℕ → Type 0
 IsFindRun c output entries name recover before after out err status = IsRun left_hand_side name recover before after (WritesAnswers c output entries name out) (WritesAnswers c output entries name out) out err status
+
+-- writing the replacements of a stream with the keys of their left-hand sides
+abbrev pub IsKeyedRun : Output → List ℕ → Bool → Option (List ℕ) → Option (List ℕ) → Stream → Stream → ℕ → Type 0
+IsKeyedRun output name recover before after out err status = IsRun replacement name recover before after (WritesKeyed output name out) (WritesKeyed output name out) out err status

@@ -1,6 +1,6 @@
 //! The answers of a store to the left-hand sides of a stream.
 
-ghost use Rattle.std.specs.Prelude.{◌≡◌, ◌++◌, List, map, flat_map, IfOk, IfErr, OnOk, Option, option_copied};
+ghost use Rattle.std.specs.Prelude.{◌≡◌, ◌++◌, true, List, map, flat_map, IfOk, IfErr, OnOk, Option, option_copied};
 ghost use Rattle.std.specs.List.{zip};
 ghost use Rattle.std.specs.Io.KnownBytes.{Appends};
 ghost use Rattle.std.specs.String.{string_bytes};
@@ -62,11 +62,7 @@ fn append_lines(
 }
 
 // The records for the left-hand sides of a part.
-fn part_records(
-    alloc: Global,
-    layout: Layout,
-    groups: &[Vec<String>],
-) -> Result<String, AllocError>
+fn part_records(alloc: Global, layout: Layout, groups: &[Vec<String>]) -> Result<String, AllocError>
     ensures { IfOk result (λ out. string_bytes out ≡ flat_map (group_records layout) (map view_texts groups.now)) }
 {
     let mut out = String::new(alloc);
@@ -77,11 +73,7 @@ fn part_records(
 }
 
 // The lines for the left-hand sides of a part.
-fn part_lines(
-    alloc: Global,
-    place: Place<'_>,
-    groups: &[Vec<String>],
-) -> Result<String, AllocError>
+fn part_lines(alloc: Global, place: Place<'_>, groups: &[Vec<String>]) -> Result<String, AllocError>
     ensures { IfOk result (λ out. string_bytes out ≡ flat_map (group_lines place.entry.name.now) (zip place.entry.starts.now (map view_texts groups.now))) }
 {
     let mut out = String::new(alloc);
@@ -166,7 +158,13 @@ impl PartSink<LeftHandSide> for Answers<'_> {
         refusal: Option<&ParseError>,
         out: &mut Watched<W>,
     ) -> Result<(), Stop> {
-        let text = part_text(alloc, self.search.output, place, refusal, self.groups.as_slice())?;
+        let text = part_text(
+            alloc,
+            self.search.output,
+            place,
+            refusal,
+            self.groups.as_slice(),
+        )?;
         write_text(&text, out)?;
         self.groups.clear();
         Ok(())
@@ -202,12 +200,5 @@ pub fn write_answers<R: BufRead, W: Write, E: Write>(
         groups: Vec::new(alloc),
     };
     let source = Source::with_starts(alloc, options);
-    write_parts::<LeftHandSide, Answers<'_>, R, W, E>(
-        alloc,
-        source,
-        &mut answers,
-        reader,
-        out,
-        err,
-    )
+    write_parts::<LeftHandSide, Answers<'_>, R, W, E>(alloc, source, &mut answers, reader, out, err)
 }

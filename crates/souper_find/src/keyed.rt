@@ -59,7 +59,7 @@ pub(crate) struct Keyed {
 }
 
 // Of a replacement that is dropped then. `text` is for it.
-fn keyed(
+fn with_key(
     alloc: Global,
     rename: bool,
     item: &mut Replacement,
@@ -98,11 +98,7 @@ fn append_record(
     append_record_of_text(alloc, layout, item.text.as_str(), out)
 }
 
-fn part_records(
-    alloc: Global,
-    layout: Layout,
-    items: &[Keyed],
-) -> Result<String, AllocError>
+fn part_records(alloc: Global, layout: Layout, items: &[Keyed]) -> Result<String, AllocError>
     ensures { IfOk result (λ out. string_bytes out ≡ flat_map (keyed_record layout) (map view_keyed items.now)) }
 {
     let mut out = String::new(alloc);
@@ -122,12 +118,7 @@ fn optional_string(alloc: Global, text: &Option<String>) -> Result<Value, AllocE
 }
 
 // The object of a replacement, which begins at `start`.
-fn keyed_object(
-    alloc: Global,
-    name: &str,
-    start: Start,
-    item: &Keyed,
-) -> Result<Value, AllocError>
+fn keyed_object(alloc: Global, name: &str, start: Start, item: &Keyed) -> Result<Value, AllocError>
     ensures { IfOk result (λ value. view value ≡ keyed_object name.now start (view_keyed item.now)) }
 {
     let key = key_of(alloc, item.text.as_str())?;
@@ -204,11 +195,8 @@ impl Sink<Replacement> for KeyedItems {
         Ok(())
     }
 
-    fn take_over(
-        &mut self,
-        mut item: Replacement,
-    ) -> Result<Option<Arena<Statement>>, AllocError> {
-        match keyed(self.alloc, self.output.renames(), &mut item, &mut self.text) {
+    fn take_over(&mut self, mut item: Replacement) -> Result<Option<Arena<Statement>>, AllocError> {
+        match with_key(self.alloc, self.output.renames(), &mut item, &mut self.text) {
             Ok(keyed) => {
                 self.items.push(keyed)?;
                 Ok(item.take_statements())

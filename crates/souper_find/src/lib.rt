@@ -4,6 +4,7 @@
 #![tactic(auto)]
 
 pub mod answers;
+pub mod keyed;
 pub mod run;
 pub mod search;
 #[cfg(test)]

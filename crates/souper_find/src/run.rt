@@ -3,10 +3,11 @@
 ghost use Rattle.std.specs.Prelude.{List};
 ghost use Rattle.souper_format.specs.Streams.{stream};
 ghost use Rattle.souper_lookup.specs.Stored.{Entry, Stores};
-ghost use Rattle.souper_find.specs.Runs.{IsFillRun, IsFindRun};
+ghost use Rattle.souper_find.specs.Runs.{IsFillRun, IsFindRun, IsKeyedRun};
 
 use crate::answers::write_answers;
-use crate::search::Search;
+use crate::keyed::write_keyed;
+use crate::search::{Output, Search};
 use souper_format::watched::Watched;
 use souper_ir::ast::Replacement;
 use souper_lookup::store::Store;
@@ -56,5 +57,23 @@ pub fn find_run<R: BufRead, W: Write, E: Write>(
 {
     let name = options.name;
     let parts = write_answers::<R, W, E>(alloc, search, options, reader, out, err);
+    end_parts(alloc, name, parts, out, err)
+}
+
+/// Writes each replacement of the stream with the key of its left-hand side to `out` ([`write_keyed`]). Returns the status of the program,
+/// as [`each_run_with`](souper_records::run::each_run_with) does.
+pub fn keyed_run<R: BufRead, W: Write, E: Write>(
+    alloc: Global,
+    output: Output,
+    options: ReadOptions<'_>,
+    reader: &mut R,
+    out: &mut Watched<W>,
+    err: &mut Watched<E>,
+) -> u8
+    ensures { IsKeyedRun output options.entry.name.now options.entry.recover (R.remaining reader.old) (R.remaining reader.new)
+        (stream W.contents out.old out.new) (stream E.contents err.old err.new) result }
+{
+    let name = options.name;
+    let parts = write_keyed::<R, W, E>(alloc, output, options, reader, out, err);
     end_parts(alloc, name, parts, out, err)
 }

@@ -41,8 +41,7 @@ fn fill(alloc: Global, store: &mut Store, text: &str) -> (u8, bool) {
     let mut err = Vec::new(alloc);
     let mut reader = text.as_bytes();
     let mut watched = Watched::new(&mut err);
-    let status =
-        fill_run::<&[u8], &mut Vec<u8>>(alloc, store, &mut reader, "store", &mut watched);
+    let status = fill_run::<&[u8], &mut Vec<u8>>(alloc, store, &mut reader, "store", &mut watched);
     (status, !err.is_empty())
 }
 
@@ -129,7 +128,8 @@ fn objects_have_the_place_of_the_left_hand_side(rt: HostRuntime) {
         choice: Choice::First,
         output: Output::Objects { rename: false },
     };
-    let lines = r#"{"file":"queries","key":"5d4c6e8018035e69e7b2e0837b36be9b84af859bf8996ad88b86c98240297e3d","line":1,"offset":0,"text":"%a = var\n%b = mul %a, 2\ninfer %b\n%2 = shl %a, 1\nresult %2\n"}
+    let lines =
+        r#"{"file":"queries","key":"5d4c6e8018035e69e7b2e0837b36be9b84af859bf8996ad88b86c98240297e3d","line":1,"offset":0,"text":"%a = var\n%b = mul %a, 2\ninfer %b\n%2 = shl %a, 1\nresult %2\n"}
 {"file":"queries","key":"4ff868ace3ff58a3dea598ed2cc805da0f221bc353555948083dfd7aa48a51c6","line":7,"offset":67,"text":"%c = var\n%d = sub %c, %c\ninfer %d\nresult 0\n"}
 "#;
     finds(&rt, alloc, search, QUERIES, (0, lines));

@@ -16,7 +16,7 @@ use hint::hint;
 use options::{Action, Color, Task, grammar, read_task};
 use progress::{Meter, Metered};
 use rewrite::rewrite;
-use souper_find::run::{fill_run, find_run};
+use souper_find::run::{fill_run, find_run, keyed_run};
 use souper_find::search::{Choice, Output, Search};
 use souper_format::command::Kind;
 use souper_format::watched::Watched;
@@ -44,6 +44,8 @@ const STANDARD_INPUT: &str = "(standard input)";
 
 const WRITE_USAGE: &[u8] =
     b"error: the argument '--write' needs files, and standard input is none\n";
+
+const KEY_USAGE: &[u8] = b"error: the argument '--lhs-key' needs replacements (rep)\n";
 
 // How many bytes are asked for at a time: as many as a pipe of Linux holds.
 const CAPACITY: usize = 1 << 16;
@@ -97,6 +99,15 @@ impl<'s, W: Write, E: Write> Session<'s, W, E> {
         uniq_run_with::<T, R, io::Sink, E>(layout, options, seen, reader, &mut out, err)
     }
 
+    // How a stream is read for this output.
+    fn options<'n>(&self, output: Output, name: &'n str) -> ReadOptions<'n> {
+        ReadOptions {
+            name,
+            recover: self.task.keep_going || matches!(output, Output::Objects { .. }),
+            line_buffered: self.task.line_buffered,
+        }
+    }
+
     // A stream of left-hand sides that the store is asked for.
     fn answers<R: BufRead>(
         &mut self,
@@ -110,11 +121,7 @@ impl<'s, W: Write, E: Write> Session<'s, W, E> {
             choice,
             output,
         };
-        let options = ReadOptions {
-            name,
-            recover: self.task.keep_going || matches!(output, Output::Objects { .. }),
-            line_buffered: self.task.line_buffered,
-        };
+        let options = self.options(output, name);
         let (out, err) = (&mut self.out, &mut self.err);
         find_run::<R, W, E>(self.rt.alloc(), search, options, reader, out, err)
     }
@@ -145,13 +152,22 @@ impl<'s, W: Write, E: Write> Session<'s, W, E> {
             Action::Count(layout, _) => self.count::<T, R>(layout, options, reader),
             Action::Check { diff: false } => check_run::<T, R, E>(alloc, reader, name, err),
             Action::Check { diff: true } => check_diff::<T, R, W, E>(alloc, reader, name, out, err),
-            Action::Write { .. } | Action::Find { .. } => 2,
+            Action::Write { .. } | Action::Find { .. } | Action::Keyed(_) => 2,
         }
     }
 
+    // A stream of replacements that are written with the keys of their left-hand sides.
+    fn keyed<R: BufRead>(&mut self, output: Output, reader: &mut R, name: &str) -> u8 {
+        let options = self.options(output, name);
+        let (out, err) = (&mut self.out, &mut self.err);
+        keyed_run::<R, W, E>(self.rt.alloc(), output, options, reader, out, err)
+    }
+
     fn stream<R: BufRead>(&mut self, reader: &mut R, name: &str) -> u8 {
-        if let Action::Find { choice, output } = self.task.action {
-            return self.answers(choice, output, reader, name);
+        match self.task.action {
+            Action::Find { choice, output } => return self.answers(choice, output, reader, name),
+            Action::Keyed(output) => return self.keyed(output, reader, name),
+            _ => {}
         }
         match self.task.kind {
             Kind::Lhs => self.items::<LeftHandSide, R>(reader, name),
@@ -330,6 +346,10 @@ fn run_matches(rt: &HostRuntime, matches: &ArgMatches<'_>) -> u8 {
     };
     if !task.has_files() {
         let _ = err.write_all(WRITE_USAGE);
+        return 2;
+    }
+    if !task.has_left_hand_sides() {
+        let _ = err.write_all(KEY_USAGE);
         return 2;
     }
     Session {

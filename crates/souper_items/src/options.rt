@@ -28,6 +28,9 @@ pub(crate) enum Action {
     /// The object of each is written, and of each refusal; of an item with names by its printed order, or as they are.
     Objects { rename: bool },
 
+    /// Each replacement is written with the key of its left-hand side.
+    Keyed(Output),
+
     /// The record of the first of each graph is written.
     Uniq(Layout),
 
@@ -97,6 +100,14 @@ const FIND_EXAMPLE: &str = "Example: souper_items find --in learned.rep harvest.
 const CHECK_EXAMPLE: &str = "Example: souper_items check --diff lhs *.lhs | patch -p1";
 
 impl Task<'_, '_> {
+    /// Whether the items are replacements, if the keys of their left-hand sides are asked for.
+    pub(crate) fn has_left_hand_sides(&self) -> bool {
+        match self.action {
+            Action::Keyed(_) => matches!(self.kind, Kind::Rep),
+            _ => true,
+        }
+    }
+
     /// Whether there are files to write to, if any are to be written to.
     pub(crate) fn has_files(&self) -> bool {
         match self.action {
@@ -189,11 +200,18 @@ fn format<'a>(alloc: Global) -> Result<Command<'a>, AllocError> {
     )?
     .after_help(FORMAT_EXAMPLE)
     .visible_alias("each")?
-    .arg(json_arg(alloc, "Write a line of JSON for each item and each parse error")?)?
+    .arg(json_arg(
+        alloc,
+        "Write a line of JSON for each item and each parse error",
+    )?)?
+    .arg(flag(alloc, "lhs-key").help(
+        "Write the key of the left-hand side of each replacement too",
+    ))?
     .arg(
         flag(alloc, "write")
             .short('w')
             .help("Rewrite each file by its canonical text")
+            .conflicts_with("lhs-key")?
             .conflicts_with("null")?
             .conflicts_with("key")?
             .conflicts_with("json")?
@@ -257,7 +275,10 @@ fn find<'a>(alloc: Global) -> Result<Command<'a>, AllocError> {
             .help("Write the left-hand sides that no replacement has instead")
             .conflicts_with("first")?,
     )?
-    .arg(json_arg(alloc, "Write a line of JSON for each replacement and each parse error")?)?
+    .arg(json_arg(
+        alloc,
+        "Write a line of JSON for each replacement and each parse error",
+    )?)?
     .arg(files_arg(alloc))
 }
 
@@ -298,6 +319,16 @@ fn read_layout(options: &ArgMatches<'_>) -> Layout {
     }
 }
 
+fn read_output(options: &ArgMatches<'_>) -> Output {
+    if options.get_flag("json") {
+        Output::Objects {
+            rename: options.get_flag("rename"),
+        }
+    } else {
+        Output::Records(read_layout(options))
+    }
+}
+
 fn read_format(options: &ArgMatches<'_>) -> Action {
     let rename = options.get_flag("rename");
     if options.get_flag("write") {
@@ -305,6 +336,8 @@ fn read_format(options: &ArgMatches<'_>) -> Action {
             rename,
             force: options.get_flag("force"),
         }
+    } else if options.get_flag("lhs-key") {
+        Action::Keyed(read_output(options))
     } else if options.get_flag("json") {
         Action::Objects { rename }
     } else {
@@ -341,14 +374,10 @@ fn read_find(options: &ArgMatches<'_>) -> Action {
     } else {
         Choice::All
     };
-    let output = if options.get_flag("json") {
-        Output::Objects {
-            rename: options.get_flag("rename"),
-        }
-    } else {
-        Output::Records(read_layout(options))
-    };
-    Action::Find { choice, output }
+    Action::Find {
+        choice,
+        output: read_output(options),
+    }
 }
 
 fn read_action(name: &str, options: &ArgMatches<'_>) -> Option<Action> {
