@@ -1,12 +1,12 @@
 #!/usr/bin/env python3
 """Reads what Souper keeps in a Redis server, and writes the keyed records of the replacements.
 
-    from_souper.py PORT [--rename] | load.py sqlite | sqlite3 -bail STORE
+    from_souper.py PORT [--lhs-key] [--rename] | load.py sqlite | sqlite3 -bail STORE
 
 Souper's cache has a hash for each left-hand side. Its name is the text of the left-hand side, and its field `result` has the text
 of the right side in that scope, or nothing if no right side was found. The two texts are a replacement, which is read by
 `souper_items` (or the program that $SOUPER_ITEMS names). So entries that differ in order, in statements that nothing needs or,
-with `--rename`, in names have one record.
+with `--rename`, in names have one record. With `--lhs-key` a record begins with the key of its left-hand side, as `load.py` takes it.
 
 An entry that is refused is reported with its name, and has no record. The last line on standard error counts the entries. Keys
 that are no hashes, and hashes without the field, are passed over. The status is 0, or 1 if an entry was refused, or 2 if the
@@ -131,7 +131,8 @@ def main(port, options):
         for (name, _), (one, fault) in zip(named, answers([text for _, text in named], options)):
             if one:
                 kept += 1
-                sys.stdout.buffer.write(f"; {one['key']}\n{one['text']}\0".encode())
+                left = f"; lhs {one['lhs_key']}\n" if one.get("lhs_key") else ""
+                sys.stdout.buffer.write(f"{left}; {one['key']}\n{one['text']}\0".encode())
             else:
                 report(name, fault)
         refused += len(known)
@@ -142,11 +143,12 @@ def main(port, options):
 
 
 if __name__ == "__main__":
-    words = [word for word in sys.argv[1:] if word != "--rename"]
+    options = [word for word in sys.argv[1:] if word in ("--lhs-key", "--rename")]
+    words = [word for word in sys.argv[1:] if word not in options]
     if len(words) != 1 or not words[0].isdecimal():
         sys.exit(__doc__)
     try:
-        sys.exit(main(int(words[0]), ["--rename"] * ("--rename" in sys.argv)))
+        sys.exit(main(int(words[0]), options))
     except OSError as fault:
         print(f"from_souper.py: {fault}", file=sys.stderr)
         sys.exit(2)

@@ -2,7 +2,7 @@
 # The mapper for Hadoop and Spark: writes a line for each item of files, `; KEY`, a tab, and the canonical text with a tab in
 # place of each newline. (A canonical text has no tab.) Equal lines are the same graph.
 #
-#     lines.sh [--rename] KIND
+#     lines.sh [--lhs-key] [--rename] KIND
 #
 # On standard input it takes names of files, one a line. A name with a scheme, as hdfs://HOST/PATH, is read by `hadoop fs -cat`.
 # $SOUPER_ITEMS is the program (souper_items).

@@ -2,7 +2,9 @@
 # Writes the records of the items of a harvest, by many processes: of each item `; KEY`, a newline, its canonical text, NUL.
 # They are in the order of the names of the files, as one process would write them.
 #
-#     records.sh [--rename] KIND FOLDER         the items of FOLDER/*.KIND, and of folders in it; KIND: lhs, rhs, rep
+#     records.sh [--lhs-key] [--rename] KIND FOLDER     the items of FOLDER/*.KIND, and of folders in it; KIND: lhs, rhs, rep
+#
+# With --lhs-key, of `rep` alone, a record begins with the key of its left-hand side, by which `ask.sh` finds it in a store.
 #
 # A process reads whole files, so that it finds where each item ends. What is set by the environment:
 #
@@ -16,7 +18,7 @@
 # The status is 0 if that of each process was 0. If a file is refused, the items before its bad one have their records, and
 # so have all other files.
 set -o pipefail
-[ $# -ge 2 ] || { echo "usage: records.sh [--rename] KIND FOLDER" >&2; exit 2; }
+[ $# -ge 2 ] || { echo "usage: records.sh [--lhs-key] [--rename] KIND FOLDER" >&2; exit 2; }
 here=$(cd "$(dirname "$0")" && pwd) options=("${@:1:$#-1}") kind=${*: -2:1} folder=${*: -1}
 cd "$folder" || exit 2
 . "$here/hosts.sh"

@@ -1,7 +1,7 @@
 #!/bin/bash
 # Adds a harvest to a Redis server: of each graph a hash KIND:KEY with the canonical text and in how many items it is.
 #
-#     redis.sh PORT [--rename] KIND FOLDER
+#     redis.sh PORT [--lhs-key] [--rename] KIND FOLDER
 #
 # Records are added as they come, without a sort. Arguments, environment and status are those of records.sh.
 set -o pipefail

@@ -1,7 +1,7 @@
 #!/bin/bash
 # Adds a harvest to an SQLite file: of each graph the key, the canonical text, and in how many items it is.
 #
-#     sqlite.sh STORE [--rename] KIND FOLDER
+#     sqlite.sh STORE [--lhs-key] [--rename] KIND FOLDER
 #
 # All of the harvest is added, or nothing. Arguments, environment and status are those of records.sh; if a file is refused, the
 # items before its bad one are added. The records are counted before they are added, so that each graph is one row to add.

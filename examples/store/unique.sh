@@ -1,7 +1,7 @@
 #!/bin/bash
-# Writes the keyed records of a harvest without duplicates, in the order of their keys.
+# Writes the keyed records of a harvest without duplicates, in the order of their keys; with --lhs-key, of those of left-hand sides.
 #
-#     unique.sh [--rename] KIND FOLDER
+#     unique.sh [--lhs-key] [--rename] KIND FOLDER
 #
 # Each record has a NUL after it. Arguments, environment and status are those of records.sh.
 set -o pipefail

@@ -1,0 +1,67 @@
+#!/bin/bash
+# Writes what replaces the left-hand sides of files, by the replacements of a store that was filled with --lhs-key.
+#
+#     ask.sh sqlite STORE [OPTION...] FILE...
+#     ask.sh redis PORT [OPTION...] FILE...
+#     ask.sh postgres [OPTION...] FILE...           the environment says which database, as to psql
+#
+# The store is asked once, for what is under the keys of all these left-hand sides. These candidates go into a temporary file, in the
+# order of their keys, and `souper_items find --in CANDIDATES OPTION... FILE...` decides which of them match, and writes the answers.
+# So an OPTION is one of `find`, such as --first; a value follows it after `=`. Nothing of the store is held in memory but the
+# candidates. A left-hand side whose key the store has not gets no answer. Files are read twice, so none is a pipe.
+#
+# $SOUPER_ITEMS is the program (souper_items). The status is that of `find`, or 2 if the store could not be read: then nothing is written.
+set -o pipefail
+usage() { sed -n 's/^#     \(ask.sh.*\)/usage: \1/p' "$0" >&2 && exit 2; }
+kind=$1 store=$2 options=() going=()
+case $kind in
+sqlite | redis) [ $# -ge 2 ] && shift 2 || usage ;;
+postgres) shift ;;
+*) usage ;;
+esac
+while [[ $1 == -?* ]]; do
+    case $1 in --keep-going | -[!-]*k* | -k*) going=(--keep-going) ;; esac
+    options+=("$1") && shift
+done
+[ $# -ge 1 ] || usage
+for file in "$@"; do [ "$file" != - ] || usage; done
+program=${SOUPER_ITEMS:-souper_items}
+folder=$(mktemp -d) || exit 2
+trap 'rm -rf "$folder"' EXIT
+
+# Writes the texts of the replacements whose left-hand sides have these keys, of which each is a line of standard input.
+candidates() {
+    case $kind in
+    sqlite)
+        {
+            echo 'CREATE TEMPORARY TABLE wanted(hash TEXT PRIMARY KEY); BEGIN;'
+            sed "s/.*/INSERT INTO wanted VALUES ('&');/"
+            echo 'COMMIT; SELECT text FROM item WHERE key IN (SELECT key FROM wanted JOIN lhs USING (hash)) ORDER BY key;'
+        } | sqlite3 -bail -readonly -list -noheader "$store"
+        ;;
+    redis)
+        redis-cli -p "$store" ping >/dev/null || return 1
+        { sed 's/.*/SORT left:& ALPHA GET *->text/' && echo "ECHO '$LAST'"; } | redis-cli -p "$store"
+        ;;
+    postgres)
+        {
+            printf '%s\n' 'CREATE TEMPORARY TABLE wanted(hash TEXT PRIMARY KEY);' 'COPY wanted FROM STDIN;'
+            cat
+            printf '%s\n' '\.' 'SELECT text FROM item WHERE key IN (SELECT key FROM wanted JOIN lhs USING (hash)) ORDER BY key COLLATE "C";'
+        } | psql -qXAt -v ON_ERROR_STOP=1 -v FETCH_COUNT=1000
+        ;;
+    esac
+}
+
+# redis-cli goes on where the connection ends, and its status is 0; so the last answer is a comment of its own.
+LAST='; the last candidate'
+is_whole() { [ "$kind" != redis ] || [ "$(tail -n 1 "$folder/candidates.rep")" = "$LAST" ]; }
+
+# Errors of a file are reported by `find`, which reads it again.
+"$program" format -z --key --rename "${going[@]}" lhs "$@" 2>"$folder/errors" | tr '\n\0' ' \n' | cut -c 3-66 | LC_ALL=C sort -u >"$folder/keys"
+read_status=$?
+{ candidates <"$folder/keys" >"$folder/candidates.rep" && is_whole; } || { echo "ask.sh: the store was not read" >&2; exit 2; }
+"$program" find --in "$folder/candidates.rep" "${options[@]}" "$@"
+status=$?
+[ $status -ge $read_status ] || { cat "$folder/errors" >&2; exit $read_status; }
+exit $status
