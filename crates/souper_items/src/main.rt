@@ -116,13 +116,13 @@ impl<'s, W: Write, E: Write> Session<'s, W, E> {
         reader: &mut R,
         name: &str,
     ) -> u8 {
+        let options = self.options(output, name);
+        let (store, out, err) = (&self.store, &mut self.out, &mut self.err);
         let search = Search {
-            store: &self.store,
+            store,
             choice,
             output,
         };
-        let options = self.options(output, name);
-        let (out, err) = (&mut self.out, &mut self.err);
         find_run::<R, W, E>(self.rt.alloc(), search, options, reader, out, err)
     }
 

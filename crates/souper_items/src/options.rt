@@ -400,14 +400,6 @@ fn read_kind(action: Action, options: &ArgMatches<'_>) -> Option<Kind> {
     }
 }
 
-// The paths of the store's replacements.
-fn read_stores<'m, 'a>(action: Action, options: &'m ArgMatches<'a>) -> &'m [&'a str] {
-    match action {
-        Action::Find { .. } => options.get_strs("in").unwrap_or_default(),
-        _ => &[],
-    }
-}
-
 /// What the matches ask for.
 pub(crate) fn read_task<'m, 'a>(matches: &'m ArgMatches<'a>) -> Option<Task<'m, 'a>> {
     let (name, options) = matches.subcommand()?;
@@ -420,7 +412,7 @@ pub(crate) fn read_task<'m, 'a>(matches: &'m ArgMatches<'a>) -> Option<Task<'m, 
         line_buffered: !is_check && options.get_flag("line-buffered"),
         color: read_color(options),
         quiet: options.get_flag("quiet"),
-        stores: read_stores(action, options),
+        stores: options.get_strs("in").unwrap_or_default(),
         files: options.get_strs("FILE").unwrap_or_default(),
     })
 }
