@@ -6,7 +6,7 @@ _souper_items_operands() {
     for ((i = 2; i < COMP_CWORD; i++)); do
         word=${COMP_WORDS[i]}
         case $word in
-        --color)
+        --color | --in)
             ((i++))
             [[ ${COMP_WORDS[i]} == = ]] && ((i++))
             ;;
@@ -21,15 +21,16 @@ _souper_items() {
     local shared='-h --help --color -q --quiet'
     COMPREPLY=()
     if [[ $COMP_CWORD -eq 1 ]]; then
-        mapfile -t COMPREPLY < <(compgen -W 'format uniq check help -h --help -V --version' -- "$word")
+        mapfile -t COMPREPLY < <(compgen -W 'format uniq find check help -h --help -V --version' -- "$word")
         return
     fi
     case ${COMP_WORDS[1]} in
-    format | each) options="$shared -z --null --key --rename -k --keep-going --line-buffered --json -w --write --force" ;;
+    format | each) options="$shared -z --null --key --rename -k --keep-going --line-buffered --json --lhs-key -w --write --force" ;;
     uniq) options="$shared -z --null --key --rename -k --keep-going --line-buffered -c --count -d --repeated" ;;
+    find) options="$shared -z --null --key --rename -k --keep-going --line-buffered --in --first --unanswered --json" ;;
     check) options="$shared --diff" ;;
     help)
-        [[ $COMP_CWORD -eq 2 ]] && mapfile -t COMPREPLY < <(compgen -W 'format uniq check' -- "$word")
+        [[ $COMP_CWORD -eq 2 ]] && mapfile -t COMPREPLY < <(compgen -W 'format uniq find check' -- "$word")
         return
         ;;
     *) return ;;
@@ -44,7 +45,7 @@ _souper_items() {
         mapfile -t COMPREPLY < <(compgen -W 'auto always never' -- "$word")
     elif [[ $word == -* ]]; then
         mapfile -t COMPREPLY < <(compgen -W "$options" -- "$word")
-    elif [[ -z $(_souper_items_operands) ]]; then
+    elif [[ ${COMP_WORDS[1]} != find && -z $(_souper_items_operands) ]]; then
         mapfile -t COMPREPLY < <(compgen -W 'lhs rhs rep' -- "$word")
     else
         compopt -o filenames 2>/dev/null

@@ -59,7 +59,7 @@ class Shell:
 
 def option_cases():
     """Each long option of each command, as --help prints them."""
-    for command in ("format", "each", "uniq", "check"):
+    for command in ("format", "each", "uniq", "find", "check"):
         printed = subprocess.run(["souper_items", command, "--help"], stdout=subprocess.PIPE, text=True, check=True).stdout
         options = re.findall(r"^ .*?(--[a-z-]+)", printed, re.MULTILINE)
         assert "--help" in options and "--color" in options, printed
@@ -70,6 +70,7 @@ def option_cases():
 CASES = [
     ("souper_items for", "souper_items format "),
     ("souper_items un", "souper_items uniq "),
+    ("souper_items fi", "souper_items find "),
     ("souper_items che", "souper_items check "),
     ("souper_items hel", "souper_items help "),
     ("souper_items --vers", "souper_items --version "),
@@ -86,6 +87,9 @@ CASES = [
     ("souper_items check lhs harvest.lhs th", "souper_items check lhs harvest.lhs the\\ other.lhs "),
     ("souper_items format lhs har --wri", "souper_items format lhs har --write "),
     ("souper_items format lhs fold", "souper_items format lhs folder/"),
+    ("souper_items find --unan", "souper_items find --unanswered "),
+    ("souper_items find --in har", "souper_items find --in harvest.lhs "),
+    ("souper_items find --in harvest.lhs th", "souper_items find --in harvest.lhs the\\ other.lhs "),
     ("souper_items nothing l", "souper_items nothing l"),
     ("souper_fmt l", "souper_fmt lhs "),
     ("souper_fmt sa", "souper_fmt same "),

@@ -17,7 +17,7 @@ page() { # program: its page is found, without a warning, and has the options of
     text=$(MANWIDTH=200 man --warnings "$1" 2>"$1.warnings" | col -b) && [ ! -s "$1.warnings" ] || { cat "$1.warnings" && return 1; }
     grep -q "^SYNOPSIS" <<<"$text" || return 1
     [ "$1" = souper_fmt ] && return
-    for command in format uniq check; do
+    for command in format uniq find check; do
         for option in $(souper_items $command --help | grep -o '^ .*--[a-z-]*' | grep -o -- '--[a-z-]*'); do
             grep -q -- "$option" <<<"$text" || { echo "the page has no $option" && return 1; }
         done
