@@ -20,11 +20,14 @@ postgres) shift ;;
 *) usage ;;
 esac
 while [[ $1 == -?* ]]; do
-    case $1 in --keep-going | -[!-]*k* | -k*) going=(--keep-going) ;; esac
+    case $1 in --keep-going | --json | --jsonl | -[!-]*k* | -k*) going=(--keep-going) ;; esac
     options+=("$1") && shift
 done
 [ $# -ge 1 ] || usage
-for file in "$@"; do [ "$file" != - ] || usage; done
+for file in "$@"; do
+    [ "$file" != - ] || usage
+    [ ! -p "$file" ] || { echo "ask.sh: $file is a pipe, and files are read twice" >&2; exit 2; }
+done
 program=${SOUPER_ITEMS:-souper_items}
 folder=$(mktemp -d) || exit 2
 trap 'rm -rf "$folder"' EXIT
@@ -41,7 +44,7 @@ candidates() {
         ;;
     redis)
         redis-cli -p "$store" ping >/dev/null || return 1
-        { sed 's/.*/SORT left:& ALPHA GET *->text/' && echo "ECHO '$LAST'"; } | redis-cli -p "$store"
+        { sed 's/.*/SORT left:rep:& ALPHA GET *->text/' && echo "ECHO '$LAST'"; } | redis-cli -e -p "$store"
         ;;
     postgres)
         {
@@ -59,7 +62,8 @@ is_whole() { [ "$kind" != redis ] || [ "$(tail -n 1 "$folder/candidates.rep")" =
 
 # Errors of a file are reported by `find`, which reads it again.
 "$program" format -z --key --rename "${going[@]}" lhs "$@" 2>"$folder/errors" | tr '\n\0' ' \n' | cut -c 3-66 | LC_ALL=C sort -u >"$folder/keys"
-read_status=$?
+statuses=("${PIPESTATUS[@]}") read_status=$?
+[[ "${statuses[*]:1}" == "0 0 0" ]] || { echo "ask.sh: the keys were not written" >&2; exit 2; }
 { candidates <"$folder/keys" >"$folder/candidates.rep" && is_whole; } || { echo "ask.sh: the store was not read" >&2; exit 2; }
 "$program" find --in "$folder/candidates.rep" "${options[@]}" "$@"
 status=$?

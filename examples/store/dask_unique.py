@@ -21,7 +21,7 @@ def counts_of(path, words):
     """How many items of a file have each record, by the first digit of the key; and why the file is refused, if it is."""
     command = [os.environ.get("SOUPER_ITEMS", "souper_items"), "format", "-z", "--key", *words, str(path)]
     found = subprocess.run(command, stdout=subprocess.PIPE, stderr=subprocess.PIPE, check=False)
-    if found.returncode > 1:
+    if found.returncode not in (0, 1):
         raise OSError(found.stderr.decode(errors="replace"))
     counts = {digit: {} for digit in DIGITS}
     for record in found.stdout.split(b"\0")[:-1]:

@@ -71,7 +71,7 @@ def objects(path, options):
     """What the program says of the replacements of a file."""
     command = [PROGRAM, "format", "--json", *options, "rep", path]
     found = subprocess.run(command, stdout=subprocess.PIPE, stderr=subprocess.PIPE, check=False)
-    if found.returncode > 1:
+    if found.returncode not in (0, 1):
         raise OSError(found.stderr.decode(errors="replace").strip())
     return [json.loads(line) for line in found.stdout.splitlines()]
 

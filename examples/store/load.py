@@ -2,7 +2,8 @@
 """Turns keyed records into the commands that add them to a store. Reads standard input, writes standard output.
 
     load.py redis PREFIX | redis-cli --pipe        a hash PREFIX:KEY for each key, with the fields `text` and `count`; a set
-                                                   left:HEX for each left-hand side, with the names PREFIX:KEY of what replaces it
+                                                   left:PREFIX:HEX for each left-hand side, with the names PREFIX:KEY of what
+                                                   replaces it
     load.py sqlite | sqlite3 -bail STORE           the tables item(key TEXT PRIMARY KEY, text TEXT, count INTEGER) and
                                                    lhs(hash TEXT, key TEXT, PRIMARY KEY(hash, key))
     load.py postgres FILE | psql -q                the same tables of a database with table.sql, unless its table
@@ -57,7 +58,7 @@ def redis(prefix):
         yield command(b"HSETNX", name, b"text", text)
         yield command(b"HINCRBY", name, b"count", b"%d" % count)
         if left:
-            yield command(b"SADD", b"left:" + left, name)
+            yield command(b"SADD", b"left:" + prefix.encode() + b":" + left, name)
 
 
 def sqlite():
