@@ -35,6 +35,10 @@ abbrev pub renames : Output → Bool
 renames (Records l) = l.rename
 renames (Objects rename) = rename
 
+-- the texts of instances of these entries
+abbrev pub HaveTexts : Bool → Item → List Entry → List (List ℕ) → Type 0
+HaveTexts rename q entries texts = (items : List Item) × AreInstances q (replacements_of entries) items × (texts ≡ map (text_by rename) items)
+
 -- the texts that are written for a left-hand side
 abbrev pub AreTexts : Choice → Output → List Entry → Item → List (List ℕ) → Type 0
 AreTexts c output entries q texts = (items : List Item) × AreChosen c entries q items × (texts ≡ map (text_by (renames output)) items)

@@ -1,18 +1,20 @@
 //! The texts that are written for a left-hand side.
 
-ghost use Rattle.std.specs.Prelude.{◌≡◌, List, map, IfOk};
+ghost use Rattle.std.specs.Prelude.{◌≡◌, List, map, take, IfOk};
 ghost use Rattle.std.specs.List.{AllByRecursion};
 ghost use Rattle.std.specs.String.{string_bytes};
 ghost use Rattle.souper_graph.specs.View.{view_left_hand_side, view_replacement};
 ghost use Rattle.souper_graph.specs.WellFormed.{WellFormed};
-ghost use Rattle.souper_lookup.specs.Stored.{Entry, answers, Stores};
+ghost use Rattle.souper_graph.specs.Renaming.{renamed};
+ghost use Rattle.souper_lookup.specs.Stored.{Entry, key_of, answers, Stores};
 ghost use Rattle.souper_records.specs.Uniques.{text_by};
-ghost use Rattle.souper_find.specs.Answers.{if_unanswered, AreTexts};
+ghost use Rattle.souper_find.specs.Answers.{if_unanswered, HaveTexts, AreTexts};
 
 use crate::search::{Choice, Search};
 use souper_ir::ast::{LeftHandSide, Replacement};
 use souper_ir::stringify::TextError;
-use souper_lookup::find::{find, find_at_most};
+use souper_lookup::find::find_by_key;
+use souper_lookup::keys::key_in_place;
 use souper_lookup::store::Store;
 use souper_records::records::push_last_text;
 use std::alloc::Global;
@@ -40,20 +42,37 @@ fn texts_of(alloc: Global, rename: bool, items: &[Replacement]) -> Result<Vec<St
     Ok(texts)
 }
 
-// The text of a left-hand side that has no answer, and is dropped then. `text` is for it.
+// The texts of the first answers, at most `limit`, to a left-hand side that has this key.
+fn found_texts(
+    alloc: Global,
+    rename: bool,
+    store: &Store,
+    query: &LeftHandSide,
+    key: &String,
+    limit: usize,
+) -> Result<Vec<String>, TextError>
+    ensures { WellFormed (view_left_hand_side query.now) → WellFormed (renamed (view_left_hand_side query.now)) → string_bytes key.now ≡ key_of (view_left_hand_side query.now)
+        → (entries : List Entry) → Stores entries store.now → IfOk result (λ texts. HaveTexts rename (view_left_hand_side query.now) (take limit (answers (view_left_hand_side query.now) entries)) (map string_bytes texts.items)) }
+{
+    let found = find_by_key(alloc, store, query, key, limit)?;
+    texts_of(alloc, rename, &found)
+}
+
+// The text of a left-hand side that has this key, and no answer, and is dropped then. `text` is for it.
 fn unanswered_texts(
     alloc: Global,
     rename: bool,
     store: &Store,
     query: &mut LeftHandSide,
+    key: &String,
     text: &mut String,
 ) -> Result<Vec<String>, TextError>
     requires { WellFormed (view_left_hand_side query.old) }
-    ensures { (entries : List Entry) → Stores entries store.now
+    ensures { string_bytes key.now ≡ key_of (view_left_hand_side query.old) → (entries : List Entry) → Stores entries store.now
         → IfOk result (λ texts. map string_bytes texts.items ≡ map (text_by rename) (if_unanswered (view_left_hand_side query.old) (answers (view_left_hand_side query.old) entries))) }
 {
     let mut texts = Vec::new(alloc);
-    if !store.get(query)?.is_empty() {
+    if !store.get_by_key(key)?.is_empty() {
         return Ok(texts);
     }
     push_last_text(alloc, rename, query, text, &mut texts)?;
@@ -71,15 +90,11 @@ pub(crate) fn texts_for(
     ensures { (entries : List Entry) → Stores entries search.entry.store.now → IfOk result (λ texts. AreTexts search.entry.choice search.entry.output entries (view_left_hand_side query.old) (map string_bytes texts.items)) }
 {
     let rename = search.output.renames();
+    let store = search.store;
+    let key = key_in_place(alloc, query)?;
     match search.choice {
-        Choice::All => {
-            let found = find(alloc, search.store, query)?;
-            texts_of(alloc, rename, &found)
-        }
-        Choice::First => {
-            let found = find_at_most(alloc, search.store, query, 1)?;
-            texts_of(alloc, rename, &found)
-        }
-        Choice::Unanswered => unanswered_texts(alloc, rename, search.store, query, text),
+        Choice::All => found_texts(alloc, rename, store, query, &key, store.stored().len()),
+        Choice::First => found_texts(alloc, rename, store, query, &key, 1),
+        Choice::Unanswered => unanswered_texts(alloc, rename, store, query, &key, text),
     }
 }

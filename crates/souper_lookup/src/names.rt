@@ -1,10 +1,12 @@
 //! The names that an answer has: the names of a left-hand side, and then free numbers.
 
-ghost use Rattle.std.specs.Prelude.{◌≡◌, ◌≤◌, map, length, IfOk};
+ghost use Rattle.std.specs.Prelude.{◌≡◌, ◌≤◌, map, length, IfOk, OnOk};
 ghost use Rattle.std.specs.String.{string_bytes};
 ghost use Rattle.souper_graph.specs.Text.{name_at};
 ghost use Rattle.souper_graph.specs.View.{view_statement};
-ghost use Rattle.souper_lookup.specs.Instance.{AreNames, AreExtended, HasSameElements};
+ghost use Rattle.souper_graph.specs.Order.{Distinct};
+ghost use Rattle.souper_graph.specs.Renaming.{with_name};
+ghost use Rattle.souper_lookup.specs.Instance.{AreNames, AreExtended, HasSameElements, listed_from};
 
 use indexmap::IndexSet;
 use souper_graph::ast::{Arena, Id, Statement};
@@ -26,8 +28,8 @@ pub(crate) fn names_for(
     Ok(all)
 }
 
-// The names of the statements at these positions, in order.
-fn names_of(
+/// The names of the statements at these positions, in order.
+pub(crate) fn names_of(
     alloc: Global,
     statements: &Arena<Statement>,
     ids: &[Id<Statement>],
@@ -98,4 +100,32 @@ fn add_numbers(
         }
     }
     Err(AllocError)
+}
+
+/// Each statement of the list gets the name at its index there. The buffers of the old names stay.
+pub(crate) fn put_names(
+    statements: &mut Arena<Statement>,
+    ids: &[Id<Statement>],
+    names: &[String],
+) -> Result<(), AllocError>
+    requires { length ids.now ≤ length names.now }
+    ensures { Distinct ids.now → OnOk result (map view_statement statements.new ≡ listed_from (map string_bytes names.now) ids.now 0 (map view_statement statements.old)) }
+{
+    for (index, id) in ids.iter().enumerate() {
+        if let Some(statement) = statements.get_mut(*id) {
+            put_name(statement, &names[index])?;
+        }
+    }
+    Ok(())
+}
+
+// A path condition has no name.
+fn put_name(statement: &mut Statement, name: &String) -> Result<(), AllocError>
+    ensures { OnOk result (view_statement statement.new ≡ with_name (string_bytes name.now) (view_statement statement.old)) }
+{
+    if let Statement::Assignment(assignment) = statement {
+        assignment.name.clear();
+        assignment.name.push_str(name.as_str())?;
+    }
+    Ok(())
 }
