@@ -42,11 +42,6 @@ use terminal::Terminal;
 
 const STANDARD_INPUT: &str = "(standard input)";
 
-const WRITE_USAGE: &[u8] =
-    b"error: the argument '--write' needs files, and standard input is none\n";
-
-const KEY_USAGE: &[u8] = b"error: the argument '--lhs-key' needs replacements (rep)\n";
-
 // How many bytes are asked for at a time: as many as a pipe of Linux holds.
 const CAPACITY: usize = 1 << 16;
 
@@ -344,12 +339,8 @@ fn run_matches(rt: &HostRuntime, matches: &ArgMatches<'_>) -> u8 {
         Ok(terminal) => Watched::new(terminal),
         Err(_) => return out_of_memory(&mut Watched::new(rt.stderr())),
     };
-    if !task.has_files() {
-        let _ = err.write_all(WRITE_USAGE);
-        return 2;
-    }
-    if !task.has_left_hand_sides() {
-        let _ = err.write_all(KEY_USAGE);
+    if let Some(fault) = task.fault() {
+        let _ = err.write_all(fault);
         return 2;
     }
     Session {

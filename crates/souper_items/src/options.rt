@@ -99,23 +99,30 @@ const FIND_EXAMPLE: &str = "Example: souper_items find --in learned.rep harvest.
 
 const CHECK_EXAMPLE: &str = "Example: souper_items check --diff lhs *.lhs | patch -p1";
 
-impl Task<'_, '_> {
-    /// Whether the items are replacements, if the keys of their left-hand sides are asked for.
-    pub(crate) fn has_left_hand_sides(&self) -> bool {
-        match self.action {
-            Action::Keyed(_) => matches!(self.kind, Kind::Rep),
-            _ => true,
-        }
-    }
+const WRITE_USAGE: &[u8] =
+    b"error: the argument '--write' needs files, and standard input is none\n";
 
-    /// Whether there are files to write to, if any are to be written to.
-    pub(crate) fn has_files(&self) -> bool {
+const STORE_USAGE: &[u8] = b"error: the argument '--in' needs a file, and standard input is none\n";
+
+const KEY_USAGE: &[u8] = b"error: the argument '--lhs-key' needs replacements (rep)\n";
+
+impl Task<'_, '_> {
+    /// The line that says what is wrong with the arguments together, if something is.
+    pub(crate) fn fault(&self) -> Option<&'static [u8]> {
         match self.action {
-            Action::Write { .. } => !self.files.is_empty()
-                && self.files.iter().all(|path| *path != "-"),
-            _ => true,
+            Action::Write { .. } if self.files.is_empty() || has_input(self.files) => {
+                Some(WRITE_USAGE)
+            }
+            Action::Find { .. } if has_input(self.stores) => Some(STORE_USAGE),
+            Action::Keyed(_) if !matches!(self.kind, Kind::Rep) => Some(KEY_USAGE),
+            _ => None,
         }
     }
+}
+
+// Whether standard input is among the paths.
+fn has_input(paths: &[&str]) -> bool {
+    paths.iter().any(|path| *path == "-")
 }
 
 fn kind_arg<'a>(alloc: Global) -> Arg<'a> {
@@ -257,22 +264,22 @@ fn store_arg<'a>(alloc: Global) -> Arg<'a> {
         .value_name("STORE")
         .required(true)
         .action(ArgAction::Append)
-        .help("A file of the replacements that the store has; may be given again")
+        .help("A file of replacements to search; may be given again")
 }
 
 fn find<'a>(alloc: Global) -> Result<Command<'a>, AllocError> {
     writer(
         alloc,
         "find",
-        "Writes what replaces each left-hand side: the replacements of a store that have it, in its names",
+        "Writes the replacements of each left-hand side, with its names",
         line_buffered_arg(alloc),
     )?
     .after_help(FIND_EXAMPLE)
     .arg(store_arg(alloc))?
-    .arg(flag(alloc, "first").help("Write the first replacement of each alone"))?
+    .arg(flag(alloc, "first").help("Write only the first replacement of each left-hand side"))?
     .arg(
         flag(alloc, "unanswered")
-            .help("Write the left-hand sides that no replacement has instead")
+            .help("Write only the left-hand sides without a replacement")
             .conflicts_with("first")?,
     )?
     .arg(json_arg(

@@ -4,7 +4,7 @@ use Rattle.souper_graph.specs.Values.{Item}
 use Rattle.souper_graph.specs.View.{view_left_hand_side, view_replacement}
 use Rattle.souper_lookup.specs.declared.store.Stored.{Stored}
 use Rattle.souper_lookup.specs.Instance.{AreInstances}
-use Rattle.souper_lookup.specs.Stored.{Entry, view_stored, answers, IsAnswer}
+use Rattle.souper_lookup.specs.Stored.{view_stored, answers, IsAnswer}
 use Rattle.souper_lookup.proofs.Answering.{answered, all-taken, first-replacements}
 use Rattle.souper_lookup.proofs.find.find_by_key.Goals as goal
 

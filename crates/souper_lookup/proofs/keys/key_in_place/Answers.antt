@@ -2,7 +2,7 @@ use Rattle.std.proofs.Common.{◌≡◌, ℕ, List, length, map, sym, ap, ◌∙
 use Rattle.std.proofs.lemmas.List.{length-map}
 use Rattle.std.proofs.lemmas.Result.{err_from_is_err_and}
 use Rattle.std.specs.String.{string_bytes}
-use Rattle.souper_graph.specs.Values.{PlainStatement, Ending, Item}
+use Rattle.souper_graph.specs.Values.{Item}
 use Rattle.souper_graph.specs.View.{view_statement, view_left_hand_side}
 use Rattle.souper_graph.specs.Text.{name_at}
 use Rattle.souper_graph.specs.Order.{Distinct, printed_order}
