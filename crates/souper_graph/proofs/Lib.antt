@@ -5,6 +5,8 @@ pub mod Conditions
 pub mod Order
 pub mod Judging
 pub mod RoundTrip
+pub mod Lefts
+pub mod Results
 pub mod Texts
 pub mod Lookups
 pub mod FlawSearch

@@ -5,6 +5,7 @@ pub mod Indices
 pub mod PrintedOrder
 pub mod Renumbered
 pub mod Nameless
-pub mod Renaming
+pub mod Named
 pub mod Naming
+pub mod Renaming
 pub mod Renamed

@@ -16,6 +16,7 @@ pub mod Faults
 pub mod WellFormed
 pub mod Sameness
 pub mod Renaming
+pub mod LeftSides
 pub mod Syntax
 pub mod CanonicalText
 pub mod ItemText

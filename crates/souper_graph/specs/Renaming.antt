@@ -1,5 +1,5 @@
 -- Definitions. Items without their names, and items that are named by their printed order.
-use Rattle.std.specs.Prelude.{◌≡◌, ℕ, suc, List, [], ◌∷◌, ◌++◌, map, length, codes, decimal, if◌then◌else◌, nat_lt}
+use Rattle.std.specs.Prelude.{◌≡◌, ℕ, suc, List, [], ◌∷◌, ◌++◌, map, length, codes, decimal, if◌then◌else◌, nat_lt, get_or}
 use Rattle.souper_graph.specs.Values.{PlainStatement, assigned, condition, block_condition, Item}
 use Rattle.souper_graph.specs.Uses.{UsesBelow}
 use Rattle.souper_graph.specs.Order.{printed_order}
@@ -26,22 +26,26 @@ SameUpToNames a b = SameGraph (nameless a) (nameless b)
 abbrev pub name_of_index : ℕ → List ℕ
 name_of_index k = codes "%" ++ decimal k
 
--- the statement at position i, with the name of its index if the list has the position
-abbrev pub named_at : List ℕ → ℕ → PlainStatement → PlainStatement
-named_at ids i s = if nat_lt (place ids i) (length ids) then with_name (name_of_index (place ids i)) s else s
+-- the name at an index of a list, empty past its end
+abbrev pub name_in : List (List ℕ) → ℕ → List ℕ
+name_in names k = get_or names k []
+
+-- the statement at position i, with the name of its index if the list has the position; `name` says which name an index has
+abbrev pub named_at : (ℕ → List ℕ) → List ℕ → ℕ → PlainStatement → PlainStatement
+named_at name ids i s = if nat_lt (place ids i) (length ids) then with_name (name (place ids i)) s else s
 
 -- each of these statements, of which the first is at position i
-abbrev pub named_from : List ℕ → ℕ → List PlainStatement → List PlainStatement
-named_from ids i [] = []
-named_from ids i (s ∷ ss) = named_at ids i s ∷ named_from ids (suc i) ss
+abbrev pub named_from : (ℕ → List ℕ) → List ℕ → ℕ → List PlainStatement → List PlainStatement
+named_from name ids i [] = []
+named_from name ids i (s ∷ ss) = named_at name ids i s ∷ named_from name ids (suc i) ss
 
 -- each statement of the list has the name of its index there; statements keep their positions, and others their names
-abbrev pub named_by : List ℕ → Item → Item
-named_by ids a = record { statements = named_from ids 0 a.statements; ending = a.ending }
+abbrev pub named_by : (ℕ → List ℕ) → List ℕ → Item → Item
+named_by name ids a = record { statements = named_from name ids 0 a.statements; ending = a.ending }
 
 -- the needed statements are named by their indices in the printed order, in which path conditions count too
 abbrev pub renamed : Item → Item
-renamed a = named_by (printed_order a) a
+renamed a = named_by name_of_index (printed_order a) a
 
 -- the item with other statements
 abbrev pub with_statements : Item → List PlainStatement → Item
@@ -53,6 +57,6 @@ pub record IsRenamed (a b : Item) : Type 0 where
   pub lead : ℕ
   pub turns : ℕ
   pub ordered : IsPrintOrder a ids lead turns
-  pub named : b ≡ named_by ids a
+  pub named : b ≡ named_by name_of_index ids a
   pub by_printed_order : UsesBelow a → b ≡ renamed a
   pub well_formed : WellFormed a → WellFormed b

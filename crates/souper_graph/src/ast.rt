@@ -9,6 +9,7 @@ mod ids;
 mod instructions;
 mod item;
 mod items;
+mod left;
 mod lookup;
 mod operands;
 mod parts;

@@ -1,7 +1,8 @@
 //! Laws of the definitions that the contracts of this crate cite. No function here does anything.
 
-ghost use Rattle.std.specs.Prelude.{◌≡◌, ◌↔◌, ◌≤◌, ◌^◌, ℕ, IsTrue, List, length, map, Some, slice_get};
-ghost use Rattle.souper_graph.specs.Values.{condition, block_condition, Item as PlainItem};
+ghost use Rattle.std.specs.Prelude.{◌≡◌, ◌↔◌, ◌≤◌, ◌^◌, ℕ, IsTrue, List, length, map, take, Some, slice_get};
+ghost use Rattle.souper_graph.specs.declared.ast.operands.Operand.{Operand};
+ghost use Rattle.souper_graph.specs.Values.{PlainInfer, PlainCand, Ending, replaced, candidate, condition, block_condition, Item as PlainItem};
 ghost use Rattle.souper_graph.specs.WellFormed.{WellFormed, EachClosed};
 ghost use Rattle.souper_graph.specs.Text.{text_of, texts_of};
 ghost use Rattle.souper_graph.specs.CanonicalText.{AreWellFormed, AllNeeded, IsRearranged, HasConditionLines};
@@ -9,9 +10,10 @@ ghost use Rattle.souper_graph.specs.Syntax.Spelling.{ItemType, left_hand_side, r
 ghost use Rattle.souper_graph.specs.View.{view_left_hand_side, view_right_hand_side, view_replacement};
 ghost use Rattle.souper_graph.specs.Uses.{NeededIn, UsesBelow};
 ghost use Rattle.souper_graph.specs.Faults.{HasBadId};
-ghost use Rattle.souper_graph.specs.Order.{printed_order, uses_below};
+ghost use Rattle.souper_graph.specs.Order.{printed_order, lead_of, uses_below};
 ghost use Rattle.souper_graph.specs.Sameness.{OrdersNeeded, SameGraph, SameNeeded, renumbered};
 ghost use Rattle.souper_graph.specs.Renaming.{SameUpToNames, renamed};
+ghost use Rattle.souper_graph.specs.LeftSides.{infer_of, with_infer, by_result, ended_by, IsLeftOf, IsByResult, BeginsWith};
 
 use crate::ast::{
     BlockId, BlockPc, Id, Item, LeftHandSide, Pc, Replacement, RightHandSide, ValueId,
@@ -100,4 +102,31 @@ pub fn law_of_canonical_texts()
     ensures types { ((l : LeftHandSide) → IsEndingOf left_hand_side (view_left_hand_side l).ending)
         × ((r : RightHandSide) → IsEndingOf right_hand_side (view_right_hand_side r).ending)
         × ((r : Replacement) → IsEndingOf replacement (view_replacement r).ending) }
+{}
+
+/// The left-hand side of a replacement is well formed if the replacement is.
+///
+/// In the text of a replacement by a result its left-hand side comes first: `order` says so of the printed order, `text` of the text,
+/// `renamed_text` of the text with names by printed order, of at most 2^64 statements. `up_to_names`: the left-hand side stays the same
+/// graph up to names when the replacement is renamed.
+pub fn law_of_left_sides()
+    ensures well_formed { (l a : PlainItem) → IsLeftOf l a → WellFormed a → WellFormed l }
+    ensures order { (a : PlainItem) (i : PlainInfer) (r : Operand) → a.ending ≡ replaced i r → printed_order (with_infer a i) ≡ take (lead_of a) (printed_order a) }
+    ensures text { (a : PlainItem) (i : PlainInfer) (r : Operand) → a.ending ≡ replaced i r → BeginsWith (text_of (with_infer a i)) (text_of a) }
+    ensures up_to_names { (a : PlainItem) (i : PlainInfer) → SameUpToNames (with_infer a i) (with_infer (renamed a) i) }
+    ensures renamed_text { (a : PlainItem) (i : PlainInfer) (r : Operand) → a.ending ≡ replaced i r → WellFormed a → length (printed_order a) ≤ 2 ^ 64 → text_of (with_infer (renamed a) i) ≡ text_of (renamed (with_infer a i)) }
+{}
+
+/// A replacement by a result is well formed if the replacement is, and has its left-hand side.
+///
+/// Two replacements that are the same graph are so by a result too (`same`), and so it is up to names (`up_to_names`). Two cands are the
+/// same graph if and only if they are so by a result (`cands`, `cands_up_to_names`).
+pub fn law_of_results()
+    ensures well_formed { (a : PlainItem) (e : Ending) → by_result a.ending ≡ Some e → WellFormed a → WellFormed (ended_by a e) × (infer_of e ≡ infer_of a.ending) × IsByResult e }
+    ensures same { (a b : PlainItem) (d e : Ending) → by_result a.ending ≡ Some d → by_result b.ending ≡ Some e → SameGraph a b → SameGraph (ended_by a d) (ended_by b e) }
+    ensures up_to_names { (a b : PlainItem) (d e : Ending) → by_result a.ending ≡ Some d → by_result b.ending ≡ Some e → SameUpToNames a b → SameUpToNames (ended_by a d) (ended_by b e) }
+    ensures cands { (a b : PlainItem) (c k : PlainCand) (d e : Ending) → a.ending ≡ candidate c → b.ending ≡ candidate k → by_result a.ending ≡ Some d → by_result b.ending ≡ Some e
+        → SameGraph a b ↔ SameGraph (ended_by a d) (ended_by b e) }
+    ensures cands_up_to_names { (a b : PlainItem) (c k : PlainCand) (d e : Ending) → a.ending ≡ candidate c → b.ending ≡ candidate k → by_result a.ending ≡ Some d → by_result b.ending ≡ Some e
+        → SameUpToNames a b ↔ SameUpToNames (ended_by a d) (ended_by b e) }
 {}

@@ -13,6 +13,7 @@ mod numbers;
 mod order;
 mod renamed;
 mod text;
+mod texts;
 
 pub use context::DisplayWithContext;
 pub use errors::TextError;

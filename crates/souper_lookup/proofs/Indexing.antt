@@ -17,7 +17,7 @@ use Rattle.souper_graph.proofs.Sameness.Renumbered.{ordered}
 use Rattle.souper_graph.proofs.Sameness.Renaming.{graph-renamed, renamed-graph}
 use Rattle.souper_ir.proofs.Items.OneText.{one_text}
 use Rattle.souper_lookup.specs.Stored.{Entry, replacements_of, Storable, NoneIsSame, NoTwoAreSame, raised, has_key, left_key, indices_from, optional_list, elements_at, IsIndexOf}
-use Rattle.souper_lookup.proofs.Options.{some-is}
+use Rattle.std.proofs.lemmas.Option.{same_Some}
 use Rattle.souper_lookup.proofs.Strings.{place_of}
 use Rattle.souper_lookup.proofs.Grouping.{IsFiled}
 
@@ -171,7 +171,7 @@ found-same entries texts t n b all are s is at =
   where
     place-some : {X : Type 0} (p : X → Bool) (xs : List X) (i : ℕ) → position p xs ≡ Some i → (i ≡ position_or_len p xs) × (position_or_len p xs < length xs)
     place-some p xs i e = elim (cases_lt (position_or_len p xs) (length xs)) [
-      | inl lt ↦ (sym (some-is (ap (λ (b : Bool). cond b (Some (position_or_len p xs)) None) (sym (lt-ltb (position_or_len p xs) (length xs) lt)) ∙ e)), lt)
+      | inl lt ↦ (sym (same_Some _ _ (ap (λ (b : Bool). cond b (Some (position_or_len p xs)) None) (sym (lt-ltb (position_or_len p xs) (length xs) lt)) ∙ e)), lt)
       | inr le ↦ absurd (none (nat_lt (position_or_len p xs) (length xs)) (not-below le) e)
     ]
       where

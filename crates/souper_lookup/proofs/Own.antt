@@ -9,17 +9,17 @@ use Rattle.souper_graph.specs.Order.{printed_order}
 use Rattle.souper_graph.specs.WellFormed.{FitsStatement, WellFormed}
 use Rattle.souper_graph.specs.Text.{name_of, name_at}
 use Rattle.souper_graph.specs.Sameness.{SameGraph, place}
-use Rattle.souper_graph.specs.Renaming.{with_name, nameless, SameUpToNames, name_of_index, renamed}
+use Rattle.souper_graph.specs.Renaming.{with_name, nameless, SameUpToNames, renamed, name_in, name_of_index}
 use Rattle.souper_graph.proofs.Judging.Needed.{statement_at, well_formed_stands, in-conditions}
 use Rattle.souper_graph.proofs.Sameness.Indices.{place-inside, place-at, Has-at}
 use Rattle.souper_graph.proofs.Sameness.PrintedOrder.{is-condition, printed-once}
 use Rattle.souper_graph.proofs.Sameness.Renumbered.{ordered, order-carried, inside, needs, unneeded-graph, unneeded-same, renumbered-same, same-renumbered}
 use Rattle.souper_graph.proofs.Sameness.Renaming.{renamed-graph, renamed-there}
-use Rattle.souper_lookup.specs.Left.{infer_of, with_infer}
-use Rattle.souper_lookup.specs.Instance.{name_in, IsFresh, SameLeft, IsInstance}
+use Rattle.souper_graph.specs.LeftSides.{infer_of, with_infer}
+use Rattle.souper_lookup.specs.Instance.{IsFresh, SameLeft, IsInstance}
 use Rattle.souper_lookup.specs.Stored.{Storable}
-use Rattle.souper_lookup.proofs.Options.{some-is}
-use Rattle.souper_lookup.proofs.Lefts.{left-well, law-begins, place-left, own-left-same, own-renamed-well}
+use Rattle.std.proofs.lemmas.Option.{same_Some}
+use Rattle.souper_graph.proofs.Lefts.{left-well, law-begins, place-left, own-left-same, own-renamed-well}
 use Rattle.souper_lookup.proofs.Instances.{name-mapped, carried-name, rest-name}
 
 -- a statement that has a name is an assignment
@@ -75,7 +75,7 @@ module _ (q a : Item) (wq : WellFormed q) (rq : WellFormed (renamed q)) (s : Sto
   wl = left-well a i (ap infer_of s.ending) s.well_formed
 
   same-left : SameUpToNames q l
-  same-left = subst (λ (z : PlainInfer). SameUpToNames q (with_infer a z)) (some-is (sym h.line ∙ ap infer_of s.ending)) h.same
+  same-left = subst (λ (z : PlainInfer). SameUpToNames q (with_infer a z)) (same_Some _ _ (sym h.line ∙ ap infer_of s.ending)) h.same
 
   graph : SameGraph (renamed q) l
   graph =

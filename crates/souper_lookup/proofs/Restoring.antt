@@ -7,10 +7,9 @@ use Rattle.souper_graph.specs.Values.{PlainStatement}
 use Rattle.souper_graph.specs.Uses.{Has}
 use Rattle.souper_graph.specs.Text.{name_of, name_at}
 use Rattle.souper_graph.specs.Sameness.{place}
-use Rattle.souper_graph.specs.Renaming.{with_name, name_of_index, named_at, named_from}
+use Rattle.souper_graph.specs.Renaming.{with_name, name_in, named_at, named_from, name_of_index}
 use Rattle.souper_graph.proofs.Sameness.Indices.{at-place, place-front}
 use Rattle.souper_graph.proofs.Sameness.Nameless.{named-twice}
-use Rattle.souper_lookup.specs.Instance.{name_in, listed_at, listed_from}
 use Rattle.souper_lookup.proofs.Instances.{own-name, name-mapped}
 
 below : (m n : ℕ) → nat_lt m n ≡ true → m < n
@@ -20,10 +19,10 @@ module _ (whole : List PlainStatement) (ids : List ℕ) where
   abbrev names : List (List ℕ)
   names = map (name_at whole) ids
 
-  restored-at : (i : ℕ) (s : PlainStatement) → slice_get whole i ≡ Some s → listed_at names ids i (named_at ids i s) ≡ s
+  restored-at : (i : ℕ) (s : PlainStatement) → slice_get whole i ≡ Some s → named_at (name_in names) ids i (named_at name_of_index ids i s) ≡ s
   restored-at i s is = under (nat_lt (place ids i) (length ids)) refl
     where
-      under : (b : Bool) → nat_lt (place ids i) (length ids) ≡ b → listed_at names ids i (named_at ids i s) ≡ s
+      under : (b : Bool) → nat_lt (place ids i) (length ids) ≡ b → named_at (name_in names) ids i (named_at name_of_index ids i s) ≡ s
       under true e =
           let l = below (place ids i) (length ids) e in
           let there : Has ids i = place-front ids [] i (subst (λ (xs : List ℕ). place xs i < length ids) (sym (append-nil ids)) l) in
@@ -31,7 +30,7 @@ module _ (whole : List PlainStatement) (ids : List ℕ) where
           rw e (named-twice (name_in names (place ids i)) (name_of_index (place ids i)) s ∙ ap (λ (n : List ℕ). with_name n s) name ∙ own-name s)
       under false e = rw e refl
 
-  restored-from : (k : ℕ) (ss : List PlainStatement) → ((j : ℕ) (s : PlainStatement) → slice_get ss j ≡ Some s → slice_get whole (k + j) ≡ Some s) → listed_from names ids k (named_from ids k ss) ≡ ss
+  restored-from : (k : ℕ) (ss : List PlainStatement) → ((j : ℕ) (s : PlainStatement) → slice_get ss j ≡ Some s → slice_get whole (k + j) ≡ Some s) → named_from (name_in names) ids k (named_from name_of_index ids k ss) ≡ ss
   restored-from k [] h = refl
   restored-from k (s ∷ ss) h =
       let first = restored-at k s (subst (λ (i : ℕ). slice_get whole i ≡ Some s) (omega arith) (h 0 s refl)) in
@@ -39,5 +38,5 @@ module _ (whole : List PlainStatement) (ids : List ℕ) where
       λ i. first i ∷ rest i
 
 -- the names of the statements at these positions, put back after these statements were renamed
-pub restored : (ss : List PlainStatement) (ids : List ℕ) → listed_from (map (name_at ss) ids) ids 0 (named_from ids 0 ss) ≡ ss
+pub restored : (ss : List PlainStatement) (ids : List ℕ) → named_from (name_in (map (name_at ss) ids)) ids 0 (named_from name_of_index ids 0 ss) ≡ ss
 restored ss ids = restored-from ss ids 0 ss (λ j s e. subst (λ (i : ℕ). slice_get ss i ≡ Some s) (omega arith) e)

@@ -17,10 +17,10 @@ use Rattle.souper_graph.specs.Syntax.Spelling.{ItemType}
 use Rattle.souper_graph.proofs.Lists.{Has-left, Has-right, Has-cases}
 use Rattle.souper_graph.proofs.Judging.Needed.{well_formed_below}
 use Rattle.souper_graph.proofs.Sameness.Renaming.{renamed-again, renamed-alike}
-use Rattle.souper_lookup.specs.Left.{infer_of_operand, infer_of, by_result, by_result_operand, ended_by, IsByResult, IsByResultOf, IsSplitOf}
+use Rattle.souper_graph.specs.LeftSides.{infer_of_operand, infer_of, by_result, by_result_operand, ended_by, IsByResult, IsByResultOf, IsSplitOf}
 use Rattle.souper_lookup.specs.Stored.{Storable, IsStoredFormOf}
-use Rattle.souper_lookup.proofs.Options.{some-is}
-use Rattle.souper_lookup.proofs.Lefts.{needed-more}
+use Rattle.std.proofs.lemmas.Option.{same_Some}
+use Rattle.souper_graph.proofs.Lefts.{needed-more}
 
 -- ---- a cand by a result
 
@@ -208,14 +208,14 @@ module _ (l : LeftHandSide) (r : Operand) where
   pub joined-form : (a : Item) → IsSplitOf (view_left_hand_side l) r a → IsByResultOf together a
   joined-form a s = record {
     statements = ap (λ (x : Item). x.statements) s.left;
-    form = s.form ∙ ap (λ (x : PlainInfer). Some (replaced x r)) (some-is (ap (λ (x : Item). infer_of x.ending) (sym s.left)));
+    form = s.form ∙ ap (λ (x : PlainInfer). Some (replaced x r)) (same_Some _ _ (ap (λ (x : Item). infer_of x.ending) (sym s.left)));
   }
 
   pub joined-same : (a : Item) → IsSplitOf (view_left_hand_side l) r a → IsByResult a.ending → together ≡ a
   joined-same a s f =
       let j = joined-form a s in
       let own : by_result a.ending ≡ Some a.ending = ap by_result f.2 ∙ ap (λ (x : Ending). Some x) (sym f.2) in
-      let last : replaced (view_infer l.infer) r ≡ a.ending = some-is (sym j.form ∙ own) in
+      let last : replaced (view_infer l.infer) r ≡ a.ending = same_Some _ _ (sym j.form ∙ own) in
       λ k. record { statements = j.statements k; ending = last k }
 
 -- a constant is replaced

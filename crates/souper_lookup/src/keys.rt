@@ -6,7 +6,7 @@ ghost use Rattle.souper_graph.specs.declared.stringify.errors.TextError.TheVaria
 ghost use Rattle.souper_graph.specs.View.{view_left_hand_side, view_replacement};
 ghost use Rattle.souper_graph.specs.WellFormed.{WellFormed};
 ghost use Rattle.souper_graph.specs.Renaming.{renamed};
-ghost use Rattle.souper_lookup.specs.Left.{infer_of};
+ghost use Rattle.souper_graph.specs.LeftSides.{infer_of};
 ghost use Rattle.souper_lookup.specs.Stored.{key_of, IsLeftKey};
 
 use crate::left::left_hand_side;

@@ -5,8 +5,8 @@ ghost use Rattle.std.specs.String.{string_bytes};
 ghost use Rattle.souper_graph.specs.Text.{name_at};
 ghost use Rattle.souper_graph.specs.View.{view_statement};
 ghost use Rattle.souper_graph.specs.Order.{Distinct};
-ghost use Rattle.souper_graph.specs.Renaming.{with_name};
-ghost use Rattle.souper_lookup.specs.Instance.{AreNames, AreExtended, HasSameElements, listed_from};
+ghost use Rattle.souper_graph.specs.Renaming.{with_name, name_in, named_from};
+ghost use Rattle.souper_lookup.specs.Instance.{AreNames, AreExtended, HasSameElements};
 
 use indexmap::IndexSet;
 use souper_graph::ast::{Arena, Id, Statement};
@@ -109,7 +109,7 @@ pub(crate) fn put_names(
     names: &[String],
 ) -> Result<(), AllocError>
     requires { length ids.now ≤ length names.now }
-    ensures { Distinct ids.now → OnOk result (map view_statement statements.new ≡ listed_from (map string_bytes names.now) ids.now 0 (map view_statement statements.old)) }
+    ensures { Distinct ids.now → OnOk result (map view_statement statements.new ≡ named_from (name_in (map string_bytes names.now)) ids.now 0 (map view_statement statements.old)) }
 {
     for (index, id) in ids.iter().enumerate() {
         if let Some(statement) = statements.get_mut(*id) {

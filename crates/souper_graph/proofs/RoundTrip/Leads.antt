@@ -1,17 +1,16 @@
 -- Lemmas. Printed orders of some of an item's walks: how they join, and what a map of the same graph makes of them.
-use Rattle.std.proofs.Common.{◌≡◌, ℕ, suc, ◌<◌, ◌++◌, inl, inr, length, map, List, [], ◌∷◌, Bool, true, false, cond, refl, sym, ap, ◌∙◌, subst, arith, append_assoc, append-nil}
+use Rattle.std.proofs.Common.{◌≡◌, ℕ, suc, ◌<◌, ◌++◌, length, map, List, [], ◌∷◌, Bool, true, false, cond, refl, sym, ap, ◌∙◌, subst, arith, append_assoc, append-nil}
 use Rattle.std.specs.List.{flat_map}
 use Rattle.std.proofs.lemmas.List.{map-append, length-map}
-use Rattle.std.proofs.lemmas.Bool.{cases_eq}
 use Rattle.souper_graph.specs.Values.{PlainStatement, Ending, Item}
 use Rattle.souper_graph.specs.Uses.{Has, Use, position_of, conditions, first_roots, last_roots, first_walks, walks_of, Needed, walked, used, NeededIn}
 use Rattle.souper_graph.specs.Order.{unfolding_of, order_of_walks, printed_order, lead_of}
 use Rattle.souper_graph.specs.WellFormed.{WellFormed}
 use Rattle.souper_graph.specs.Sameness.{SameGraph, place}
-use Rattle.souper_graph.proofs.Lists.{Has-left, Has-none, Has-head}
+use Rattle.souper_graph.proofs.Lists.{Has-left, Has-none}
 use Rattle.souper_graph.proofs.Order.Firsts.{has, with_new, printed-is}
 use Rattle.souper_graph.proofs.Order.Sorted.{flat-join}
-use Rattle.souper_graph.proofs.Sameness.Indices.{flat-map, with-map, place-here, place-later}
+use Rattle.souper_graph.proofs.Sameness.Indices.{flat-map, with-map, place-inside, place-left}
 use Rattle.souper_graph.proofs.Sameness.Carrying.{positions-carried, first-carried}
 use Rattle.souper_graph.proofs.Judging.Needed.{first_of}
 use Rattle.souper_graph.proofs.Sameness.PrintedOrder.{printed-needed, walks-printed}
@@ -35,7 +34,7 @@ with-more k [] = ([], sym (append-nil k))
 with-more k (x ∷ xs) = with-next (has k x) k x xs (with-more k xs) (with-more (k ++ x ∷ []) xs)
 
 -- the order of the first walks is a prefix of the order of all
-order-prefix : (g : List PlainStatement) (v w : List ℕ) → (t : List ℕ) × (order_of_walks g (v ++ w) ≡ order_of_walks g v ++ t)
+pub order-prefix : (g : List PlainStatement) (v w : List ℕ) → (t : List ℕ) × (order_of_walks g (v ++ w) ≡ order_of_walks g v ++ t)
 order-prefix g v w =
     let U : List ℕ → List ℕ = λ z. flat_map (unfolding_of g) z in
     let r = with-more (with_new [] (U v)) (U w) in (
@@ -43,25 +42,17 @@ order-prefix g v w =
       printed-is g (v ++ w) ∙ ap (with_new []) (flat-join (unfolding_of g) v w) ∙ with-join [] (U v) (U w) ∙ r.1 ∙ ap (λ (z : List ℕ). z ++ r.0) (sym (printed-is g v)),
     )
 
-place-left : (xs ys : List ℕ) (i : ℕ) → Has xs i → place (xs ++ ys) i < length xs
-place-left [] ys i h = absurd (Has-none i h)
-place-left (x ∷ xs) ys i h = elim (cases_eq x i) [
-  | inl e ↦ (let q : place (x ∷ (xs ++ ys)) i ≡ 0 = ap (λ z. place (z ∷ (xs ++ ys)) i) e ∙ place-here i (xs ++ ys) in omega arith)
-  | inr ne ↦ elim (Has-head x i xs h) [
-    | inl e ↦ absurd (ne e)
-    | inr a ↦ (let l = place-left xs ys i a in let q = place-later x i (xs ++ ys) ne in omega arith)
-  ]
-]
-
 -- a root that is walked first comes before the end of the lead
 pub first_leads : (a : Item) (i : ℕ) → Has (first_walks a) i → place (printed_order a) i < lead_of a
 first_leads a i h =
     let r = order-prefix a.statements (first_walks a) (map position_of (last_roots a.ending)) in
-    subst (λ (z : List ℕ). place z i < lead_of a) (sym r.1) (place-left (order_of_walks a.statements (first_walks a)) r.0 i (walks-printed a.statements (first_walks a) i h))
+    let lead = order_of_walks a.statements (first_walks a) in
+    let first = walks-printed a.statements (first_walks a) i h in
+    subst (λ (n : ℕ). n < lead_of a) (sym (ap (λ (z : List ℕ). place z i) r.1 ∙ place-left lead r.0 i first)) (place-inside lead i first)
 
 -- ---- orders that are carried
 
-needed-more : (ss : List PlainStatement) (v w : List ℕ) {j : ℕ} → ((i : ℕ) → Has v i → Needed ss w i) → Needed ss v j → Needed ss w j
+pub needed-more : (ss : List PlainStatement) (v w : List ℕ) {j : ℕ} → ((i : ℕ) → Has v i → Needed ss w i) → Needed ss v j → Needed ss w j
 needed-more ss v w {j = j} f (walked h) = f j h
 needed-more ss v w f (used n h) = used (needed-more ss v w f n) h
 

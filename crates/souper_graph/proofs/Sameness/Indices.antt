@@ -261,3 +261,14 @@ place-front (x ∷ xs) ys i l = elim (cases_eq x i) [
   | inl e ↦ subst (λ (z : ℕ). Has (x ∷ xs) z) e (Has-here x xs)
   | inr ne ↦ Has-later x i xs (place-front xs ys i (let q = place-later x i (xs ++ ys) ne in omega arith))
 ]
+
+-- a number of the first of two joined lists
+pub place-left : (xs ys : List ℕ) (i : ℕ) → Has xs i → place (xs ++ ys) i ≡ place xs i
+place-left [] ys i h = absurd (Has-none i h)
+place-left (x ∷ xs) ys i h = elim (cases_eq x i) [
+  | inl e ↦ ap (λ z. place (z ∷ (xs ++ ys)) i) e ∙ place-here i (xs ++ ys) ∙ sym (ap (λ z. place (z ∷ xs) i) e ∙ place-here i xs)
+  | inr ne ↦ elim (Has-head x i xs h) [
+    | inl e ↦ absurd (ne e)
+    | inr a ↦ place-later x i (xs ++ ys) ne ∙ ap suc (place-left xs ys i a) ∙ sym (place-later x i xs ne)
+  ]
+]

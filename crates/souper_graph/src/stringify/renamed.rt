@@ -121,7 +121,7 @@ fn named_statements(
     statements: &Arena<Statement>,
     ids: &[Id<Statement>],
 ) -> Result<Arena<Statement>, TextError>
-    ensures named { Distinct ids.now → IfOk result (λ copy. map view_statement copy ≡ named_from ids.now 0 (map view_statement statements.now)) }
+    ensures named { Distinct ids.now → IfOk result (λ copy. map view_statement copy ≡ named_from name_of_index ids.now 0 (map view_statement statements.now)) }
     ensures memory { IfErr result (λ error. error ≡ OutOfMemory) }
 {
     let alloc = statements.allocator();
@@ -146,7 +146,7 @@ fn set_name(statement: &mut Statement, name: String)
 
 // Names each statement in the list by its index there, in place. The buffers of the names stay.
 fn write_names(statements: &mut Arena<Statement>, ids: &[Id<Statement>]) -> Result<(), TextError>
-    ensures named { Distinct ids.now → OnOk result (map view_statement statements.new ≡ named_from ids.now 0 (map view_statement statements.old)) }
+    ensures named { Distinct ids.now → OnOk result (map view_statement statements.new ≡ named_from name_of_index ids.now 0 (map view_statement statements.old)) }
     ensures memory { IfErr result (λ error. error ≡ OutOfMemory) }
 {
     for (index, id) in ids.iter().enumerate() {

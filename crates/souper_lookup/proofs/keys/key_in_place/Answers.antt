@@ -6,11 +6,10 @@ use Rattle.souper_graph.specs.Values.{Item}
 use Rattle.souper_graph.specs.View.{view_statement, view_left_hand_side}
 use Rattle.souper_graph.specs.Text.{name_at}
 use Rattle.souper_graph.specs.Order.{Distinct, printed_order}
-use Rattle.souper_graph.specs.Renaming.{named_from, renamed}
+use Rattle.souper_graph.specs.Renaming.{renamed, name_in, named_from, name_of_index}
 use Rattle.souper_graph.specs.Syntax.Spelling.{left_hand_side}
 use Rattle.souper_graph.proofs.Judging.Closed.{fault_of_well_formed}
 use Rattle.souper_graph.proofs.Judging.Needed.{well_formed_below}
-use Rattle.souper_lookup.specs.Instance.{listed_from}
 use Rattle.souper_lookup.proofs.Answering.{key-is, key-well}
 use Rattle.souper_lookup.proofs.Restoring.{restored}
 use Rattle.souper_lookup.proofs.keys.key_in_place.Goals as goal
@@ -56,8 +55,8 @@ returns-clause-kept c = λ w.
     let ids : c.deref-2.result.now ≡ po = c.deref-2.ensures.value ∙ order.printed below in
     let names : map string_bytes c.deref-3.result.now ≡ map (name_at a.statements) po =
     ap (map string_bytes) c.deref-3.ensures.value ∙ c.in_ok-names.ensures ∙ ap (map (name_at a.statements)) (c.deref.ensures.value ∙ order.printed below) in
-    let middle : map view_statement c.rename.new.self.statements ≡ named_from po 0 a.statements = ap (λ (x : Item). x.statements) named in
+    let middle : map view_statement c.rename.new.self.statements ≡ named_from name_of_index po 0 a.statements = ap (λ (x : Item). x.statements) named in
     let put = c.in_ok-put_names.ensures (subst (λ (xs : List ℕ). Distinct xs) (sym c.deref-2.ensures.value) order.once) in
-    let statements : map view_statement c.put_names.new.statements ≡ a.statements = put ∙ (λ i. listed_from (names i) (ids i) 0 (middle i)) ∙ restored a.statements po in
+    let statements : map view_statement c.put_names.new.statements ≡ a.statements = put ∙ (λ i. named_from (name_in (names i)) (ids i) 0 (middle i)) ∙ restored a.statements po in
     let ending = ap (λ (x : Item). x.ending) named in
     λ i. record { statements = statements i; ending = ending i }

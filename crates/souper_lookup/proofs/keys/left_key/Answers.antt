@@ -3,9 +3,9 @@ use Rattle.std.proofs.lemmas.Result.{err_from_is_err_and}
 use Rattle.souper_graph.specs.Values.{Item}
 use Rattle.souper_graph.specs.View.{view_left_hand_side, view_replacement}
 use Rattle.souper_graph.specs.WellFormed.{WellFormed}
-use Rattle.souper_lookup.specs.Left.{IsLeftOf}
+use Rattle.souper_graph.specs.LeftSides.{IsLeftOf}
 use Rattle.souper_lookup.specs.Stored.{key_of}
-use Rattle.souper_lookup.proofs.Lefts.{left-well}
+use Rattle.souper_graph.proofs.Lefts.{left-well}
 use Rattle.souper_lookup.proofs.keys.left_key.Goals as goal
 
 pub returns-in_err-key_of_left-in-Some-clause-memory : goal.returns-in_err-key_of_left-in-Some-clause-memory

@@ -11,8 +11,8 @@ use Rattle.souper_lookup.specs.Stored.{Entry, view_stored, view_prepared, replac
 use Rattle.souper_lookup.proofs.Storing.{put-stored}
 use Rattle.std.proofs.lemmas.Result.{err_from_is_err_and}
 use Rattle.souper_graph.proofs.Judging.Closed.{fault_of_well_formed}
-use Rattle.souper_lookup.specs.Left.{with_infer}
-use Rattle.souper_lookup.proofs.Lefts.{left-well}
+use Rattle.souper_graph.specs.LeftSides.{with_infer}
+use Rattle.souper_graph.proofs.Lefts.{left-well}
 use Rattle.souper_lookup.proofs.store.Store.put.Goals as goal
 
 pub returns-clause-put : goal.returns-clause-put

@@ -1,6 +1,6 @@
 use Rattle.souper_graph.specs.Renaming.{nameless}
-use Rattle.souper_lookup.proofs.Results.{law-well, law-same, law-up-to-names, law-cands}
-use Rattle.souper_lookup.proofs.laws.law_of_results.Goals as goal
+use Rattle.souper_graph.proofs.Results.{law-well, law-same, law-up-to-names, law-cands}
+use Rattle.souper_graph.proofs.laws.law_of_results.Goals as goal
 
 pub returns-clause-well_formed : goal.returns-clause-well_formed
 returns-clause-well_formed c = law-well
