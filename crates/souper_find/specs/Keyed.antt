@@ -7,7 +7,7 @@ use Rattle.souper_graph.specs.Syntax.Spelling.{replacement}
 use Rattle.souper_ir.specs.declared.parse.error.ParseError.{ParseError}
 use Rattle.souper_stream.specs.declared.starts.Start.{Start}
 use Rattle.souper_format.specs.Streams.{Stream, IsGiven}
-use Rattle.souper_lookup.specs.Left.{infer_of, with_infer}
+use Rattle.souper_graph.specs.LeftSides.{infer_of, with_infer}
 use Rattle.souper_lookup.specs.Stored.{key_of as left_text}
 use Rattle.souper_records.specs.declared.layout.Layout.{Layout}
 use Rattle.souper_records.specs.Records.{key_of, record_of_text}

@@ -1,194 +1,20 @@
--- Replacements by a result.
-use Rattle.std.proofs.Common.{◌≡◌, ℕ, ◌++◌, inl, inr, map, List, [], ◌∷◌, Some, None, refl, sym, ap, ◌∙◌, subst}
-use Rattle.souper_graph.specs.declared.ast.operands.Operand.{Operand}
-use Rattle.souper_graph.specs.declared.ast.operands.Operand.TheVariants.{Value, Constant}
-use Rattle.souper_graph.specs.declared.ast.items.LeftHandSide.{LeftHandSide}
-use Rattle.souper_graph.specs.declared.ast.items.Replacement.{Replacement}
-use Rattle.souper_graph.specs.declared.ast.items.Replacement.TheVariants.{LhsRhs, Cand as cand_variant}
-use Rattle.souper_graph.specs.Values.{PlainStatement, PlainRootAttribute, PlainInfer, PlainCand, Ending, inferred, resulting, replaced, candidate, Item}
-use Rattle.souper_graph.specs.View.{view_statement, view_infer, view_cand, view_left_hand_side, view_replacement}
-use Rattle.souper_graph.specs.Uses.{Has, value_use, position_of, uses_of_operand, conditions, walks_of, NeededIn}
+-- What is stored of a replacement.
+use Rattle.std.proofs.Common.{◌≡◌, ℕ, List, Some, None, sym, ap, ◌∙◌, subst}
+use Rattle.std.specs.Prelude.{is_some}
+use Rattle.std.proofs.lemmas.Option.{same_Some}
+use Rattle.souper_graph.specs.Values.{Ending, Item}
 use Rattle.souper_graph.specs.WellFormed.{WellFormed}
 use Rattle.souper_graph.specs.Text.{text_of}
 use Rattle.souper_graph.specs.ItemText.{IsItemText}
-use Rattle.souper_graph.specs.Sameness.{carried_operand, carried_infer, carried_ending, SameGraph}
+use Rattle.souper_graph.specs.Sameness.{SameGraph}
 use Rattle.souper_graph.specs.Renaming.{nameless, renamed, SameUpToNames, IsRenamed}
 use Rattle.souper_graph.specs.Syntax.Spelling.{ItemType}
-use Rattle.souper_graph.proofs.Lists.{Has-left, Has-right, Has-cases}
+use Rattle.souper_graph.specs.LeftSides.{with_infer, left_text, left_text_by, ended_by, IsByResult, IsByResultOf}
 use Rattle.souper_graph.proofs.Judging.Needed.{well_formed_below}
 use Rattle.souper_graph.proofs.Sameness.Renaming.{renamed-again, renamed-alike}
-use Rattle.souper_graph.specs.LeftSides.{infer_of_operand, infer_of, by_result, by_result_operand, ended_by, IsByResult, IsByResultOf, IsSplitOf}
-use Rattle.souper_lookup.specs.Stored.{Storable, IsStoredFormOf}
-use Rattle.std.proofs.lemmas.Option.{same_Some}
-use Rattle.souper_graph.proofs.Lefts.{needed-more}
-
--- ---- a cand by a result
-
-module _ (ss : List PlainStatement) (i : PlainInfer) (r : Operand) where
-  abbrev cand : Item
-  cand = record { statements = ss; ending = candidate (record { lhs = Value i.value; rhs = r; attributes = i.attributes }) }
-
-  abbrev whole : Item
-  whole = record { statements = ss; ending = replaced i r }
-
-  abbrev us : List ℕ
-  us = map position_of (uses_of_operand r)
-
-  abbrev cs : List ℕ
-  cs = conditions whole
-
-  walk : (j : ℕ) → Has (walks_of whole) j → Has (walks_of cand) j
-  walk j h =
-      let roots = map position_of (value_use i.value ∷ uses_of_operand r) in
-      Has-left (roots ++ cs) [] j (elim (Has-cases (i.value ∷ cs) us j h) [
-        | inl f ↦ elim (Has-cases (i.value ∷ []) cs j f) [
-          | inl a ↦ Has-left roots cs j (Has-left (i.value ∷ []) us j a)
-          | inr b ↦ Has-right roots cs j b
-        ]
-        | inr b ↦ Has-left roots cs j (Has-right (i.value ∷ []) us j b)
-      ])
-
-  walk-back : (j : ℕ) → Has (walks_of cand) j → Has (walks_of whole) j
-  walk-back j h = elim (Has-cases ((i.value ∷ us) ++ cs) [] j h) [
-    | inl f ↦ elim (Has-cases (i.value ∷ us) cs j f) [
-      | inl a ↦ elim (Has-cases (i.value ∷ []) us j a) [
-        | inl v ↦ Has-left (i.value ∷ cs) us j (Has-left (i.value ∷ []) cs j v)
-        | inr u ↦ Has-right (i.value ∷ cs) us j u
-      ]
-      | inr c ↦ Has-left (i.value ∷ cs) us j (Has-right (i.value ∷ []) cs j c)
-    ]
-    | inr n ↦ absurd n
-  ]
-
-  up : {j : ℕ} → NeededIn whole j → NeededIn cand j
-  up d = needed-more ss (walks_of whole) (walks_of cand) walk d
-
-  down : {j : ℕ} → NeededIn cand j → NeededIn whole j
-  down d = needed-more ss (walks_of cand) (walks_of whole) walk-back d
-
-  by-result-well : WellFormed cand → WellFormed whole
-  by-result-well w = record {
-    roots_met = λ u h. w.roots_met u (Has-left (value_use i.value ∷ uses_of_operand r) [] u h);
-    ending_fits = (w.ending_fits.2, w.ending_fits.1);
-    closed = λ p s d e. w.closed p s (up d) e;
-    named_apart = λ p q v x dp dq ep eq en. w.named_apart p q v x (up dp) (up dq) ep eq en;
-  }
-
--- two cands that are the same graph are so by a result
-cand-same : (ss ts : List PlainStatement) (i j : PlainInfer) (r t : Operand) → SameGraph (cand ss i r) (cand ts j t) → SameGraph (whole ss i r) (whole ts j t)
-cand-same ss ts i j r t s = record {
-  to = s.to;
-  needed = λ p d. down ts j t (s.needed p (up ss i r d));
-  onto = λ p d. let o = s.onto p (up ts j t d) in (o.0, down ss i r o.1, o.2);
-  one_to_one = λ p q dp dq e. s.one_to_one p q (up ss i r dp) (up ss i r dq) e;
-  contents = λ p u d e. s.contents p u (up ss i r d) e;
-  ending = λ k. replaced (last.0 k) (last.1 k);
-  condition_order = s.condition_order;
-}
-  where
-    last : (j ≡ carried_infer s.to i) × (t ≡ carried_operand s.to r)
-    last = parts s.ending
-      where
-        of_value : Operand → ℕ
-        of_value (Value n) = n
-        of_value (Constant c) = 0
-
-        cand_of : Ending → PlainCand
-        cand_of (inferred x) = record { lhs = r; rhs = r; attributes = [] }
-        cand_of (resulting x) = record { lhs = r; rhs = r; attributes = [] }
-        cand_of (replaced x y) = record { lhs = r; rhs = r; attributes = [] }
-        cand_of (candidate c) = c
-
-        parts : candidate (record { lhs = Value j.value; rhs = t; attributes = j.attributes }) ≡ carried_ending s.to (candidate (record { lhs = Value i.value; rhs = r; attributes = i.attributes }))
-            → (j ≡ carried_infer s.to i) × (t ≡ carried_operand s.to r)
-        parts e = (
-          (λ k. record { value = of_value (cand_of (e k)).lhs; attributes = (cand_of (e k)).attributes }),
-          (λ k. (cand_of (e k)).rhs),
-        )
-
--- and back
-cand-back : (ss ts : List PlainStatement) (i j : PlainInfer) (r t : Operand) → SameGraph (whole ss i r) (whole ts j t) → SameGraph (cand ss i r) (cand ts j t)
-cand-back ss ts i j r t s = record {
-  to = s.to;
-  needed = λ p d. up ts j t (s.needed p (down ss i r d));
-  onto = λ p d. let o = s.onto p (down ts j t d) in (o.0, up ss i r o.1, o.2);
-  one_to_one = λ p q dp dq e. s.one_to_one p q (down ss i r dp) (down ss i r dq) e;
-  contents = λ p u d e. s.contents p u (down ss i r d) e;
-  ending = λ k. candidate (record { lhs = Value (infer_in (s.ending k)).value; rhs = result_in (s.ending k); attributes = (infer_in (s.ending k)).attributes });
-  condition_order = s.condition_order;
-}
-  where
-    infer_in : Ending → PlainInfer
-    infer_in (inferred x) = x
-    infer_in (resulting x) = i
-    infer_in (replaced x y) = x
-    infer_in (candidate c) = i
-
-    result_in : Ending → Operand
-    result_in (inferred x) = r
-    result_in (resulting x) = x
-    result_in (replaced x y) = y
-    result_in (candidate c) = r
-
--- what a form by a result is of
-data FormOf (a : Item) (e : Ending) : Type 0 where
-  same : (i : PlainInfer) (r : Operand) → a.ending ≡ replaced i r → e ≡ replaced i r → FormOf a e
-  other : (i : PlainInfer) (r : Operand) → a.ending ≡ candidate (record { lhs = Value i.value; rhs = r; attributes = i.attributes }) → e ≡ replaced i r → FormOf a e
-
-form-of : (a : Item) (e : Ending) → by_result a.ending ≡ Some e → FormOf a e
-form-of a e q = go a.ending refl q
-  where
-    of-cand : (c : PlainCand) (o : Operand) → c.lhs ≡ o → a.ending ≡ candidate c → by_result_operand o c.rhs c.attributes ≡ Some e → FormOf a e
-    of-cand c (Value n) at is q = other (record { value = n; attributes = c.attributes }) c.rhs (is ∙ (λ k. candidate (record { lhs = at k; rhs = c.rhs; attributes = c.attributes }))) (sym (some-is q))
-    of-cand c (Constant k) at is q = absurd (cc)
-
-    go : (d : Ending) → a.ending ≡ d → by_result d ≡ Some e → FormOf a e
-    go (inferred i) is q = absurd (cc)
-    go (resulting r) is q = absurd (cc)
-    go (replaced i r) is q = same i r is (sym (some-is q))
-    go (candidate c) is q = of-cand c c.lhs refl is q
-
-pub law-well : (a : Item) (e : Ending) → by_result a.ending ≡ Some e → WellFormed a → WellFormed (ended_by a e) × (infer_of e ≡ infer_of a.ending) × IsByResult e
-law-well a e q w = go (form-of a e q)
-  where
-    go : FormOf a e → WellFormed (ended_by a e) × (infer_of e ≡ infer_of a.ending) × IsByResult e
-    go (same i r at is) = (subst (λ (x : Ending). WellFormed (ended_by a x)) (at ∙ sym is) w, ap infer_of (is ∙ sym at), (i, r, is))
-    go (other i r at is) = (
-      subst (λ (x : Ending). WellFormed (ended_by a x)) (sym is) (by-result-well a.statements i r (subst (λ (x : Ending). WellFormed (ended_by a x)) at w)),
-      ap infer_of is ∙ sym (ap infer_of at),
-      (i, r, is),
-    )
-
-pub law-same : (a b : Item) (d e : Ending) → by_result a.ending ≡ Some d → by_result b.ending ≡ Some e → SameGraph a b → SameGraph (ended_by a d) (ended_by b e)
-law-same a b d e p q s = go (form-of a d p) (form-of b e q)
-  where
-    go : FormOf a d → FormOf b e → SameGraph (ended_by a d) (ended_by b e)
-    go (same i r at is) (same j t at' is') =
-        subst (λ (x : Ending). SameGraph (ended_by a x) (ended_by b e)) (at ∙ sym is) (subst (λ (x : Ending). SameGraph a (ended_by b x)) (at' ∙ sym is') s)
-    go (same i r at is) (other j t at' is') = let x = s.ending in let y = sym at' ∙ x ∙ ap (carried_ending s.to) at in absurd (cc)
-    go (other i r at is) (same j t at' is') = let x = s.ending in let y = sym at' ∙ x ∙ ap (carried_ending s.to) at in absurd (cc)
-    go (other i r at is) (other j t at' is') =
-        subst (λ (x : Ending). SameGraph (ended_by a x) (ended_by b e)) (sym is) (subst (λ (x : Ending). SameGraph (whole a.statements i r) (ended_by b x)) (sym is')
-        (cand-same a.statements b.statements i j r t
-        (subst (λ (x : Ending). SameGraph (ended_by a x) (cand b.statements j t)) at (subst (λ (x : Ending). SameGraph a (ended_by b x)) at' s))))
-
-pub law-up-to-names : (a b : Item) (d e : Ending) → by_result a.ending ≡ Some d → by_result b.ending ≡ Some e → SameUpToNames a b → SameUpToNames (ended_by a d) (ended_by b e)
-law-up-to-names a b d e p q s = law-same (nameless a) (nameless b) d e p q s
-
--- cands are the same graph if and only if they are so by a result
-pub law-cands : (a b : Item) (c k : PlainCand) (d e : Ending) → a.ending ≡ candidate c → b.ending ≡ candidate k → by_result a.ending ≡ Some d → by_result b.ending ≡ Some e →
-    (SameGraph a b → SameGraph (ended_by a d) (ended_by b e)) × (SameGraph (ended_by a d) (ended_by b e) → SameGraph a b)
-law-cands a b c k d e ca cb p q = (law-same a b d e p q, go (form-of a d p) (form-of b e q))
-  where
-    go : FormOf a d → FormOf b e → SameGraph (ended_by a d) (ended_by b e) → SameGraph a b
-    go (same i r at is) g s = absurd (cc)
-    go (other i r at is) (same j t at' is') s = absurd (cc)
-    go (other i r at is) (other j t at' is') s =
-        subst (λ (x : Ending). SameGraph (ended_by a x) b) (sym at) (subst (λ (x : Ending). SameGraph (cand a.statements i r) (ended_by b x)) (sym at')
-        (cand-back a.statements b.statements i j r t
-        (subst (λ (x : Ending). SameGraph (ended_by a x) (whole b.statements j t)) is (subst (λ (x : Ending). SameGraph (ended_by a d) (ended_by b x)) is' s))))
-
--- ---- the stored form
+use Rattle.souper_graph.proofs.Results.{law-up-to-names, form-by, form-well}
+use Rattle.souper_lookup.specs.Stored.{left_key, Storable, IsStoredFormOf}
+use Rattle.souper_lookup.proofs.Answering.{storable-left}
 
 pub law-stored-form : (a b c d : Item) → IsStoredFormOf b a → IsStoredFormOf d c → SameUpToNames a c → SameUpToNames b d
 law-stored-form a b c d f g s =
@@ -198,88 +24,38 @@ law-stored-form a b c d f g s =
     bare : (x y : Item) → y ≡ renamed x → nameless x ≡ nameless y
     bare x y e = sym (renamed-alike x) ∙ sym (ap nameless e)
 
--- ---- what the code has
-
--- a left-hand side and a result, put together
-module _ (l : LeftHandSide) (r : Operand) where
-  abbrev together : Item
-  together = record { statements = map view_statement l.statements; ending = replaced (view_infer l.infer) r }
-
-  pub joined-form : (a : Item) → IsSplitOf (view_left_hand_side l) r a → IsByResultOf together a
-  joined-form a s = record {
-    statements = ap (λ (x : Item). x.statements) s.left;
-    form = s.form ∙ ap (λ (x : PlainInfer). Some (replaced x r)) (same_Some _ _ (ap (λ (x : Item). infer_of x.ending) (sym s.left)));
-  }
-
-  pub joined-same : (a : Item) → IsSplitOf (view_left_hand_side l) r a → IsByResult a.ending → together ≡ a
-  joined-same a s f =
-      let j = joined-form a s in
-      let own : by_result a.ending ≡ Some a.ending = ap by_result f.2 ∙ ap (λ (x : Ending). Some x) (sym f.2) in
-      let last : replaced (view_infer l.infer) r ≡ a.ending = same_Some _ _ (sym j.form ∙ own) in
-      λ k. record { statements = j.statements k; ending = last k }
-
--- a constant is replaced
-pub no-infer : (r : Replacement) → by_result (view_replacement r).ending ≡ None → infer_of (view_replacement r).ending ≡ None
-no-infer (LhsRhs ss i o) e = absurd (cc)
-no-infer (cand_variant ss c) e = under c.lhs c.rhs (view_cand c).attributes e
-  where
-    under : (o x : Operand) (attributes : List PlainRootAttribute) → by_result_operand o x attributes ≡ None → infer_of_operand o attributes ≡ None
-    under (Value i) x attributes e = absurd (cc)
-    under (Constant k) x attributes e = refl
-
--- a value is replaced
-pub has-infer : (a : Item) (e : Ending) → by_result a.ending ≡ Some e → infer_of a.ending ≡ None → ⊥
-has-infer a e q n = go (form-of a e q)
-  where
-    go : FormOf a e → ⊥
-    go (same i r at is) = let x = sym n ∙ ap infer_of at in absurd (cc)
-    go (other i r at is) = let x = sym n ∙ ap infer_of at in absurd (cc)
-
-form-by : (a : Item) (e : Ending) → by_result a.ending ≡ Some e → IsByResult e
-form-by a e q = go (form-of a e q)
-  where
-    go : FormOf a e → IsByResult e
-    go (same i r at is) = (i, r, is)
-    go (other i r at is) = (i, r, is)
-
-pub form-well : (a x : Item) → IsByResultOf x a → WellFormed a → WellFormed x
-form-well a x b wa =
-    let is : x ≡ ended_by a x.ending = λ j. record { statements = b.statements j; ending = x.ending } in
-    subst (λ (z : Item). WellFormed z) (sym is) (law-well a x.ending b.form wa).0
-
--- a replacement by a result that was renamed is still one
+-- a replacement by a result that was renamed, and its text
 module _ (a x y : Item) (b : IsByResultOf x a) (n : IsRenamed x y) where
   renamed-form : IsByResult y.ending
   renamed-form = let f = form-by a x.ending b.form in (f.0, f.1, ap (λ (z : Item). z.ending) n.named ∙ f.2)
 
-  pub renamed-splits : by_result y.ending ≡ None → ⊥
-  renamed-splits e = let f = renamed-form in let q = sym e ∙ ap by_result f.2 in absurd (cc)
+  left-is : left_text y ≡ Some (text_of (with_infer y renamed-form.0))
+  left-is = ap (left_text_by y) renamed-form.2
 
-  -- what is stored of a
-  module _ (l : LeftHandSide) (r : Operand) (s : IsSplitOf (view_left_hand_side l) r y) (k : ItemType) (text : List ℕ) (t : IsItemText k y text) (wa : WellFormed a) where
-    x-is : x ≡ ended_by a x.ending
-    x-is = λ j. record { statements = b.statements j; ending = x.ending }
+  pub has-left : is_some (left_text y) ≡ is_some (Some (text_of (with_infer y renamed-form.0)))
+  has-left = ap is_some left-is
 
+  module _ (k : ItemType) (text key : List ℕ) (t : IsItemText k y text) (l : Some key ≡ left_text y) (wa : WellFormed a) where
     wx : WellFormed x
     wx = form-well a x b wa
 
     y-is : y ≡ renamed x
     y-is = n.by_printed_order (well_formed_below x wx)
 
-    same-item : together l r ≡ y
-    same-item = joined-same l r y s renamed-form
+    pub stored-form : IsStoredFormOf y a
+    stored-form = record { ending = x.ending; form = b.form; is = y-is ∙ ap renamed ((λ j. record { statements = b.statements j; ending = x.ending })) }
 
-    pub stored-form : IsStoredFormOf (together l r) a
-    stored-form = record { ending = x.ending; form = b.form; is = same-item ∙ y-is ∙ ap renamed x-is }
-
-    pub stored-storable : Storable (together l r)
-    stored-storable = subst (λ (z : Item). Storable z) (sym same-item) (record {
+    pub stored-storable : Storable y
+    stored-storable = record {
       infer = renamed-form.0;
       result = renamed-form.1;
       ending = renamed-form.2;
       well_formed = n.well_formed wx;
       named = ap renamed y-is ∙ renamed-again x ∙ sym y-is;
-    })
+    }
 
-    pub stored-text : text ≡ text_of (together l r)
-    stored-text = t.canonical (well_formed_below y (n.well_formed wx)) ∙ ap text_of (sym same-item)
+    pub stored-text : text ≡ text_of y
+    stored-text = t.canonical (well_formed_below y (n.well_formed wx))
+
+    pub stored-key : key ≡ left_key y
+    stored-key = same_Some _ _ (l ∙ left-is) ∙ sym (storable-left y stored-storable).1

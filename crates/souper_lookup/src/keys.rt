@@ -9,7 +9,6 @@ ghost use Rattle.souper_graph.specs.Renaming.{renamed};
 ghost use Rattle.souper_graph.specs.LeftSides.{infer_of};
 ghost use Rattle.souper_lookup.specs.Stored.{key_of, IsLeftKey};
 
-use crate::left::left_hand_side;
 use crate::names::{names_of, put_names};
 use souper_graph::ast::{LeftHandSide, Replacement};
 use souper_graph::stringify::TextError;
@@ -53,7 +52,7 @@ pub fn left_key(replacement: &Replacement) -> Result<Option<String>, TextError>
         (λ key. IsLeftKey (view_replacement replacement.now) (string_bytes key))) }
     ensures memory { WellFormed (view_replacement replacement.now) → IfErr result (λ error. error ≡ OutOfMemory) }
 {
-    match left_hand_side(replacement)? {
+    match replacement.left_hand_side()? {
         Some(left) => Ok(Some(key_of_left(&left)?)),
         None => Ok(None),
     }

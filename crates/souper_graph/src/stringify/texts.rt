@@ -1,6 +1,6 @@
 //! The canonical text of a replacement, and of its left-hand side.
 
-ghost use Rattle.std.specs.Prelude.{◌≡◌, ◌≤◌, ◌++◌, length, map, flat_map, take, option_map, IfOk, IfErr};
+ghost use Rattle.std.specs.Prelude.{◌≡◌, ◌≤◌, ◌++◌, length, map, flat_map, take, option_map, is_some, IfOk, IfErr};
 ghost use Rattle.std.specs.String.{string_bytes};
 ghost use Rattle.souper_graph.specs.Values.{inferred, replaced};
 ghost use Rattle.souper_graph.specs.View.{view_statement, view_infer, view_replacement};
@@ -24,6 +24,7 @@ impl Replacement {
     pub fn to_texts(&self) -> Result<(String, Option<String>), TextError>
         ensures refused { IfErr result (λ error. IsFaultOf (view_replacement self.now) error) }
         ensures printed { IfOk result (λ texts. IsItemText replacement (view_replacement self.now) (string_bytes texts.0)) }
+        ensures form { IfOk result (λ texts. is_some texts.1 ≡ is_some (left_text (view_replacement self.now))) }
         ensures left { UsesBelow (view_replacement self.now) → IfOk result (λ texts. option_map string_bytes texts.1 ≡ left_text (view_replacement self.now)) }
     {
         match self {
