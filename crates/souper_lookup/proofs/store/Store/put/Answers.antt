@@ -31,8 +31,7 @@ returns-clause-put c = λ entries h s t key none.
     record {
       entries_are =
           ap (map view_stored) (c.push_reserved.ensures.items ∙ ap (λ (z : List Stored). z ++ record { replacement = p.replacement; count = 1 } ∷ []) kept)
-          ∙ map-append view_stored old.stored.items (_ ∷ []) ∙ ap (λ (z : List Entry). z ++ e ∷ []) h.entries_are
-;
+          ∙ map-append view_stored old.stored.items (_ ∷ []) ∙ ap (λ (z : List Entry). z ++ e ∷ []) h.entries_are;
       indexed = subst (λ (z : List Item). IsIndexOf z (map string_bytes c.insert.new.self.keys) (map string_bytes c.add_to_group.new.keys.keys) new)
           (sym (map-append (λ (z : Entry). z.replacement) entries (e ∷ [])))
           (put-stored items b old.texts.keys c.insert.new.self.keys old.keys.keys c.add_to_group.new.keys.keys groups new p.text p.key
