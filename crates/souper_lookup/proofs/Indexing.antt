@@ -129,14 +129,14 @@ none-same (a ∷ items) b all s e =
 
 pub same-replacements : (entries : List Entry) (n : ℕ) (e : Entry) → slice_get entries n ≡ Some e → replacements_of (slice_set entries n (raised e)) ≡ replacements_of entries
 same-replacements [] n e at = absurd (cc)
-same-replacements (x ∷ entries) zero e at = ap (λ (z : Entry). z.replacement ∷ replacements_of entries) (sym (some-is at))
+same-replacements (x ∷ entries) zero e at = ap (λ (z : Entry). z.replacement ∷ replacements_of entries) (sym (same_Some _ _ at))
 same-replacements (x ∷ entries) (suc n) e at = ap (λ (z : List Item). x.replacement ∷ z) (same-replacements entries n e at)
 
 -- the entry at the index of a text
 text-at : (entries : List Entry) (n : ℕ) (t : List ℕ) → AllByRecursion Storable (replacements_of entries) → slice_get (map text_of (replacements_of entries)) n ≡ Some t →
     (e : Entry) × (slice_get entries n ≡ Some e) × (text_of e.replacement ≡ t) × Storable e.replacement
 text-at [] n t all e = absurd (cc)
-text-at (x ∷ entries) zero t all e = (x, refl, some-is e, all.0)
+text-at (x ∷ entries) zero t all e = (x, refl, same_Some _ _ e, all.0)
 text-at (x ∷ entries) (suc n) t all e = text-at entries n t all.1 e
 
 passes : (t : List ℕ) (ks : List (List ℕ)) → position_or_len (bytes_eq t) ks < length ks → slice_get ks (position_or_len (bytes_eq t) ks) ≡ Some t

@@ -11,7 +11,7 @@ use Rattle.souper_graph.specs.Text.{name_of, name_at}
 use Rattle.souper_graph.specs.Sameness.{SameGraph, place}
 use Rattle.souper_graph.specs.Renaming.{with_name, nameless, SameUpToNames, renamed, name_in, name_of_index}
 use Rattle.souper_graph.proofs.Judging.Needed.{statement_at, well_formed_stands, in-conditions}
-use Rattle.souper_graph.proofs.Sameness.Indices.{place-inside, place-at, Has-at}
+use Rattle.souper_graph.proofs.Sameness.Indices.{place-inside, place-left, place-at, Has-at}
 use Rattle.souper_graph.proofs.Sameness.PrintedOrder.{is-condition, printed-once}
 use Rattle.souper_graph.proofs.Sameness.Renumbered.{ordered, order-carried, inside, needs, unneeded-graph, unneeded-same, renumbered-same, same-renumbered}
 use Rattle.souper_graph.proofs.Sameness.Renaming.{renamed-graph, renamed-there}
@@ -19,7 +19,7 @@ use Rattle.souper_graph.specs.LeftSides.{infer_of, with_infer}
 use Rattle.souper_lookup.specs.Instance.{IsFresh, SameLeft, IsInstance}
 use Rattle.souper_lookup.specs.Stored.{Storable}
 use Rattle.std.proofs.lemmas.Option.{same_Some}
-use Rattle.souper_graph.proofs.Lefts.{left-well, law-begins, place-left, own-left-same, own-renamed-well}
+use Rattle.souper_graph.proofs.Lefts.{left-well, law-begins, own-left-same, own-renamed-well}
 use Rattle.souper_lookup.proofs.Instances.{name-mapped, carried-name, rest-name}
 
 -- a statement that has a name is an assignment

@@ -10,7 +10,8 @@ use Rattle.souper_graph.specs.Sameness.{place}
 use Rattle.souper_graph.specs.Renaming.{with_name, name_in, named_at, named_from, name_of_index}
 use Rattle.souper_graph.proofs.Sameness.Indices.{at-place, place-front}
 use Rattle.souper_graph.proofs.Sameness.Nameless.{named-twice}
-use Rattle.souper_lookup.proofs.Instances.{own-name, name-mapped}
+use Rattle.souper_graph.proofs.Sameness.Named.{own-name}
+use Rattle.souper_lookup.proofs.Instances.{name-mapped}
 
 below : (m n : ℕ) → nat_lt m n ≡ true → m < n
 below m n e = grind (arith, nat_tests)

@@ -26,26 +26,23 @@ law-stored-form a b c d f g s =
 
 -- a replacement by a result that was renamed, and its text
 module _ (a x y : Item) (b : IsByResultOf x a) (n : IsRenamed x y) where
-  renamed-form : IsByResult y.ending
+  abbrev pub renamed-form : IsByResult y.ending
   renamed-form = let f = form-by a x.ending b.form in (f.0, f.1, ap (λ (z : Item). z.ending) n.named ∙ f.2)
 
-  left-is : left_text y ≡ Some (text_of (with_infer y renamed-form.0))
+  pub left-is : left_text y ≡ Some (text_of (with_infer y renamed-form.0))
   left-is = ap (left_text_by y) renamed-form.2
 
-  pub has-left : is_some (left_text y) ≡ is_some (Some (text_of (with_infer y renamed-form.0)))
-  has-left = ap is_some left-is
-
   module _ (k : ItemType) (text key : List ℕ) (t : IsItemText k y text) (l : Some key ≡ left_text y) (wa : WellFormed a) where
-    wx : WellFormed x
+    abbrev wx : WellFormed x
     wx = form-well a x b wa
 
-    y-is : y ≡ renamed x
+    abbrev y-is : y ≡ renamed x
     y-is = n.by_printed_order (well_formed_below x wx)
 
     pub stored-form : IsStoredFormOf y a
     stored-form = record { ending = x.ending; form = b.form; is = y-is ∙ ap renamed ((λ j. record { statements = b.statements j; ending = x.ending })) }
 
-    pub stored-storable : Storable y
+    abbrev pub stored-storable : Storable y
     stored-storable = record {
       infer = renamed-form.0;
       result = renamed-form.1;

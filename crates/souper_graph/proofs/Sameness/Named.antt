@@ -80,7 +80,7 @@ hidden x o m i d =
     sym (named-twice m [] u) ∙ ap (with_name m) (sym (ap stood (nameless-at x i u (o.there i d))))
 
 -- b has the names of q, and is the same graph up to names
-pub named-graph : (q l b : Item) (f : ℕ → List ℕ) → Ordered q → Ordered l → (s : SameUpToNames q l) → IsNamedBy f l b → ((p : ℕ) → NeededIn q p → f (s.to p) ≡ name_at q.statements p) → SameGraph q b
+unfoldable pub named-graph : (q l b : Item) (f : ℕ → List ℕ) → Ordered q → Ordered l → (s : SameUpToNames q l) → IsNamedBy f l b → ((p : ℕ) → NeededIn q p → f (s.to p) ≡ name_at q.statements p) → SameGraph q b
 named-graph q l b f oq ol s n same = record {
   to = s.to;
   needed = λ i d. to-b (s.needed i (bare q d));
