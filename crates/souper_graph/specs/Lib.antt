@@ -6,6 +6,7 @@ pub mod Names
 pub mod View
 pub mod PartsView
 pub mod Uses
+pub mod UsesView
 pub mod Lookup
 pub mod Order
 pub mod PrintOrder

@@ -13,6 +13,7 @@ mod lookup;
 mod operands;
 mod parts;
 mod statements;
+mod uses;
 mod well_formed;
 
 pub use arenas::{Arena, Iter};
@@ -27,3 +28,4 @@ pub use items::{Cand, Infer, LeftHandSide, Replacement, RightHandSide};
 pub use operands::{Constant, Operand, Type};
 pub(crate) use parts::{Ending, Parts};
 pub use statements::{Assignment, AssignmentRhs, Block, BlockPc, Pc, Phi, Statement, Var};
+pub use uses::{Use, Uses};
