@@ -8,3 +8,4 @@ pub mod RoundTrip
 pub mod Texts
 pub mod Lookups
 pub mod FlawSearch
+pub mod Replacing

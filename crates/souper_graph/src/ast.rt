@@ -12,6 +12,7 @@ mod items;
 mod lookup;
 mod operands;
 mod parts;
+mod replacing;
 mod statements;
 mod uses;
 mod well_formed;

@@ -129,11 +129,7 @@ impl AssignmentRhs {
     }
 }
 
-fn uses_of_parts<'a>(
-    block: Option<BlockId>,
-    few: Operands<'a>,
-    many: &'a [Operand],
-) -> Uses<'a>
+fn uses_of_parts<'a>(block: Option<BlockId>, few: Operands<'a>, many: &'a [Operand]) -> Uses<'a>
     ensures { result ≡ block_left block ++ uses_of_operands (operands_seen few.entry ++ many.now) }
 {
     let operands = OperandsLeft { few, many };
