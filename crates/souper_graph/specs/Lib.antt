@@ -17,6 +17,7 @@ pub mod Faults
 pub mod WellFormed
 pub mod Sameness
 pub mod Renaming
+pub mod StatementsPut
 pub mod Replacing
 pub mod Syntax
 pub mod CanonicalText

@@ -1,14 +1,19 @@
 //! What left-hand sides, right-hand sides and replacements have in common.
 
-ghost use Rattle.std.specs.Prelude.{◌≡◌, ◌↔◌, true, false, map, IfOk, IfErr, IfSome, OnOk, OnErr, IsNone, IsTrue};
+ghost use Rattle.std.specs.Prelude.{◌≡◌, ◌↔◌, true, false, List, map, refl, IfOk, IfErr, IfSome, OnOk, OnErr, IsNone, IsTrue};
 ghost use Rattle.std.specs.String.{string_bytes};
 ghost use Rattle.souper_graph.specs.Values.{Item as PlainItem};
 ghost use Rattle.souper_graph.specs.View.{view_statement, view_left_hand_side, view_right_hand_side, view_replacement};
+ghost use Rattle.std.specs.Borrow.{sem};
+ghost use Rattle.souper_graph.specs.declared.ast.statements.Statement.{Statement as StatementNode};
+ghost use Rattle.souper_graph.specs.Lending.{LendsStatements};
+ghost use Rattle.souper_graph.specs.StatementsPut.{left_hand_side_of, right_hand_side_of, replacement_of, replacement_puts};
 ghost use Rattle.souper_graph.specs.Uses.{root_operands};
 ghost use Rattle.souper_graph.specs.Faults.{IsFaultOf};
 ghost use Rattle.souper_graph.specs.PrintOrder.{IsPrintOrder};
 ghost use Rattle.souper_graph.specs.ItemText.{IsItemText, AppendsItemText};
-ghost use Rattle.souper_graph.specs.Renaming.{IsRenamed};
+ghost use Rattle.souper_graph.specs.Renaming.{IsRenamed, with_statements};
+ghost use Rattle.souper_graph.specs.Replacing.{with_uses_replaced};
 ghost use Rattle.souper_graph.specs.WellFormed.{WellFormed};
 ghost use Rattle.souper_graph.specs.Flaws.{IsFirstFlaw};
 ghost use Rattle.souper_graph.specs.Endings.{replacement_ending};
@@ -16,6 +21,7 @@ ghost use Rattle.souper_graph.specs.Syntax.Spelling.{ItemType, left_hand_side, r
 
 use crate::ast::arenas::Arena;
 use crate::ast::flaws::Flaw;
+use crate::ast::ids::ValueId;
 use crate::ast::items::{LeftHandSide, Replacement, RightHandSide};
 use crate::ast::operands::Operand;
 use crate::ast::statements::Statement;
@@ -32,9 +38,21 @@ pub trait Item {
     /// The item as plain data.
     ghost view: { Self → PlainItem };
 
+    /// The item with other statements.
+    ghost put_statements: { Self → List StatementNode → Self };
+
     /// The statements, at the positions that ids name.
     fn statements(&self) -> &Arena<Statement>
         ensures { map view_statement result.now ≡ (view self.now).statements };
+
+    /// The statements, for writing. The last lines stay.
+    fn statements_mut(&mut self) -> &mut Arena<Statement>
+        ensures* writes_back { sem 𝓛 (LendsStatements Self.row put_statements self.entry result) }
+        ensures value { map view_statement result.now ≡ (view self.old).statements };
+
+    /// Puts `by` in the place of each operand that is the value `of`, as [`Replacement::replace_uses`] does.
+    fn replace_uses(&mut self, of: ValueId, by: Operand)
+        ensures { view self.new ≡ with_uses_replaced of by (view self.old) };
 
     /// The operands of the last lines, in the order of the text: one, or the left-hand side and then its replacement.
     fn roots(&self) -> ArrayVec<Operand, 2>
@@ -80,6 +98,9 @@ pub trait Item {
         ensures none { IfOk result (λ found. IsNone found ↔ WellFormed (view self.now)) }
         ensures first { IfOk result (λ found. IfSome found (IsFirstFlaw (view self.now))) };
 
+    /// Other statements leave the last lines as they are.
+    ghost puts: { (item : Self) (ss : List StatementNode) → view (put_statements item ss) ≡ with_statements (view item) (map view_statement ss) };
+
     /// The item has the last lines of its type.
     ghost ends: { (item : Self) → IsEndingOf item_type (view item).ending };
 }
@@ -89,10 +110,22 @@ impl Item for LeftHandSide {
 
     ghost view = { view_left_hand_side };
 
+    ghost put_statements = { left_hand_side_of };
+
+    ghost puts = { λ item ss. refl };
+
     ghost ends = { λ item. tt };
 
     fn statements(&self) -> &Arena<Statement> {
         &self.statements
+    }
+
+    fn statements_mut(&mut self) -> &mut Arena<Statement> {
+        &mut self.statements
+    }
+
+    fn replace_uses(&mut self, of: ValueId, by: Operand) {
+        LeftHandSide::replace_uses(self, of, by)
     }
 
     fn roots(&self) -> ArrayVec<Operand, 2> {
@@ -136,10 +169,22 @@ impl Item for RightHandSide {
 
     ghost view = { view_right_hand_side };
 
+    ghost put_statements = { right_hand_side_of };
+
+    ghost puts = { λ item ss. refl };
+
     ghost ends = { λ item. tt };
 
     fn statements(&self) -> &Arena<Statement> {
         &self.statements
+    }
+
+    fn statements_mut(&mut self) -> &mut Arena<Statement> {
+        &mut self.statements
+    }
+
+    fn replace_uses(&mut self, of: ValueId, by: Operand) {
+        RightHandSide::replace_uses(self, of, by)
     }
 
     fn roots(&self) -> ArrayVec<Operand, 2> {
@@ -183,6 +228,10 @@ impl Item for Replacement {
 
     ghost view = { view_replacement };
 
+    ghost put_statements = { replacement_of };
+
+    ghost puts = { replacement_puts };
+
     ghost ends = { replacement_ending };
 
     fn statements(&self) -> &Arena<Statement> {
@@ -190,6 +239,17 @@ impl Item for Replacement {
             Replacement::LhsRhs { statements, .. } => statements,
             Replacement::Cand { statements, .. } => statements,
         }
+    }
+
+    fn statements_mut(&mut self) -> &mut Arena<Statement> {
+        match self {
+            Replacement::LhsRhs { statements, .. } => statements,
+            Replacement::Cand { statements, .. } => statements,
+        }
+    }
+
+    fn replace_uses(&mut self, of: ValueId, by: Operand) {
+        Replacement::replace_uses(self, of, by)
     }
 
     fn roots(&self) -> ArrayVec<Operand, 2> {
