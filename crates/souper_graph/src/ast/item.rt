@@ -10,7 +10,7 @@ ghost use Rattle.souper_graph.specs.Lending.{LendsStatements};
 ghost use Rattle.souper_graph.specs.StatementsPut.{left_hand_side_of, right_hand_side_of, replacement_of, replacement_puts};
 ghost use Rattle.souper_graph.specs.Uses.{root_operands};
 ghost use Rattle.souper_graph.specs.Faults.{IsFaultOf};
-ghost use Rattle.souper_graph.specs.PrintOrder.{IsPrintOrder};
+ghost use Rattle.souper_graph.specs.PrintOrder.{IsPrintOrder, IsEmptyOrder};
 ghost use Rattle.souper_graph.specs.ItemText.{IsItemText, AppendsItemText};
 ghost use Rattle.souper_graph.specs.Renaming.{IsRenamed, with_statements};
 ghost use Rattle.souper_graph.specs.Replacing.{with_uses_replaced};
@@ -62,6 +62,12 @@ pub trait Item {
     fn print_order(&self) -> Result<Order, TextError>
         ensures refused { IfErr result (λ error. IsFaultOf (view self.now) error) }
         ensures ordered { IfOk result (λ order. IsPrintOrder (view self.now) order.ids.items order.lead order.turns) };
+
+    /// The printed order in the memory of an earlier one, as [`LeftHandSide::print_order_into`] returns it.
+    fn print_order_into(&self, order: &mut Order) -> Result<(), TextError>
+        ensures refused { IfErr result (λ error. IsFaultOf (view self.now) error) }
+        ensures ordered { OnOk result (IsPrintOrder (view self.now) order.new.ids.items order.new.lead order.new.turns) }
+        ensures emptied { OnErr result (IsEmptyOrder order.new.ids.items order.new.lead order.new.turns) };
 
     /// Appends the canonical text to `out`, as [`LeftHandSide::append_text`] does.
     fn append_text(&self, out: &mut String) -> Result<(), TextError>
@@ -138,6 +144,10 @@ impl Item for LeftHandSide {
         LeftHandSide::print_order(self)
     }
 
+    fn print_order_into(&self, order: &mut Order) -> Result<(), TextError> {
+        LeftHandSide::print_order_into(self, order)
+    }
+
     fn append_text(&self, out: &mut String) -> Result<(), TextError> {
         LeftHandSide::append_text(self, out)
     }
@@ -195,6 +205,10 @@ impl Item for RightHandSide {
 
     fn print_order(&self) -> Result<Order, TextError> {
         RightHandSide::print_order(self)
+    }
+
+    fn print_order_into(&self, order: &mut Order) -> Result<(), TextError> {
+        RightHandSide::print_order_into(self, order)
     }
 
     fn append_text(&self, out: &mut String) -> Result<(), TextError> {
@@ -269,6 +283,10 @@ impl Item for Replacement {
 
     fn print_order(&self) -> Result<Order, TextError> {
         Replacement::print_order(self)
+    }
+
+    fn print_order_into(&self, order: &mut Order) -> Result<(), TextError> {
+        Replacement::print_order_into(self, order)
     }
 
     fn append_text(&self, out: &mut String) -> Result<(), TextError> {
