@@ -3,7 +3,7 @@ use Rattle.std.specs.Prelude.{◌≡◌, ℕ, map, if◌then◌else◌, nat_eq}
 use Rattle.souper_graph.specs.declared.ast.operands.Operand.{Operand}
 use Rattle.souper_graph.specs.declared.ast.operands.Operand.TheVariants.{Value, Constant}
 use Rattle.souper_graph.specs.Instructions.{instruction_map}
-use Rattle.souper_graph.specs.Values.{PlainRhs, var, block, phi, reserved_inst, reserved_const, instruction, PlainStatement, assigned, condition, block_condition, PlainCand, Ending, inferred, resulting, replaced, candidate, Item}
+use Rattle.souper_graph.specs.Values.{PlainRhs, var, block, phi, reserved_inst, reserved_const, instruction, PlainStatement, assigned, condition, block_condition, Ending, inferred, resulting, replaced, candidate, Item}
 
 -- each result of the closure is what g has for its argument
 abbrev pub Computes : (Operand → Operand → Type 0) → (Operand → Operand) → Type 0

@@ -225,7 +225,7 @@ impl ReplacementBuilder {
     ) -> Replacement
         ensures { result ≡ cand_variant self (record { lhs = lhs; rhs = rhs; attributes = attributes }) }
     {
-        let ReplacementBuilder { statements } = self;
+        let Self { statements } = self;
         let cand = Cand {
             lhs,
             rhs,

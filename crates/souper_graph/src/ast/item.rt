@@ -11,6 +11,7 @@ ghost use Rattle.souper_graph.specs.StatementsPut.{left_hand_side_of, right_hand
 ghost use Rattle.souper_graph.specs.Uses.{root_operands};
 ghost use Rattle.souper_graph.specs.Faults.{IsFaultOf};
 ghost use Rattle.souper_graph.specs.PrintOrder.{IsPrintOrder, IsEmptyOrder};
+ghost use Rattle.souper_graph.specs.Text.{text_of};
 ghost use Rattle.souper_graph.specs.ItemText.{IsItemText, AppendsItemText};
 ghost use Rattle.souper_graph.specs.Renaming.{IsRenamed, with_statements};
 ghost use Rattle.souper_graph.specs.Replacing.{with_uses_replaced};
@@ -31,7 +32,7 @@ use std::alloc::AllocError;
 
 /// A left-hand side, a right-hand side or a replacement, for functions that take any of them.
 ///
-/// The calls are those that the types themselves have.
+/// The calls are those that the types themselves have, and besides `statements_mut` and `well_formed_text`.
 pub trait Item {
     ghost item_type: { ItemType };
 
@@ -79,6 +80,20 @@ pub trait Item {
     fn to_text(&self) -> Result<String, TextError>
         ensures refused { IfErr result (λ error. IsFaultOf (view self.now) error) }
         ensures printed { IfOk result (λ text. IsItemText item_type (view self.now) (string_bytes text)) };
+
+    /// The canonical text of a well-formed item. Its only error is out of memory.
+    fn well_formed_text(&self) -> Result<String, AllocError>
+        requires { WellFormed (view self.now) }
+        ensures { IfOk result (λ text. string_bytes text ≡ text_of (view self.now)) }
+    {
+        match self.to_text() {
+            Ok(text) => Ok(text),
+            Err(error) => match error {
+                TextError::OutOfMemory => Err(AllocError),
+                _ => unreachable!(),
+            },
+        }
+    }
 
     /// A copy that is named by its printed order, as [`LeftHandSide::renamed`] returns it.
     fn renamed(&self) -> Result<Self, TextError>
