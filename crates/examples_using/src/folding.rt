@@ -10,10 +10,12 @@ use souper_ir::ast::{AssignmentRhs, Constant, Id, Instruction, Item, Operand, Va
 fn sum(rhs: &AssignmentRhs) -> Option<Constant>
     ensures { IfSome result (IsSum (view_rhs rhs.now)) }
 {
-    let AssignmentRhs::Instruction(Instruction::Add {
-        a: Operand::Constant(a),
-        b: Operand::Constant(b),
-    }) = rhs
+    let AssignmentRhs::Instruction(
+        Instruction::Add {
+            a: Operand::Constant(a),
+            b: Operand::Constant(b),
+        },
+    ) = rhs
     else {
         return None;
     };
@@ -57,10 +59,14 @@ mod tests {
 
     #[test]
     fn sums_become_constants(rt: HostRuntime) -> Result<(), Fail> {
-        let source = "%x:i8 = var\n%1 = add 1:i8, 2:i8\n%2 = add %1, 3:i8\n%3 = mul %x, %2\ninfer %3";
+        let source =
+            "%x:i8 = var\n%1 = add 1:i8, 2:i8\n%2 = add %1, 3:i8\n%3 = mul %x, %2\ninfer %3";
         let mut item = read_one(rt.alloc(), source)?.ok_or("not one")?;
         fold_adds(&mut item);
-        assert_eq!(rt; item.to_text()?.as_str(), "%x:i8 = var\n%3 = mul %x, 6:i8\ninfer %3\n");
+        assert_eq!(rt;
+            item.to_text()?.as_str(),
+            "%x:i8 = var\n%3 = mul %x, 6:i8\ninfer %3\n"
+        );
         Ok(())
     }
 

@@ -41,18 +41,27 @@ fn uses_come_in_the_order_of_the_text(rt: HostRuntime) {
 }
 
 #[test]
-fn uses_are_replaced_and_the_infer_line_stays(rt: HostRuntime) {
+fn uses_are_replaced_but_no_constant_is_inferred(rt: HostRuntime) {
     let alloc = rt.alloc();
     let (graph, x, sum) = branching(&rt, alloc);
     let mut item = graph.infer(sum);
     item.replace_uses(x, number(7));
-    let want =
-        "%b = block 2\n%p = phi %b, 7, 1\n%y = add %p, 7\nblockpc %b 1 7 0\ninfer %y\n";
+    let want = "%b = block 2\n%p = phi %b, 7, 1\n%y = add %p, 7\nblockpc %b 1 7 0\ninfer %y\n";
     item_is(&rt, alloc, item, want, true);
     let (graph, x, _) = branching(&rt, alloc);
     let mut item = graph.replaced(x, x.into());
     item.replace_uses(x, number(7));
     let want = "%x = var\n%b = block 2\nblockpc %b 1 7 0\ninfer %x\nresult 7\n";
+    item_is(&rt, alloc, item, want, true);
+}
+
+#[test]
+fn value_of_an_infer_line_is_replaced(rt: HostRuntime) {
+    let alloc = rt.alloc();
+    let (graph, x, sum) = branching(&rt, alloc);
+    let mut item = graph.infer(sum);
+    item.replace_uses(sum, x.into());
+    let want = "%x = var\n%b = block 2\nblockpc %b 1 %x 0\ninfer %x\n";
     item_is(&rt, alloc, item, want, true);
 }
 
@@ -105,11 +114,7 @@ fn builder_goes_on_where_an_item_ends(rt: HostRuntime) {
     item_is(&rt, alloc, item, want, true);
     let item = LeftHandSideBuilder::new(alloc).finish(x, Vec::new(alloc));
     let builder = LeftHandSideBuilder::from(item);
-    equal(
-        &rt,
-        builder.finish(x, Vec::new(alloc)).statements.len(),
-        0,
-    );
+    equal(&rt, builder.finish(x, Vec::new(alloc)).statements.len(), 0);
 }
 
 #[test]

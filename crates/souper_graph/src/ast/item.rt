@@ -51,7 +51,7 @@ pub trait Item {
         ensures* writes_back { sem 𝓛 (LendsStatements Self.row put_statements self.entry result) }
         ensures value { map view_statement result.now ≡ (view self.old).statements };
 
-    /// Puts `by` in the place of each operand that is the value `of`, as [`Replacement::replace_uses`] does.
+    /// Puts `by` in the place of each use of the value `of`, as [`Replacement::replace_uses`] does.
     fn replace_uses(&mut self, of: ValueId, by: Operand)
         ensures { view self.new ≡ with_uses_replaced of by (view self.old) };
 
