@@ -1,5 +1,6 @@
 /* Souper IR for C and C++: canonical texts and their keys, whether two texts have the same graphs, whether a text is canonical,
- * the code of graphs, which is read and written without a parser, and where a stream of items may be cut.
+ * what replacements answer for left-hand sides, the code of graphs, which is read and written without a parser, and where a
+ * stream of items may be cut.
  *
  * The functions are those of libsouper_c.a, whose contracts are proved. docs/EMBEDDING.md says what is proved, what is tested,
  * and how to build and link.
@@ -163,6 +164,24 @@ SOUPER_CALL SouperLocation souper_locate(uint32_t kind, const uint8_t *text, siz
  * DONE: yes. DIFFERENT: no. REFUSED: text number `input` spells no list of such items; `length` is what souper_format
  * would write for it. NO_KIND, OUT_OF_MEMORY, NOT_UTF8. The second text is read after the first. */
 SOUPER_CALL SouperOutcome souper_same(uint32_t kind, const uint8_t *a, size_t a_length, const uint8_t *b, size_t b_length);
+
+/* Writes what the replacements of `store` answer for each left-hand side of `queries`, in order, to the beginning of `out`: one
+ * string each, ended by a byte 0, with the canonical text of each answer and a newline after it. So an answer ends with an empty
+ * line, and the string of a left-hand side without an answer is empty.
+ *
+ * The answers are the replacements whose left-hand side is the same graph up to names, in the order in which `store` has them
+ * first, with the names of the left-hand side that was asked for: the text of each begins with its text. A replacement that
+ * `store` has twice, up to names, is one answer. A `cand` of a value is written with `infer` and `result`; one of a constant has
+ * no left-hand side.
+ *
+ * DONE: `length` bytes were written. REFUSED: text number `input` is refused, 0 for `store`, 1 for `queries`; what souper_format
+ * would write for it, as replacements or as left-hand sides, was written. SHORT, OUT_OF_MEMORY, NOT_UTF8 and the other bytes of
+ * `out`: as for souper_format. `queries` is read after `store`.
+ *
+ * Each call reads `store` anew: ask for many left-hand sides at once, or pass the replacements alone that a database has by the
+ * keys of left-hand sides. */
+SOUPER_CALL SouperOutcome souper_find(const uint8_t *store, size_t store_length, const uint8_t *queries, size_t queries_length,
+                                      uint8_t *out, size_t out_length);
 
 /* The last cut point of a text that begins where a stream does, or at a cut point of it: what comes before can be read by itself, by
  * each call above. A stream is cut where an item ends and a line of the next begins, as the tokens of the lines show it, be the items

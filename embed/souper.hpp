@@ -1,5 +1,6 @@
 // Souper IR for C++17: items as values, which are read, built and written; canonical texts and their keys; whether two texts have
-// the same graphs, whether a text is canonical; the items of a stream that comes in parts.
+// the same graphs, whether a text is canonical; what replacements answer for left-hand sides; the items of a stream that comes in
+// parts.
 //
 // Over souper.h, which says what the calls promise and what the caller sees to; these functions see to the pointers. Each has two
 // forms:
@@ -1201,11 +1202,8 @@ template <typename Call> bool collect(std::string &out, std::size_t room, error 
     return false;
 }
 
-// The same of a text, which is located if it is refused.
-template <typename Call> bool collect_of(kind k, std::string_view text, std::string &out, std::size_t room, error &e, Call call) {
-    if (collect(out, room, e, call)) {
-        return true;
-    }
+// Where the text is at fault, if the error says that it was refused.
+inline void locate(kind k, std::string_view text, error &e) {
     if (e.what == status::refused) {
         const SouperLocation found = souper_locate(static_cast<std::uint32_t>(k), bytes(text), text.size());
         if (found.status == SOUPER_REFUSED) {
@@ -1213,6 +1211,14 @@ template <typename Call> bool collect_of(kind k, std::string_view text, std::str
             e.at_end = found.at_end != 0;
         }
     }
+}
+
+// What a call writes for a text, which is located if it is refused.
+template <typename Call> bool collect_of(kind k, std::string_view text, std::string &out, std::size_t room, error &e, Call call) {
+    if (collect(out, room, e, call)) {
+        return true;
+    }
+    locate(k, text, e);
     return false;
 }
 
@@ -1284,6 +1290,34 @@ inline bool records(kind k, std::string_view text, bool rename, std::vector<reco
     for (std::size_t at = 0; at < all.size();) {
         const std::size_t end = all.find('\0', at);
         out.push_back(record{all.substr(at + before, digits), all.substr(at + head, end - at - head)});
+        at = end + 1;
+    }
+    return true;
+}
+
+// The texts of items, each of which a newline ends and an empty line follows.
+inline std::vector<std::string> texts(std::string_view all) {
+    std::vector<std::string> found;
+    for (std::size_t at = 0; at < all.size();) {
+        const std::size_t end = all.find("\n\n", at);
+        found.emplace_back(all.substr(at, end + 1 - at));
+        at = end + 2;
+    }
+    return found;
+}
+
+// What is written for a left-hand side ends with a byte 0.
+inline bool find(std::string_view store, std::string_view queries, std::vector<std::vector<std::string>> &answers, error &e) {
+    std::string all;
+    if (!collect(all, 2 * queries.size() + 256, e, [store, queries](std::uint8_t *to, std::size_t room) {
+            return souper_find(bytes(store), store.size(), bytes(queries), queries.size(), to, room);
+        })) {
+        locate(e.input == 0 ? kind::rep : kind::lhs, e.input == 0 ? store : queries, e);
+        return false;
+    }
+    for (std::size_t at = 0; at < all.size();) {
+        const std::size_t end = all.find('\0', at);
+        answers.push_back(texts(std::string_view(all).substr(at, end - at)));
         at = end + 1;
     }
     return true;
@@ -1407,6 +1441,12 @@ inline namespace SOUPER_FORM {
 /// See `records`.
 [[nodiscard]] inline bool try_records(kind k, std::string_view text, bool rename, std::vector<record> &out, error &e) noexcept {
     return detail::guarded(out, e, [&](auto &o, error &why) { return detail::records(k, text, rename, o, why); });
+}
+
+/// See `find`.
+[[nodiscard]] inline bool try_find(std::string_view store, std::string_view queries, std::vector<std::vector<std::string>> &answers,
+                                   error &e) noexcept {
+    return detail::guarded(answers, e, [&](auto &o, error &why) { return detail::find(store, queries, o, why); });
 }
 
 /// See `encode`.
@@ -1573,6 +1613,17 @@ inline std::string key(kind k, std::string_view text, flags f = flags::key) {
 inline std::vector<record> records(kind k, std::string_view text, bool rename = false) {
     return detail::output<std::vector<record>>(
         [&](std::vector<record> &out, error &e) { return try_records(k, text, rename, out, e); });
+}
+
+/// For each left-hand side of `queries`, in order, the canonical text of each of its answers in `store`, without the newline that
+/// `format` writes after it: of the replacements whose left-hand side is the same graph up to names, in the order in which `store`
+/// has them first, with the names of the left-hand side that was asked for. `refused` has 0 as `input` for the replacements of
+/// `store`, 1 for the left-hand sides.
+///
+/// Each call reads `store` anew, so many left-hand sides are best asked for at once.
+inline std::vector<std::vector<std::string>> find(std::string_view store, std::string_view queries) {
+    return detail::output<std::vector<std::vector<std::string>>>(
+        [&](std::vector<std::vector<std::string>> &out, error &e) { return try_find(store, queries, out, e); });
 }
 
 /// The code of items, which `decode` and souper_write read. Throws `not_well_formed` if an item has a value without a code: a

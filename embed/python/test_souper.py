@@ -902,6 +902,74 @@ class Building(unittest.TestCase):
             self.assertEqual(souper.canonical(item.kind, found), found)
 
 
+class Find(unittest.TestCase):
+    """What a store of replacements answers."""
+
+    STORE = """
+        %x:i8 = var  %y = add %x, %x  infer %y  %z = shl %x, 1  result %z
+        %a:i8 = var  %b = add %a, %a  cand %b 0
+        %c:i8 = var  %d = add %c, %c  %e = shl %c, 1  cand %d %e
+        cand 3 4"""
+
+    def test_answers(self) -> None:
+        asked = "%p:i8 = var %q = add %p, %p infer %q  %p = var infer %p"
+        first = "%p:i8 = var\n%q = add %p, %p\ninfer %q\n"
+        wanted = [[f"{first}%2 = shl %p, 1\nresult %2\n", f"{first}result 0\n"], []]
+        self.assertEqual(souper.find(self.STORE, asked), wanted)
+        self.assertEqual(souper.find(self.STORE.encode(), asked.encode()), wanted)
+        self.assertEqual(souper.find("", asked), [[], []])
+        self.assertEqual(souper.find(self.STORE, "; none"), [])
+
+    def test_an_answer_is_canonical(self) -> None:
+        [answers] = souper.find(self.STORE, "%2:i8 = var %0 = add %2, %2 infer %0")
+        for answer in answers:
+            self.assertTrue(souper.check("rep", answer + "\n"))
+            self.assertEqual(len(souper.read("rep", answer)), 1)
+
+    def test_a_stored_replacement_answers_its_left_hand_side(self) -> None:
+        count = 0
+        for record in VALID:
+            for item in souper.read(record.kind, record.answer):
+                if item.kind is Kind.REP and isinstance(item.ending, souper.Replace):
+                    self.is_answered(item, Item(item.statements, item.ending.infer))
+                    count += 1
+        self.assertGreater(count, 50)
+
+    def is_answered(self, item: Item, asked: Item) -> None:
+        stored, query = souper.write("rep", [item]), souper.write("lhs", [asked])
+        [[answer]] = souper.find(stored, query)
+        self.assertTrue(answer.startswith(query[:-1]))
+        renamed = partial(souper.record_text, "rep", rename=True)
+        self.assertEqual(renamed(answer), renamed(stored))
+
+    def test_more_answers_than_the_first_buffer_has_room_for(self) -> None:
+        store = "".join(f"%x:i8 = var infer %x result {n} " for n in range(500))
+        [answers] = souper.find(store, "%y:i8 = var infer %y")
+        self.assertEqual(answers, [f"%y:i8 = var\ninfer %y\nresult {n}\n" for n in range(500)])
+
+    def test_what_is_refused(self) -> None:
+        for store, asked, input in (("infer", "%x", 0), ("", "%x = var infer", 1)):
+            with self.assertRaises(souper.Refused) as raised:
+                souper.find(store, asked)
+            refusal = raised.exception
+            self.assertEqual((refusal.input, refusal.at_end), (input, True))
+            with self.assertRaises(souper.Refused) as again:
+                souper.format(*(("rep", store) if input == 0 else ("lhs", asked)))
+            self.assertEqual(replaced(refusal), replaced(again.exception))
+
+    def test_texts(self) -> None:
+        none: Any = None
+        self.assertRaises(TypeError, souper.find, none, "")
+        self.assertRaises(TypeError, souper.find, "", none)
+        self.assertRaises(UnicodeDecodeError, souper.find, b"\xff", "")
+        self.assertRaises(UnicodeDecodeError, souper.find, "", b"\xff")
+
+
+def replaced(refusal: souper.Refused) -> dict[str, object]:
+    """The fields of a refusal but for the number of its text."""
+    return {name: value for name, value in vars(refusal).items() if name != "input"}
+
+
 class Arguments(unittest.TestCase):
     """Arguments and failures of the calls."""
 
@@ -990,6 +1058,7 @@ class Arguments(unittest.TestCase):
 
     def test_statuses(self) -> None:
         calls = [*each_call(Kind.LHS, b""), partial(souper.write, Kind.LHS, [])]
+        calls.append(partial(souper.find, "", ""))
         for status, error in ((3, MemoryError), (9, RuntimeError), (4, RuntimeError)):
             outcome = _library.Outcome(status=status)
             library = mock.Mock(**{f"{name}.return_value": outcome for name in _library.SIGNATURES})

@@ -203,6 +203,32 @@ static void cuts(const Record *record) {
     expect(equal(souper_last_cut(record->kind, record->text, record->text_length), wanted), "the last cut point", record);
 }
 
+/* As a store that is asked nothing, or as left-hand sides that an empty store is asked for: a byte 0 for each. */
+static void asked(const Record *record, SouperOutcome format) {
+    int is_store = record->kind == SOUPER_REP;
+    const uint8_t *none = (const uint8_t *)"";
+    size_t room = record->answer_length, count = 0;
+    uint8_t *out = buffer(room);
+    SouperOutcome outcome = is_store ? souper_find(record->text, record->text_length, none, 0, out, room)
+                                     : souper_find(none, 0, record->text, record->text_length, out, room);
+    if (record->status == SOUPER_REFUSED) {
+        format.input = is_store ? 0 : 1;
+        expect(equal(outcome, format) && memcmp(out, record->answer, room) == 0, "a store or a query that is refused", record);
+    } else {
+        SouperOutcome wanted = nothing;
+        for (size_t i = 1; !is_store && i < room; i++) {
+            count += record->answer[i - 1] == '\n' && record->answer[i] == '\n';
+        }
+        wanted.length = count;
+        expect(equal(outcome, wanted) && untouched(out + count, room - count), "the answers of an empty store", record);
+        while (count > 0 && out[count - 1] == 0) {
+            count--;
+        }
+        expect(count == 0, "that there are none", record);
+    }
+    free(out);
+}
+
 static const Record *next_of_kind(const Record *record, const Record *end) {
     for (const Record *next = record + 1; next < end; next++) {
         if (next->kind == record->kind && next->status == SOUPER_DONE && next->answer_length > 0) {
@@ -237,6 +263,32 @@ static void locations(void) {
     }
 }
 
+/* Two replacements with one left-hand side, the first of them twice, by buffers of every length; a left-hand side without an answer. */
+static void found(void) {
+    static const char store[] = "%x:i32 = var %y = mul %x, 2 infer %y %z = shl %x, 1 result %z  %a:i32 = var %b = mul %a, 2 cand %b 0 "
+                                "%c:i32 = var %d = mul %c, 2 %e = shl %c, 1 cand %d %e  cand 3 4";
+    static const char queries[] = "%n:i32 = var %t = mul %n, 2 infer %t  %n:i32 = var infer %n  %3:i32 = var %2 = mul %3, 2 infer %2";
+    static const char answers[] = "%n:i32 = var\n%t = mul %n, 2\ninfer %t\n%2 = shl %n, 1\nresult %2\n\n"
+                                  "%n:i32 = var\n%t = mul %n, 2\ninfer %t\nresult 0\n\n\0"
+                                  "\0"
+                                  "%3:i32 = var\n%2 = mul %3, 2\ninfer %2\n%4 = shl %3, 1\nresult %4\n\n"
+                                  "%3:i32 = var\n%2 = mul %3, 2\ninfer %2\nresult 0\n\n";
+    for (size_t room = 0; room <= sizeof answers + 3; room++) {
+        uint8_t *out = buffer(room);
+        SouperOutcome wanted = nothing;
+        SouperOutcome outcome = souper_find((const uint8_t *)store, strlen(store), (const uint8_t *)queries, strlen(queries), out, room);
+        wanted.status = room < sizeof answers ? SOUPER_SHORT : SOUPER_DONE;
+        wanted.length = sizeof answers;
+        expect(equal(outcome, wanted), "the outcome of answers", NULL);
+        if (wanted.status == SOUPER_SHORT) {
+            expect(untouched(out, room), "short answers", NULL);
+        } else {
+            expect(memcmp(out, answers, sizeof answers) == 0 && untouched(out + sizeof answers, room - sizeof answers), "the answers", NULL);
+        }
+        free(out);
+    }
+}
+
 /* What no number may do: a kind that is none, bytes that are no text, no bytes. */
 static void numbers(void) {
     static const uint32_t none[] = {3, 7, 256, 0x80000000u, UINT32_MAX};
@@ -244,6 +296,11 @@ static void numbers(void) {
     SouperOutcome no_kind = nothing, no_text = nothing;
     no_kind.status = SOUPER_NO_KIND;
     no_text.status = SOUPER_NOT_UTF8;
+    SouperOutcome second_text = no_text;
+    second_text.input = 1;
+    expect(equal(souper_find(bad, sizeof bad, bad, sizeof bad, &byte, 1), no_text) && byte == 0xaa, "no text, store", NULL);
+    expect(equal(souper_find(&empty, 0, bad, sizeof bad, &byte, 1), second_text) && byte == 0xaa, "no text, queries", NULL);
+    expect(equal(souper_find(&empty, 0, &empty, 0, &byte, 0), nothing) && byte == 0xaa, "no bytes, find", NULL);
     for (size_t i = 0; i < sizeof none / sizeof *none; i++) {
         expect(equal(souper_format(none[i], bad, sizeof bad, &byte, 1), no_kind) && byte == 0xaa, "no kind", NULL);
         expect(equal(souper_read(none[i], bad, sizeof bad, &byte, 1), no_kind) && byte == 0xaa, "no kind, code", NULL);
@@ -257,8 +314,6 @@ static void numbers(void) {
         expect(equal(souper_same(none[i], bad, sizeof bad, bad, sizeof bad), no_kind), "no kind, same", NULL);
     }
     for (uint32_t kind = SOUPER_LHS; kind <= SOUPER_REP; kind++) {
-        SouperOutcome second = no_text;
-        second.input = 1;
         expect(equal(souper_format(kind, bad, sizeof bad, &byte, 1), no_text) && byte == 0xaa, "no text", NULL);
         expect(equal(souper_read(kind, bad, sizeof bad, &byte, 1), no_text) && byte == 0xaa, "no text, code", NULL);
         expect(equal(souper_key(kind, 7, bad, sizeof bad, &byte, 1), no_text) && byte == 0xaa, "no text, key", NULL);
@@ -271,7 +326,7 @@ static void numbers(void) {
         expect(equal(souper_last_cut(kind, bad_line, sizeof bad_line), no_text), "no text, last cut", NULL);
         expect(equal(souper_first_segment(kind, bad, sizeof bad), no_text), "no text, first segment", NULL);
         expect(equal(souper_same(kind, bad, sizeof bad, &empty, 0), no_text), "no text, first", NULL);
-        expect(equal(souper_same(kind, &empty, 0, bad, sizeof bad), second), "no text, second", NULL);
+        expect(equal(souper_same(kind, &empty, 0, bad, sizeof bad), second_text), "no text, second", NULL);
         expect(equal(souper_format(kind, &empty, 0, &byte, 0), nothing), "no bytes", NULL);
         expect(equal(souper_write(kind, &empty, 0, &byte, 0), nothing), "no bytes, write", NULL);
         expect(equal(souper_check(kind, &empty, 0), nothing), "no bytes, check", NULL);
@@ -294,13 +349,17 @@ int main(int argc, char **argv) {
         recorded(&records[i]);
         questions(&records[i], outcome);
         cuts(&records[i]);
+        if (records[i].kind != SOUPER_RHS) {
+            asked(&records[i], outcome);
+        }
         const Record *next = next_of_kind(&records[i], records + count);
         if (records[i].status == SOUPER_DONE && next != NULL) {
             neighbors(&records[i], next);
         }
     }
     locations();
+    found();
     numbers();
     free_records(records);
-    return summary("C: the stored answers, every length of the buffer, the questions, codes and records");
+    return summary("C: the stored answers, every length of the buffer, the questions, codes, records and answers");
 }

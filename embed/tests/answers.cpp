@@ -29,6 +29,11 @@ void refusal(const Record &record, souper::kind kind, std::string_view text, std
     expect(is_refused([&] { return souper::check(kind, text); }, answer, 0), "the exception of check", &record);
     expect(is_refused([&] { return souper::same(kind, text, {}); }, answer, 0), "the exception of same, first", &record);
     expect(is_refused([&] { return souper::same(kind, {}, text); }, answer, 1), "the exception of same, second", &record);
+    if (kind == souper::kind::rep) {
+        expect(is_refused([&] { return souper::find(text, "x"); }, answer, 0), "the exception of find, the store", &record);
+    } else if (kind == souper::kind::lhs) {
+        expect(is_refused([&] { return souper::find({}, text); }, answer, 1), "the exception of find, the queries", &record);
+    }
 }
 
 void acceptance(const Record &record, souper::kind kind, std::string_view text, std::string_view answer) {
@@ -55,6 +60,28 @@ void bytes() {
     expect(is_not_utf8([&] { return souper::format(kind, "\xff"); }, 0), "no text, format", nullptr);
     expect(is_not_utf8([&] { return souper::check(kind, "\xff"); }, 0), "no text, check", nullptr);
     expect(is_not_utf8([&] { return souper::same(kind, "", "\xff"); }, 1), "no text, same", nullptr);
+    expect(is_not_utf8([&] { return souper::find("\xff", "\xff"); }, 0), "no text, find", nullptr);
+    expect(is_not_utf8([&] { return souper::find({}, "\xff"); }, 1), "no text, find", nullptr);
+    expect(souper::find({}, {}).empty(), "no left-hand sides", nullptr);
+}
+
+// Two answers, none, one; and answers that are longer than the first guess at their length.
+void found() {
+    const std::string store = "%x:i8 = var %y = add %x, %x infer %y %z = shl %x, 1 result %z  %a:i8 = var %b = add %a, %a cand %b 0 "
+                              "%x = var infer %x %m = freeze %x %k = freeze %m result %k";
+    const auto answers = souper::find(store, "%p:i8 = var %q = add %p, %p infer %q  %p:i8 = var infer %p  %p = var infer %p");
+    const std::string first = "%p:i8 = var\n%q = add %p, %p\ninfer %q\n";
+    const std::vector<std::vector<std::string>> wanted = {{first + "%2 = shl %p, 1\nresult %2\n", first + "result 0\n"},
+                                                          {},
+                                                          {"%p = var\ninfer %p\n%1 = freeze %p\n%2 = freeze %1\nresult %2\n"}};
+    expect(answers == wanted, "the answers for three left-hand sides", nullptr);
+    expect(souper::find("; none", "%p = var infer %p").at(0).empty(), "an empty store", nullptr);
+    std::string queries;
+    for (int i = 0; i < 300; i++) {
+        queries += "%x = var infer %x ";
+    }
+    const auto many = souper::find(store, queries);
+    expect(many.size() == 300 && many.back().size() == 1, "answers that are longer than the first buffer", nullptr);
 }
 
 // A text whose answers are longer than the first guess at their length: the buffer is too short at first.
@@ -86,6 +113,11 @@ void located(const char *what, souper::kind kind, std::string_view text, const s
     expect(location_of([&] { souper::read(kind, text); }, 0, at_end) == at, what, nullptr);
     expect(location_of([&] { souper::key(kind, text); }, 0, at_end) == at, what, nullptr);
     expect(location_of([&] { souper::records(kind, text, true); }, 0, at_end) == at, what, nullptr);
+    if (kind == souper::kind::rep) {
+        expect(location_of([&] { souper::find(text, "x"); }, 0, at_end) == at, what, nullptr);
+    } else if (kind == souper::kind::lhs) {
+        expect(location_of([&] { souper::find("", text); }, 1, at_end) == at, what, nullptr);
+    }
 }
 
 // Offset, line and column are counted by hand.
@@ -138,6 +170,7 @@ int main(int argc, char **argv) {
         }
     }
     bytes();
+    found();
     long_answers();
     locations();
     wrong_kind();

@@ -37,7 +37,7 @@ void __wrap_free(void *block) {
     __real_free(block);
 }
 
-enum { FORMAT, CHECK, SAME, READ, WRITE, KEY, LOCATE, FLAW, CALLS };
+enum { FORMAT, CHECK, SAME, READ, WRITE, KEY, LOCATE, FLAW, FIND, CALLS };
 
 static uint8_t out[1 << 16], code[1 << 16];
 static size_t code_length;
@@ -50,6 +50,16 @@ static SouperOutcome locate(const Record *record) {
 static SouperOutcome flaw(const Record *record) {
     SouperFlaw found = souper_flaw(record->kind, code, code_length);
     return (SouperOutcome){found.status, 0, 0, found.position, 0, 0};
+}
+
+/* As the store, or as what it is asked for. */
+static SouperOutcome find(const Record *record) {
+    static const char store[] = "%x:i8 = var infer %x result 1  %x:i8 = var infer %x result 2";
+    static const char query[] = "%y:i8 = var infer %y";
+    if (record->kind == SOUPER_REP) {
+        return souper_find(record->text, record->text_length, (const uint8_t *)query, strlen(query), out, sizeof out);
+    }
+    return souper_find((const uint8_t *)store, strlen(store), record->text, record->text_length, out, sizeof out);
 }
 
 static SouperOutcome call(int which, const Record *record) {
@@ -70,6 +80,8 @@ static SouperOutcome call(int which, const Record *record) {
         return locate(record);
     case FLAW:
         return flaw(record);
+    case FIND:
+        return find(record);
     default:
         return souper_same(record->kind, record->text, record->text_length, record->answer, record->answer_length);
     }

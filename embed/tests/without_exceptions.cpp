@@ -46,6 +46,10 @@ void done() {
     expect(souper::try_key(kind::lhs, text, souper::flags::none, out, e) && is_none(e) && out == canonical, "key", nullptr);
     expect(souper::try_records(kind::lhs, text, false, records, e) && is_none(e) && records.size() == 1, "records", nullptr);
     expect(records[0].text + "\n" == canonical && records[0].key.size() == 64, "a record", nullptr);
+    std::vector<std::vector<std::string>> answers;
+    expect(souper::try_find("%x = var infer %x result 1", "%y = var infer %y", answers, e) && is_none(e) && answers.size() == 1
+               && answers[0] == std::vector<std::string>{"%y = var\ninfer %y\nresult 1\n"},
+           "find", nullptr);
 }
 
 void refused() {
@@ -73,6 +77,10 @@ void refused() {
     expect(!souper::try_key(kind::lhs, bad, souper::flags::key, out, e) && is_wanted(e, 0) && out.empty(), "key, refused",
            nullptr);
     expect(!souper::try_records(kind::lhs, bad, true, records, e) && is_wanted(e, 0) && records.empty(), "records, refused",
+           nullptr);
+    std::vector<std::vector<std::string>> answers(1);
+    expect(!souper::try_find("", bad, answers, e) && is_wanted(e, 1) && answers.empty(), "find, refused queries", nullptr);
+    expect(!souper::try_find("infer", bad, answers, e) && e.what == status::refused && e.input == 0 && e.at_end, "find, a refused store",
            nullptr);
     expect(!souper::try_read(kind::lhs, "%x = var\ninfer \n", items, e) && e.location == souper::location{14, 2, 6} && e.at_end,
            "read, an early end", nullptr);

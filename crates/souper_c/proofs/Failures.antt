@@ -1,5 +1,5 @@
 -- What a failure says of a text that a parser refused.
-use Rattle.std.proofs.Common.{◌≡◌, ◌⊎◌, ℕ, ◌≤◌, List, Some, None, length, sym, ◌∙◌, subst, ap, refl, inl, inr, ◌<◌, arith}
+use Rattle.std.proofs.Common.{◌≡◌, ◌⊎◌, ℕ, ◌≤◌, List, [], Some, None, length, sym, ◌∙◌, subst, ap, refl, inl, inr, ◌<◌, arith}
 use Rattle.std.specs.Prelude.{string_bytes, IsSomeAnd}
 use Rattle.std.proofs.lemmas.Bool.{cases_lt}
 use Rattle.souper_graph.specs.Syntax.Spelling.{ItemType, SpellsNone}
@@ -88,3 +88,17 @@ refusal_has_place old new r given o (fits, lacks) is = elim (cases_lt (length ol
   | inl small ↦ inr (subst HasNoPlace (sym (lacks small).0) (refl, refl, refl))
   | inr room ↦ inl (ap (λ (x : SouperOutcome). x.status) (fits room).0 ∙ is)
 ]
+
+-- a buffer that lacks room for what was asked for
+pub bytes_are_short : (old new bytes : List ℕ) (given o : SouperOutcome) → Wrote old new bytes given o → given.status ≡ 0 → o.status ≡ 5 → (length old < o.length) × (o.length ≡ length bytes)
+bytes_are_short old new bytes given o (fits, lacks) is_given is_short = elim (cases_lt (length old) (length bytes)) [
+  | inl l ↦ (let e = ap (λ (o : SouperOutcome). o.length) (lacks l).0 in (subst (λ (n : ℕ). length old < n) (sym e) l, e))
+  | inr l ↦ (let clash : 0 ≡ 5 = sym is_given ∙ (sym (ap (λ (o : SouperOutcome). o.status) (fits l).0) ∙ is_short) in absurd (omega (arith, clash)))
+]
+
+-- no bytes have room in each buffer
+pub nothing_is_written : (old new bytes : List ℕ) (given o : SouperOutcome) → Wrote old new bytes given o → bytes ≡ [] → given.status ≡ 0 → given.length ≡ length bytes → (o.status ≡ 0) × (o.length ≡ 0)
+nothing_is_written old new bytes given o (fits, lacks) none is_given long =
+    let room : length bytes ≤ length old = rw none (omega arith) in
+    let e = (fits room).0 in
+    (ap (λ (o : SouperOutcome). o.status) e ∙ is_given, ap (λ (o : SouperOutcome). o.length) e ∙ (long ∙ ap length none))

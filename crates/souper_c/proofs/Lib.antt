@@ -3,3 +3,5 @@ pub mod Locations
 pub mod Same
 pub mod Writing
 pub mod WholeLines
+pub mod Groups
+pub mod Failing

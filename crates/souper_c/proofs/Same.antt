@@ -54,7 +54,7 @@ spells_some : (o : Option ItemType) (s : List ℕ) (xs : List Item) → IsSomeAn
 spells_some None s xs impossible = absurd impossible
 spells_some (Some k) s xs spells = (xs, spells)
 
-of_some : (o : Option ItemType) (fact : Type 0) → IsSomeAnd o (λ k. fact) → fact
+pub of_some : (o : Option ItemType) (fact : Type 0) → IsSomeAnd o (λ k. fact) → fact
 of_some None fact impossible = absurd impossible
 of_some (Some k) fact holds = holds
 
@@ -71,7 +71,7 @@ second_no_text n s t a OutOfMemory o first is is_o is_four =
 second_no_text n s t a (Refused r) o first is is_o is_four =
     (let clash : 1 ≡ 4 = sym (ap (λ (o : SouperOutcome). o.status) is_o) ∙ is_four in absurd (omega (arith, clash)))
 
-none_and_some : (o : Option ItemType) (s : List ℕ) (A B : Type 0) → IsSomeAnd o (λ k. SpellsNone k s × A × B) → IsSomeAnd o (λ k. (xs : List Item) × TextSpells k s xs) → ⊥
+pub none_and_some : (o : Option ItemType) (s : List ℕ) (A B : Type 0) → IsSomeAnd o (λ k. SpellsNone k s × A × B) → IsSomeAnd o (λ k. (xs : List Item) × TextSpells k s xs) → ⊥
 none_and_some None s A B none some = none
 none_and_some (Some k) s A B none some = none.0 some.0 some.1
 

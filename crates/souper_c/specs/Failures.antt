@@ -1,5 +1,5 @@
 -- Definitions. Why a text gives no items, and the outcome that says so.
-use Rattle.std.specs.Prelude.{◌≡◌, ℕ, List, None, Some, length, string_bytes}
+use Rattle.std.specs.Prelude.{◌≡◌, ℕ, List, [], None, Some, length, string_bytes}
 use Rattle.std.specs.Str.{IsUtf8}
 use Rattle.souper_ir.specs.Errors.{kind_of, offset_of, line_of, column_of, shown_error}
 use Rattle.souper_ir.specs.declared.parse.ParseError.{ParseError}
@@ -44,6 +44,11 @@ outcome_of OutOfMemory input = record { status = 3; input = 0; length = 0; offse
 outcome_of NotUtf8 input = record { status = 4; input = input; length = 0; offset = 0; line = 0; column = 0 }
 outcome_of (Refused r) input =
     record { status = 1; input = input; length = length (string_bytes r.shown); offset = r.offset; line = r.line; column = r.column }
+
+-- the text that a failure shows: of a refusal
+abbrev pub shown_of : Failure → List ℕ
+shown_of (Refused r) = string_bytes r.shown
+shown_of _ = []
 
 -- the outcome for a buffer that lacks room for that many bytes
 abbrev pub short_outcome : ℕ → SouperOutcome

@@ -5,3 +5,4 @@ pub mod Locations
 pub mod Records
 pub mod FlawAnswers
 pub mod Cuts
+pub mod Answers

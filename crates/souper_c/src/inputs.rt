@@ -8,7 +8,7 @@ ghost use Rattle.souper_graph.specs.Syntax.Tokens.{IsLastGap};
 ghost use Rattle.souper_format.specs.Kinds.{item_type_of, kind_of_items, view_items};
 ghost use Rattle.souper_c.specs.Kinds.{type_of_number, IsKind, OfType};
 ghost use Rattle.souper_c.specs.Outcomes.{FormatsTo};
-ghost use Rattle.souper_c.specs.Failures.{IsFailure, IsFailureOf, IsInputFailure, IsRefusalOf, outcome_of};
+ghost use Rattle.souper_c.specs.Failures.{IsFailure, IsFailureOf, IsInputFailure, IsRefusalOf, outcome_of, shown_of};
 ghost use Rattle.souper_c.specs.declared.inputs.Failure.TheVariants.{NotUtf8};
 
 use crate::outcome::{NO_KIND, NOT_UTF8, OUT_OF_MEMORY, REFUSED, SouperOutcome};
@@ -58,6 +58,16 @@ impl Failure {
             },
         }
     }
+
+    /// The text that shows a refusal; of another failure none.
+    pub(crate) fn shown(&self) -> &str
+        ensures { result.now ≡ shown_of self.now }
+    {
+        match self {
+            Failure::Refused(refusal) => refusal.shown.as_str(),
+            Failure::NoKind | Failure::NotUtf8 | Failure::OutOfMemory => "",
+        }
+    }
 }
 
 /// The kind with that number.
@@ -72,6 +82,18 @@ pub(crate) fn read_kind(number: u32) -> Option<Kind>
     }
 }
 
+/// The bytes as text.
+pub(crate) fn source_of(bytes: &[u8]) -> Result<&str, Failure>
+    ensures source { IfOk result (λ source. source.now ≡ bytes.now) }
+    ensures failed { IfErr result (λ failure. (failure ≡ NotUtf8) × ¬ (IsUtf8 bytes.now)) }
+    ensures text { IsOk result → IsUtf8 bytes.now }
+{
+    match str::from_utf8(bytes) {
+        Ok(source) => Ok(source),
+        Err(_) => Err(Failure::NotUtf8),
+    }
+}
+
 /// The kind with that number, and the bytes as text.
 pub(crate) fn kind_and_source(number: u32, bytes: &[u8]) -> Result<(Kind, &str), Failure>
     ensures kind { IfOk result (λ given. type_of_number number ≡ Some (item_type_of given.0)) }
@@ -81,10 +103,8 @@ pub(crate) fn kind_and_source(number: u32, bytes: &[u8]) -> Result<(Kind, &str),
     ensures accepts { IsKind number → IsUtf8 bytes.now → IsOk result }
 {
     let kind = read_kind(number).ok_or(Failure::NoKind)?;
-    match str::from_utf8(bytes) {
-        Ok(source) => Ok((kind, source)),
-        Err(_) => Err(Failure::NotUtf8),
-    }
+    let source = source_of(bytes)?;
+    Ok((kind, source))
 }
 
 fn refusal_of(alloc: Global, error: &ParseError) -> Option<Refusal>

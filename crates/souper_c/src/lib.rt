@@ -4,6 +4,7 @@
 //! keeps no memory and has no state of its own. No contract has a condition on its arguments.
 #![tactic(auto)]
 
+mod answers;
 mod codes;
 mod cuts;
 mod flaw;
@@ -22,11 +23,13 @@ ghost use Rattle.souper_c.specs.Kinds.{type_of_number, IsKind, OfType};
 ghost use Rattle.souper_c.specs.Outcomes.{HasNoPlace, BeginsWith, WritesTexts, WritesCode, WritesItems, IsShortItems, place_of, WritesRefusal, IsShort, IsShortCode, IsShortFor, IsCanonical, IsNotCanonical, Refuses, BothSpell, AreSame, AreNotSame, RefusesInput, IsNoTextInput, SpellsSome};
 ghost use Rattle.souper_code.specs.Writing.{IsNoCode, IsNoCodeAt, IsCodeOfWellFormed, IsIllFormedAt};
 ghost use Rattle.souper_c.specs.Records.{RecordsTo, WritesRecords};
-ghost use Rattle.souper_c.specs.Failures.{short_outcome};
+ghost use Rattle.souper_c.specs.Failures.{outcome_of, short_outcome, shown_of};
+ghost use Rattle.souper_c.specs.Answers.{WritesAnswers, WritesRefusalOfOne, IsNoTextOfOne, IsShortFind};
 ghost use Rattle.souper_c.specs.Locations.{HasNoLocation, LocatesFault};
 ghost use Rattle.souper_c.specs.Cuts.{OfWholeLines, CutsLast, HasFirstSegment, HasBadStart};
 ghost use Rattle.souper_c.specs.FlawAnswers.{answer_without, IsFlawAnswer};
 
+use crate::answers::{answers_to, store_of};
 use crate::codes::code;
 use crate::cuts::{find_first_segment, find_last_cut};
 pub use crate::flaw::SouperFlaw;
@@ -54,6 +57,14 @@ fn write(bytes: &[u8], outcome: SouperOutcome, out: &mut [u8]) -> SouperOutcome
     }
     out[..length].copy_from_slice(bytes);
     outcome
+}
+
+// Writes what the failure of the input with that index shows, as `write` does, and returns the outcome for it.
+fn write_failure(failure: &Failure, input: u32, out: &mut [u8]) -> SouperOutcome
+    ensures written { length (shown_of failure.now) ≤ length out.old → (result ≡ outcome_of failure.now input) × BeginsWith out.old out.new (shown_of failure.now) }
+    ensures short { length out.old < length (shown_of failure.now) → (result ≡ short_outcome (length (shown_of failure.now))) × (out.new ≡ out.old) }
+{
+    write(failure.shown().as_bytes(), failure.outcome(input), out)
 }
 
 /// Writes the canonical text of each item that `text` spells, a newline after each, to the beginning of `out`.
@@ -390,4 +401,52 @@ pub extern "C" fn souper_first_segment(kind: u32, text: &[u8]) -> SouperOutcome
     ensures no_length { (result.status ≡ 0) ⊎ (result.length ≡ 0) }
 {
     find_first_segment(kind, text)
+}
+
+/// Writes what the replacements of `store` answer for each left-hand side that `queries` spells to the beginning of `out`.
+///
+/// For each left-hand side, in order, these are the canonical texts of its answers, a newline after each, and then a byte 0. The answers
+/// are those of [`find`](souper_lookup::find::find): the replacements whose left-hand side is the same graph up to names, with the names of
+/// `queries`, in the order in which they are in `store` first. A left-hand side without an answer has the byte 0 alone. The status is
+///
+/// - 0, done: `out` begins with these texts and bytes, of which there are `length`.
+/// - 1, refused: `store`, of number `input` 0, spells no list of replacements, or `queries`, of number 1, no list of left-hand sides. `out`
+///   begins with what the error shows, which has `length` bytes, and `offset`, `line` and `column` are the numbers of its place.
+/// - 3: memory ran out.
+/// - 4: the text of number `input` is not UTF-8.
+/// - 5: `out` is shorter than what status 0 or 1 would write to it, which has `length` bytes.
+///
+/// The rest of `out` is as it was, and if the status is 3 or more, all of it. `queries` is looked at after `store` was read.
+#[unsafe(no_mangle)]
+pub extern "C" fn souper_find(
+    alloc: Global,
+    store: &[u8],
+    queries: &[u8],
+    out: &mut [u8],
+) -> SouperOutcome
+    ensures known { (result.status ≤ 5) × (result.status ≢ 2) }
+    ensures found { result.status ≡ 0 → WritesAnswers store.now queries.now result out.old out.new }
+    ensures refused { result.status ≡ 1 → WritesRefusalOfOne store.now queries.now result out.old out.new }
+    ensures no_text { result.status ≡ 4 → IsNoTextOfOne store.now queries.now result }
+    ensures first_no_text { ¬ (IsUtf8 store.now) → (result.status ≡ 4) × (result.input ≡ 0) }
+    ensures second_no_text { SpellsSome 2 store.now → IsUtf8 store.now → ¬ (IsUtf8 queries.now) → ((result.status ≡ 4) × (result.input ≡ 1)) ⊎ (result.status ≡ 3) }
+    ensures texts { result.status ≡ 0 → IsUtf8 store.now × IsUtf8 queries.now }
+    ensures short { result.status ≡ 5 → IsShortFind store.now queries.now result out.old }
+    ensures kept { 2 ≤ result.status → out.new ≡ out.old }
+    ensures no_place { (result.status ≡ 1) ⊎ HasNoPlace result }
+    ensures no_length { 2 ≤ result.status → (result.status ≡ 5) ⊎ (result.length ≡ 0) }
+    ensures first { (result.status ≡ 1) ⊎ (result.status ≡ 4) ⊎ (result.input ≡ 0) }
+    ensures gaps { IsUtf8 store.now → IsLastGap store.now → IsUtf8 queries.now → IsLastGap queries.now → (result.status ≡ 0) × (result.length ≡ 0) }
+{
+    let store = match store_of(alloc, store) {
+        Ok(store) => store,
+        Err(failure) => return write_failure(&failure, 0, out),
+    };
+    match answers_to(alloc, &store, queries) {
+        Ok(answers) => {
+            let outcome = SouperOutcome::new(DONE, answers.len());
+            write(answers.as_bytes(), outcome, out)
+        }
+        Err(failure) => write_failure(&failure, 1, out),
+    }
 }

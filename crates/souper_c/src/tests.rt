@@ -1,7 +1,7 @@
 //! Each call with each of its statuses, but for out of memory.
 use crate::{
-    SouperOutcome, souper_check, souper_first_segment, souper_format, souper_key, souper_last_cut,
-    souper_read, souper_same, souper_write,
+    SouperOutcome, souper_check, souper_find, souper_first_segment, souper_format, souper_key,
+    souper_last_cut, souper_read, souper_same, souper_write,
 };
 use std::alloc::Global;
 use std::fmt::Debug;
@@ -252,6 +252,51 @@ fn questions_are_answered(rt: HostRuntime) {
     compares(&rt, alloc, b"%x=var infer %x", b"%y=var %x=var infer %x", 0);
     compares(&rt, alloc, b"%x=var infer %x", b"%y=var infer %y", 6);
     compares(&rt, alloc, b"%x=var infer %x", b"", 6);
+}
+
+// Two replacements with one left-hand side, the first of them twice, and one of a constant.
+const STORE: &[u8] = b"%x:i32 = var %y = mul %x, 2 infer %y %z = shl %x, 1 result %z \
+    %a:i32 = var %b = mul %a, 2 cand %b 0 \
+    %c:i32 = var %d = mul %c, 2 %e = shl %c, 1 cand %d %e cand 3 4";
+
+#[test]
+fn left_hand_sides_have_their_answers(rt: HostRuntime) {
+    let alloc = rt.alloc();
+    let mut out = [b'.'; 2 * ROOM];
+    let queries = b"%n:i32 = var %t = mul %n, 2 infer %t %n:i32 = var infer %n";
+    let want = b"%n:i32 = var\n%t = mul %n, 2\ninfer %t\n%2 = shl %n, 1\nresult %2\n\n\
+        %n:i32 = var\n%t = mul %n, 2\ninfer %t\nresult 0\n\n\0\0.";
+    let length = want.len() - 1;
+    let done = souper_find(alloc, STORE, queries, &mut out);
+    equal(&rt, done, plain(0, length));
+    equal(&rt, out.get(..length + 1), Some(want));
+    let empty: &mut [u8] = &mut [];
+    let short = souper_find(alloc, STORE, queries, empty);
+    equal(&rt, short, plain(5, length));
+    equal(&rt, souper_find(alloc, b"", b"", &mut out), plain(0, 0));
+    equal(&rt, out.get(..length + 1), Some(want));
+}
+
+#[test]
+fn stores_and_queries_are_refused(rt: HostRuntime) {
+    let alloc = rt.alloc();
+    let mut out = [b'.'; ROOM];
+    let bad = b"%x = var\ninfer %y";
+    let place = SouperOutcome {
+        status: 1,
+        input: 0,
+        length: SHOWN.len(),
+        offset: 15,
+        line: 2,
+        column: 6,
+    };
+    let refused = souper_find(alloc, b"result 1", b"\xff", &mut out);
+    equal(&rt, (refused.status, refused.input), (1, 0));
+    equal(&rt, souper_find(alloc, b"", bad, &mut out), second(place));
+    equal(&rt, out.get(..SHOWN.len()), Some(SHOWN.as_bytes()));
+    equal(&rt, souper_find(alloc, b"\xff", bad, &mut out), plain(4, 0));
+    let no_text = souper_find(alloc, STORE, b"\xff", &mut out);
+    equal(&rt, no_text, second(plain(4, 0)));
 }
 
 #[test]

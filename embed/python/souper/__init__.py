@@ -67,8 +67,8 @@ from __future__ import annotations
 from types import FunctionType
 
 from ._builder import Builder
-from ._calls import Record, canonical, check, format, key, keys, read, record_text, records, same
-from ._calls import write
+from ._calls import Record, canonical, check, find, format, key, keys, read, record_text, records
+from ._calls import same, write
 from ._code import decode, encode
 from ._errors import Flaw, FlawReason, Location, NoCode, NotUtf8, NotWellFormed, Refused
 from ._stream import Reader, stream
@@ -158,6 +158,7 @@ __all__ = [
     "check",
     "decode",
     "encode",
+    "find",
     "format",
     "key",
     "keys",

@@ -1,4 +1,4 @@
-"""The calls: reading, writing, comparing, and keys."""
+"""The calls: reading, writing, comparing, keys, and answers."""
 
 from __future__ import annotations
 
@@ -21,7 +21,7 @@ def _utf8(text: str | bytes) -> bytes:
 
 
 def _written(
-    function: Any, head: tuple[int, ...], data: bytes, room: int
+    function: Any, head: tuple[int | bytes, ...], data: bytes, room: int
 ) -> tuple[Outcome, bytes]:
     """The outcome and the output of a function. `room` is the first size of the buffer."""
     while True:
@@ -191,6 +191,39 @@ def same(kind: Kind | str, a: str | bytes, b: str | bytes) -> bool:
     kind, first, second = Kind(kind), _utf8(a), _utf8(b)
     outcome = _library.LIBRARY.souper_same(NUMBERS[kind], first, len(first), second, len(second))
     return _answer(kind, outcome, first if outcome.input == 0 else second)
+
+
+def find(store: str | bytes, queries: str | bytes) -> list[list[str]]:
+    """What the replacements of `store` answer for each left-hand side of `queries`, in order.
+
+    An answer is the canonical text, without the newline that `format` writes after it, of a
+    replacement whose left-hand side is the same graph up to names, with the names of the left-hand
+    side that was asked for. The answers are in the order in which `store` has them first.
+
+    Each call reads `store` anew, so many left-hand sides are best asked for at once.
+
+    `Refused` if a text spells no list of its kind; its `input` is 0 for `store`, 1 for `queries`.
+
+    >>> store = "%a = var  %b = add %a, %a  infer %b  %c = shl %a, 1  result %c"
+    >>> [[answer], none] = find(store, "%x = var %y = add %x, %x infer %y  %x = var infer %x")
+    >>> print(answer, end="")
+    %x = var
+    %y = add %x, %x
+    infer %y
+    %2 = shl %x, 1
+    result %2
+    >>> none
+    []
+    """
+    given, asked = _utf8(store), _utf8(queries)
+    head = (given, len(given))
+    outcome, out = _written(_library.LIBRARY.souper_find, head, asked, 2 * len(asked) + 256)
+    if outcome.status != DONE:
+        kind, data = (Kind.REP, given) if outcome.input == 0 else (Kind.LHS, asked)
+        raise _failure(kind, outcome, data, out)
+    # Each left-hand side has its answers and a NUL, each answer its text and a newline.
+    groups = out.decode().split("\0")[:-1]
+    return [[text + "\n" for text in group.split("\n\n")[:-1]] for group in groups]
 
 
 class Record(NamedTuple):

@@ -76,6 +76,7 @@ SIGNATURES: dict[str, list[Any]] = {
     "souper_key": [ctypes.c_uint32, ctypes.c_uint32, *_BYTES, *_ROOM],
     "souper_check": [ctypes.c_uint32, *_BYTES],
     "souper_same": [ctypes.c_uint32, *_BYTES, *_BYTES],
+    "souper_find": [*_BYTES, *_BYTES, *_ROOM],
     "souper_flaw": [ctypes.c_uint32, *_BYTES],
     "souper_locate": [ctypes.c_uint32, *_BYTES],
     "souper_last_cut": [ctypes.c_uint32, *_BYTES],

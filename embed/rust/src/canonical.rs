@@ -1,4 +1,5 @@
-//! Canonical texts, whether texts are canonical or have the same graphs, and keys; without values.
+//! Canonical texts, whether texts are canonical or have the same graphs, keys, and what replacements answer for left-hand sides;
+//! without values.
 //!
 //! Two items have the same canonical text if and only if they are the same graph: a one-to-one map between the statements
 //! that they need carries one to the other. Names and the order of path conditions count; the order of other statements
@@ -230,8 +231,55 @@ pub fn key(kind: Kind, text: &str, record: Record) -> Result<String, Error> {
     written(Call::Key(flags), kind, text, room).map(string)
 }
 
+/// For each left-hand side of `queries`, in order, the canonical text of each of its answers in `store`, without the newline that
+/// [`format()`] writes after it.
+///
+/// The answers are the replacements whose left-hand side is the same graph up to names, in the order in which `store` has them
+/// first, with the names of the left-hand side that was asked for. Each call reads `store` anew, so many left-hand sides are best
+/// asked for at once.
+///
+/// ```
+/// use souper_ir::canonical::{find, Error};
+///
+/// let store = "%a = var  %b = add %a, %a  infer %b  %c = shl %a, 1  result %c";
+/// let answers = find(store, "%x = var  %y = add %x, %x  infer %y")?;
+/// assert_eq!(answers, [["%x = var\n%y = add %x, %x\ninfer %y\n%2 = shl %x, 1\nresult %2\n"]]);
+/// # Ok::<(), Error>(())
+/// ```
+///
+/// # Errors
+///
+/// As for [`format()`]: about `store`, whose [`Refusal::input`] is 0, or else about `queries`.
+pub fn find(store: &str, queries: &str) -> Result<Vec<Vec<String>>, Error> {
+    let mut out = Vec::new();
+    let (call, room) = (Call::Find(store), 2 * queries.len() + 256);
+    let outcome = raw::call(call, Kind::Lhs, queries.as_bytes(), room, &mut out);
+    match (outcome.status, outcome.input) {
+        (raw::DONE, _) => Ok(groups(&string(out))),
+        (raw::REFUSED, 0) => Err(refused(Kind::Rep, store, &outcome, string(out))),
+        (raw::REFUSED, _) => Err(refused(Kind::Lhs, queries, &outcome, string(out))),
+        _ => Err(Error::OutOfMemory),
+    }
+}
+
+// A byte 0 ends the answers for a left-hand side, and a newline, after its own last one, an answer.
+fn groups(all: &str) -> Vec<Vec<String>> {
+    let texts = |group: &str| {
+        let texts = group.split_inclusive("\n\n");
+        texts
+            .map(|text| text[..text.len() - 1].to_string())
+            .collect()
+    };
+    all.split_terminator('\0').map(texts).collect()
+}
+
 // The bytes that the call writes for a text.
-pub(crate) fn written(call: Call, kind: Kind, text: &str, room: usize) -> Result<Vec<u8>, Error> {
+pub(crate) fn written(
+    call: Call<'_>,
+    kind: Kind,
+    text: &str,
+    room: usize,
+) -> Result<Vec<u8>, Error> {
     let mut out = Vec::new();
     let outcome = raw::call(call, kind, text.as_bytes(), room, &mut out);
     match outcome.status {

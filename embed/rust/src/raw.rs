@@ -57,6 +57,14 @@ extern "C" {
     ) -> Outcome;
     fn souper_check(kind: u32, text: *const u8, n: usize) -> Outcome;
     fn souper_same(kind: u32, a: *const u8, n: usize, b: *const u8, m: usize) -> Outcome;
+    fn souper_find(
+        store: *const u8,
+        n: usize,
+        queries: *const u8,
+        m: usize,
+        out: *mut u8,
+        room: usize,
+    ) -> Outcome;
     fn souper_flaw(kind: u32, code: *const u8, n: usize) -> Flaw;
     fn souper_locate(kind: u32, text: *const u8, n: usize) -> Location;
     fn souper_last_cut(kind: u32, text: *const u8, n: usize) -> Outcome;
@@ -65,18 +73,20 @@ extern "C" {
 
 /// A call that writes to a buffer.
 #[derive(Clone, Copy)]
-pub(crate) enum Call {
+pub(crate) enum Call<'a> {
     Format,
     Read,
     Write,
     /// With the flags of the header.
     Key(u32),
+    /// In this store; the kind is that of the queries.
+    Find(&'a str),
 }
 
 /// The outcome of the call, whose output replaces the content of `out`. `room` is the first guess at the length, in bytes; if it
 /// is too short, a second call has the right length.
 pub(crate) fn call(
-    call: Call,
+    call: Call<'_>,
     kind: Kind,
     input: &[u8],
     room: usize,
@@ -90,7 +100,7 @@ pub(crate) fn call(
 }
 
 // One call, to a buffer of that length.
-fn once(call: Call, kind: Kind, input: &[u8], room: usize, out: &mut Vec<u8>) -> Outcome {
+fn once(call: Call<'_>, kind: Kind, input: &[u8], room: usize, out: &mut Vec<u8>) -> Outcome {
     out.clear();
     if out.try_reserve_exact(room).is_err() {
         return Outcome {
@@ -107,6 +117,7 @@ fn once(call: Call, kind: Kind, input: &[u8], room: usize, out: &mut Vec<u8>) ->
             Call::Read => souper_read(kind, input, n, to, room),
             Call::Write => souper_write(kind, input, n, to, room),
             Call::Key(flags) => souper_key(kind, flags, input, n, to, room),
+            Call::Find(store) => souper_find(store.as_ptr(), store.len(), input, n, to, room),
         }
     };
     if outcome.status == DONE || outcome.status == REFUSED {
