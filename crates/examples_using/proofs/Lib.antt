@@ -3,4 +3,5 @@ mod Doubling
 mod NameLists
 mod Reports
 pub mod RoundTrips
+mod Sums
 mod Terms

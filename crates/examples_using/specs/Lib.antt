@@ -1,4 +1,5 @@
 pub mod Doubling
+pub mod Folding
 pub mod Names
 pub mod Reports
 pub mod Terms

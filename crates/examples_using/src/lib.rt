@@ -4,6 +4,7 @@
 pub mod building;
 pub mod changing;
 pub mod comparing;
+pub mod folding;
 pub mod fragments;
 pub mod looking_up;
 pub mod reading;

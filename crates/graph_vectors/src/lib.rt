@@ -8,6 +8,8 @@ mod arenas;
 #[cfg(test)]
 mod builders;
 #[cfg(test)]
+mod changes;
+#[cfg(test)]
 mod fixtures;
 #[cfg(test)]
 mod flaws;

@@ -10,3 +10,4 @@ pub mod Results
 pub mod Texts
 pub mod Lookups
 pub mod FlawSearch
+pub mod Replacing

@@ -6,6 +6,7 @@ pub mod Names
 pub mod View
 pub mod PartsView
 pub mod Uses
+pub mod UsesView
 pub mod Lookup
 pub mod Order
 pub mod PrintOrder
@@ -17,6 +18,8 @@ pub mod WellFormed
 pub mod Sameness
 pub mod Renaming
 pub mod LeftSides
+pub mod StatementsPut
+pub mod Replacing
 pub mod Syntax
 pub mod CanonicalText
 pub mod ItemText

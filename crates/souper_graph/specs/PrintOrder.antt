@@ -22,3 +22,9 @@ pub record IsPrintOrder (a : Item) (ids : List ℕ) (lead turns : ℕ) : Type 0 
   pub printed : UsesBelow a → ids ≡ printed_order a
   pub led : UsesBelow a → lead ≡ lead_of a
   pub after : UsesBelow a → EachAfterItsUses a.statements ids
+
+-- the order has no statements
+pub record IsEmptyOrder (ids : List ℕ) (lead turns : ℕ) : Type 0 where
+  pub no_ids : ids ≡ []
+  pub no_lead : lead ≡ 0
+  pub no_turns : turns ≡ 0

@@ -13,7 +13,10 @@ mod left;
 mod lookup;
 mod operands;
 mod parts;
+mod replacing;
+mod rhs_builder;
 mod statements;
+mod uses;
 mod well_formed;
 
 pub use arenas::{Arena, Iter};
@@ -27,4 +30,6 @@ pub use item::Item;
 pub use items::{Cand, Infer, LeftHandSide, Replacement, RightHandSide};
 pub use operands::{Constant, Operand, Type};
 pub(crate) use parts::{Ending, Parts};
+pub use rhs_builder::RightHandSideBuilder;
 pub use statements::{Assignment, AssignmentRhs, Block, BlockPc, Pc, Phi, Statement, Var};
+pub use uses::{Use, Uses};

@@ -11,6 +11,7 @@ mod needed;
 mod nodes;
 mod numbers;
 mod order;
+mod order_into;
 mod renamed;
 mod text;
 mod texts;

@@ -28,7 +28,7 @@ mod words;
 pub use error::{Before, ParseError, ParseErrorKind, WithLocation};
 pub use files::{parse_left_hand_sides_file, parse_replacements_file, parse_right_hand_sides_file};
 pub use item::{
-    WholeItem, parse_into, parse_left_hand_sides_str, parse_replacements_str,
+    WholeItem, parse_into, parse_items, parse_left_hand_sides_str, parse_replacements_str,
     parse_right_hand_sides_str, parse_with_memory,
 };
 pub use memory::Memory;

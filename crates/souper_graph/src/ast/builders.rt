@@ -2,7 +2,7 @@
 
 ghost use Rattle.std.specs.Prelude.{◌≡◌, ◌<◌, [], Some, None, map, length, slice_get, IfOk, OnOk, OnErr};
 ghost use Rattle.std.specs.String.{string_bytes};
-ghost use Rattle.souper_graph.specs.declared.ast.items.Replacement.TheVariants.{LhsRhs};
+ghost use Rattle.souper_graph.specs.declared.ast.items.Replacement.TheVariants.{LhsRhs, Cand as cand_variant};
 ghost use Rattle.souper_graph.specs.declared.ast.statements.Statement.TheVariants.{Assignment as assignment_variant};
 ghost use Rattle.souper_graph.specs.Values.{block, condition, block_condition};
 ghost use Rattle.souper_graph.specs.View.{view_attribute, view_rhs, view_statement};
@@ -13,7 +13,7 @@ ghost use Rattle.souper_graph.specs.Building.{BeginsWithPercent, chosen_name, ad
 use crate::ast::arenas::Arena;
 use crate::ast::attributes::{Attribute, RootAttribute};
 use crate::ast::ids::{BlockId, ValueId};
-use crate::ast::items::{Infer, LeftHandSide, Replacement};
+use crate::ast::items::{Cand, Infer, LeftHandSide, Replacement};
 use crate::ast::operands::{Operand, Type};
 use crate::ast::statements::{Assignment, AssignmentRhs, Block, BlockPc, Pc, Statement};
 use std::alloc::{AllocError, Global};
@@ -29,7 +29,7 @@ fn name_or_count(alloc: Global, name: Option<String>, count: usize) -> Result<St
     }
 }
 
-fn put_assignment(
+pub(super) fn put_assignment(
     statements: &mut Arena<Statement>,
     name: Option<String>,
     ty: Option<Type>,
@@ -51,7 +51,7 @@ fn put_assignment(
     Ok(id.into())
 }
 
-fn put_block(
+pub(super) fn put_block(
     statements: &mut Arena<Statement>,
     name: Option<String>,
     predecessors: u32,
@@ -71,7 +71,11 @@ fn put_block(
     Ok(block.into())
 }
 
-fn put_pc(statements: &mut Arena<Statement>, x: Operand, y: Operand) -> Result<(), AllocError>
+pub(super) fn put_pc(
+    statements: &mut Arena<Statement>,
+    x: Operand,
+    y: Operand,
+) -> Result<(), AllocError>
     ensures grows { OnOk result (Appends statements.old statements.new (condition (record { x = x; y = y }))) }
     ensures err { OnErr result (statements.new ≡ statements.old) }
 {
@@ -79,7 +83,10 @@ fn put_pc(statements: &mut Arena<Statement>, x: Operand, y: Operand) -> Result<(
     Ok(())
 }
 
-fn put_block_pc(statements: &mut Arena<Statement>, block_pc: BlockPc) -> Result<(), AllocError>
+pub(super) fn put_block_pc(
+    statements: &mut Arena<Statement>,
+    block_pc: BlockPc,
+) -> Result<(), AllocError>
     ensures grows { OnOk result (Appends statements.old statements.new (block_condition block_pc)) }
     ensures err { OnErr result (statements.new ≡ statements.old) }
 {
@@ -207,6 +214,26 @@ impl ReplacementBuilder {
         }
     }
 
+    /// The `cand` line that `lhs` may be replaced by `rhs`, over all the statements.
+    ///
+    /// The attributes are the known facts about the operand `lhs`.
+    pub fn finish_cand(
+        self,
+        lhs: Operand,
+        rhs: Operand,
+        attributes: Vec<RootAttribute>,
+    ) -> Replacement
+        ensures { result ≡ cand_variant self (record { lhs = lhs; rhs = rhs; attributes = attributes }) }
+    {
+        let Self { statements } = self;
+        let cand = Cand {
+            lhs,
+            rhs,
+            attributes,
+        };
+        Replacement::Cand { statements, cand }
+    }
+
     /// A copy with all statements. The error is out of memory.
     pub fn clone(&self) -> Result<Self, AllocError>
         ensures { IfOk result (λ copy. map view_statement copy ≡ map view_statement self.now) }
@@ -214,6 +241,47 @@ impl ReplacementBuilder {
         Ok(ReplacementBuilder {
             statements: self.statements.clone()?,
         })
+    }
+}
+
+/// A builder that goes on where the statements end. Each keeps its id.
+impl From<Arena<Statement>> for ReplacementBuilder {
+    ghost from_gives = { λ statements builder. builder ≡ statements };
+
+    fn from(statements: Arena<Statement>) -> Self {
+        ReplacementBuilder { statements }
+    }
+}
+
+/// A builder that goes on where the statements of the item end. Each keeps its id; the last line is dropped.
+impl From<LeftHandSide> for ReplacementBuilder {
+    ghost from_gives = { λ item builder. builder ≡ item.statements };
+
+    fn from(item: LeftHandSide) -> Self {
+        let LeftHandSide {
+            statements,
+            infer: _,
+        } = item;
+        ReplacementBuilder { statements }
+    }
+}
+
+/// A builder that goes on where the statements of the item end. Each keeps its id; the last lines are dropped.
+impl From<Replacement> for ReplacementBuilder {
+    ghost from_gives = { λ item builder. builder ≡ statements_of item };
+
+    fn from(item: Replacement) -> Self {
+        match item {
+            Replacement::LhsRhs {
+                statements,
+                lhs: _,
+                rhs: _,
+            } => ReplacementBuilder { statements },
+            Replacement::Cand {
+                statements,
+                cand: _,
+            } => ReplacementBuilder { statements },
+        }
     }
 }
 
@@ -340,6 +408,28 @@ impl LeftHandSideBuilder {
         Ok(LeftHandSideBuilder {
             statements: self.statements.clone()?,
         })
+    }
+}
+
+/// A builder that goes on where the statements end. Each keeps its id.
+impl From<Arena<Statement>> for LeftHandSideBuilder {
+    ghost from_gives = { λ statements builder. builder ≡ statements };
+
+    fn from(statements: Arena<Statement>) -> Self {
+        LeftHandSideBuilder { statements }
+    }
+}
+
+/// A builder that goes on where the statements of the item end. Each keeps its id; the last line is dropped.
+impl From<LeftHandSide> for LeftHandSideBuilder {
+    ghost from_gives = { λ item builder. builder ≡ item.statements };
+
+    fn from(item: LeftHandSide) -> Self {
+        let LeftHandSide {
+            statements,
+            infer: _,
+        } = item;
+        LeftHandSideBuilder { statements }
     }
 }
 

@@ -1,14 +1,20 @@
 //! What left-hand sides, right-hand sides and replacements have in common.
 
-ghost use Rattle.std.specs.Prelude.{◌≡◌, ◌↔◌, true, false, map, IfOk, IfErr, IfSome, OnOk, OnErr, IsNone, IsTrue};
+ghost use Rattle.std.specs.Prelude.{◌≡◌, ◌↔◌, true, false, List, map, refl, IfOk, IfErr, IfSome, OnOk, OnErr, IsNone, IsTrue};
 ghost use Rattle.std.specs.String.{string_bytes};
 ghost use Rattle.souper_graph.specs.Values.{Item as PlainItem};
 ghost use Rattle.souper_graph.specs.View.{view_statement, view_left_hand_side, view_right_hand_side, view_replacement};
+ghost use Rattle.std.specs.Borrow.{sem};
+ghost use Rattle.souper_graph.specs.declared.ast.statements.Statement.{Statement as StatementNode};
+ghost use Rattle.souper_graph.specs.Lending.{LendsStatements};
+ghost use Rattle.souper_graph.specs.StatementsPut.{left_hand_side_of, right_hand_side_of, replacement_of, replacement_puts};
 ghost use Rattle.souper_graph.specs.Uses.{root_operands};
 ghost use Rattle.souper_graph.specs.Faults.{IsFaultOf};
-ghost use Rattle.souper_graph.specs.PrintOrder.{IsPrintOrder};
+ghost use Rattle.souper_graph.specs.PrintOrder.{IsPrintOrder, IsEmptyOrder};
+ghost use Rattle.souper_graph.specs.Text.{text_of};
 ghost use Rattle.souper_graph.specs.ItemText.{IsItemText, AppendsItemText};
-ghost use Rattle.souper_graph.specs.Renaming.{IsRenamed};
+ghost use Rattle.souper_graph.specs.Renaming.{IsRenamed, with_statements};
+ghost use Rattle.souper_graph.specs.Replacing.{with_uses_replaced};
 ghost use Rattle.souper_graph.specs.WellFormed.{WellFormed};
 ghost use Rattle.souper_graph.specs.Flaws.{IsFirstFlaw};
 ghost use Rattle.souper_graph.specs.Endings.{replacement_ending};
@@ -16,6 +22,7 @@ ghost use Rattle.souper_graph.specs.Syntax.Spelling.{ItemType, left_hand_side, r
 
 use crate::ast::arenas::Arena;
 use crate::ast::flaws::Flaw;
+use crate::ast::ids::ValueId;
 use crate::ast::items::{LeftHandSide, Replacement, RightHandSide};
 use crate::ast::operands::Operand;
 use crate::ast::statements::Statement;
@@ -25,16 +32,28 @@ use std::alloc::AllocError;
 
 /// A left-hand side, a right-hand side or a replacement, for functions that take any of them.
 ///
-/// The calls are those that the types themselves have.
+/// The calls are those that the types themselves have, and besides `statements_mut` and `well_formed_text`.
 pub trait Item {
     ghost item_type: { ItemType };
 
     /// The item as plain data.
     ghost view: { Self → PlainItem };
 
+    /// The item with other statements.
+    ghost put_statements: { Self → List StatementNode → Self };
+
     /// The statements, at the positions that ids name.
     fn statements(&self) -> &Arena<Statement>
         ensures { map view_statement result.now ≡ (view self.now).statements };
+
+    /// The statements, for writing. The last lines stay.
+    fn statements_mut(&mut self) -> &mut Arena<Statement>
+        ensures* writes_back { sem 𝓛 (LendsStatements Self.row put_statements self.entry result) }
+        ensures value { map view_statement result.now ≡ (view self.old).statements };
+
+    /// Puts `by` in the place of each operand that is the value `of`, as [`Replacement::replace_uses`] does.
+    fn replace_uses(&mut self, of: ValueId, by: Operand)
+        ensures { view self.new ≡ with_uses_replaced of by (view self.old) };
 
     /// The operands of the last lines, in the order of the text: one, or the left-hand side and then its replacement.
     fn roots(&self) -> ArrayVec<Operand, 2>
@@ -44,6 +63,12 @@ pub trait Item {
     fn print_order(&self) -> Result<Order, TextError>
         ensures refused { IfErr result (λ error. IsFaultOf (view self.now) error) }
         ensures ordered { IfOk result (λ order. IsPrintOrder (view self.now) order.ids.items order.lead order.turns) };
+
+    /// The printed order in the memory of an earlier one, as [`LeftHandSide::print_order_into`] returns it.
+    fn print_order_into(&self, order: &mut Order) -> Result<(), TextError>
+        ensures refused { IfErr result (λ error. IsFaultOf (view self.now) error) }
+        ensures ordered { OnOk result (IsPrintOrder (view self.now) order.new.ids.items order.new.lead order.new.turns) }
+        ensures emptied { OnErr result (IsEmptyOrder order.new.ids.items order.new.lead order.new.turns) };
 
     /// Appends the canonical text to `out`, as [`LeftHandSide::append_text`] does.
     fn append_text(&self, out: &mut String) -> Result<(), TextError>
@@ -55,6 +80,20 @@ pub trait Item {
     fn to_text(&self) -> Result<String, TextError>
         ensures refused { IfErr result (λ error. IsFaultOf (view self.now) error) }
         ensures printed { IfOk result (λ text. IsItemText item_type (view self.now) (string_bytes text)) };
+
+    /// The canonical text of a well-formed item. Its only error is out of memory.
+    fn well_formed_text(&self) -> Result<String, AllocError>
+        requires { WellFormed (view self.now) }
+        ensures { IfOk result (λ text. string_bytes text ≡ text_of (view self.now)) }
+    {
+        match self.to_text() {
+            Ok(text) => Ok(text),
+            Err(error) => match error {
+                TextError::OutOfMemory => Err(AllocError),
+                _ => unreachable!(),
+            },
+        }
+    }
 
     /// A copy that is named by its printed order, as [`LeftHandSide::renamed`] returns it.
     fn renamed(&self) -> Result<Self, TextError>
@@ -80,6 +119,9 @@ pub trait Item {
         ensures none { IfOk result (λ found. IsNone found ↔ WellFormed (view self.now)) }
         ensures first { IfOk result (λ found. IfSome found (IsFirstFlaw (view self.now))) };
 
+    /// Other statements leave the last lines as they are.
+    ghost puts: { (item : Self) (ss : List StatementNode) → view (put_statements item ss) ≡ with_statements (view item) (map view_statement ss) };
+
     /// The item has the last lines of its type.
     ghost ends: { (item : Self) → IsEndingOf item_type (view item).ending };
 }
@@ -89,10 +131,22 @@ impl Item for LeftHandSide {
 
     ghost view = { view_left_hand_side };
 
+    ghost put_statements = { left_hand_side_of };
+
+    ghost puts = { λ item ss. refl };
+
     ghost ends = { λ item. tt };
 
     fn statements(&self) -> &Arena<Statement> {
         &self.statements
+    }
+
+    fn statements_mut(&mut self) -> &mut Arena<Statement> {
+        &mut self.statements
+    }
+
+    fn replace_uses(&mut self, of: ValueId, by: Operand) {
+        LeftHandSide::replace_uses(self, of, by)
     }
 
     fn roots(&self) -> ArrayVec<Operand, 2> {
@@ -103,6 +157,10 @@ impl Item for LeftHandSide {
 
     fn print_order(&self) -> Result<Order, TextError> {
         LeftHandSide::print_order(self)
+    }
+
+    fn print_order_into(&self, order: &mut Order) -> Result<(), TextError> {
+        LeftHandSide::print_order_into(self, order)
     }
 
     fn append_text(&self, out: &mut String) -> Result<(), TextError> {
@@ -136,10 +194,22 @@ impl Item for RightHandSide {
 
     ghost view = { view_right_hand_side };
 
+    ghost put_statements = { right_hand_side_of };
+
+    ghost puts = { λ item ss. refl };
+
     ghost ends = { λ item. tt };
 
     fn statements(&self) -> &Arena<Statement> {
         &self.statements
+    }
+
+    fn statements_mut(&mut self) -> &mut Arena<Statement> {
+        &mut self.statements
+    }
+
+    fn replace_uses(&mut self, of: ValueId, by: Operand) {
+        RightHandSide::replace_uses(self, of, by)
     }
 
     fn roots(&self) -> ArrayVec<Operand, 2> {
@@ -150,6 +220,10 @@ impl Item for RightHandSide {
 
     fn print_order(&self) -> Result<Order, TextError> {
         RightHandSide::print_order(self)
+    }
+
+    fn print_order_into(&self, order: &mut Order) -> Result<(), TextError> {
+        RightHandSide::print_order_into(self, order)
     }
 
     fn append_text(&self, out: &mut String) -> Result<(), TextError> {
@@ -183,6 +257,10 @@ impl Item for Replacement {
 
     ghost view = { view_replacement };
 
+    ghost put_statements = { replacement_of };
+
+    ghost puts = { replacement_puts };
+
     ghost ends = { replacement_ending };
 
     fn statements(&self) -> &Arena<Statement> {
@@ -190,6 +268,17 @@ impl Item for Replacement {
             Replacement::LhsRhs { statements, .. } => statements,
             Replacement::Cand { statements, .. } => statements,
         }
+    }
+
+    fn statements_mut(&mut self) -> &mut Arena<Statement> {
+        match self {
+            Replacement::LhsRhs { statements, .. } => statements,
+            Replacement::Cand { statements, .. } => statements,
+        }
+    }
+
+    fn replace_uses(&mut self, of: ValueId, by: Operand) {
+        Replacement::replace_uses(self, of, by)
     }
 
     fn roots(&self) -> ArrayVec<Operand, 2> {
@@ -209,6 +298,10 @@ impl Item for Replacement {
 
     fn print_order(&self) -> Result<Order, TextError> {
         Replacement::print_order(self)
+    }
+
+    fn print_order_into(&self, order: &mut Order) -> Result<(), TextError> {
+        Replacement::print_order_into(self, order)
     }
 
     fn append_text(&self, out: &mut String) -> Result<(), TextError> {

@@ -78,14 +78,25 @@ impl Parts<'_> {
         ensures refused { IfErr result (λ error. IsFaultOf (view_parts self.now) error) }
         ensures ordered { IfOk result (λ order. IsPrintOrder (view_parts self.now) order.ids.items order.lead order.turns) }
     {
+        self.print_order_in(Vec::new(self.statements.allocator()))
+    }
+
+    // The needed statements of the item, in the memory of an empty list.
+    pub(crate) fn print_order_in(&self, ids: Vec<Id<Statement>>) -> Result<Order, TextError>
+        requires { ids.items ≡ [] }
+        ensures refused { IfErr result (λ error. IsFaultOf (view_parts self.now) error) }
+        ensures ordered { IfOk result (λ order. IsPrintOrder (view_parts self.now) order.ids.items order.lead order.turns) }
+    {
         let statements = self.statements;
         match self.ending {
-            Ending::Infer(lhs) => order_between(statements, &[Operand::Value(lhs.value)], &[]),
-            Ending::Result(rhs) => order_between(statements, &[*rhs], &[]),
-            Ending::Replaced(lhs, rhs) => {
-                order_between(statements, &[Operand::Value(lhs.value)], &[*rhs])
+            Ending::Infer(lhs) => {
+                order_between(statements, &[Operand::Value(lhs.value)], &[], ids)
             }
-            Ending::Cand(cand) => order_between(statements, &[cand.lhs, cand.rhs], &[]),
+            Ending::Result(rhs) => order_between(statements, &[*rhs], &[], ids),
+            Ending::Replaced(lhs, rhs) => {
+                order_between(statements, &[Operand::Value(lhs.value)], &[*rhs], ids)
+            }
+            Ending::Cand(cand) => order_between(statements, &[cand.lhs, cand.rhs], &[], ids),
         }
     }
 }
@@ -126,12 +137,14 @@ struct Walks {
     before: usize,
 }
 
-// The order of an item that has these roots before and after its path conditions.
+// The order of an item that has these roots before and after its path conditions, in the memory of an empty list.
 fn order_between(
     statements: &Arena<Statement>,
     first: &[Operand],
     last: &[Operand],
+    ids: Vec<Id<Statement>>,
 ) -> Result<Order, TextError>
+    requires { ids.items ≡ [] }
     ensures refused { (a : Item) → a.statements ≡ map view_statement statements.now → first_roots a.ending ≡ uses_of_operands first.now → last_roots a.ending ≡ uses_of_operands last.now → IfErr result (λ error. IsFaultOf a error) }
     ensures ordered { (a : Item) → a.statements ≡ map view_statement statements.now → first_roots a.ending ≡ uses_of_operands first.now → last_roots a.ending ≡ uses_of_operands last.now → IfOk result (λ order. IsPrintOrder a order.ids.items order.lead order.turns) }
 {
@@ -140,7 +153,7 @@ fn order_between(
     push_conditions(&mut targets, statements)?;
     let before = targets.len();
     push_roots(&mut targets, last)?;
-    order_of(statements, &Walks { targets, before })
+    order_of(statements, &Walks { targets, before }, ids)
 }
 
 // Appends the roots that name a value.
@@ -176,14 +189,19 @@ pub(crate) fn push_conditions(
 }
 
 // Walks from each target in turn, and puts each statement after all that it uses, if that is possible.
-fn order_of(statements: &Arena<Statement>, walks: &Walks) -> Result<Order, TextError>
+fn order_of(
+    statements: &Arena<Statement>,
+    walks: &Walks,
+    mut ids: Vec<Id<Statement>>,
+) -> Result<Order, TextError>
+    requires { ids.items ≡ [] }
     ensures refused { (a : Item) → IsWalkedBy a (map view_statement statements.now) walks.now.targets.items walks.now.before → IfErr result (λ error. IsFaultOf a error) }
     ensures ordered { (a : Item) → IsWalkedBy a (map view_statement statements.now) walks.now.targets.items walks.now.before → IfOk result (λ order. IsPrintOrder a order.ids.items order.lead order.turns) }
 {
     let alloc = statements.allocator();
     let mut stack: Vec<Entry> = Vec::with_capacity(alloc, 16)?;
     let mut marks = Marks::none(alloc, statements.len())?;
-    let mut ids: Vec<Id<Statement>> = Vec::with_capacity(alloc, statements.len())?;
+    ids.reserve(statements.len())?;
     let mut turns: u128 = 0;
     let mut lead = 0;
     for (k, walk) in walks.targets.iter().enumerate() {

@@ -8,7 +8,7 @@ ghost use Rattle.souper_graph.specs.Syntax.Spelling.{left_hand_side, right_hand_
 ghost use Rattle.souper_ir.specs.Files.{AnswersRead};
 
 use crate::parse::error::ParseError;
-use crate::parse::item::{WholeItem, parse_str};
+use crate::parse::item::{WholeItem, parse_items};
 use crate::parse::parser::Result;
 use souper_graph::ast::{LeftHandSide, Replacement, RightHandSide};
 use std::alloc::Global;
@@ -25,7 +25,7 @@ fn answer_read<T: WholeItem + Drop>(
     ensures { AnswersRead T.item_type T.view path.now read result }
 {
     match read {
-        Ok(source) => parse_str(alloc, source.as_str(), Some(path)),
+        Ok(source) => parse_items(alloc, source.as_str(), Some(path)),
         Err(fault) => {
             if fault.kind() == ErrorKind::OutOfMemory {
                 Err(ParseError::memory())

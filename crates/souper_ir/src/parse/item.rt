@@ -381,8 +381,12 @@ pub fn parse_with_memory<T: WholeItem, S: Sink<T>>(
     parsed
 }
 
-/// The items of a text.
-pub(crate) fn parse_str<T: WholeItem + Drop>(
+/// The items of a text, in order.
+///
+/// The type of the items is [`LeftHandSide`], [`RightHandSide`] or [`Replacement`]. The file name is for the error, which shows
+/// `unknown` without one. A text that is refused has no items: the error is of the kind `Parse` or `Memory`. A text of white space
+/// and comments alone has no items, and never runs out of memory.
+pub fn parse_items<T: WholeItem + Drop>(
     alloc: Global,
     source: &str,
     filename: Option<&str>,
@@ -414,7 +418,7 @@ pub fn parse_left_hand_sides_str(
     ensures refused { IfErr result (λ e. IsStrError left_hand_side (option_copied filename.entry) source.now e) }
     ensures gaps { IsLastGap source.now → IsOkAnd result (λ v. v.items ≡ []) }
 {
-    parse_str(alloc, source, filename)
+    parse_items(alloc, source, filename)
 }
 
 /// The right-hand sides of a text, in order.
@@ -433,7 +437,7 @@ pub fn parse_right_hand_sides_str(
     ensures refused { IfErr result (λ e. IsStrError right_hand_side (option_copied filename.entry) source.now e) }
     ensures gaps { IsLastGap source.now → IsOkAnd result (λ v. v.items ≡ []) }
 {
-    parse_str(alloc, source, filename)
+    parse_items(alloc, source, filename)
 }
 
 /// The replacements of a text, in order.
@@ -452,5 +456,5 @@ pub fn parse_replacements_str(
     ensures refused { IfErr result (λ e. IsStrError replacement (option_copied filename.entry) source.now e) }
     ensures gaps { IsLastGap source.now → IsOkAnd result (λ v. v.items ≡ []) }
 {
-    parse_str(alloc, source, filename)
+    parse_items(alloc, source, filename)
 }

@@ -12,11 +12,11 @@ use Rattle.souper_graph.proofs.stringify.order.order_of.Goals.{then-k-walks, els
 pub loop-k-init : goal.loop-k-init
 loop-k-init c = (
   c.in_ok-stack.ensures.items,
-  start_at _ _ _ _ _ c.in_ok-stack.ensures.items c.in_ok-marks.ensures (c.len.ensures ∙ sym (length-map c.args.statements.now view_statement)) c.in_ok-ids.ensures.items,
+  start_at _ _ _ _ _ c.in_ok-stack.ensures.items c.in_ok-marks.ensures (c.len.ensures ∙ sym (length-map c.args.statements.now view_statement)) (c.reserve.ensures.items ∙ c.requires),
   omega arith,
   lead_start _ c.args.walks.now.targets.items c.args.walks.now.before,
-  λ h. sym (ap length c.in_ok-ids.ensures.items),
-  lead_needs_start _ c.args.walks.now.targets.items c.args.walks.now.before c.in_ok-ids.ids.items,
+  λ h. sym (ap length (c.reserve.ensures.items ∙ c.requires)),
+  lead_needs_start _ c.args.walks.now.targets.items c.args.walks.now.before c.reserve.new.self.items,
 )
 
 pub loop-entry-init : goal.loop-entry-init

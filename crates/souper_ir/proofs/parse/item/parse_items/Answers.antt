@@ -2,7 +2,7 @@ use Rattle.std.proofs.Common.{◌≡◌, List, [], map, sym, ap, subst}
 use Rattle.souper_graph.specs.Values.{Item}
 use Rattle.souper_graph.specs.Syntax.Spelling.{TextSpells}
 use Rattle.souper_ir.proofs.Items.WellFormed.{all_well, text_closed}
-use Rattle.souper_ir.proofs.parse.item.parse_str.Goals as goal
+use Rattle.souper_ir.proofs.parse.item.parse_items.Goals as goal
 
 pub returns-clause-spelled : goal.returns-clause-spelled
 returns-clause-spelled g c =
