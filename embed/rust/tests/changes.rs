@@ -8,7 +8,7 @@ use souper_ir::code::{decode, encode, read, Item};
 
 // A variable, a block, a phi of the variable and 1, a condition on the block, a sum of both values, and a condition.
 const BRANCHING: &str =
-    "%x = var  %b = block 2  %p = phi %b, %x, 1  blockpc %b 1 %x 0  %y = add %p, %x  pc %y %p";
+    "%x = var  %b = block 2  %p = phi %b, %x, 1  blockpc %b 1 %x %p  %y = add %p, %x  pc %y %p";
 
 fn item<T: Item>(text: &str) -> T {
     decode(&read(T::KIND, text).unwrap()).unwrap().remove(0)
@@ -48,13 +48,11 @@ fn uses(statement: &Statement) -> Vec<(char, usize)> {
 fn uses_come_in_the_order_of_the_text() {
     let item: LeftHandSide = branching("infer %y");
     let found: Vec<_> = item.statements.iter().map(|(_, it)| uses(it)).collect();
-    let on_block = vec![('b', 1), ('v', 0)];
+    let phi = vec![('b', 1), ('v', 0)];
+    let on_block = vec![('b', 1), ('v', 0), ('v', 2)];
     let sum = vec![('v', 2), ('v', 0)];
     let condition = vec![('v', 4), ('v', 2)];
-    assert_eq!(
-        found,
-        [vec![], vec![], on_block.clone(), on_block, sum, condition]
-    );
+    assert_eq!(found, [vec![], vec![], phi, on_block, sum, condition]);
 }
 
 #[test]
@@ -89,7 +87,7 @@ fn operands_are_mapped_from_left_to_right() {
 #[test]
 fn uses_in_statements_are_replaced() {
     let expected =
-        "%x = var  %b = block 2  %p = phi %b, 7, 1  blockpc %b 1 7 0  %y = add %p, 7  pc %y %p";
+        "%x = var  %b = block 2  %p = phi %b, 7, 1  blockpc %b 1 7 %p  %y = add %p, 7  pc %y %p";
     let mut lhs: LeftHandSide = branching("infer %y");
     lhs.replace_uses(value(&lhs, 0), number(7));
     is(lhs, &format!("{expected}  infer %y"));
