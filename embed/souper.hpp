@@ -383,33 +383,92 @@ inline kind kind_of(const item &i) noexcept {
     return i.last.index() == 0 ? kind::lhs : i.last.index() == 1 ? kind::rhs : kind::rep;
 }
 
+namespace detail {
+
+// Calls `visit` with each operand of a statement, which may be const.
+template <typename Statement, typename Visit> void visit_operands(Statement &s, Visit &visit) {
+    if (auto *condition = std::get_if<pc>(&s)) {
+        visit(condition->x);
+        visit(condition->y);
+    } else if (auto *on_block = std::get_if<blockpc>(&s)) {
+        visit(on_block->x);
+        visit(on_block->y);
+    } else if (auto *assigned = std::get_if<assignment>(&s)) {
+        auto *choice = std::get_if<phi>(&assigned->value);
+        auto *computed = std::get_if<instruction>(&assigned->value);
+        if (auto *operands = choice ? &choice->values : computed ? &computed->operands : nullptr) {
+            for (auto &o : *operands) {
+                visit(o);
+            }
+        }
+    }
+}
+
+} // namespace detail
+
+/// Calls `visit` with each operand of a statement, from left to right. The block of a phi or `blockpc` is no operand.
+template <typename Visit> void for_each_operand(const statement &s, Visit visit) { detail::visit_operands(s, visit); }
+
+/// The same with operands that `visit` may change.
+template <typename Visit> void for_each_operand(statement &s, Visit visit) { detail::visit_operands(s, visit); }
+
 /// Calls `visit` with the id of each use of a statement, in order: the block of a phi or `blockpc`, and then the operands from
 /// left to right. Constants are no uses.
 template <typename Visit> void for_each_use(const statement &s, Visit visit) {
-    const auto operands = [&visit](const auto &...all) {
-        const auto one = [&visit](const operand &o) {
-            if (const id *used = std::get_if<id>(&o)) {
-                visit(*used);
-            }
-        };
-        (one(all), ...);
-    };
-    if (const auto *condition = std::get_if<pc>(&s)) {
-        operands(condition->x, condition->y);
-    } else if (const auto *on_block = std::get_if<blockpc>(&s)) {
+    if (const auto *on_block = std::get_if<blockpc>(&s)) {
         visit(on_block->block);
-        operands(on_block->x, on_block->y);
     } else if (const auto *assigned = std::get_if<assignment>(&s)) {
         if (const auto *choice = std::get_if<phi>(&assigned->value)) {
             visit(choice->block);
-            for (const operand &o : choice->values) {
-                operands(o);
-            }
-        } else if (const auto *computed = std::get_if<instruction>(&assigned->value)) {
-            for (const operand &o : computed->operands) {
-                operands(o);
-            }
         }
+    }
+    for_each_operand(s, [&visit](const operand &o) {
+        if (const id *used = std::get_if<id>(&o)) {
+            visit(*used);
+        }
+    });
+}
+
+namespace detail {
+
+inline void replace_use(operand &o, id of, const operand &by) noexcept {
+    if (o == operand(of)) {
+        o = by;
+    }
+}
+
+// An infer line has a value, and keeps it where a constant would take its place.
+inline void replace_use(infer &line, id of, const operand &by) noexcept {
+    const id *value = std::get_if<id>(&by);
+    if (line.value == of && value != nullptr) {
+        line.value = *value;
+    }
+}
+
+} // namespace detail
+
+/// Puts `by` in the place of each operand of the statement that is the value `of`. Nothing else changes.
+inline void replace_uses(statement &s, id of, operand by) noexcept {
+    for_each_operand(s, [of, &by](operand &o) { detail::replace_use(o, of, by); });
+}
+
+/// Puts `by` in the place of each operand of the item that is the value `of`, also in the last lines. An infer line has a value,
+/// and keeps it if `by` is a constant. Nothing else changes: the blocks of phis and `blockpc`s are no operands. `write` says
+/// whether the item is well formed then.
+inline void replace_uses(item &i, id of, operand by) noexcept {
+    for (statement &s : i.statements) {
+        replace_uses(s, of, by);
+    }
+    if (auto *lhs = std::get_if<infer>(&i.last)) {
+        detail::replace_use(*lhs, of, by);
+    } else if (auto *rhs = std::get_if<result>(&i.last)) {
+        detail::replace_use(rhs->value, of, by);
+    } else if (auto *both = std::get_if<infer_result>(&i.last)) {
+        detail::replace_use(both->replaced, of, by);
+        detail::replace_use(both->by.value, of, by);
+    } else if (auto *pair = std::get_if<cand>(&i.last)) {
+        detail::replace_use(pair->replaced, of, by);
+        detail::replace_use(pair->by, of, by);
     }
 }
 
@@ -538,7 +597,7 @@ class builder {
 public:
     builder() = default;
 
-    /// Begins with these statements, as of an item that was read.
+    /// Begins with these statements, as of an item that was read. Each keeps its position.
     explicit builder(std::vector<statement> begun) : statements(std::move(begun)) {
         for (const statement &s : statements) {
             if (const auto *assigned = std::get_if<assignment>(&s)) {

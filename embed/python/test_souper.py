@@ -572,6 +572,95 @@ class Values(unittest.TestCase):
             self.assertRaises(TypeError, souper.encode, item.kind, [item])
 
 
+class Changes(unittest.TestCase):
+    """What statements use, and operands that are replaced."""
+
+    BEGUN = (
+        "%x = var  %b = block 2  %p = phi %b, %x, 1  blockpc %b 1 %x 0  %y = add %p, %x  pc %y %p "
+    )
+    X, B, P, Y = Value(0), Value(1), Value(2), Value(4)
+
+    def becomes(
+        self, kind: str, last: str, of: Value, by: Value | Constant | int, expected: str
+    ) -> None:
+        [item] = souper.read(kind, self.BEGUN + last)
+        before = pickle.dumps(item)
+        self.assertEqual([item.replace_uses(of, by)], souper.read(kind, expected))
+        self.assertEqual(pickle.dumps(item), before)
+
+    def test_uses_come_in_the_order_of_the_text(self) -> None:
+        [item] = souper.read("lhs", self.BEGUN + "%h = hole  %s = select 1, %y, %y  infer %s")
+        on_block = (self.B, self.X)
+        wanted = [(), (), on_block, on_block, (self.P, self.X), (self.Y, self.P), (), (self.Y,) * 2]
+        self.assertEqual([statement.uses for statement in item.statements], wanted)
+
+    def test_operands_are_mapped_from_left_to_right(self) -> None:
+        last = "%h = hole  %s = select %x, %p, 3  infer %s"
+        [item] = souper.read("lhs", self.BEGUN + last)
+        numbers = itertools.count(1)
+        changed = [it.map_operands(lambda _: Constant(next(numbers))) for it in item.statements]
+        expected = """
+            %x = var  %b = block 2  %p = phi %b, 1, 2  blockpc %b 1 3 4  %y = add 5, 6  pc 7 8
+            %h = hole  %s = select 9, 10, 11  infer %s"""
+        [wanted] = souper.read("lhs", expected)
+        self.assertEqual(tuple(changed), wanted.statements)
+
+    def test_uses_in_statements(self) -> None:
+        by_7 = "%x = var %b = block 2 %p = phi %b, 7, 1 blockpc %b 1 7 0 %y = add %p, 7 pc %y %p "
+        for by in (7, Constant(7)):
+            self.becomes("lhs", "infer %y", self.X, by, by_7 + "infer %y")
+        self.becomes("rhs", "result 0", self.X, 7, by_7 + "result 0")
+        self.becomes("rep", "infer %y  result 0", self.X, 7, by_7 + "infer %y  result 0")
+        self.becomes("rep", "cand %y 0", self.X, 7, by_7 + "cand %y 0")
+        self.becomes("lhs", "infer %y", self.B, 7, self.BEGUN + "infer %y")
+        [item] = souper.read("lhs", self.BEGUN + "infer %y")
+        _, block, phi, block_pc, total, pc = item.statements
+        self.assertEqual(block.replace_uses(self.X, 7), block)
+        self.assertEqual(phi.replace_uses(self.X, 7).operands, (self.B, Constant(7), Constant(1)))
+        self.assertEqual(block_pc.replace_uses(self.B, 7), block_pc)
+        self.assertEqual(total.replace_uses(self.X, self.P).operands, (self.P, self.P))
+        self.assertEqual(pc.replace_uses(self.P, self.X), Pc(self.Y, self.X))
+
+    def test_uses_in_last_lines(self) -> None:
+        def by_p(kind: str, last: str, expected: str) -> None:
+            text = self.BEGUN.replace("pc %y %p", "pc %p %p") + expected
+            self.becomes(kind, last, self.Y, self.P, text)
+
+        by_p("lhs", "infer %y (harvestedFromUse)", "infer %p (harvestedFromUse)")
+        by_p("lhs", "infer %x", "infer %x")
+        by_p("rhs", "result %y", "result %p")
+        by_p("rep", "infer %y  result %y", "infer %p  result %p")
+        by_p("rep", "infer %x  result 3", "infer %x  result 3")
+        by_p("rep", "cand %y %y (demandedBits=1)", "cand %p %p (demandedBits=1)")
+
+    def test_an_infer_line_has_no_constant(self) -> None:
+        def by_5(kind: str, last: str, expected: str) -> None:
+            text = self.BEGUN.replace("pc %y %p", "pc 5 %p") + expected
+            self.becomes(kind, last, self.Y, 5, text)
+
+        by_5("lhs", "infer %y", "infer %y")
+        by_5("rhs", "result %y", "result 5")
+        by_5("rep", "infer %y  result %y", "infer %y  result 5")
+        by_5("rep", "cand %x %y", "cand %x 5")
+
+    def test_values_of_a_builder(self) -> None:
+        b = Builder()
+        x, y = b.var("x"), b.var("y")
+        item = b.infer(y).replace_uses(y, x)
+        self.assertEqual(item, b.infer(x))
+        ending: Any = item.ending
+        self.assertIs(type(ending.value), Value)
+        self.assertEqual(Builder(item.statements).infer(ending.value), item)
+
+    def test_types_of_arguments(self) -> None:
+        [item] = souper.read("lhs", self.BEGUN + "infer %y")
+        none: Any = None
+        for value in (item, *item.statements):
+            self.assertRaisesRegex(TypeError, "of is a Value", value.replace_uses, none, 1)
+            self.assertRaisesRegex(TypeError, "of is a Value", value.replace_uses, 0, 1)
+            self.assertRaisesRegex(TypeError, "by is a Value, ", value.replace_uses, self.X, none)
+
+
 class IllFormed(unittest.TestCase):
     """Items without a canonical text."""
 

@@ -271,6 +271,77 @@ void walks() {
     expect(i.at(id{4}) == nullptr && i.at(id{5}) == nullptr, "no assignment", nullptr);
 }
 
+// Operands that are replaced: each item is the one that is read of the text behind it.
+
+const char *const branching = "%x = var %b = block 2 %p = phi %b, %x, 1 blockpc %b 1 %x 0 %y = add %p, %x pc %y %p ";
+const id branching_x{0}, branching_b{1}, branching_p{2}, branching_y{4};
+
+void becomes(kind k, const std::string &last, id of, const souper::operand &by, const std::string &wanted) {
+    item i = souper::read(k, branching + last).front();
+    souper::replace_uses(i, of, by);
+    expect(i == souper::read(k, wanted).front(), wanted.c_str(), nullptr);
+}
+
+void replaced_in_statements() {
+    const std::string wanted = "%x = var %b = block 2 %p = phi %b, 7, 1 blockpc %b 1 7 0 %y = add %p, 7 pc %y %p ";
+    const constant seven{7};
+    becomes(kind::lhs, "infer %y", branching_x, seven, wanted + "infer %y");
+    becomes(kind::rhs, "result 0", branching_x, seven, wanted + "result 0");
+    becomes(kind::rep, "infer %y result 0", branching_x, seven, wanted + "infer %y result 0");
+    becomes(kind::rep, "cand %y 0", branching_x, seven, wanted + "cand %y 0");
+    becomes(kind::lhs, "infer %y", branching_b, seven, std::string(branching) + "infer %y");
+    item i = souper::read(kind::lhs, branching + std::string("infer %y")).front();
+    souper::replace_uses(i.statements[branching_y.position], branching_x, branching_p);
+    expect(souper::statement_text(i.statements, branching_y) == "%y = add %p, %p", "one statement", nullptr);
+    expect(souper::statement_text(i.statements, branching_p) == "%p = phi %b, %x, 1", "another statement", nullptr);
+}
+
+void replaced_in_last_lines() {
+    const std::string by_p = "%x = var %b = block 2 %p = phi %b, %x, 1 blockpc %b 1 %x 0 %y = add %p, %x pc %p %p ";
+    const std::string by_5 = "%x = var %b = block 2 %p = phi %b, %x, 1 blockpc %b 1 %x 0 %y = add %p, %x pc 5 %p ";
+    const constant five{5};
+    becomes(kind::lhs, "infer %y (harvestedFromUse)", branching_y, branching_p, by_p + "infer %p (harvestedFromUse)");
+    becomes(kind::lhs, "infer %x", branching_y, branching_p, by_p + "infer %x");
+    becomes(kind::lhs, "infer %y", branching_y, five, by_5 + "infer %y");
+    becomes(kind::rhs, "result %y", branching_y, branching_p, by_p + "result %p");
+    becomes(kind::rhs, "result %y", branching_y, five, by_5 + "result 5");
+    becomes(kind::rep, "infer %y result %y", branching_y, branching_p, by_p + "infer %p result %p");
+    becomes(kind::rep, "infer %y result %y", branching_y, five, by_5 + "infer %y result 5");
+    becomes(kind::rep, "infer %x result 3", branching_y, branching_p, by_p + "infer %x result 3");
+    becomes(kind::rep, "cand %y %y (demandedBits=1)", branching_y, branching_p, by_p + "cand %p %p (demandedBits=1)");
+    becomes(kind::rep, "cand %x %y", branching_y, five, by_5 + "cand %x 5");
+}
+
+// The operands of each statement, in order, which the visitor may change.
+void operands() {
+    item i = souper::read(kind::lhs, branching + std::string("%h = hole %s = select %x, %p, 3 infer %s")).front();
+    int count = 0;
+    for (auto &s : i.statements) {
+        souper::for_each_operand(s, [&](souper::operand &o) { o = constant{++count}; });
+    }
+    const char *const wanted = "%x = var %b = block 2 %p = phi %b, 1, 2 blockpc %b 1 3 4 %y = add 5, 6 pc 7 8 %h = hole %s = select 9, 10, 11 infer %s";
+    expect(i == souper::read(kind::lhs, wanted).front(), "other operands", nullptr);
+    const item &fixed = i;
+    int constants = 0;
+    for (const auto &s : fixed.statements) {
+        souper::for_each_operand(s, [&](const souper::operand &o) { constants += std::holds_alternative<constant>(o); });
+    }
+    expect(constants == 11, "the operands", nullptr);
+}
+
+// A pass: x in the place of each use of `add x, 0`.
+void a_pass() {
+    item i = souper::read(kind::lhs, "%x:i8 = var %1:i8 = add %x, 0:i8 %2:i8 = add %1, 0:i8 %3:i8 = mul %2, %1 infer %3").front();
+    const souper::operand zero = constant{0, 8};
+    for (std::size_t position = 0; position < i.statements.size(); position++) {
+        const auto *sum = i.at(id{position}) ? std::get_if<souper::instruction>(&i.at(id{position})->value) : nullptr;
+        if (sum != nullptr && sum->operation == op::add && sum->operands[1] == zero) {
+            souper::replace_uses(i, id{position}, sum->operands[0]);
+        }
+    }
+    prints("a pass", i, "%x:i8 = var\n%3:i8 = mul %x, %x\ninfer %3\n");
+}
+
 // What is no item of the kind.
 
 bool is_ill_formed(kind k, const std::vector<item> &items, std::size_t index) {
@@ -431,6 +502,10 @@ int main(int argc, char **argv) {
     built_attributes();
     operations();
     walks();
+    replaced_in_statements();
+    replaced_in_last_lines();
+    operands();
+    a_pass();
     ill_formed_values();
     flaws();
     ill_formed_graphs();

@@ -80,7 +80,8 @@ class Builder:
     An operand is a `Value` of this builder, a `Constant`, or an `int`: a constant without a type.
     A name may be without its ``%``. The default is ``%`` and the position, or the next number that
     is free. `ValueError` if an argument would make the item not well formed, or a value is another
-    builder's. A builder may begin with the statements of an item, which it does not test.
+    builder's. A builder may begin with the statements of an item, which it does not test; their
+    values stay.
 
     >>> b = Builder()
     >>> block = b.block(2)

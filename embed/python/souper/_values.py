@@ -7,10 +7,11 @@ None if the text has no type.
 from __future__ import annotations
 
 import enum
-from dataclasses import dataclass
+from collections.abc import Callable, Iterable
+from dataclasses import dataclass, replace
 from typing import TypeAlias
 
-from ._checks import check_int, check_range
+from ._checks import check_int, check_range, check_type
 
 
 class Kind(enum.Enum):
@@ -141,6 +142,25 @@ class Constant:
 
 Operand: TypeAlias = Value | Constant
 """An operand of an instruction, a phi, a path condition or the last lines."""
+
+
+def _values_of(operands: Iterable[Operand]) -> tuple[Value, ...]:
+    return tuple(operand for operand in operands if isinstance(operand, Value))
+
+
+def _replacing(of: Value, by: Operand | int) -> Callable[[Operand], Operand]:
+    """The function that gives `by` for the value `of`, and any other operand for itself."""
+    check_type("of", of, "a Value", Value)
+    match by:
+        case int():
+            new: Operand = Constant(by)
+        case Value(position):
+            # As an item has it, also if a builder returned it.
+            new = Value(position)
+        case _:
+            check_type("by", by, "a Value, a Constant or an int", Constant)
+            new = by
+    return lambda operand: new if operand == of else operand
 
 
 @dataclass(frozen=True, slots=True)
@@ -278,6 +298,24 @@ class Assignment:
                 return (block, *values)
         return ()
 
+    @property
+    def uses(self) -> tuple[Value, ...]:
+        """The values among the operands, repeats kept. A phi's block is its first."""
+        return _values_of(self.operands)
+
+    def map_operands(self, f: Callable[[Operand], Operand]) -> Assignment:
+        """The assignment with ``f(operand)`` for each operand. A phi's block stays."""
+        match self.value:
+            case Instruction(op, operands):
+                return replace(self, value=Instruction(op, tuple(map(f, operands))))
+            case Phi(block, values):
+                return replace(self, value=Phi(block, tuple(map(f, values))))
+        return self
+
+    def replace_uses(self, of: Value, by: Operand | int) -> Assignment:
+        """The assignment with `by` for each operand that is the value `of`. A phi's block stays."""
+        return self.map_operands(_replacing(of, by))
+
 
 @dataclass(frozen=True, slots=True)
 class Pc:
@@ -290,6 +328,19 @@ class Pc:
     def operands(self) -> tuple[Operand, ...]:
         """x and y."""
         return (self.x, self.y)
+
+    @property
+    def uses(self) -> tuple[Value, ...]:
+        """The values among the operands, repeats kept."""
+        return _values_of(self.operands)
+
+    def map_operands(self, f: Callable[[Operand], Operand]) -> Pc:
+        """The condition with ``f(operand)`` for each operand."""
+        return Pc(f(self.x), f(self.y))
+
+    def replace_uses(self, of: Value, by: Operand | int) -> Pc:
+        """The condition with `by` for each operand that is the value `of`."""
+        return self.map_operands(_replacing(of, by))
 
 
 @dataclass(frozen=True, slots=True)
@@ -306,6 +357,19 @@ class BlockPc:
     def operands(self) -> tuple[Operand, ...]:
         """The block, x and y."""
         return (self.block, self.x, self.y)
+
+    @property
+    def uses(self) -> tuple[Value, ...]:
+        """The values among the operands, repeats kept. The block is the first."""
+        return _values_of(self.operands)
+
+    def map_operands(self, f: Callable[[Operand], Operand]) -> BlockPc:
+        """The condition with ``f(operand)`` for x and for y. The block stays."""
+        return replace(self, x=f(self.x), y=f(self.y))
+
+    def replace_uses(self, of: Value, by: Operand | int) -> BlockPc:
+        """The condition with `by` for x and y, where they are the value `of`. The block stays."""
+        return self.map_operands(_replacing(of, by))
 
 
 Statement: TypeAlias = Assignment | Pc | BlockPc
@@ -348,6 +412,26 @@ Ending: TypeAlias = Infer | Result | Replace | Cand
 """The last lines of an item."""
 
 
+def _mapped_infer(infer: Infer, f: Callable[[Operand], Operand]) -> Infer:
+    """The line has a value, and keeps it where a constant would take its place."""
+    match f(infer.value):
+        case Value() as value:
+            return replace(infer, value=value)
+    return infer
+
+
+def _mapped_ending(ending: Ending, f: Callable[[Operand], Operand]) -> Ending:
+    match ending:
+        case Infer():
+            return _mapped_infer(ending, f)
+        case Result(operand):
+            return Result(f(operand))
+        case Replace(infer, result):
+            return Replace(_mapped_infer(infer, f), f(result))
+        case Cand(lhs, rhs):
+            return replace(ending, lhs=f(lhs), rhs=f(rhs))
+
+
 @dataclass(frozen=True, slots=True)
 class Item:
     """A left-hand side, a right-hand side or a replacement."""
@@ -376,3 +460,26 @@ class Item:
         if not isinstance(statement, Assignment):
             raise ValueError(f"statement {value.position} is not an assignment")
         return statement
+
+    def replace_uses(self, of: Value, by: Operand | int) -> Item:
+        """The item with `by` for each operand that is the value `of`, also in the last lines.
+
+        ``infer`` has a value, and keeps it if `by` is a constant. The blocks of phis and of path
+        conditions stay. Whether the item is well formed then is not tested. This pass replaces each
+        sum of x and 0 by x:
+
+        >>> text = "%x = var  %1 = add %x, 0  %2 = add %1, 0  %3 = mul %2, %1  infer %3"
+        >>> [item] = read("lhs", text)
+        >>> for position in range(len(item.statements)):
+        ...     match item.statements[position]:
+        ...         case Assignment(value=Instruction(Op.ADD, (x, Constant(0)))):
+        ...             item = item.replace_uses(Value(position), x)
+        >>> print(write("lhs", [item]), end="")
+        %x = var
+        %3 = mul %x, %x
+        infer %3
+        <BLANKLINE>
+        """
+        f = _replacing(of, by)
+        statements = tuple(statement.map_operands(f) for statement in self.statements)
+        return Item(statements, _mapped_ending(self.ending, f))

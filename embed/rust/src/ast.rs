@@ -16,15 +16,18 @@ mod builders;
 mod instruction;
 mod items;
 mod operands;
+mod replacing;
 mod statements;
+mod uses;
 
 pub use crate::arena::{Arena, Id};
 pub use attributes::{Attribute, RootAttribute};
-pub use builders::{LeftHandSideBuilder, ReplacementBuilder};
+pub use builders::{LeftHandSideBuilder, ReplacementBuilder, RightHandSideBuilder};
 pub use instruction::Instruction;
 pub use items::{Cand, Infer, LeftHandSide, Replacement, RightHandSide};
 pub use operands::{BlockId, Constant, Operand, Type, ValueId};
 pub use statements::{Assignment, AssignmentRhs, Block, BlockPc, Pc, Phi, Statement, Var};
+pub use uses::Use;
 
 // The assignment of a value.
 fn assignment(statements: &Arena<Statement>, id: ValueId) -> &Assignment {

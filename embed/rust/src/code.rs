@@ -18,7 +18,7 @@ mod decoder;
 mod encoder;
 mod flaw;
 
-use crate::ast::{LeftHandSide, Replacement, RightHandSide};
+use crate::ast::{Arena, LeftHandSide, Operand, Replacement, RightHandSide, Statement, ValueId};
 use crate::canonical::{self, Kind};
 use crate::raw::{self, Call};
 use decoder::{Decode, Decoder};
@@ -30,6 +30,49 @@ use std::fmt;
 pub trait Item: Decode + Encode {
     /// The kind of the texts that spell such items.
     const KIND: Kind;
+
+    /// The statements.
+    fn statements(&self) -> &Arena<Statement>;
+
+    /// The statements, to be changed. The last lines stay.
+    fn statements_mut(&mut self) -> &mut Arena<Statement>;
+
+    /// Puts `by` in the place of each operand that is the value `of`, also in the last lines.
+    ///
+    /// An infer line has a value, and keeps it if `by` is a constant. Nothing else changes: the blocks of phis and of path
+    /// conditions are no operands. Whether the item is [well formed](crate::ast) then is not tested.
+    ///
+    /// ```
+    /// use souper_ir::ast::{Assignment, AssignmentRhs, Constant, Instruction, LeftHandSide, Operand, Statement};
+    /// use souper_ir::code::Item;
+    /// use souper_ir::parse::parse_left_hand_sides_str;
+    ///
+    /// // What a sum is that adds 0.
+    /// fn without_zero(statement: &Statement) -> Option<Operand> {
+    ///     let Statement::Assignment(Assignment { value: AssignmentRhs::Instruction(sum), .. }) = statement else { return None };
+    ///     match sum {
+    ///         Instruction::Add { a, b: Operand::Constant(Constant { value: 0, .. }) } => Some(*a),
+    ///         _ => None,
+    ///     }
+    /// }
+    ///
+    /// // Puts `a` in the place of each use of an `add a, 0`.
+    /// fn drop_zeros<T: Item>(item: &mut T) {
+    ///     let ids: Vec<_> = item.statements().iter().map(|(id, _)| id).collect();
+    ///     for id in ids {
+    ///         if let Some(a) = without_zero(&item.statements()[id]) {
+    ///             item.replace_uses(id.into(), a);
+    ///         }
+    ///     }
+    /// }
+    ///
+    /// let text = "%x:i8 = var  %1:i8 = add %x, 0:i8  %2:i8 = add %1, 0:i8  %3:i8 = mul %2, %1  infer %3";
+    /// let mut item: LeftHandSide = parse_left_hand_sides_str(text, None)?.remove(0);
+    /// drop_zeros(&mut item);
+    /// assert_eq!(item.to_text()?, "%x:i8 = var\n%3:i8 = mul %x, %x\ninfer %3\n");
+    /// # Ok::<(), Box<dyn std::error::Error>>(())
+    /// ```
+    fn replace_uses(&mut self, of: ValueId, by: impl Into<Operand>);
 
     /// The canonical text, as `Display` writes it, or an error if there is none. (`to_string` and `write!` panic if there is none.)
     ///
@@ -97,14 +140,52 @@ pub trait Item: Decode + Encode {
 
 impl Item for LeftHandSide {
     const KIND: Kind = Kind::Lhs;
+
+    fn statements(&self) -> &Arena<Statement> {
+        &self.statements
+    }
+
+    fn statements_mut(&mut self) -> &mut Arena<Statement> {
+        &mut self.statements
+    }
+
+    fn replace_uses(&mut self, of: ValueId, by: impl Into<Operand>) {
+        LeftHandSide::replace_uses(self, of, by);
+    }
 }
 
 impl Item for RightHandSide {
     const KIND: Kind = Kind::Rhs;
+
+    fn statements(&self) -> &Arena<Statement> {
+        &self.statements
+    }
+
+    fn statements_mut(&mut self) -> &mut Arena<Statement> {
+        &mut self.statements
+    }
+
+    fn replace_uses(&mut self, of: ValueId, by: impl Into<Operand>) {
+        RightHandSide::replace_uses(self, of, by);
+    }
 }
 
 impl Item for Replacement {
     const KIND: Kind = Kind::Rep;
+
+    fn statements(&self) -> &Arena<Statement> {
+        let (Replacement::LhsRhs { statements, .. } | Replacement::Cand { statements, .. }) = self;
+        statements
+    }
+
+    fn statements_mut(&mut self) -> &mut Arena<Statement> {
+        let (Replacement::LhsRhs { statements, .. } | Replacement::Cand { statements, .. }) = self;
+        statements
+    }
+
+    fn replace_uses(&mut self, of: ValueId, by: impl Into<Operand>) {
+        Replacement::replace_uses(self, of, by);
+    }
 }
 
 /// The bytes are the code of no list of such items.

@@ -1,7 +1,7 @@
 //! Builders of items, statement by statement.
 use super::{
-    assignment, Arena, Assignment, AssignmentRhs, Attribute, Block, BlockId, BlockPc, Infer,
-    LeftHandSide, Operand, Pc, Replacement, RootAttribute, Statement, Type, ValueId,
+    assignment, Arena, Assignment, AssignmentRhs, Attribute, Block, BlockId, BlockPc, Cand, Infer,
+    LeftHandSide, Operand, Pc, Replacement, RightHandSide, RootAttribute, Statement, Type, ValueId,
 };
 use std::collections::BTreeSet;
 
@@ -12,7 +12,14 @@ pub struct LeftHandSideBuilder {
     names: Numbers,
 }
 
-/// Builds a [`Replacement`] of a left-hand and a right-hand side.
+/// Builds a [`RightHandSide`].
+#[derive(Clone, Debug, Default)]
+pub struct RightHandSideBuilder {
+    statements: Arena<Statement>,
+    names: Numbers,
+}
+
+/// Builds a [`Replacement`].
 #[derive(Clone, Debug, Default)]
 pub struct ReplacementBuilder {
     statements: Arena<Statement>,
@@ -29,6 +36,16 @@ struct Numbers {
 }
 
 impl Numbers {
+    fn of(statements: &Arena<Statement>) -> Self {
+        let mut names = Numbers::default();
+        for (_, statement) in statements {
+            if let Statement::Assignment(Assignment { name, .. }) = statement {
+                names.give(name);
+            }
+        }
+        names
+    }
+
     fn give(&mut self, name: &str) {
         let digits = name.strip_prefix('%').unwrap_or_default();
         if digits == "0" || digits.starts_with(|digit: char| digit.is_ascii_digit() && digit != '0')
@@ -48,7 +65,7 @@ impl Numbers {
     }
 }
 
-// What both builders have.
+// What the builders have.
 macro_rules! statement_methods {
     () => {
         /// Appends an assignment, and returns the id of its value.
@@ -151,7 +168,7 @@ impl LeftHandSideBuilder {
 impl ReplacementBuilder {
     statement_methods!();
 
-    /// The replacement of the value `lhs` by `rhs`.
+    /// The replacement of the value `lhs` by `rhs`, in a line `infer` and a line `result`.
     pub fn finish(
         self,
         lhs: ValueId,
@@ -166,5 +183,80 @@ impl ReplacementBuilder {
             },
             rhs: rhs.into(),
         }
+    }
+
+    /// The replacement of the operand `lhs` by `rhs`, in one line `cand`.
+    pub fn finish_cand(
+        self,
+        lhs: impl Into<Operand>,
+        rhs: impl Into<Operand>,
+        attributes: impl IntoIterator<Item = RootAttribute>,
+    ) -> Replacement {
+        Replacement::Cand {
+            statements: self.statements,
+            cand: Cand {
+                lhs: lhs.into(),
+                rhs: rhs.into(),
+                attributes: attributes.into_iter().collect(),
+            },
+        }
+    }
+}
+
+impl RightHandSideBuilder {
+    statement_methods!();
+
+    /// The right-hand side that is `result`.
+    pub fn finish(self, result: impl Into<Operand>) -> RightHandSide {
+        RightHandSide {
+            statements: self.statements,
+            result: result.into(),
+        }
+    }
+}
+
+// A builder that goes on where statements end.
+macro_rules! goes_on {
+    ($builder:ident) => {
+        /// A builder that goes on where the statements end. Each keeps its id, and names that are made are none of theirs.
+        impl From<Arena<Statement>> for $builder {
+            fn from(statements: Arena<Statement>) -> Self {
+                let names = Numbers::of(&statements);
+                $builder { statements, names }
+            }
+        }
+    };
+}
+
+goes_on!(LeftHandSideBuilder);
+goes_on!(RightHandSideBuilder);
+goes_on!(ReplacementBuilder);
+
+/// A builder that goes on where the statements of the item end. Each keeps its id; the last line is dropped.
+impl From<LeftHandSide> for LeftHandSideBuilder {
+    fn from(item: LeftHandSide) -> Self {
+        item.statements.into()
+    }
+}
+
+/// A builder that goes on where the statements of the item end. Each keeps its id; the last line is dropped.
+impl From<RightHandSide> for RightHandSideBuilder {
+    fn from(item: RightHandSide) -> Self {
+        item.statements.into()
+    }
+}
+
+/// A builder that goes on where the statements of the item end. Each keeps its id; the last line is dropped.
+impl From<LeftHandSide> for ReplacementBuilder {
+    fn from(item: LeftHandSide) -> Self {
+        item.statements.into()
+    }
+}
+
+/// A builder that goes on where the statements of the item end. Each keeps its id; the last lines are dropped.
+impl From<Replacement> for ReplacementBuilder {
+    fn from(item: Replacement) -> Self {
+        let (Replacement::LhsRhs { statements, .. } | Replacement::Cand { statements, .. }) = item;
+        statements.into()
     }
 }

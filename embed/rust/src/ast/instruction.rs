@@ -28,6 +28,26 @@ macro_rules! instructions {
                 }
             }
 
+            /// The same instruction of other operands: of what `f` returns for each, from left to right.
+            pub fn map_operands(self, mut f: impl FnMut(Operand) -> Operand) -> Self {
+                match self {
+                    $(Instruction::$name $({ $($operand),+ })? => {
+                        Instruction::$name $({ $($operand: f($operand)),+ })?
+                    })+
+                }
+            }
+
+            // The operands, from left to right.
+            pub(super) fn operands(&self) -> [Option<Operand>; 3] {
+                let mut all = [None; 3];
+                self.with_code(|_, operands| {
+                    for (place, operand) in all.iter_mut().zip(operands) {
+                        *place = Some(**operand);
+                    }
+                });
+                all
+            }
+
             // Gives the number and the operands to the function.
             pub(crate) fn with_code<T>(&self, of: impl FnOnce(u8, &[&Operand]) -> T) -> T {
                 match self {

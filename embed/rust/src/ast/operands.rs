@@ -16,6 +16,13 @@ impl From<ValueId> for Id<Statement> {
     }
 }
 
+/// The value of the assignment with this id. That there is one is not tested.
+impl From<Id<Statement>> for ValueId {
+    fn from(id: Id<Statement>) -> Self {
+        ValueId(id)
+    }
+}
+
 impl From<BlockId> for ValueId {
     fn from(block: BlockId) -> Self {
         block.0

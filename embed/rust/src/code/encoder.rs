@@ -11,9 +11,6 @@ const NOWHERE: u64 = u64::MAX;
 pub trait Encode {
     /// Appends the code.
     fn encode(&self, code: &mut Vec<u8>);
-
-    /// The statements of the item.
-    fn statements(&self) -> &Arena<Statement>;
 }
 
 // Appends to the code of an item that has these statements.
@@ -214,19 +211,11 @@ impl Encode for LeftHandSide {
     fn encode(&self, code: &mut Vec<u8>) {
         begun(&self.statements, 0, code).infer(&self.infer);
     }
-
-    fn statements(&self) -> &Arena<Statement> {
-        &self.statements
-    }
 }
 
 impl Encode for RightHandSide {
     fn encode(&self, code: &mut Vec<u8>) {
         begun(&self.statements, 1, code).operand(&self.result);
-    }
-
-    fn statements(&self) -> &Arena<Statement> {
-        &self.statements
     }
 }
 
@@ -243,14 +232,6 @@ impl Encode for Replacement {
                 encoder.operand(rhs);
             }
             Replacement::Cand { statements, cand } => begun(statements, 3, code).cand(cand),
-        }
-    }
-
-    fn statements(&self) -> &Arena<Statement> {
-        match self {
-            Replacement::LhsRhs { statements, .. } | Replacement::Cand { statements, .. } => {
-                statements
-            }
         }
     }
 }
