@@ -10,7 +10,6 @@ mod WithoutEnd
 pub mod LastCut
 pub mod SegmentLaws
 mod Buffers
-mod Refusing
 pub mod Passing
 pub mod Reached
 mod Starting

@@ -1,10 +1,11 @@
 -- Where items begin: their offsets ascend within a text, and give places in a stream.
-use Rattle.std.proofs.Common.{◌≡◌, ℕ, ◌+◌, ◌-◌, ◌<◌, ◌≤◌, true, false, List, [], ◌∷◌, ◌++◌, length, take, drop, append_assoc, append-nil, get_or, min, Option, None, Some, is_some, refl, sym, ◌∙◌, ap, subst, arith, length-append}
-use Rattle.std.specs.Prelude.{◌^◌, ◌==◌, IfSome, option_map}
-use Rattle.std.proofs.lemmas.List.{drop_more, take_more, take_all, length-take}
+use Rattle.std.proofs.Common.{◌≡◌, ℕ, ◌+◌, ◌-◌, ◌<◌, ◌≤◌, true, List, [], ◌∷◌, ◌++◌, length, take, drop, append_assoc, append-nil, get_or, min, Option, None, Some, is_some, refl, sym, ◌∙◌, ap, subst, arith, length-append}
+use Rattle.std.specs.Prelude.{◌^◌, ◌==◌, IfSome, option_map, vec_len}
+use Rattle.std.proofs.lemmas.List.{drop_more, take_more, take_all, length-take, length-drop}
 use Rattle.std.proofs.lemmas.List.Sums.{count_by-le-length}
 use Rattle.souper_ir.specs.declared.parse.error.Before.{Before}
-use Rattle.souper_stream.specs.Buffering.{Counts}
+use Rattle.souper_stream.specs.declared.buffer.Buffer.{Buffer}
+use Rattle.souper_stream.specs.Buffering.{Counts, held, unparsed}
 use Rattle.souper_stream.proofs.Buffers.{newlines-append}
 use Rattle.souper_graph.specs.Values.{Item}
 use Rattle.souper_graph.specs.Syntax.Tokens.{Lexeme, spelling, Begins}
@@ -19,22 +20,12 @@ use Rattle.souper_stream.specs.Starts.{Ascend, IsStart, AreStarts}
 use Rattle.std.proofs.Math.Seq.{take-add}
 
 -- after some tokens the others begin further on, and no later than the end
-skip : (us ts : List (ℕ × Lexeme)) (n : ℕ) (bs rest : List ℕ) → Begins n bs (us ++ ts) rest → (m : ℕ) × (cs : List ℕ) × Begins m cs ts rest × (n ≤ m) × (m + length cs ≡ n + length bs)
-skip [] ts n bs rest h = (n, bs, h, omega arith, refl)
-skip (u ∷ us) ts n bs rest h =
-    let next = u.0 + length (spelling u.1) in
-    let (m, cs, begun, from, to) = skip us ts next h.after rest h.more in
+later : (us ts : List (ℕ × Lexeme)) (n : ℕ) (bs rest : List ℕ) → Begins n bs (us ++ ts) rest → (m : ℕ) × (cs : List ℕ) × Begins m cs ts rest × (n ≤ m) × ((start : ℕ) → StartsAt start us → (n ≤ start) × (start ≤ m)) × (m + length cs ≡ n + length bs)
+later [] ts n bs rest h = (n, bs, h, omega arith, λ start at. absurd at, refl)
+later (u ∷ us) ts n bs rest h =
+    let (m, cs, begun, from, first, to) = later us ts (u.0 + length (spelling u.1)) h.after rest h.more in
     let long : length bs ≡ length h.gap + (length (spelling u.1) + length h.after) = omega (arith, ap length h.stands.text, length-append h.gap (spelling u.1 ++ h.after), length-append (spelling u.1) h.after) in
-    (m, cs, begun, omega (arith, from, h.offset_is), omega (arith, to, h.offset_is, long))
-
--- the others begin after the first of some tokens
-others_after : (us ts : List (ℕ × Lexeme)) (start n : ℕ) (bs rest : List ℕ) → StartsAt start us → Begins n bs (us ++ ts) rest → (n ≤ start) × ((m : ℕ) × (cs : List ℕ) × Begins m cs ts rest × (start ≤ m) × (m + length cs ≡ n + length bs))
-others_after [] ts start n bs rest at h = absurd at
-others_after (u ∷ us) ts start n bs rest at h =
-    let next = u.0 + length (spelling u.1) in
-    let (m, cs, begun, from, to) = skip us ts next h.after rest h.more in
-    let long : length bs ≡ length h.gap + (length (spelling u.1) + length h.after) = omega (arith, ap length h.stands.text, length-append h.gap (spelling u.1 ++ h.after), length-append (spelling u.1) h.after) in
-    (omega (arith, h.offset_is, at), (m, cs, begun, omega (arith, from, at), omega (arith, to, h.offset_is, long)))
+    (m, cs, begun, omega (arith, from, h.offset_is), λ start at. (omega (arith, h.offset_is, at), omega (arith, from, at)), omega (arith, to, h.offset_is, long))
 
 -- the bound below may be lower
 ascend_from : (m n : ℕ) (offsets : List ℕ) (to : ℕ) → m ≤ n → Ascend n offsets to → Ascend m offsets to
@@ -46,7 +37,8 @@ each_ascend k [] [] ts n bs rest e h = omega arith
 each_ascend k [] (start ∷ starts) ts n bs rest e h = absurd e
 each_ascend k (a ∷ items) [] ts n bs rest e h = absurd e
 each_ascend k (a ∷ items) (start ∷ starts) ts n bs rest e h =
-    let (from, (m, cs, begun, after, to)) = others_after e.used e.others start n bs rest e.starts (subst (λ (x : List (ℕ × Lexeme)). Begins n bs x rest) e.whole h) in
+    let (m, cs, begun, further, first, to) = later e.used e.others n bs rest (subst (λ (x : List (ℕ × Lexeme)). Begins n bs x rest) e.whole h) in
+    let (from, after) = first start e.starts in
     (from, ascend_from start m starts (n + length bs) after (subst (λ (x : ℕ). Ascend m starts x) to (each_ascend k items starts e.others m cs rest e.further begun)))
 
 pub text_ascends : (k : ItemType) (bs : List ℕ) (items : List Item) (starts : List ℕ) → TextSpellsFrom k bs items starts → Ascend 0 starts (length bs)
@@ -72,21 +64,10 @@ prefix_spells k bs items starts (ts, rest, begun, each) = (ts, rest, begun, each
 -- ---- offsets that a memory has, if it is asked
 
 pub kept_there : (a m : Memory) (P : List ℕ → Type 0) (offsets : List ℕ) → HasStarts a m offsets → P offsets → IfSome (starts_of m) P
-kept_there a m P offsets h p = under (starts_of a) h
-  where
-    under : (o : Option (List ℕ)) → starts_of m ≡ option_map (λ before. offsets) o → IfSome (starts_of m) P
-    under None e = subst (λ (x : Option (List ℕ)). IfSome x P) (sym e) tt
-    under (Some before) e = subst (λ (x : Option (List ℕ)). IfSome x P) (sym e) p
+kept_there a m P offsets h p = rw h (elim (starts_of a) as (λ o. IfSome (option_map (λ before. offsets) o) P) [ None ↦ tt | Some before ↦ p ])
 
 pub kept_now : (a m : Memory) (P : List ℕ → Type 0) (offsets : List ℕ) → HasStarts a m offsets → IfSome (starts_of m) P → is_some (starts_of m) ≡ true → P offsets
-kept_now a m P offsets h p asked = under (starts_of a) h
-  where
-    under : (o : Option (List ℕ)) → starts_of m ≡ option_map (λ before. offsets) o → P offsets
-    under None e = let no : false ≡ true = sym (ap is_some e) ∙ asked in absurd cc
-    under (Some before) e = subst (λ (x : Option (List ℕ)). IfSome x P) e p
-
-pub takes_with : {S : Type 0} (holds : S → S → List Item → Type 0) (spells : List Item → List ℕ → Type 0) (P Q : List ℕ → Type 0) (old new : S) → ((offsets : List ℕ) → P offsets → Q offsets) → TakesFrom holds spells P old new → TakesFrom holds spells Q old new
-takes_with holds spells P Q old new step t = record { items = t.items; starts = t.starts; spelled = t.spelled; taken = t.taken; has = step t.starts t.has }
+kept_now a m P offsets h p asked = elim (starts_of a) as (λ o. IfSome (option_map (λ before. offsets) o) P → is_some (option_map (λ before. offsets) o) ≡ true → P offsets) [ None ↦ (λ p e. absurd cc) | Some before ↦ (λ p e. p) ] (rw h at p) (rw h at asked)
 
 -- ---- the loop over the offsets of a part
 
@@ -151,11 +132,11 @@ all_told before part offsets index passed lines starts told end done counts smal
 
 -- ---- what a parse of a part says of the offsets that the memory has
 
-pub text_within : {S : Type 0} (holds : S → S → List Item → Type 0) (k : ItemType) (text : List ℕ) (a m : Memory) (len : ℕ) (old new : S) → length text ≡ len → TakesFrom holds (TextSpellsFrom k text) (HasStarts a m) old new → IfSome (starts_of m) (λ offsets. Ascend 0 offsets len)
-text_within holds k text a m len old new long t = subst (λ (n : ℕ). IfSome (starts_of m) (λ offsets. Ascend 0 offsets n)) long (kept_there a m (λ offsets. Ascend 0 offsets (length text)) t.starts t.has (text_ascends k text t.items t.starts t.spelled))
-
-pub prefix_within : {S : Type 0} (holds : S → S → List Item → Type 0) (k : ItemType) (text : List ℕ) (a m : Memory) (len : ℕ) (old new : S) → length text ≡ len → TakesFrom holds (PrefixSpellsFrom k text) (HasStarts a m) old new → IfSome (starts_of m) (λ offsets. Ascend 0 offsets len)
-prefix_within holds k text a m len old new long t = subst (λ (n : ℕ). IfSome (starts_of m) (λ offsets. Ascend 0 offsets n)) long (kept_there a m (λ offsets. Ascend 0 offsets (length text)) t.starts t.has (prefix_ascends k text t.items t.starts t.spelled))
+pub within_text : {S : Type 0} (holds : S → S → List Item → Type 0) (spells : List Item → List ℕ → Type 0) (text : List ℕ) (b : Buffer) (len : ℕ) (a m : Memory) (old new : S) → b.start + b.parsed + len ≤ vec_len b.bytes → text ≡ take len (unparsed b)
+    → ((items : List Item) (starts : List ℕ) → spells items starts → Ascend 0 starts (length text)) → TakesFrom holds spells (HasStarts a m) old new → IfSome (starts_of m) (λ offsets. Ascend 0 offsets len)
+within_text holds spells text b len a m old new within is ascends t =
+    let long : length text ≡ len = omega (arith, within, b.bytes.ok, ap length is, length-take len (unparsed b), length-drop b.start b.bytes.items, length-drop b.parsed (held b)) in
+    kept_there a m (λ offsets. Ascend 0 offsets len) t.starts t.has (subst (λ (n : ℕ). Ascend 0 t.starts n) long (ascends t.items t.starts t.spelled))
 
 pub kept_starts : (known : Option (List ℕ)) (P : List ℕ → Type 0) (offsets : List ℕ) → IfSome known (λ starts. offsets ≡ starts) → P offsets → IfSome known P
 kept_starts None P offsets e p = tt

@@ -81,6 +81,7 @@ fn first_cut<T: StreamItem>(text: &[u8]) -> Option<usize>
 fn last_cut_after<T: StreamItem>(text: &[u8], start: usize) -> usize
     requires within { start ≤ length text.now }
     requires lines { IsLines (take start text.now) }
+    ensures within { result ≤ length text.now }
     ensures cut { 0 < result → (ls : List Line) → text.now ≡ concat ls → AreLines ls → CutsAt T.item_type ls result }
     ensures last { IsUtf8 text.now → (0 < result) ⊎ (start ≡ 0) → (ls : List Line) → text.now ≡ concat ls → AreLines ls → HasNoCutAfter T.item_type ls result }
 {
@@ -97,6 +98,7 @@ fn last_cut_after<T: StreamItem>(text: &[u8], start: usize) -> usize
 /// [`segment_len`] says what a cut point is. The text is to be UTF-8 and to end in a newline, as [`lines_len`](crate::lines_len) says; else a
 /// cut point is returned, or 0, but maybe not the last.
 pub fn last_cut<T: StreamItem>(text: &[u8]) -> usize
+    ensures within { result ≤ length text.now }
     ensures cut { 0 < result → (ls : List Line) → text.now ≡ concat ls → AreLines ls → CutsAt T.item_type ls result }
     ensures last { IsUtf8 text.now → IsLines text.now → (ls : List Line) → text.now ≡ concat ls → AreLines ls → HasNoCutAfter T.item_type ls result }
 {
