@@ -3,40 +3,21 @@ use Rattle.std.proofs.Common.{◌≡◌, ◌⊎◌, inl, inr, ℕ, ◌<◌, ◌�
 use Rattle.std.specs.Prelude.{Result, Ok, Err, OnErr}
 use Rattle.std.specs.List.{AllByRecursion}
 use Rattle.std.specs.Io.BufRead.{take_through}
-use Rattle.std.proofs.Math.Seq.{take-append_seam, drop-append_seam}
 use Rattle.std.specs.Io.{StartsWith}
 use Rattle.std.proofs.lemmas.List.{drop_at, take_all}
-use Rattle.std.proofs.lemmas.Str.{IsUtf8-nil, IsUtf8-take, IsUtf8-drop}
-use Rattle.souper_graph.specs.Syntax.Tokens.{Lexeme, ident}
+use Rattle.std.proofs.lemmas.Str.{IsUtf8-nil}
+use Rattle.souper_graph.specs.Syntax.Tokens.{Lexeme}
 use Rattle.souper_graph.specs.Syntax.Spelling.{ItemType}
 use Rattle.souper_ir.specs.Joining.{IsLines}
 use Rattle.souper_ir.proofs.Items.Parting.{parted_twice}
 use Rattle.souper_stream.specs.declared.lines.ScanState.{ScanState}
-use Rattle.souper_stream.specs.Lines.{end_word, is_end_word, starts_line, NoStart, LastEnds, NoEndWord}
+use Rattle.souper_stream.specs.Lines.{is_end_word, starts_line, LastEnds, NoEndWord}
 use Rattle.souper_stream.specs.Segments.{Line, concat, AreLines, tokens_of, tokens_of_lines, EndsItem, Starts, HasNoCut, CutsAt, HasNoCutAfter, IsFirstSegment, HasBadLine}
-use Rattle.souper_stream.proofs.Nodes.{all_append}
-use Rattle.souper_stream.proofs.EndLines.{NoEnd}
-use Rattle.souper_stream.proofs.Parting.{quiet_rest, quiet_starts, starts_longer}
+use Rattle.souper_stream.proofs.Parting.{NoEnd, all_append, no_end_ends, ends_within, starts_longer}
 use Rattle.souper_stream.proofs.LineLists.{concat-append, tokens-append, lines_back, are_front, lines_exist, lines_whole, lines_split, lines_unique, no_bytes, line_first}
-use Rattle.souper_stream.proofs.Scanning.{Scanned, lines_left}
-use Rattle.souper_stream.proofs.WithoutEnd.{line_boundary, no_end_lines}
+use Rattle.souper_stream.proofs.Scanning.{Scanned, lines_left, utf8_parts, no_end_lines}
 
 -- ---- tokens
-
--- an item ends with the last tokens, if a line starts with them
-pub ends_within : (k : ItemType) (xs ys : List Lexeme) → starts_line ys ≡ true → LastEnds k (xs ++ ys) → LastEnds k ys
-ends_within k xs ys s h = elim (parted_twice h.before (ident h.word ∷ h.after) xs ys (sym h.whole)) [ inl w ↦ here w.left w.second | inr b ↦ later b.more b.second ]
-  where
-    here : (left : List Lexeme) → ident h.word ∷ h.after ≡ left ++ ys → LastEnds k ys
-    here [] e = record { before = []; word = h.word; after = h.after; whole = sym e; ends = h.ends; quiet = h.quiet }
-    here (t ∷ left) e = absurd (quiet_starts ys (quiet_rest left ys (let rest : h.after ≡ left ++ ys = cc in subst (λ (x : List Lexeme). NoStart x) rest h.quiet)) s)
-
-    later : (more : List Lexeme) → ys ≡ more ++ ident h.word ∷ h.after → LastEnds k ys
-    later more e = record { before = more; word = h.word; after = h.after; whole = e; ends = h.ends; quiet = h.quiet }
-
-no_end_ends : (k : ItemType) (before after : List Lexeme) (w : List ℕ) → NoEnd k (before ++ ident w ∷ after) → end_word k w ≡ true → ⊥
-no_end_ends k [] after w none h = let no = none.0 in cc
-no_end_ends k (t ∷ before) after w none h = no_end_ends k before after w none.1 h
 
 no_end_last : (k : ItemType) (ts : List Lexeme) → NoEnd k ts → LastEnds k ts → ⊥
 no_end_last k ts none h = no_end_ends k h.before h.after h.word (subst (λ (x : List Lexeme). NoEnd k x) h.whole none) h.ends
@@ -108,12 +89,7 @@ bad_line k ls rest s lines h n some first fault =
 
 utf8_first : (l : Line) (ls : List Line) → AreLines (l ∷ ls) → IsUtf8 (l ++ concat ls) → IsUtf8 l × IsUtf8 (concat ls)
 utf8_first l [] lines h = (subst (λ (x : List ℕ). IsUtf8 x) (append-nil l) h, IsUtf8-nil)
-utf8_first l (m ∷ ls) lines h =
-    let rest = concat (m ∷ ls) in
-    let b = line_boundary l rest lines.0 h in (
-      subst (λ (x : List ℕ). IsUtf8 x) (take-append_seam l rest) (IsUtf8-take (l ++ rest) (length l) h b),
-      subst (λ (x : List ℕ). IsUtf8 x) (drop-append_seam l rest) (IsUtf8-drop (l ++ rest) (length l) h b),
-    )
+utf8_first l (m ∷ ls) lines h = utf8_parts l (concat (m ∷ ls)) (inr (lines.0.0, lines.0.2)) h
 
 -- the lines of a text that is UTF-8 are
 utf8_line : (front back : List Line) (line : Line) → AreLines (front ++ line ∷ back) → IsUtf8 (concat (front ++ line ∷ back)) → IsUtf8 line

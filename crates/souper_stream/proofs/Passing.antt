@@ -21,13 +21,11 @@ use Rattle.souper_stream.specs.Segments.{Line, concat, IsLine, AreLines, tokens_
 use Rattle.souper_stream.specs.Starts.{ItemsStartAt}
 use Rattle.souper_stream.specs.Parts.{IsChunk, and_next, HasLines, HasRead, HasParts, HasAll, Advances, AreNextStarts, Holds, keeps_starts, TakesPart, RefusesPart}
 use Rattle.souper_stream.specs.Reading.{AreAll, NeverSpells}
-use Rattle.souper_stream.proofs.Nodes.{all_append}
-use Rattle.souper_stream.proofs.Bytes.{all_after}
+use Rattle.souper_stream.proofs.Buffers.{all_after, buffers_more, buffers_located, buffers_placed}
 use Rattle.souper_stream.proofs.LineLists.{starts_not_none, starts_with_more, concat-append, tokens-append, lines-append, are_front, lines_front, lines_back, lines_of, no_bytes, lines_whole, lines_exist}
 use Rattle.souper_stream.proofs.SegmentLaws.{lines_start, none_with}
-use Rattle.souper_stream.proofs.LastCut.{ends_within}
+use Rattle.souper_stream.proofs.Parting.{all_append, ends_within}
 use Rattle.souper_stream.proofs.Starting.{text_spells, prefix_spells, kept_now}
-use Rattle.souper_stream.proofs.Buffers.{buffers_more, buffers_located, buffers_placed}
 
 -- ---- lists of lines and of parts
 
@@ -38,29 +36,22 @@ all_lines_snoc (q ∷ ps) p = ap (λ (x : List Line). q ++ x) (all_lines_snoc ps
 pub done_more : (ps : List (List Line)) (p : List Line) → concat (all_lines (ps ++ p ∷ [])) ≡ concat (all_lines ps) ++ concat p
 done_more ps p = ap concat (all_lines_snoc ps p) ∙ concat-append (all_lines ps) p
 
-cut_longer : (k : ItemType) (ps : List (List Line)) (l : Line) (ls more : List Line) → AreCut k (ps ++ (l ∷ ls) ∷ []) → AreCut k (ps ++ (l ∷ (ls ++ more)) ∷ [])
-cut_longer k [] l ls more h = λ e. cc
-cut_longer k (p ∷ []) l ls more h = (h.0, h.1, λ e. cc)
-cut_longer k (p ∷ (q ∷ ps)) l ls more h = (h.0, h.1, cut_longer k (q ∷ ps) l ls more h.2)
-
--- the last part is two
-cut_split : (k : ItemType) (ps : List (List Line)) (l : Line) (ls q : List Line) → AreCut k (ps ++ (l ∷ (ls ++ q)) ∷ []) → EndsItem k (l ∷ ls) → Starts q → AreCut k ((ps ++ (l ∷ ls) ∷ []) ++ q ∷ [])
-cut_split k [] l ls q h e s = (e, s, starts_not_none q s)
-cut_split k (p ∷ []) l ls q h e s = (h.0, h.1, (e, s, starts_not_none q s))
-cut_split k (p ∷ (r ∷ ps)) l ls q h e s = (h.0, h.1, cut_split k (r ∷ ps) l ls q h.2 e s)
+-- the last part is longer, or parted
+cut_last : (k : ItemType) (ps : List (List Line)) (p q : List Line) (qs : List (List Line)) → (Starts p → Starts q) → AreCut k (q ∷ qs) → AreCut k (ps ++ p ∷ []) → AreCut k (ps ++ q ∷ qs)
+cut_last k [] p q qs starts c h = c
+cut_last k (r ∷ []) p q qs starts c h = (h.0, starts h.1, c)
+cut_last k (r ∷ (t ∷ ps)) p q qs starts c h = (h.0, h.1, cut_last k (t ∷ ps) p q qs starts c h.2)
 
 next_longer : (k : ItemType) (ps : List (List Line)) (ls ms : List Line) → (ls ≡ [] → ps ≡ []) → AreCut k (and_next ps ls) → AreCut k (and_next ps (ls ++ ms))
-next_longer k ps [] ms none h = rw (none refl) (under ms)
-  where
-    under : (xs : List Line) → AreCut k (and_next [] xs)
-    under [] = tt
-    under (x ∷ xs) = λ e. cc
-next_longer k ps (x ∷ ls) ms none h = cut_longer k ps x ls ms h
+next_longer k ps [] [] none h = h
+next_longer k ps [] (m ∷ ms) none h = rw (none refl) (λ e. cc)
+next_longer k ps (x ∷ ls) ms none h = cut_last k ps (x ∷ ls) (x ∷ (ls ++ ms)) [] (λ s. s) (λ e. cc) h
 
 part_cut : (k : ItemType) (ended : Bool) (ps : List (List Line)) (front back : List Line) → 0 < length (concat front) → AreCut k (and_next ps (front ++ back)) → IsCut k front back ⊎ ((back ≡ []) × (ended ≡ true)) → AreCut k (and_next (ps ++ front ∷ []) back)
 part_cut k ended ps [] back some h c = absurd (omega arith)
 part_cut k ended ps (l ∷ front) [] some h c = subst (λ (x : List Line). AreCut k (ps ++ (l ∷ x) ∷ [])) (append-nil front) h
-part_cut k ended ps (l ∷ front) (m ∷ back) some h (inl c) = cut_split k ps l front (m ∷ back) h c.0 c.1
+part_cut k ended ps (l ∷ front) (m ∷ back) some h (inl c) =
+    rw append_assoc (cut_last k ps (l ∷ (front ++ m ∷ back)) (l ∷ front) ((m ∷ back) ∷ []) (λ s. s) (c.0, c.1, starts_not_none (m ∷ back) c.1) h)
 part_cut k ended ps (l ∷ front) (m ∷ back) some h (inr none) = let bad : m ∷ back ≡ [] = none.0 in absurd cc
 
 -- ---- nothing was read

@@ -14,9 +14,8 @@ use Rattle.souper_stream.specs.declared.reader.ItemReader.{ItemReader}
 use Rattle.souper_stream.specs.Segments.{Line, concat, AreLines, EndsItem, AreCut, all_lines, PartsSpell}
 use Rattle.souper_stream.specs.Reading.{IsStreamTaken, IsStreamRefused}
 use Rattle.souper_stream.specs.Parts.{and_next, HasParts, HasAll, TakesPart, RefusesPart}
-use Rattle.souper_stream.proofs.LineLists.{concat-append, are_front, lines_front, lines_of}
-use Rattle.souper_stream.proofs.Texts.{none_spelled, prefix_after, prefix_longer}
-use Rattle.souper_stream.proofs.Scan.{no_tokens}
+use Rattle.souper_stream.proofs.LineLists.{concat-append, are_front, lines_front, lines_of, none_spelled, prefix_after, prefix_longer}
+use Rattle.souper_stream.proofs.Scanning.{no_tokens}
 use Rattle.souper_stream.proofs.SegmentLaws.{spells_by_parts}
 use Rattle.souper_stream.proofs.Passing.{all_lines_snoc, done_more}
 

@@ -1,16 +1,133 @@
--- Lines of a text that are scanned one after the other.
-use Rattle.std.proofs.Common.{◌≡◌, ◌⊎◌, inl, inr, ℕ, ◌+◌, ◌-◌, ◌<◌, ◌≤◌, true, List, [], ◌∷◌, ◌++◌, length, take, drop, sym, ap, ◌∙◌, subst, arith, append_assoc, append-nil, length-append, length-take, take-append-drop}
+-- Lines of a text that are scanned one after the other, or passed over: whether an item ends with them, and where a cut point is.
+use Rattle.std.proofs.Common.{length, arith, length-append, ◌≡◌, ◌⊎◌, inl, inr, Bool, true, false, List, [], ◌∷◌, ◌++◌, refl, sym, ap, ◌∙◌, subst, append_assoc, append-nil, ℕ, ◌+◌, ◌-◌, ◌<◌, ◌≤◌, take, drop, length-take, take-append-drop, get_or, IsUtf8}
+use Rattle.std.specs.Prelude.{◌↔◌, codes}
+use Rattle.souper_graph.specs.Syntax.Tokens.{Lexeme, ident, spelling, Begins}
+use Rattle.souper_graph.specs.Syntax.Spelling.{ItemType, kinds}
+use Rattle.souper_ir.specs.NodeReadings.{is_name}
+use Rattle.souper_stream.specs.declared.lines.ScanState.{ScanState}
+use Rattle.souper_stream.specs.Lines.{line_word, is_end_word, defines, shows_line, NoStart, LastEnds, first_state, state_after, scanned, starts_line, end_word, IsAbsent, NoEndWord, PassesOver}
+use Rattle.souper_stream.proofs.Parting.{end_is_line, NoEnd}
 use Rattle.std.specs.Io.BufRead.{take_through}
-use Rattle.std.proofs.lemmas.List.{nil_from_length, take_at, drop_at}
-use Rattle.souper_graph.specs.Syntax.Tokens.{Lexeme}
-use Rattle.souper_graph.specs.Syntax.Spelling.{ItemType}
+use Rattle.std.proofs.lemmas.List.{nil_from_length, take_at, drop_at, get_or_at}
 use Rattle.souper_ir.specs.Joining.{IsLines}
 use Rattle.souper_ir.proofs.Items.Parting.{parted_twice}
-use Rattle.souper_stream.specs.declared.lines.ScanState.{ScanState}
-use Rattle.souper_stream.specs.Lines.{starts_line, LastEnds, scanned}
-use Rattle.souper_stream.specs.Segments.{Line, concat, AreLines, tokens_of, tokens_of_lines, EndsItem, Starts, HasNoCut, IsCut, CutsAt, IsFirstSegment}
-use Rattle.souper_stream.proofs.Scan.{ends_later, IsStateAfter, state_ends, state_more}
-use Rattle.souper_stream.proofs.LineLists.{starts_not_none, concat-append, tokens-append, tokens_snoc, lines_back, lines_front, lines_of, lines_split, no_bytes, line_first}
+use Rattle.souper_stream.specs.Segments.{Line, concat, AreLines, tokens_of, tokens_of_lines, EndsItem, Starts, HasNoCut, IsCut, CutsAt, IsFirstSegment, IsLine}
+use Rattle.souper_stream.proofs.LineLists.{starts_not_none, concat-append, tokens-append, tokens_snoc, lines_back, lines_front, lines_of, lines_split, no_bytes, line_first, are_front, lines_whole}
+use Rattle.std.specs.List.{AllByRecursion}
+use Rattle.std.specs.Io.{StartsWith}
+use Rattle.std.specs.Str.{IsCharBoundary}
+use Rattle.std.proofs.Math.Seq.{take-append_seam, drop-append_seam}
+use Rattle.std.proofs.KnownBytes.{starts_with_rest}
+use Rattle.std.proofs.Transfers.{starts_with_of_append}
+use Rattle.std.proofs.lemmas.Bool.{false_from_ne_true}
+use Rattle.std.proofs.lemmas.Slice.Eq.{bytes_eq-Decides}
+use Rattle.std.proofs.lemmas.Str.{IsCharBoundary-after_ascii, IsUtf8-nil, IsUtf8-take, IsUtf8-drop}
+use Rattle.memchr.specs.Find.{Nowhere, OccursAt}
+use Rattle.memchr.proofs.lemmas.MatchLemmas.{OccursAt-from_part}
+use Rattle.souper_lexer.specs.TokenReading.{lexed_of}
+use Rattle.souper_lexer.proofs.TokenLaws.{tokens_law}
+
+-- no line begins in the tokens, nor with the name before them, if there is one
+Quiet : Bool → List Lexeme → Type 0
+Quiet named ts = NoStart ts × (named ≡ true → defines ts ≡ false)
+
+-- that is so if the first token shows no line, and none begins after it
+quiet_step : (named : Bool) (t : Lexeme) (ts : List Lexeme) → Quiet named (t ∷ ts) ↔ (shows_line named t ≡ false) × Quiet (is_name t) ts
+unfolding Quiet
+quiet_step named t ts = grind arith
+
+-- ---- where an item ends
+
+pub no_tokens : (k : ItemType) → LastEnds k [] → ⊥
+no_tokens k h = omega (arith, ap length h.whole, length-append h.before (ident h.word ∷ h.after))
+
+-- tokens end an item if the last ones do
+pub ends_later : (k : ItemType) (xs ys : List Lexeme) → LastEnds k ys → LastEnds k (xs ++ ys)
+ends_later k xs ys h = record {
+  before = xs ++ h.before;
+  word = h.word;
+  after = h.after;
+  whole = ap (λ (ts : List Lexeme). xs ++ ts) h.whole ∙ sym (append_assoc xs h.before (ident h.word ∷ h.after));
+  ends = h.ends;
+  quiet = h.quiet;
+}
+
+end_shows : (k : ItemType) (named : Bool) (t : Lexeme) → is_end_word k t ≡ true → shows_line named t ≡ true
+end_shows k named t h = grind (arith, end_is_line k)
+
+ends_here : (k : ItemType) (t : Lexeme) (ts : List Lexeme) → is_end_word k t ≡ true → NoStart ts → LastEnds k (t ∷ ts)
+ends_here k (ident w) ts h q = record { before = []; word = w; after = ts; whole = refl; ends = h; quiet = q }
+ends_here k _ ts h q = absurd cc
+
+-- an item ends with the tokens, or ended before them, and no line begins in them
+EndsBy : ItemType → ScanState → List Lexeme → Type 0
+EndsBy k s ts = LastEnds k ts ⊎ ((s.ends_item ≡ true) × Quiet s.after_name ts)
+
+-- the tokens after the first, from the state after the first
+ends_step : (k : ItemType) (s : ScanState) (t : Lexeme) (ts : List Lexeme) → EndsBy k s (t ∷ ts) → EndsBy k (state_after k s t) ts
+unfolding EndsBy Quiet
+ends_step k s t ts (inr q) = let step = (quiet_step s.after_name t ts).0 q.1 in inr (rw step.0 q.0, step.1)
+ends_step k s t ts (inl h) = under h.before h.whole
+  where
+    under : (before : List Lexeme) → t ∷ ts ≡ before ++ ident h.word ∷ h.after → EndsBy k (state_after k s t) ts
+    under [] e =
+        let token : t ≡ ident h.word = cc in
+        let shows : line_word h.word ≡ true = end_shows k false (ident h.word) h.ends in
+        let rest : h.after ≡ ts = cc in
+        inr (rw token (rw shows h.ends), (subst (λ (x : List Lexeme). NoStart x) rest h.quiet, λ e. (let name = rw token at e in absurd cc)))
+    under (b ∷ before) e = inl (record { before = before; word = h.word; after = h.after; whole = cc; ends = h.ends; quiet = h.quiet })
+
+-- and back
+ends_back : (k : ItemType) (s : ScanState) (t : Lexeme) (ts : List Lexeme) → EndsBy k (state_after k s t) ts → EndsBy k s (t ∷ ts)
+unfolding EndsBy Quiet
+ends_back k s t ts (inl h) = inl (ends_later k (t ∷ []) ts h)
+ends_back k s t ts (inr q) = under (shows_line s.after_name t) refl
+  where
+    under : (b : Bool) → shows_line s.after_name t ≡ b → EndsBy k s (t ∷ ts)
+    under true e = inl (ends_here k t ts (rw e at q.0) q.1.0)
+    under false e = inr (rw e at q.0, (quiet_step s.after_name t ts).1 (e, q.1))
+
+state_tells : (k : ItemType) (s : ScanState) (ts : List Lexeme) → ((scanned k s ts).ends_item ≡ true) ↔ EndsBy k s ts
+unfolding EndsBy Quiet
+state_tells k s [] = (λ e. inr (e, (tt, λ e. refl)), λ h. elim h [ inl l ↦ absurd (no_tokens k l) | inr q ↦ q.0 ])
+state_tells k s (t ∷ ts) = let more = state_tells k (state_after k s t) ts in (λ e. ends_back k s t ts (more.0 e), λ h. more.1 (ends_step k s t ts h))
+
+-- ---- the state after tokens
+
+-- the state tells, for any tokens that follow, whether an item ends with them
+abbrev pub IsStateAfter : ItemType → List Lexeme → ScanState → Type 0
+IsStateAfter k ts s = (us : List Lexeme) → ((scanned k s us).ends_item ≡ true) ↔ LastEnds k (ts ++ us)
+
+pub state_first : (k : ItemType) → IsStateAfter k [] first_state
+unfolding EndsBy
+state_first k us = grind (arith, state_tells k first_state us)
+
+pub state_ends : (k : ItemType) (ts : List Lexeme) (s : ScanState) → IsStateAfter k ts s → (s.ends_item ≡ true) ↔ LastEnds k ts
+state_ends k ts s h = subst (λ (x : List Lexeme). (s.ends_item ≡ true) ↔ LastEnds k x) (append-nil ts) (h [])
+
+scanned-append : (k : ItemType) (s : ScanState) (us vs : List Lexeme) → scanned k s (us ++ vs) ≡ scanned k (scanned k s us) vs
+scanned-append k s [] vs = refl
+scanned-append k s (u ∷ us) vs = scanned-append k (state_after k s u) us vs
+
+pub state_more : (k : ItemType) (ts us : List Lexeme) (s : ScanState) → IsStateAfter k ts s → IsStateAfter k (ts ++ us) (scanned k s us)
+state_more k ts us s h vs = rw (append_assoc ts us vs, ← scanned-append k s us vs) (h (us ++ vs))
+
+-- if no item ends before the token, one ends with it at the word of an item's end alone
+going_step : (k : ItemType) (s : ScanState) (t : Lexeme) → s.ends_item ≡ false → (state_after k s t).ends_item ≡ is_end_word k t
+going_step k s t going = grind (arith, end_shows k s.after_name t)
+
+-- and the name before plays no part
+going_alike : (k : ItemType) (s new : ScanState) (ts : List Lexeme) → s.ends_item ≡ false → new.ends_item ≡ false → (scanned k s ts).ends_item ≡ (scanned k new ts).ends_item
+going_alike k s new [] a b = a ∙ sym b
+going_alike k s new (t ∷ ts) a b = ap (λ (e : Bool). (scanned k (record { after_name = is_name t; ends_item = e }) ts).ends_item) (going_step k s t a ∙ sym (going_step k new t b))
+
+still_going : (k : ItemType) (s : ScanState) (ts : List Lexeme) → s.ends_item ≡ false → NoEnd k ts → (scanned k s ts).ends_item ≡ false
+still_going k s [] going none = going
+still_going k s (t ∷ ts) going none = still_going k (state_after k s t) ts (going_step k s t going ∙ none.0) none.1
+
+-- tokens without an end word, where no item has ended before them
+pub state_kept : (k : ItemType) (ts us : List Lexeme) (s : ScanState) → IsStateAfter k ts s → s.ends_item ≡ false → NoEnd k us → IsStateAfter k (ts ++ us) s
+state_kept k ts us s h going none vs = rw (going_alike k s (scanned k s us) vs going (still_going k s us going none)) (state_more k ts us s h vs)
 
 -- ---- no cut
 
@@ -106,3 +223,104 @@ cut_lines k ls text n e lines c =
     let len_is = c.len_is in
     let bytes : take n text ≡ concat c.front = ap (take n) whole ∙ take_at (concat c.front) (concat c.back) n len_is in
     (subst (λ (x : List ℕ). IsLines x) (sym bytes) (lines_of c.front (lines_front c.front c.back (starts_not_none c.back c.cut.1) (subst (λ (x : List Line). AreLines x) c.whole lines))), omega arith)
+
+-- ---- words that are nowhere in bytes
+
+pub front_take : (n : ℕ) (bs : List ℕ) → StartsWith bs (take n bs)
+front_take n bs = starts_with_of_append bs (take n bs) (drop n bs) (sym (take-append-drop n bs))
+
+pub absent_front : (w front bs : List ℕ) → StartsWith bs front → IsAbsent w bs → IsAbsent w front
+absent_front w xs bs starts h front back here =
+    let rest = drop (length xs) bs in
+    h front (back ++ rest) (starts_with_rest bs xs starts ∙ ap (λ (x : List ℕ). x ++ rest) here ∙ append_assoc front (w ++ back) rest ∙ ap (λ (x : List ℕ). front ++ x) (append_assoc w back rest))
+
+absent_back : (w a b : List ℕ) → IsAbsent w (a ++ b) → IsAbsent w b
+absent_back w a b h front back here = h (a ++ front) back (ap (λ (x : List ℕ). a ++ x) here ∙ sym (append_assoc a front (w ++ back)))
+
+occurs : (front w back bs : List ℕ) → bs ≡ front ++ (w ++ back) → OccursAt bs w (length front)
+occurs front w back bs e =
+    OccursAt-from_part bs w (length front) (omega (arith, ap length e, length-append front (w ++ back), length-append w back)) (ap (take (length w)) (ap (drop (length front)) e ∙ drop-append_seam front (w ++ back)) ∙ take-append_seam w back)
+
+-- the word is not found
+pub absent_nowhere : (bs w : List ℕ) → Nowhere (OccursAt bs w) 0 (length bs + 1) → IsAbsent w bs
+absent_nowhere bs w none front back e = none (length front) (omega arith) (omega (arith, ap length e, length-append front (w ++ back))) (occurs front w back bs e)
+
+-- the word is not found before the place
+pub absent_before : (bs w : List ℕ) (n : ℕ) → 0 < length w → Nowhere (OccursAt bs w) 0 n → IsAbsent w (take n bs)
+absent_before bs w n some none front back e =
+    let whole : bs ≡ front ++ (w ++ (back ++ drop n bs)) =
+    sym (take-append-drop n bs) ∙ ap (λ (x : List ℕ). x ++ drop n bs) e ∙ append_assoc front (w ++ back) (drop n bs) ∙ ap (λ (x : List ℕ). front ++ x) (append_assoc w back (drop n bs)) in
+    none (length front) (omega arith) (omega (arith, length-take n bs, ap length e, length-append front (w ++ back), length-append w back)) (occurs front w (back ++ drop n bs) bs whole)
+
+pub end_word_some : (k : ItemType) (w : List ℕ) → end_word k w ≡ true → 0 < length w
+end_word_some k w h = grind (arith, bytes_eq-Decides)
+
+-- the words that items end with
+pub no_end_words : (k : ItemType) (bs : List ℕ) → (end_word k (codes "infer") ≡ true → IsAbsent (codes "infer") bs) → (end_word k (codes "result") ≡ true → IsAbsent (codes "result") bs) → (end_word k (codes "cand") ≡ true → IsAbsent (codes "cand") bs) → NoEndWord k bs
+no_end_words k bs a b c w h = grind (arith, bytes_eq-Decides)
+
+-- ---- tokens
+
+no_end_first : (k : ItemType) (t : Lexeme) (gap after bs : List ℕ) → bs ≡ gap ++ (spelling t ++ after) → NoEndWord k bs → is_end_word k t ≡ false
+no_end_first k (ident w) gap after bs e q = false_from_ne_true (end_word k w) (λ h. q w h gap after e)
+no_end_first k _ gap after bs e q = refl
+
+no_end_tokens : (k : ItemType) (ts : List (ℕ × Lexeme)) (n : ℕ) (bs rest : List ℕ) → Begins n bs ts rest → NoEndWord k bs → NoEnd k (kinds ts)
+no_end_tokens k [] n bs rest h q = tt
+no_end_tokens k (t ∷ ts) n bs rest h q = (
+  no_end_first k t.1 h.gap h.after bs h.stands.text q,
+  no_end_tokens k ts (t.0 + length (spelling t.1)) h.after rest h.more
+      (λ w e. absent_back w (h.gap ++ spelling t.1) h.after (subst (λ (x : List ℕ). IsAbsent w x) (h.stands.text ∙ sym (append_assoc h.gap (spelling t.1) h.after)) (q w e))),
+)
+
+-- ---- lines
+
+-- texts that meet at a newline
+pub utf8_parts : (a b : List ℕ) → IsLines a → IsUtf8 (a ++ b) → IsUtf8 a × IsUtf8 b
+utf8_parts a b (inl none) h = (rw none IsUtf8-nil, rw none at h)
+utf8_parts a b (inr end) h =
+    let n = length end.0 in
+    let at : get_or (a ++ b) n 0 ≡ 10 = ap (λ (x : List ℕ). get_or x n 0) (ap (λ (x : List ℕ). x ++ b) end.1 ∙ append_assoc end.0 (10 ∷ []) b) ∙ get_or_at end.0 10 b 0 n refl in
+    let long : n + 1 ≡ length a = sym (ap length end.1 ∙ length-append end.0 (10 ∷ [])) in
+    let seam = subst (λ (m : ℕ). IsCharBoundary (a ++ b) m) long (IsCharBoundary-after_ascii (a ++ b) n h (omega (arith, length-append a b)) (omega arith)) in
+    (subst (λ (x : List ℕ). IsUtf8 x) (take-append_seam a b) (IsUtf8-take (a ++ b) (length a) h seam), subst (λ (x : List ℕ). IsUtf8 x) (drop-append_seam a b) (IsUtf8-drop (a ++ b) (length a) h seam))
+
+pub no_end_lines : (k : ItemType) (ls : List Line) → AllByRecursion IsLine ls → IsUtf8 (concat ls) → NoEndWord k (concat ls) → AllByRecursion (λ l. NoEnd k (tokens_of l)) ls
+no_end_lines k [] each utf8 none = tt
+no_end_lines k (l ∷ ls) each utf8 none =
+    let (first, rest) = utf8_parts l (concat ls) (inr (each.0.0, each.0.2)) utf8 in
+    let all = tokens_law l first in (
+      no_end_tokens k (lexed_of 0 l).tokens 0 l all.rest all.front (λ w e. absent_front w l (l ++ concat ls) (take-append_seam l (concat ls)) (none w e)),
+      no_end_lines k ls each.1 rest (λ w e. absent_back w l (concat ls) (none w e)),
+    )
+
+pub no_end_nil : (k : ItemType) → NoEndWord k []
+no_end_nil k w e front back h = let some = end_word_some k w e in let n = ap length h ∙ length-append front (w ++ back) in let m = length-append w back in absurd (omega arith)
+
+-- ---- lines that are passed over
+
+pass_lines : (k : ItemType) (front more : List Line) (s : ScanState) → s.ends_item ≡ false → AllByRecursion (λ l. NoEnd k (tokens_of l)) more → IsStateAfter k (tokens_of_lines front) s → HasNoCut k front → IsStateAfter k (tokens_of_lines (front ++ more)) s × HasNoCut k (front ++ more)
+pass_lines k front [] s going none h p = (subst (λ (x : List Line). IsStateAfter k (tokens_of_lines x) s) (sym (append-nil front)) h, subst (λ (x : List Line). HasNoCut k x) (sym (append-nil front)) p)
+pass_lines k front (l ∷ more) s going none h p =
+    let next = subst (λ (ts : List Lexeme). IsStateAfter k ts s) (sym (tokens_snoc front l)) (state_kept k (tokens_of_lines front) (tokens_of l) s h going none.0) in
+    let r = pass_lines k (front ++ l ∷ []) more s going none.1 next (no_cut_more k front l p (λ ends starts. (let yes = (state_ends k (tokens_of_lines front) s h).1 ends in cc))) in
+    let as_list = append_assoc front (l ∷ []) more in
+    (subst (λ (x : List Line). IsStateAfter k (tokens_of_lines x) s) as_list r.0, subst (λ (x : List Line). HasNoCut k x) as_list r.1)
+
+pub passed_over : (k : ItemType) (ls : List Line) (rest left : List ℕ) (s : ScanState) → AreLines ls → Scanned k ls rest s → PassesOver k s rest left → Scanned k ls left s
+passed_over k ls rest left s lines h (inl same) = subst (λ (x : List ℕ). Scanned k ls x s) (sym same) h
+passed_over k ls rest left s lines h (inr (going, len, left_is, p)) =
+    let back_lines = lines_left k ls rest s lines h in
+    let (more, back, parts, bytes) = lines_split h.back (take len rest) (drop len rest) back_lines (sym h.rest_is ∙ sym (take-append-drop len rest)) p.lines in
+    let each = lines_whole more (are_front more back (subst (λ (x : List Line). AreLines x) parts back_lines)) (subst (λ (x : List ℕ). IsLines x) (sym bytes) p.lines) in
+    let none = no_end_lines k more each (subst (λ (x : List ℕ). IsUtf8 x) (sym bytes) p.utf8) (subst (λ (x : List ℕ). NoEndWord k x) (sym bytes) p.none) in
+    let r = pass_lines k h.front more s going none h.after h.uncut in
+    let long : length (concat more) ≡ len = omega (arith, ap length bytes, length-take len rest, p.within) in
+    record {
+      front = h.front ++ more;
+      back = back;
+      whole = h.whole ∙ ap (λ (x : List Line). h.front ++ x) parts ∙ sym (append_assoc h.front more back);
+      rest_is = left_is ∙ ap (drop len) (h.rest_is ∙ ap concat parts ∙ concat-append more back) ∙ drop_at (concat more) (concat back) len long;
+      after = r.0;
+      uncut = r.1;
+    }

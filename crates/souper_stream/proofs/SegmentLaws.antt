@@ -8,8 +8,7 @@ use Rattle.souper_ir.proofs.Items.Joining.{items_join}
 use Rattle.souper_stream.specs.Lines.{starts_line, LastEnds}
 use Rattle.souper_stream.specs.Segments.{Line, concat, AreLines, tokens_of, tokens_of_lines, Starts, AreCut, all_lines, AreParts, PartsSpell, SpellsByParts}
 use Rattle.souper_stream.proofs.Parting.{starts_longer, part_by}
-use Rattle.souper_stream.proofs.Texts.{none_spelled}
-use Rattle.souper_stream.proofs.LineLists.{starts_not_none, starts_with_more, concat-append, all_are_lines, lines_back, lines_front, lines_of, kinds_of_lines}
+use Rattle.souper_stream.proofs.LineLists.{none_spelled, starts_not_none, starts_with_more, concat-append, all_are_lines, lines_back, lines_front, lines_of, kinds_of_lines}
 
 pub lines_start : (q : List Line) → Starts q → starts_line (tokens_of_lines q) ≡ true
 lines_start [] s = absurd s

@@ -16,17 +16,12 @@ use souper_lexer::{Fault, Lexer, Token};
 use std::io::ErrorKind;
 use std::{io, str};
 
-fn is_last_word(word: &str) -> bool
-    ensures { result ≡ last_word word.now }
-{
-    word == "infer" || (word == "result" || word == "cand")
-}
-
 // Whether the word begins a path condition, or one of an item's last lines.
 fn is_line_word(word: &str) -> bool
     ensures { result ≡ line_word word.now }
 {
-    is_last_word(word) || (word == "pc" || word == "blockpc")
+    let is_last = word == "infer" || (word == "result" || word == "cand");
+    is_last || (word == "pc" || word == "blockpc")
 }
 
 // Whether the token shows that a line begins: at its word, or at what defines the name before it.
@@ -39,12 +34,6 @@ fn shows_line(named: bool, token: Token<'_>) -> bool
         Token::Colon => named,
         _ => false,
     }
-}
-
-fn is_name(token: Token<'_>) -> bool
-    ensures { result ≡ is_name (lexeme_of token.entry) }
-{
-    matches!(&token, Token::ValName(_))
 }
 
 // The next token. It is lexed as the parser lexes it, so that a program has one caller of `Lexer::next_token`.
@@ -97,22 +86,9 @@ impl ScanState {
             self.ends_item
         };
         ScanState {
-            after_name: is_name(token),
+            after_name: matches!(&token, Token::ValName(_)),
             ends_item,
         }
-    }
-}
-
-// The state after the remaining tokens, up to a fault, given the state before them.
-fn scan<T: StreamItem>(lexer: &mut Lexer<'_>, before: ScanState) -> ScanState
-    ensures { result ≡ scanned T.item_type before (kinds lexer.old.tokens) }
-{
-    let mut state = before;
-    'tokens: loop {
-        state = match next_token(lexer) {
-            Ok(Some((_, token))) => state.after::<T>(token),
-            _ => return state,
-        };
     }
 }
 
@@ -120,14 +96,14 @@ fn scan<T: StreamItem>(lexer: &mut Lexer<'_>, before: ScanState) -> ScanState
 pub(crate) fn scan_line<T: StreamItem>(line: &str, before: ScanState) -> ScanState
     ensures { result ≡ scanned T.item_type before (tokens_of line.now) }
 {
-    scan::<T>(&mut Lexer::new(line), before)
-}
-
-// Whether the token, after a name, says that the name is defined.
-fn defines(token: Token<'_>) -> bool
-    ensures { result ≡ defines (lexeme_of token.entry ∷ []) }
-{
-    matches!(&token, Token::Eq | Token::Colon)
+    let mut lexer = Lexer::new(line);
+    let mut state = before;
+    'tokens: loop {
+        state = match next_token(&mut lexer) {
+            Ok(Some((_, token))) => state.after::<T>(token),
+            _ => return state,
+        };
+    }
 }
 
 /// Whether the line begins with a statement, or is one of an item's last lines.
@@ -142,7 +118,7 @@ pub(crate) fn starts_line(line: &str) -> bool
     match first {
         Token::Ident(word) => is_line_word(word),
         Token::ValName(_) => match next_token(&mut lexer) {
-            Ok(Some((_, token))) => defines(token),
+            Ok(Some((_, token))) => matches!(&token, Token::Eq | Token::Colon),
             _ => false,
         },
         _ => false,
@@ -197,6 +173,7 @@ pub fn lines_len(bytes: &[u8]) -> usize
 }
 
 // The bytes before the first occurrence of the word, if an item of the type ends with a line that it begins; else all.
+#[tactic(auto, using(crate::proofs::Scanning::front_take))]
 fn before_word<'a, T: StreamItem>(bytes: &'a [u8], word: &str) -> &'a [u8]
     ensures front { StartsWith bytes.now result.now }
     ensures none { end_word T.item_type word.now ≡ true → IsAbsent word.now result.now }

@@ -64,7 +64,7 @@ fn fill_blocks<R: BufRead>(reader: &mut R, bytes: &mut Vec<u8>, goal: usize) -> 
 }
 
 // Reads a line, and returns whether the input has ended: it is then empty, or has no newline.
-#[tactic(auto, using(crate::proofs::Bytes::line_reads, crate::proofs::Bytes::line_ends))]
+#[tactic(auto, using(crate::proofs::Buffers::line_reads, crate::proofs::Buffers::line_ends))]
 fn read_line<R: BufRead>(reader: &mut R, bytes: &mut Vec<u8>) -> io::Result<bool>
     ensures read { Reads (R.remaining reader.old) (R.remaining reader.new) bytes.old.items bytes.new.items result }
     ensures line { StopsAt (appended_bytes bytes.old.items bytes.new.items) 10 }
@@ -76,7 +76,7 @@ fn read_line<R: BufRead>(reader: &mut R, bytes: &mut Vec<u8>) -> io::Result<bool
 
 // Reads until `goal` bytes are buffered, and on to the end of a line, or until the input has ended. Returns whether it has ended. Some bytes
 // are read in any case, if there are any.
-#[tactic(auto, using(crate::proofs::Bytes::line_ends, crate::proofs::Bytes::ends_both))]
+#[tactic(auto, using(crate::proofs::Buffers::line_ends, crate::proofs::Buffers::ends_both))]
 fn fill_lines<R: BufRead>(reader: &mut R, bytes: &mut Vec<u8>, goal: usize) -> io::Result<bool>
     ensures read { Reads (R.remaining reader.old) (R.remaining reader.new) bytes.old.items bytes.new.items result }
     ensures ends { result ≡ Ok false → EndsIn (appended_bytes bytes.old.items bytes.new.items) 10 }

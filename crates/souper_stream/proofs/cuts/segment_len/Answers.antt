@@ -2,9 +2,7 @@ use Rattle.std.proofs.Common.{◌≡◌, ◌<◌, List, [], true, false, length,
 use Rattle.std.proofs.lemmas.Bool.Decides.{nat_tests}
 use Rattle.souper_stream.specs.Lines.{starts_line}
 use Rattle.souper_stream.specs.Segments.{Line, concat, AreLines, HasBadLine, tokens_of}
-use Rattle.souper_stream.proofs.Scan.{state_first}
-use Rattle.souper_stream.proofs.Scanning.{scanned_step, no_cut_none, first_cut, first_end}
-use Rattle.souper_stream.proofs.WithoutEnd.{passed_over}
+use Rattle.souper_stream.proofs.Scanning.{state_first, scanned_step, no_cut_none, first_cut, first_end, passed_over}
 use Rattle.souper_stream.proofs.LastCut.{bad_line, err_always}
 use Rattle.souper_stream.proofs.cuts.segment_len.Goals as goal
 use Rattle.souper_stream.proofs.cuts.segment_len.Goals.{else-state-via-then-state+else-starts_line, else-state-via-else-state}

@@ -1,7 +1,6 @@
-use Rattle.std.proofs.Common.{◌≡◌, List, ℕ, ◌+◌, true, false, length, ◌∙◌, subst, arith}
-use Rattle.std.proofs.lemmas.List.{take_all}
+use Rattle.std.proofs.Common.{◌≡◌, List, ℕ, true, false, ◌∙◌, subst}
 use Rattle.souper_stream.specs.Lines.{IsAbsent}
-use Rattle.souper_stream.proofs.WithoutEnd.{end_word_some, absent_before}
+use Rattle.souper_stream.proofs.Scanning.{absent_nowhere}
 use Rattle.souper_stream.proofs.LastCut.{whole_front}
 use Rattle.souper_stream.proofs.lines.last_occurrence.Goals as goal
 use Rattle.souper_stream.proofs.lines.last_occurrence.Goals.{then-not-ends_with-via-then-not-ends_with, then-not-ends_with-via-else-not-ends_with+then-before_word-bytes}
@@ -14,8 +13,4 @@ returns-then-not-ends_with-clause-none g c = λ zero e. elim c.then-not-ends_wit
 ]
 
 pub returns-in-None-clause-none : goal.returns-in-None-clause-none
-returns-in-None-clause-none g c = λ zero e.
-    let bytes = c.args.bytes.now in
-    let word = c.args.word.now in
-    let none = rw c.as_bytes.ensures.value at c.in-None.ensures in
-    subst (λ (x : List ℕ). IsAbsent word x) (take_all (length bytes + 1) bytes (omega arith)) (absent_before bytes word (length bytes + 1) (end_word_some g.T.Item.item_type word e) (λ k l within. none k (omega arith) l))
+returns-in-None-clause-none g c = λ zero e. absent_nowhere c.args.bytes.now c.args.word.now (rw c.as_bytes.ensures.value at c.in-None.ensures)

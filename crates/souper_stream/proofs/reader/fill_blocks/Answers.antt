@@ -1,4 +1,4 @@
-use Rattle.souper_stream.proofs.Bytes.{reads_both}
+use Rattle.souper_stream.proofs.Buffers.{reads_both}
 use Rattle.souper_stream.proofs.reader.fill_blocks.Goals as goal
 
 pub loop-turn-preserved : goal.loop-turn-preserved

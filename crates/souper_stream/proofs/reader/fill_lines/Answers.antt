@@ -1,4 +1,4 @@
-use Rattle.souper_stream.proofs.Bytes.{reads_both}
+use Rattle.souper_stream.proofs.Buffers.{reads_both}
 use Rattle.souper_stream.proofs.reader.fill_lines.Goals as goal
 
 pub returns-clause-read : goal.returns-clause-read

@@ -3,7 +3,7 @@ use Rattle.std.specs.Io.{appended_bytes}
 use Rattle.std.specs.Io.BufRead.{FillKeeps}
 use Rattle.std.proofs.BufReadLemmas.{Consumes_shown}
 use Rattle.std.proofs.Math.Seq.{take-append_seam, drop-append_seam}
-use Rattle.souper_stream.proofs.Bytes.{all_shown}
+use Rattle.souper_stream.proofs.Buffers.{all_shown}
 use Rattle.souper_stream.proofs.reader.read_block.Goals as goal
 
 pub returns : goal.returns

@@ -8,7 +8,7 @@ use Rattle.souper_ir.specs.Joining.{IsLines}
 use Rattle.souper_ir.specs.Places.{newlines}
 use Rattle.souper_stream.specs.Buffering.{held}
 use Rattle.souper_stream.specs.Segments.{IsLastLineAt}
-use Rattle.souper_stream.proofs.Texts.{lines_append}
+use Rattle.souper_stream.proofs.LineLists.{lines_append}
 use Rattle.souper_stream.proofs.Buffers.{newlines-append}
 use Rattle.souper_stream.proofs.buffer.Buffer.pass.Goals as goal
 

@@ -5,7 +5,7 @@ use Rattle.std.proofs.KnownBytes.{starts_with_rest}
 use Rattle.std.proofs.lemmas.List.{take_rest}
 use Rattle.souper_ir.specs.Joining.{IsLines}
 use Rattle.souper_stream.specs.declared.buffer.Buffer.{Buffer}
-use Rattle.souper_stream.proofs.Bytes.{front_kept}
+use Rattle.souper_stream.proofs.Buffers.{front_kept}
 use Rattle.souper_stream.proofs.Passing.{read_more}
 use Rattle.souper_stream.proofs.reader.ItemReader.read_more.Goals as goal
 
