@@ -24,27 +24,17 @@ use Rattle.souper_stream.proofs.Passing.{all_lines_snoc, done_more}
 over_both : {S : Type 0} (holds : S → S → List Item → Type 0) (xs ys : List Item) (a b c : S) → TakesOver holds xs a b → TakesOver holds ys b c → TakesOver holds (xs ++ ys) a c
 over_both holds xs ys a b c f g first items h = subst (λ (y : List Item). holds first c y) (append_assoc items xs ys) (g first (items ++ xs) (f first items h))
 
--- the first items were passed to the sink
-pub record Passed {T S : Type 0} (view : T → Item) (holds : S → S → List Item → Type 0) (all rest : List T) (first now : S) : Type 0 where
-  pub done : List T
-  pub whole : all ≡ done ++ rest
-  pub taken : TakesOver holds (map view done) first now
+-- a sink that takes the items that are left then has all, which are well formed
+pub record Passing {T S : Type 0} (view : T → Item) (holds : S → S → List Item → Type 0) (all rest : List T) (first now : S) : Type 0 where
+  pub well : AllByRecursion WellFormed (map view rest)
+  pub taken : (next : S) → TakesOver holds (map view rest) now next → TakesOver holds (map view all) first next
 
-pub passed_more : {T S : Type 0} (view : T → Item) (holds : S → S → List Item → Type 0) (all rest next : List T) (item : T) (first old new : S) → Passed view holds all rest first old → rest ≡ item ∷ next
-    → ((s : S) (items : List Item) → holds s old items → holds s new (items ++ view item ∷ [])) → Passed view holds all next first new
+pub passed_more : {T S : Type 0} (view : T → Item) (holds : S → S → List Item → Type 0) (all rest next : List T) (item : T) (first old new : S) → Passing view holds all rest first old → rest ≡ item ∷ next
+    → ((s : S) (items : List Item) → holds s old items → holds s new (items ++ view item ∷ [])) → Passing view holds all next first new
 passed_more view holds all rest next item first old new p e take = record {
-  done = p.done ++ item ∷ [];
-  whole = p.whole ∙ ap (λ (x : List _). p.done ++ x) e ∙ sym (append_assoc p.done (item ∷ []) next);
-  taken = subst (λ (xs : List Item). TakesOver holds xs first new) (sym (map-append view p.done (item ∷ []))) (over_both holds (map view p.done) (view item ∷ []) first old new p.taken take);
+  well = (rw e at p.well).1;
+  taken = λ last over. p.taken last (rw e (over_both holds (view item ∷ []) (map view next) old new last take over));
 }
-
-well_in : (xs ys : List Item) (a : Item) → AllByRecursion WellFormed (xs ++ a ∷ ys) → WellFormed a
-well_in [] ys a h = h.0
-well_in (x ∷ xs) ys a h = well_in xs ys a h.1
-
-pub next_well : {T S : Type 0} (view : T → Item) (holds : S → S → List Item → Type 0) (all rest next : List T) (item : T) (first now : S) → AllByRecursion WellFormed (map view all) → Passed view holds all rest first now → rest ≡ item ∷ next → WellFormed (view item)
-next_well view holds all rest next item first now h p e =
-    well_in (map view p.done) (map view next) (view item) (subst (λ (xs : List Item). AllByRecursion WellFormed xs) (ap (map view) (p.whole ∙ ap (λ (x : List _). p.done ++ x) e) ∙ map-append view p.done (item ∷ next)) h)
 
 -- ---- parts that are read one after another
 

@@ -1,7 +1,7 @@
 -- Where items begin: their offsets ascend within a text, and give places in a stream.
 use Rattle.std.proofs.Common.{◌≡◌, ℕ, ◌+◌, ◌-◌, ◌<◌, ◌≤◌, true, List, [], ◌∷◌, ◌++◌, length, take, drop, append_assoc, append-nil, get_or, min, Option, None, Some, is_some, refl, sym, ◌∙◌, ap, subst, arith, length-append}
 use Rattle.std.specs.Prelude.{◌^◌, ◌==◌, IfSome, option_map, vec_len}
-use Rattle.std.proofs.lemmas.List.{drop_more, take_more, take_all, length-take, length-drop}
+use Rattle.std.proofs.lemmas.List.{drop_more, drop_all, length-take, length-drop}
 use Rattle.std.proofs.lemmas.List.Sums.{count_by-le-length}
 use Rattle.souper_ir.specs.declared.parse.error.Before.{Before}
 use Rattle.souper_stream.specs.declared.buffer.Buffer.{Buffer}
@@ -75,46 +75,37 @@ pub ascend_within : (from : ℕ) (offsets : List ℕ) (to : ℕ) → Ascend from
 ascend_within from [] to a = a
 ascend_within from (offset ∷ offsets) to a = let first = a.0 in let last = ascend_within offset offsets to a.1 in omega arith
 
-pub starts_more : (done part offsets : List ℕ) (offset : ℕ) (starts : List Start) (start : Start) → AreStarts done part offsets starts → IsStart done part offset start → AreStarts done part (offsets ++ offset ∷ []) (starts ++ start ∷ [])
-starts_more done part [] offset [] start a is = (is, refl)
-starts_more done part [] offset (s ∷ starts) start a is = absurd (cc a)
-starts_more done part (o ∷ offsets) offset [] start a is = absurd a
-starts_more done part (o ∷ offsets) offset (s ∷ starts) start a is = (a.0, starts_more done part offsets offset starts start a.1 is)
-
 pub lines_more : (done part : List ℕ) (from to : ℕ) → from ≤ to → newlines (done ++ take to part) ≡ newlines (done ++ take from part) + newlines (take (to - from) (drop from part))
 lines_more done part from to le =
     let there : take to part ≡ take from part ++ take (to - from) (drop from part) = ap (λ (n : ℕ). take n part) (omega arith) ∙ take-add from (to - from) part in
     ap (λ (x : List ℕ). newlines (done ++ x)) there ∙ ap newlines (sym (append_assoc done (take from part) (take (to - from) (drop from part)))) ∙ newlines-append (done ++ take from part) (take (to - from) (drop from part))
 
--- the offsets that are left ascend from the last one on, and the others were told
+-- the offsets that are left ascend from the last one on, and with their starts all are told
 pub record Told (before : Before) (part offsets : List ℕ) (index passed lines : ℕ) (starts : List Start) : Type 0 where
   pub rest : Ascend passed (drop index offsets) (length part)
-  pub are : (done : List ℕ) → Counts before done → length (done ++ part) + 1 < 2 ^ 64 → (lines ≡ newlines (done ++ take passed part)) × AreStarts done part (take index offsets) starts
+  pub are : (done : List ℕ) → Counts before done → length (done ++ part) + 1 < 2 ^ 64 → (lines ≡ newlines (done ++ take passed part)) × ((more : List Start) → AreStarts done part (drop index offsets) more → AreStarts done part offsets (starts ++ more))
 
 pub none_told : (before : Before) (part offsets : List ℕ) → Ascend 0 offsets (length part) → Told before part offsets 0 0 before.lines []
-none_told before part offsets a = record { rest = a; are = λ done counts small. (counts.1 ∙ ap newlines (sym (append-nil done)), refl) }
+none_told before part offsets a = record { rest = a; are = λ done counts small. (counts.1 ∙ ap newlines (sym (append-nil done)), λ more are. are) }
 
 module _ (before : Before) (part offsets : List ℕ) (index passed lines : ℕ) (starts : List Start) (told : Told before part offsets index passed lines starts) (less : index < length offsets) where
   abbrev offset : ℕ
   offset = get_or offsets index 0
 
-  next_ascends : Ascend passed (offset ∷ drop (index + 1) offsets) (length part)
-  next_ascends = subst (λ (x : List ℕ). Ascend passed x (length part)) (drop_more offsets index 0 less) told.rest
-
-  pub from_there : passed ≤ offset
-  from_there = next_ascends.0
+  pub from_there : Ascend passed (offset ∷ drop (index + 1) offsets) (length part)
+  from_there = subst (λ (x : List ℕ). Ascend passed x (length part)) (drop_more offsets index 0 less) told.rest
 
   pub to_end : offset ≤ length part
-  to_end = ascend_within offset (drop (index + 1) offsets) (length part) next_ascends.1
+  to_end = ascend_within offset (drop (index + 1) offsets) (length part) from_there.1
 
   pub one_told : (more : ℕ) (start : Start) (new : List Start) → more ≡ min (lines + newlines (take (offset - passed) (drop passed part))) (2 ^ 64 - 1) → new ≡ starts ++ start ∷ [] → start.offset ≡ min (before.bytes + offset) (2 ^ 64 - 1) → start.line ≡ min (more + 1) (2 ^ 64 - 1)
       → Told before part offsets (index + 1) offset more new
   one_told more start new lines_are new_is offset_is line_is = record {
-    rest = next_ascends.1;
+    rest = from_there.1;
     are = λ done counts small. (
         let t = told.are done counts small in
         let long = length-append done part in
-        let step = lines_more done part passed offset from_there in
+        let step = lines_more done part passed offset from_there.0 in
         let few = count_by-le-length (λ b. b == 10) (done ++ take offset part) in
         let short = length-append done (take offset part) in
         let cut = length-take offset part in
@@ -123,12 +114,12 @@ module _ (before : Before) (part offsets : List ℕ) (index passed lines : ℕ) 
         let end = to_end in
         let more_is : more ≡ newlines (done ++ take offset part) = omega (arith, lines_are, here, step, few, short, cut, end, long, small) in (
           more_is,
-          rw (new_is, take_more offsets index 0 less) (starts_more done part (take index offsets) offset starts start t.1 (omega (arith, offset_is, bytes, end, long, small), omega (arith, line_is, more_is, few, short, cut, end, long, small))),
+          λ rest are. rw (new_is, append_assoc) (t.1 (start ∷ rest) (rw (drop_more offsets index 0 less) ((omega (arith, offset_is, bytes, end, long, small), omega (arith, line_is, more_is, few, short, cut, end, long, small)), are))),
         ));
   }
 
 pub all_told : (before : Before) (part offsets : List ℕ) (index passed lines : ℕ) (starts : List Start) → Told before part offsets index passed lines starts → length offsets ≤ index → (done : List ℕ) → Counts before done → length (done ++ part) + 1 < 2 ^ 64 → AreStarts done part offsets starts
-all_told before part offsets index passed lines starts told end done counts small = subst (λ (x : List ℕ). AreStarts done part x starts) (take_all index offsets end) (told.are done counts small).1
+all_told before part offsets index passed lines starts told end done counts small = subst (λ (x : List Start). AreStarts done part offsets x) (append-nil starts) ((told.are done counts small).1 [] (rw (drop_all index offsets end) refl))
 
 -- ---- what a parse of a part says of the offsets that the memory has
 

@@ -92,17 +92,6 @@ fn fill_lines<R: BufRead>(reader: &mut R, bytes: &mut Vec<u8>, goal: usize) -> i
     read_line(reader, bytes)
 }
 
-// The error of a read.
-fn read_error(fault: io::Error) -> ParseError
-    ensures { kind_of result ≡ ParseErrorKind.Parse → ⊥ }
-{
-    if fault.kind() == ErrorKind::OutOfMemory {
-        ParseError::from(AllocError)
-    } else {
-        ParseError::from(fault)
-    }
-}
-
 // Gives an error of the first `len` unparsed bytes its place and its location in the stream.
 fn place(
     alloc: Global,
@@ -409,7 +398,10 @@ impl ItemReader {
         }
         match self.next_chunk::<T, R>(alloc, reader) {
             Ok(()) => {}
-            Err(fault) => return Err(read_error(fault)),
+            Err(fault) if fault.kind() == ErrorKind::OutOfMemory => return Err(ParseError::from(
+                AllocError,
+            )),
+            Err(fault) => return Err(ParseError::from(fault)),
         }
         let len = self.rejected;
         if len == 0 {
