@@ -1,10 +1,8 @@
 -- After the last cut point of a text is none.
-use Rattle.std.proofs.Common.{◌≡◌, ◌⊎◌, inl, inr, ℕ, ◌<◌, ◌≤◌, true, false, List, [], ◌∷◌, ◌++◌, length, take, drop, IsUtf8, sym, ap, ◌∙◌, subst, arith, append_assoc, append-nil, length-append, length-take, take-append-drop}
-use Rattle.std.specs.Prelude.{Result, Ok, Err, OnErr}
+use Rattle.std.proofs.Common.{◌+◌, refl, ◌≡◌, ◌⊎◌, inl, inr, ℕ, ◌<◌, ◌≤◌, true, false, List, [], ◌∷◌, ◌++◌, length, take, drop, IsUtf8, sym, ap, ◌∙◌, subst, arith, append_assoc, append-nil, length-append, length-take, take-append-drop}
 use Rattle.std.specs.List.{AllByRecursion}
 use Rattle.std.specs.Io.BufRead.{take_through}
-use Rattle.std.specs.Io.{StartsWith}
-use Rattle.std.proofs.lemmas.List.{drop_at, take_all}
+use Rattle.std.proofs.lemmas.List.{drop_at, drop-drop}
 use Rattle.std.proofs.lemmas.Str.{IsUtf8-nil}
 use Rattle.souper_graph.specs.Syntax.Tokens.{Lexeme}
 use Rattle.souper_graph.specs.Syntax.Spelling.{ItemType}
@@ -12,10 +10,10 @@ use Rattle.souper_ir.specs.Joining.{IsLines}
 use Rattle.souper_ir.proofs.Items.Parting.{parted_twice}
 use Rattle.souper_stream.specs.declared.lines.ScanState.{ScanState}
 use Rattle.souper_stream.specs.Lines.{is_end_word, starts_line, LastEnds, NoEndWord}
-use Rattle.souper_stream.specs.Segments.{Line, concat, AreLines, tokens_of, tokens_of_lines, EndsItem, Starts, HasNoCut, CutsAt, HasNoCutAfter, IsFirstSegment, HasBadLine}
+use Rattle.souper_stream.specs.Segments.{Line, concat, AreLines, tokens_of, tokens_of_lines, EndsItem, Starts, HasNoCut, IsCut, CutsAt, HasNoCutAfter, IsFirstSegment, HasBadLine}
 use Rattle.souper_stream.proofs.Parting.{NoEnd, all_append, no_end_ends, ends_within, starts_longer}
-use Rattle.souper_stream.proofs.LineLists.{concat-append, tokens-append, lines_back, are_front, lines_exist, lines_whole, lines_split, lines_unique, no_bytes, line_first}
-use Rattle.souper_stream.proofs.Scanning.{Scanned, lines_left, utf8_parts, no_end_lines}
+use Rattle.souper_stream.proofs.LineLists.{concat-append, tokens-append, lines_back, are_front, lines_exist, lines_whole, lines_split, no_bytes, line_first}
+use Rattle.souper_stream.proofs.Scanning.{ends_later, Scanned, lines_left, utf8_parts, no_end_lines}
 
 -- ---- tokens
 
@@ -43,13 +41,6 @@ uncut_after k xs ys first uncut front back e cut = elim (parted_twice xs ys fron
         let ends = subst (λ (ts : List Lexeme). LastEnds k ts) (tokens-append xs (l ∷ left)) (subst (λ (x : List Line). EndsItem k x) f cut.0) in
         absurd (uncut (l ∷ left) back s (ends_there l left ends s first) cut.1)
 
--- a line starts after a cut point
-cut_starts : (k : ItemType) (ls : List Line) (text : List ℕ) (n : ℕ) (ms : List Line) → text ≡ concat ls → AreLines ls → CutsAt k ls n → drop n text ≡ concat ms → AreLines ms → Starts ms
-cut_starts k ls text n ms e lines c rest h =
-    let whole : text ≡ concat c.front ++ concat c.back = e ∙ ap concat c.whole ∙ concat-append c.front c.back in
-    let bytes : concat c.back ≡ concat ms = sym (ap (drop n) whole ∙ drop_at (concat c.front) (concat c.back) n c.len_is) ∙ rest in
-    subst (λ (x : List Line). Starts x) (lines_unique c.back ms (lines_back c.front c.back (subst (λ (x : List Line). AreLines x) c.whole lines)) h bytes) c.cut.1
-
 -- all of a text is its first segment
 pub whole_uncut : (k : ItemType) (ls : List Line) (text : List ℕ) (len : ℕ) → text ≡ concat ls → AreLines ls → IsFirstSegment k ls len → length text ≤ len → HasNoCut k ls
 whole_uncut k ls text len e lines f long =
@@ -60,10 +51,6 @@ whole_uncut k ls text len e lines f long =
     subst (λ (x : List Line). HasNoCut k x) (sym (f.whole ∙ ap (λ (x : List Line). f.front ++ x) none ∙ append-nil f.front)) f.uncut
 
 -- ---- lines without an end word
-
--- a front as long as the bytes is the bytes
-pub whole_front : (bs xs : List ℕ) → StartsWith bs xs → length xs ≡ length bs → xs ≡ bs
-whole_front bs xs starts long = sym starts ∙ take_all (length xs) bs (omega arith)
 
 no_end_front : (k : ItemType) (xs ys : List Line) → AllByRecursion (λ l. NoEnd k (tokens_of l)) (xs ++ ys) → NoEnd k (tokens_of_lines xs)
 no_end_front k [] ys each = tt
@@ -76,10 +63,6 @@ no_end_uncut k ls text e lines whole utf8 none front back parts cut =
     absurd (no_end_last k (tokens_of_lines front) (no_end_front k front back (subst (λ (x : List Line). AllByRecursion (λ l. NoEnd k (tokens_of l)) x) parts each)) cut.0)
 
 -- ---- lines that are not UTF-8
-
-pub err_always : {T E : Type 0} (P : Type 0) (r : Result T E) → P → OnErr r P
-err_always P (Ok x) h = tt
-err_always P (Err e) h = h
 
 -- the next line is not UTF-8
 pub bad_line : (k : ItemType) (ls : List Line) (rest : List ℕ) (s : ScanState) → AreLines ls → Scanned k ls rest s → (n : ℕ) → 0 < length rest → n ≡ length (take_through 10 rest) → ¬ (IsUtf8 (take n rest)) → HasBadLine k ls
@@ -105,25 +88,57 @@ utf8_has_no_bad_line k text utf8 bad =
 
 -- ---- the last cut point
 
--- no cut point is after the last one that is found, if the text is UTF-8
-pub none_after : (k : ItemType) (ls : List Line) (text : List ℕ) (cut : ℕ) → text ≡ concat ls → AreLines ls → cut ≤ length text → IsLines (take cut text) → IsUtf8 text → (cut ≡ 0) ⊎ CutsAt k ls cut
-    → ((ms : List Line) → drop cut text ≡ concat ms → AreLines ms → HasNoCut k ms ⊎ HasBadLine k ms) → HasNoCutAfter k ls cut
-none_after k ls text cut e lines within whole utf8 at left =
-    let (xs, ys, parts, front_is) = lines_split ls (take cut text) (drop cut text) lines (sym e ∙ sym (take-append-drop cut text)) whole in
-    let all : AreLines (xs ++ ys) = subst (λ (x : List Line). AreLines x) parts lines in
-    let n : length (concat xs) ≡ cut = omega (arith, ap length front_is, length-take cut text) in
-    let text_is : text ≡ concat xs ++ concat ys = e ∙ ap concat parts ∙ concat-append xs ys in
-    let rest : drop cut text ≡ concat ys = ap (drop cut) text_is ∙ drop_at (concat xs) (concat ys) cut n in
-    let rest_lines = lines_back xs ys all in
-    let uncut : HasNoCut k ys = elim (left ys rest rest_lines) [
-      | inl none ↦ none
-      | inr b ↦
-          let found : xs ++ ys ≡ (xs ++ b.front) ++ b.line ∷ b.back = ap (λ (x : List Line). xs ++ x) b.whole ∙ sym (append_assoc xs b.front (b.line ∷ b.back)) in
-          absurd (b.fault (utf8_line (xs ++ b.front) b.back b.line (subst (λ (x : List Line). AreLines x) found all)
-          (subst (λ (x : List Line). IsUtf8 (concat x)) found (subst (λ (x : List ℕ). IsUtf8 x) (text_is ∙ sym (concat-append xs ys)) utf8))))
-    ] in
-    let start : (xs ≡ []) ⊎ Starts ys = elim at [
-      | inl zero ↦ inl (no_bytes xs (are_front xs ys all) (n ∙ zero))
-      | inr c ↦ inr (cut_starts k ls text cut ys e lines c rest rest_lines)
-    ] in
-    subst (λ (m : ℕ). HasNoCutAfter k ls m) n (subst (λ (x : List Line). HasNoCutAfter k x (length (concat xs))) (sym parts) (uncut_after k xs ys start uncut))
+-- the lines before and after a place: the start of the search, or a cut point
+pub record Placed (k : ItemType) (ls : List Line) (text : List ℕ) (start place : ℕ) : Type 0 where
+  pub front : List Line
+  pub back : List Line
+  pub whole : ls ≡ front ++ back
+  pub len_is : length (concat front) ≡ place
+  pub rest_is : drop place text ≡ concat back
+  pub cut : (place ≡ start) ⊎ IsCut k front back
+
+pub placed_first : (k : ItemType) (ls : List Line) (text : List ℕ) (start : ℕ) → text ≡ concat ls → AreLines ls → start ≤ length text → IsLines (take start text) → Placed k ls text start start
+placed_first k ls text start e lines within whole =
+    let (xs, ys, parts, front_is) = lines_split ls (take start text) (drop start text) lines (sym e ∙ sym (take-append-drop start text)) whole in
+    let len_is : length (concat xs) ≡ start = omega (arith, ap length front_is, length-take start text) in
+    record { front = xs; back = ys; whole = parts; len_is = len_is; rest_is = ap (drop start) (e ∙ ap concat parts ∙ concat-append xs ys) ∙ drop_at (concat xs) (concat ys) start len_is; cut = inl refl }
+
+module _ (k : ItemType) (ls : List Line) (text : List ℕ) (start place : ℕ) (e : text ≡ concat ls) (lines : AreLines ls) (p : Placed k ls text start place) where
+  back_lines : AreLines p.back
+  back_lines = lines_back p.front p.back (subst (λ (x : List Line). AreLines x) p.whole lines)
+
+  -- a first segment after the place, if it is not all that is left, ends at a cut point
+  pub placed_more : (len : ℕ) → ((ms : List Line) → drop place text ≡ concat ms → AreLines ms → IsFirstSegment k ms len) → len < length (drop place text) → Placed k ls text start (place + len)
+  placed_more len first short =
+      let f = first p.back p.rest_is back_lines in
+      let rest = p.rest_is ∙ ap concat f.whole ∙ concat-append f.front f.back in
+      let parted = ap length rest ∙ length-append (concat f.front) (concat f.back) in
+      elim f.cut [
+        | inl none ↦ absurd (omega (arith, short, parted, ap (λ (x : List Line). length (concat x)) none, f.len_is))
+        | inr cut ↦ record {
+          front = p.front ++ f.front;
+          back = f.back;
+          whole = p.whole ∙ ap (λ (x : List Line). p.front ++ x) f.whole ∙ sym (append_assoc p.front f.front f.back);
+          len_is = ap length (concat-append p.front f.front) ∙ length-append (concat p.front) (concat f.front) ∙ (λ i. p.len_is i + f.len_is i);
+          rest_is = sym (drop-drop len place text) ∙ ap (drop len) rest ∙ drop_at (concat f.front) (concat f.back) len f.len_is;
+          cut = inr (subst (λ (ts : List Lexeme). LastEnds k ts) (sym (tokens-append p.front f.front)) (ends_later k (tokens_of_lines p.front) (tokens_of_lines f.front) cut.0), cut.1);
+        }
+      ]
+
+  is_cut : start < place → IsCut k p.front p.back
+  is_cut some = elim p.cut [ inl same ↦ absurd (omega arith) | inr c ↦ c ]
+
+  pub placed_cut : start < place → CutsAt k ls place
+  placed_cut some = record { front = p.front; back = p.back; whole = p.whole; len_is = p.len_is; cut = is_cut some }
+
+  -- no cut point is after the last one that is found, if the text is UTF-8
+  pub none_after : IsUtf8 text → (place ≡ 0) ⊎ (start < place) → ((ms : List Line) → drop place text ≡ concat ms → AreLines ms → HasNoCut k ms ⊎ HasBadLine k ms) → HasNoCutAfter k ls place
+  none_after utf8 at left =
+      let uncut : HasNoCut k p.back = elim (left p.back p.rest_is back_lines) [
+        | inl none ↦ none
+        | inr b ↦
+            let found : ls ≡ (p.front ++ b.front) ++ b.line ∷ b.back = p.whole ∙ ap (λ (x : List Line). p.front ++ x) b.whole ∙ sym (append_assoc p.front b.front (b.line ∷ b.back)) in
+            absurd (b.fault (utf8_line (p.front ++ b.front) b.back b.line (subst (λ (x : List Line). AreLines x) found lines) (subst (λ (x : List Line). IsUtf8 (concat x)) found (subst (λ (x : List ℕ). IsUtf8 x) e utf8))))
+      ] in
+      let first : (p.front ≡ []) ⊎ Starts p.back = elim at [ inl zero ↦ inl (no_bytes p.front (are_front p.front p.back (subst (λ (x : List Line). AreLines x) p.whole lines)) (p.len_is ∙ zero)) | inr some ↦ inr (is_cut some).1 ] in
+      subst (λ (m : ℕ). HasNoCutAfter k ls m) p.len_is (subst (λ (x : List Line). HasNoCutAfter k x (length (concat p.front))) (sym p.whole) (uncut_after k p.front p.back first uncut))

@@ -1,5 +1,5 @@
 -- Lines of a text that are scanned one after the other, or passed over: whether an item ends with them, and where a cut point is.
-use Rattle.std.proofs.Common.{length, arith, length-append, ◌≡◌, ◌⊎◌, inl, inr, Bool, true, false, List, [], ◌∷◌, ◌++◌, refl, sym, ap, ◌∙◌, subst, append_assoc, append-nil, ℕ, ◌+◌, ◌-◌, ◌<◌, ◌≤◌, take, drop, length-take, take-append-drop, get_or, IsUtf8}
+use Rattle.std.proofs.Common.{length, arith, length-append, ◌≡◌, ◌⊎◌, inl, inr, Bool, true, false, List, [], ◌∷◌, ◌++◌, refl, sym, ap, ◌∙◌, subst, append_assoc, append-nil, ℕ, ◌+◌, ◌-◌, ◌<◌, take, drop, length-take, take-append-drop, get_or, IsUtf8}
 use Rattle.std.specs.Prelude.{◌↔◌, codes}
 use Rattle.souper_graph.specs.Syntax.Tokens.{Lexeme, ident, spelling, Begins}
 use Rattle.souper_graph.specs.Syntax.Spelling.{ItemType, kinds}
@@ -8,11 +8,11 @@ use Rattle.souper_stream.specs.declared.lines.ScanState.{ScanState}
 use Rattle.souper_stream.specs.Lines.{line_word, is_end_word, defines, shows_line, NoStart, LastEnds, first_state, state_after, scanned, starts_line, end_word, IsAbsent, NoEndWord, PassesOver}
 use Rattle.souper_stream.proofs.Parting.{end_is_line, NoEnd}
 use Rattle.std.specs.Io.BufRead.{take_through}
-use Rattle.std.proofs.lemmas.List.{nil_from_length, take_at, drop_at, get_or_at}
+use Rattle.std.proofs.lemmas.List.{nil_from_length, drop_at, get_or_at}
 use Rattle.souper_ir.specs.Joining.{IsLines}
 use Rattle.souper_ir.proofs.Items.Parting.{parted_twice}
-use Rattle.souper_stream.specs.Segments.{Line, concat, AreLines, tokens_of, tokens_of_lines, EndsItem, Starts, HasNoCut, IsCut, CutsAt, IsFirstSegment, IsLine}
-use Rattle.souper_stream.proofs.LineLists.{starts_not_none, concat-append, tokens-append, tokens_snoc, lines_back, lines_front, lines_of, lines_split, no_bytes, line_first, are_front, lines_whole}
+use Rattle.souper_stream.specs.Segments.{Line, concat, AreLines, tokens_of, tokens_of_lines, EndsItem, Starts, HasNoCut, IsCut, IsFirstSegment, IsLine}
+use Rattle.souper_stream.proofs.LineLists.{starts_not_none, concat-append, tokens_snoc, lines_back, lines_split, no_bytes, line_first, are_front, lines_whole}
 use Rattle.std.specs.List.{AllByRecursion}
 use Rattle.std.specs.Io.{StartsWith}
 use Rattle.std.specs.Str.{IsCharBoundary}
@@ -189,40 +189,6 @@ module _ (k : ItemType) (ls : List Line) (rest : List ℕ) (s : ScanState) (line
   -- or with the text
   pub first_end : (text : List ℕ) → text ≡ concat ls → length rest ≡ 0 → IsFirstSegment k ls (length text - length rest)
   first_end text e none = first_segment text e (inl (no_bytes h.back lines_left (sym (ap length h.rest_is) ∙ none)))
-
--- ---- segment by segment
-
--- a first segment after some lines, if it is not all that is left of the text, ends at a cut point
-pub cut_after : (k : ItemType) (ls : List Line) (text : List ℕ) (start len : ℕ) → text ≡ concat ls → AreLines ls → start ≤ length text → IsLines (take start text) → ((ms : List Line) → drop start text ≡ concat ms → AreLines ms → IsFirstSegment k ms len) → start + len < length text → CutsAt k ls (start + len)
-cut_after k ls text start len e lines within whole first short =
-    let (xs, ys, parts, front_is) = lines_split ls (take start text) (drop start text) lines (sym e ∙ sym (take-append-drop start text)) whole in
-    let long : length (concat xs) ≡ start = omega (arith, ap length front_is, length-take start text) in
-    let text_is : text ≡ concat xs ++ concat ys = e ∙ ap concat parts ∙ concat-append xs ys in
-    let f = first ys (ap (drop start) text_is ∙ drop_at (concat xs) (concat ys) start long) (lines_back xs ys (subst (λ (x : List Line). AreLines x) parts lines)) in
-    let len_is : length (concat (xs ++ f.front)) ≡ start + len = ap length (concat-append xs f.front) ∙ length-append (concat xs) (concat f.front) ∙ (λ i. long i + f.len_is i) in
-    elim f.cut [
-      | inl none ↦
-          let all = ap length text_is ∙ length-append (concat xs) (concat ys) in
-          let last = ap (λ (x : List Line). length (concat x)) (f.whole ∙ ap (λ (x : List Line). f.front ++ x) none ∙ append-nil f.front) in
-          let same = f.len_is in
-          absurd (omega (arith, long))
-      | inr cut ↦ record {
-        front = xs ++ f.front;
-        back = f.back;
-        whole = parts ∙ ap (λ (x : List Line). xs ++ x) f.whole ∙ sym (append_assoc xs f.front f.back);
-        len_is = len_is;
-        cut = (subst (λ (ts : List Lexeme). LastEnds k ts) (sym (tokens-append xs f.front)) (ends_later k (tokens_of_lines xs) (tokens_of_lines f.front) cut.0), cut.1);
-      }
-    ]
-
--- lines are before a cut point
-pub cut_lines : (k : ItemType) (ls : List Line) (text : List ℕ) (n : ℕ) → text ≡ concat ls → AreLines ls → CutsAt k ls n → IsLines (take n text) × (n ≤ length text)
-cut_lines k ls text n e lines c =
-    let whole : text ≡ concat c.front ++ concat c.back = e ∙ ap concat c.whole ∙ concat-append c.front c.back in
-    let all = ap length whole ∙ length-append (concat c.front) (concat c.back) in
-    let len_is = c.len_is in
-    let bytes : take n text ≡ concat c.front = ap (take n) whole ∙ take_at (concat c.front) (concat c.back) n len_is in
-    (subst (λ (x : List ℕ). IsLines x) (sym bytes) (lines_of c.front (lines_front c.front c.back (starts_not_none c.back c.cut.1) (subst (λ (x : List Line). AreLines x) c.whole lines))), omega arith)
 
 -- ---- words that are nowhere in bytes
 

@@ -1,6 +1,6 @@
 -- Where items begin: their offsets ascend within a text, and give places in a stream.
-use Rattle.std.proofs.Common.{◌≡◌, ℕ, ◌+◌, ◌-◌, ◌<◌, ◌≤◌, true, List, [], ◌∷◌, ◌++◌, length, take, drop, append_assoc, append-nil, get_or, min, Option, None, Some, is_some, refl, sym, ◌∙◌, ap, subst, arith, length-append}
-use Rattle.std.specs.Prelude.{◌^◌, ◌==◌, IfSome, option_map, vec_len}
+use Rattle.std.proofs.Common.{◌≡◌, ℕ, ◌+◌, ◌-◌, ◌<◌, ◌≤◌, true, List, [], ◌∷◌, ◌++◌, length, take, drop, append_assoc, append-nil, get_or, min, Option, None, Some, is_some, refl, sym, ◌∙◌, ap, subst, arith, length-append, Ok, Err, Result}
+use Rattle.std.specs.Prelude.{◌^◌, ◌==◌, IfSome, option_map, vec_len, IfErr}
 use Rattle.std.proofs.lemmas.List.{drop_more, drop_all, length-take, length-drop}
 use Rattle.std.proofs.lemmas.List.Sums.{count_by-le-length}
 use Rattle.souper_ir.specs.declared.parse.error.Before.{Before}
@@ -10,13 +10,18 @@ use Rattle.souper_stream.proofs.Buffers.{newlines-append}
 use Rattle.souper_graph.specs.Values.{Item}
 use Rattle.souper_graph.specs.Syntax.Tokens.{Lexeme, spelling, Begins}
 use Rattle.souper_graph.specs.Syntax.Spelling.{kinds, ItemType, list_spells, TextSpells}
+use Rattle.souper_ir.specs.declared.parse.error.ParseError.{ParseError}
+use Rattle.souper_ir.specs.declared.parse.error.ParseErrorKind.{ParseErrorKind}
+use Rattle.souper_ir.specs.declared.parse.error.ParseErrorKind.TheVariants.{Io, Parse, Memory as MemoryKind}
 use Rattle.souper_ir.specs.declared.parse.memory.Memory.{Memory}
+use Rattle.souper_ir.specs.Answers.{IsStrError}
+use Rattle.souper_ir.specs.Errors.{kind_of}
 use Rattle.souper_ir.specs.Laws.Steps.{kinds-append}
-use Rattle.souper_ir.specs.Sinks.{PrefixSpells}
+use Rattle.souper_ir.specs.Sinks.{PrefixSpells, TakesOver, TakesPrefix}
 use Rattle.souper_ir.specs.Starts.{StartsAt, SpellEachFrom, TextSpellsFrom, PrefixSpellsFrom, TakesFrom, HasStarts, starts_of}
 use Rattle.souper_ir.specs.Places.{newlines}
 use Rattle.souper_stream.specs.declared.starts.Start.{Start}
-use Rattle.souper_stream.specs.Starts.{Ascend, IsStart, AreStarts}
+use Rattle.souper_stream.specs.Starts.{Ascend, AreStarts}
 use Rattle.std.proofs.Math.Seq.{take-add}
 
 -- after some tokens the others begin further on, and no later than the end
@@ -132,3 +137,14 @@ within_text holds spells text b len a m old new within is ascends t =
 pub kept_starts : (known : Option (List ℕ)) (P : List ℕ → Type 0) (offsets : List ℕ) → IfSome known (λ starts. offsets ≡ starts) → P offsets → IfSome known P
 kept_starts None P offsets e p = tt
 kept_starts (Some starts) P offsets e p = subst P e p
+
+-- what the sink took, whatever the error is
+pub items_over : {S : Type 0} (holds : S → S → List Item → Type 0) (k : ItemType) (text : List ℕ) (old new : S) (r : Result (Unit {0}) ParseError) → IfErr r (λ e. IsStrError k None text e) → IfErr r (λ e. kind_of e ≡ Parse → TakesPrefix holds k text old new)
+    → IfErr r (λ e. (kind_of e ≡ MemoryKind → ⊥) → (items : List Item) × TakesOver holds items old new)
+items_over holds k text old new (Ok x) refused before = refused
+items_over holds k text old new (Err e) refused before = λ not_memory. under (kind_of e) refl not_memory
+  where
+    under : (x : ParseErrorKind) → kind_of e ≡ x → (kind_of e ≡ MemoryKind → ⊥) → (items : List Item) × TakesOver holds items old new
+    under Io at kind = absurd (rw at at refused)
+    under Parse at kind = let b = before at in (b.0, b.2)
+    under MemoryKind at kind = absurd (kind at)

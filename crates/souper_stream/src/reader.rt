@@ -92,25 +92,6 @@ fn fill_lines<R: BufRead>(reader: &mut R, bytes: &mut Vec<u8>, goal: usize) -> i
     read_line(reader, bytes)
 }
 
-// Gives an error of the first `len` unparsed bytes its place and its location in the stream.
-fn place(
-    alloc: Global,
-    buffer: &Buffer,
-    len: usize,
-    error: ParseError,
-    filename: Option<&str>,
-) -> ParseError
-    requires within { buffer.now.start + buffer.now.parsed + len ≤ vec_len buffer.now.bytes }
-    requires offset { IfSome (offset_of error) (λ offset. offset ≤ len) }
-    ensures located { kind_of result ≡ ParseErrorKind.Parse → IsLocatedAfter (option_copied filename.entry) buffer.now.before (take (buffer.now.parsed + len) (held buffer.now)) buffer.now.parsed error result }
-    ensures location { kind_of result ≡ ParseErrorKind.Parse → HasLocationAfter buffer.now.before (take (buffer.now.parsed + len) (held buffer.now)) result }
-{
-    match utf8(buffer.held(len)) {
-        Ok(source) => error.locate_after(alloc, buffer.before, source, buffer.parsed, filename),
-        Err(fault) => ParseError::from(fault),
-    }
-}
-
 // The fault of the first `len` unparsed bytes, which are not UTF-8.
 fn not_text(buffer: &Buffer, len: usize) -> io::Error
     requires { buffer.now.start + buffer.now.parsed + len ≤ vec_len buffer.now.bytes }
@@ -352,7 +333,16 @@ impl ItemReader {
                 Ok(true)
             }
             Err(error) if error.kind() == ParseErrorKind::Parse => {
-                let error = place(alloc, &self.buffer, len, error, filename);
+                let error = match utf8(self.buffer.held(len)) {
+                    Ok(source) => error.locate_after(
+                        alloc,
+                        self.buffer.before,
+                        source,
+                        self.buffer.parsed,
+                        filename,
+                    ),
+                    Err(fault) => ParseError::from(fault),
+                };
                 self.pass(alloc, len)?;
                 Err(error)
             }

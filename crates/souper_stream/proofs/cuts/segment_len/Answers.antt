@@ -1,9 +1,10 @@
-use Rattle.std.proofs.Common.{◌≡◌, ◌<◌, List, [], true, false, length, take, refl, sym, ◌∙◌, arith, eqb-true}
+use Rattle.std.proofs.Common.{◌≡◌, ◌<◌, [], true, false, length, take, refl, sym, ◌∙◌, arith, eqb-true}
 use Rattle.std.proofs.lemmas.Bool.Decides.{nat_tests}
+use Rattle.std.proofs.lemmas.Result.{err_from_is_err_and}
 use Rattle.souper_stream.specs.Lines.{starts_line}
-use Rattle.souper_stream.specs.Segments.{Line, concat, AreLines, HasBadLine, tokens_of}
+use Rattle.souper_stream.specs.Segments.{tokens_of}
 use Rattle.souper_stream.proofs.Scanning.{state_first, scanned_step, no_cut_none, first_cut, first_end, passed_over}
-use Rattle.souper_stream.proofs.LastCut.{bad_line, err_always}
+use Rattle.souper_stream.proofs.LastCut.{bad_line}
 use Rattle.souper_stream.proofs.cuts.segment_len.Goals as goal
 use Rattle.souper_stream.proofs.cuts.segment_len.Goals.{else-state-via-then-state+else-starts_line, else-state-via-else-state}
 
@@ -52,10 +53,7 @@ returns-clause-segment g c = λ ls e lines.
 
 pub returns-in_err-line-clause-failed : goal.returns-in_err-line-clause-failed
 returns-in_err-line-clause-failed g c =
-    let k = g.T.Item.item_type in
     let rest = c.loop-state.rest.now in
-    let n = c.first_line_len.result in
     let some : 0 < length rest = grind (arith, nat_tests, c.is_empty.ensures, c.loop-state-test.true) in
-    err_always ((ls : List Line) → c.args.text.now ≡ concat ls → AreLines ls → HasBadLine k ls) c.from_residual.result
-    (λ ls e lines. bad_line k ls rest c.loop-state.state lines (c.loop-state.invariant.scanned ls e lines) n some c.first_line_len.ensures.line
-    (rw c.split_at.ensures.front at c.in_err-line.ensures.failed))
+    rw (err_from_is_err_and c.from_residual.result c.from_residual.ensures.1).1 (λ ls e lines.
+    bad_line g.T.Item.item_type ls rest c.loop-state.state lines (c.loop-state.invariant.scanned ls e lines) c.first_line_len.result some c.first_line_len.ensures.line (rw c.split_at.ensures.front at c.in_err-line.ensures.failed))

@@ -25,15 +25,15 @@ returns-in_ok-pass-in-Ok-read_text-clause-read g c = λ e start ps had.
     part_taken k start (g.R.Read.remaining c.next_chunk.new.reader) ps r q r.rejected now (now.1.chunk some) (λ s. absurd (omega arith)) some
     (subst (λ (x : ItemReader). Advances x r.rejected q) c.read_text.ensures.same c.in_ok-pass-in-Ok-read_text.ensures.advanced) g.S.Sink.holds c.args.sink.now c.args.sink.now c.read_text.new.sink c.next_chunk.new.self.memory (λ s y. y) c.in-Ok-read_text.ensures.taken
 
-pub returns-in-Err-2-clause-read : goal.returns-in-Err-2-clause-read
-returns-in-Err-2-clause-read g c =
-    let not_memory : kind_of c.in-Err-2.field-0 ≡ Memory → ⊥ = search rules in
-    let (items, over) = c.in-Err-2.ensures.over not_memory in
-    IfOk-weaker c.read_segment-in-Err-2.result _ _ (λ more taken e start ps had. taken start (g.R.Read.remaining c.next_chunk.new.reader) ps c.args.sink.now (rw c.read_text.ensures.same (c.in-Ok.ensures.next start ps had)) (λ s y. c.rollback.ensures s items (over s [] y))) c.read_segment-in-Err-2.ensures.taken
+pub returns-in-Err-2-read_text-clause-read : goal.returns-in-Err-2-read_text-clause-read
+returns-in-Err-2-read_text-clause-read g c =
+    let not_memory : kind_of c.in-Err-2-read_text.field-0 ≡ Memory → ⊥ = search rules in
+    let (items, over) = c.in-Err-2-read_text.ensures.over not_memory in
+    IfOk-weaker c.read_segment-in-Err-2-read_text.result _ _ (λ more taken e start ps had. taken start (g.R.Read.remaining c.next_chunk.new.reader) ps c.args.sink.now (rw c.read_text.ensures.same (c.in-Ok.ensures.next start ps had)) (λ s y. c.rollback.ensures s items (over s [] y))) c.read_segment-in-Err-2-read_text.ensures.taken
 
-pub returns-in-Err-2-clause-refused : goal.returns-in-Err-2-clause-refused
-returns-in-Err-2-clause-refused g c =
-    let not_memory : kind_of c.in-Err-2.field-0 ≡ Memory → ⊥ = search rules in
-    let (items, over) = c.in-Err-2.ensures.over not_memory in
-    IfErr-weaker c.read_segment-in-Err-2.result _ _ (λ error refused kind start ps had. refused kind start (g.R.Read.remaining c.next_chunk.new.reader) ps c.args.sink.now (rw c.read_text.ensures.same (c.in-Ok.ensures.next start ps had)) (λ s y. c.rollback.ensures s items (over s [] y)))
-    c.read_segment-in-Err-2.ensures.refused
+pub returns-in-Err-2-read_text-clause-refused : goal.returns-in-Err-2-read_text-clause-refused
+returns-in-Err-2-read_text-clause-refused g c =
+    let not_memory : kind_of c.in-Err-2-read_text.field-0 ≡ Memory → ⊥ = search rules in
+    let (items, over) = c.in-Err-2-read_text.ensures.over not_memory in
+    IfErr-weaker c.read_segment-in-Err-2-read_text.result _ _ (λ error refused kind start ps had. refused kind start (g.R.Read.remaining c.next_chunk.new.reader) ps c.args.sink.now (rw c.read_text.ensures.same (c.in-Ok.ensures.next start ps had)) (λ s y. c.rollback.ensures s items (over s [] y)))
+    c.read_segment-in-Err-2-read_text.ensures.refused

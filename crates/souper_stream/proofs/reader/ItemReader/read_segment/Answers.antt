@@ -1,4 +1,4 @@
-use Rattle.std.proofs.Common.{◌≡◌, ◌<◌, ◌+◌, rules, length, take, ap, subst, arith}
+use Rattle.std.proofs.Common.{◌≡◌, ◌<◌, ◌+◌, rules, length, take, ap, ◌∙◌, subst, arith}
 use Rattle.std.specs.Prelude.{option_copied}
 use Rattle.std.proofs.lemmas.List.{length-drop, length-take}
 use Rattle.souper_ir.specs.declared.parse.error.ParseErrorKind.TheVariants.{Parse}
@@ -8,6 +8,7 @@ use Rattle.souper_stream.specs.Buffering.{held}
 use Rattle.souper_stream.specs.Parts.{Advances}
 use Rattle.souper_stream.proofs.Passing.{first, first_chunk, first_left, part_taken, part_refused}
 use Rattle.souper_stream.proofs.reader.ItemReader.read_segment.Goals as goal
+use Rattle.souper_stream.proofs.reader.ItemReader.read_segment.Goals.{in-Ok-utf8, in-Err-utf8}
 
 pub returns-in_ok-pass-in-Ok-read_text-clause-taken : goal.returns-in_ok-pass-in-Ok-read_text-clause-taken
 returns-in_ok-pass-in-Ok-read_text-clause-taken g c = λ start now ps before had none.
@@ -22,18 +23,26 @@ returns-in_ok-pass-in-Ok-read_text-clause-taken g c = λ start now ps before had
     (subst (λ (x : ItemReader). Advances x len q) c.read_text.ensures.same c.in_ok-pass-in-Ok-read_text.ensures.advanced) g.S.Sink.holds before c.args.sink.now c.read_text.new.sink c.args.self.now.memory none c.in-Ok-read_text.ensures.taken
 
 pub returns-in_ok-pass-in-Err-read_text-clause-refused : goal.returns-in_ok-pass-in-Err-read_text-clause-refused
-returns-in_ok-pass-in-Err-read_text-clause-refused g c = λ shown_kind start now ps before had none.
+returns-in_ok-pass-in-Err-read_text-clause-refused g c =
     let k = g.T.Item.item_type in
     let len = c.in-Ok.len in
+    let file = option_copied c.args.filename in
+    let e = c.in-Err-read_text.error in
     let q = c.pass-in-Err-read_text.new.self in
     let r : ItemReader = record c.args.self.now { memory = c.read_text.new.self.memory } in
     let b = r.buffer in
-    let kind : kind_of c.in-Err-read_text.error ≡ Parse = search rules in
-    let shown = c.place-error.ensures in
+    let same = c.read_text.ensures.same in
+    let kind : kind_of e ≡ Parse = search rules in
     let segment = rw c.unparsed.ensures at c.in-Ok.ensures.segment in
     let some : 0 < len = c.in-Ok.ensures.some (omega (arith, c.requires.some, c.requires.within, b.bytes.ok, length-take r.rejected c.unparsed.result.now, ap length c.unparsed.ensures, length-drop b.start b.bytes.items, length-drop b.parsed (held b))) in
-    part_refused k start now ps r q len had (first_chunk k start now ps r len c.requires.some segment had) (first_left k start now ps r len c.requires.some segment had) some
-    (subst (λ (x : ItemReader). Advances x len q) c.read_text.ensures.same c.in_ok-pass-in-Err-read_text.ensures.advanced) g.S.Sink.holds before c.args.sink.now c.read_text.new.sink c.args.self.now.memory (option_copied c.args.filename) c.in-Err-read_text.error c.place-error.result none
-    (c.in-Err-read_text.ensures.begun kind) (first k start now ps r len c.requires.some segment had).uncut kind shown_kind (c.in-Err-read_text.ensures.refused kind)
-    (subst (λ (x : ItemReader). IsLocatedAfter (option_copied c.args.filename) x.buffer.before (take (x.buffer.parsed + len) (held x.buffer)) x.buffer.parsed c.in-Err-read_text.error c.place-error.result) c.read_text.ensures.same (shown.located shown_kind))
-    (subst (λ (x : ItemReader). HasLocationAfter x.buffer.before (take (x.buffer.parsed + len) (held x.buffer)) c.place-error.result) c.read_text.ensures.same (shown.location shown_kind))
+    elim c.match-utf8.branch [
+      | in-Ok-utf8 w ↦ rw w.error2-is (λ shown_kind start now ps before had none. (
+          let shown = w.locate_after-error.result in
+          let source = w.in-Ok-utf8.ensures.same ∙ c.held.ensures in
+          part_refused k start now ps r q len had (first_chunk k start now ps r len c.requires.some segment had) (first_left k start now ps r len c.requires.some segment had) some
+          (subst (λ (x : ItemReader). Advances x len q) same c.in_ok-pass-in-Err-read_text.ensures.advanced) g.S.Sink.holds before c.args.sink.now c.read_text.new.sink c.args.self.now.memory file e shown none
+          (c.in-Err-read_text.ensures.begun kind) (first k start now ps r len c.requires.some segment had).uncut kind shown_kind (c.in-Err-read_text.ensures.refused kind)
+          (subst (λ (x : ItemReader). IsLocatedAfter file x.buffer.before (take (x.buffer.parsed + len) (held x.buffer)) x.buffer.parsed e shown) same (rw source at w.locate_after-error.ensures.located))
+          (subst (λ (x : ItemReader). HasLocationAfter x.buffer.before (take (x.buffer.parsed + len) (held x.buffer)) shown) same (rw source at (w.locate_after-error.ensures.location shown_kind)))))
+      | in-Err-utf8 w ↦ rw w.error2-is (λ shown_kind start now ps before had none. (let io = w.from-error.ensures in absurd (search rules)))
+    ]
