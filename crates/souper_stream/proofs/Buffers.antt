@@ -191,12 +191,6 @@ module _ (file : Option (List ℕ)) (done rest after : List ℕ) (b : Buffer) (l
       ap (λ (x : List ℕ). p.gone ++ x) (take-add b.parsed len (held b) ∙ ap (λ (x : List ℕ). take b.parsed (held b) ++ take len x) p.rest_is)
       ∙ sym (append_assoc p.gone (take b.parsed (held b)) (take len rest)) ∙ ap (λ (x : List ℕ). x ++ take len rest) (sym p.done_is)
 
-  part_long : length (take len rest) ≡ len
-  part_long = omega (arith, length-take len rest, fits)
-
-  long : length text ≡ length done + len
-  long = omega (arith, length-append done (take len rest), part_long)
-
   placed_there : kind_of shown ≡ Parse → IsPlacedAfter file b.before (take (b.parsed + len) (held b)) (b.parsed + offset) shown → length text + 1 < 2 ^ 64 → IsRefusalAt file text (length done + offset) shown
   placed_there kind (inl memory) small = let bad : Memory ≡ Parse = sym memory ∙ kind in absurd cc
   placed_there kind (inr at) small =
@@ -215,7 +209,9 @@ module _ (file : Option (List ℕ)) (done rest after : List ℕ) (b : Buffer) (l
 
   pub buffers_placed : IsLines (take len rest) ⊎ (after ≡ []) → kind_of shown ≡ Parse → IsPlacedAfter file b.before (take (b.parsed + len) (held b)) (b.parsed + offset) shown → length (text ++ after) + 1 < 2 ^ 64 → IsRefusalAt file (text ++ after) (length done + offset) shown
   buffers_placed (inl lines) kind located small =
-      refusal_more file text after (length done + offset) shown (omega (arith, long)) (omega (arith, long)) (ends_in_lines done (take len rest) (omega (arith, part_long)) lines) (placed_there kind located (omega (arith, small, length-append text after)))
+      let part_long = length-take len rest in
+      let long = length-append done (take len rest) in
+      refusal_more file text after (length done + offset) shown (omega arith) (omega arith) (ends_in_lines done (take len rest) (omega arith) lines) (placed_there kind located (omega (arith, small, length-append text after)))
   buffers_placed (inr none) kind located small =
       subst (λ (x : List ℕ). IsRefusalAt file x (length done + offset) shown) (sym (ap (λ (x : List ℕ). text ++ x) none ∙ append-nil text)) (placed_there kind located (omega (arith, small, length-append text after)))
 

@@ -1,7 +1,6 @@
 mod Parting
 mod LineLists
-pub mod Scanning
-pub mod LastCut
+pub mod Cutting
 pub mod SegmentLaws
 pub mod Buffers
 pub mod Passing

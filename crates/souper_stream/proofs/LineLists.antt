@@ -12,6 +12,7 @@ use Rattle.std.specs.Prelude.{◌==◌, zero, suc}
 use Rattle.std.specs.List.{AllByRecursion}
 use Rattle.std.specs.Io.BufRead.{take_through}
 use Rattle.std.proofs.lemmas.Bool.{false_from_ne_true}
+use Rattle.std.proofs.lemmas.Grind.{flat_map-append}
 use Rattle.std.proofs.lemmas.List.{append_cancel_left, take_at, drop_at, length-take, take-take}
 use Rattle.memchr.specs.Find.{Passes, is_byte}
 use Rattle.souper_ir.proofs.Items.Parting.{lines_end, tokens_part}
@@ -60,8 +61,7 @@ concat-append [] ys = refl
 concat-append (x ∷ xs) ys = ap (λ (l : List ℕ). x ++ l) (concat-append xs ys) ∙ sym (append_assoc x (concat xs) (concat ys))
 
 pub tokens-append : (xs ys : List Line) → tokens_of_lines (xs ++ ys) ≡ tokens_of_lines xs ++ tokens_of_lines ys
-tokens-append [] ys = refl
-tokens-append (x ∷ xs) ys = ap (λ (ts : List Lexeme). tokens_of x ++ ts) (tokens-append xs ys) ∙ sym (append_assoc (tokens_of x) (tokens_of_lines xs) (tokens_of_lines ys))
+tokens-append xs ys = flat_map-append tokens_of xs ys
 
 pub tokens_snoc : (ls : List Line) (l : Line) → tokens_of_lines (ls ++ l ∷ []) ≡ tokens_of_lines ls ++ tokens_of l
 tokens_snoc ls l = tokens-append ls (l ∷ []) ∙ ap (λ (ts : List Lexeme). tokens_of_lines ls ++ ts) (append-nil (tokens_of l))
@@ -137,20 +137,16 @@ lines_exist (b ∷ bs) = let r = lines_exist bs in under (b == 10) refl r.0 r.1 
 
 -- ---- the first line
 
-through_line : (body rest : List ℕ) → IsOneLine body → take_through 10 (body ++ 10 ∷ rest) ≡ body ++ 10 ∷ []
-through_line [] rest h = refl
-through_line (b ∷ body) rest h = rw h.0 (ap (λ (x : List ℕ). b ∷ x) (through_line body rest h.1))
-
-through_all : (xs : List ℕ) → IsOneLine xs → take_through 10 xs ≡ xs
-through_all [] h = refl
-through_all (x ∷ xs) h = rw h.0 (ap (λ (l : List ℕ). x ∷ l) (through_all xs h.1))
+through_append : (xs ys : List ℕ) → IsOneLine xs → take_through 10 (xs ++ ys) ≡ xs ++ take_through 10 ys
+through_append [] ys h = refl
+through_append (x ∷ xs) ys h = rw h.0 (ap (λ (l : List ℕ). x ∷ l) (through_append xs ys h.1))
 
 through_whole : (l rest : List ℕ) → IsLine l → take_through 10 (l ++ rest) ≡ l
-through_whole l rest h = ap (take_through 10) (ap (λ (x : List ℕ). x ++ rest) h.2 ∙ append_assoc h.0 (10 ∷ []) rest) ∙ through_line h.0 rest h.1 ∙ sym h.2
+through_whole l rest h = ap (take_through 10) (ap (λ (x : List ℕ). x ++ rest) h.2 ∙ append_assoc h.0 (10 ∷ []) rest) ∙ through_append h.0 (10 ∷ rest) h.1 ∙ sym h.2
 
 first_through : (l : Line) (ls : List Line) → AreLines (l ∷ ls) → take_through 10 (concat (l ∷ ls)) ≡ l
 first_through l [] (inl h) = through_whole l [] h
-first_through l [] (inr h) = ap (take_through 10) (append-nil l) ∙ through_all l h.0
+first_through l [] (inr h) = through_append l [] h.0 ∙ append-nil l
 first_through l (m ∷ ls) h = through_whole l (concat (m ∷ ls)) h.0
 
 pub line_first : (ls : List Line) (text : List ℕ) (n : ℕ) → text ≡ concat ls → AreLines ls → 0 < length text → n ≡ length (take_through 10 text) → (back : List Line) × (ls ≡ take n text ∷ back) × (drop n text ≡ concat back)

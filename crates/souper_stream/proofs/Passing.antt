@@ -138,33 +138,6 @@ module _ (k : ItemType) (start now : Option (List ℕ)) (ps : List (List Line)) 
       let parts : AreParts k (concat (all_lines ps ++ ls)) ps = record { whole = ap concat same; lines = are_front (all_lines ps) ls h.lines.are; cut = subst (λ (x : List Line). AreCut k (and_next ps x)) nil h.cut } in
       (concat (all_lines ps ++ ls), (all_consumed start now (all_lines ps ++ ls) r.ended (is_some r.fault) h.lines (h.lines.not_failed ended)).1, h.lines.all_read ended, parts)
 
--- ---- a segment of a chunk
-
-module _ (k : ItemType) (ended : Bool) (ls : List Line) (rejected len : ℕ) (c : IsChunk k ended ls rejected) (f : IsFirstSegment k c.front len) where
-  abbrev segment_chunk : IsChunk k ended ls len
-  segment_chunk = record { front = f.front; back = f.back ++ c.back; whole = c.whole ∙ ap (λ (x : List Line). x ++ c.back) f.whole ∙ append_assoc f.front f.back c.back; len_is = f.len_is; cut = under f.cut c.cut }
-    where
-      under : (f.back ≡ []) ⊎ IsCut k f.front f.back → IsCut k c.front c.back ⊎ ((c.back ≡ []) × (ended ≡ true)) → IsCut k f.front (f.back ++ c.back) ⊎ ((f.back ++ c.back ≡ []) × (ended ≡ true))
-      under (inl none) (inl cut) =
-          let same : c.front ≡ f.front = f.whole ∙ ap (λ (x : List Line). f.front ++ x) none ∙ append-nil f.front in
-          inl (subst (λ (x : List Line). EndsItem k x) same cut.0, subst (λ (x : List Line). Starts (x ++ c.back)) (sym none) cut.1)
-      under (inl none) (inr end) = inr ((λ i. none i ++ end.0 i), end.1)
-      under (inr cut) u = inl (cut.0, starts_with_more f.back c.back cut.1)
-
-  -- the rest of the chunk
-  pub segment_left : 0 < rejected - len → IsChunk k ended (f.back ++ c.back) (rejected - len)
-  segment_left left =
-      let all = c.len_is in
-      let parts = ap (λ (x : List Line). length (concat x)) f.whole ∙ ap length (concat-append f.front f.back) ∙ length-append (concat f.front) (concat f.back) in
-      let front = f.len_is in
-      record { front = f.back; back = c.back; whole = refl; len_is = omega arith; cut = under f.cut c.cut (omega arith) }
-    where
-      under : (f.back ≡ []) ⊎ IsCut k f.front f.back → IsCut k c.front c.back ⊎ ((c.back ≡ []) × (ended ≡ true)) → length (concat f.back) ≡ rejected - len → IsCut k f.back c.back ⊎ ((c.back ≡ []) × (ended ≡ true))
-      under (inl none) u n = let z = ap (λ (x : List Line). length (concat x)) none in absurd (omega arith)
-      under (inr cut) (inl end) n =
-          inl (ends_within k (tokens_of_lines f.front) (tokens_of_lines f.back) (lines_start f.back cut.1) (subst (λ (ts : List Lexeme). LastEnds k ts) (ap tokens_of_lines f.whole ∙ tokens-append f.front f.back) end.0), end.1)
-      under (inr cut) (inr end) n = inr end
-
 -- ---- a refused part
 
 -- whatever follows the lines read, the whole stream spells no items
@@ -198,16 +171,13 @@ never_after k start now ps part back b ended failed rejected h none = under ende
 
 -- ---- what a call did
 
--- the chunk is in the buffer
-module _ (k : ItemType) (start now : Option (List ℕ)) (ps : List (List Line)) (r : ItemReader) (len : ℕ) (had : HasParts k start now ps r) (c : IsChunk k r.ended had.0 len) where
-  chunk_within : len ≤ length (concat had.0)
-  chunk_within = grind (arith, concat-append, length-append {A = ℕ})
-
-  chunk_fits : r.buffer.start + r.buffer.parsed + len ≤ length r.buffer.bytes.items
-  chunk_fits = let b = had.1.buffers in omega (arith, chunk_within, b.within, ap length b.rest_is, length-drop r.buffer.start r.buffer.bytes.items, length-drop r.buffer.parsed (held r.buffer))
+chunk_within : (k : ItemType) (ended : Bool) (ls : List Line) (len : ℕ) → IsChunk k ended ls len → len ≤ length (concat ls)
+chunk_within k ended ls len c = grind (arith, concat-append, length-append {A = ℕ})
 
 pub rejected_fits : (k : ItemType) (start now : Option (List ℕ)) (ps : List (List Line)) (r : ItemReader) → HasParts k start now ps r → 0 < r.rejected → r.buffer.start + r.buffer.parsed + r.rejected ≤ length r.buffer.bytes.items
-rejected_fits k start now ps r had some = chunk_fits k start now ps r r.rejected had (had.1.chunk some)
+rejected_fits k start now ps r (ls, h) some =
+    let b = h.buffers in
+    omega (arith, chunk_within k r.ended ls r.rejected (h.chunk some), b.within, ap length b.rest_is, length-drop r.buffer.start r.buffer.bytes.items, length-drop r.buffer.parsed (held r.buffer))
 
 -- the next part was parsed
 module _ (k : ItemType) (start now : Option (List ℕ)) (ps : List (List Line)) (r q : ItemReader) (len : ℕ) (had : HasParts k start now ps r) (c : IsChunk k r.ended had.0 len) (left : 0 < r.rejected - len → IsChunk k r.ended c.back (r.rejected - len)) (some : 0 < len) (a : Advances r len q) where
@@ -269,7 +239,7 @@ module _ (k : ItemType) (start now : Option (List ℕ)) (ps : List (List Line)) 
       let read = concat (all_lines (ps ++ c.front ∷ []) ++ c.back) ++ lost in
       let whole : read ≡ concat (all_lines (ps ++ c.front ∷ [])) ++ after = ap (λ (y : List ℕ). y ++ lost) (concat-append (all_lines (ps ++ c.front ∷ [])) c.back) ∙ append_assoc (concat (all_lines (ps ++ c.front ∷ []))) (concat c.back) lost in
       let whole_there : read ≡ (done ++ take len (concat had.0)) ++ after = whole ∙ ap (λ (y : List ℕ). y ++ after) (done_more ps c.front ∙ ap (λ (y : List ℕ). done ++ y) (sym part_text)) in
-      let fits : len ≤ length (concat had.0) = chunk_within k start now ps r len had c in
+      let fits : len ≤ length (concat had.0) = chunk_within k r.ended had.0 len c in
       let within : s.0 ≤ len = omega (arith, s.2, length-take len (unparsed r.buffer)) in
       record {
         part = c.front;
@@ -305,17 +275,35 @@ module _ (k : ItemType) (start now : Option (List ℕ)) (ps : List (List Line)) 
           inl (lines_of c.front (lines_front c.front c.back (starts_not_none c.back cut.1) lines))
       ends (inr end) = inr (λ i. concat (end.0 i) ++ passed.lines.none_lost (had.1.lines.not_failed end.1) i)
 
--- the first segment of a chunk
+-- the first segment of a chunk, and what is left
 module _ (k : ItemType) (start now : Option (List ℕ)) (ps : List (List Line)) (r : ItemReader) (len : ℕ) (begun : 0 < r.rejected) (segment : (ls : List Line) → take r.rejected (unparsed r.buffer) ≡ concat ls → AreLines ls → IsFirstSegment k ls len) (had : HasParts k start now ps r) where
+  abbrev chunk : IsChunk k r.ended had.0 r.rejected
+  chunk = had.1.chunk begun
+
   abbrev pub first : IsFirstSegment k (had.1.chunk begun).front len
   first =
-      let c = had.1.chunk begun in
-      let text : unparsed r.buffer ≡ concat c.front ++ concat c.back = had.1.buffers.rest_is ∙ ap concat c.whole ∙ concat-append c.front c.back in
-      segment c.front (ap (take r.rejected) text ∙ take_at (concat c.front) (concat c.back) r.rejected c.len_is)
-      (are_front c.front c.back (subst (λ (x : List Line). AreLines x) c.whole (lines_back (all_lines ps) had.0 had.1.lines.are)))
+      let text : unparsed r.buffer ≡ concat chunk.front ++ concat chunk.back = had.1.buffers.rest_is ∙ ap concat chunk.whole ∙ concat-append chunk.front chunk.back in
+      segment chunk.front (ap (take r.rejected) text ∙ take_at (concat chunk.front) (concat chunk.back) r.rejected chunk.len_is)
+      (are_front chunk.front chunk.back (subst (λ (x : List Line). AreLines x) chunk.whole (lines_back (all_lines ps) had.0 had.1.lines.are)))
 
   abbrev pub first_chunk : IsChunk k r.ended had.0 len
-  first_chunk = segment_chunk k r.ended had.0 r.rejected len (had.1.chunk begun) first
+  first_chunk = record { front = first.front; back = first.back ++ chunk.back; whole = chunk.whole ∙ ap (λ (x : List Line). x ++ chunk.back) first.whole ∙ append_assoc first.front first.back chunk.back; len_is = first.len_is; cut = under first.cut chunk.cut }
+    where
+      under : (first.back ≡ []) ⊎ IsCut k first.front first.back → IsCut k chunk.front chunk.back ⊎ ((chunk.back ≡ []) × (r.ended ≡ true)) → IsCut k first.front (first.back ++ chunk.back) ⊎ ((first.back ++ chunk.back ≡ []) × (r.ended ≡ true))
+      under (inl none) (inl cut) =
+          let same : chunk.front ≡ first.front = first.whole ∙ ap (λ (x : List Line). first.front ++ x) none ∙ append-nil first.front in
+          inl (subst (λ (x : List Line). EndsItem k x) same cut.0, subst (λ (x : List Line). Starts (x ++ chunk.back)) (sym none) cut.1)
+      under (inl none) (inr end) = inr ((λ i. none i ++ end.0 i), end.1)
+      under (inr cut) u = inl (cut.0, starts_with_more first.back chunk.back cut.1)
 
-  pub first_left : 0 < r.rejected - len → IsChunk k r.ended first_chunk.back (r.rejected - len)
-  first_left = segment_left k r.ended had.0 r.rejected len (had.1.chunk begun) first
+  pub first_left : 0 < r.rejected - len → IsChunk k r.ended (first.back ++ chunk.back) (r.rejected - len)
+  first_left left =
+      let parts = ap (λ (x : List Line). length (concat x)) first.whole ∙ ap length (concat-append first.front first.back) ∙ length-append (concat first.front) (concat first.back) in
+      let len_is : length (concat first.back) ≡ r.rejected - len = omega (arith, chunk.len_is, first.len_is, parts) in
+      record { front = first.back; back = chunk.back; whole = refl; len_is = len_is; cut = under first.cut chunk.cut len_is }
+    where
+      under : (first.back ≡ []) ⊎ IsCut k first.front first.back → IsCut k chunk.front chunk.back ⊎ ((chunk.back ≡ []) × (r.ended ≡ true)) → length (concat first.back) ≡ r.rejected - len → IsCut k first.back chunk.back ⊎ ((chunk.back ≡ []) × (r.ended ≡ true))
+      under (inl none) u n = let z = ap (λ (x : List Line). length (concat x)) none in absurd (omega arith)
+      under (inr cut) (inl end) n =
+          inl (ends_within k (tokens_of_lines first.front) (tokens_of_lines first.back) (lines_start first.back cut.1) (subst (λ (ts : List Lexeme). LastEnds k ts) (ap tokens_of_lines first.whole ∙ tokens-append first.front first.back) end.0), end.1)
+      under (inr cut) (inr end) n = inr end

@@ -15,7 +15,7 @@ use Rattle.souper_stream.specs.Segments.{Line, concat, AreLines, EndsItem, AreCu
 use Rattle.souper_stream.specs.Reading.{IsStreamTaken, IsStreamRefused}
 use Rattle.souper_stream.specs.Parts.{and_next, HasParts, HasAll, TakesPart, RefusesPart}
 use Rattle.souper_stream.proofs.LineLists.{concat-append, are_front, lines_front, lines_of, none_spelled, prefix_after, prefix_longer}
-use Rattle.souper_stream.proofs.Scanning.{no_tokens}
+use Rattle.souper_stream.proofs.Cutting.{no_tokens}
 use Rattle.souper_stream.proofs.SegmentLaws.{spells_by_parts}
 use Rattle.souper_stream.proofs.Passing.{all_lines_snoc, done_more}
 

@@ -41,12 +41,6 @@ pub record Passes (old : Buffer) (len : ℕ) (new : Buffer) : Type 0 where
   pub part : last_part new ≡ take len (unparsed old)
   pub buffers : (done rest : List ℕ) → Buffers done rest old → Buffers (done ++ take len rest) (drop len rest) new
 
--- what is held is all that is left
-pub record Drains (old new : Buffer) : Type 0 where
-  pub bytes_are : new.bytes.items ≡ held old
-  pub within : new.start + new.parsed ≤ length new.bytes.items
-  pub buffers : (done rest : List ℕ) → Buffers done rest old → Buffers done rest new
-
 -- the parsed lines but the last were dropped, and bytes were read
 pub record KeepsHeld (old new : Buffer) : Type 0 where
   pub more : List ℕ

@@ -1,7 +1,7 @@
 //! The buffer of a stream.
 ghost use Rattle.std.specs.Prelude.{◌≡◌, ℕ, ◌+◌, ◌^◌, ◌<◌, ◌≤◌, List, [], length, take, vec_len, OnOk};
 ghost use Rattle.souper_ir.specs.Places.{newlines};
-ghost use Rattle.souper_stream.specs.Buffering.{Buffers, Counts, held, unparsed, Passes, Drains};
+ghost use Rattle.souper_stream.specs.Buffering.{Buffers, Counts, held, unparsed, Passes};
 
 use crate::lines::last_line_start;
 use souper_ir::parse::Before;
@@ -118,7 +118,9 @@ impl Buffer {
     #[tactic(auto, using(std::proofs::lemmas::List::take_rest, crate::proofs::Buffers::buffers_drained))]
     pub(crate) fn drain(&mut self, alloc: Global) -> Result<(), AllocError>
         requires { self.old.start + self.old.parsed ≤ vec_len self.old.bytes }
-        ensures { OnOk result (Drains self.old self.new) }
+        ensures bytes { OnOk result (self.new.bytes.items ≡ held self.old) }
+        ensures within { OnOk result (self.new.start + self.new.parsed ≤ vec_len self.new.bytes) }
+        ensures buffers { OnOk result ((done rest : List ℕ) → Buffers done rest self.old → Buffers done rest self.new) }
     {
         self.bytes = self.bytes[self.start..].to_vec(alloc)?;
         self.start = 0;

@@ -1,5 +1,5 @@
 use Rattle.std.proofs.Common.{inl}
-use Rattle.souper_stream.proofs.LastCut.{whole_uncut}
+use Rattle.souper_stream.proofs.Cutting.{whole_uncut}
 use Rattle.souper_stream.proofs.cuts.first_cut.Goals as goal
 
 pub returns-in-Ok-2-clause-none : goal.returns-in-Ok-2-clause-none

@@ -1,7 +1,7 @@
 use Rattle.std.proofs.Common.{◌≡◌, inl, inr, ◌∙◌, subst, arith}
 use Rattle.std.proofs.lemmas.List.{take_rest, length-drop}
 use Rattle.souper_stream.specs.Segments.{HasNoCutAfter}
-use Rattle.souper_stream.proofs.LastCut.{placed_first, placed_more, placed_cut, none_after}
+use Rattle.souper_stream.proofs.Cutting.{placed_first, placed_more, placed_cut, none_after}
 use Rattle.souper_stream.proofs.cuts.last_cut_after.Goals as goal
 
 pub loop-len-init : goal.loop-len-init

@@ -1,7 +1,7 @@
 -- The start, or the last cut point that was found.
 use Rattle.std.proofs.Common.{◌≡◌, ◌-◌, ◌≤◌, List, length}
 use Rattle.souper_stream.specs.Segments.{Line, concat, AreLines}
-use Rattle.souper_stream.proofs.LastCut.{Placed}
+use Rattle.souper_stream.proofs.Cutting.{Placed}
 use Rattle.souper_stream.proofs.cuts.last_cut_after.Given as goal
 
 abbrev pub invariant-loop-len : goal.invariant-loop-len

@@ -3,8 +3,7 @@ use Rattle.std.proofs.lemmas.Bool.Decides.{nat_tests}
 use Rattle.std.proofs.lemmas.Result.{err_from_is_err_and}
 use Rattle.souper_stream.specs.Lines.{starts_line}
 use Rattle.souper_stream.specs.Segments.{tokens_of}
-use Rattle.souper_stream.proofs.Scanning.{state_first, scanned_step, no_cut_none, first_cut, first_end, passed_over}
-use Rattle.souper_stream.proofs.LastCut.{bad_line}
+use Rattle.souper_stream.proofs.Cutting.{state_first, scanned_step, no_cut_none, first_cut, first_end, passed_over, bad_line}
 use Rattle.souper_stream.proofs.cuts.segment_len.Goals as goal
 use Rattle.souper_stream.proofs.cuts.segment_len.Goals.{else-state-via-then-state+else-starts_line, else-state-via-else-state}
 

@@ -1,6 +1,6 @@
 use Rattle.std.specs.Prelude.{codes}
 use Rattle.std.proofs.Transfers.{starts_with_trans}
-use Rattle.souper_stream.proofs.Scanning.{absent_front, no_end_words}
+use Rattle.souper_stream.proofs.Cutting.{absent_front, no_end_words}
 use Rattle.souper_stream.proofs.lines.before_end_words.Goals as goal
 
 pub returns-clause-front : goal.returns-clause-front

@@ -1,4 +1,4 @@
-use Rattle.souper_stream.proofs.Scanning.{end_word_some, absent_nowhere, absent_before}
+use Rattle.souper_stream.proofs.Cutting.{end_word_some, absent_nowhere, absent_before}
 use Rattle.souper_stream.proofs.lines.before_word.Goals as goal
 
 pub returns-in-Some-clause-none : goal.returns-in-Some-clause-none

@@ -1,7 +1,7 @@
 use Rattle.std.proofs.Common.{◌≡◌, List, ℕ, true, false, length, sym, ◌∙◌, subst, arith}
 use Rattle.std.proofs.lemmas.List.{take_all}
 use Rattle.souper_stream.specs.Lines.{IsAbsent}
-use Rattle.souper_stream.proofs.Scanning.{absent_nowhere}
+use Rattle.souper_stream.proofs.Cutting.{absent_nowhere}
 use Rattle.souper_stream.proofs.lines.last_occurrence.Goals as goal
 use Rattle.souper_stream.proofs.lines.last_occurrence.Goals.{then-not-ends_with-via-then-not-ends_with, then-not-ends_with-via-else-not-ends_with+then-before_word-bytes}
 

@@ -4,7 +4,7 @@ use Rattle.std.proofs.lemmas.List.{take-take}
 use Rattle.std.proofs.lemmas.Str.{IsUtf8-nil}
 use Rattle.souper_ir.specs.Joining.{IsLines}
 use Rattle.souper_stream.specs.Lines.{NoEndWord}
-use Rattle.souper_stream.proofs.Scanning.{front_take, absent_front, no_end_nil}
+use Rattle.souper_stream.proofs.Cutting.{front_take, absent_front, no_end_nil}
 use Rattle.souper_stream.proofs.lines.len_without_end.Goals as goal
 
 pub returns-in-Ok : goal.returns-in-Ok

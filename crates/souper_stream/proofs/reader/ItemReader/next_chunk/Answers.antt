@@ -11,9 +11,9 @@ loop-turn-init g c =
     let d = c.in_ok-drain.ensures in
     record {
       same = refl;
-      parsed = omega (arith, d.within, c.drain.new.self.bytes.ok);
+      parsed = d.within;
       none = c.requires.none;
-      kept = record { more = []; bytes_are = d.bytes_are ∙ sym (append-nil (held r.buffer)) };
+      kept = record { more = []; bytes_are = d.bytes ∙ sym (append-nil (held r.buffer)) };
       parts = λ start ps (ls, h). (ls, same_read g.T.Item.item_type start (g.R.Read.remaining c.args.reader.now) ps ls r.buffer c.drain.new.self r.ended (is_some r.fault) r.rejected r.rejected d.buffers h h.chunk);
     }
 
