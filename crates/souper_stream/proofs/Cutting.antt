@@ -5,10 +5,10 @@ use Rattle.souper_graph.specs.Syntax.Tokens.{Lexeme, ident, spelling, Begins}
 use Rattle.souper_graph.specs.Syntax.Spelling.{ItemType, kinds}
 use Rattle.souper_ir.specs.NodeReadings.{is_name}
 use Rattle.souper_stream.specs.declared.lines.ScanState.{ScanState}
-use Rattle.souper_stream.specs.Lines.{line_word, is_end_word, defines, shows_line, NoStart, LastEnds, first_state, state_after, scanned, starts_line, end_word, IsAbsent, NoEndWord, PassesOver}
+use Rattle.souper_stream.specs.Lines.{line_word, is_end_word, defines, shows_line, NoStart, LastEnds, first_state, state_after, scanned, starts_line, end_word, IsAbsent, NoEndWord, IsWithoutEnd, PassesOver}
 use Rattle.souper_stream.proofs.Parting.{end_is_line, NoEnd, all_append, no_end_ends, ends_within, starts_longer}
 use Rattle.std.specs.Io.BufRead.{take_through}
-use Rattle.std.proofs.lemmas.List.{nil_from_length, drop_at, get_or_at, drop-drop}
+use Rattle.std.proofs.lemmas.List.{nil_from_length, drop_at, get_or_at, drop-drop, take-take}
 use Rattle.souper_ir.specs.Joining.{IsLines}
 use Rattle.souper_ir.proofs.Items.Parting.{parted_twice}
 use Rattle.souper_stream.specs.Segments.{Line, concat, AreLines, tokens_of, tokens_of_lines, EndsItem, Starts, HasNoCut, IsCut, IsFirstSegment, IsLine, CutsAt, HasNoCutAfter, HasBadLine}
@@ -18,7 +18,7 @@ use Rattle.std.specs.Io.{StartsWith}
 use Rattle.std.specs.Str.{IsCharBoundary}
 use Rattle.std.proofs.Math.Seq.{take-append_seam, drop-append_seam}
 use Rattle.std.proofs.KnownBytes.{starts_with_rest}
-use Rattle.std.proofs.Transfers.{starts_with_of_append}
+use Rattle.std.proofs.Transfers.{starts_with_of_append, starts_with_length}
 use Rattle.std.proofs.lemmas.Bool.{false_from_ne_true}
 use Rattle.std.proofs.lemmas.Slice.Eq.{bytes_eq-Decides}
 use Rattle.std.proofs.lemmas.Str.{IsCharBoundary-after_ascii, IsUtf8-nil, IsUtf8-take, IsUtf8-drop}
@@ -259,6 +259,16 @@ no_end_lines k (l ∷ ls) each utf8 none =
       no_end_tokens k (lexed_of 0 l).tokens 0 l all.rest all.front (λ w e. absent_front w l (l ++ concat ls) (take-append_seam l (concat ls)) (none w e)),
       no_end_lines k ls each.1 rest (λ w e. absent_back w l (concat ls) (none w e)),
     )
+
+pub without_end : (k : ItemType) (bytes front : List ℕ) (len : ℕ) → StartsWith bytes front → NoEndWord k front → len ≤ length front → IsLines (take len front) → IsUtf8 (take len front) → IsWithoutEnd k bytes len
+without_end k bytes front len starts none within lines utf8 =
+    let same : take len front ≡ take len bytes = sym (ap (take len) starts) ∙ take-take len (length front) bytes within in
+    record {
+      within = omega (arith, within, starts_with_length bytes front starts);
+      lines = subst (λ (x : List ℕ). IsLines x) same lines;
+      utf8 = subst (λ (x : List ℕ). IsUtf8 x) same utf8;
+      none = subst (λ (x : List ℕ). NoEndWord k x) same (λ w h. absent_front w (take len front) front (front_take len front) (none w h));
+    }
 
 pub no_end_nil : (k : ItemType) → NoEndWord k []
 no_end_nil k w e front back h = let some = end_word_some k w e in let n = ap length h ∙ length-append front (w ++ back) in let m = length-append w back in absurd (omega arith)

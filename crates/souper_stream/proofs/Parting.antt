@@ -1,5 +1,5 @@
 -- The tokens of items: where lines begin in them and items end; what a text spells is parted at a cut point.
-use Rattle.std.proofs.Common.{◌≡◌, ℕ, ◌<◌, true, false, ◌⊎◌, inl, inr, List, [], ◌∷◌, ◌++◌, length, Option, Some, refl, sym, ap, ◌∙◌, subst, arith, append_assoc, append-nil, length-append}
+use Rattle.std.proofs.Common.{◌≡◌, ℕ, ◌<◌, true, false, ◌⊎◌, inl, inr, List, [], ◌∷◌, ◌++◌, length, Option, refl, sym, ap, ◌∙◌, subst, arith, append_assoc, append-nil, length-append}
 use Rattle.std.specs.Prelude.{codes}
 use Rattle.std.specs.List.{AllByRecursion}
 use Rattle.std.proofs.lemmas.Slice.Eq.{bytes_eq-Decides}
@@ -7,10 +7,9 @@ use Rattle.souper_graph.specs.declared.ast.operands.«Type».{«Type» as Ty}
 use Rattle.souper_graph.specs.declared.ast.operands.Operand.{Operand}
 use Rattle.souper_graph.specs.declared.ast.instructions.Instruction.{Instruction}
 use Rattle.souper_graph.specs.Instructions.{word_of}
-use Rattle.souper_graph.specs.Values.{PlainAttribute, PlainRootAttribute, PlainRhs, PlainStatement, assigned, condition, block_condition, PlainInfer, PlainCand, inferred, resulting, replaced, candidate, Item}
+use Rattle.souper_graph.specs.Values.{PlainAttribute, PlainRootAttribute, PlainRhs, PlainStatement, assigned, condition, block_condition, PlainCand, inferred, resulting, replaced, candidate, Item}
 use Rattle.souper_graph.specs.Syntax.Tokens.{Lexeme, ident, val_name, equals, comma, IsTextOf}
-use Rattle.souper_graph.specs.Syntax.Numbers.{width_of}
-use Rattle.souper_graph.specs.Syntax.Spelling.{kinds, Scope, optional_type_spells, operand_spells, further_spells, operands_spells, pair_spells, rhs_spells, attribute_spells, root_attribute_spells, attributes_spell, root_attributes_spell, statement_spells, infer_spells, cand_spells, result_spells, Statements, ItemType, left_hand_side, right_hand_side, replacement, Tail, tail_spells, item_spells, list_spells, TextSpells}
+use Rattle.souper_graph.specs.Syntax.Spelling.{kinds, Scope, optional_type_spells, operand_spells, further_spells, operands_spells, pair_spells, rhs_spells, attributes_spell, root_attributes_spell, statement_spells, cand_spells, result_spells, Statements, ItemType, left_hand_side, right_hand_side, replacement, Tail, tail_spells, item_spells, list_spells, TextSpells}
 use Rattle.souper_ir.specs.Joining.{IsLines, moved}
 use Rattle.souper_ir.specs.Laws.Steps.{kinds-append}
 use Rattle.souper_ir.specs.Laws.Words.{opcode_is}
@@ -28,9 +27,6 @@ not_last w h = grind arith
 
 not_end : (k : ItemType) (w : List ℕ) → last_word w ≡ false → end_word k w ≡ false
 not_end k w h = grind arith
-
-type_word : (w : List ℕ) (n : ℕ) → width_of w ≡ Some n → line_word w ≡ false
-type_word w n h = grind (arith, bytes_eq-Decides)
 
 instruction_word : (i : Instruction) → line_word (word_of i) ≡ false
 instruction_word i = let o = opcode_is i in grind (arith, bytes_eq-Decides)
@@ -54,26 +50,17 @@ ArePlain ts = AllByRecursion Plain ts
 abbrev pub NoEnd : ItemType → List Lexeme → Type 0
 NoEnd k ts = AllByRecursion (λ t. is_end_word k t ≡ false) ts
 
-plain_start : (t : Lexeme) (ts : List Lexeme) → Plain t → starts_line (t ∷ ts) ≡ false
-plain_start t ts h = grind arith
-
-plain_end : (k : ItemType) (t : Lexeme) → Plain t → is_end_word k t ≡ false
-plain_end k t h = grind (arith, not_end k, not_last)
-
 pub quiet_append : (xs ys : List Lexeme) → ArePlain xs → NoStart ys → NoStart (xs ++ ys)
 quiet_append [] ys p q = q
-quiet_append (x ∷ xs) ys p q = (plain_start x (xs ++ ys) p.0, quiet_append xs ys p.1 q)
+quiet_append (x ∷ xs) ys p q = (grind arith, quiet_append xs ys p.1 q)
 
 plain_no_end : (k : ItemType) (xs : List Lexeme) → ArePlain xs → NoEnd k xs
 plain_no_end k [] p = tt
-plain_no_end k (x ∷ xs) p = (plain_end k x p.0, plain_no_end k xs p.1)
-
-start_no_end : (k : ItemType) (t : Lexeme) (ts : List Lexeme) → starts_line (t ∷ ts) ≡ false → is_end_word k t ≡ false
-start_no_end k t ts h = grind (arith, not_end k, not_last)
+plain_no_end k (x ∷ xs) p = (grind (arith, not_end k, not_last), plain_no_end k xs p.1)
 
 quiet_no_end : (k : ItemType) (ts : List Lexeme) → NoStart ts → NoEnd k ts
 quiet_no_end k [] h = tt
-quiet_no_end k (t ∷ ts) h = (start_no_end k t ts h.0, quiet_no_end k ts h.1)
+quiet_no_end k (t ∷ ts) h = (grind (arith, not_end k, not_last), quiet_no_end k ts h.1)
 
 pub no_end_ends : (k : ItemType) (before after : List Lexeme) (w : List ℕ) → NoEnd k (before ++ ident w ∷ after) → end_word k w ≡ true → ⊥
 no_end_ends k [] after w none h = let no = none.0 in cc
@@ -114,7 +101,7 @@ ends_within k xs ys s h = elim (parted_twice h.before (ident h.word ∷ h.after)
 -- ---- operands
 
 optional_type_plain : (o : Option Ty) (ts : List Lexeme) → optional_type_spells o ts → ArePlain ts
-optional_type_plain o ts h = grind (arith, type_word)
+optional_type_plain o ts h = grind (arith, bytes_eq-Decides)
 
 operand_no_end : (k : ItemType) (s : Scope) (x : Operand) (ts : List Lexeme) → operand_spells s x ts → NoEnd k ts
 operand_no_end k s x ts h = grind (arith, optional_type_plain, plain_no_end k)
@@ -144,30 +131,21 @@ pair_no_end k s x y ts h = rw h.whole (all_append (λ t. is_end_word k t ≡ fal
 rhs_no_end : (k : ItemType) (s : Scope) (v : PlainRhs) (ts : List Lexeme) → rhs_spells s v ts → NoEnd k ts
 rhs_no_end k s v ts h = grind (arith, further_no_end k, operands_no_end k, not_end k, not_last, instruction_word)
 
-attribute_plain : (a : PlainAttribute) (ts : List Lexeme) → attribute_spells a ts → ArePlain ts
-attribute_plain a ts h = grind arith
-
 attributes_plain : (xs : List PlainAttribute) (ts : List Lexeme) → attributes_spell xs ts → ArePlain ts
 attributes_plain [] ts h = rw h tt
-attributes_plain (x ∷ xs) ts h = rw h.whole (all_append Plain h.prefix h.suffix (attribute_plain x h.prefix h.first) (attributes_plain xs h.suffix h.second))
-
-root_attribute_plain : (a : PlainRootAttribute) (ts : List Lexeme) → root_attribute_spells a ts → ArePlain ts
-root_attribute_plain a ts h = grind arith
+attributes_plain (x ∷ xs) ts h = rw h.whole (all_append Plain h.prefix h.suffix (grind arith) (attributes_plain xs h.suffix h.second))
 
 pub root_attributes_plain : (xs : List PlainRootAttribute) (ts : List Lexeme) → root_attributes_spell xs ts → ArePlain ts
 root_attributes_plain [] ts h = rw h tt
-root_attributes_plain (x ∷ xs) ts h = rw h.whole (all_append Plain h.prefix h.suffix (root_attribute_plain x h.prefix h.first) (root_attributes_plain xs h.suffix h.second))
-
-root_attribute_not_defines : (a : PlainRootAttribute) (ts ys : List Lexeme) → root_attribute_spells a ts → defines (ts ++ ys) ≡ false
-root_attribute_not_defines a ts ys h = grind arith
+root_attributes_plain (x ∷ xs) ts h = rw h.whole (all_append Plain h.prefix h.suffix (grind arith) (root_attributes_plain xs h.suffix h.second))
 
 pub root_attributes_not_define : (xs : List PlainRootAttribute) (ts : List Lexeme) → root_attributes_spell xs ts → defines ts ≡ false
 root_attributes_not_define [] ts h = rw h refl
-root_attributes_not_define (x ∷ xs) ts h = rw h.whole (root_attribute_not_defines x h.prefix h.suffix h.first)
+root_attributes_not_define (x ∷ xs) ts h = rw h.whole (grind arith)
 
 pub plain_quiet : (xs : List Lexeme) → ArePlain xs → NoStart xs
 plain_quiet [] p = tt
-plain_quiet (x ∷ xs) p = (plain_start x xs p.0, plain_quiet xs p.1)
+plain_quiet (x ∷ xs) p = (grind arith, plain_quiet xs p.1)
 
 -- ---- statements
 
@@ -181,10 +159,6 @@ statement_no_end k s (assigned a) ts h =
 statement_no_end k s (condition p) ts h = rw h.1 (not_end k (codes "pc") refl, pair_no_end k s p.x p.y h.0 h.2)
 statement_no_end k s (block_condition p) ts h = rw h.whole (not_end k (codes "blockpc") refl, (refl, (refl, pair_no_end k s p.x p.y h.rest h.operands_spelled)))
 
--- a line starts with a statement
-statement_starts : (s : Scope) (v : PlainStatement) (ts ys : List Lexeme) → statement_spells s v ts → starts_line (ts ++ ys) ≡ true
-statement_starts s v ts ys h = grind arith
-
 statements_no_end : (k : ItemType) (s : Scope) (vs : List PlainStatement) (ts : List Lexeme) → Statements s vs ts → NoEnd k ts
 statements_no_end k s [] ts h = rw h tt
 statements_no_end k s (v ∷ vs) ts h = rw h.whole (all_append (λ t. is_end_word k t ≡ false) h.prefix h.suffix (statement_no_end k s v h.prefix h.first) (statements_no_end k (s ++ v ∷ []) vs h.suffix h.second))
@@ -192,9 +166,6 @@ statements_no_end k s (v ∷ vs) ts h = rw h.whole (all_append (λ t. is_end_wor
 -- ---- last lines
 
 -- after the word no line starts
-infer_quiet : (s : Scope) (i : PlainInfer) (ts : List Lexeme) (h : infer_spells s i ts) → NoStart (val_name h.name ∷ h.attributes)
-infer_quiet s i ts h = (root_attributes_not_define i.attributes h.attributes h.attributes_spelled, plain_quiet h.attributes (root_attributes_plain i.attributes h.attributes h.attributes_spelled))
-
 result_quiet : (s : Scope) (r : Operand) (ts : List Lexeme) (h : result_spells s r ts) → NoStart h.0
 result_quiet s r ts h = subst (λ (x : List Lexeme). NoStart x) (append-nil h.0) (operand_quiet s r h.0 [] h.2 refl tt)
 
@@ -221,7 +192,7 @@ record EndsOnce (k : ItemType) (ts : List Lexeme) : Type 0 where
 
 tail_ends : (k : ItemType) (s : Scope) (y : Tail) (ts : List Lexeme) → tail_spells k s y ts → EndsOnce k ts
 tail_ends left_hand_side s (new, inferred i) ts h =
-    record { head = []; word = codes "infer"; others = val_name h.1.name ∷ h.1.attributes; whole = h.1.whole; no_end = tt; ends = refl; quiet = infer_quiet s i ts h.1 }
+    record { head = []; word = codes "infer"; others = val_name h.1.name ∷ h.1.attributes; whole = h.1.whole; no_end = tt; ends = refl; quiet = (root_attributes_not_define i.attributes h.1.attributes h.1.attributes_spelled, plain_quiet h.1.attributes (root_attributes_plain i.attributes h.1.attributes h.1.attributes_spelled)) }
 tail_ends right_hand_side s (new, resulting r) ts h = record { head = []; word = codes "result"; others = h.1.0; whole = h.1.1; no_end = tt; ends = refl; quiet = result_quiet s r ts h.1 }
 tail_ends replacement s (new, replaced i r) ts h =
     let line = h.infer_spelled in
@@ -263,18 +234,15 @@ one_end k (y ∷ head) (x ∷ pre) others more v w a b h e = let tails : head ++
 
 -- ---- where an item begins
 
-tail_starts : (k : ItemType) (s : Scope) (y : Tail) (ts ys : List Lexeme) → tail_spells k s y ts → starts_line (ts ++ ys) ≡ true
-tail_starts k s y ts ys h = grind arith
-
 head_starts : (k : ItemType) (s : Scope) (vs : List PlainStatement) (head tail ys : List Lexeme) → Statements s vs head → ((zs : List Lexeme) → starts_line (tail ++ zs) ≡ true) → starts_line ((head ++ tail) ++ ys) ≡ true
 head_starts k s [] head tail ys m t = rw m (t ys)
 head_starts k s (v ∷ vs) head tail ys m t =
     let parts : (head ++ tail) ++ ys ≡ m.prefix ++ ((m.suffix ++ tail) ++ ys) =
     ap (λ (x : List Lexeme). (x ++ tail) ++ ys) m.whole ∙ ap (λ (x : List Lexeme). x ++ ys) (append_assoc m.prefix m.suffix tail) ∙ append_assoc m.prefix (m.suffix ++ tail) ys in
-    rw parts (statement_starts s v m.prefix ((m.suffix ++ tail) ++ ys) m.first)
+    rw parts (grind arith)
 
 item_starts : (k : ItemType) (a : Item) (ts ys : List Lexeme) → item_spells k a ts → starts_line (ts ++ ys) ≡ true
-item_starts k a ts ys h = rw h.whole (head_starts k [] h.first h.head h.tail ys h.head_spelled (λ zs. tail_starts k h.first (h.last, a.ending) h.tail zs h.tail_spelled))
+item_starts k a ts ys h = rw h.whole (head_starts k [] h.first h.head h.tail ys h.head_spelled (λ zs. grind arith))
 
 list_starts : (k : ItemType) (ws : List Item) (ts : List Lexeme) → list_spells k ws ts → (ts ≡ []) ⊎ (starts_line ts ≡ true)
 list_starts k [] ts h = inl h

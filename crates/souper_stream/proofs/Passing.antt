@@ -21,11 +21,10 @@ use Rattle.souper_stream.specs.Segments.{Line, concat, IsLine, AreLines, tokens_
 use Rattle.souper_stream.specs.Starts.{ItemsStartAt}
 use Rattle.souper_stream.specs.Parts.{IsChunk, and_next, HasLines, HasRead, HasParts, HasAll, Advances, AreNextStarts, Holds, keeps_starts, TakesPart, RefusesPart}
 use Rattle.souper_stream.specs.Reading.{AreAll, NeverSpells}
-use Rattle.souper_stream.proofs.Buffers.{all_after, buffers_more, buffers_located, buffers_placed}
+use Rattle.souper_stream.proofs.Buffers.{all_after, buffers_more, buffers_located, buffers_placed, text_spells, prefix_spells, kept_now}
 use Rattle.souper_stream.proofs.LineLists.{starts_not_none, starts_with_more, concat-append, tokens-append, lines-append, are_front, lines_front, lines_back, lines_of, no_bytes, lines_whole, lines_exist}
 use Rattle.souper_stream.proofs.SegmentLaws.{lines_start, none_with}
 use Rattle.souper_stream.proofs.Parting.{all_append, ends_within}
-use Rattle.souper_stream.proofs.Starting.{text_spells, prefix_spells, kept_now}
 
 -- ---- lists of lines and of parts
 
@@ -110,7 +109,7 @@ pub same_read : (k : ItemType) (start now : Option (List ℕ)) (ps : List (List 
     → HasRead k start now ps ls c ended failed next
 same_read k start now ps ls b c ended failed rejected next same h chunk = record { lines = h.lines; buffers = same (concat (all_lines ps)) (concat ls) h.buffers; cut = h.cut; some = h.some; chunk = chunk }
 
--- a chunk is next: it ends at a cut point, or with the stream
+-- a chunk is next: it ends at a cut point
 pub next_cut : (k : ItemType) (start now : Option (List ℕ)) (ps : List (List Line)) (r : ItemReader) (cut : ℕ) → HasParts k start now ps r → (0 < cut → (ls : List Line) → unparsed r.buffer ≡ concat ls → AreLines ls → CutsAt k ls cut) → HasParts k start now ps (record r { rejected = cut })
 next_cut k start now ps r cut (ls, h) cuts = (
   ls,
@@ -123,20 +122,18 @@ next_cut k start now ps r cut (ls, h) cuts = (
   }),
 )
 
-module _ (k : ItemType) (start now : Option (List ℕ)) (ps : List (List Line)) (r : ItemReader) (len : ℕ) (had : HasParts k start now ps r) (ended : r.ended ≡ true) (len_is : len ≡ length (unparsed r.buffer)) where
-  pub next_end : HasParts k start now ps (record r { rejected = len })
-  next_end =
-      let (ls, h) = had in
-      let long = ap length h.buffers.rest_is in
-      (ls, same_read k start now ps ls r.buffer r.buffer r.ended (is_some r.fault) r.rejected len (λ done rest b. b) h (λ some. record { front = ls; back = []; whole = sym (append-nil ls); len_is = omega arith; cut = inr (refl, ended) }))
-
-  pub all_parts : len ≡ 0 → HasAll k start now ps
-  all_parts none =
-      let (ls, h) = had in
-      let nil = no_bytes ls (lines_back (all_lines ps) ls h.lines.are) (omega (arith, ap length h.buffers.rest_is)) in
-      let same : all_lines ps ++ ls ≡ all_lines ps = ap (λ (x : List Line). all_lines ps ++ x) nil ∙ append-nil (all_lines ps) in
-      let parts : AreParts k (concat (all_lines ps ++ ls)) ps = record { whole = ap concat same; lines = are_front (all_lines ps) ls h.lines.are; cut = subst (λ (x : List Line). AreCut k (and_next ps x)) nil h.cut } in
-      (concat (all_lines ps ++ ls), (all_consumed start now (all_lines ps ++ ls) r.ended (is_some r.fault) h.lines (h.lines.not_failed ended)).1, h.lines.all_read ended, parts)
+-- or with the stream, which has nothing left if the chunk is empty
+pub next_end : (k : ItemType) (start now : Option (List ℕ)) (ps : List (List Line)) (r : ItemReader) (len : ℕ) → HasParts k start now ps r → r.ended ≡ true → len ≡ length (unparsed r.buffer) → HasParts k start now ps (record r { rejected = len }) × (len ≡ 0 → HasAll k start now ps)
+next_end k start now ps r len (ls, h) ended len_is =
+    let long = ap length h.buffers.rest_is in
+    let chunk = same_read k start now ps ls r.buffer r.buffer r.ended (is_some r.fault) r.rejected len (λ done rest b. b) h (λ some. record { front = ls; back = []; whole = sym (append-nil ls); len_is = omega arith; cut = inr (refl, ended) }) in
+    ((ls, chunk), λ none. all (no_bytes ls (lines_back (all_lines ps) ls h.lines.are) (omega arith)))
+  where
+    all : ls ≡ [] → HasAll k start now ps
+    all nil =
+        let same : all_lines ps ++ ls ≡ all_lines ps = ap (λ (x : List Line). all_lines ps ++ x) nil ∙ append-nil (all_lines ps) in
+        let parts : AreParts k (concat (all_lines ps ++ ls)) ps = record { whole = ap concat same; lines = are_front (all_lines ps) ls h.lines.are; cut = subst (λ (x : List Line). AreCut k (and_next ps x)) nil h.cut } in
+        (concat (all_lines ps ++ ls), (all_consumed start now (all_lines ps ++ ls) r.ended (is_some r.fault) h.lines (h.lines.not_failed ended)).1, h.lines.all_read ended, parts)
 
 -- ---- a refused part
 

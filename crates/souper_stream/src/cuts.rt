@@ -77,19 +77,19 @@ fn first_cut<T: StreamItem>(text: &[u8]) -> Option<usize>
     }
 }
 
-// The last cut point of the text after a line that begins at `start`, or 0 if none is there.
+// The last cut point of the text after a line that begins at `start`, or `start` if none is there.
 fn last_cut_after<T: StreamItem>(text: &[u8], start: usize) -> usize
     requires within { start ≤ length text.now }
     requires lines { IsLines (take start text.now) }
     ensures within { result ≤ length text.now }
-    ensures cut { 0 < result → (ls : List Line) → text.now ≡ concat ls → AreLines ls → CutsAt T.item_type ls result }
-    ensures last { IsUtf8 text.now → (0 < result) ⊎ (start ≡ 0) → (ls : List Line) → text.now ≡ concat ls → AreLines ls → HasNoCutAfter T.item_type ls result }
+    ensures cut { start < result → (ls : List Line) → text.now ≡ concat ls → AreLines ls → CutsAt T.item_type ls result }
+    ensures last { IsUtf8 text.now → (result ≡ 0) ⊎ (start < result) → (ls : List Line) → text.now ≡ concat ls → AreLines ls → HasNoCutAfter T.item_type ls result }
 {
     let mut cut = start;
     while let Some(len) = first_cut::<T>(&text[cut..]) {
         cut += len;
     }
-    if cut > start { cut } else { 0 }
+    cut
 }
 
 /// The offset of the last cut point of whole lines, in bytes, or 0 if there is none. What is before it spells items if each of its segments
@@ -110,7 +110,7 @@ pub fn last_cut<T: StreamItem>(text: &[u8]) -> usize
     };
     while start > 0 {
         let cut = last_cut_after::<T>(text, start);
-        if cut > 0 {
+        if cut > start {
             return cut;
         }
         let len = (text.len() - start).saturating_mul(4);

@@ -24,18 +24,6 @@ fn is_line_word(word: &str) -> bool
     is_last || (word == "pc" || word == "blockpc")
 }
 
-// Whether the token shows that a line begins: at its word, or at what defines the name before it.
-fn shows_line(named: bool, token: Token<'_>) -> bool
-    ensures { result ≡ shows_line named (lexeme_of token.entry) }
-{
-    match token {
-        Token::Ident(word) => is_line_word(word),
-        Token::Eq => named,
-        Token::Colon => named,
-        _ => false,
-    }
-}
-
 // The next token. It is lexed as the parser lexes it, so that a program has one caller of `Lexer::next_token`.
 fn next_token<'a>(lexer: &mut Lexer<'a>) -> Result<Option<(usize, Token<'a>)>, Fault>
     ensures { Yields lexer.old result lexer.new }
@@ -43,16 +31,6 @@ fn next_token<'a>(lexer: &mut Lexer<'a>) -> Result<Option<(usize, Token<'a>)>, F
     let (mut ahead, mut offset) = (None, 0);
     lexer.lex(&mut ahead, &mut offset)?;
     Ok(ahead)
-}
-
-// Whether the token is a word that begins a terminator.
-fn is_end_word<T: StreamItem>(token: Token<'_>) -> bool
-    ensures { result ≡ is_end_word T.item_type (lexeme_of token.entry) }
-{
-    match token {
-        Token::Ident(word) => T::ends_with(word),
-        _ => false,
-    }
 }
 
 /// The scanner state after a sequence of tokens.
@@ -76,14 +54,15 @@ impl ScanState {
         }
     }
 
-    // The state after one token more.
+    // The state after one token more. A line begins at its word, or at what defines the name before it.
     fn after<T: StreamItem>(self, token: Token<'_>) -> ScanState
         ensures { result ≡ state_after T.item_type self (lexeme_of token.entry) }
     {
-        let ends_item = if shows_line(self.after_name, token) {
-            is_end_word::<T>(token)
-        } else {
-            self.ends_item
+        let ends_item = match token {
+            Token::Ident(word) if is_line_word(word) => T::ends_with(word),
+            Token::Eq if self.after_name => false,
+            Token::Colon if self.after_name => false,
+            _ => self.ends_item,
         };
         ScanState {
             after_name: matches!(&token, Token::ValName(_)),
@@ -187,26 +166,18 @@ fn before_word<'a, T: StreamItem>(bytes: &'a [u8], word: &str) -> &'a [u8]
     }
 }
 
-// The bytes before the words that items of the type end with, be they in a token or in a comment, and how many bytes were searched for
-// the first of the words.
-fn before_end_words<T: StreamItem>(bytes: &[u8]) -> (&[u8], usize)
-    ensures front { StartsWith bytes.now result.0.now }
-    ensures none { NoEndWord T.item_type result.0.now }
-{
-    let bytes = before_word::<T>(bytes, "infer");
-    let bytes = before_word::<T>(bytes, "result");
-    (before_word::<T>(bytes, "cand"), bytes.len())
-}
-
 // The most bytes that are searched at once: an item may end with a word that is nowhere in the buffer, and another that comes soon.
 const WINDOW: usize = 512;
 
 /// The length of lines that the bytes begin with, in which the words that items of the type end with do not occur, and how many bytes were
-/// searched for such a word. 0 if the lines are not UTF-8: the line at fault is then found line by line.
+/// searched for the first of the words. 0 if the lines are not UTF-8: the line at fault is then found line by line.
 pub(crate) fn len_without_end<T: StreamItem>(bytes: &[u8]) -> (usize, usize)
     ensures { IsWithoutEnd T.item_type bytes.now result.0 }
 {
-    let (front, searched) = before_end_words::<T>(&bytes[..bytes.len().min(WINDOW)]);
+    let front = before_word::<T>(&bytes[..bytes.len().min(WINDOW)], "infer");
+    let front = before_word::<T>(front, "result");
+    let searched = front.len();
+    let front = before_word::<T>(front, "cand");
     let len = lines_len(front);
     match utf8(&front[..len]) {
         Ok(_) => (len, searched),

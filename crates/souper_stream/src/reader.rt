@@ -236,9 +236,8 @@ impl ItemReader {
         requires parsed { self.old.buffer.start + self.old.buffer.parsed ≤ vec_len self.old.buffer.bytes }
         requires none { self.old.rejected ≡ 0 }
         ensures same { keeps_starts self.new ≡ keeps_starts self.old }
-        ensures next { OnOk result (KeepsParts T.item_type (R.remaining reader.old) (R.remaining reader.new) self.old self.new) }
-        ensures ended { OnOk result (self.new.rejected ≡ 0 → (start : Option (List ℕ)) (ps : List (List Line)) → HasParts T.item_type start (R.remaining reader.old) ps self.old
-            → HasAll T.item_type start (R.remaining reader.new) ps) }
+        ensures next { OnOk result ((start : Option (List ℕ)) (ps : List (List Line)) → HasParts T.item_type start (R.remaining reader.old) ps self.old
+            → HasParts T.item_type start (R.remaining reader.new) ps self.new × (self.new.rejected ≡ 0 → HasAll T.item_type start (R.remaining reader.new) ps)) }
         ensures within { OnOk result (self.new.buffer.start + self.new.buffer.parsed + self.new.rejected ≤ vec_len self.new.buffer.bytes) }
         ensures kept { OnOk result (KeepsHeld self.old.buffer self.new.buffer) }
     {

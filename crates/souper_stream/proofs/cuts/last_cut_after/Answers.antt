@@ -1,6 +1,5 @@
-use Rattle.std.proofs.Common.{◌≡◌, inl, inr, ◌∙◌, subst, arith}
+use Rattle.std.proofs.Common.{◌∙◌, arith}
 use Rattle.std.proofs.lemmas.List.{take_rest, length-drop}
-use Rattle.souper_stream.specs.Segments.{HasNoCutAfter}
 use Rattle.souper_stream.proofs.Cutting.{placed_first, placed_more, placed_cut, none_after}
 use Rattle.souper_stream.proofs.cuts.last_cut_after.Goals as goal
 
@@ -18,19 +17,11 @@ loop-len-preserved g c =
       placed = λ ls e lines. placed_more g.T.Item.item_type ls text c.args.start cut e lines (inv.placed ls e lines) c.in-Some.len (λ ms f h. c.in-Some.ensures.cut ms (take_rest text cut ∙ f) h) (omega (arith, length-drop cut text));
     }
 
-pub returns-then-cut-start-clause-cut : goal.returns-then-cut-start-clause-cut
-returns-then-cut-start-clause-cut g c = λ some ls e lines. placed_cut g.T.Item.item_type ls c.args.text.now c.args.start c.loop-len.cut e lines (c.loop-len.invariant.placed ls e lines) c.if-cut-start.true
+pub returns-clause-cut : goal.returns-clause-cut
+returns-clause-cut g c = λ some ls e lines. placed_cut g.T.Item.item_type ls c.args.text.now c.args.start c.loop-len.cut e lines (c.loop-len.invariant.placed ls e lines) some
 
-pub returns-then-cut-start-clause-last : goal.returns-then-cut-start-clause-last
-returns-then-cut-start-clause-last g c = λ utf8 some ls e lines.
+pub returns-clause-last : goal.returns-clause-last
+returns-clause-last g c = λ utf8 at ls e lines.
     let text = c.args.text.now in
     let cut = c.loop-len.cut in
-    none_after g.T.Item.item_type ls text c.args.start cut e lines (c.loop-len.invariant.placed ls e lines) utf8 (inr c.if-cut-start.true) (λ ms f h. c.in_default.ensures.none ms (take_rest text cut ∙ f) h)
-
-pub returns-else-cut-start-clause-last : goal.returns-else-cut-start-clause-last
-returns-else-cut-start-clause-last g c = λ utf8 some ls e lines.
-    let text = c.args.text.now in
-    let cut = c.loop-len.cut in
-    let none : cut ≡ 0 = elim some [ inl l ↦ omega (arith, l) | inr start ↦ omega (arith, start, c.if-cut-start.false) ] in
-    subst (λ n. HasNoCutAfter g.T.Item.item_type ls n) none
-    (none_after g.T.Item.item_type ls text c.args.start cut e lines (c.loop-len.invariant.placed ls e lines) utf8 (inl none) (λ ms f h. c.in_default.ensures.none ms (take_rest text cut ∙ f) h))
+    none_after g.T.Item.item_type ls text c.args.start cut e lines (c.loop-len.invariant.placed ls e lines) utf8 at (λ ms f h. c.in_default.ensures.none ms (take_rest text cut ∙ f) h)

@@ -16,13 +16,11 @@ loop-state-init g c = record {
 
 pub loop-state-preserved : goal.loop-state-preserved
 loop-state-preserved g c =
-    let k = g.T.Item.item_type in
     let rest = c.loop-state.rest.now in
     let n = c.first_line_len.result in
-    let first = c.first_line_len.ensures in
     let over = c.pass_without_end.ensures in
     let some : 0 < length rest = grind (arith, nat_tests, c.is_empty.ensures, c.loop-state-test.true) in
-    let less : length c.pass_without_end.result.0.now < length c.args.text.now = omega (arith, c.loop-state.invariant.within, c.split_at.ensures.back_len, over.within, first.some) in
+    let less : length c.pass_without_end.result.0.now < length c.args.text.now = omega (arith, c.loop-state.invariant.within, c.split_at.ensures.back_len, over.within, c.first_line_len.ensures.some) in
     let line : c.in_ok-line.line.now ≡ take n rest = c.in_ok-line.ensures.same ∙ c.split_at.ensures.front in
     let not_both : c.loop-state.state.ends_item ≡ true → starts_line (tokens_of (take n rest)) ≡ true → ⊥ =
     elim c.else-state.branch [
@@ -32,8 +30,8 @@ loop-state-preserved g c =
     record {
       within = omega arith;
       begun = λ e. less;
-      scanned = λ ls e lines. passed_over k ls c.split_at.result.1.now c.pass_without_end.result.0.now c.scan_line-state.result lines
-          (rw (c.split_at.ensures.back, c.scan_line-state.ensures, line) (scanned_step k ls rest c.loop-state.state lines (c.loop-state.invariant.scanned ls e lines) n some first.line not_both)) over.over;
+      scanned = λ ls e lines. passed_over g.T.Item.item_type ls c.split_at.result.1.now c.pass_without_end.result.0.now c.scan_line-state.result lines
+          (rw (c.split_at.ensures.back, c.scan_line-state.ensures, line) (scanned_step g.T.Item.item_type ls rest c.loop-state.state lines (c.loop-state.invariant.scanned ls e lines) n some c.first_line_len.ensures.line not_both)) over.over;
     }
 
 pub returns-then-starts_line-clause-segment : goal.returns-then-starts_line-clause-segment

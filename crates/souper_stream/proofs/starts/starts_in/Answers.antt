@@ -1,5 +1,5 @@
 use Rattle.std.proofs.Common.{rules, ◌<◌, length, arith}
-use Rattle.souper_stream.proofs.Starting.{none_told, to_end, one_told, all_told}
+use Rattle.souper_stream.proofs.Buffers.{none_told, to_end, one_told, all_told}
 use Rattle.souper_stream.proofs.starts.starts_in.Goals as goal
 
 pub loop-offset-init : goal.loop-offset-init

@@ -1,7 +1,7 @@
 use Rattle.std.proofs.Common.{◌∙◌, [], length, is_some, refl, sym, ap, arith, append-nil}
 use Rattle.souper_stream.specs.declared.reader.ItemReader.{ItemReader}
 use Rattle.souper_stream.specs.Buffering.{held}
-use Rattle.souper_stream.proofs.Passing.{same_read, next_cut, next_end, all_parts}
+use Rattle.souper_stream.proofs.Passing.{same_read, next_cut, next_end}
 use Rattle.souper_stream.proofs.Buffers.{keeps_more}
 use Rattle.souper_stream.proofs.reader.ItemReader.next_chunk.Goals as goal
 
@@ -22,15 +22,11 @@ returns-then-self-clause-next g c = λ start ps had.
     let k = g.T.Item.item_type in
     next_end k start (g.R.Read.remaining c.read_more.new.reader) ps c.read_more.new.self (length c.unparsed.result.now) (c.in_ok-read_more.ensures.read k start ps (c.loop-turn.invariant.parts start ps had)) c.if-self.true (ap length c.unparsed.ensures)
 
-pub returns-then-self-clause-ended : goal.returns-then-self-clause-ended
-returns-then-self-clause-ended g c = λ none start ps had.
-    let k = g.T.Item.item_type in
-    all_parts k start (g.R.Read.remaining c.read_more.new.reader) ps c.read_more.new.self (length c.unparsed.result.now) (c.in_ok-read_more.ensures.read k start ps (c.loop-turn.invariant.parts start ps had)) c.if-self.true (ap length c.unparsed.ensures) none
-
 pub returns-then-self-gt0-clause-next : goal.returns-then-self-gt0-clause-next
 returns-then-self-gt0-clause-next g c = λ start ps had.
     let k = g.T.Item.item_type in
-    next_cut k start (g.R.Read.remaining c.read_more.new.reader) ps c.read_more.new.self c.last_cut-self.result (c.in_ok-read_more.ensures.read k start ps (c.loop-turn.invariant.parts start ps had)) (λ some ls e lines. c.last_cut-self.ensures.cut some ls (c.unparsed-in-loop-turn.ensures ∙ e) lines)
+    let next = next_cut k start (g.R.Read.remaining c.read_more.new.reader) ps c.read_more.new.self c.last_cut-self.result (c.in_ok-read_more.ensures.read k start ps (c.loop-turn.invariant.parts start ps had)) (λ some ls e lines. c.last_cut-self.ensures.cut some ls (c.unparsed-in-loop-turn.ensures ∙ e) lines) in
+    (next, λ none. absurd (omega arith))
 
 pub loop-turn-preserved : goal.loop-turn-preserved
 loop-turn-preserved g c = record {

@@ -1,7 +1,7 @@
 use Rattle.std.proofs.Common.{take, ap, ◌∙◌}
 use Rattle.std.proofs.lemmas.Result.{IfErr-weaker, on_ok_weaker}
 use Rattle.souper_ir.specs.Starts.{TextSpellsFrom, PrefixSpellsFrom}
-use Rattle.souper_stream.proofs.Starting.{items_over, within_text, text_ascends, prefix_ascends}
+use Rattle.souper_stream.proofs.Buffers.{items_over, within_text, text_ascends, prefix_ascends}
 use Rattle.souper_stream.proofs.reader.ItemReader.read_text.Goals as goal
 
 pub returns-clause-refused : goal.returns-clause-refused
