@@ -88,10 +88,6 @@ line_reads (Some xs) old new last starts longer last_is b other =
       | inr rest ↦ sym (same ∙ rest)
     ]
 
--- at the end of the input the buffer is empty
-pub all_shown : (known : Option (List ℕ)) (shown : List ℕ) (n : ℕ) → length shown ≡ 0 → IfSome known (λ xs. length shown ≡ 0 → xs ≡ []) → AreAll known (take n shown)
-all_shown known shown n none h = grind (arith, take_all {A = ℕ})
-
 pub newlines-append : (xs ys : List ℕ) → newlines (xs ++ ys) ≡ newlines xs + newlines ys
 newlines-append xs ys = sum_by-append (λ b. cond (b == 10) 1 0) xs ys
 
@@ -271,9 +267,6 @@ prefix_spells k bs items starts (ts, rest, begun, each) = (ts, rest, begun, each
 
 -- ---- offsets that a memory has, if it is asked
 
-pub kept_there : (a m : Memory) (P : List ℕ → Type 0) (offsets : List ℕ) → HasStarts a m offsets → P offsets → IfSome (starts_of m) P
-kept_there a m P offsets h p = rw h (elim (starts_of a) as (λ o. IfSome (option_map (λ before. offsets) o) P) [ None ↦ tt | Some before ↦ p ])
-
 pub kept_now : (a m : Memory) (P : List ℕ → Type 0) (offsets : List ℕ) → HasStarts a m offsets → IfSome (starts_of m) P → is_some (starts_of m) ≡ true → P offsets
 kept_now a m P offsets h p asked = elim (starts_of a) as (λ o. IfSome (option_map (λ before. offsets) o) P → is_some (option_map (λ before. offsets) o) ≡ true → P offsets) [ None ↦ (λ p e. absurd cc) | Some before ↦ (λ p e. p) ] (rw h at p) (rw h at asked)
 
@@ -282,11 +275,6 @@ kept_now a m P offsets h p asked = elim (starts_of a) as (λ o. IfSome (option_m
 pub ascend_within : (from : ℕ) (offsets : List ℕ) (to : ℕ) → Ascend from offsets to → from ≤ to
 ascend_within from [] to a = a
 ascend_within from (offset ∷ offsets) to a = let first = a.0 in let last = ascend_within offset offsets to a.1 in omega arith
-
-pub lines_more : (done part : List ℕ) (from to : ℕ) → from ≤ to → newlines (done ++ take to part) ≡ newlines (done ++ take from part) + newlines (take (to - from) (drop from part))
-lines_more done part from to le =
-    let there : take to part ≡ take from part ++ take (to - from) (drop from part) = ap (λ (n : ℕ). take n part) (omega arith) ∙ take-add from (to - from) part in
-    ap (λ (x : List ℕ). newlines (done ++ x)) there ∙ ap newlines (sym (append_assoc done (take from part) (take (to - from) (drop from part)))) ∙ newlines-append (done ++ take from part) (take (to - from) (drop from part))
 
 -- the offsets that are left ascend from the last one on, and with their starts all are told
 pub record Told (before : Before) (part offsets : List ℕ) (index passed lines : ℕ) (starts : List Start) : Type 0 where
@@ -313,7 +301,8 @@ module _ (before : Before) (part offsets : List ℕ) (index passed lines : ℕ) 
     are = λ done counts small. (
         let t = told.are done counts small in
         let long = length-append done part in
-        let step = lines_more done part passed offset from_there.0 in
+        let seam : take offset part ≡ take passed part ++ take (offset - passed) (drop passed part) = ap (λ (n : ℕ). take n part) (let n : offset ≡ passed + (offset - passed) = omega (arith, from_there.0) in n) ∙ take-add passed (offset - passed) part in
+        let step = ap (λ (x : List ℕ). newlines (done ++ x)) seam ∙ ap newlines (sym (append_assoc done (take passed part) (take (offset - passed) (drop passed part)))) ∙ newlines-append (done ++ take passed part) (take (offset - passed) (drop passed part)) in
         let few = count_by-le-length (λ b. b == 10) (done ++ take offset part) in
         let short = length-append done (take offset part) in
         let cut = length-take offset part in
@@ -335,7 +324,8 @@ pub within_text : {S : Type 0} (holds : S → S → List Item → Type 0) (spell
     → ((items : List Item) (starts : List ℕ) → spells items starts → Ascend 0 starts (length text)) → TakesFrom holds spells (HasStarts a m) old new → IfSome (starts_of m) (λ offsets. Ascend 0 offsets len)
 within_text holds spells text b len a m old new within is ascends t =
     let long : length text ≡ len = omega (arith, within, b.bytes.ok, ap length is, length-take len (unparsed b), length-drop b.start b.bytes.items, length-drop b.parsed (held b)) in
-    kept_there a m (λ offsets. Ascend 0 offsets len) t.starts t.has (subst (λ (n : ℕ). Ascend 0 t.starts n) long (ascends t.items t.starts t.spelled))
+    let p = subst (λ (n : ℕ). Ascend 0 t.starts n) long (ascends t.items t.starts t.spelled) in
+    rw t.has (elim (starts_of a) as (λ o. IfSome (option_map (λ before. t.starts) o) (λ offsets. Ascend 0 offsets len)) [ None ↦ tt | Some before ↦ p ])
 
 pub kept_starts : (known : Option (List ℕ)) (P : List ℕ → Type 0) (offsets : List ℕ) → IfSome known (λ starts. offsets ≡ starts) → P offsets → IfSome known P
 kept_starts None P offsets e p = tt

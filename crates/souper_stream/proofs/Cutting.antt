@@ -303,9 +303,6 @@ passed_over k ls rest left s lines h (inr (going, len, left_is, p)) =
 
 -- ---- tokens
 
-no_end_last : (k : ItemType) (ts : List Lexeme) → NoEnd k ts → LastEnds k ts → ⊥
-no_end_last k ts none h = no_end_ends k h.before h.after h.word (subst (λ (x : List Lexeme). NoEnd k x) h.whole none) h.ends
-
 -- ---- lines
 
 -- no cut point is after the lines, if a line starts after them, or none are before
@@ -346,7 +343,8 @@ no_end_front k (x ∷ xs) ys each = all_append (λ t. is_end_word k t ≡ false)
 pub no_end_uncut : (k : ItemType) (ls : List Line) (text : List ℕ) → text ≡ concat ls → AreLines ls → IsLines text → IsUtf8 text → NoEndWord k text → HasNoCutAfter k ls 0
 no_end_uncut k ls text e lines whole utf8 none front back parts cut =
     let each = no_end_lines k ls (lines_whole ls lines (subst (λ (x : List ℕ). IsLines x) e whole)) (subst (λ (x : List ℕ). IsUtf8 x) e utf8) (subst (λ (x : List ℕ). NoEndWord k x) e none) in
-    absurd (no_end_last k (tokens_of_lines front) (no_end_front k front back (subst (λ (x : List Line). AllByRecursion (λ l. NoEnd k (tokens_of l)) x) parts each)) cut.0)
+    let last = cut.0 in
+    absurd (no_end_ends k last.before last.after last.word (subst (λ (x : List Lexeme). NoEnd k x) last.whole (no_end_front k front back (subst (λ (x : List Line). AllByRecursion (λ l. NoEnd k (tokens_of l)) x) parts each))) last.ends)
 
 -- ---- lines that are not UTF-8
 

@@ -73,13 +73,9 @@ quiet_rest (x ∷ xs) ys h = quiet_rest xs ys h.1
 defines_first : (t : Lexeme) (ts us : List Lexeme) → defines (t ∷ ts) ≡ true → defines (t ∷ us) ≡ true
 defines_first t ts us h = grind arith
 
--- what a line starts with defines no name
-start_defines_none : (ts : List Lexeme) → (ts ≡ []) ⊎ (starts_line ts ≡ true) → defines ts ≡ false
-start_defines_none ts h = grind arith
-
 -- a line that starts before another, or before the end, starts without it
 start_before : (xs ts : List Lexeme) → 0 < length xs → (ts ≡ []) ⊎ (starts_line ts ≡ true) → starts_line (xs ++ ts) ≡ true → starts_line xs ≡ true
-start_before xs ts some t h = let none = start_defines_none ts t in grind (arith, defines_first)
+start_before xs ts some t h = grind (arith, defines_first)
 
 pub starts_longer : (ts us : List Lexeme) → starts_line ts ≡ true → starts_line (ts ++ us) ≡ true
 starts_longer ts us h = grind (arith, defines_first)
@@ -109,9 +105,6 @@ operand_no_end k s x ts h = grind (arith, optional_type_plain, plain_no_end k)
 -- after an operand no line starts, unless one starts in what follows
 pub operand_quiet : (s : Scope) (x : Operand) (ts ys : List Lexeme) → operand_spells s x ts → defines ys ≡ false → NoStart ys → NoStart (ts ++ ys)
 operand_quiet s x ts ys h d q = grind (arith, optional_type_plain, quiet_append)
-
-pub operand_not_defines : (s : Scope) (x : Operand) (ts ys : List Lexeme) → operand_spells s x ts → defines (ts ++ ys) ≡ false
-operand_not_defines s x ts ys h = grind arith
 
 further_no_end : (k : ItemType) (s : Scope) (xs : List Operand) (ts : List Lexeme) → further_spells s xs ts → NoEnd k ts
 further_no_end k s [] ts h = rw h tt
@@ -174,7 +167,7 @@ cand_quiet s c ts h =
     let defines_none = root_attributes_not_define c.attributes h.attributes h.attributes_spelled in
     let quiet = operand_quiet s c.rhs h.rhs h.attributes h.rhs_spelled defines_none (plain_quiet h.attributes (root_attributes_plain c.attributes h.attributes h.attributes_spelled)) in
     elim h.comma_or_none [
-      | inl e ↦ rw e (operand_quiet s c.lhs h.lhs (h.rhs ++ h.attributes) h.lhs_spelled (operand_not_defines s c.rhs h.rhs h.attributes h.rhs_spelled) quiet)
+      | inl e ↦ rw e (operand_quiet s c.lhs h.lhs (h.rhs ++ h.attributes) h.lhs_spelled (grind arith) quiet)
       | inr e ↦ rw e (operand_quiet s c.lhs h.lhs (comma ∷ (h.rhs ++ h.attributes)) h.lhs_spelled refl (refl, quiet))
     ]
 
@@ -241,12 +234,9 @@ head_starts k s (v ∷ vs) head tail ys m t =
     ap (λ (x : List Lexeme). (x ++ tail) ++ ys) m.whole ∙ ap (λ (x : List Lexeme). x ++ ys) (append_assoc m.prefix m.suffix tail) ∙ append_assoc m.prefix (m.suffix ++ tail) ys in
     rw parts (grind arith)
 
-item_starts : (k : ItemType) (a : Item) (ts ys : List Lexeme) → item_spells k a ts → starts_line (ts ++ ys) ≡ true
-item_starts k a ts ys h = rw h.whole (head_starts k [] h.first h.head h.tail ys h.head_spelled (λ zs. grind arith))
-
 list_starts : (k : ItemType) (ws : List Item) (ts : List Lexeme) → list_spells k ws ts → (ts ≡ []) ⊎ (starts_line ts ≡ true)
 list_starts k [] ts h = inl h
-list_starts k (w ∷ ws) ts h = inr (rw h.whole (item_starts k w h.prefix h.suffix h.first))
+list_starts k (w ∷ ws) ts h = let a = h.first in inr (rw (h.whole, a.whole) (head_starts k [] a.first a.head a.tail h.suffix a.head_spelled (λ zs. grind arith)))
 
 -- ---- items that are parted
 

@@ -6,7 +6,7 @@ use Rattle.std.proofs.lemmas.List.{nil_from_length}
 use Rattle.std.specs.Io.KnownBytes.{Consumes}
 use Rattle.souper_graph.specs.Values.{Item}
 use Rattle.souper_graph.specs.WellFormed.{WellFormed}
-use Rattle.souper_graph.specs.Syntax.Spelling.{ItemType, TextSpells, SpellsNone}
+use Rattle.souper_graph.specs.Syntax.Spelling.{ItemType, TextSpells}
 use Rattle.souper_ir.specs.declared.parse.error.ParseError.{ParseError}
 use Rattle.souper_ir.specs.Joining.{IsLines}
 use Rattle.souper_ir.specs.Sinks.{TakesOver, PrefixSpells}
@@ -115,10 +115,6 @@ parts_begin k start now ps r (ls, h) =
     ends [] e = nothing_left r.ended refl e
     ends (x ∷ xs) e = inl (lines_of (all_lines ps) (lines_front (all_lines ps) ls (λ none. (let both = sym e ∙ none in cc)) h.lines.are))
 
--- a refused part has lines, since no lines spell no items
-refused_some : (k : ItemType) (p : List Line) → SpellsNone k (concat p) → p ≡ [] → ⊥
-refused_some k p none e = none [] (subst (λ (x : List Line). TextSpells k (concat x) []) (sym e) (none_spelled k))
-
 -- a text that is refused after parts that spell items begins with these, and with the ones that the refused part begins with
 pub refusal_begun : {S : Type 0} (k : ItemType) (file start now : Option (List ℕ)) (ps : List (List Line)) (holds : S → S → List Item → Type 0) (old new : S) (q : ItemReader) (e : ParseError) (t : RefusesPart k file start now ps holds old new q e) (items : List Item) → PartsSpell k ps items
     → PrefixSpells k t.read (items ++ t.items)
@@ -126,7 +122,7 @@ refusal_begun k file start now ps holds old new q e t items spelled =
     let (ls, h) = t.goes_on in
     let done = concat (all_lines ps) in
     let lines = subst (λ (x : List Line). AreLines x) (ap (λ (x : List Line). x ++ ls) (all_lines_snoc ps t.part) ∙ append_assoc (all_lines ps) t.part ls) h.lines.are in
-    let whole_lines = lines_of (all_lines ps) (lines_front (all_lines ps) (t.part ++ ls) (λ none. refused_some k t.part t.none (nil_from_length t.part (omega (arith, ap length none, length-append t.part ls)))) lines) in
+    let whole_lines = lines_of (all_lines ps) (lines_front (all_lines ps) (t.part ++ ls) (λ none. t.none [] (rw (nil_from_length t.part (omega (arith, ap length none, length-append t.part ls))) (none_spelled k))) lines) in
     let cut = cut_front k ps t.part [] (next_front k (ps ++ t.part ∷ []) ls h.cut) in
     let text : t.read ≡ done ++ (concat t.part ++ t.after) = t.whole ∙ ap (λ (x : List ℕ). x ++ t.after) (done_more ps t.part) ∙ append_assoc done (concat t.part) t.after in
     subst (λ (x : List ℕ). PrefixSpells k x (items ++ t.items)) (sym text)

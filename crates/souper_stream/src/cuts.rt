@@ -64,6 +64,7 @@ pub fn segment_len<T: StreamItem>(text: &[u8]) -> io::Result<usize>
 }
 
 // The first cut point of the text, if it has one before a line that is not UTF-8.
+#[tactic(auto, using(crate::proofs::Cutting::whole_uncut))]
 fn first_cut<T: StreamItem>(text: &[u8]) -> Option<usize>
     ensures cut { IfSome result (λ len. (ls : List Line) → text.now ≡ concat ls → AreLines ls → IsFirstSegment T.item_type ls len) }
     ensures some { IfSome result (λ len. 0 < length text.now → 0 < len) }
@@ -78,6 +79,7 @@ fn first_cut<T: StreamItem>(text: &[u8]) -> Option<usize>
 }
 
 // The last cut point of the text after a line that begins at `start`, or `start` if none is there.
+#[tactic(auto, using(crate::proofs::Cutting::placed_first, crate::proofs::Cutting::placed_cut))]
 fn last_cut_after<T: StreamItem>(text: &[u8], start: usize) -> usize
     requires within { start ≤ length text.now }
     requires lines { IsLines (take start text.now) }

@@ -152,7 +152,7 @@ pub fn lines_len(bytes: &[u8]) -> usize
 }
 
 // The bytes before the first occurrence of the word, if an item of the type ends with a line that it begins; else all.
-#[tactic(auto, using(crate::proofs::Cutting::front_take))]
+#[tactic(auto, using(crate::proofs::Cutting::front_take, crate::proofs::Cutting::absent_before, crate::proofs::Cutting::end_word_some))]
 fn before_word<'a, T: StreamItem>(bytes: &'a [u8], word: &str) -> &'a [u8]
     ensures front { StartsWith bytes.now result.now }
     ensures none { end_word T.item_type word.now ≡ true → IsAbsent word.now result.now }

@@ -1,10 +1,7 @@
 use Rattle.std.proofs.Common.{◌∙◌, arith}
 use Rattle.std.proofs.lemmas.List.{take_rest, length-drop}
-use Rattle.souper_stream.proofs.Cutting.{placed_first, placed_more, placed_cut, none_after}
+use Rattle.souper_stream.proofs.Cutting.{placed_more, none_after}
 use Rattle.souper_stream.proofs.cuts.last_cut_after.Goals as goal
-
-pub loop-len-init : goal.loop-len-init
-loop-len-init g c = record { within = c.requires.within; placed = λ ls e lines. placed_first g.T.Item.item_type ls c.args.text.now c.args.start e lines c.requires.within c.requires.lines }
 
 pub loop-len-preserved : goal.loop-len-preserved
 loop-len-preserved g c =
@@ -16,9 +13,6 @@ loop-len-preserved g c =
       within = omega (arith, inv.within);
       placed = λ ls e lines. placed_more g.T.Item.item_type ls text c.args.start cut e lines (inv.placed ls e lines) c.in-Some.len (λ ms f h. c.in-Some.ensures.cut ms (take_rest text cut ∙ f) h) (omega (arith, length-drop cut text));
     }
-
-pub returns-clause-cut : goal.returns-clause-cut
-returns-clause-cut g c = λ some ls e lines. placed_cut g.T.Item.item_type ls c.args.text.now c.args.start c.loop-len.cut e lines (c.loop-len.invariant.placed ls e lines) some
 
 pub returns-clause-last : goal.returns-clause-last
 returns-clause-last g c = λ utf8 at ls e lines.

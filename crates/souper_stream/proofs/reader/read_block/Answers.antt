@@ -1,9 +1,9 @@
-use Rattle.std.proofs.Common.{◌≡◌, ◌≤◌, length, take, drop, sym, ◌∙◌, ap, subst, arith, eqb-true}
+use Rattle.std.proofs.Common.{ℕ, ◌≡◌, ◌≤◌, length, take, drop, sym, ◌∙◌, ap, subst, arith, eqb-true}
 use Rattle.std.specs.Io.{appended_bytes}
 use Rattle.std.specs.Io.BufRead.{FillKeeps}
 use Rattle.std.proofs.BufReadLemmas.{Consumes_shown}
 use Rattle.std.proofs.Math.Seq.{take-append_seam, drop-append_seam}
-use Rattle.souper_stream.proofs.Buffers.{all_shown}
+use Rattle.std.proofs.lemmas.List.{take_all}
 use Rattle.souper_stream.proofs.reader.read_block.Goals as goal
 
 pub returns : goal.returns
@@ -20,5 +20,5 @@ returns g c =
     record {
       kept = rw items (take-append_seam old (take n shown));
       consumed = rw same moved.0;
-      all_read = λ e. rw same (all_shown (g.R.Read.remaining c.args.reader.now) shown n (eqb-true (length shown) 0 (sym c.is_empty-has_ended.ensures ∙ (let at = e in cc))) c.in-Ok.ensures.end);
+      all_read = λ e. (let none = eqb-true (length shown) 0 (sym c.is_empty-has_ended.ensures ∙ (let at = e in cc)) in rw same (grind (arith, take_all {A = ℕ})));
     }
