@@ -9,26 +9,26 @@ use Rattle.std.proofs.Transfers.{starts_with_trans, starts_with_length}
 use Rattle.std.proofs.lemmas.Bool.{eqb-false}
 use Rattle.std.proofs.lemmas.List.{same_from_push, take_all, take_more, drop-append-le, take-append-le, length-drop, length-take, drop_more, drop_all}
 use Rattle.std.proofs.Math.Seq.{drop-append_seam, take-append-add, take-add}
-use Rattle.souper_ir.specs.Places.{EndsIn, newlines, IsLineText, IsPlace}
-use Rattle.souper_stream.specs.Reading.{AreAll, Reads}
 use Rattle.std.proofs.lemmas.List.Sums.{sum_by-append, count_by-le-length}
 use Rattle.souper_graph.specs.Syntax.Tokens.{IsOneLine, Lexeme, spelling, Begins}
+use Rattle.souper_graph.specs.Values.{Item}
+use Rattle.souper_graph.specs.Syntax.Spelling.{kinds, ItemType, list_spells, TextSpells}
+use Rattle.souper_ir.specs.Places.{EndsIn, newlines, IsLineText, IsPlace}
 use Rattle.souper_ir.specs.declared.parse.error.ParseError.{ParseError}
 use Rattle.souper_ir.specs.declared.parse.error.ParseErrorKind.TheVariants.{Io, Parse, Memory as MemoryKind}
 use Rattle.souper_ir.specs.Joining.{IsLines}
 use Rattle.souper_ir.proofs.Items.Parting.{lines_end}
 use Rattle.souper_ir.specs.Errors.{kind_of, HasLocation, HasLocationAfter, IsPlacedAfter, IsRefusalAt}
-use Rattle.souper_stream.specs.declared.buffer.Buffer.{Buffer}
-use Rattle.souper_stream.specs.Buffering.{held, Buffers, KeepsHeld, Counts, unparsed}
 use Rattle.souper_ir.specs.declared.parse.error.Before.{Before}
-use Rattle.souper_graph.specs.Values.{Item}
-use Rattle.souper_graph.specs.Syntax.Spelling.{kinds, ItemType, list_spells, TextSpells}
 use Rattle.souper_ir.specs.declared.parse.error.ParseErrorKind.{ParseErrorKind}
 use Rattle.souper_ir.specs.declared.parse.memory.Memory.{Memory}
 use Rattle.souper_ir.specs.Answers.{IsStrError}
 use Rattle.souper_ir.specs.Laws.Steps.{kinds-append}
 use Rattle.souper_ir.specs.Sinks.{PrefixSpells, TakesOver, TakesPrefix}
 use Rattle.souper_ir.specs.Starts.{StartsAt, SpellEachFrom, TextSpellsFrom, PrefixSpellsFrom, TakesFrom, HasStarts, starts_of}
+use Rattle.souper_stream.specs.Reading.{AreAll, Reads}
+use Rattle.souper_stream.specs.declared.buffer.Buffer.{Buffer}
+use Rattle.souper_stream.specs.Buffering.{held, Buffers, KeepsHeld, Counts, unparsed}
 use Rattle.souper_stream.specs.declared.starts.Start.{Start}
 use Rattle.souper_stream.specs.Starts.{Ascend, AreStarts}
 

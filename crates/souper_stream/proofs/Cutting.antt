@@ -1,21 +1,11 @@
 -- Where a text is cut: its lines are scanned one after the other or passed over, up to the first cut point; the last cut point.
 use Rattle.std.proofs.Common.{length, arith, length-append, ◌≡◌, ◌⊎◌, inl, inr, Bool, true, false, List, [], ◌∷◌, ◌++◌, refl, sym, ap, ◌∙◌, subst, append_assoc, append-nil, ℕ, ◌+◌, ◌-◌, ◌<◌, take, drop, length-take, take-append-drop, get_or, IsUtf8, ◌≤◌}
 use Rattle.std.specs.Prelude.{◌↔◌, codes}
-use Rattle.souper_graph.specs.Syntax.Tokens.{Lexeme, ident, spelling, Begins}
-use Rattle.souper_graph.specs.Syntax.Spelling.{ItemType, kinds}
-use Rattle.souper_ir.specs.NodeReadings.{is_name}
-use Rattle.souper_stream.specs.declared.lines.ScanState.{ScanState}
-use Rattle.souper_stream.specs.Lines.{line_word, is_end_word, defines, shows_line, NoStart, LastEnds, first_state, state_after, scanned, starts_line, end_word, IsAbsent, NoEndWord, IsWithoutEnd, PassesOver}
-use Rattle.souper_stream.proofs.Parting.{end_is_line, NoEnd, all_append, no_end_ends, ends_within, starts_longer}
 use Rattle.std.specs.Io.BufRead.{take_through}
-use Rattle.std.proofs.lemmas.List.{nil_from_length, drop_at, get_or_at, drop-drop, take-take}
-use Rattle.souper_ir.specs.Joining.{IsLines}
-use Rattle.souper_ir.proofs.Items.Parting.{parted_twice}
-use Rattle.souper_stream.specs.Segments.{Line, concat, AreLines, tokens_of, tokens_of_lines, EndsItem, Starts, HasNoCut, IsCut, IsFirstSegment, IsLine, CutsAt, HasNoCutAfter, HasBadLine}
-use Rattle.souper_stream.proofs.LineLists.{starts_not_none, concat-append, tokens_snoc, lines_back, lines_split, no_bytes, line_first, are_front, lines_whole, tokens-append, lines_exist}
 use Rattle.std.specs.List.{AllByRecursion}
 use Rattle.std.specs.Io.{StartsWith}
 use Rattle.std.specs.Str.{IsCharBoundary}
+use Rattle.std.proofs.lemmas.List.{nil_from_length, drop_at, get_or_at, drop-drop, take-take}
 use Rattle.std.proofs.Math.Seq.{take-append_seam, drop-append_seam}
 use Rattle.std.proofs.KnownBytes.{starts_with_rest}
 use Rattle.std.proofs.Transfers.{starts_with_of_append, starts_with_length}
@@ -24,8 +14,18 @@ use Rattle.std.proofs.lemmas.Slice.Eq.{bytes_eq-Decides}
 use Rattle.std.proofs.lemmas.Str.{IsCharBoundary-after_ascii, IsUtf8-nil, IsUtf8-take, IsUtf8-drop}
 use Rattle.memchr.specs.Find.{Nowhere, OccursAt}
 use Rattle.memchr.proofs.lemmas.MatchLemmas.{OccursAt-from_part}
+use Rattle.souper_graph.specs.Syntax.Tokens.{Lexeme, ident, spelling, Begins}
+use Rattle.souper_graph.specs.Syntax.Spelling.{ItemType, kinds}
 use Rattle.souper_lexer.specs.TokenReading.{lexed_of}
 use Rattle.souper_lexer.proofs.TokenLaws.{tokens_law}
+use Rattle.souper_ir.specs.NodeReadings.{is_name}
+use Rattle.souper_ir.specs.Joining.{IsLines}
+use Rattle.souper_ir.proofs.Items.Parting.{parted_twice}
+use Rattle.souper_stream.specs.declared.lines.ScanState.{ScanState}
+use Rattle.souper_stream.specs.Lines.{line_word, is_end_word, defines, shows_line, NoStart, LastEnds, first_state, state_after, scanned, starts_line, end_word, IsAbsent, NoEndWord, IsWithoutEnd, PassesOver}
+use Rattle.souper_stream.specs.Segments.{Line, concat, AreLines, tokens_of, tokens_of_lines, EndsItem, Starts, HasNoCut, IsCut, IsFirstSegment, IsLine, CutsAt, HasNoCutAfter, HasBadLine}
+use Rattle.souper_stream.proofs.Parting.{end_is_line, NoEnd, all_append, no_end_ends, ends_within, starts_longer}
+use Rattle.souper_stream.proofs.LineLists.{starts_not_none, concat-append, tokens_snoc, lines_back, lines_split, no_bytes, line_first, are_front, lines_whole, tokens-append, lines_exist}
 
 -- no line begins in the tokens, nor with the name before them, if there is one
 Quiet : Bool → List Lexeme → Type 0

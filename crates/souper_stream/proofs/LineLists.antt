@@ -1,5 +1,12 @@
 -- Texts after lines, and the lines of a text as a list.
 use Rattle.std.proofs.Common.{◌≡◌, ◌⊎◌, inl, inr, ℕ, ◌+◌, ◌-◌, ◌<◌, List, [], ◌∷◌, ◌++◌, length, refl, sym, ap, ◌∙◌, subst, arith, append_assoc, append-nil, length-append, ◌≤◌, Bool, true, false, take, drop, eqb-true}
+use Rattle.std.specs.Prelude.{◌==◌, zero, suc}
+use Rattle.std.specs.List.{AllByRecursion}
+use Rattle.std.specs.Io.BufRead.{take_through}
+use Rattle.std.proofs.lemmas.Bool.{false_from_ne_true}
+use Rattle.std.proofs.lemmas.Grind.{flat_map-append}
+use Rattle.std.proofs.lemmas.List.{append_cancel_left, take_at, drop_at, length-take, take-take}
+use Rattle.memchr.specs.Find.{Passes, is_byte}
 use Rattle.souper_graph.specs.Values.{Item}
 use Rattle.souper_graph.specs.Syntax.Tokens.{Lexeme, IsGap, Begins, IsTextOf, IsOneLine}
 use Rattle.souper_graph.specs.Syntax.Spelling.{kinds, ItemType, list_spells, TextSpells}
@@ -8,13 +15,6 @@ use Rattle.souper_ir.specs.Joining.{IsLines, moved}
 use Rattle.souper_ir.specs.Sinks.{PrefixSpells}
 use Rattle.souper_ir.specs.Laws.Steps.{kinds-append}
 use Rattle.souper_ir.proofs.Items.Joining.{begins_more, begins_moved, begins_later, left_of_lines, gap_of_lines, kinds_moved, list_append, no_lines_end}
-use Rattle.std.specs.Prelude.{◌==◌, zero, suc}
-use Rattle.std.specs.List.{AllByRecursion}
-use Rattle.std.specs.Io.BufRead.{take_through}
-use Rattle.std.proofs.lemmas.Bool.{false_from_ne_true}
-use Rattle.std.proofs.lemmas.Grind.{flat_map-append}
-use Rattle.std.proofs.lemmas.List.{append_cancel_left, take_at, drop_at, length-take, take-take}
-use Rattle.memchr.specs.Find.{Passes, is_byte}
 use Rattle.souper_ir.proofs.Items.Parting.{lines_end, tokens_part}
 use Rattle.souper_stream.specs.Segments.{Line, concat, IsLine, IsLastLine, AreLines, tokens_of, tokens_of_lines, Starts, IsLastLineAt}
 

@@ -12,7 +12,7 @@ use Rattle.souper_ir.specs.Sinks.{TakesOver, TakesText, PrefixSpells}
 abbrev pub AreAll : Option (List ℕ) → List ℕ → Type 0
 AreAll known bytes = IfSome known (λ all. all ≡ bytes)
 
--- bytes were read and appended to the buffer; if that is all, they are all that was left of the input
+-- bytes were read and appended to the buffer; at `Ok true` they are all that was left of the input
 pub record Reads {E : Type 0} (before after : Option (List ℕ)) (old new : List ℕ) (result : Result Bool E) : Type 0 where
   pub kept : StartsWith new old
   pub consumed : Consumes before after (appended_bytes old new)
