@@ -9,7 +9,7 @@ use Rattle.souper_ir.proofs.Items.Joining.{newline_last}
 use Rattle.souper_ir.proofs.Items.Parting.{parted_twice, lines_end}
 use Rattle.souper_c.specs.Kinds.{type_of_number}
 use Rattle.souper_stream.specs.Segments.{HasBadLine}
-use Rattle.souper_stream.proofs.LastCut.{utf8_has_no_bad_line}
+use Rattle.souper_stream.proofs.Cutting.{utf8_has_no_bad_line}
 use Rattle.souper_c.specs.Cuts.{OfLines, OfWholeLines, IsLastCut, CutsLast, HasBadStart}
 
 one_line_front : (r s : List ℕ) → IsOneLine (r ++ s) → IsOneLine r

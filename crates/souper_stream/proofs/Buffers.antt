@@ -1,117 +1,142 @@
--- The buffer of a stream, and the parsed text.
-use Rattle.std.proofs.Common.{◌≡◌, ◌⊎◌, inl, inr, ℕ, ◌+◌, ◌-◌, ◌^◌, ◌<◌, ◌≤◌, cond, List, [], ◌∷◌, ◌++◌, length, take, drop, Option, refl, sym, ap, ◌∙◌, subst, arith, append_assoc, append-nil, length-append}
-use Rattle.std.specs.Prelude.{◌==◌}
-use Rattle.std.proofs.lemmas.List.{take-append-le, drop-drop, drop-take, length-drop, length-take}
+-- The bytes of a reader, the buffer of a stream, the parsed text, and where items begin in it.
+use Rattle.std.proofs.Common.{◌≡◌, ◌⊎◌, inl, inr, ℕ, ◌+◌, ◌-◌, ◌<◌, Bool, true, false, length, take, drop, get_or, get_or-append-add, eqb-true, length-append, append_assoc, subst, arith, List, [], ◌∷◌, ◌++◌, Option, Some, None, refl, sym, ap, ◌∙◌, ◌^◌, ◌≤◌, cond, append-nil, min, is_some, Ok, Err, Result}
+use Rattle.std.specs.Prelude.{IfSome, Result, ◌==◌, slice_index_or, if◌then◌else◌, ◌^◌, option_map, vec_len, IfErr}
+use Rattle.std.specs.Io.{StartsWith, appended_bytes}
+use Rattle.std.specs.Io.BufRead.{take_through}
+use Rattle.std.specs.Io.KnownBytes.{Consumes}
+use Rattle.std.proofs.KnownBytes.{starts_with_rest, Consumes-more}
+use Rattle.std.proofs.Transfers.{starts_with_trans, starts_with_length}
+use Rattle.std.proofs.lemmas.Bool.{eqb-false}
+use Rattle.std.proofs.lemmas.List.{same_from_push, take_all, take_more, drop-append-le, take-append-le, length-drop, length-take, drop_more, drop_all}
+use Rattle.std.proofs.Math.Seq.{drop-append_seam, take-append-add, take-add}
 use Rattle.std.proofs.lemmas.List.Sums.{sum_by-append, count_by-le-length}
-use Rattle.std.proofs.Math.Seq.{take-add}
-use Rattle.souper_graph.specs.Syntax.Tokens.{IsOneLine}
-use Rattle.souper_ir.specs.declared.parse.error.Before.{Before}
+use Rattle.souper_graph.specs.Syntax.Tokens.{IsOneLine, Lexeme, spelling, Begins}
+use Rattle.souper_graph.specs.Values.{Item}
+use Rattle.souper_graph.specs.Syntax.Spelling.{kinds, ItemType, list_spells, TextSpells}
+use Rattle.souper_ir.specs.Places.{EndsIn, newlines, IsLineText, IsPlace}
 use Rattle.souper_ir.specs.declared.parse.error.ParseError.{ParseError}
-use Rattle.souper_ir.specs.declared.parse.error.ParseErrorKind.TheVariants.{Parse, Memory}
+use Rattle.souper_ir.specs.declared.parse.error.ParseErrorKind.TheVariants.{Io, Parse, Memory as MemoryKind}
 use Rattle.souper_ir.specs.Joining.{IsLines}
-use Rattle.souper_ir.specs.Places.{newlines, IsLineText, IsPlace}
 use Rattle.souper_ir.proofs.Items.Parting.{lines_end}
 use Rattle.souper_ir.specs.Errors.{kind_of, HasLocation, HasLocationAfter, IsPlacedAfter, IsRefusalAt}
+use Rattle.souper_ir.specs.declared.parse.error.Before.{Before}
+use Rattle.souper_ir.specs.declared.parse.error.ParseErrorKind.{ParseErrorKind}
+use Rattle.souper_ir.specs.declared.parse.memory.Memory.{Memory}
+use Rattle.souper_ir.specs.Answers.{IsStrError}
+use Rattle.souper_ir.specs.Laws.Steps.{kinds-append}
+use Rattle.souper_ir.specs.Sinks.{PrefixSpells, TakesOver, TakesPrefix}
+use Rattle.souper_ir.specs.Starts.{StartsAt, SpellEachFrom, TextSpellsFrom, PrefixSpellsFrom, TakesFrom, HasStarts, starts_of}
+use Rattle.souper_stream.specs.Reading.{AreAll, Reads}
 use Rattle.souper_stream.specs.declared.buffer.Buffer.{Buffer}
-use Rattle.souper_stream.specs.Buffering.{held, unparsed, Parses, Buffers, last_part, IsSound, IsEmpty, Passes, Drains, KeepsHeld}
-use Rattle.souper_stream.proofs.Texts.{lines_append}
+use Rattle.souper_stream.specs.Buffering.{held, Buffers, KeepsHeld, Counts, unparsed}
+use Rattle.souper_stream.specs.declared.starts.Start.{Start}
+use Rattle.souper_stream.specs.Starts.{Ascend, AreStarts}
 
--- nothing was read
-pub buffers_none : (b : Buffer) → IsEmpty b → Buffers [] b
-buffers_none b e =
-    rw (e.bytes_are, e.start_is, e.parsed_is) (record {
-      gone = [];
-      lines = inl refl;
-      counted = λ s. record { lines = inl refl; bytes_are = sym e.bytes_before; lines_are = sym e.lines_before };
-      within = omega arith;
-      done_is = refl;
-      placed = inr refl;
-      one_line = tt;
-    })
+-- all the bytes that were left, after the bytes read before
+pub all_after : (a b : Option (List ℕ)) (bs cs : List ℕ) → Consumes a b bs → AreAll b cs → AreAll a (bs ++ cs)
+all_after a b bs cs h k = grind arith
 
--- more was read
-pub buffers_more : (done bytes more : List ℕ) (parsed : ℕ) (before : Before) → Parses done bytes parsed before → Parses done (bytes ++ more) parsed before
-buffers_more done bytes more parsed before p = record {
-  gone = p.gone;
-  lines = p.lines;
-  counted = p.counted;
-  within = omega (arith, p.within, length-append bytes more);
-  done_is = p.done_is ∙ ap (λ (x : List ℕ). p.gone ++ x) (sym (take-append-le parsed bytes more p.within));
-  placed = p.placed;
-  one_line = subst (λ (x : List ℕ). IsOneLine x) (sym (take-append-le (parsed - 1) bytes more (omega (arith, p.within)))) p.one_line;
+-- what is read up to a newline ends in it, or is all that was left
+through_ends : (xs : List ℕ) → EndsIn (take_through 10 xs) 10 ⊎ (take_through 10 xs ≡ xs)
+through_ends [] = inr refl
+through_ends (x ∷ xs) = under (x == 10) refl (through_ends xs)
+  where
+    under : (b : Bool) → (x == 10) ≡ b → EndsIn (take_through 10 xs) 10 ⊎ (take_through 10 xs ≡ xs) → EndsIn (if b then x ∷ [] else x ∷ take_through 10 xs) 10 ⊎ ((if b then x ∷ [] else x ∷ take_through 10 xs) ≡ x ∷ xs)
+    under true e h = inl ([], ap (λ (y : ℕ). y ∷ []) (eqb-true x 10 e))
+    under false e (inl end) = inl (x ∷ end.0, ap (λ (l : List ℕ). x ∷ l) end.1)
+    under false e (inr all) = inr (ap (λ (l : List ℕ). x ∷ l) all)
+
+-- what two reads appended
+appended_both : (old mid new : List ℕ) → StartsWith mid old → StartsWith new mid → appended_bytes old new ≡ appended_bytes old mid ++ appended_bytes mid new
+appended_both old mid new p q = ap (drop (length old)) (starts_with_rest new mid q) ∙ drop-append-le (length old) mid (appended_bytes mid new) (starts_with_length mid old p)
+
+pub reads_both : {E F : Type 0} (a b c : Option (List ℕ)) (old mid new : List ℕ) (r : Result Bool E) (s : Result Bool F) → Reads a b old mid r → Reads b c mid new s → Reads a c old new s
+reads_both a b c old mid new r s f g = record {
+  kept = starts_with_trans new mid old g.kept f.kept;
+  consumed = Consumes-more a b c old mid new f.kept g.kept f.consumed g.consumed;
+  all_read = λ e. subst (λ (x : List ℕ). AreAll a x) (sym (appended_both old mid new f.kept g.kept)) (all_after a b (appended_bytes old mid) (appended_bytes mid new) f.consumed (g.all_read e));
 }
+
+pub ends_both : (old mid new : List ℕ) → StartsWith mid old → StartsWith new mid → EndsIn (appended_bytes mid new) 10 → EndsIn (appended_bytes old new) 10
+ends_both old mid new p q end = (appended_bytes old mid ++ end.0, appended_both old mid new p q ∙ ap (λ (x : List ℕ). appended_bytes old mid ++ x) end.1 ∙ sym (append_assoc (appended_bytes old mid) end.0 (10 ∷ [])))
+
+-- a front of what was appended
+pub front_kept : (old mid new : List ℕ) (start n : ℕ) → StartsWith mid old → start ≡ length old → new ≡ take (start + n) mid → new ≡ old ++ take n (appended_bytes old mid)
+front_kept old mid new start n starts begin e = e ∙ (λ i. take (begin i + n) (starts_with_rest mid old starts i)) ∙ take-append-add old (appended_bytes old mid) n
+
+-- the last byte of those that were appended
+last_apart : (old new : List ℕ) (last : ℕ) → StartsWith new old → length old < length new → last ≡ slice_index_or new (length new - 1) last → EndsIn (appended_bytes old new) last
+last_apart old new last starts longer last_is =
+    let line = appended_bytes old new in
+    let whole = starts_with_rest new old starts in
+    let n : ℕ = length line - 1 in
+    let long = ap length whole ∙ length-append old line in
+    let last_of : last ≡ get_or line n last = last_is ∙ (λ i. get_or (whole i) (let e : length new - 1 ≡ length old + n = omega arith in e i) last) ∙ get_or-append-add old line n last in
+    (take n line, sym (take_all (n + 1) line (omega arith)) ∙ take_more line n last (omega arith) ∙ ap (λ (b : ℕ). take n line ++ b ∷ []) (sym last_of))
+
+pub line_ends : (old new : List ℕ) (last : ℕ) → StartsWith new old → length old < length new → last ≡ slice_index_or new (length new - 1) last → last ≡ 10 → EndsIn (appended_bytes old new) 10
+line_ends old new last starts longer last_is e = subst (λ (b : ℕ). EndsIn (appended_bytes old new) b) e (last_apart old new last starts longer last_is)
+
+-- a line was read: the last byte is the newline, or the input has ended
+pub line_reads : (before : Option (List ℕ)) (old new : List ℕ) (last : ℕ) → StartsWith new old → length old < length new → last ≡ slice_index_or new (length new - 1) last → IfSome before (λ xs. new ≡ old ++ take_through 10 xs) → (last == 10) ≡ false → AreAll before (appended_bytes old new)
+line_reads None old new last starts longer last_is b other = tt
+line_reads (Some xs) old new last starts longer last_is b other =
+    let same : appended_bytes old new ≡ take_through 10 xs = ap (drop (length old)) b ∙ drop-append_seam old (take_through 10 xs) in
+    let parts = last_apart old new last starts longer last_is in
+    elim (through_ends xs) [
+      | inl end ↦ absurd (eqb-false last 10 other (same_from_push parts.0 end.0 last 10 (sym parts.1 ∙ same ∙ end.1)).1)
+      | inr rest ↦ sym (same ∙ rest)
+    ]
 
 pub newlines-append : (xs ys : List ℕ) → newlines (xs ++ ys) ≡ newlines xs + newlines ys
 newlines-append xs ys = sum_by-append (λ b. cond (b == 10) 1 0) xs ys
 
+-- nothing was read
+pub buffers_none : (b : Buffer) → b.bytes.items ≡ [] → b.start ≡ 0 → b.parsed ≡ 0 → b.last ≡ 0 → b.before.bytes ≡ 0 → b.before.lines ≡ 0 → Buffers [] [] b
+buffers_none b bytes start parsed last bytes_before lines_before = record {
+  gone = [];
+  lines = inl refl;
+  counted = λ s. record { lines = inl refl; bytes_are = sym bytes_before; lines_are = sym lines_before };
+  done_is = rw parsed refl;
+  rest_is = rw (bytes, start, parsed) refl;
+  placed = inr refl;
+  one_line = rw parsed tt;
+  within = omega arith;
+  last = omega arith;
+}
+
+-- more was read
+pub buffers_more : (done rest more : List ℕ) (b c : Buffer) → c.bytes.items ≡ b.bytes.items ++ more → Buffers done rest b → Buffers done (rest ++ more) (record b { bytes = c.bytes })
+buffers_more done rest more b c e p =
+    let held_is : drop b.start c.bytes.items ≡ held b ++ more = ap (drop b.start) e ∙ drop-append-le b.start b.bytes.items more (omega (arith, p.within)) in
+    let short : b.parsed ≤ length (held b) = omega (arith, p.within, length-drop b.start b.bytes.items) in
+    record {
+      gone = p.gone;
+      lines = p.lines;
+      counted = p.counted;
+      done_is = p.done_is ∙ ap (λ (x : List ℕ). p.gone ++ x) (sym (ap (take b.parsed) held_is ∙ take-append-le b.parsed (held b) more short));
+      rest_is = ap (drop b.parsed) held_is ∙ drop-append-le b.parsed (held b) more short ∙ ap (λ (x : List ℕ). x ++ more) p.rest_is;
+      placed = p.placed;
+      one_line = subst (λ (x : List ℕ). IsOneLine x) (sym (ap (take (b.parsed - 1)) held_is ∙ take-append-le (b.parsed - 1) (held b) more (omega arith))) p.one_line;
+      within = omega (arith, ap length e, length-append b.bytes.items more, p.within);
+      last = p.last;
+    }
+
 -- the same is held
-module _ (old new : Buffer) (d : Drains old new) where
-  pub buffers_drained : (done : List ℕ) → Buffers done old → Buffers done new
-  buffers_drained done p = rw (d.bytes_are, d.start_is, d.parsed_is, d.before_is) p
-
-  pub unparsed_drained : unparsed new ≡ unparsed old
-  unparsed_drained = λ i. drop (d.parsed_is i) (drop (d.start_is i) (d.bytes_are i))
-
--- nothing is there that was parsed last
-pub sound_drained : (old new : Buffer) → Drains old new → IsSound old → IsSound new
-sound_drained old new d s =
-    let bytes = ap length d.bytes_are in
-    let start = d.start_is in
-    let parsed = d.parsed_is in
-    let last = d.last_is in
-    let within = s.within in
-    record { within = omega (arith, length-drop old.start old.bytes.items); last = omega arith }
-
--- more text was parsed
-module _ (old new : Buffer) (len : ℕ) (f : Passes old len new) where
-  sum : f.line + new.parsed ≡ old.parsed + len
-  sum = omega (arith, f.parsed_is)
-
-  held_passed : held new ≡ drop f.line (held old)
-  held_passed = (λ i. drop (f.start_is i) (f.bytes_are i)) ∙ sym (drop-drop f.line old.start old.bytes.items)
-
-  pub unparsed_passed : unparsed new ≡ drop len (unparsed old)
-  unparsed_passed = ap (drop new.parsed) held_passed ∙ drop-drop new.parsed f.line (held old) ∙ ap (λ (m : ℕ). drop m (held old)) sum ∙ sym (drop-drop len old.parsed (held old))
-
-  end_passed : new.start + new.parsed ≡ old.start + old.parsed + len
-  end_passed = omega (arith, f.start_is, f.parsed_is)
-
-  pub sound_passed : old.start + old.parsed + len ≤ length old.bytes.items → IsSound new
-  sound_passed fits = let last = f.last_is in record { within = omega (arith, end_passed, ap length f.bytes_are, fits); last = omega (arith, end_passed) }
-
-  pub part_passed : last_part new ≡ take len (unparsed old)
-  part_passed =
-      let end = old.start + old.parsed in
-      let begin : new.start + new.parsed - new.last ≡ end = omega (arith, end_passed, f.last_is) in
-      (λ i. drop (begin i) (take (end_passed i) (f.bytes_are i))) ∙ drop-take end len old.bytes.items ∙ ap (take len) (sym (drop-drop old.parsed old.start old.bytes.items))
-
-  pub buffers_passed : (done : List ℕ) → Buffers done old → len ≤ length (unparsed old) → Buffers (done ++ take len (unparsed old)) new
-  buffers_passed done p fits =
-      let line = take f.line (held old) in
-      let front : take old.parsed (held old) ++ take len (unparsed old) ≡ line ++ take new.parsed (held new) =
-      sym (take-add old.parsed len (held old)) ∙ ap (λ (m : ℕ). take m (held old)) (sym sum) ∙ take-add f.line new.parsed (held old) ∙ ap (λ (x : List ℕ). line ++ take new.parsed x) (sym held_passed) in
-      let long : length (held old) ≡ old.parsed + length (unparsed old) = omega (arith, p.within, length-drop old.parsed (held old)) in
-      let gone_long = length-append p.gone line in
-      let line_long = length-take f.line (held old) in
-      let counts = newlines-append p.gone line in
-      let few = count_by-le-length (λ b. b == 10) p.gone in
-      let few_more = count_by-le-length (λ b. b == 10) line in
-      let inside = f.within in
-      record {
-        gone = p.gone ++ line;
-        lines = lines_append p.gone line p.lines f.lines;
-        counted = λ small. let b = p.counted (omega arith) in let bytes = b.bytes_are in let lines_are = b.lines_are in let bytes_now = f.bytes_before in let lines_now = f.lines_before in record { lines = lines_append p.gone line p.lines f.lines; bytes_are = omega (arith, fits); lines_are = omega (arith, fits) };
-        within = omega (arith, sum, long, fits, f.within, ap length held_passed, length-drop f.line (held old));
-        done_is = ap (λ (x : List ℕ). x ++ take len (unparsed old)) p.done_is ∙ append_assoc p.gone (take old.parsed (held old)) (take len (unparsed old)) ∙ ap (λ (x : List ℕ). p.gone ++ x) front ∙ sym (append_assoc p.gone line (take new.parsed (held new)));
-        placed = inl (omega (arith, sum, f.within));
-        one_line = f.one_line;
-      }
+pub buffers_drained : (done rest : List ℕ) (b c : Buffer) → c.bytes.items ≡ held b → Buffers done rest b → Buffers done rest (record b { bytes = c.bytes; start = 0; last = 0 })
+buffers_drained done rest b c e p = record {
+  gone = p.gone;
+  lines = p.lines;
+  counted = p.counted;
+  done_is = rw e p.done_is;
+  rest_is = rw e p.rest_is;
+  placed = p.placed;
+  one_line = rw e p.one_line;
+  within = omega (arith, ap length e, length-drop b.start b.bytes.items, p.within);
+  last = omega arith;
+}
 
 -- ---- locations
-
--- no place is after the last newline of lines
-place_in_lines : (front body : List ℕ) (position : ℕ) → IsLines (front ++ body) → newlines body ≡ 0 → length front ≤ position → position + 1 ≤ length (front ++ body) → ⊥
-place_in_lines front body position lines none from until = let end = lines_end front body lines in grind (arith, length-append {A = ℕ}, newlines-append)
 
 -- a place in lines is there with more after them
 place_more : (source more : List ℕ) (offset line column : ℕ) (text : List ℕ) → 0 < length source → offset ≤ length source → IsLines source → IsPlace source offset line column text → IsPlace (source ++ more) offset line column text
@@ -120,7 +145,9 @@ place_more source more offset line column text some within lines p = under p.bac
     under : (back : List ℕ) → p.back ≡ back → IsLineText p.body back text → IsPlace (source ++ more) offset line column text
     under [] e t =
         let parts : source ≡ p.front ++ p.body = p.parts ∙ ap (λ (x : List ℕ). p.front ++ (p.body ++ x)) e ∙ ap (λ (x : List ℕ). p.front ++ x) (append-nil p.body) in
-        absurd (place_in_lines p.front p.body (offset - 1) (subst (λ (x : List ℕ). IsLines x) parts lines) p.one_line p.from (let n = ap length parts in omega arith))
+        let long = ap length parts in
+        let end = lines_end p.front p.body (subst (λ (x : List ℕ). IsLines x) parts lines) in
+        absurd (grind (arith, length-append {A = ℕ}, newlines-append, p.one_line, p.from))
     under (b ∷ back) e t = record {
       front = p.front;
       body = p.body;
@@ -160,23 +187,20 @@ ends_in_lines a b some (inl e) = let n = ap length e in absurd (omega arith)
 ends_in_lines a b some (inr end) = inr (a ++ end.0, ap (λ (x : List ℕ). a ++ x) end.1 ∙ sym (append_assoc a end.0 (10 ∷ [])))
 
 -- a refusal of the first `len` unparsed bytes, which are lines or the last bytes, was given its location
-module _ (file : Option (List ℕ)) (done after : List ℕ) (b : Buffer) (len offset : ℕ) (shown : ParseError) (p : Buffers done b) (some : 0 < len) (fits : len ≤ length (unparsed b)) (within : offset ≤ len) where
+module _ (file : Option (List ℕ)) (done rest after : List ℕ) (b : Buffer) (len offset : ℕ) (shown : ParseError) (p : Buffers done rest b) (some : 0 < len) (fits : len ≤ length rest) (within : offset ≤ len) where
   abbrev text : List ℕ
-  text = done ++ take len (unparsed b)
+  text = done ++ take len rest
 
   text_is : p.gone ++ take (b.parsed + len) (held b) ≡ text
-  text_is = ap (λ (x : List ℕ). p.gone ++ x) (take-add b.parsed len (held b)) ∙ sym (append_assoc p.gone (take b.parsed (held b)) (take len (unparsed b))) ∙ ap (λ (x : List ℕ). x ++ take len (unparsed b)) (sym p.done_is)
-
-  part_long : length (take len (unparsed b)) ≡ len
-  part_long = omega (arith, length-take len (unparsed b), fits)
-
-  long : length text ≡ length done + len
-  long = omega (arith, length-append done (take len (unparsed b)), part_long)
+  text_is =
+      ap (λ (x : List ℕ). p.gone ++ x) (take-add b.parsed len (held b) ∙ ap (λ (x : List ℕ). take b.parsed (held b) ++ take len x) p.rest_is)
+      ∙ sym (append_assoc p.gone (take b.parsed (held b)) (take len rest)) ∙ ap (λ (x : List ℕ). x ++ take len rest) (sym p.done_is)
 
   placed_there : kind_of shown ≡ Parse → IsPlacedAfter file b.before (take (b.parsed + len) (held b)) (b.parsed + offset) shown → length text + 1 < 2 ^ 64 → IsRefusalAt file text (length done + offset) shown
-  placed_there kind (inl memory) small = let bad : Memory ≡ Parse = sym memory ∙ kind in absurd cc
+  placed_there kind (inl memory) small = let bad : MemoryKind ≡ Parse = sym memory ∙ kind in absurd cc
   placed_there kind (inr at) small =
-      let at_offset : length p.gone + (b.parsed + offset) ≡ length done + offset = omega (arith, length-append p.gone (take b.parsed (held b)), length-take b.parsed (held b), ap length p.done_is, p.within) in
+      let at_offset : length p.gone + (b.parsed + offset) ≡ length done + offset =
+      omega (arith, length-append p.gone (take b.parsed (held b)), length-take b.parsed (held b), ap length p.done_is, p.within, length-drop b.start b.bytes.items) in
       let sizes = ap length text_is in
       let few = length-append p.gone (take (b.parsed + len) (held b)) in
       let begun : (0 < b.parsed + offset) ⊎ (p.gone ≡ []) = elim p.placed [ inl k ↦ inl (omega arith) | inr k ↦ inr k ] in
@@ -188,12 +212,132 @@ module _ (file : Option (List ℕ)) (done after : List ℕ) (b : Buffer) (len of
       let few = length-append p.gone (take (b.parsed + len) (held b)) in
       subst (λ (x : List ℕ). HasLocation x shown) text_is (at p.gone (p.counted (omega arith)) (omega arith))
 
-  pub buffers_placed : IsLines (take len (unparsed b)) ⊎ (after ≡ []) → kind_of shown ≡ Parse → IsPlacedAfter file b.before (take (b.parsed + len) (held b)) (b.parsed + offset) shown → length (text ++ after) + 1 < 2 ^ 64 → IsRefusalAt file (text ++ after) (length done + offset) shown
-  buffers_placed ends kind located small = over ends (placed_there kind located (omega (arith, small, length-append text after)))
-    where
-      over : IsLines (take len (unparsed b)) ⊎ (after ≡ []) → IsRefusalAt file text (length done + offset) shown → IsRefusalAt file (text ++ after) (length done + offset) shown
-      over (inl lines) h = refusal_more file text after (length done + offset) shown (omega (arith, long)) (omega (arith, long)) (ends_in_lines done (take len (unparsed b)) (omega (arith, part_long)) lines) h
-      over (inr none) h = subst (λ (x : List ℕ). IsRefusalAt file x (length done + offset) shown) (sym (ap (λ (x : List ℕ). text ++ x) none ∙ append-nil text)) h
+  pub buffers_placed : IsLines (take len rest) ⊎ (after ≡ []) → kind_of shown ≡ Parse → IsPlacedAfter file b.before (take (b.parsed + len) (held b)) (b.parsed + offset) shown → length (text ++ after) + 1 < 2 ^ 64 → IsRefusalAt file (text ++ after) (length done + offset) shown
+  buffers_placed (inl lines) kind located small =
+      let part_long = length-take len rest in
+      let long = length-append done (take len rest) in
+      refusal_more file text after (length done + offset) shown (omega arith) (omega arith) (ends_in_lines done (take len rest) (omega arith) lines) (placed_there kind located (omega (arith, small, length-append text after)))
+  buffers_placed (inr none) kind located small =
+      subst (λ (x : List ℕ). IsRefusalAt file x (length done + offset) shown) (sym (ap (λ (x : List ℕ). text ++ x) none ∙ append-nil text)) (placed_there kind located (omega (arith, small, length-append text after)))
 
 pub keeps_more : (a b c : Buffer) → KeepsHeld a b → (more : List ℕ) × (c.bytes.items ≡ b.bytes.items ++ more) → KeepsHeld a c
 keeps_more a b c h (more, e) = record { more = h.more ++ more; bytes_are = e ∙ ap (λ (x : List ℕ). x ++ more) h.bytes_are ∙ append_assoc (held a) h.more more }
+
+-- after some tokens the others begin further on, and no later than the end
+later : (us ts : List (ℕ × Lexeme)) (n : ℕ) (bs rest : List ℕ) → Begins n bs (us ++ ts) rest → (m : ℕ) × (cs : List ℕ) × Begins m cs ts rest × (n ≤ m) × ((start : ℕ) → StartsAt start us → (n ≤ start) × (start ≤ m)) × (m + length cs ≡ n + length bs)
+later [] ts n bs rest h = (n, bs, h, omega arith, λ start at. absurd at, refl)
+later (u ∷ us) ts n bs rest h =
+    let (m, cs, begun, from, first, to) = later us ts (u.0 + length (spelling u.1)) h.after rest h.more in
+    let long : length bs ≡ length h.gap + (length (spelling u.1) + length h.after) = omega (arith, ap length h.stands.text, length-append h.gap (spelling u.1 ++ h.after), length-append (spelling u.1) h.after) in
+    (m, cs, begun, omega (arith, from, h.offset_is), λ start at. (omega (arith, h.offset_is, at), omega (arith, from, at)), omega (arith, to, h.offset_is, long))
+
+-- the bound below may be lower
+ascend_from : (m n : ℕ) (offsets : List ℕ) (to : ℕ) → m ≤ n → Ascend n offsets to → Ascend m offsets to
+ascend_from m n [] to le a = omega (arith, le, a)
+ascend_from m n (offset ∷ offsets) to le a = let from = a.0 in (omega (arith, le, from), a.1)
+
+each_ascend : (k : ItemType) (items : List Item) (starts : List ℕ) (ts : List (ℕ × Lexeme)) (n : ℕ) (bs rest : List ℕ) → SpellEachFrom k items starts ts → Begins n bs ts rest → Ascend n starts (n + length bs)
+each_ascend k [] [] ts n bs rest e h = omega arith
+each_ascend k [] (start ∷ starts) ts n bs rest e h = absurd e
+each_ascend k (a ∷ items) [] ts n bs rest e h = absurd e
+each_ascend k (a ∷ items) (start ∷ starts) ts n bs rest e h =
+    let (m, cs, begun, further, first, to) = later e.used e.others n bs rest (subst (λ (x : List (ℕ × Lexeme)). Begins n bs x rest) e.whole h) in
+    let (from, after) = first start e.starts in
+    (from, ascend_from start m starts (n + length bs) after (subst (λ (x : ℕ). Ascend m starts x) to (each_ascend k items starts e.others m cs rest e.further begun)))
+
+pub text_ascends : (k : ItemType) (bs : List ℕ) (items : List Item) (starts : List ℕ) → TextSpellsFrom k bs items starts → Ascend 0 starts (length bs)
+text_ascends k bs items starts (ts, (rest, begun, gap), each) = let all : Ascend 0 starts (0 + length bs) = each_ascend k items starts ts 0 bs rest each begun in subst (λ (n : ℕ). Ascend 0 starts n) (omega arith) all
+
+pub prefix_ascends : (k : ItemType) (bs : List ℕ) (items : List Item) (starts : List ℕ) → PrefixSpellsFrom k bs items starts → Ascend 0 starts (length bs)
+prefix_ascends k bs items starts (ts, rest, begun, each) = let all : Ascend 0 starts (0 + length bs) = each_ascend k items starts ts 0 bs rest each begun in subst (λ (n : ℕ). Ascend 0 starts n) (omega arith) all
+
+-- the items are spelled, wherever they begin
+each_spells : (k : ItemType) (items : List Item) (starts : List ℕ) (ts : List (ℕ × Lexeme)) → SpellEachFrom k items starts ts → list_spells k items (kinds ts)
+each_spells k [] [] ts e = ap kinds e
+each_spells k [] (start ∷ starts) ts e = absurd e
+each_spells k (a ∷ items) [] ts e = absurd e
+each_spells k (a ∷ items) (start ∷ starts) ts e =
+    record { prefix = kinds e.used; suffix = kinds e.others; whole = ap kinds e.whole ∙ kinds-append e.used e.others; first = e.spelled; second = each_spells k items starts e.others e.further }
+
+pub text_spells : (k : ItemType) (bs : List ℕ) (items : List Item) (starts : List ℕ) → TextSpellsFrom k bs items starts → TextSpells k bs items
+text_spells k bs items starts (ts, is, each) = (ts, is, each_spells k items starts ts each)
+
+pub prefix_spells : (k : ItemType) (bs : List ℕ) (items : List Item) (starts : List ℕ) → PrefixSpellsFrom k bs items starts → PrefixSpells k bs items
+prefix_spells k bs items starts (ts, rest, begun, each) = (ts, rest, begun, each_spells k items starts ts each)
+
+-- ---- offsets that a memory has, if it is asked
+
+pub kept_now : (a m : Memory) (P : List ℕ → Type 0) (offsets : List ℕ) → HasStarts a m offsets → IfSome (starts_of m) P → is_some (starts_of m) ≡ true → P offsets
+kept_now a m P offsets h p asked = elim (starts_of a) as (λ o. IfSome (option_map (λ before. offsets) o) P → is_some (option_map (λ before. offsets) o) ≡ true → P offsets) [ None ↦ (λ p e. absurd cc) | Some before ↦ (λ p e. p) ] (rw h at p) (rw h at asked)
+
+-- ---- the loop over the offsets of a part
+
+pub ascend_within : (from : ℕ) (offsets : List ℕ) (to : ℕ) → Ascend from offsets to → from ≤ to
+ascend_within from [] to a = a
+ascend_within from (offset ∷ offsets) to a = let first = a.0 in let last = ascend_within offset offsets to a.1 in omega arith
+
+-- the offsets that are left ascend from the last one on, and with their starts all are told
+pub record Told (before : Before) (part offsets : List ℕ) (index passed lines : ℕ) (starts : List Start) : Type 0 where
+  pub rest : Ascend passed (drop index offsets) (length part)
+  pub are : (done : List ℕ) → Counts before done → length (done ++ part) + 1 < 2 ^ 64 → (lines ≡ newlines (done ++ take passed part)) × ((more : List Start) → AreStarts done part (drop index offsets) more → AreStarts done part offsets (starts ++ more))
+
+pub none_told : (before : Before) (part offsets : List ℕ) → Ascend 0 offsets (length part) → Told before part offsets 0 0 before.lines []
+none_told before part offsets a = record { rest = a; are = λ done counts small. (counts.1 ∙ ap newlines (sym (append-nil done)), λ more are. are) }
+
+module _ (before : Before) (part offsets : List ℕ) (index passed lines : ℕ) (starts : List Start) (told : Told before part offsets index passed lines starts) (less : index < length offsets) where
+  abbrev offset : ℕ
+  offset = get_or offsets index 0
+
+  pub from_there : Ascend passed (offset ∷ drop (index + 1) offsets) (length part)
+  from_there = subst (λ (x : List ℕ). Ascend passed x (length part)) (drop_more offsets index 0 less) told.rest
+
+  pub to_end : offset ≤ length part
+  to_end = ascend_within offset (drop (index + 1) offsets) (length part) from_there.1
+
+  pub one_told : (more : ℕ) (start : Start) (new : List Start) → more ≡ min (lines + newlines (take (offset - passed) (drop passed part))) (2 ^ 64 - 1) → new ≡ starts ++ start ∷ [] → start.offset ≡ min (before.bytes + offset) (2 ^ 64 - 1) → start.line ≡ min (more + 1) (2 ^ 64 - 1)
+      → Told before part offsets (index + 1) offset more new
+  one_told more start new lines_are new_is offset_is line_is = record {
+    rest = from_there.1;
+    are = λ done counts small. (
+        let t = told.are done counts small in
+        let long = length-append done part in
+        let seam : take offset part ≡ take passed part ++ take (offset - passed) (drop passed part) = ap (λ (n : ℕ). take n part) (let n : offset ≡ passed + (offset - passed) = omega (arith, from_there.0) in n) ∙ take-add passed (offset - passed) part in
+        let step = ap (λ (x : List ℕ). newlines (done ++ x)) seam ∙ ap newlines (sym (append_assoc done (take passed part) (take (offset - passed) (drop passed part)))) ∙ newlines-append (done ++ take passed part) (take (offset - passed) (drop passed part)) in
+        let few = count_by-le-length (λ b. b == 10) (done ++ take offset part) in
+        let short = length-append done (take offset part) in
+        let cut = length-take offset part in
+        let bytes = counts.0 in
+        let here = t.0 in
+        let end = to_end in
+        let more_is : more ≡ newlines (done ++ take offset part) = omega (arith, lines_are, here, step, few, short, cut, end, long, small) in (
+          more_is,
+          λ rest are. rw (new_is, append_assoc) (t.1 (start ∷ rest) (rw (drop_more offsets index 0 less) ((omega (arith, offset_is, bytes, end, long, small), omega (arith, line_is, more_is, few, short, cut, end, long, small)), are))),
+        ));
+  }
+
+pub all_told : (before : Before) (part offsets : List ℕ) (index passed lines : ℕ) (starts : List Start) → Told before part offsets index passed lines starts → length offsets ≤ index → (done : List ℕ) → Counts before done → length (done ++ part) + 1 < 2 ^ 64 → AreStarts done part offsets starts
+all_told before part offsets index passed lines starts told end done counts small = subst (λ (x : List Start). AreStarts done part offsets x) (append-nil starts) ((told.are done counts small).1 [] (rw (drop_all index offsets end) refl))
+
+-- ---- what a parse of a part says of the offsets that the memory has
+
+pub within_text : {S : Type 0} (holds : S → S → List Item → Type 0) (spells : List Item → List ℕ → Type 0) (text : List ℕ) (b : Buffer) (len : ℕ) (a m : Memory) (old new : S) → b.start + b.parsed + len ≤ vec_len b.bytes → text ≡ take len (unparsed b)
+    → ((items : List Item) (starts : List ℕ) → spells items starts → Ascend 0 starts (length text)) → TakesFrom holds spells (HasStarts a m) old new → IfSome (starts_of m) (λ offsets. Ascend 0 offsets len)
+within_text holds spells text b len a m old new within is ascends t =
+    let long : length text ≡ len = omega (arith, within, b.bytes.ok, ap length is, length-take len (unparsed b), length-drop b.start b.bytes.items, length-drop b.parsed (held b)) in
+    let p = subst (λ (n : ℕ). Ascend 0 t.starts n) long (ascends t.items t.starts t.spelled) in
+    rw t.has (elim (starts_of a) as (λ o. IfSome (option_map (λ before. t.starts) o) (λ offsets. Ascend 0 offsets len)) [ None ↦ tt | Some before ↦ p ])
+
+pub kept_starts : (known : Option (List ℕ)) (P : List ℕ → Type 0) (offsets : List ℕ) → IfSome known (λ starts. offsets ≡ starts) → P offsets → IfSome known P
+kept_starts None P offsets e p = tt
+kept_starts (Some starts) P offsets e p = subst P e p
+
+-- what the sink took, whatever the error is
+pub items_over : {S : Type 0} (holds : S → S → List Item → Type 0) (k : ItemType) (text : List ℕ) (old new : S) (r : Result (Unit {0}) ParseError) → IfErr r (λ e. IsStrError k None text e) → IfErr r (λ e. kind_of e ≡ Parse → TakesPrefix holds k text old new)
+    → IfErr r (λ e. (kind_of e ≡ MemoryKind → ⊥) → (items : List Item) × TakesOver holds items old new)
+items_over holds k text old new (Ok x) refused before = refused
+items_over holds k text old new (Err e) refused before = λ not_memory. under (kind_of e) refl not_memory
+  where
+    under : (x : ParseErrorKind) → kind_of e ≡ x → (kind_of e ≡ MemoryKind → ⊥) → (items : List Item) × TakesOver holds items old new
+    under Io at kind = absurd (rw at at refused)
+    under Parse at kind = let b = before at in (b.0, b.2)
+    under MemoryKind at kind = absurd (kind at)

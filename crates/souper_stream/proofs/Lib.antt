@@ -1,16 +1,7 @@
-mod Nodes
-mod EndLines
 mod Parting
-mod Texts
-mod Scan
-pub mod Bytes
 mod LineLists
-mod Scanning
-mod WithoutEnd
-pub mod LastCut
+pub mod Cutting
 pub mod SegmentLaws
-mod Buffers
-mod Refusing
 pub mod Passing
 pub mod Reached
-mod Starting
+pub mod Buffers

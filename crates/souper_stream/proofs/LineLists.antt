@@ -1,20 +1,58 @@
--- The lines of a text, as a list.
-use Rattle.std.proofs.Common.{◌≡◌, inl, inr, ℕ, ◌+◌, ◌-◌, ◌<◌, ◌≤◌, Bool, true, false, List, [], ◌∷◌, ◌++◌, length, take, drop, refl, sym, ap, ◌∙◌, subst, arith, append_assoc, append-nil, length-append, eqb-true}
+-- Texts after lines, and the lines of a text as a list.
+use Rattle.std.proofs.Common.{◌≡◌, ◌⊎◌, inl, inr, ℕ, ◌+◌, ◌-◌, ◌<◌, List, [], ◌∷◌, ◌++◌, length, refl, sym, ap, ◌∙◌, subst, arith, append_assoc, append-nil, length-append, ◌≤◌, Bool, true, false, take, drop, eqb-true}
 use Rattle.std.specs.Prelude.{◌==◌, zero, suc}
 use Rattle.std.specs.List.{AllByRecursion}
 use Rattle.std.specs.Io.BufRead.{take_through}
 use Rattle.std.proofs.lemmas.Bool.{false_from_ne_true}
+use Rattle.std.proofs.lemmas.Grind.{flat_map-append}
 use Rattle.std.proofs.lemmas.List.{append_cancel_left, take_at, drop_at, length-take, take-take}
 use Rattle.memchr.specs.Find.{Passes, is_byte}
-use Rattle.souper_graph.specs.Syntax.Tokens.{Lexeme, IsOneLine, IsTextOf}
-use Rattle.souper_graph.specs.Syntax.Spelling.{kinds}
-use Rattle.souper_lexer.proofs.TokenLaws.{text_tokens, one_reading}
+use Rattle.souper_graph.specs.Values.{Item}
+use Rattle.souper_graph.specs.Syntax.Tokens.{Lexeme, IsGap, Begins, IsTextOf, IsOneLine}
+use Rattle.souper_graph.specs.Syntax.Spelling.{kinds, ItemType, list_spells, TextSpells}
+use Rattle.souper_lexer.proofs.TokenLaws.{begins_length, begins_append, text_tokens, one_reading}
 use Rattle.souper_ir.specs.Joining.{IsLines, moved}
+use Rattle.souper_ir.specs.Sinks.{PrefixSpells}
 use Rattle.souper_ir.specs.Laws.Steps.{kinds-append}
-use Rattle.souper_ir.proofs.Items.Joining.{no_lines_end, kinds_moved}
+use Rattle.souper_ir.proofs.Items.Joining.{begins_more, begins_moved, begins_later, left_of_lines, gap_of_lines, kinds_moved, list_append, no_lines_end}
 use Rattle.souper_ir.proofs.Items.Parting.{lines_end, tokens_part}
 use Rattle.souper_stream.specs.Segments.{Line, concat, IsLine, IsLastLine, AreLines, tokens_of, tokens_of_lines, Starts, IsLastLineAt}
-use Rattle.souper_stream.proofs.Texts.{lines_append, no_text}
+
+pub lines_append : (a b : List ℕ) → IsLines a → IsLines b → IsLines (a ++ b)
+lines_append a b l (inl none) = subst (λ (x : List ℕ). IsLines x) (sym (ap (λ (x : List ℕ). a ++ x) none ∙ append-nil a)) l
+lines_append a b l (inr end) = inr (a ++ end.0, ap (λ (x : List ℕ). a ++ x) end.1 ∙ sym (append_assoc a end.0 (10 ∷ [])))
+
+pub no_text : IsTextOf [] []
+no_text = ([], refl, record { gap = []; last = []; is_gap = ([], tt, refl); is_last = tt; text = refl })
+
+pub none_spelled : (k : ItemType) → TextSpells k [] []
+none_spelled k = ([], no_text, refl)
+
+-- tokens of lines, and those that the text after them begins with
+begins_join : (a b ra rest : List ℕ) (ts us : List (ℕ × Lexeme)) → Begins 0 a ts ra → (ts ≡ []) ⊎ (0 < length ra) → IsGap ra → Begins 0 b us rest → (other : List ℕ) × Begins 0 (a ++ b) (ts ++ moved (length a) us) other
+begins_join a b ra rest ts [] h some g k = (ra ++ b, subst (λ (x : List (ℕ × Lexeme)). Begins 0 (a ++ b) x (ra ++ b)) (sym (append-nil ts)) (begins_more ts 0 a ra b some h))
+begins_join a b ra rest ts (u ∷ us) h some g k =
+    let shorter = begins_length ts 0 a ra h in
+    let n : ℕ = length a - length ra in
+    let later : Begins (length a + 0) b (moved (length a) (u ∷ us)) rest = begins_moved (length a) (u ∷ us) 0 b rest k in
+    let here : Begins (n + length ra) b (moved (length a) (u ∷ us)) rest = subst (λ (m : ℕ). Begins m b (moved (length a) (u ∷ us)) rest) (let e : length a + 0 ≡ n + length ra = omega arith in e) later in
+    let whole : Begins n (ra ++ b) (moved (length a) (u ∷ us)) rest = begins_later ra (length a + u.0, u.1) (moved (length a) us) n b rest g here in
+    let lengths : n ≡ 0 + (length (a ++ b) - length (ra ++ b)) = omega (arith, length-append a b, length-append ra b) in
+    (rest, begins_append ts (moved (length a) (u ∷ us)) 0 (a ++ b) (ra ++ b) rest (begins_more ts 0 a ra b some h) (subst (λ (m : ℕ). Begins m (ra ++ b) (moved (length a) (u ∷ us)) rest) lengths whole))
+
+-- items of lines, and those that the text after them begins with
+pub prefix_after : (k : ItemType) (done part : List ℕ) (xs ys : List Item) → IsLines done → TextSpells k done xs → PrefixSpells k part ys → PrefixSpells k (done ++ part) (xs ++ ys)
+prefix_after k done part xs ys l a b =
+    let ts = a.0 in
+    let text = a.1 in
+    let j = begins_join done part text.0 b.1 ts b.0 text.1 (left_of_lines ts done text.0 l text.1) (gap_of_lines ts done text.0 l text.1 text.2) b.2 in
+    let are : kinds ts ++ kinds b.0 ≡ kinds (ts ++ moved (length done) b.0) =
+    ap (λ (x : List Lexeme). kinds ts ++ x) (sym (kinds_moved (length done) b.0)) ∙ sym (kinds-append ts (moved (length done) b.0)) in
+    (ts ++ moved (length done) b.0, j.0, j.1, subst (λ (x : List Lexeme). list_spells k (xs ++ ys) x) are (list_append k xs ys (kinds ts) (kinds b.0) a.2 b.3))
+
+-- and with more after them
+pub prefix_longer : (k : ItemType) (part rest : List ℕ) (ys : List Item) → IsLines part → PrefixSpells k part ys → PrefixSpells k (part ++ rest) ys
+prefix_longer k part rest ys l b = (b.0, b.1 ++ rest, begins_more b.0 0 part b.1 rest (left_of_lines b.0 part b.1 l b.2) b.2, b.3)
 
 -- ---- lists
 
@@ -23,8 +61,7 @@ concat-append [] ys = refl
 concat-append (x ∷ xs) ys = ap (λ (l : List ℕ). x ++ l) (concat-append xs ys) ∙ sym (append_assoc x (concat xs) (concat ys))
 
 pub tokens-append : (xs ys : List Line) → tokens_of_lines (xs ++ ys) ≡ tokens_of_lines xs ++ tokens_of_lines ys
-tokens-append [] ys = refl
-tokens-append (x ∷ xs) ys = ap (λ (ts : List Lexeme). tokens_of x ++ ts) (tokens-append xs ys) ∙ sym (append_assoc (tokens_of x) (tokens_of_lines xs) (tokens_of_lines ys))
+tokens-append xs ys = flat_map-append tokens_of xs ys
 
 pub tokens_snoc : (ls : List Line) (l : Line) → tokens_of_lines (ls ++ l ∷ []) ≡ tokens_of_lines ls ++ tokens_of l
 tokens_snoc ls l = tokens-append ls (l ∷ []) ∙ ap (λ (ts : List Lexeme). tokens_of_lines ls ++ ts) (append-nil (tokens_of l))
@@ -100,20 +137,16 @@ lines_exist (b ∷ bs) = let r = lines_exist bs in under (b == 10) refl r.0 r.1 
 
 -- ---- the first line
 
-through_line : (body rest : List ℕ) → IsOneLine body → take_through 10 (body ++ 10 ∷ rest) ≡ body ++ 10 ∷ []
-through_line [] rest h = refl
-through_line (b ∷ body) rest h = rw h.0 (ap (λ (x : List ℕ). b ∷ x) (through_line body rest h.1))
-
-through_all : (xs : List ℕ) → IsOneLine xs → take_through 10 xs ≡ xs
-through_all [] h = refl
-through_all (x ∷ xs) h = rw h.0 (ap (λ (l : List ℕ). x ∷ l) (through_all xs h.1))
+through_append : (xs ys : List ℕ) → IsOneLine xs → take_through 10 (xs ++ ys) ≡ xs ++ take_through 10 ys
+through_append [] ys h = refl
+through_append (x ∷ xs) ys h = rw h.0 (ap (λ (l : List ℕ). x ∷ l) (through_append xs ys h.1))
 
 through_whole : (l rest : List ℕ) → IsLine l → take_through 10 (l ++ rest) ≡ l
-through_whole l rest h = ap (take_through 10) (ap (λ (x : List ℕ). x ++ rest) h.2 ∙ append_assoc h.0 (10 ∷ []) rest) ∙ through_line h.0 rest h.1 ∙ sym h.2
+through_whole l rest h = ap (take_through 10) (ap (λ (x : List ℕ). x ++ rest) h.2 ∙ append_assoc h.0 (10 ∷ []) rest) ∙ through_append h.0 (10 ∷ rest) h.1 ∙ sym h.2
 
 first_through : (l : Line) (ls : List Line) → AreLines (l ∷ ls) → take_through 10 (concat (l ∷ ls)) ≡ l
 first_through l [] (inl h) = through_whole l [] h
-first_through l [] (inr h) = ap (take_through 10) (append-nil l) ∙ through_all l h.0
+first_through l [] (inr h) = through_append l [] h.0 ∙ append-nil l
 first_through l (m ∷ ls) h = through_whole l (concat (m ∷ ls)) h.0
 
 pub line_first : (ls : List Line) (text : List ℕ) (n : ℕ) → text ≡ concat ls → AreLines ls → 0 < length text → n ≡ length (take_through 10 text) → (back : List Line) × (ls ≡ take n text ∷ back) × (drop n text ≡ concat back)

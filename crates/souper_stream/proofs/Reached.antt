@@ -2,11 +2,11 @@
 use Rattle.std.proofs.Common.{◌≡◌, ◌⊎◌, inl, inr, ℕ, Bool, true, false, List, [], ◌∷◌, ◌++◌, length, Option, refl, sym, ap, ◌∙◌, subst, arith, append_assoc, append-nil, length-append}
 use Rattle.std.specs.Prelude.{map}
 use Rattle.std.specs.List.{AllByRecursion}
-use Rattle.std.proofs.lemmas.List.{map-append, nil_from_length}
+use Rattle.std.proofs.lemmas.List.{nil_from_length}
 use Rattle.std.specs.Io.KnownBytes.{Consumes}
 use Rattle.souper_graph.specs.Values.{Item}
 use Rattle.souper_graph.specs.WellFormed.{WellFormed}
-use Rattle.souper_graph.specs.Syntax.Spelling.{ItemType, TextSpells, SpellsNone}
+use Rattle.souper_graph.specs.Syntax.Spelling.{ItemType, TextSpells}
 use Rattle.souper_ir.specs.declared.parse.error.ParseError.{ParseError}
 use Rattle.souper_ir.specs.Joining.{IsLines}
 use Rattle.souper_ir.specs.Sinks.{TakesOver, PrefixSpells}
@@ -14,9 +14,8 @@ use Rattle.souper_stream.specs.declared.reader.ItemReader.{ItemReader}
 use Rattle.souper_stream.specs.Segments.{Line, concat, AreLines, EndsItem, AreCut, all_lines, PartsSpell}
 use Rattle.souper_stream.specs.Reading.{IsStreamTaken, IsStreamRefused}
 use Rattle.souper_stream.specs.Parts.{and_next, HasParts, HasAll, TakesPart, RefusesPart}
-use Rattle.souper_stream.proofs.LineLists.{concat-append, are_front, lines_front, lines_of}
-use Rattle.souper_stream.proofs.Texts.{none_spelled, prefix_after, prefix_longer}
-use Rattle.souper_stream.proofs.Scan.{no_tokens}
+use Rattle.souper_stream.proofs.LineLists.{concat-append, are_front, lines_front, lines_of, none_spelled, prefix_after, prefix_longer}
+use Rattle.souper_stream.proofs.Cutting.{no_tokens}
 use Rattle.souper_stream.proofs.SegmentLaws.{spells_by_parts}
 use Rattle.souper_stream.proofs.Passing.{all_lines_snoc, done_more}
 
@@ -25,27 +24,17 @@ use Rattle.souper_stream.proofs.Passing.{all_lines_snoc, done_more}
 over_both : {S : Type 0} (holds : S → S → List Item → Type 0) (xs ys : List Item) (a b c : S) → TakesOver holds xs a b → TakesOver holds ys b c → TakesOver holds (xs ++ ys) a c
 over_both holds xs ys a b c f g first items h = subst (λ (y : List Item). holds first c y) (append_assoc items xs ys) (g first (items ++ xs) (f first items h))
 
--- the first items were passed to the sink
-pub record Passed {T S : Type 0} (view : T → Item) (holds : S → S → List Item → Type 0) (all rest : List T) (first now : S) : Type 0 where
-  pub done : List T
-  pub whole : all ≡ done ++ rest
-  pub taken : TakesOver holds (map view done) first now
+-- a sink that takes the items that are left then has all, which are well formed
+pub record Passing {T S : Type 0} (view : T → Item) (holds : S → S → List Item → Type 0) (all rest : List T) (first now : S) : Type 0 where
+  pub well : AllByRecursion WellFormed (map view rest)
+  pub taken : (next : S) → TakesOver holds (map view rest) now next → TakesOver holds (map view all) first next
 
-pub passed_more : {T S : Type 0} (view : T → Item) (holds : S → S → List Item → Type 0) (all rest next : List T) (item : T) (first old new : S) → Passed view holds all rest first old → rest ≡ item ∷ next
-    → ((s : S) (items : List Item) → holds s old items → holds s new (items ++ view item ∷ [])) → Passed view holds all next first new
+pub passed_more : {T S : Type 0} (view : T → Item) (holds : S → S → List Item → Type 0) (all rest next : List T) (item : T) (first old new : S) → Passing view holds all rest first old → rest ≡ item ∷ next
+    → ((s : S) (items : List Item) → holds s old items → holds s new (items ++ view item ∷ [])) → Passing view holds all next first new
 passed_more view holds all rest next item first old new p e take = record {
-  done = p.done ++ item ∷ [];
-  whole = p.whole ∙ ap (λ (x : List _). p.done ++ x) e ∙ sym (append_assoc p.done (item ∷ []) next);
-  taken = subst (λ (xs : List Item). TakesOver holds xs first new) (sym (map-append view p.done (item ∷ []))) (over_both holds (map view p.done) (view item ∷ []) first old new p.taken take);
+  well = (rw e at p.well).1;
+  taken = λ last over. p.taken last (rw e (over_both holds (view item ∷ []) (map view next) old new last take over));
 }
-
-well_in : (xs ys : List Item) (a : Item) → AllByRecursion WellFormed (xs ++ a ∷ ys) → WellFormed a
-well_in [] ys a h = h.0
-well_in (x ∷ xs) ys a h = well_in xs ys a h.1
-
-pub next_well : {T S : Type 0} (view : T → Item) (holds : S → S → List Item → Type 0) (all rest next : List T) (item : T) (first now : S) → AllByRecursion WellFormed (map view all) → Passed view holds all rest first now → rest ≡ item ∷ next → WellFormed (view item)
-next_well view holds all rest next item first now h p e =
-    well_in (map view p.done) (map view next) (view item) (subst (λ (xs : List Item). AllByRecursion WellFormed xs) (ap (map view) (p.whole ∙ ap (λ (x : List _). p.done ++ x) e) ∙ map-append view p.done (item ∷ next)) h)
 
 -- ---- parts that are read one after another
 
@@ -126,10 +115,6 @@ parts_begin k start now ps r (ls, h) =
     ends [] e = nothing_left r.ended refl e
     ends (x ∷ xs) e = inl (lines_of (all_lines ps) (lines_front (all_lines ps) ls (λ none. (let both = sym e ∙ none in cc)) h.lines.are))
 
--- a refused part has lines, since no lines spell no items
-refused_some : (k : ItemType) (p : List Line) → SpellsNone k (concat p) → p ≡ [] → ⊥
-refused_some k p none e = none [] (subst (λ (x : List Line). TextSpells k (concat x) []) (sym e) (none_spelled k))
-
 -- a text that is refused after parts that spell items begins with these, and with the ones that the refused part begins with
 pub refusal_begun : {S : Type 0} (k : ItemType) (file start now : Option (List ℕ)) (ps : List (List Line)) (holds : S → S → List Item → Type 0) (old new : S) (q : ItemReader) (e : ParseError) (t : RefusesPart k file start now ps holds old new q e) (items : List Item) → PartsSpell k ps items
     → PrefixSpells k t.read (items ++ t.items)
@@ -137,7 +122,7 @@ refusal_begun k file start now ps holds old new q e t items spelled =
     let (ls, h) = t.goes_on in
     let done = concat (all_lines ps) in
     let lines = subst (λ (x : List Line). AreLines x) (ap (λ (x : List Line). x ++ ls) (all_lines_snoc ps t.part) ∙ append_assoc (all_lines ps) t.part ls) h.lines.are in
-    let whole_lines = lines_of (all_lines ps) (lines_front (all_lines ps) (t.part ++ ls) (λ none. refused_some k t.part t.none (nil_from_length t.part (omega (arith, ap length none, length-append t.part ls)))) lines) in
+    let whole_lines = lines_of (all_lines ps) (lines_front (all_lines ps) (t.part ++ ls) (λ none. t.none [] (rw (nil_from_length t.part (omega (arith, ap length none, length-append t.part ls))) (none_spelled k))) lines) in
     let cut = cut_front k ps t.part [] (next_front k (ps ++ t.part ∷ []) ls h.cut) in
     let text : t.read ≡ done ++ (concat t.part ++ t.after) = t.whole ∙ ap (λ (x : List ℕ). x ++ t.after) (done_more ps t.part) ∙ append_assoc done (concat t.part) t.after in
     subst (λ (x : List ℕ). PrefixSpells k x (items ++ t.items)) (sym text)

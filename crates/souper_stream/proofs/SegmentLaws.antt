@@ -1,5 +1,5 @@
 -- A text spells the items that its parts spell.
-use Rattle.std.proofs.Common.{◌≡◌, ℕ, true, List, [], ◌∷◌, ◌++◌, refl, sym, ap, ◌∙◌, subst, append-nil}
+use Rattle.std.proofs.Common.{◌≡◌, ℕ, true, List, [], ◌∷◌, ◌++◌, refl, sym, subst, append-nil}
 use Rattle.souper_graph.specs.Values.{Item}
 use Rattle.souper_graph.specs.Syntax.Tokens.{Lexeme, IsTextOf}
 use Rattle.souper_graph.specs.Syntax.Spelling.{kinds, ItemType, TextSpells, SpellsNone}
@@ -8,8 +8,7 @@ use Rattle.souper_ir.proofs.Items.Joining.{items_join}
 use Rattle.souper_stream.specs.Lines.{starts_line, LastEnds}
 use Rattle.souper_stream.specs.Segments.{Line, concat, AreLines, tokens_of, tokens_of_lines, Starts, AreCut, all_lines, AreParts, PartsSpell, SpellsByParts}
 use Rattle.souper_stream.proofs.Parting.{starts_longer, part_by}
-use Rattle.souper_stream.proofs.Texts.{none_spelled}
-use Rattle.souper_stream.proofs.LineLists.{starts_not_none, starts_with_more, concat-append, all_are_lines, lines_back, lines_front, lines_of, kinds_of_lines}
+use Rattle.souper_stream.proofs.LineLists.{none_spelled, starts_not_none, starts_with_more, concat-append, all_are_lines, lines_back, lines_front, lines_of, kinds_of_lines}
 
 pub lines_start : (q : List Line) → Starts q → starts_line (tokens_of_lines q) ≡ true
 lines_start [] s = absurd s
@@ -29,16 +28,12 @@ whole_parts k (p ∷ (q ∷ ps)) ws lines cut h =
     (r.0, r.1, r.2, r.3, whole_parts k (q ∷ ps) r.1 rest_lines cut.2 r.4)
 
 parts_whole : (k : ItemType) (ps : List (List Line)) (ws : List Item) → AreLines (all_lines ps) → AreCut k ps → PartsSpell k ps ws → TextSpells k (concat (all_lines ps)) ws
-parts_whole k [] ws lines cut h = subst (λ (x : List Item). TextSpells k [] x) (sym h) (none_spelled k)
-parts_whole k (p ∷ []) ws lines cut h =
-    let same : ws ≡ h.0 = h.2 ∙ ap (λ (x : List Item). h.0 ++ x) h.4 ∙ append-nil h.0 in
-    subst (λ (x : List Item). TextSpells k (concat (p ++ [])) x) (sym same) (subst (λ (x : List Line). TextSpells k (concat x) h.0) (sym (append-nil p)) h.3)
+parts_whole k [] ws lines cut h = rw h (none_spelled k)
+parts_whole k (p ∷ []) ws lines cut h = rw (h.2, h.4, append-nil h.0, append-nil p) h.3
 parts_whole k (p ∷ (q ∷ ps)) ws lines cut h =
-    let more = all_lines ps in
-    let p_lines = lines_front p (q ++ more) (starts_not_none (q ++ more) (starts_with_more q more cut.1)) lines in
-    let rest = parts_whole k (q ∷ ps) h.1 (lines_back p (q ++ more) lines) cut.2 h.4 in
-    subst (λ (x : List Item). TextSpells k (concat (all_lines (p ∷ (q ∷ ps)))) x) (sym h.2)
-    (subst (λ (x : List ℕ). TextSpells k x (h.0 ++ h.1)) (sym (concat-append p (q ++ more))) (items_join k (concat p) (concat (q ++ more)) h.0 h.1 (lines_of p p_lines) h.3 rest))
+    let more = q ++ all_lines ps in
+    let p_lines = lines_front p more (starts_not_none more (starts_with_more q (all_lines ps) cut.1)) lines in
+    rw (h.2, concat-append p more) (items_join k (concat p) (concat more) h.0 h.1 (lines_of p p_lines) h.3 (parts_whole k (q ∷ ps) h.1 (lines_back p more lines) cut.2 h.4))
 
 pub spells_by_parts : SpellsByParts
 spells_by_parts k text ps ws a = (

@@ -1,5 +1,5 @@
 -- Definitions. The reading of a stream by parts: each is some of its segments, and a part that spells no items is one segment.
-use Rattle.std.specs.Prelude.{◌≡◌, ◌⊎◌, ℕ, ◌+◌, ◌^◌, ◌<◌, ◌≤◌, Bool, true, false, is_some, List, [], ◌∷◌, ◌++◌, length, take, drop, Option}
+use Rattle.std.specs.Prelude.{◌≡◌, ◌⊎◌, ℕ, ◌+◌, ◌-◌, ◌^◌, ◌<◌, ◌≤◌, Bool, true, false, is_some, List, [], ◌∷◌, ◌++◌, length, take, Option, IfSome}
 use Rattle.std.specs.List.{AllByRecursion}
 use Rattle.std.specs.Io.KnownBytes.{Consumes}
 use Rattle.souper_graph.specs.Syntax.Spelling.{ItemType, TextSpells, SpellsNone}
@@ -7,10 +7,10 @@ use Rattle.souper_graph.specs.Values.{Item}
 use Rattle.souper_ir.specs.declared.parse.error.ParseError.{ParseError}
 use Rattle.souper_ir.specs.Errors.{HasLocation, IsRefusalAt}
 use Rattle.souper_ir.specs.Joining.{IsLines}
-use Rattle.souper_ir.specs.Sinks.{PrefixSpells, TakesOver}
+use Rattle.souper_ir.specs.Sinks.{PrefixSpells}
 use Rattle.souper_stream.specs.declared.buffer.Buffer.{Buffer}
 use Rattle.souper_stream.specs.declared.reader.ItemReader.{ItemReader}
-use Rattle.souper_stream.specs.Buffering.{unparsed, last_part, IsSound, Buffers, KeepsHeld}
+use Rattle.souper_stream.specs.Buffering.{last_part, Buffers, Passes, KeepsHeld}
 use Rattle.souper_ir.specs.Starts.{PrefixSpellsFrom, TextSpellsFrom, starts_of}
 use Rattle.souper_stream.specs.declared.starts.Start.{Start}
 use Rattle.souper_stream.specs.Starts.{AreStarts, ItemsStartAt}
@@ -43,12 +43,10 @@ pub record HasLines (start now : Option (List ℕ)) (ls : List Line) (ended fail
 -- these parts of a stream were read and parsed, and these lines are buffered after them
 pub record HasRead (k : ItemType) (start now : Option (List ℕ)) (ps : List (List Line)) (ls : List Line) (b : Buffer) (ended failed : Bool) (rejected : ℕ) : Type 0 where
   pub lines : HasLines start now (all_lines ps ++ ls) ended failed
-  pub buffers : Buffers (concat (all_lines ps)) b
-  pub rest : unparsed b ≡ concat ls
+  pub buffers : Buffers (concat (all_lines ps)) (concat ls) b
   pub cut : AreCut k (and_next ps ls)
   pub some : ended ≡ false → ls ≡ [] → ps ≡ []
   pub chunk : 0 < rejected → IsChunk k ended ls rejected
-  pub sound : IsSound b
 
 -- these parts of a stream were read and parsed
 abbrev pub HasParts : ItemType → Option (List ℕ) → Option (List ℕ) → List (List Line) → ItemReader → Type 0
@@ -58,9 +56,9 @@ HasParts k start now ps r = (ls : List Line) × HasRead k start now ps ls r.buff
 abbrev pub HasAll : ItemType → Option (List ℕ) → Option (List ℕ) → List (List Line) → Type 0
 HasAll k start now ps = (read : List ℕ) × Consumes start now read × AreAll start read × AreParts k read ps
 
--- the next chunk has this length; without one the stream has ended
-abbrev pub IsNext : ItemType → Option (List ℕ) → Option (List ℕ) → List (List Line) → ItemReader → ℕ → Type 0
-IsNext k start now ps r len = (ls : List Line) × HasRead k start now ps ls r.buffer r.ended (is_some r.fault) r.rejected × (len ≡ 0 → HasAll k start now ps) × (0 < len → IsChunk k r.ended ls len)
+-- the same parts were parsed
+abbrev pub KeepsParts : ItemType → Option (List ℕ) → Option (List ℕ) → ItemReader → ItemReader → Type 0
+KeepsParts k before after old new = (start : Option (List ℕ)) (ps : List (List Line)) → HasParts k start before ps old → HasParts k start after ps new
 
 -- the reader keeps where items begin
 abbrev pub keeps_starts : ItemReader → Bool
@@ -69,14 +67,6 @@ keeps_starts r = is_some (starts_of r.memory)
 -- `r.starts()`
 abbrev pub starts_of_part : ItemReader → List Start
 starts_of_part r = r.starts.items
-
--- these are the starts of the bytes at these offsets of the first `len` unparsed bytes
-abbrev pub AreNextStarts : Buffer → ℕ → List ℕ → List Start → Type 0
-AreNextStarts b len offsets starts = (done : List ℕ) → Buffers done b → length (done ++ take len (unparsed b)) + 1 < 2 ^ 64 → AreStarts done (take len (unparsed b)) offsets starts
-
--- the reader has these starts, if it keeps starts
-abbrev pub HasNextStarts : Buffer → ℕ → ItemReader → List ℕ → Type 0
-HasNextStarts b len r offsets = keeps_starts r ≡ true → AreNextStarts b len offsets r.starts.items
 
 -- If a chunk was read, the parsed text but for its last line was dropped before; else the buffer is the old one.
 pub record ReadsOn (old new : ItemReader) : Type 0 where
@@ -95,15 +85,15 @@ IsPlacedIn file read done part e = length read + 1 < 2 ^ 64 → (offset : ℕ) �
 abbrev pub IsLocatedIn : List ℕ → List ℕ → ParseError → Type 0
 IsLocatedIn done part e = length (done ++ part) + 1 < 2 ^ 64 → HasLocation (done ++ part) e
 
--- the first `len` unparsed bytes were parsed, and `rejected` bytes are left of their chunk
-pub record Advances (old : Buffer) (ended failed : Bool) (new : ItemReader) (len rejected : ℕ) : Type 0 where
-  pub ended_is : new.ended ≡ ended
-  pub failed_is : is_some new.fault ≡ failed
-  pub rejected_is : new.rejected ≡ rejected
-  pub buffers : (done : List ℕ) → Buffers done old → Buffers (done ++ take len (unparsed old)) new.buffer
-  pub rest : unparsed new.buffer ≡ drop len (unparsed old)
-  pub part : part_of new ≡ take len (unparsed old)
-  pub sound : IsSound new.buffer
+-- these are the starts of the bytes at these offsets of the first `len` unparsed bytes
+abbrev pub AreNextStarts : Buffer → ℕ → List ℕ → List Start → Type 0
+AreNextStarts b len offsets starts = (done rest : List ℕ) → Buffers done rest b → length (done ++ take len rest) + 1 < 2 ^ 64 → AreStarts done (take len rest) offsets starts
+
+-- the first `len` unparsed bytes were parsed, and the reader has the starts of their items, if it keeps starts
+pub record Advances (old : ItemReader) (len : ℕ) (new : ItemReader) : Type 0 where
+  pub same : new ≡ record old { buffer = new.buffer; starts = new.starts; rejected = old.rejected - len }
+  pub passes : Passes old.buffer len new.buffer
+  pub begin : IfSome (starts_of old.memory) (λ offsets. AreNextStarts old.buffer len offsets new.starts.items)
 
 -- a sink that held nothing holds the items
 abbrev pub Holds : {S : Type 0} → (S → S → List Item → Type 0) → List Item → S → S → Type 0
@@ -139,17 +129,3 @@ pub record RefusesPart {S : Type 0} (k : ItemType) (file start now : Option (Lis
   pub never : NeverSpells k (AreAll start read) read
   pub placed : IsPlacedIn file read (concat (all_lines ps)) (concat part) e
   pub located : IsLocatedIn (concat (all_lines ps)) (concat part) e
-
--- a chunk was left as it was, and the sink took items
-pub record LeavesChunk {S : Type 0} (r q : ItemReader) (holds : S → S → List Item → Type 0) (old new : S) : Type 0 where
-  pub buffer_is : q.buffer ≡ r.buffer
-  pub ended_is : q.ended ≡ r.ended
-  pub fault_is : q.fault ≡ r.fault
-  pub items : List Item
-  pub begun : TakesOver holds items old new
-
--- the next chunk is to be read segment by segment, and the sink has no items of it
-pub record Rejects {S : Type 0} (k : ItemType) (before after : Option (List ℕ)) (r q : ItemReader) (holds : S → S → List Item → Type 0) (old new : S) : Type 0 where
-  pub some : 0 < q.rejected
-  pub goes_on : (start : Option (List ℕ)) (ps : List (List Line)) → HasParts k start before ps r → HasParts k start after ps q
-  pub none : Holds holds [] old new

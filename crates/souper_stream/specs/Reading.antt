@@ -1,53 +1,22 @@
 -- Definitions. Reads of a stream, and their outcomes.
-use Rattle.std.specs.Prelude.{◌≡◌, ◌⊎◌, ℕ, ◌+◌, ◌-◌, ◌^◌, ◌<◌, ◌≤◌, Bool, true, false, List, [], ◌++◌, length, take, Option, IfSome}
+use Rattle.std.specs.Prelude.{◌≡◌, ◌⊎◌, ℕ, ◌+◌, ◌^◌, ◌<◌, ◌≤◌, Bool, true, List, ◌++◌, length, Option, IfSome, Result, Ok}
+use Rattle.std.specs.Io.{StartsWith, appended_bytes}
 use Rattle.std.specs.Io.KnownBytes.{Consumes}
 use Rattle.souper_graph.specs.Values.{Item}
-use Rattle.souper_graph.specs.Syntax.Tokens.{IsOneLine}
 use Rattle.souper_graph.specs.Syntax.Spelling.{ItemType, SpellsNone}
 use Rattle.souper_ir.specs.declared.parse.error.ParseError.{ParseError}
 use Rattle.souper_ir.specs.Errors.{HasLocation, IsRefusalAt}
-use Rattle.souper_ir.specs.Joining.{IsLines}
-use Rattle.souper_ir.specs.Places.{EndsIn}
 use Rattle.souper_ir.specs.Sinks.{TakesOver, TakesText, PrefixSpells}
 
 -- if the bytes of a reader are known, they are these
 abbrev pub AreAll : Option (List ℕ) → List ℕ → Type 0
 AreAll known bytes = IfSome known (λ all. all ≡ bytes)
 
--- these bytes were read and appended to the buffer
-pub record Reads (before after : Option (List ℕ)) (old new more : List ℕ) : Type 0 where
-  pub held : new ≡ old ++ more
-  pub consumed : Consumes before after more
-
--- these bytes were read and appended to the buffer; if the input has ended, they are all that was left of it
-pub record ReadsMore (before after : Option (List ℕ)) (old new : List ℕ) (ended : Bool) (more : List ℕ) : Type 0 where
-  pub held : new ≡ old ++ more
-  pub consumed : Consumes before after more
-  pub all_read : ended ≡ true → AreAll before more
-
--- these bytes were read and appended to the buffer, and end in a newline, unless the input has ended
-pub record ReadsLines (before after : Option (List ℕ)) (old new : List ℕ) (ended : Bool) : Type 0 where
-  pub more : List ℕ
-  pub read : ReadsMore before after old new ended more
-  pub ends : ended ≡ false → EndsIn more 10
-
--- at most one line was appended to the buffer: a newline is its last byte alone, and if the input has ended, it has none
-pub record AppendsLine (old new : List ℕ) (ended : Bool) : Type 0 where
-  pub line : List ℕ
-  pub held : new ≡ old ++ line
-  pub one_line : IsOneLine (take (length line - 1) line)
-  pub no_newline : ended ≡ true → IsOneLine line
-
--- whole lines were read and appended to the buffer, and with the input's end a part of one; bytes after them are lost, if a read failed
-pub record Fills (before after : Option (List ℕ)) (old new : List ℕ) (ended failed : Bool) : Type 0 where
-  pub more : List ℕ
-  pub lost : List ℕ
-  pub held : new ≡ old ++ more
-  pub consumed : Consumes before after (more ++ lost)
-  pub none_lost : failed ≡ false → lost ≡ []
-  pub not_failed : ended ≡ true → failed ≡ false
-  pub lines : ended ≡ false → IsLines more
-  pub all_read : ended ≡ true → AreAll before more
+-- bytes were read and appended to the buffer; at `Ok true` they are all that was left of the input
+pub record Reads {E : Type 0} (before after : Option (List ℕ)) (old new : List ℕ) (result : Result Bool E) : Type 0 where
+  pub kept : StartsWith new old
+  pub consumed : Consumes before after (appended_bytes old new)
+  pub all_read : result ≡ Ok true → AreAll before (appended_bytes old new)
 
 -- all of a stream was read, it spells items, and the sink took them
 pub record IsStreamTaken {S : Type 0} (k : ItemType) (before after : Option (List ℕ)) (holds : S → S → List Item → Type 0) (old new : S) : Type 0 where

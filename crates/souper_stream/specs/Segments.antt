@@ -2,6 +2,7 @@
 -- starts if it begins with a statement, or with one of an item's last lines. A lexical fault hides the tokens after it on its line, and
 -- no others; so the next segment can be parsed though this one is invalid.
 use Rattle.std.specs.Prelude.{◌≡◌, ◌⊎◌, ◌↔◌, ℕ, ◌-◌, ◌<◌, ◌≤◌, true, List, [], ◌∷◌, ◌++◌, length, take, drop, IsUtf8}
+use Rattle.std.specs.List.{flat_map}
 use Rattle.souper_graph.specs.Values.{Item}
 use Rattle.souper_graph.specs.Syntax.Tokens.{Lexeme, IsOneLine}
 use Rattle.souper_graph.specs.Syntax.Spelling.{kinds, ItemType, TextSpells}
@@ -38,8 +39,7 @@ tokens_of bs = kinds (lexed_of 0 bs).tokens
 
 -- The tokens of lines, each up to a fault if it has one. No token extends into the next line.
 abbrev pub tokens_of_lines : List Line → List Lexeme
-tokens_of_lines [] = []
-tokens_of_lines (l ∷ ls) = tokens_of l ++ tokens_of_lines ls
+tokens_of_lines ls = flat_map tokens_of ls
 
 -- an item ends with these lines: of the statements and last lines that begin in them, the last is one that an item of the type ends with
 abbrev pub EndsItem : ItemType → List Line → Type 0

@@ -1,7 +1,7 @@
 //! The buffer of a stream.
-ghost use Rattle.std.specs.Prelude.{◌≡◌, ℕ, ◌+◌, ◌^◌, ◌<◌, ◌≤◌, List, length, take, vec_len, OnOk};
+ghost use Rattle.std.specs.Prelude.{◌≡◌, ℕ, ◌+◌, ◌^◌, ◌<◌, ◌≤◌, List, [], length, take, vec_len, OnOk};
 ghost use Rattle.souper_ir.specs.Places.{newlines};
-ghost use Rattle.souper_stream.specs.Buffering.{Buffers, Counts, held, unparsed, last_part, IsSound, IsEmpty, Passes, Drains};
+ghost use Rattle.souper_stream.specs.Buffering.{Buffers, Counts, held, unparsed, Passes};
 
 use crate::lines::last_line_start;
 use souper_ir::parse::Before;
@@ -55,8 +55,9 @@ pub(crate) fn newline_count(bytes: &[u8]) -> usize
 }
 
 impl Buffer {
+    #[tactic(auto, using(crate::proofs::Buffers::buffers_none))]
     pub(crate) fn new(alloc: Global) -> Buffer
-        ensures { IsEmpty result }
+        ensures { Buffers [] [] result }
     {
         Buffer {
             bytes: Vec::new(alloc),
@@ -75,19 +76,10 @@ impl Buffer {
         &self.bytes[self.start..self.start + self.parsed + len]
     }
 
-    /// The bytes that were parsed last.
-    pub(crate) fn last_part(&self) -> &[u8]
-        requires { IsSound self.now }
-        ensures { result.now ≡ last_part self.now }
-    {
-        let end = self.start + self.parsed;
-        &self.bytes[end - self.last..end]
-    }
-
     /// The numbers of bytes and lines that were parsed.
     pub(crate) fn passed(&self) -> Before
         requires { self.now.start + self.now.parsed ≤ vec_len self.now.bytes }
-        ensures { (done : List ℕ) → Buffers done self.now → length done + 1 < 2 ^ 64 → Counts result done }
+        ensures { (done rest : List ℕ) → Buffers done rest self.now → length done + 1 < 2 ^ 64 → Counts result done }
     {
         Before {
             bytes: self.before.bytes.saturating_add(self.parsed),
@@ -123,10 +115,12 @@ impl Buffer {
     }
 
     /// Drops the lines that are not needed any more, and with them the bytes that were parsed last.
-    #[tactic(auto, using(std::proofs::lemmas::List::take_rest))]
+    #[tactic(auto, using(std::proofs::lemmas::List::take_rest, crate::proofs::Buffers::buffers_drained))]
     pub(crate) fn drain(&mut self, alloc: Global) -> Result<(), AllocError>
-        requires { self.old.start ≤ vec_len self.old.bytes }
-        ensures { OnOk result (Drains self.old self.new) }
+        requires { self.old.start + self.old.parsed ≤ vec_len self.old.bytes }
+        ensures bytes { OnOk result (self.new.bytes.items ≡ held self.old) }
+        ensures within { OnOk result (self.new.start + self.new.parsed ≤ vec_len self.new.bytes) }
+        ensures buffers { OnOk result ((done rest : List ℕ) → Buffers done rest self.old → Buffers done rest self.new) }
     {
         self.bytes = self.bytes[self.start..].to_vec(alloc)?;
         self.start = 0;

@@ -64,6 +64,7 @@ pub fn segment_len<T: StreamItem>(text: &[u8]) -> io::Result<usize>
 }
 
 // The first cut point of the text, if it has one before a line that is not UTF-8.
+#[tactic(auto, using(crate::proofs::Cutting::whole_uncut))]
 fn first_cut<T: StreamItem>(text: &[u8]) -> Option<usize>
     ensures cut { IfSome result (λ len. (ls : List Line) → text.now ≡ concat ls → AreLines ls → IsFirstSegment T.item_type ls len) }
     ensures some { IfSome result (λ len. 0 < length text.now → 0 < len) }
@@ -77,18 +78,20 @@ fn first_cut<T: StreamItem>(text: &[u8]) -> Option<usize>
     }
 }
 
-// The last cut point of the text after a line that begins at `start`, or 0 if none is there.
+// The last cut point of the text after a line that begins at `start`, or `start` if none is there.
+#[tactic(auto, using(crate::proofs::Cutting::placed_first, crate::proofs::Cutting::placed_cut))]
 fn last_cut_after<T: StreamItem>(text: &[u8], start: usize) -> usize
     requires within { start ≤ length text.now }
     requires lines { IsLines (take start text.now) }
-    ensures cut { 0 < result → (ls : List Line) → text.now ≡ concat ls → AreLines ls → CutsAt T.item_type ls result }
-    ensures last { IsUtf8 text.now → (0 < result) ⊎ (start ≡ 0) → (ls : List Line) → text.now ≡ concat ls → AreLines ls → HasNoCutAfter T.item_type ls result }
+    ensures within { result ≤ length text.now }
+    ensures cut { start < result → (ls : List Line) → text.now ≡ concat ls → AreLines ls → CutsAt T.item_type ls result }
+    ensures last { IsUtf8 text.now → (result ≡ 0) ⊎ (start < result) → (ls : List Line) → text.now ≡ concat ls → AreLines ls → HasNoCutAfter T.item_type ls result }
 {
     let mut cut = start;
     while let Some(len) = first_cut::<T>(&text[cut..]) {
         cut += len;
     }
-    if cut > start { cut } else { 0 }
+    cut
 }
 
 /// The offset of the last cut point of whole lines, in bytes, or 0 if there is none. What is before it spells items if each of its segments
@@ -97,6 +100,7 @@ fn last_cut_after<T: StreamItem>(text: &[u8], start: usize) -> usize
 /// [`segment_len`] says what a cut point is. The text is to be UTF-8 and to end in a newline, as [`lines_len`](crate::lines_len) says; else a
 /// cut point is returned, or 0, but maybe not the last.
 pub fn last_cut<T: StreamItem>(text: &[u8]) -> usize
+    ensures within { result ≤ length text.now }
     ensures cut { 0 < result → (ls : List Line) → text.now ≡ concat ls → AreLines ls → CutsAt T.item_type ls result }
     ensures last { IsUtf8 text.now → IsLines text.now → (ls : List Line) → text.now ≡ concat ls → AreLines ls → HasNoCutAfter T.item_type ls result }
 {
@@ -108,7 +112,7 @@ pub fn last_cut<T: StreamItem>(text: &[u8]) -> usize
     };
     while start > 0 {
         let cut = last_cut_after::<T>(text, start);
-        if cut > 0 {
+        if cut > start {
             return cut;
         }
         let len = (text.len() - start).saturating_mul(4);

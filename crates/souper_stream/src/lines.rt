@@ -16,35 +16,12 @@ use souper_lexer::{Fault, Lexer, Token};
 use std::io::ErrorKind;
 use std::{io, str};
 
-fn is_last_word(word: &str) -> bool
-    ensures { result ≡ last_word word.now }
-{
-    word == "infer" || (word == "result" || word == "cand")
-}
-
 // Whether the word begins a path condition, or one of an item's last lines.
 fn is_line_word(word: &str) -> bool
     ensures { result ≡ line_word word.now }
 {
-    is_last_word(word) || (word == "pc" || word == "blockpc")
-}
-
-// Whether the token shows that a line begins: at its word, or at what defines the name before it.
-fn shows_line(named: bool, token: Token<'_>) -> bool
-    ensures { result ≡ shows_line named (lexeme_of token.entry) }
-{
-    match token {
-        Token::Ident(word) => is_line_word(word),
-        Token::Eq => named,
-        Token::Colon => named,
-        _ => false,
-    }
-}
-
-fn is_name(token: Token<'_>) -> bool
-    ensures { result ≡ is_name (lexeme_of token.entry) }
-{
-    matches!(&token, Token::ValName(_))
+    let is_last = word == "infer" || (word == "result" || word == "cand");
+    is_last || (word == "pc" || word == "blockpc")
 }
 
 // The next token. It is lexed as the parser lexes it, so that a program has one caller of `Lexer::next_token`.
@@ -54,16 +31,6 @@ fn next_token<'a>(lexer: &mut Lexer<'a>) -> Result<Option<(usize, Token<'a>)>, F
     let (mut ahead, mut offset) = (None, 0);
     lexer.lex(&mut ahead, &mut offset)?;
     Ok(ahead)
-}
-
-// Whether the token is a word that begins a terminator.
-fn is_end_word<T: StreamItem>(token: Token<'_>) -> bool
-    ensures { result ≡ is_end_word T.item_type (lexeme_of token.entry) }
-{
-    match token {
-        Token::Ident(word) => T::ends_with(word),
-        _ => false,
-    }
 }
 
 /// The scanner state after a sequence of tokens.
@@ -87,32 +54,20 @@ impl ScanState {
         }
     }
 
-    // The state after one token more.
+    // The state after one token more. A line begins at its word, or at what defines the name before it.
     fn after<T: StreamItem>(self, token: Token<'_>) -> ScanState
         ensures { result ≡ state_after T.item_type self (lexeme_of token.entry) }
     {
-        let ends_item = if shows_line(self.after_name, token) {
-            is_end_word::<T>(token)
-        } else {
-            self.ends_item
+        let ends_item = match token {
+            Token::Ident(word) if is_line_word(word) => T::ends_with(word),
+            Token::Eq if self.after_name => false,
+            Token::Colon if self.after_name => false,
+            _ => self.ends_item,
         };
         ScanState {
-            after_name: is_name(token),
+            after_name: matches!(&token, Token::ValName(_)),
             ends_item,
         }
-    }
-}
-
-// The state after the remaining tokens, up to a fault, given the state before them.
-fn scan<T: StreamItem>(lexer: &mut Lexer<'_>, before: ScanState) -> ScanState
-    ensures { result ≡ scanned T.item_type before (kinds lexer.old.tokens) }
-{
-    let mut state = before;
-    'tokens: loop {
-        state = match next_token(lexer) {
-            Ok(Some((_, token))) => state.after::<T>(token),
-            _ => return state,
-        };
     }
 }
 
@@ -120,14 +75,14 @@ fn scan<T: StreamItem>(lexer: &mut Lexer<'_>, before: ScanState) -> ScanState
 pub(crate) fn scan_line<T: StreamItem>(line: &str, before: ScanState) -> ScanState
     ensures { result ≡ scanned T.item_type before (tokens_of line.now) }
 {
-    scan::<T>(&mut Lexer::new(line), before)
-}
-
-// Whether the token, after a name, says that the name is defined.
-fn defines(token: Token<'_>) -> bool
-    ensures { result ≡ defines (lexeme_of token.entry ∷ []) }
-{
-    matches!(&token, Token::Eq | Token::Colon)
+    let mut lexer = Lexer::new(line);
+    let mut state = before;
+    'tokens: loop {
+        state = match next_token(&mut lexer) {
+            Ok(Some((_, token))) => state.after::<T>(token),
+            _ => return state,
+        };
+    }
 }
 
 /// Whether the line begins with a statement, or is one of an item's last lines.
@@ -142,7 +97,7 @@ pub(crate) fn starts_line(line: &str) -> bool
     match first {
         Token::Ident(word) => is_line_word(word),
         Token::ValName(_) => match next_token(&mut lexer) {
-            Ok(Some((_, token))) => defines(token),
+            Ok(Some((_, token))) => matches!(&token, Token::Eq | Token::Colon),
             _ => false,
         },
         _ => false,
@@ -197,6 +152,7 @@ pub fn lines_len(bytes: &[u8]) -> usize
 }
 
 // The bytes before the first occurrence of the word, if an item of the type ends with a line that it begins; else all.
+#[tactic(auto, using(crate::proofs::Cutting::front_take, crate::proofs::Cutting::absent_before, crate::proofs::Cutting::end_word_some))]
 fn before_word<'a, T: StreamItem>(bytes: &'a [u8], word: &str) -> &'a [u8]
     ensures front { StartsWith bytes.now result.now }
     ensures none { end_word T.item_type word.now ≡ true → IsAbsent word.now result.now }
@@ -210,26 +166,18 @@ fn before_word<'a, T: StreamItem>(bytes: &'a [u8], word: &str) -> &'a [u8]
     }
 }
 
-// The bytes before the words that items of the type end with, be they in a token or in a comment, and how many bytes were searched for
-// the first of the words.
-fn before_end_words<T: StreamItem>(bytes: &[u8]) -> (&[u8], usize)
-    ensures front { StartsWith bytes.now result.0.now }
-    ensures none { NoEndWord T.item_type result.0.now }
-{
-    let bytes = before_word::<T>(bytes, "infer");
-    let bytes = before_word::<T>(bytes, "result");
-    (before_word::<T>(bytes, "cand"), bytes.len())
-}
-
 // The most bytes that are searched at once: an item may end with a word that is nowhere in the buffer, and another that comes soon.
 const WINDOW: usize = 512;
 
 /// The length of lines that the bytes begin with, in which the words that items of the type end with do not occur, and how many bytes were
-/// searched for such a word. 0 if the lines are not UTF-8: the line at fault is then found line by line.
+/// searched for the first of the words. 0 if the lines are not UTF-8: the line at fault is then found line by line.
 pub(crate) fn len_without_end<T: StreamItem>(bytes: &[u8]) -> (usize, usize)
     ensures { IsWithoutEnd T.item_type bytes.now result.0 }
 {
-    let (front, searched) = before_end_words::<T>(&bytes[..bytes.len().min(WINDOW)]);
+    let front = before_word::<T>(&bytes[..bytes.len().min(WINDOW)], "infer");
+    let front = before_word::<T>(front, "result");
+    let searched = front.len();
+    let front = before_word::<T>(front, "cand");
     let len = lines_len(front);
     match utf8(&front[..len]) {
         Ok(_) => (len, searched),

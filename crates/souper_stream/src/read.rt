@@ -68,6 +68,7 @@ impl<T: WholeItem + Drop> ChunkSink<T> for Pending<T> {
 }
 
 // Passes the items to the sink, and leaves none.
+#[tactic(auto, using(crate::proofs::Reached::passed_more))]
 fn pass_on<T: WholeItem + Drop, S: Sink<T>>(
     alloc: Global,
     pending: &mut Pending<T>,

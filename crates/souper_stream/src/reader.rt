@@ -1,14 +1,19 @@
 //! The reader of a stream: chunks of whole segments, and the segments of a chunk that spells no items.
-ghost use Rattle.std.specs.Prelude.{◌≡◌, ◌+◌, ◌++◌, ◌<◌, ◌≤◌, ℕ, List, [], length, take, true, false, Option, is_some, IfOk, IfErr, IfSome, IfNone, OnOk, vec_len, option_copied, IsUtf8};
+ghost use Rattle.std.specs.Prelude.{◌≡◌, ◌+◌, ◌++◌, ◌<◌, ◌≤◌, ℕ, List, [], length, take, true, false, Option, None, is_some, Ok, IfOk, IfErr, IfSome, OnOk, vec_len, option_copied};
+ghost use Rattle.std.specs.Io.{StopsAt, appended_bytes};
 ghost use Rattle.souper_graph.specs.Syntax.Spelling.{ItemType};
+ghost use Rattle.souper_graph.specs.Values.{Item};
+ghost use Rattle.souper_ir.specs.Answers.{IsStrError};
 ghost use Rattle.souper_ir.specs.Errors.{kind_of, offset_of, HasLocationAfter, IsLocatedAfter};
-ghost use Rattle.souper_ir.specs.Starts.{TakesFrom, TextSpellsFrom, starts_of};
+ghost use Rattle.souper_ir.specs.Places.{EndsIn};
+ghost use Rattle.souper_ir.specs.Sinks.{TakesOver};
+ghost use Rattle.souper_ir.specs.Starts.{TakesFrom, TextSpellsFrom, PrefixSpellsFrom, HasStarts, starts_of};
 ghost use Rattle.std.specs.IoError.{error_kind};
 ghost use Rattle.souper_stream.specs.Starts.{Ascend};
 ghost use Rattle.souper_stream.specs.Buffering.{held, unparsed, KeepsHeld};
-ghost use Rattle.souper_stream.specs.Segments.{Line, concat, AreLines, IsFirstSegment};
-ghost use Rattle.souper_stream.specs.Reading.{Reads, ReadsMore, ReadsLines, AppendsLine, Fills};
-ghost use Rattle.souper_stream.specs.Parts.{Advances, LeavesChunk, Rejects, HasParts, HasAll, part_of, keeps_starts, starts_of_part, AreNextStarts, HasNextStarts, ReadsOn, IsNext, TakesPart, RefusesPart};
+ghost use Rattle.souper_stream.specs.Segments.{Line};
+ghost use Rattle.souper_stream.specs.Reading.{Reads};
+ghost use Rattle.souper_stream.specs.Parts.{Advances, KeepsParts, HasParts, HasAll, Holds, part_of, keeps_starts, starts_of_part, ReadsOn, TakesPart, RefusesPart};
 
 use crate::buffer::Buffer;
 use crate::cuts::{last_cut, segment_len};
@@ -27,8 +32,7 @@ const BLOCK: usize = 65536;
 
 // Takes bytes of what the reader has buffered, and returns whether the input has ended.
 fn read_block<R: BufRead>(reader: &mut R, bytes: &mut Vec<u8>) -> io::Result<bool>
-    ensures read { IfOk result (λ ended. (more : List ℕ) × ReadsMore (R.remaining reader.old) (R.remaining reader.new) bytes.old.items bytes.new.items ended more) }
-    ensures failed { IfErr result (λ e. (more : List ℕ) × Reads (R.remaining reader.old) (R.remaining reader.new) bytes.old.items bytes.new.items more) }
+    ensures { Reads (R.remaining reader.old) (R.remaining reader.new) bytes.old.items bytes.new.items result }
 {
     let shown = match reader.fill_buf() {
         Ok(shown) => shown,
@@ -44,26 +48,27 @@ fn read_block<R: BufRead>(reader: &mut R, bytes: &mut Vec<u8>) -> io::Result<boo
 
 // Reads until `goal` bytes are buffered, or until the input has ended. Returns whether it has ended.
 fn fill_blocks<R: BufRead>(reader: &mut R, bytes: &mut Vec<u8>, goal: usize) -> io::Result<bool>
-    ensures read { IfOk result (λ ended. (more : List ℕ) × ReadsMore (R.remaining reader.old) (R.remaining reader.new) bytes.old.items bytes.new.items ended more) }
-    ensures failed { IfErr result (λ e. (more : List ℕ) × Reads (R.remaining reader.old) (R.remaining reader.new) bytes.old.items bytes.new.items more) }
+    ensures { Reads (R.remaining reader.old) (R.remaining reader.new) bytes.old.items bytes.new.items result }
 {
     for _turn in 0..u64::MAX {
         if bytes.len() >= goal {
             return Ok(false);
         }
-        if read_block(reader, bytes)? {
-            return Ok(true);
+        match read_block(reader, bytes) {
+            Ok(false) => {}
+            Ok(true) => return Ok(true),
+            Err(fault) => return Err(fault),
         }
     }
     Err(io::Error::from(ErrorKind::Other))
 }
 
 // Reads a line, and returns whether the input has ended: it is then empty, or has no newline.
-#[tactic(auto, using(crate::proofs::Bytes::line_reads, crate::proofs::Bytes::line_appended))]
+#[tactic(auto, using(crate::proofs::Buffers::line_reads, crate::proofs::Buffers::line_ends))]
 fn read_line<R: BufRead>(reader: &mut R, bytes: &mut Vec<u8>) -> io::Result<bool>
-    ensures read { IfOk result (λ ended. ReadsLines (R.remaining reader.old) (R.remaining reader.new) bytes.old.items bytes.new.items ended) }
-    ensures line { IfOk result (AppendsLine bytes.old.items bytes.new.items) }
-    ensures failed { IfErr result (λ e. (more : List ℕ) × Reads (R.remaining reader.old) (R.remaining reader.new) bytes.old.items bytes.new.items more) }
+    ensures read { Reads (R.remaining reader.old) (R.remaining reader.new) bytes.old.items bytes.new.items result }
+    ensures line { StopsAt (appended_bytes bytes.old.items bytes.new.items) 10 }
+    ensures ends { result ≡ Ok false → EndsIn (appended_bytes bytes.old.items bytes.new.items) 10 }
 {
     let len = reader.read_until(b'\n', bytes)?;
     Ok(len == 0 || bytes[bytes.len() - 1] != b'\n')
@@ -71,9 +76,10 @@ fn read_line<R: BufRead>(reader: &mut R, bytes: &mut Vec<u8>) -> io::Result<bool
 
 // Reads until `goal` bytes are buffered, and on to the end of a line, or until the input has ended. Returns whether it has ended. Some bytes
 // are read in any case, if there are any.
+#[tactic(auto, using(crate::proofs::Buffers::line_ends, crate::proofs::Buffers::ends_both))]
 fn fill_lines<R: BufRead>(reader: &mut R, bytes: &mut Vec<u8>, goal: usize) -> io::Result<bool>
-    ensures read { IfOk result (λ ended. ReadsLines (R.remaining reader.old) (R.remaining reader.new) bytes.old.items bytes.new.items ended) }
-    ensures failed { IfErr result (λ e. (more : List ℕ) × Reads (R.remaining reader.old) (R.remaining reader.new) bytes.old.items bytes.new.items more) }
+    ensures read { Reads (R.remaining reader.old) (R.remaining reader.new) bytes.old.items bytes.new.items result }
+    ensures ends { result ≡ Ok false → EndsIn (appended_bytes bytes.old.items bytes.new.items) 10 }
 {
     let start = bytes.len();
     if fill_blocks(reader, bytes, goal)? {
@@ -86,83 +92,12 @@ fn fill_lines<R: BufRead>(reader: &mut R, bytes: &mut Vec<u8>, goal: usize) -> i
     read_line(reader, bytes)
 }
 
-// The same, but if a read fails, the whole lines that were read before it stay in the buffer, and no part of a line.
-fn fill<R: BufRead>(reader: &mut R, bytes: &mut Vec<u8>, goal: usize) -> io::Result<bool>
-    ensures read { IfOk result (λ ended. Fills (R.remaining reader.old) (R.remaining reader.new) bytes.old.items bytes.new.items ended false) }
-    ensures failed { IfErr result (λ e. Fills (R.remaining reader.old) (R.remaining reader.new) bytes.old.items bytes.new.items false true) }
-{
-    let start = bytes.len();
-    match fill_lines(reader, bytes, goal) {
-        Ok(ended) => Ok(ended),
-        Err(fault) => {
-            let len = lines_len(&bytes[start..]);
-            bytes.truncate(start + len);
-            Err(fault)
-        }
-    }
-}
-
-// The error of a read.
-fn read_error(fault: io::Error) -> ParseError
-    ensures { kind_of result ≡ ParseErrorKind.Parse → ⊥ }
-{
-    if fault.kind() == ErrorKind::OutOfMemory {
-        ParseError::from(AllocError)
-    } else {
-        ParseError::from(fault)
-    }
-}
-
-// Gives an error of the first `len` unparsed bytes its place and its location in the stream.
-fn place(
-    alloc: Global,
-    buffer: &Buffer,
-    len: usize,
-    error: ParseError,
-    filename: Option<&str>,
-) -> ParseError
-    requires within { buffer.now.start + buffer.now.parsed + len ≤ vec_len buffer.now.bytes }
-    requires offset { IfSome (offset_of error) (λ offset. offset ≤ len) }
-    ensures located { kind_of result ≡ ParseErrorKind.Parse → IsLocatedAfter (option_copied filename.entry) buffer.now.before (take (buffer.now.parsed + len) (held buffer.now)) buffer.now.parsed error result }
-    ensures location { kind_of result ≡ ParseErrorKind.Parse → HasLocationAfter buffer.now.before (take (buffer.now.parsed + len) (held buffer.now)) result }
-{
-    match utf8(buffer.held(len)) {
-        Ok(source) => error.locate_after(alloc, buffer.before, source, buffer.parsed, filename),
-        Err(fault) => ParseError::from(fault),
-    }
-}
-
 // The fault of the first `len` unparsed bytes, which are not UTF-8.
 fn not_text(buffer: &Buffer, len: usize) -> io::Error
     requires { buffer.now.start + buffer.now.parsed + len ≤ vec_len buffer.now.bytes }
     ensures { error_kind result ≡ ErrorKind.InvalidData }
 {
     not_utf8(buffer.passed(), &buffer.unparsed()[..len])
-}
-
-// The length of the first segment of the first `rejected` unparsed bytes.
-fn first_segment_len<T: StreamItem>(buffer: &Buffer, rejected: usize) -> io::Result<usize>
-    requires { buffer.now.start + buffer.now.parsed + rejected ≤ vec_len buffer.now.bytes }
-    ensures segment { IfOk result (λ len. (ls : List Line) → take rejected (unparsed buffer.now) ≡ concat ls → AreLines ls → IsFirstSegment T.item_type ls len) }
-    ensures within { IfOk result (λ len. len ≤ rejected) }
-    ensures some { IfOk result (λ len. 0 < rejected → 0 < len) }
-{
-    match segment_len::<T>(&buffer.unparsed()[..rejected]) {
-        Ok(len) => Ok(len),
-        Err(_) => Err(not_text(buffer, rejected)),
-    }
-}
-
-// The first `len` unparsed bytes as text. The error says that they are not UTF-8.
-fn text_of(buffer: &Buffer, len: usize) -> io::Result<&str>
-    requires { buffer.now.start + buffer.now.parsed + len ≤ vec_len buffer.now.bytes }
-    ensures text { IfOk result (λ text. text.now ≡ take len (unparsed buffer.now)) }
-    ensures utf8 { IfOk result (λ text. IsUtf8 text.now) }
-{
-    match utf8(&buffer.unparsed()[..len]) {
-        Ok(text) => Ok(text),
-        Err(_) => Err(not_text(buffer, len)),
-    }
 }
 
 /// Reads a stream part by part.
@@ -258,19 +193,20 @@ impl ItemReader {
         requires { (k : ItemType) × (start : Option (List ℕ)) × (now : Option (List ℕ)) × (ps : List (List Line)) × HasParts k start now ps self.now }
         ensures { result.now ≡ part_of self.now }
     {
-        self.buffer.last_part()
+        let end = self.buffer.start + self.buffer.parsed;
+        &self.buffer.bytes[end - self.buffer.last..end]
     }
 
-    // Reads until `goal` bytes are buffered, if the stream has not ended. The error of a read that fails is returned by the next call, after the segments before it.
+    // Reads until `goal` bytes are buffered, if the stream has not ended. The error of a read that fails is returned by the next call, after
+    // the segments before it: whole lines that were read stay in the buffer, and no part of a line.
     fn read_more<R: BufRead>(&mut self, reader: &mut R, goal: usize) -> io::Result<()>
         requires parsed { self.old.buffer.start + self.old.buffer.parsed ≤ vec_len self.old.buffer.bytes }
         requires none { self.old.rejected ≡ 0 }
         ensures same { keeps_starts self.new ≡ keeps_starts self.old }
         ensures parsed { self.new.buffer.start + self.new.buffer.parsed ≤ vec_len self.new.buffer.bytes }
         ensures none { self.new.rejected ≡ 0 }
-        ensures start { self.new.buffer.start ≡ self.old.buffer.start }
         ensures kept { OnOk result ((more : List ℕ) × (self.new.buffer.bytes.items ≡ self.old.buffer.bytes.items ++ more)) }
-        ensures read { OnOk result ((k : ItemType) (start : Option (List ℕ)) (ps : List (List Line)) → HasParts k start (R.remaining reader.old) ps self.old → HasParts k start (R.remaining reader.new) ps self.new) }
+        ensures read { OnOk result ((k : ItemType) → KeepsParts k (R.remaining reader.old) (R.remaining reader.new) self.old self.new) }
     {
         if self.ended {
             return Ok(());
@@ -278,26 +214,31 @@ impl ItemReader {
         if let Some(fault) = self.fault.take() {
             return Err(fault);
         }
-        match fill(reader, &mut self.buffer.bytes, goal) {
+        let start = self.buffer.bytes.len();
+        match fill_lines(reader, &mut self.buffer.bytes, goal) {
             Ok(ended) => self.ended = ended,
-            Err(fault) => self.fault = Some(fault),
+            Err(fault) => {
+                let len = lines_len(&self.buffer.bytes[start..]);
+                self.buffer.bytes.truncate(start + len);
+                self.fault = Some(fault);
+            }
         }
         Ok(())
     }
 
-    // Drops what is not needed any more, reads up to the end of the next chunk, and returns its length in bytes, which is 0 if the stream
-    // has ended.
+    // Drops what is not needed any more, and reads up to the end of the next chunk. All its bytes count as rejected then: they are none if
+    // the stream has ended.
     fn next_chunk<T: StreamItem, R: BufRead>(
         &mut self,
         alloc: Global,
         reader: &mut R,
-    ) -> io::Result<usize>
+    ) -> io::Result<()>
         requires parsed { self.old.buffer.start + self.old.buffer.parsed ≤ vec_len self.old.buffer.bytes }
         requires none { self.old.rejected ≡ 0 }
         ensures same { keeps_starts self.new ≡ keeps_starts self.old }
-        ensures next { IfOk result (λ len. (start : Option (List ℕ)) (ps : List (List Line)) → HasParts T.item_type start (R.remaining reader.old) ps self.old
-            → IsNext T.item_type start (R.remaining reader.new) ps self.new len) }
-        ensures drained { IfOk result (λ len. self.new.buffer.start ≡ 0) }
+        ensures next { OnOk result ((start : Option (List ℕ)) (ps : List (List Line)) → HasParts T.item_type start (R.remaining reader.old) ps self.old
+            → HasParts T.item_type start (R.remaining reader.new) ps self.new × (self.new.rejected ≡ 0 → HasAll T.item_type start (R.remaining reader.new) ps)) }
+        ensures within { OnOk result (self.new.buffer.start + self.new.buffer.parsed + self.new.rejected ≤ vec_len self.new.buffer.bytes) }
         ensures kept { OnOk result (KeepsHeld self.old.buffer self.new.buffer) }
     {
         self.buffer.drain(alloc)?;
@@ -305,11 +246,12 @@ impl ItemReader {
         for _turn in 0..u64::MAX {
             self.read_more::<R>(reader, goal)?;
             if self.ended {
-                return Ok(self.buffer.unparsed().len());
+                self.rejected = self.buffer.unparsed().len();
+                return Ok(());
             }
-            let cut = last_cut::<T>(self.buffer.unparsed());
-            if cut > 0 {
-                return Ok(cut);
+            self.rejected = last_cut::<T>(self.buffer.unparsed());
+            if self.rejected > 0 {
+                return Ok(());
             }
             let len = self.buffer.bytes.len();
             goal = if self.is_eager {
@@ -321,86 +263,44 @@ impl ItemReader {
         Err(io::Error::from(ErrorKind::Other))
     }
 
-    // The first `len` unparsed bytes were parsed, and `rejected` bytes are left of their chunk. If none are, another chunk comes next.
-    fn pass(&mut self, len: usize, rejected: usize)
-        requires some { 0 < len }
-        requires within { self.old.buffer.start + self.old.buffer.parsed + len ≤ vec_len self.old.buffer.bytes }
-        ensures advanced { Advances self.old.buffer self.old.ended (is_some self.old.fault) self.new len rejected }
-        ensures bytes { self.new.buffer.bytes.items ≡ self.old.buffer.bytes.items }
-        ensures starts { self.new.starts ≡ self.old.starts }
-        ensures same { keeps_starts self.new ≡ keeps_starts self.old }
-    {
-        self.buffer.pass(len);
-        self.rejected = rejected;
-    }
-
-    // Keeps where the items begin that were read of the first `len` unparsed bytes.
-    fn keep_starts(&mut self, alloc: Global, len: usize) -> std::result::Result<(), AllocError>
-        requires within { self.old.buffer.start + self.old.buffer.parsed + len ≤ vec_len self.old.buffer.bytes }
-        requires ascend { IfSome (starts_of self.old.memory) (λ offsets. Ascend 0 offsets len) }
-        ensures starts { OnOk result (IfSome (starts_of self.old.memory) (λ offsets. AreNextStarts self.old.buffer len offsets self.new.starts.items)) }
-        ensures same { self.new ≡ record self.old { starts = self.new.starts } }
-    {
-        let part = &self.buffer.unparsed()[..len];
-        self.starts = starts_in(alloc, self.buffer.passed(), part, self.memory.starts())?;
-        Ok(())
-    }
-
-    // Passes the items of the next chunk, which has `len` bytes, to the sink. An error that is not out of memory leaves the chunk.
-    fn parse_chunk<T: StreamItem + Drop, S: Sink<T>>(
+    // Parses the first `len` unparsed bytes, and passes their items to the sink.
+    fn read_text<T: StreamItem + Drop, S: Sink<T>>(
         &mut self,
         alloc: Global,
         len: usize,
         sink: &mut S,
     ) -> Result<()>
-        requires some { 0 < len }
-        requires within { self.old.buffer.start + self.old.buffer.parsed + len ≤ vec_len self.old.buffer.bytes }
-        ensures advanced { OnOk result (Advances self.old.buffer self.old.ended (is_some self.old.fault) self.new len 0) }
-        ensures bytes { OnOk result (self.new.buffer.bytes.items ≡ self.old.buffer.bytes.items) }
-        ensures taken { OnOk result (TakesFrom S.holds (TextSpellsFrom T.item_type (take len (unparsed self.old.buffer))) (HasNextStarts self.old.buffer len self.new) sink.old sink.new) }
-        ensures same { keeps_starts self.new ≡ keeps_starts self.old }
-        ensures left { IfErr result (λ e. (kind_of e ≡ ParseErrorKind.Memory → ⊥) → LeavesChunk self.old self.new S.holds sink.old sink.new) }
+        requires { self.old.buffer.start + self.old.buffer.parsed + len ≤ vec_len self.old.buffer.bytes }
+        ensures same { self.new ≡ record self.old { memory = self.new.memory } }
+        ensures asked { keeps_starts self.new ≡ keeps_starts self.old }
+        ensures taken { OnOk result (TakesFrom S.holds (TextSpellsFrom T.item_type (take len (unparsed self.old.buffer))) (HasStarts self.old.memory self.new.memory) sink.old sink.new) }
+        ensures refused { IfErr result (λ e. kind_of e ≡ ParseErrorKind.Parse → IsStrError T.item_type None (take len (unparsed self.old.buffer)) e) }
+        ensures begun { IfErr result (λ e. kind_of e ≡ ParseErrorKind.Parse → TakesFrom S.holds (PrefixSpellsFrom T.item_type (take len (unparsed self.old.buffer))) (HasStarts self.old.memory self.new.memory) sink.old sink.new) }
+        ensures ascend { OnOk result (IfSome (starts_of self.new.memory) (λ offsets. Ascend 0 offsets len)) }
+        ensures ascend_before { IfErr result (λ e. kind_of e ≡ ParseErrorKind.Parse → IfSome (starts_of self.new.memory) (λ offsets. Ascend 0 offsets len)) }
+        ensures over { IfErr result (λ e. (kind_of e ≡ ParseErrorKind.Memory → ⊥) → (items : List Item) × TakesOver S.holds items sink.old sink.new) }
     {
-        let text = text_of(&self.buffer, len)?;
-        parse_with_memory::<T, S>(alloc, &mut self.memory, text, None, sink)?;
-        self.keep_starts(alloc, len)?;
-        self.pass(len, 0);
-        Ok(())
+        let text = match utf8(&self.buffer.unparsed()[..len]) {
+            Ok(text) => text,
+            Err(_) => return Err(ParseError::from(not_text(&self.buffer, len))),
+        };
+        parse_with_memory::<T, S>(alloc, &mut self.memory, text, None, sink)
     }
 
-    // Passes the items of the next chunk to the sink, and returns true; false if the stream has ended. If the chunk spells no items,
-    // it returns none, and the sink has no items of it.
-    fn read_chunk<T: StreamItem + Drop, R: BufRead, S: ChunkSink<T>>(
-        &mut self,
-        alloc: Global,
-        reader: &mut R,
-        sink: &mut S,
-    ) -> Result<Option<bool>>
-        requires none { self.old.rejected ≡ 0 }
-        requires had { (start : Option (List ℕ)) × (ps : List (List Line)) × HasParts T.item_type start (R.remaining reader.old) ps self.old }
-        ensures read { IfOk result (λ done. IfSome done (λ more. more ≡ true → (start : Option (List ℕ)) (ps : List (List Line)) → HasParts T.item_type start (R.remaining reader.old) ps self.old
-            → TakesPart T.item_type start (R.remaining reader.new) ps S.holds sink.old sink.new self.new)) }
-        ensures ended { IfOk result (λ done. IfSome done (λ more. more ≡ false → (start : Option (List ℕ)) (ps : List (List Line)) → HasParts T.item_type start (R.remaining reader.old) ps self.old
-            → HasAll T.item_type start (R.remaining reader.new) ps × (sink.new ≡ sink.old))) }
-        ensures rejected { IfOk result (λ done. IfNone done (Rejects T.item_type (R.remaining reader.old) (R.remaining reader.new) self.old self.new S.holds sink.old sink.new)) }
-        ensures failed { IfErr result (λ e. kind_of e ≡ ParseErrorKind.Parse → ⊥) }
-        ensures kept { OnOk result (KeepsHeld self.old.buffer self.new.buffer) }
+    // The first `len` unparsed bytes were parsed. Keeps where their items begin.
+    fn pass(&mut self, alloc: Global, len: usize) -> std::result::Result<(), AllocError>
+        requires some { 0 < len }
+        requires within { self.old.buffer.start + self.old.buffer.parsed + len ≤ vec_len self.old.buffer.bytes }
+        requires rejected { len ≤ self.old.rejected }
+        requires ascend { IfSome (starts_of self.old.memory) (λ offsets. Ascend 0 offsets len) }
+        ensures advanced { OnOk result (Advances self.old len self.new) }
         ensures same { keeps_starts self.new ≡ keeps_starts self.old }
     {
-        let len = match self.next_chunk::<T, R>(alloc, reader) {
-            Ok(0) => return Ok(Some(false)),
-            Ok(len) => len,
-            Err(fault) => return Err(read_error(fault)),
-        };
-        match self.parse_chunk::<T, S>(alloc, len, sink) {
-            Ok(()) => Ok(Some(true)),
-            Err(error) if error.kind() == ParseErrorKind::Memory => Err(error),
-            Err(_) => {
-                sink.rollback();
-                self.rejected = len;
-                Ok(None)
-            }
-        }
+        let part = &self.buffer.unparsed()[..len];
+        self.starts = starts_in(alloc, self.buffer.passed(), part, self.memory.starts())?;
+        self.buffer.pass(len);
+        self.rejected -= len;
+        Ok(())
     }
 
     // Passes the items of the first segment of the rejected bytes to the sink, and returns true.
@@ -416,24 +316,37 @@ impl ItemReader {
         ensures bytes { OnOk result (self.new.buffer.bytes.items ≡ self.old.buffer.bytes.items) }
         ensures refused_bytes { IfErr result (λ e. kind_of e ≡ ParseErrorKind.Parse → self.new.buffer.bytes.items ≡ self.old.buffer.bytes.items) }
         ensures same { keeps_starts self.new ≡ keeps_starts self.old }
-        ensures taken { IfOk result (λ more. (start now : Option (List ℕ)) (ps : List (List Line)) → HasParts T.item_type start now ps self.old
-            → TakesPart T.item_type start now ps S.holds sink.old sink.new self.new) }
-        ensures refused { IfErr result (λ e. kind_of e ≡ ParseErrorKind.Parse → (start now : Option (List ℕ)) (ps : List (List Line)) → HasParts T.item_type start now ps self.old
-            → RefusesPart T.item_type (option_copied filename.entry) start now ps S.holds sink.old sink.new self.new e) }
+        ensures taken { OnOk result ((start now : Option (List ℕ)) (ps : List (List Line)) (first : S) → HasParts T.item_type start now ps self.old → Holds S.holds [] first sink.old
+            → TakesPart T.item_type start now ps S.holds first sink.new self.new) }
+        ensures refused { IfErr result (λ e. kind_of e ≡ ParseErrorKind.Parse → (start now : Option (List ℕ)) (ps : List (List Line)) (first : S) → HasParts T.item_type start now ps self.old → Holds S.holds [] first sink.old
+            → RefusesPart T.item_type (option_copied filename.entry) start now ps S.holds first sink.new self.new e) }
     {
         let rejected = self.rejected;
-        let len = first_segment_len::<T>(&self.buffer, rejected)?;
-        let text = text_of(&self.buffer, len)?;
-        let parsed = match parse_with_memory::<T, S>(alloc, &mut self.memory, text, None, sink) {
-            Ok(()) => Ok(true),
-            Err(error) if error.kind() == ParseErrorKind::Parse => {
-                Err(place(alloc, &self.buffer, len, error, filename))
-            }
-            Err(error) => return Err(error),
+        let len = match segment_len::<T>(&self.buffer.unparsed()[..rejected]) {
+            Ok(len) => len,
+            Err(_) => return Err(ParseError::from(not_text(&self.buffer, rejected))),
         };
-        self.keep_starts(alloc, len)?;
-        self.pass(len, rejected - len);
-        parsed
+        match self.read_text::<T, S>(alloc, len, sink) {
+            Ok(()) => {
+                self.pass(alloc, len)?;
+                Ok(true)
+            }
+            Err(error) if error.kind() == ParseErrorKind::Parse => {
+                let error = match utf8(self.buffer.held(len)) {
+                    Ok(source) => error.locate_after(
+                        alloc,
+                        self.buffer.before,
+                        source,
+                        self.buffer.parsed,
+                        filename,
+                    ),
+                    Err(fault) => ParseError::from(fault),
+                };
+                self.pass(alloc, len)?;
+                Err(error)
+            }
+            Err(error) => Err(error),
+        }
     }
 
     /// Reads the next part of the stream, and passes its items to the sink, in order. Returns false if the stream has ended, and
@@ -472,9 +385,27 @@ impl ItemReader {
         if self.rejected > 0 {
             return self.read_segment::<T, S>(alloc, filename, sink);
         }
-        match self.read_chunk::<T, R, S>(alloc, reader, sink)? {
-            Some(more) => Ok(more),
-            None => self.read_segment::<T, S>(alloc, filename, sink),
+        match self.next_chunk::<T, R>(alloc, reader) {
+            Ok(()) => {}
+            Err(fault) if fault.kind() == ErrorKind::OutOfMemory => return Err(ParseError::from(
+                AllocError,
+            )),
+            Err(fault) => return Err(ParseError::from(fault)),
+        }
+        let len = self.rejected;
+        if len == 0 {
+            return Ok(false);
+        }
+        match self.read_text::<T, S>(alloc, len, sink) {
+            Ok(()) => {
+                self.pass(alloc, len)?;
+                Ok(true)
+            }
+            Err(error) if error.kind() == ParseErrorKind::Memory => Err(error),
+            Err(_) => {
+                sink.rollback();
+                self.read_segment::<T, S>(alloc, filename, sink)
+            }
         }
     }
 }

@@ -18,6 +18,7 @@ pub struct Start {
 }
 
 /// Where the bytes at these offsets of a part are in the stream, given the numbers of bytes and lines before the part.
+#[tactic(auto, using(crate::proofs::Buffers::none_told))]
 pub(crate) fn starts_in(
     alloc: Global,
     before: Before,

@@ -1,4 +1,4 @@
-use Rattle.souper_stream.proofs.LastCut.{no_end_uncut}
+use Rattle.souper_stream.proofs.Cutting.{no_end_uncut}
 use Rattle.souper_stream.proofs.cuts.last_cut.Goals as goal
 
 pub returns-in-None-clause-last : goal.returns-in-None-clause-last

@@ -1,14 +1,13 @@
--- The last cut point that was found, or the start.
-use Rattle.std.proofs.Common.{◌≡◌, ◌-◌, ◌≤◌, ◌<◌, List, length, take}
-use Rattle.souper_ir.specs.Joining.{IsLines}
-use Rattle.souper_stream.specs.Segments.{Line, concat, AreLines, CutsAt}
+-- The start, or the last cut point that was found.
+use Rattle.std.proofs.Common.{◌≡◌, ◌-◌, ◌≤◌, List, length}
+use Rattle.souper_stream.specs.Segments.{Line, concat, AreLines}
+use Rattle.souper_stream.proofs.Cutting.{Placed}
 use Rattle.souper_stream.proofs.cuts.last_cut_after.Given as goal
 
 abbrev pub invariant-loop-len : goal.invariant-loop-len
 invariant-loop-len g l = record {
   within : l.cut ≤ length l.text;
-  lines : IsLines (take l.cut l.text);
-  found : l.start < l.cut → (ls : List Line) → l.text ≡ concat ls → AreLines ls → CutsAt g.T.Item.item_type ls l.cut;
+  placed : (ls : List Line) → l.text ≡ concat ls → AreLines ls → Placed g.T.Item.item_type ls l.text l.start l.cut;
 }
 
 abbrev pub decreases-loop-len : goal.decreases-loop-len

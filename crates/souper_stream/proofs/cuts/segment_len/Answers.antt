@@ -1,11 +1,9 @@
-use Rattle.std.proofs.Common.{◌≡◌, ◌<◌, List, [], true, false, length, take, refl, sym, ◌∙◌, arith, eqb-true}
+use Rattle.std.proofs.Common.{◌≡◌, ◌<◌, [], true, false, length, take, refl, sym, ◌∙◌, arith, eqb-true}
 use Rattle.std.proofs.lemmas.Bool.Decides.{nat_tests}
+use Rattle.std.proofs.lemmas.Result.{err_from_is_err_and}
 use Rattle.souper_stream.specs.Lines.{starts_line}
-use Rattle.souper_stream.specs.Segments.{Line, concat, AreLines, HasBadLine, tokens_of}
-use Rattle.souper_stream.proofs.Scan.{state_first}
-use Rattle.souper_stream.proofs.Scanning.{scanned_step, no_cut_none, first_cut, first_end}
-use Rattle.souper_stream.proofs.WithoutEnd.{passed_over}
-use Rattle.souper_stream.proofs.LastCut.{bad_line, err_always}
+use Rattle.souper_stream.specs.Segments.{tokens_of}
+use Rattle.souper_stream.proofs.Cutting.{state_first, scanned_step, no_cut_none, first_cut, first_end, passed_over, bad_line}
 use Rattle.souper_stream.proofs.cuts.segment_len.Goals as goal
 use Rattle.souper_stream.proofs.cuts.segment_len.Goals.{else-state-via-then-state+else-starts_line, else-state-via-else-state}
 
@@ -18,13 +16,11 @@ loop-state-init g c = record {
 
 pub loop-state-preserved : goal.loop-state-preserved
 loop-state-preserved g c =
-    let k = g.T.Item.item_type in
     let rest = c.loop-state.rest.now in
     let n = c.first_line_len.result in
-    let first = c.first_line_len.ensures in
     let over = c.pass_without_end.ensures in
     let some : 0 < length rest = grind (arith, nat_tests, c.is_empty.ensures, c.loop-state-test.true) in
-    let less : length c.pass_without_end.result.0.now < length c.args.text.now = omega (arith, c.loop-state.invariant.within, c.split_at.ensures.back_len, over.within, first.some) in
+    let less : length c.pass_without_end.result.0.now < length c.args.text.now = omega (arith, c.loop-state.invariant.within, c.split_at.ensures.back_len, over.within, c.first_line_len.ensures.some) in
     let line : c.in_ok-line.line.now ≡ take n rest = c.in_ok-line.ensures.same ∙ c.split_at.ensures.front in
     let not_both : c.loop-state.state.ends_item ≡ true → starts_line (tokens_of (take n rest)) ≡ true → ⊥ =
     elim c.else-state.branch [
@@ -34,8 +30,8 @@ loop-state-preserved g c =
     record {
       within = omega arith;
       begun = λ e. less;
-      scanned = λ ls e lines. passed_over k ls c.split_at.result.1.now c.pass_without_end.result.0.now c.scan_line-state.result lines
-          (rw (c.split_at.ensures.back, c.scan_line-state.ensures, line) (scanned_step k ls rest c.loop-state.state lines (c.loop-state.invariant.scanned ls e lines) n some first.line not_both)) over.over;
+      scanned = λ ls e lines. passed_over g.T.Item.item_type ls c.split_at.result.1.now c.pass_without_end.result.0.now c.scan_line-state.result lines
+          (rw (c.split_at.ensures.back, c.scan_line-state.ensures, line) (scanned_step g.T.Item.item_type ls rest c.loop-state.state lines (c.loop-state.invariant.scanned ls e lines) n some c.first_line_len.ensures.line not_both)) over.over;
     }
 
 pub returns-then-starts_line-clause-segment : goal.returns-then-starts_line-clause-segment
@@ -54,10 +50,7 @@ returns-clause-segment g c = λ ls e lines.
 
 pub returns-in_err-line-clause-failed : goal.returns-in_err-line-clause-failed
 returns-in_err-line-clause-failed g c =
-    let k = g.T.Item.item_type in
     let rest = c.loop-state.rest.now in
-    let n = c.first_line_len.result in
     let some : 0 < length rest = grind (arith, nat_tests, c.is_empty.ensures, c.loop-state-test.true) in
-    err_always ((ls : List Line) → c.args.text.now ≡ concat ls → AreLines ls → HasBadLine k ls) c.from_residual.result
-    (λ ls e lines. bad_line k ls rest c.loop-state.state lines (c.loop-state.invariant.scanned ls e lines) n some c.first_line_len.ensures.line
-    (rw c.split_at.ensures.front at c.in_err-line.ensures.failed))
+    rw (err_from_is_err_and c.from_residual.result c.from_residual.ensures.1).1 (λ ls e lines.
+    bad_line g.T.Item.item_type ls rest c.loop-state.state lines (c.loop-state.invariant.scanned ls e lines) c.first_line_len.result some c.first_line_len.ensures.line (rw c.split_at.ensures.front at c.in_err-line.ensures.failed))

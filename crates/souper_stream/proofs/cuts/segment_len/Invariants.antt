@@ -1,7 +1,7 @@
 -- The lines before the rest were scanned, and no cut point is between them.
 use Rattle.std.proofs.Common.{◌≡◌, ◌<◌, ◌≤◌, true, List, length}
 use Rattle.souper_stream.specs.Segments.{Line, concat, AreLines}
-use Rattle.souper_stream.proofs.Scanning.{Scanned}
+use Rattle.souper_stream.proofs.Cutting.{Scanned}
 use Rattle.souper_stream.proofs.cuts.segment_len.Given as goal
 
 abbrev pub invariant-loop-state : goal.invariant-loop-state

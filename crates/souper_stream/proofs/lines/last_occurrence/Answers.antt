@@ -1,8 +1,7 @@
-use Rattle.std.proofs.Common.{◌≡◌, List, ℕ, ◌+◌, true, false, length, ◌∙◌, subst, arith}
+use Rattle.std.proofs.Common.{◌≡◌, List, ℕ, true, false, length, sym, ◌∙◌, subst, arith}
 use Rattle.std.proofs.lemmas.List.{take_all}
 use Rattle.souper_stream.specs.Lines.{IsAbsent}
-use Rattle.souper_stream.proofs.WithoutEnd.{end_word_some, absent_before}
-use Rattle.souper_stream.proofs.LastCut.{whole_front}
+use Rattle.souper_stream.proofs.Cutting.{absent_nowhere}
 use Rattle.souper_stream.proofs.lines.last_occurrence.Goals as goal
 use Rattle.souper_stream.proofs.lines.last_occurrence.Goals.{then-not-ends_with-via-then-not-ends_with, then-not-ends_with-via-else-not-ends_with+then-before_word-bytes}
 
@@ -10,12 +9,8 @@ pub returns-then-not-ends_with-clause-none : goal.returns-then-not-ends_with-cla
 returns-then-not-ends_with-clause-none g c = λ zero e. elim c.then-not-ends_with.branch [
   | then-not-ends_with-via-then-not-ends_with w ↦ (let no : false ≡ true = w.if-not-ends_with.ensures ∙ e in absurd cc)
   | then-not-ends_with-via-else-not-ends_with+then-before_word-bytes w ↦
-      subst (λ (x : List ℕ). IsAbsent c.args.word.now x) (whole_front c.args.bytes.now w.before_word.result.now w.before_word.ensures.front w.if-before_word-bytes.true) (w.before_word.ensures.none e)
+      subst (λ (x : List ℕ). IsAbsent c.args.word.now x) (sym w.before_word.ensures.front ∙ take_all (length w.before_word.result.now) c.args.bytes.now (omega arith)) (w.before_word.ensures.none e)
 ]
 
 pub returns-in-None-clause-none : goal.returns-in-None-clause-none
-returns-in-None-clause-none g c = λ zero e.
-    let bytes = c.args.bytes.now in
-    let word = c.args.word.now in
-    let none = rw c.as_bytes.ensures.value at c.in-None.ensures in
-    subst (λ (x : List ℕ). IsAbsent word x) (take_all (length bytes + 1) bytes (omega arith)) (absent_before bytes word (length bytes + 1) (end_word_some g.T.Item.item_type word e) (λ k l within. none k (omega arith) l))
+returns-in-None-clause-none g c = λ zero e. absent_nowhere c.args.bytes.now c.args.word.now (rw c.as_bytes.ensures.value at c.in-None.ensures)

@@ -1,7 +1,8 @@
--- The bytes read so far were consumed, and are buffered.
-use Rattle.std.proofs.Common.{◌≡◌, ℕ, List, ◌++◌}
-use Rattle.std.specs.Io.KnownBytes.{Consumes}
+-- The bytes read so far are buffered.
+use Rattle.std.specs.Prelude.{false, Ok}
+use Rattle.std.specs.declared.io.Error.{Error}
+use Rattle.souper_stream.specs.Reading.{Reads}
 use Rattle.souper_stream.proofs.reader.fill_blocks.Given as goal
 
 abbrev pub invariant-loop-turn : goal.invariant-loop-turn
-invariant-loop-turn g l = (more : List ℕ) × (l.bytes.items ≡ l.fn.bytes.items ++ more) × Consumes (g.R.Read.remaining l.fn.reader) (g.R.Read.remaining l.reader) more
+invariant-loop-turn g l = Reads {E = Error} (g.R.Read.remaining l.fn.reader) (g.R.Read.remaining l.reader) l.fn.bytes.items l.bytes.items (Ok false)

@@ -1,9 +1,6 @@
 use Rattle.std.proofs.Common.{rules, ◌<◌, length, arith}
-use Rattle.souper_stream.proofs.Starting.{none_told, to_end, one_told, all_told}
+use Rattle.souper_stream.proofs.Buffers.{to_end, one_told, all_told}
 use Rattle.souper_stream.proofs.starts.starts_in.Goals as goal
-
-pub loop-offset-init : goal.loop-offset-init
-loop-offset-init c = rw c.new-starts.ensures.items (none_told c.args.before c.args.part.now c.args.offsets.now c.requires)
 
 pub slice_bounds-newline_count-end : goal.slice_bounds-newline_count-end
 slice_bounds-newline_count-end c =

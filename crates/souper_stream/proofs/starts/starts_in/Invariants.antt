@@ -1,4 +1,4 @@
-use Rattle.souper_stream.proofs.Starting.{Told}
+use Rattle.souper_stream.proofs.Buffers.{Told}
 use Rattle.souper_stream.proofs.starts.starts_in.Given as goal
 
 abbrev pub invariant-loop-offset : goal.invariant-loop-offset

@@ -1,22 +1,16 @@
-use Rattle.std.proofs.Common.{◌≤◌, length, refl, arith}
-use Rattle.std.proofs.lemmas.List.{length-drop}
-use Rattle.souper_stream.specs.Buffering.{held, unparsed}
-use Rattle.souper_stream.proofs.Buffers.{unparsed_passed, buffers_passed, sound_passed, part_passed}
+use Rattle.std.proofs.Common.{take, refl, arith, length-append}
+use Rattle.souper_ir.specs.Starts.{starts_of}
+use Rattle.souper_stream.specs.Parts.{AreNextStarts}
+use Rattle.souper_stream.proofs.Buffers.{kept_starts}
 use Rattle.souper_stream.proofs.reader.ItemReader.pass.Goals as goal
 
 pub returns-clause-advanced : goal.returns-clause-advanced
 returns-clause-advanced c =
-    let old = c.args.self.now.buffer in
-    let mid = c.pass.new.self in
+    let r = c.args.self.now in
     let len = c.args.len in
-    let p = c.pass.ensures in
-    let fits : len ≤ length (unparsed old) = omega (arith, c.requires.within, old.bytes.ok, length-drop old.start old.bytes.items, length-drop old.parsed (held old)) in
     record {
-      ended_is = refl;
-      failed_is = refl;
-      rejected_is = refl;
-      buffers = λ done b. buffers_passed old mid len p done b fits;
-      rest = unparsed_passed old mid len p;
-      part = part_passed old mid len p;
-      sound = sound_passed old mid len p (omega (arith, c.requires.within, old.bytes.ok));
+      same = refl;
+      passes = c.pass.ensures;
+      begin = kept_starts (starts_of r.memory) (λ offsets. AreNextStarts r.buffer len offsets c.in_ok-self.field-0.items) c.starts.result.now c.starts.ensures.asked
+          (λ done rest b small. (rw (c.unparsed.ensures, b.rest_is) at c.in_ok-self.ensures) done (c.passed.ensures done rest b (omega (arith, length-append done (take len rest), small))) small);
     }

@@ -1,34 +1,39 @@
-use Rattle.std.proofs.Common.{arith}
-use Rattle.std.specs.Prelude.{option_copied}
+use Rattle.std.proofs.Common.{rules, ◌≡◌, ◌<◌, [], refl, subst, arith}
 use Rattle.std.proofs.lemmas.Result.{IfOk-weaker, IfErr-weaker}
-use Rattle.souper_stream.proofs.Passing.{chunk_fits, taken_after, refused_after}
+use Rattle.souper_ir.specs.declared.parse.error.ParseErrorKind.TheVariants.{Memory}
+use Rattle.souper_ir.specs.Errors.{kind_of}
+use Rattle.souper_stream.specs.declared.reader.ItemReader.{ItemReader}
+use Rattle.souper_stream.specs.Parts.{Advances}
+use Rattle.souper_stream.proofs.Passing.{rejected_fits, part_taken}
 use Rattle.souper_stream.proofs.reader.ItemReader.read_part.Goals as goal
 
 pub read_segment-requires-clause-within : goal.read_segment-requires-clause-within
 read_segment-requires-clause-within g c =
     let r = c.args.self.now in
-    let (ls, h) = c.requires.2 in
-    omega (arith, chunk_fits g.T.Item.item_type r.ended ls r.rejected r.buffer h.rest (h.chunk c.if-self-gt0.true) c.if-self-gt0.true, r.buffer.bytes.ok)
+    omega (arith, rejected_fits g.T.Item.item_type c.requires.0 (g.R.Read.remaining c.args.reader.now) c.requires.1 r c.requires.2 c.if-self-gt0.true, r.buffer.bytes.ok)
 
-pub read_segment-requires-in-None-clause-within : goal.read_segment-requires-in-None-clause-within
-read_segment-requires-in-None-clause-within g c =
-    let r = c.read_chunk.new.self in
-    let e = rw c.in-None.is at c.in_ok-more.ensures.rejected in
-    let (ls, h) = e.goes_on c.requires.0 c.requires.1 c.requires.2 in
-    omega (arith, chunk_fits g.T.Item.item_type r.ended ls r.rejected r.buffer h.rest (h.chunk e.some) e.some, r.buffer.bytes.ok)
+pub returns-then-len-eq0-clause-ended : goal.returns-then-len-eq0-clause-ended
+returns-then-len-eq0-clause-ended g c = λ e start ps had. ((c.in-Ok.ensures.next start ps had).1 c.if-len-eq0.true, refl)
 
-pub returns-in-None-clause-read : goal.returns-in-None-clause-read
-returns-in-None-clause-read g c =
-    let e = rw c.in-None.is at c.in_ok-more.ensures.rejected in
-    IfOk-weaker c.read_segment-in-None.result _ _ (λ more t f start ps had.
-    taken_after g.T.Item.item_type start (g.R.Read.remaining c.read_chunk.new.reader) ps g.S.Sink.holds c.args.sink.now c.read_chunk.new.sink c.read_segment-in-None.new.sink c.read_segment-in-None.new.self e.none
-    (t start (g.R.Read.remaining c.read_chunk.new.reader) ps (e.goes_on start ps had)))
-    c.read_segment-in-None.ensures.taken
+pub returns-in_ok-pass-in-Ok-read_text-clause-read : goal.returns-in_ok-pass-in-Ok-read_text-clause-read
+returns-in_ok-pass-in-Ok-read_text-clause-read g c = λ e start ps had.
+    let k = g.T.Item.item_type in
+    let q = c.pass.new.self in
+    let r : ItemReader = record c.next_chunk.new.self { memory = c.read_text.new.self.memory } in
+    let now = (c.in-Ok.ensures.next start ps had).0 in
+    let some : 0 < r.rejected = omega (arith, c.if-len-eq0.false) in
+    part_taken k start (g.R.Read.remaining c.next_chunk.new.reader) ps r q r.rejected now (now.1.chunk some) (λ s. absurd (omega arith)) some
+    (subst (λ (x : ItemReader). Advances x r.rejected q) c.read_text.ensures.same c.in_ok-pass-in-Ok-read_text.ensures.advanced) g.S.Sink.holds c.args.sink.now c.args.sink.now c.read_text.new.sink c.next_chunk.new.self.memory (λ s y. y) c.in-Ok-read_text.ensures.taken
 
-pub returns-in-None-clause-refused : goal.returns-in-None-clause-refused
-returns-in-None-clause-refused g c =
-    let e = rw c.in-None.is at c.in_ok-more.ensures.rejected in
-    IfErr-weaker c.read_segment-in-None.result _ _ (λ error t kind start ps had.
-    refused_after g.T.Item.item_type (option_copied c.args.filename) start (g.R.Read.remaining c.read_chunk.new.reader) ps g.S.Sink.holds c.args.sink.now c.read_chunk.new.sink c.read_segment-in-None.new.sink c.read_segment-in-None.new.self error e.none
-    (t kind start (g.R.Read.remaining c.read_chunk.new.reader) ps (e.goes_on start ps had)))
-    c.read_segment-in-None.ensures.refused
+pub returns-in-Err-2-read_text-clause-read : goal.returns-in-Err-2-read_text-clause-read
+returns-in-Err-2-read_text-clause-read g c =
+    let not_memory : kind_of c.in-Err-2-read_text.field-0 ≡ Memory → ⊥ = search rules in
+    let (items, over) = c.in-Err-2-read_text.ensures.over not_memory in
+    IfOk-weaker c.read_segment-in-Err-2-read_text.result _ _ (λ more taken e start ps had. taken start (g.R.Read.remaining c.next_chunk.new.reader) ps c.args.sink.now (rw c.read_text.ensures.same (c.in-Ok.ensures.next start ps had).0) (λ s y. c.rollback.ensures s items (over s [] y))) c.read_segment-in-Err-2-read_text.ensures.taken
+
+pub returns-in-Err-2-read_text-clause-refused : goal.returns-in-Err-2-read_text-clause-refused
+returns-in-Err-2-read_text-clause-refused g c =
+    let not_memory : kind_of c.in-Err-2-read_text.field-0 ≡ Memory → ⊥ = search rules in
+    let (items, over) = c.in-Err-2-read_text.ensures.over not_memory in
+    IfErr-weaker c.read_segment-in-Err-2-read_text.result _ _ (λ error refused kind start ps had. refused kind start (g.R.Read.remaining c.next_chunk.new.reader) ps c.args.sink.now (rw c.read_text.ensures.same (c.in-Ok.ensures.next start ps had).0) (λ s y. c.rollback.ensures s items (over s [] y)))
+    c.read_segment-in-Err-2-read_text.ensures.refused

@@ -1,66 +1,48 @@
-use Rattle.souper_ir.specs.Errors.{kind_of}
-use Rattle.souper_ir.specs.declared.parse.error.ParseErrorKind.TheVariants.{Parse}
-use Rattle.std.proofs.Common.{rules, ◌≡◌, ◌<◌, ◌-◌, ℕ, List, length, take, is_some, sym, ◌∙◌, ap, subst, arith}
+use Rattle.std.proofs.Common.{◌≡◌, ◌<◌, ◌+◌, rules, length, take, ap, ◌∙◌, subst, arith}
 use Rattle.std.specs.Prelude.{option_copied}
 use Rattle.std.proofs.lemmas.List.{length-drop, length-take}
-use Rattle.souper_ir.specs.Starts.{TextSpellsFrom, PrefixSpellsFrom, HasStarts}
-use Rattle.souper_stream.specs.Parts.{Advances, AreNextStarts, HasNextStarts, keeps_starts}
-use Rattle.souper_stream.specs.Buffering.{held, unparsed}
+use Rattle.souper_ir.specs.declared.parse.error.ParseErrorKind.TheVariants.{Parse}
+use Rattle.souper_ir.specs.Errors.{kind_of, HasLocationAfter, IsLocatedAfter}
 use Rattle.souper_stream.specs.declared.reader.ItemReader.{ItemReader}
-use Rattle.souper_stream.proofs.Passing.{segment_taken, segment_refused}
-use Rattle.souper_stream.proofs.Refusing.{text_refused}
-use Rattle.souper_stream.proofs.Starting.{kept_now, takes_with, text_within, prefix_within}
+use Rattle.souper_stream.specs.Buffering.{held}
+use Rattle.souper_stream.specs.Parts.{Advances}
+use Rattle.souper_stream.proofs.Passing.{first, first_chunk, first_left, part_taken, part_refused}
 use Rattle.souper_stream.proofs.reader.ItemReader.read_segment.Goals as goal
-use Rattle.souper_stream.proofs.reader.ItemReader.read_segment.Goals.{in-Ok, in-Err}
+use Rattle.souper_stream.proofs.reader.ItemReader.read_segment.Goals.{in-Ok-utf8, in-Err-utf8}
 
-pub keep_starts-requires-clause-ascend : goal.keep_starts-requires-clause-ascend
-keep_starts-requires-clause-ascend g c =
+pub returns-in_ok-pass-in-Ok-read_text-clause-taken : goal.returns-in_ok-pass-in-Ok-read_text-clause-taken
+returns-in_ok-pass-in-Ok-read_text-clause-taken g c = λ start now ps before had none.
     let k = g.T.Item.item_type in
-    let text = c.in_ok-text.text.now in
-    let r = c.args.self.now in
-    let long : length text ≡ c.in_ok-len.len = omega (arith, ap length c.in_ok-text.ensures.text, length-take c.in_ok-len.len (unparsed r.buffer), length-drop r.buffer.start r.buffer.bytes.items, length-drop r.buffer.parsed (held r.buffer), c.in_ok-len.ensures.within, c.requires.within, r.buffer.bytes.ok) in
-    elim c.match-parse_with_memory.branch [
-      | in-Ok w ↦ text_within g.S.Sink.holds k text c.args.self.now.memory c.parse_with_memory.new.memory c.in_ok-len.len c.args.sink.now c.parse_with_memory.new.sink long w.in-Ok.ensures.starts
-      | in-Err w ↦ prefix_within g.S.Sink.holds k text c.args.self.now.memory c.parse_with_memory.new.memory c.in_ok-len.len c.args.sink.now c.parse_with_memory.new.sink long (let kind : kind_of w.in-Err.error ≡ Parse = search rules in w.in-Err.ensures.starts_before kind)
-    ]
-
-pub returns-clause-taken : goal.returns-clause-taken
-returns-clause-taken g c =
-    let k = g.T.Item.item_type in
-    let r = c.args.self.now in
-    let len = c.in_ok-len.len in
-    let some : 0 < len = c.in_ok-len.ensures.some c.requires.some in
-    let m = c.parse_with_memory.new.memory in
+    let len = c.in-Ok.len in
     let q = c.pass.new.self in
-    let same = c.keep_starts.ensures.same in
-    let advances : Advances r.buffer r.ended (is_some r.fault) q len (r.rejected - len) = subst (λ (x : ItemReader). Advances x.buffer x.ended (is_some x.fault) q len (r.rejected - len)) same c.pass.ensures.advanced in
-    let there : (offsets : List ℕ) → HasStarts r.memory m offsets → HasNextStarts r.buffer len q offsets =
-    λ offsets h asked. kept_now r.memory m (λ x. AreNextStarts r.buffer len x q.starts.items) offsets h (rw (← c.pass.ensures.starts) at c.in_ok-keep_starts.ensures.starts) (sym (c.pass.ensures.same ∙ ap keeps_starts same) ∙ asked) in
-    let holds = g.S.Sink.holds in
-    elim c.match-parse_with_memory.branch [
-      | in-Ok w ↦ rw w.parsed-is (λ start now ps had. segment_taken k start now ps r q len c.requires.some some c.in_ok-len.ensures.segment advances had holds c.args.sink.now c.parse_with_memory.new.sink
-          (takes_with holds (TextSpellsFrom k (take len (unparsed r.buffer))) (HasStarts r.memory m) (HasNextStarts r.buffer len q) c.args.sink.now c.parse_with_memory.new.sink there (rw c.in_ok-text.ensures.text at w.in-Ok.ensures.starts)))
-      | in-Err w ↦ rw w.parsed-is tt
-    ]
+    let r : ItemReader = record c.args.self.now { memory = c.read_text.new.self.memory } in
+    let b = r.buffer in
+    let segment = rw c.unparsed.ensures at c.in-Ok.ensures.segment in
+    let some : 0 < len = c.in-Ok.ensures.some (omega (arith, c.requires.some, c.requires.within, b.bytes.ok, length-take r.rejected c.unparsed.result.now, ap length c.unparsed.ensures, length-drop b.start b.bytes.items, length-drop b.parsed (held b))) in
+    part_taken k start now ps r q len had (first_chunk k start now ps r len c.requires.some segment had) (first_left k start now ps r len c.requires.some segment had) some
+    (subst (λ (x : ItemReader). Advances x len q) c.read_text.ensures.same c.in_ok-pass-in-Ok-read_text.ensures.advanced) g.S.Sink.holds before c.args.sink.now c.read_text.new.sink c.args.self.now.memory none c.in-Ok-read_text.ensures.taken
 
-pub returns-clause-refused : goal.returns-clause-refused
-returns-clause-refused g c =
+pub returns-in_ok-pass-in-Err-read_text-clause-refused : goal.returns-in_ok-pass-in-Err-read_text-clause-refused
+returns-in_ok-pass-in-Err-read_text-clause-refused g c =
     let k = g.T.Item.item_type in
-    let r = c.args.self.now in
-    let len = c.in_ok-len.len in
-    let some : 0 < len = c.in_ok-len.ensures.some c.requires.some in
-    let m = c.parse_with_memory.new.memory in
-    let q = c.pass.new.self in
-    let same = c.keep_starts.ensures.same in
-    let advances : Advances r.buffer r.ended (is_some r.fault) q len (r.rejected - len) = subst (λ (x : ItemReader). Advances x.buffer x.ended (is_some x.fault) q len (r.rejected - len)) same c.pass.ensures.advanced in
-    let there : (offsets : List ℕ) → HasStarts r.memory m offsets → HasNextStarts r.buffer len q offsets =
-    λ offsets h asked. kept_now r.memory m (λ x. AreNextStarts r.buffer len x q.starts.items) offsets h (rw (← c.pass.ensures.starts) at c.in_ok-keep_starts.ensures.starts) (sym (c.pass.ensures.same ∙ ap keeps_starts same) ∙ asked) in
-    let text = c.in_ok-text.text.now in
+    let len = c.in-Ok.len in
     let file = option_copied c.args.filename in
-    let holds = g.S.Sink.holds in
-    elim c.match-parse_with_memory.branch [
-      | in-Ok w ↦ rw w.parsed-is tt
-      | in-Err w ↦ rw w.parsed-is (λ kind start now ps had. segment_refused k start now ps r q len c.requires.some some c.in_ok-len.ensures.segment advances had holds c.args.sink.now c.parse_with_memory.new.sink file w.place.result kind
-          (text_refused k file r.buffer len (HasNextStarts r.buffer len q) holds c.args.sink.now c.parse_with_memory.new.sink text w.in-Err.error w.place.result c.in_ok-text.ensures.text
-          (λ e. takes_with holds (PrefixSpellsFrom k text) (HasStarts r.memory m) (HasNextStarts r.buffer len q) c.args.sink.now c.parse_with_memory.new.sink there (w.in-Err.ensures.starts_before e)) w.in-Err.ensures.refused kind (w.place.ensures.located kind) (w.place.ensures.location kind)))
+    let e = c.in-Err-read_text.error in
+    let q = c.pass-in-Err-read_text.new.self in
+    let r : ItemReader = record c.args.self.now { memory = c.read_text.new.self.memory } in
+    let b = r.buffer in
+    let same = c.read_text.ensures.same in
+    let kind : kind_of e ≡ Parse = search rules in
+    let segment = rw c.unparsed.ensures at c.in-Ok.ensures.segment in
+    let some : 0 < len = c.in-Ok.ensures.some (omega (arith, c.requires.some, c.requires.within, b.bytes.ok, length-take r.rejected c.unparsed.result.now, ap length c.unparsed.ensures, length-drop b.start b.bytes.items, length-drop b.parsed (held b))) in
+    elim c.match-utf8.branch [
+      | in-Ok-utf8 w ↦ rw w.error2-is (λ shown_kind start now ps before had none. (
+          let shown = w.locate_after-error.result in
+          let source = w.in-Ok-utf8.ensures.same ∙ c.held.ensures in
+          part_refused k start now ps r q len had (first_chunk k start now ps r len c.requires.some segment had) (first_left k start now ps r len c.requires.some segment had) some
+          (subst (λ (x : ItemReader). Advances x len q) same c.in_ok-pass-in-Err-read_text.ensures.advanced) g.S.Sink.holds before c.args.sink.now c.read_text.new.sink c.args.self.now.memory file e shown none
+          (c.in-Err-read_text.ensures.begun kind) (first k start now ps r len c.requires.some segment had).uncut kind shown_kind (c.in-Err-read_text.ensures.refused kind)
+          (subst (λ (x : ItemReader). IsLocatedAfter file x.buffer.before (take (x.buffer.parsed + len) (held x.buffer)) x.buffer.parsed e shown) same (rw source at w.locate_after-error.ensures.located))
+          (subst (λ (x : ItemReader). HasLocationAfter x.buffer.before (take (x.buffer.parsed + len) (held x.buffer)) shown) same (rw source at (w.locate_after-error.ensures.location shown_kind)))))
+      | in-Err-utf8 w ↦ rw w.error2-is (λ shown_kind start now ps before had none. (let io = w.from-error.ensures in absurd (search rules)))
     ]
