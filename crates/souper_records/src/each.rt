@@ -47,17 +47,6 @@ impl Records {
             out: String::new(alloc),
         }
     }
-
-    // The item is dropped then.
-    fn append<T: WholeItem + Drop>(&mut self, item: &mut T) -> Result<(), AllocError>
-        requires { WellFormed (T.view item.old) }
-        ensures { OnOk result ((self.new.layout ≡ self.old.layout)
-            × (string_bytes self.new.out ≡ string_bytes self.old.out ++ record_of self.old.layout (T.view item.old))) }
-    {
-        self.text.clear();
-        append_last_text(self.layout.rename, item, &mut self.text)?;
-        append_record_of_text(self.alloc, self.layout, self.text.as_str(), &mut self.out)
-    }
 }
 
 impl<T: WholeItem + Drop> Sink<T> for Records {
@@ -69,7 +58,9 @@ impl<T: WholeItem + Drop> Sink<T> for Records {
     }
 
     fn take_over(&mut self, mut item: T) -> Result<Option<Arena<Statement>>, AllocError> {
-        self.append(&mut item)?;
+        self.text.clear();
+        append_last_text(self.layout.rename, &mut item, &mut self.text)?;
+        append_record_of_text(self.alloc, self.layout, self.text.as_str(), &mut self.out)?;
         Ok(item.take_statements())
     }
 }

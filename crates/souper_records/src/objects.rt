@@ -119,17 +119,6 @@ pub fn append_item(
     append_line(alloc, &object, out)
 }
 
-// The lines of a part's items, which have these texts.
-fn item_lines(alloc: Global, place: Place<'_>, texts: &[String]) -> Result<String, AllocError>
-    ensures { IfOk result (λ out. string_bytes out ≡ text_lines place.entry.name.now place.entry.starts.now (map string_bytes texts.now)) }
-{
-    let mut out = String::new(alloc);
-    for (start, text) in place.starts.iter().zip(texts) {
-        append_item(alloc, place.name, *start, text.as_str(), &mut out)?;
-    }
-    Ok(out)
-}
-
 // The lines of a part, whose items, or the ones that it begins with, have these texts.
 fn part_lines(
     alloc: Global,
@@ -140,7 +129,10 @@ fn part_lines(
     ensures { IfOk result (λ out. string_bytes out ≡ text_lines place.entry.name.now place.entry.starts.now (map string_bytes texts.now)
         ++ refusal_line place.entry.name.now (option_copied refusal.entry)) }
 {
-    let mut out = item_lines(alloc, place, texts)?;
+    let mut out = String::new(alloc);
+    for (start, text) in place.starts.iter().zip(texts) {
+        append_item(alloc, place.name, *start, text.as_str(), &mut out)?;
+    }
     append_refusal(alloc, place.name, refusal, &mut out)?;
     Ok(out)
 }

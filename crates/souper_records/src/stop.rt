@@ -49,8 +49,5 @@ pub fn write_text<W: Write>(text: &String, out: &mut Watched<W>) -> Result<(), S
     ensures written { OnOk result (IsGiven (stream W.contents out.old out.new) (string_bytes text.now)) }
     ensures failed { IfErr result (λ stop. IfInput stop (λ e. ⊥) × UnlessOutput stop (has_failed out.new) ⊥) }
 {
-    match out.write_all(text.as_bytes()) {
-        Ok(()) => Ok(()),
-        Err(fault) => Err(Stop::Output(fault)),
-    }
+    out.write_all(text.as_bytes()).map_err(Stop::Output)
 }

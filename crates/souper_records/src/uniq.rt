@@ -65,23 +65,6 @@ impl<T: WholeItem + Drop> ChunkSink<T> for Firsts {
     }
 }
 
-// Writes the records of the texts from the index `start` on.
-fn write_texts<W: Write>(
-    alloc: Global,
-    layout: Layout,
-    texts: &[String],
-    start: usize,
-    out: &mut Watched<W>,
-) -> Result<(), Stop>
-    ensures written { OnOk result (IsGiven (stream W.contents out.old out.new) (flat_map (record_of_text layout) (map string_bytes (drop start texts.now)))) }
-    ensures input { IfErr result (λ stop. IfInput stop (λ e. ⊥)) }
-    ensures unwritten { IfErr result (λ stop. UnlessOutput stop (has_failed out.new) (out.new ≡ out.old)) }
-{
-    let texts = &texts[start.min(texts.len())..];
-    let text = records_of_texts(alloc, layout, texts)?;
-    write_text(&text, out)
-}
-
 // Counts the items with these texts, and keeps the texts that are new.
 fn see_texts(seen: &mut Seen, texts: Vec<String>) -> Result<(), AllocError>
     ensures { OnOk result (map text_count seen.new.counts.entries ≡ tally_all (map text_count seen.old.counts.entries) (map string_bytes texts.items)) }
@@ -107,7 +90,9 @@ impl<T: StreamItem + Drop> PartSink<T> for Firsts {
         let texts = mem::replace(&mut self.texts, Vec::new(alloc));
         see_texts(&mut self.seen, texts)?;
         let seen = self.seen.counts.keys();
-        write_texts(alloc, self.layout, seen.as_slice(), start, out)
+        let new = &seen.as_slice()[start.min(seen.len())..];
+        let text = records_of_texts(alloc, self.layout, new)?;
+        write_text(&text, out)
     }
 }
 
