@@ -1,6 +1,5 @@
 -- Canonical texts. A text has one list of items, so it is canonical or not.
-use Rattle.std.proofs.Common.{◌≡◌, inl, inr, ℕ, Bool, false, List, [], Option, Some, refl, sym, ap, ◌∙◌, subst}
-use Rattle.std.specs.Prelude.{None, IsNone, IfNone, IfSome}
+use Rattle.std.proofs.Common.{◌≡◌, inl, inr, ℕ, Bool, false, List, [], Option, Some, refl, sym, ap, ◌∙◌, subst, None, IsNone, IfNone, IfSome}
 use Rattle.std.specs.declared.io.Error.{Error}
 use Rattle.std.proofs.KnownBytes.{Appends-nil, Appends-trans, Appends-kept}
 use Rattle.souper_graph.specs.Values.{Item}
@@ -24,13 +23,9 @@ use Rattle.souper_records.proofs.Outcomes.{none_reported, some_fault}
 
 -- whether it is, and on which line it first differs, from its canonical texts
 module _ (k : ItemType) (source : List ℕ) (items : List Item) (spelled : TextSpells k source items) where
-  pub canonical_if : (r : Option ℕ) → IfNone r (source ≡ texts_of items) → IfSome r (DifferOnLine source (texts_of items)) → (IsNone r → IsCanonical k source) × (IsCanonical k source → IsNone r)
-  canonical_if None same differs = ((λ none. (items, spelled, same)), (λ h. refl))
-  canonical_if (Some line) same differs = ((λ none. absurd cc), (λ h. absurd (differs.0 (h.2 ∙ ap texts_of (text_alone k source h.0 items h.1 spelled)))))
-
-  pub other_if : (r : Option ℕ) → IfSome r (DifferOnLine source (texts_of items)) → IfSome r (IsOtherLine k source)
-  other_if None differs = tt
-  other_if (Some line) differs = (items, spelled, differs)
+  pub judged : (r : Option ℕ) → IfNone r (source ≡ texts_of items) → IfSome r (DifferOnLine source (texts_of items)) → ((IsNone r → IsCanonical k source) × (IsCanonical k source → IsNone r)) × IfSome r (IsOtherLine k source)
+  judged None same differs = (((λ none. (items, spelled, same)), (λ h. refl)), tt)
+  judged (Some line) same differs = (((λ none. absurd cc), (λ h. absurd (differs.0 (h.2 ∙ ap texts_of (text_alone k source h.0 items h.1 spelled))))), (items, spelled, differs))
 
 -- ---- streams
 

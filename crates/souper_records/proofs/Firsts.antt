@@ -1,6 +1,5 @@
 -- Lemmas. The first of each key, and how many have it.
-use Rattle.std.proofs.Common.{◌≡◌, inl, inr, ℕ, Bool, true, false, List, [], ◌∷◌, ◌++◌, refl, sym, ap, ◌∙◌, subst, append_assoc, append-nil, ◌+◌, cond, map, arith}
-use Rattle.std.specs.Prelude.{bytes_eq, ◌||◌, if◌then◌else◌, String, string_bytes, string_eq, unwrap_or}
+use Rattle.std.proofs.Common.{◌≡◌, inl, inr, ℕ, Bool, true, false, List, [], ◌∷◌, ◌++◌, refl, sym, ap, ◌∙◌, subst, append_assoc, append-nil, ◌+◌, cond, map, arith, bytes_eq, ◌||◌, if◌then◌else◌, String, string_bytes, string_eq, unwrap_or}
 use Rattle.std.specs.List.{AllByRecursion, count_by}
 use Rattle.std.proofs.lemmas.Bool.{cases_Bool, both_ways, or_parts, or_cases, or_left, or_right, false_from_ne_true}
 use Rattle.std.proofs.lemmas.Slice.Eq.{bytes_eq-Decides}

@@ -1,6 +1,5 @@
 -- Part after part: the text read of a stream, the output, and the reports.
-use Rattle.std.proofs.Common.{◌≡◌, ◌⊎◌, inl, inr, ℕ, Bool, true, false, ◌||◌, List, [], ◌∷◌, ◌++◌, is_some, Option, Some, None, refl, sym, ap, ◌∙◌, subst, append_assoc, append-nil}
-use Rattle.std.specs.Prelude.{Result, Ok, Err, IfOk, IfErr}
+use Rattle.std.proofs.Common.{◌≡◌, ◌⊎◌, inl, inr, ℕ, Bool, true, false, ◌||◌, List, [], ◌∷◌, ◌++◌, is_some, Option, Some, None, refl, sym, ap, ◌∙◌, subst, append_assoc, append-nil, Result, Ok, Err, IfOk, IfErr}
 use Rattle.std.specs.List.{cons_option}
 use Rattle.std.specs.declared.io.Error.{Error}
 use Rattle.std.proofs.KnownBytes.{Appends-nil, Appends-trans, Appends-kept, Keeps-trans}
@@ -93,22 +92,6 @@ pub record Reached (k : ItemType) (file start mid : Option (List ℕ)) (asked : 
   pub reported : AreReported err (refusals_of outcomes)
   pub any_is : any ≡ any_refused outcomes
 
-abbrev pub reached_more : {k : ItemType} {file start mid after : Option (List ℕ)} {asked : Bool} {wrote both : List Outcome → Type 0} {more : Outcome → Type 0} {any refused : Bool} {p q : ItemReader} {E : Type 0} (bytes_of : E → Option (List ℕ)) (x y z : Watched E) (stays : has_failed y ≡ true → has_failed z ≡ true)
-    → keeps_starts q ≡ asked → ((os : List Outcome) (o : Outcome) → wrote os → more o → both (os ++ o ∷ [])) → (r : Reached k file start mid asked wrote (stream bytes_of x y) any p) → WritesPart k file start after (parts_of r.outcomes) more (stream bytes_of y z) refused q
-    → Reached k file start after asked both (stream bytes_of x z) (any || refused) q
-reached_more {k} {file} {start} {after = after} {q = q} bytes_of x y z stays same join r w =
-    let os = r.outcomes in
-    let o = w.outcome in
-    record {
-      outcomes = os ++ o ∷ [];
-      had = subst (λ (ps : List (List Line)). HasParts k start after ps q) (sym (parts_more os o)) w.had;
-      are = all_more (IsOutcomeAfter k file start) [] os o r.are w.is;
-      started = λ e. all_more (HasItemStarts k) [] os o (r.started e) (w.begin (same ∙ e));
-      written = join os o r.written w.are_written;
-      reported = subst (AreReported (stream bytes_of x z)) (sym (filter_map-append (λ (p : Outcome). p.refusal) os (o ∷ []))) (reported_both bytes_of x y z stays (refusals_of os) (refusals_of (o ∷ [])) r.reported w.reported);
-      any_is = (λ i. r.any_is i || w.any i) ∙ sym (list_any-append (λ (p : Outcome). is_some p.refusal) os (o ∷ []));
-    }
-
 -- ---- refusals
 
 -- no part was refused
@@ -133,6 +116,51 @@ parts_none k file start before (o ∷ os) items h any (xs, ys, is, one, more) = 
     under : (r : Option ParseError) → IsOutcome k file start (concat (all_lines before)) o.part o.items r → (is_some r || any_refused os) ≡ true → (any_refused os ≡ true → ⊥) → ⊥
     under (Some e) refused some later = refused.none xs one
     under None spelled some later = later some
+
+-- one part more
+module _ {k : ItemType} {name : List ℕ} {start mid after : Option (List ℕ)} {asked : Bool} {wrote both : List Outcome → Type 0} {more : Outcome → Type 0} {any refused : Bool} {p q : ItemReader} {E : Type 0} (bytes_of : E → Option (List ℕ)) (x y z : Watched E) (stays : has_failed y ≡ true → has_failed z ≡ true)
+    (same : keeps_starts q ≡ asked) (join : (os : List Outcome) (o : Outcome) → wrote os → more o → both (os ++ o ∷ [])) (r : Reached k (Some name) start mid asked wrote (stream bytes_of x y) any p) (w : WritesPart k (Some name) start after (parts_of r.outcomes) more (stream bytes_of y z) refused q) where
+  abbrev pub reached_more : Reached k (Some name) start after asked both (stream bytes_of x z) (any || refused) q
+  reached_more =
+      let os = r.outcomes in
+      let o = w.outcome in
+      record {
+        outcomes = os ++ o ∷ [];
+        had = subst (λ (ps : List (List Line)). HasParts k start after ps q) (sym (parts_more os o)) w.had;
+        are = all_more (IsOutcomeAfter k (Some name) start) [] os o r.are w.is;
+        started = λ e. all_more (HasItemStarts k) [] os o (r.started e) (w.begin (same ∙ e));
+        written = join os o r.written w.are_written;
+        reported = subst (AreReported (stream bytes_of x z)) (sym (filter_map-append (λ (p : Outcome). p.refusal) os (o ∷ []))) (reported_both bytes_of x y z stays (refusals_of os) (refusals_of (o ∷ [])) r.reported w.reported);
+        any_is = (λ i. r.any_is i || w.any i) ∙ sym (list_any-append (λ (p : Outcome). is_some p.refusal) os (o ∷ []));
+      }
+
+  -- it was refused, and reading ends with it
+  pub reached_refusal : refused ≡ true → (recover : Bool) → recover ≡ false → any ≡ false → WritesParts k name recover start after (WroteParts k asked both) (stream bytes_of x z) true
+  reached_refusal last recover stops quiet =
+      let os = r.outcomes in
+      let o = w.outcome in
+      let now = reached_more in
+      let t = w.after last in
+      let none : any_refused os ≡ false = sym r.any_is ∙ quiet in
+      let begun : PrefixSpells k t.read (items_of (os ++ o ∷ [])) = subst (PrefixSpells k t.read) (sym (items_more os o)) (t.begun (items_of os) (none_refused k (Some name) start [] os r.are none).1) in
+      record {
+        outcomes = os ++ o ∷ [];
+        reads = record {
+          read = t.read;
+          rest = t.rest;
+          consumed = t.consumed;
+          whole = t.whole ∙ ap (λ (ps : List (List Line)). concat (all_lines ps) ++ t.rest) (sym (parts_more os o));
+          are = now.are;
+          begun = λ e. begun;
+        };
+        any = (λ i. sym quiet i || sym last i) ∙ now.any_is;
+        ended = elim [ inl e ↦ (let bad : true ≡ false = sym e ∙ stops in absurd cc) | inr e ↦ absurd cc ];
+        spelled = λ e. absurd cc;
+        never = λ e. t.never;
+        stopped = λ e f. record { front = os; last = o; whole = refl; none = none; begun = begun };
+        are_written = (now.written, now.started);
+        reported = now.reported;
+      }
 
 -- ---- the end
 
@@ -170,36 +198,6 @@ module _ {k : ItemType} {name : List ℕ} {start mid : Option (List ℕ)} {asked
       let (read, rest, consumed, whole, begun) = parts_begin k start mid (parts_of r.outcomes) p r.had in
       let reads : ReadsParts k name start mid r.outcomes = record { read = read; rest = rest; consumed = consumed; whole = whole; are = r.are; begun = λ none. begun (items_of r.outcomes) (none_spelled none) } in
       (r.outcomes, (mid, reads, λ stops. inl (sym r.any_is ∙ quiet stops)), (λ stops. sym r.any_is ∙ quiet stops), r.reported, unless)
-
--- the last part was refused, and reading ends with it
-pub reached_refusal : {k : ItemType} {name : List ℕ} {start mid after : Option (List ℕ)} {asked : Bool} {wrote both : List Outcome → Type 0} {more : Outcome → Type 0} {any : Bool} {p q : ItemReader} {E : Type 0} (bytes_of : E → Option (List ℕ)) (x y z : Watched E) (stays : has_failed y ≡ true → has_failed z ≡ true)
-    → keeps_starts q ≡ asked → ((os : List Outcome) (o : Outcome) → wrote os → more o → both (os ++ o ∷ [])) → (r : Reached k (Some name) start mid asked wrote (stream bytes_of x y) any p) → WritesPart k (Some name) start after (parts_of r.outcomes) more (stream bytes_of y z) true q
-    → (recover : Bool) → recover ≡ false → any ≡ false → WritesParts k name recover start after (WroteParts k asked both) (stream bytes_of x z) true
-reached_refusal {k} {name} {start} {both = both} bytes_of x y z stays same join r w recover stops quiet =
-    let os = r.outcomes in
-    let o = w.outcome in
-    let now = reached_more {both = both} bytes_of x y z stays same join r w in
-    let t = w.after refl in
-    let none : any_refused os ≡ false = sym r.any_is ∙ quiet in
-    let begun : PrefixSpells k t.read (items_of (os ++ o ∷ [])) = subst (PrefixSpells k t.read) (sym (items_more os o)) (t.begun (items_of os) (none_refused k (Some name) start [] os r.are none).1) in
-    record {
-      outcomes = os ++ o ∷ [];
-      reads = record {
-        read = t.read;
-        rest = t.rest;
-        consumed = t.consumed;
-        whole = t.whole ∙ ap (λ (ps : List (List Line)). concat (all_lines ps) ++ t.rest) (sym (parts_more os o));
-        are = now.are;
-        begun = λ e. begun;
-      };
-      any = (λ i. sym quiet i || true) ∙ now.any_is;
-      ended = elim [ inl e ↦ (let bad : true ≡ false = sym e ∙ stops in absurd cc) | inr e ↦ absurd cc ];
-      spelled = λ e. absurd cc;
-      never = λ e. t.never;
-      stopped = λ e f. record { front = os; last = o; whole = refl; none = none; begun = begun };
-      are_written = (now.written, now.started);
-      reported = now.reported;
-    }
 
 -- ---- the same outcomes, the output in other words
 
@@ -259,4 +257,4 @@ module _ {W E : Type 0} (out_of : W → Option (List ℕ)) (err_of : E → Optio
   run_ends (Err (Input e)) status p (os, begun, none, reported, so) input (kept, inr (inl (two, kind, (fault, is, line)))) = rw two (os, begun, inl (known_so kept os so, inl (told_then os (IsFaultLine name) reported (some_fault fault name (stream err_of v w) line))))
   run_ends (Err (Input e)) status p (os, begun, none, reported, so) input (kept, inr (inr (two, line))) = rw two (os, begun, inl (known_so kept os so, inr (told_then os IsMemoryLine reported line)))
   run_ends (Err (Output f)) status p (os, begun, none, reported, bad) input (kept, ends) = output_ends f status os begun reported (out_stays bad) ends
-  run_ends (Err Memory) status p (os, begun, none, reported, so) input (kept, (two, line)) = rw two (os, begun, inl (known_so kept os so, inr (told_then os IsMemoryLine reported line)))
+  run_ends (Err Memory) status p (os, begun, none, reported, so) input (kept, two, line) = rw two (os, begun, inl (known_so kept os so, inr (told_then os IsMemoryLine reported line)))

@@ -1,6 +1,5 @@
 -- Items that were seen: their texts, part after part of a stream, and their records with counts.
-use Rattle.std.proofs.Common.{◌≡◌, ℕ, Bool, true, false, List, [], ◌∷◌, ◌++◌, map, length, drop, Option, refl, sym, ap, ◌∙◌, subst, append_assoc, append-nil, inl, inr, take, take-append-drop}
-use Rattle.std.specs.Prelude.{String, string_bytes, flat_map, if◌then◌else◌}
+use Rattle.std.proofs.Common.{◌≡◌, ℕ, Bool, true, false, List, [], ◌∷◌, ◌++◌, map, length, drop, Option, refl, sym, ap, ◌∙◌, subst, append_assoc, append-nil, inl, inr, take, take-append-drop, String, string_bytes, flat_map, if◌then◌else◌}
 use Rattle.std.specs.List.{AllByRecursion, filter}
 use Rattle.std.specs.Io.KnownBytes.{Appends}
 use Rattle.indexmap.specs.IndexMap.{keys, index_map_len}

@@ -1,6 +1,5 @@
 //! Whether a text is canonical.
-ghost use Rattle.std.specs.Prelude.{◌≡◌, ◌↔◌, Some, IfOk, IfErr, IfSome, IfNone, IsNone};
-ghost use Rattle.std.specs.String.{string_bytes};
+ghost use Rattle.std.specs.Prelude.{◌≡◌, ◌↔◌, Some, IfOk, IfErr, IfSome, IfNone, IsNone, string_bytes};
 ghost use Rattle.souper_ir.specs.Answers.{IsStrError};
 ghost use Rattle.souper_stream.specs.Segments.{concat, all_lines};
 ghost use Rattle.souper_format.specs.Streams.{stream};

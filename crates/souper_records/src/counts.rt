@@ -1,12 +1,11 @@
 //! The records of the distinct items, after all were read.
-ghost use Rattle.std.specs.Prelude.{◌≡◌, ◌⊎◌, ◌++◌, ℕ, List, [], OnOk, IfErr};
-ghost use Rattle.std.specs.String.{string_bytes};
+ghost use Rattle.std.specs.Prelude.{◌≡◌, ◌⊎◌, ◌++◌, List, OnOk, IfErr, string_bytes};
 ghost use Rattle.souper_graph.specs.Syntax.Spelling.{ItemType};
 ghost use Rattle.souper_graph.specs.Values.{Item};
 ghost use Rattle.souper_format.specs.Streams.{stream, IsGiven};
 ghost use Rattle.souper_format.specs.Watching.{has_failed};
 ghost use Rattle.souper_records.specs.Stops.{IfInput, UnlessOutput};
-ghost use Rattle.souper_records.specs.Uniques.{HasSeen, is_listed, count_line, summary_of_text, summary_of, WritesSummaryBegun};
+ghost use Rattle.souper_records.specs.Uniques.{HasSeen, summary_of_text, summary_of, WritesSummaryBegun};
 
 use crate::layout::{Layout, Summary};
 use crate::records::append_record_of_text;

@@ -1,14 +1,12 @@
 //! The record of each item of a stream.
-ghost use Rattle.std.specs.Prelude.{◌≡◌, ◌++◌, [], true, IfOk, IfErr, OnOk};
+ghost use Rattle.std.specs.Prelude.{◌≡◌, ◌++◌, [], true, IfOk, IfErr, string_bytes};
 ghost use Rattle.std.specs.Io.KnownBytes.{Appends};
-ghost use Rattle.std.specs.String.{string_bytes};
-ghost use Rattle.souper_graph.specs.WellFormed.{WellFormed};
 ghost use Rattle.souper_ir.specs.Errors.{kind_of};
 ghost use Rattle.souper_format.specs.Streams.{stream};
 ghost use Rattle.souper_format.specs.Watching.{has_failed};
 ghost use Rattle.souper_records.specs.Stops.{IfInput};
 ghost use Rattle.souper_records.specs.Outcomes.{WritesParts, StopsAfter, OfItems, WritesRecords, items_of};
-ghost use Rattle.souper_records.specs.Records.{record_of, records_of};
+ghost use Rattle.souper_records.specs.Records.{records_of};
 
 use crate::layout::Layout;
 use crate::options::ReadOptions;

@@ -5,7 +5,7 @@ ghost use Rattle.souper_graph.specs.Values.{Item};
 ghost use Rattle.souper_format.specs.Streams.{stream};
 ghost use Rattle.souper_format.specs.Watching.{has_failed};
 ghost use Rattle.souper_records.specs.Uniques.{HasSeen};
-ghost use Rattle.souper_records.specs.Runs.{EndsWithFault, IsEnd, IsStop, IsPartsEnd, IsRecordsRun, IsObjectsRun, IsFirstsRun, IsCountRun};
+ghost use Rattle.souper_records.specs.Runs.{EndsWithFault, IsPartsEnd, IsRecordsRun, IsObjectsRun, IsFirstsRun, IsCountRun};
 
 use crate::counts::write_counts;
 use crate::each::write_records;

@@ -1,6 +1,5 @@
 //! Why writing the output of a stream stopped.
-ghost use Rattle.std.specs.Prelude.{◌≡◌, OnOk, IfErr};
-ghost use Rattle.std.specs.String.{string_bytes};
+ghost use Rattle.std.specs.Prelude.{◌≡◌, OnOk, IfErr, string_bytes};
 ghost use Rattle.souper_format.specs.Streams.{stream, IsGiven};
 ghost use Rattle.souper_format.specs.Watching.{has_failed};
 ghost use Rattle.souper_records.specs.Stops.{IfInput, UnlessOutput, IsStopOf};

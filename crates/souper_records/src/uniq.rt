@@ -1,16 +1,13 @@
 //! The record of the first item of each graph in streams.
-ghost use Rattle.std.specs.Prelude.{◌≡◌, ◌++◌, ◌∷◌, [], List, map, flat_map, drop, true, OnOk, IfOk, IfErr};
+ghost use Rattle.std.specs.Prelude.{◌≡◌, ◌++◌, ◌∷◌, List, map, true, OnOk, IfOk, IfErr, string_bytes};
 ghost use Rattle.std.specs.List.{AllByRecursion};
-ghost use Rattle.std.specs.String.{string_bytes};
 ghost use Rattle.souper_graph.specs.Values.{Item};
-ghost use Rattle.souper_graph.specs.WellFormed.{WellFormed};
 ghost use Rattle.souper_ir.specs.Errors.{kind_of};
-ghost use Rattle.souper_format.specs.Streams.{stream, IsGiven};
+ghost use Rattle.souper_format.specs.Streams.{stream};
 ghost use Rattle.souper_format.specs.Watching.{has_failed};
-ghost use Rattle.souper_records.specs.Stops.{IfInput, UnlessOutput};
+ghost use Rattle.souper_records.specs.Stops.{IfInput};
 ghost use Rattle.souper_records.specs.Outcomes.{WritesParts, StopsAfter, OfItems, items_of};
 ghost use Rattle.souper_records.specs.Counts.{tally_all};
-ghost use Rattle.souper_records.specs.Records.{chosen, record_of_text};
 ghost use Rattle.souper_records.specs.Uniques.{text_by, HasText, HasSeen, text_count, WritesFirstRecords, WritesSeenFirsts, WritesNewFirsts};
 
 use crate::layout::Layout;

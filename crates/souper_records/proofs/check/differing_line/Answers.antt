@@ -1,5 +1,4 @@
-use Rattle.std.proofs.Common.{◌+◌, ℕ, List, ◌++◌, take, drop, sym, ap, ◌∙◌, take-append-drop}
-use Rattle.std.specs.Prelude.{bytes_eq}
+use Rattle.std.proofs.Common.{◌+◌, ℕ, List, ◌++◌, take, drop, sym, ap, ◌∙◌, take-append-drop, bytes_eq}
 use Rattle.std.proofs.lemmas.Bool.{both_ways}
 use Rattle.std.proofs.lemmas.Slice.Eq.{bytes_eq-Decides}
 use Rattle.souper_records.proofs.Comparing.{apart}
