@@ -1,6 +1,5 @@
 -- Canonical texts. A text has one list of items, so it is canonical or not.
-use Rattle.std.proofs.Common.{◌≡◌, inl, inr, ℕ, false, List, [], Option, Some, refl, sym, ap, ◌∙◌, subst}
-use Rattle.std.specs.Prelude.{None, IsNone, IfNone, IfSome}
+use Rattle.std.proofs.Common.{◌≡◌, inl, inr, ℕ, Bool, false, List, [], Option, Some, refl, sym, ap, ◌∙◌, subst, None, IsNone, IfNone, IfSome}
 use Rattle.std.specs.declared.io.Error.{Error}
 use Rattle.std.proofs.KnownBytes.{Appends-nil, Appends-trans, Appends-kept}
 use Rattle.souper_graph.specs.Values.{Item}
@@ -16,28 +15,17 @@ use Rattle.souper_format.specs.Streams.{Stream, stream, IsGiven, IsGivenNothing}
 use Rattle.souper_records.specs.declared.comparison.Comparison.{Comparison}
 use Rattle.souper_records.specs.Comparisons.{DifferOnLine, DifferFrom, IsCompared}
 use Rattle.souper_records.specs.Canonical.{IsCanonical, IsOtherLine, other_line, ReportedOtherLine, IsWhole, IsCheckRun}
-use Rattle.souper_records.specs.Outcomes.{Outcome, AreOutcomes, parts_of, items_of, refusals_of, any_refused, AreReported, WritesParts}
+use Rattle.souper_records.specs.Outcomes.{parts_of, items_of, WritesParts, WroteParts}
 use Rattle.souper_records.specs.Reports.{IsMemoryLine, IsFaultLine, Reported, ReportedFaultOf, ReportedError}
-use Rattle.souper_records.proofs.Comparing.{apart_not}
-use Rattle.souper_records.proofs.Outcomes.{none_refused, some_fault}
+use Rattle.souper_records.proofs.Outcomes.{none_reported, some_fault}
 
 -- ---- canonical texts
 
--- a text that differs is not canonical
-other_not : (k : ItemType) (source : List ℕ) (line : ℕ) → IsOtherLine k source line → IsCanonical k source → ⊥
-other_not k source line (items, spelled, differs) (others, spells, canonical) =
-    let (same, rest, more, first, second, apart, is) = differs in
-    apart_not source (texts_of items) same rest more first second apart (canonical ∙ ap texts_of (text_alone k source others items spells spelled))
-
 -- whether it is, and on which line it first differs, from its canonical texts
 module _ (k : ItemType) (source : List ℕ) (items : List Item) (spelled : TextSpells k source items) where
-  pub canonical_if : (r : Option ℕ) → IfNone r (source ≡ texts_of items) → IfSome r (DifferOnLine source (texts_of items)) → (IsNone r → IsCanonical k source) × (IsCanonical k source → IsNone r)
-  canonical_if None same differs = ((λ none. (items, spelled, same)), (λ h. refl))
-  canonical_if (Some line) same differs = ((λ none. absurd cc), (λ h. absurd (other_not k source line (items, spelled, differs) h)))
-
-  pub other_if : (r : Option ℕ) → IfSome r (DifferOnLine source (texts_of items)) → IfSome r (IsOtherLine k source)
-  other_if None differs = tt
-  other_if (Some line) differs = (items, spelled, differs)
+  pub judged : (r : Option ℕ) → IfNone r (source ≡ texts_of items) → IfSome r (DifferOnLine source (texts_of items)) → ((IsNone r → IsCanonical k source) × (IsCanonical k source → IsNone r)) × IfSome r (IsOtherLine k source)
+  judged None same differs = (((λ none. (items, spelled, same)), (λ h. refl)), tt)
+  judged (Some line) same differs = (((λ none. absurd cc), (λ h. absurd (differs.0 (h.2 ∙ ap texts_of (text_alone k source h.0 items h.1 spelled))))), (items, spelled, differs))
 
 -- ---- streams
 
@@ -49,14 +37,8 @@ pub record IsChecked (k : ItemType) (before after : Option (List ℕ)) (c : Comp
   pub spelled : TextSpells k read items
   pub compared : IsCompared c read (texts_of items)
 
-abbrev pub compared_parts : Comparison → List Outcome → Type 0
-compared_parts c os = IsCompared c (concat (all_lines (parts_of os))) (texts_of (items_of os))
-
--- nothing was reported if no part was refused
-pub none_reported : (k : ItemType) (name : List ℕ) (before : Option (List ℕ)) (err : Stream) (os : List Outcome) → AreOutcomes k (Some name) before [] os → any_refused os ≡ false → AreReported err (refusals_of os) → IsGivenNothing err
-none_reported k name before err os are none reported = subst (AreReported err) (none_refused k (Some name) before [] os are none).0 reported
-
-pub checked_parts : (k : ItemType) (name : List ℕ) (before after : Option (List ℕ)) (c : Comparison) (err : Stream) → WritesParts k name false before after (compared_parts c) err false → IsChecked k before after c × IsGivenNothing err
+pub checked_parts : {X : Type 0} {asked : Bool} (k : ItemType) (name : List ℕ) (before after : Option (List ℕ)) (c : Comparison) (err : Stream)
+    → WritesParts k name false before after (WroteParts k asked (λ os. X × IsCompared c (concat (all_lines (parts_of os))) (texts_of (items_of os)))) err false → IsChecked k before after c × IsGivenNothing err
 checked_parts k name before after c err p =
     let (all, parts) = p.ended (inr refl) in
     let os = p.outcomes in (
@@ -65,7 +47,7 @@ checked_parts k name before after c err p =
         whole = (p.reads.consumed, all);
         items = items_of os;
         spelled = p.spelled refl;
-        compared = subst (λ (x : List ℕ). IsCompared c x (texts_of (items_of os))) (sym parts.whole) p.are_written;
+        compared = subst (λ (x : List ℕ). IsCompared c x (texts_of (items_of os))) (sym parts.whole) p.are_written.0.1;
       },
       none_reported k name before err os p.reads.are (sym p.any) p.reported,
     )

@@ -1,6 +1,5 @@
 -- The text of an object has no newline.
-use Rattle.std.proofs.Common.{◌≡◌, inl, inr, ℕ, zero, suc, ◌+◌, ◌/◌, ◌%◌, Bool, true, false, ◌&&◌, not, nat_lt, List, [], ◌∷◌, Option, Some, None, refl, sym, subst, arith, ne_eqb}
-use Rattle.std.specs.Prelude.{◌==◌, if◌then◌else◌, decimal}
+use Rattle.std.proofs.Common.{◌≡◌, inl, inr, ℕ, zero, suc, ◌+◌, ◌/◌, ◌%◌, Bool, true, false, ◌&&◌, not, nat_lt, List, [], ◌∷◌, Option, Some, None, refl, sym, subst, arith, ne_eqb, ◌==◌, if◌then◌else◌, decimal}
 use Rattle.std.specs.Fmt.{digit_glyph, digits_onto, digits}
 use Rattle.std.proofs.lemmas.Bool.{and_parts, not-true, cases_lt, agree_below, agree_below_at}
 use Rattle.souper_graph.proofs.Judging.Closed.{All-both}
@@ -15,22 +14,21 @@ use Rattle.souper_stream.specs.declared.starts.Start.{Start}
 use Rattle.souper_records.specs.Records.{key_of}
 use Rattle.souper_records.specs.Objects.{column_at, item_object, line_at, optional_number, optional_string, refusal_object}
 
+either : {A : Type 0} (P : A → Type 0) (b : Bool) (x y : A) → P x → P y → P (if b then x else y)
+either P true x y p q = p
+either P false x y p q = q
+
 -- ---- numbers
 
 glyph : (d : ℕ) → (digit_glyph false d == 10) ≡ false
-glyph d = under (nat_lt d 10)
-  where
-    under : (b : Bool) → ((if b then 48 + d else (if false then 55 + d else 87 + d)) == 10) ≡ false
-    under true = ne_eqb (48 + d) 10 (λ e. omega arith)
-    under false = ne_eqb (87 + d) 10 (λ e. omega arith)
+glyph d = either (λ g. (g == 10) ≡ false) (nat_lt d 10) (48 + d) (if false then 55 + d else 87 + d) (ne_eqb (48 + d) 10 (λ e. omega arith)) (ne_eqb (87 + d) 10 (λ e. omega arith))
 
 digits_line : (k n : ℕ) (acc : List ℕ) → IsOneLine acc → IsOneLine (digits_onto k 10 false n acc)
 digits_line zero n acc h = h
-digits_line (suc k) n acc h = under (n / 10 == 0) (digits_line k (n / 10) (digit_glyph false (n % 10) ∷ acc) (glyph (n % 10), h))
-  where
-    under : (b : Bool) → IsOneLine (digits_onto k 10 false (n / 10) (digit_glyph false (n % 10) ∷ acc)) → IsOneLine (if b then digit_glyph false (n % 10) ∷ acc else digits_onto k 10 false (n / 10) (digit_glyph false (n % 10) ∷ acc))
-    under true rest = (glyph (n % 10), h)
-    under false rest = rest
+digits_line (suc k) n acc h =
+    let more = digit_glyph false (n % 10) ∷ acc in
+    let last : IsOneLine more = (glyph (n % 10), h) in
+    either IsOneLine (n / 10 == 0) more (digits_onto k 10 false (n / 10) more) last (digits_line k (n / 10) more last)
 
 decimal_line : (n : ℕ) → IsOneLine (decimal n)
 unfolding digits
@@ -78,11 +76,7 @@ members_line : (later : Bool) (ms : Members) → AreLines ms → IsOneLine (memb
 members_line later no_members h = (refl, tt)
 members_line later (member k d ms) h =
     let P = λ (c : ℕ). (c == 10) ≡ false in
-    All-both P (comma_if later) _ (comma later) (All-both P (quoted k) _ (quoted_line k) (refl, All-both P (compact_text d) (members_text true ms) h.0 (members_line true ms h.1)))
-  where
-    comma : (b : Bool) → IsOneLine (comma_if b)
-    comma true = (refl, tt)
-    comma false = tt
+    All-both P (comma_if later) _ (either IsOneLine later (44 ∷ []) [] (refl, tt) tt) (All-both P (quoted k) _ (quoted_line k) (refl, All-both P (compact_text d) (members_text true ms) h.0 (members_line true ms h.1)))
 
 pub item_line : (name : List ℕ) (start : Start) (text : List ℕ) → IsOneLine (compact_text (item_object name start text))
 item_line name start text = (refl, members_line false (fields (item_object name start text)) (quoted_line name, (quoted_line (key_of text), (decimal_line start.line, (decimal_line start.offset, (quoted_line text, tt))))))

@@ -1,6 +1,5 @@
 -- Part after part: the text read of a stream, the output, and the reports.
-use Rattle.std.proofs.Common.{◌≡◌, ◌⊎◌, inl, inr, ℕ, Bool, true, false, ◌||◌, List, [], ◌∷◌, ◌++◌, is_some, Option, Some, None, refl, sym, ap, ◌∙◌, subst, append_assoc, append-nil}
-use Rattle.std.specs.Prelude.{Result, Ok, Err, IfOk, IfErr}
+use Rattle.std.proofs.Common.{◌≡◌, ◌⊎◌, inl, inr, ℕ, Bool, true, false, ◌||◌, List, [], ◌∷◌, ◌++◌, is_some, Option, Some, None, refl, sym, ap, ◌∙◌, subst, append_assoc, append-nil, Result, Ok, Err, IfOk, IfErr}
 use Rattle.std.specs.List.{cons_option}
 use Rattle.std.specs.declared.io.Error.{Error}
 use Rattle.std.proofs.KnownBytes.{Appends-nil, Appends-trans, Appends-kept, Keeps-trans}
@@ -10,15 +9,15 @@ use Rattle.std.proofs.lemmas.List.{map-append}
 use Rattle.std.proofs.lemmas.List.Elements.{filter_map-append}
 use Rattle.std.proofs.lemmas.List.Folds.{list_any-append}
 use Rattle.souper_graph.specs.Values.{Item}
-use Rattle.souper_graph.specs.Syntax.Spelling.{ItemType, TextSpells, SpellsNone}
+use Rattle.souper_graph.specs.Syntax.Spelling.{ItemType, TextSpells}
 use Rattle.souper_ir.specs.declared.parse.error.ParseError.{ParseError}
 use Rattle.souper_ir.specs.declared.parse.error.ParseErrorKind.TheVariants.{Io, Parse}
 use Rattle.souper_ir.specs.Errors.{kind_of}
 use Rattle.souper_ir.specs.Sinks.{PrefixSpells}
 use Rattle.souper_stream.specs.declared.reader.ItemReader.{ItemReader}
-use Rattle.souper_stream.specs.Segments.{Line, concat, all_lines, AreParts, PartsSpell}
+use Rattle.souper_stream.specs.Segments.{Line, concat, all_lines, PartsSpell}
 use Rattle.souper_stream.specs.Parts.{HasParts, HasAll, keeps_starts}
-use Rattle.souper_stream.proofs.SegmentLaws.{spells_by_parts, none_with}
+use Rattle.souper_stream.proofs.SegmentLaws.{spells_by_parts}
 use Rattle.souper_stream.proofs.Reached.{prefix_of, parts_begin}
 use Rattle.souper_format.specs.declared.watched.Watched.{Watched}
 use Rattle.souper_format.specs.Streams.{Stream, stream, IsGiven, IsGivenNothing}
@@ -28,20 +27,15 @@ use Rattle.souper_records.specs.declared.stop.Stop.TheVariants.{Input, Output, M
 use Rattle.souper_records.specs.Stops.{IfInput, UnlessOutput}
 use Rattle.souper_records.specs.Runs.{output_name, EndsWithFault, IsPartsEnd, IsRun}
 use Rattle.souper_records.specs.Reports.{IsMemoryLine, IsFaultLine, Reported, ReportedFault, ReportedFaultOf}
-use Rattle.souper_records.specs.Outcomes.{Outcome, IsOutcome, IsOutcomeAfter, AreOutcomes, HasItemStarts, HaveItemStarts, parts_of, items_of, refusals_of, any_refused, AreErrorLines, AreReported, AreReportedThen, WritesPart, WritesParts, ReadsParts, EndsRefused, IsBegun, StopsAfter, WroteParts}
+use Rattle.souper_records.specs.Outcomes.{Outcome, IsOutcome, IsOutcomeAfter, AllAfter, AreOutcomes, HasItemStarts, HaveItemStarts, parts_of, items_of, refusals_of, any_refused, AreErrorLines, AreReported, AreReportedThen, WritesPart, WritesParts, ReadsParts, EndsRefused, IsBegun, StopsAfter, WroteParts}
 
 -- ---- lists of outcomes
 
-pub outcomes_more : (k : ItemType) (file start : Option (List ℕ)) (before : List (List Line)) (os : List Outcome) (o : Outcome) → AreOutcomes k file start before os → IsOutcomeAfter k file start (concat (all_lines (before ++ parts_of os))) o → AreOutcomes k file start before (os ++ o ∷ [])
-outcomes_more k file start before [] o h is = (subst (λ (x : List (List Line)). IsOutcomeAfter k file start (concat (all_lines x)) o) (append-nil before) is, tt)
-outcomes_more k file start before (p ∷ os) o h is =
-    (h.0, outcomes_more k file start (before ++ p.part ∷ []) os o h.1 (subst (λ (x : List (List Line)). IsOutcomeAfter k file start (concat (all_lines x)) o) (sym (append_assoc before (p.part ∷ []) (parts_of os))) is))
-
--- where the items of one more begin
-pub started_more : (k : ItemType) (before : List (List Line)) (os : List Outcome) (o : Outcome) → HaveItemStarts k before os → HasItemStarts k (concat (all_lines (before ++ parts_of os))) o → HaveItemStarts k before (os ++ o ∷ [])
-started_more k before [] o h is = (subst (λ (x : List (List Line)). HasItemStarts k (concat (all_lines x)) o) (append-nil before) is, tt)
-started_more k before (p ∷ os) o h is =
-    (h.0, started_more k (before ++ p.part ∷ []) os o h.1 (subst (λ (x : List (List Line)). HasItemStarts k (concat (all_lines x)) o) (sym (append_assoc before (p.part ∷ []) (parts_of os))) is))
+-- one more
+pub all_more : (P : List ℕ → Outcome → Type 0) (before : List (List Line)) (os : List Outcome) (o : Outcome) → AllAfter P before os → P (concat (all_lines (before ++ parts_of os))) o → AllAfter P before (os ++ o ∷ [])
+all_more P before [] o h is = (subst (λ (x : List (List Line)). P (concat (all_lines x)) o) (append-nil before) is, tt)
+all_more P before (p ∷ os) o h is =
+    (h.0, all_more P (before ++ p.part ∷ []) os o h.1 (subst (λ (x : List (List Line)). P (concat (all_lines x)) o) (sym (append_assoc before (p.part ∷ []) (parts_of os))) is))
 
 pub parts_more : (os : List Outcome) (o : Outcome) → parts_of (os ++ o ∷ []) ≡ parts_of os ++ o.part ∷ []
 parts_more os o = map-append (λ (x : Outcome). x.part) os (o ∷ [])
@@ -98,22 +92,6 @@ pub record Reached (k : ItemType) (file start mid : Option (List ℕ)) (asked : 
   pub reported : AreReported err (refusals_of outcomes)
   pub any_is : any ≡ any_refused outcomes
 
-abbrev pub reached_more : {k : ItemType} {file start mid after : Option (List ℕ)} {asked : Bool} {wrote both : List Outcome → Type 0} {more : Outcome → Type 0} {any refused : Bool} {p q : ItemReader} {E : Type 0} (bytes_of : E → Option (List ℕ)) (x y z : Watched E) (stays : has_failed y ≡ true → has_failed z ≡ true)
-    → keeps_starts q ≡ asked → ((os : List Outcome) (o : Outcome) → wrote os → more o → both (os ++ o ∷ [])) → (r : Reached k file start mid asked wrote (stream bytes_of x y) any p) → WritesPart k file start after (parts_of r.outcomes) more (stream bytes_of y z) refused q
-    → Reached k file start after asked both (stream bytes_of x z) (any || refused) q
-reached_more {k} {file} {start} {after = after} {q = q} bytes_of x y z stays same join r w =
-    let os = r.outcomes in
-    let o = w.outcome in
-    record {
-      outcomes = os ++ o ∷ [];
-      had = subst (λ (ps : List (List Line)). HasParts k start after ps q) (sym (parts_more os o)) w.had;
-      are = outcomes_more k file start [] os o r.are w.is;
-      started = λ e. started_more k [] os o (r.started e) (w.begin (same ∙ e));
-      written = join os o r.written w.are_written;
-      reported = subst (AreReported (stream bytes_of x z)) (sym (filter_map-append (λ (p : Outcome). p.refusal) os (o ∷ []))) (reported_both bytes_of x y z stays (refusals_of os) (refusals_of (o ∷ [])) r.reported w.reported);
-      any_is = (λ i. r.any_is i || w.any i) ∙ sym (list_any-append (λ (p : Outcome). is_some p.refusal) os (o ∷ []));
-    }
-
 -- ---- refusals
 
 -- no part was refused
@@ -126,17 +104,63 @@ none_refused k file start before (o ∷ os) h none = under o.refusal h.0 none (�
     under (Some e) is bad more = absurd cc
     under None is rest more = let m = more rest in (m.0, (o.items, items_of os, refl, is, m.1))
 
--- a part was: the parts before it, it, and the parts after it
-one_refused : (k : ItemType) (file start : Option (List ℕ)) (before : List (List Line)) (os : List Outcome) → AreOutcomes k file start before os → any_refused os ≡ true
-    → (front : List (List Line)) × (part : List Line) × (back : List (List Line)) × (parts_of os ≡ front ++ part ∷ back) × SpellsNone k (concat part)
-one_refused k file start before [] h any = absurd cc
-one_refused k file start before (o ∷ os) h any = under o.refusal h.0 any (λ rest. one_refused k file start (before ++ o.part ∷ []) os h.1 rest)
+-- nothing was reported if no part was refused
+pub none_reported : (k : ItemType) (name : List ℕ) (before : Option (List ℕ)) (err : Stream) (os : List Outcome) → AreOutcomes k (Some name) before [] os → any_refused os ≡ false → AreReported err (refusals_of os) → IsGivenNothing err
+none_reported k name before err os are none reported = subst (AreReported err) (none_refused k (Some name) before [] os are none).0 reported
+
+-- a part was, so the parts spell no items
+parts_none : (k : ItemType) (file start : Option (List ℕ)) (before : List (List Line)) (os : List Outcome) (items : List Item) → AreOutcomes k file start before os → any_refused os ≡ true → PartsSpell k (parts_of os) items → ⊥
+parts_none k file start before [] items h any spells = absurd cc
+parts_none k file start before (o ∷ os) items h any (xs, ys, is, one, more) = under o.refusal h.0 any (λ some. parts_none k file start (before ++ o.part ∷ []) os ys h.1 some more)
   where
-    under : (r : Option ParseError) → IsOutcome k file start (concat (all_lines before)) o.part o.items r → (is_some r || any_refused os) ≡ true
-        → (any_refused os ≡ true → (front : List (List Line)) × (part : List Line) × (back : List (List Line)) × (parts_of os ≡ front ++ part ∷ back) × SpellsNone k (concat part))
-        → (front : List (List Line)) × (part : List Line) × (back : List (List Line)) × (o.part ∷ parts_of os ≡ front ++ part ∷ back) × SpellsNone k (concat part)
-    under (Some e) is any more = ([], o.part, parts_of os, refl, is.none)
-    under None is any more = let (front, part, back, whole, none) = more any in (o.part ∷ front, part, back, ap (λ (x : List (List Line)). o.part ∷ x) whole, none)
+    under : (r : Option ParseError) → IsOutcome k file start (concat (all_lines before)) o.part o.items r → (is_some r || any_refused os) ≡ true → (any_refused os ≡ true → ⊥) → ⊥
+    under (Some e) refused some later = refused.none xs one
+    under None spelled some later = later some
+
+-- one part more
+module _ {k : ItemType} {name : List ℕ} {start mid after : Option (List ℕ)} {asked : Bool} {wrote both : List Outcome → Type 0} {more : Outcome → Type 0} {any refused : Bool} {p q : ItemReader} {E : Type 0} (bytes_of : E → Option (List ℕ)) (x y z : Watched E) (stays : has_failed y ≡ true → has_failed z ≡ true)
+    (same : keeps_starts q ≡ asked) (join : (os : List Outcome) (o : Outcome) → wrote os → more o → both (os ++ o ∷ [])) (r : Reached k (Some name) start mid asked wrote (stream bytes_of x y) any p) (w : WritesPart k (Some name) start after (parts_of r.outcomes) more (stream bytes_of y z) refused q) where
+  abbrev pub reached_more : Reached k (Some name) start after asked both (stream bytes_of x z) (any || refused) q
+  reached_more =
+      let os = r.outcomes in
+      let o = w.outcome in
+      record {
+        outcomes = os ++ o ∷ [];
+        had = subst (λ (ps : List (List Line)). HasParts k start after ps q) (sym (parts_more os o)) w.had;
+        are = all_more (IsOutcomeAfter k (Some name) start) [] os o r.are w.is;
+        started = λ e. all_more (HasItemStarts k) [] os o (r.started e) (w.begin (same ∙ e));
+        written = join os o r.written w.are_written;
+        reported = subst (AreReported (stream bytes_of x z)) (sym (filter_map-append (λ (p : Outcome). p.refusal) os (o ∷ []))) (reported_both bytes_of x y z stays (refusals_of os) (refusals_of (o ∷ [])) r.reported w.reported);
+        any_is = (λ i. r.any_is i || w.any i) ∙ sym (list_any-append (λ (p : Outcome). is_some p.refusal) os (o ∷ []));
+      }
+
+  -- it was refused, and reading ends with it
+  pub reached_refusal : refused ≡ true → (recover : Bool) → recover ≡ false → any ≡ false → WritesParts k name recover start after (WroteParts k asked both) (stream bytes_of x z) true
+  reached_refusal last recover stops quiet =
+      let os = r.outcomes in
+      let o = w.outcome in
+      let now = reached_more in
+      let t = w.after last in
+      let none : any_refused os ≡ false = sym r.any_is ∙ quiet in
+      let begun : PrefixSpells k t.read (items_of (os ++ o ∷ [])) = subst (PrefixSpells k t.read) (sym (items_more os o)) (t.begun (items_of os) (none_refused k (Some name) start [] os r.are none).1) in
+      record {
+        outcomes = os ++ o ∷ [];
+        reads = record {
+          read = t.read;
+          rest = t.rest;
+          consumed = t.consumed;
+          whole = t.whole ∙ ap (λ (ps : List (List Line)). concat (all_lines ps) ++ t.rest) (sym (parts_more os o));
+          are = now.are;
+          begun = λ e. begun;
+        };
+        any = (λ i. sym quiet i || sym last i) ∙ now.any_is;
+        ended = elim [ inl e ↦ (let bad : true ≡ false = sym e ∙ stops in absurd cc) | inr e ↦ absurd cc ];
+        spelled = λ e. absurd cc;
+        never = λ e. t.never;
+        stopped = λ e f. record { front = os; last = o; whole = refl; none = none; begun = begun };
+        are_written = (now.written, now.started);
+        reported = now.reported;
+      }
 
 -- ---- the end
 
@@ -159,8 +183,7 @@ module _ {k : ItemType} {name : List ℕ} {start mid : Option (List ℕ)} {asked
     any = r.any_is;
     ended = λ e. (all, parts);
     spelled = λ none. spells (sym r.any_is ∙ none);
-    never = λ some. (let (front, part, back, whole, none) = one_refused k (Some name) start [] r.outcomes r.are (sym r.any_is ∙ some) in
-        inr (all, none_with k read front back part (subst (AreParts k read) whole parts) none));
+    never = λ some. inr (all, λ items h. parts_none k (Some name) start [] r.outcomes items r.are (sym r.any_is ∙ some) ((spells_by_parts k read (parts_of r.outcomes) items parts).0 h));
     stopped = λ stops some. (let none = quiet stops in absurd cc);
     are_written = (r.written, r.started);
     reported = r.reported;
@@ -175,36 +198,6 @@ module _ {k : ItemType} {name : List ℕ} {start mid : Option (List ℕ)} {asked
       let (read, rest, consumed, whole, begun) = parts_begin k start mid (parts_of r.outcomes) p r.had in
       let reads : ReadsParts k name start mid r.outcomes = record { read = read; rest = rest; consumed = consumed; whole = whole; are = r.are; begun = λ none. begun (items_of r.outcomes) (none_spelled none) } in
       (r.outcomes, (mid, reads, λ stops. inl (sym r.any_is ∙ quiet stops)), (λ stops. sym r.any_is ∙ quiet stops), r.reported, unless)
-
--- the last part was refused, and reading ends with it
-pub reached_refusal : {k : ItemType} {name : List ℕ} {start mid after : Option (List ℕ)} {asked : Bool} {wrote both : List Outcome → Type 0} {more : Outcome → Type 0} {any : Bool} {p q : ItemReader} {E : Type 0} (bytes_of : E → Option (List ℕ)) (x y z : Watched E) (stays : has_failed y ≡ true → has_failed z ≡ true)
-    → keeps_starts q ≡ asked → ((os : List Outcome) (o : Outcome) → wrote os → more o → both (os ++ o ∷ [])) → (r : Reached k (Some name) start mid asked wrote (stream bytes_of x y) any p) → WritesPart k (Some name) start after (parts_of r.outcomes) more (stream bytes_of y z) true q
-    → (recover : Bool) → recover ≡ false → any ≡ false → WritesParts k name recover start after (WroteParts k asked both) (stream bytes_of x z) true
-reached_refusal {k} {name} {start} {both = both} bytes_of x y z stays same join r w recover stops quiet =
-    let os = r.outcomes in
-    let o = w.outcome in
-    let now = reached_more {both = both} bytes_of x y z stays same join r w in
-    let t = w.after refl in
-    let none : any_refused os ≡ false = sym r.any_is ∙ quiet in
-    let begun : PrefixSpells k t.read (items_of (os ++ o ∷ [])) = subst (PrefixSpells k t.read) (sym (items_more os o)) (t.begun (items_of os) (none_refused k (Some name) start [] os r.are none).1) in
-    record {
-      outcomes = os ++ o ∷ [];
-      reads = record {
-        read = t.read;
-        rest = t.rest;
-        consumed = t.consumed;
-        whole = t.whole ∙ ap (λ (ps : List (List Line)). concat (all_lines ps) ++ t.rest) (sym (parts_more os o));
-        are = now.are;
-        begun = λ e. begun;
-      };
-      any = (λ i. sym quiet i || true) ∙ now.any_is;
-      ended = elim [ inl e ↦ (let bad : true ≡ false = sym e ∙ stops in absurd cc) | inr e ↦ absurd cc ];
-      spelled = λ e. absurd cc;
-      never = λ e. t.never;
-      stopped = λ e f. record { front = os; last = o; whole = refl; none = none; begun = begun };
-      are_written = (now.written, now.started);
-      reported = now.reported;
-    }
 
 -- ---- the same outcomes, the output in other words
 
@@ -243,10 +236,6 @@ module _ {W E : Type 0} (out_of : W → Option (List ℕ)) (err_of : E → Optio
   whole : (refused : Bool) → IsGivenNothing (stream out_of y z) → IsGivenNothing (stream err_of v w) → WritesParts k name recover before after so_far (stream err_of u v) refused → WritesParts k name recover before after written (stream err_of u w) refused
   whole refused kept quiet = parts_mapped (mapped kept) (λ es r. reported_none err_of u v w stays es r quiet)
 
-  -- nothing was reported if no part was refused
-  nothing : (p : WritesParts k name recover before after written (stream err_of u w) false) → IsGivenNothing (stream err_of u w)
-  nothing p = subst (AreReported (stream err_of u w)) (none_refused k (Some name) before [] p.outcomes p.reads.are (sym p.any)).0 p.reported
-
   last_alone : (refused : Bool) (p : WritesParts k name recover before after so_far (stream err_of u v) refused) → recover ≡ false → (any_refused p.outcomes ≡ false) ⊎ EndsRefused k p.reads.read p.outcomes
   last_alone false p stops = inl (sym p.any)
   last_alone true p stops = inr (p.stopped stops refl)
@@ -261,11 +250,11 @@ module _ {W E : Type 0} (out_of : W → Option (List ℕ)) (err_of : E → Optio
 
   pub run_ends : (parts : Result Bool Stop) (status : ℕ) → IfOk parts (λ refused. WritesParts k name recover before after so_far (stream err_of u v) refused) → IfErr parts (λ stop. StopsAfter k name recover before known_so_far (has_failed y) (stream err_of u v) stop)
       → IfErr parts (λ stop. IfInput stop (λ e. kind_of e ≡ Io)) → IsPartsEnd name parts (stream out_of y z) (stream err_of v w) status → run status
-  run_ends (Ok false) status p stops input (inl (zero_is, kept, quiet)) = let all = whole false kept quiet p in rw zero_is (all, nothing all)
+  run_ends (Ok false) status p stops input (inl (zero_is, kept, quiet)) = let all = whole false kept quiet p in rw zero_is (all, none_reported k name before (stream err_of u w) all.outcomes all.reads.are (sym all.any) all.reported)
   run_ends (Ok true) status p stops input (inl (one_is, kept, quiet)) = rw one_is (whole true kept quiet p)
   run_ends (Ok refused) status p stops input (inr (bad, (fault, ends))) = output_ends fault status p.outcomes (after, p.reads, last_alone refused p) p.reported bad ends
   run_ends (Err (Input e)) status p stops input (kept, inl (one, kind, line)) = absurd (let bad : Io ≡ Parse = sym input ∙ kind in cc)
   run_ends (Err (Input e)) status p (os, begun, none, reported, so) input (kept, inr (inl (two, kind, (fault, is, line)))) = rw two (os, begun, inl (known_so kept os so, inl (told_then os (IsFaultLine name) reported (some_fault fault name (stream err_of v w) line))))
   run_ends (Err (Input e)) status p (os, begun, none, reported, so) input (kept, inr (inr (two, line))) = rw two (os, begun, inl (known_so kept os so, inr (told_then os IsMemoryLine reported line)))
   run_ends (Err (Output f)) status p (os, begun, none, reported, bad) input (kept, ends) = output_ends f status os begun reported (out_stays bad) ends
-  run_ends (Err Memory) status p (os, begun, none, reported, so) input (kept, (two, line)) = rw two (os, begun, inl (known_so kept os so, inr (told_then os IsMemoryLine reported line)))
+  run_ends (Err Memory) status p (os, begun, none, reported, so) input (kept, two, line) = rw two (os, begun, inl (known_so kept os so, inr (told_then os IsMemoryLine reported line)))

@@ -1,5 +1,5 @@
 -- Definitions. Where two texts differ first, and how far texts that come part by part are compared.
-use Rattle.std.specs.Prelude.{◌≡◌, ◌⊎◌, ℕ, ◌+◌, ◌-◌, ◌^◌, ◌<◌, ◌≤◌, min, true, false, List, [], ◌∷◌, ◌++◌, length, take, drop}
+use Rattle.std.specs.Prelude.{◌≡◌, ◌⊎◌, ℕ, ◌+◌, ◌-◌, ◌^◌, ◌<◌, ◌≤◌, min, Bool, MatchBool, List, [], ◌∷◌, ◌++◌, length, take, drop}
 use Rattle.souper_ir.specs.Places.{newlines}
 use Rattle.souper_records.specs.declared.comparison.Comparison.{Comparison}
 
@@ -13,28 +13,21 @@ FirstDiffer (a ∷ text) (b ∷ other) = ¬ (a ≡ b)
 abbrev pub OneIsEmpty : List ℕ → List ℕ → Type 0
 OneIsEmpty text other = (text ≡ []) ⊎ (other ≡ [])
 
--- the first bytes of the texts differ, or one of the texts has no bytes
-abbrev pub BeginApart : List ℕ → List ℕ → Type 0
-BeginApart [] [] = ⊥
-BeginApart [] (b ∷ other) = Unit {0}
-BeginApart (a ∷ text) [] = Unit {0}
-BeginApart (a ∷ text) (b ∷ other) = ¬ (a ≡ b)
-
--- the texts are the same up to a byte of this line, counted from 1, and differ there
+-- the texts differ: they are the same up to a byte of this line, counted from 1, where the next bytes differ, or one of the texts ends
 abbrev pub DifferOnLine : List ℕ → List ℕ → ℕ → Type 0
-DifferOnLine text other line = (same : List ℕ) × (rest : List ℕ) × (more : List ℕ)
-    × (text ≡ same ++ rest) × (other ≡ same ++ more) × BeginApart rest more × (line ≡ newlines same + 1)
+DifferOnLine text other line = ¬ (text ≡ other) × (same : List ℕ) × (rest : List ℕ) × (more : List ℕ)
+    × (text ≡ same ++ rest) × (other ≡ same ++ more) × (FirstDiffer rest more ⊎ OneIsEmpty rest more) × (line ≡ newlines same + 1)
 
 -- the texts differ, first on this line, if numbers of 64 bits can count the lines
 abbrev pub DifferFrom : List ℕ → List ℕ → ℕ → Type 0
 DifferFrom text other line = ¬ (text ≡ other) × (length text + 1 < 2 ^ 64 → DifferOnLine text other line)
 
 -- the texts begin with the same bytes, this many, and no more: the next ones differ, or one of the texts ends there
-pub record AgreeUpTo (text other : List ℕ) (len : ℕ) : Type 0 where
+pub record AgreeUpTo (text other : List ℕ) (len : ℕ) (differs : Bool) : Type 0 where
   pub within : len ≤ length text
   pub within_other : len ≤ length other
   pub same : take len other ≡ take len text
-  pub apart : FirstDiffer (drop len text) (drop len other) ⊎ OneIsEmpty (drop len text) (drop len other)
+  pub apart : MatchBool differs (FirstDiffer (drop len text) (drop len other)) (OneIsEmpty (drop len text) (drop len other))
 
 -- What is known of the texts that came: the bytes that both begin with, the line after these, and what follows. If that differs, it is not
 -- kept.
@@ -45,5 +38,4 @@ pub record IsCompared (c : Comparison) (text other : List ℕ) : Type 0 where
   pub text_is : text ≡ same ++ rest
   pub other_is : other ≡ same ++ more
   pub line_is : c.line ≡ min (newlines same + 1) (2 ^ 64 - 1)
-  pub apart : c.differs ≡ true → FirstDiffer rest more
-  pub kept : c.differs ≡ false → (c.text.items ≡ rest) × (c.other.items ≡ more) × OneIsEmpty rest more
+  pub kept : MatchBool c.differs (FirstDiffer rest more) ((c.text.items ≡ rest) × (c.other.items ≡ more) × OneIsEmpty rest more)

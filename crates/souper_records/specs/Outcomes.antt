@@ -61,15 +61,18 @@ SpellsAtOffsets k part (Some e) = PrefixSpellsFrom k part
 abbrev pub HasItemStarts : ItemType → List ℕ → Outcome → Type 0
 HasItemStarts k done o = ItemsStartAt (SpellsAtOffsets k (concat o.part) o.refusal) done (concat o.part) o.items o.starts
 
--- the items of each part do, given the parts before it
+-- P holds of each outcome, and of the text of the parts before it
+abbrev pub AllAfter : (List ℕ → Outcome → Type 0) → List (List Line) → List Outcome → Type 0
+AllAfter P before [] = Unit {0}
+AllAfter P before (o ∷ os) = P (concat (all_lines before)) o × AllAfter P (before ++ o.part ∷ []) os
+
+-- the items of each part begin there, given the parts before it
 abbrev pub HaveItemStarts : ItemType → List (List Line) → List Outcome → Type 0
-HaveItemStarts k before [] = Unit {0}
-HaveItemStarts k before (o ∷ os) = HasItemStarts k (concat (all_lines before)) o × HaveItemStarts k (before ++ o.part ∷ []) os
+HaveItemStarts k before os = AllAfter (HasItemStarts k) before os
 
 -- the outcome of each part, given the parts before it
 abbrev pub AreOutcomes : ItemType → Option (List ℕ) → Option (List ℕ) → List (List Line) → List Outcome → Type 0
-AreOutcomes k file start before [] = Unit {0}
-AreOutcomes k file start before (o ∷ os) = IsOutcomeAfter k file start (concat (all_lines before)) o × AreOutcomes k file start (before ++ o.part ∷ []) os
+AreOutcomes k file start before os = AllAfter (IsOutcomeAfter k file start) before os
 
 abbrev pub parts_of : List Outcome → List (List Line)
 parts_of os = map (λ (o : Outcome). o.part) os

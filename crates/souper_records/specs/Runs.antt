@@ -33,24 +33,13 @@ abbrev pub EndsWithFault : Error → Stream → ℕ → Type 0
 EndsWithFault fault err status = ((error_kind fault ≡ BrokenPipe) × (status ≡ BROKEN_PIPE) × IsGivenNothing err)
     ⊎ (¬ (error_kind fault ≡ BrokenPipe) × (status ≡ 2) × ReportedFaultOf fault output_name err)
 
--- the output has failed
-abbrev pub EndsWithOutput : Stream → Stream → ℕ → Type 0
-EndsWithOutput out err status = (out.failed ≡ true) × ((fault : Error) × EndsWithFault fault err status)
-
--- the output was flushed, and the status is `done`; or the output has failed
-abbrev pub IsEnd : ℕ → Stream → Stream → ℕ → Type 0
-IsEnd done out err status = ((status ≡ done) × IsGivenNothing out × IsGivenNothing err) ⊎ EndsWithOutput out err status
-
--- why not all was written was reported
-abbrev pub IsStop : List ℕ → Stop → Stream → ℕ → Type 0
-IsStop name (Input e) err status = ReportedError name err status e
-IsStop name (Output fault) err status = EndsWithFault fault err status
-IsStop name Memory err status = (status ≡ 2) × ReportedMemory err
-
--- all parts were written, and perhaps some were refused, or why not all were was reported
+-- All parts were written, and perhaps some were refused: the output was flushed, or has failed. Or why not all were written was reported.
 abbrev pub IsPartsEnd : List ℕ → Result Bool Stop → Stream → Stream → ℕ → Type 0
-IsPartsEnd name (Ok refused) out err status = IsEnd (if refused then 1 else 0) out err status
-IsPartsEnd name (Err stop) out err status = IsGivenNothing out × IsStop name stop err status
+IsPartsEnd name (Ok refused) out err status = ((status ≡ (if refused then 1 else 0)) × IsGivenNothing out × IsGivenNothing err)
+    ⊎ ((out.failed ≡ true) × ((fault : Error) × EndsWithFault fault err status))
+IsPartsEnd name (Err (Input e)) out err status = IsGivenNothing out × ReportedError name err status e
+IsPartsEnd name (Err (Output fault)) out err status = IsGivenNothing out × EndsWithFault fault err status
+IsPartsEnd name (Err Memory) out err status = IsGivenNothing out × (status ≡ 2) × ReportedMemory err
 
 -- Why a run stopped with status 2, and the line that was reported last: a read failed or memory ran out, and `known` holds of the
 -- output; or the output has failed.

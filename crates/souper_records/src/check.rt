@@ -1,6 +1,5 @@
 //! Whether a text is canonical.
-ghost use Rattle.std.specs.Prelude.{◌≡◌, ◌↔◌, Some, IfOk, IfErr, IfSome, IfNone, IsNone};
-ghost use Rattle.std.specs.String.{string_bytes};
+ghost use Rattle.std.specs.Prelude.{◌≡◌, ◌↔◌, Some, IfOk, IfErr, IfSome, IfNone, IsNone, string_bytes};
 ghost use Rattle.souper_ir.specs.Answers.{IsStrError};
 ghost use Rattle.souper_stream.specs.Segments.{concat, all_lines};
 ghost use Rattle.souper_format.specs.Streams.{stream};
@@ -30,10 +29,10 @@ fn differing_line(text: &[u8], other: &[u8]) -> Option<usize>
     ensures same { IfNone result (text.now ≡ other.now) }
     ensures differs { IfSome result (DifferOnLine text.now other.now) }
 {
-    let (len, newlines) = common_front(text, other);
-    if len == text.len() && len == other.len() {
+    if text == other {
         return None;
     }
+    let (_, newlines, _) = common_front(text, other);
     Some(newlines + 1)
 }
 
@@ -58,16 +57,12 @@ pub fn first_other_line<T: WholeItem + Drop>(
 fn report_other_line<E: Write>(alloc: Global, name: &str, line: usize, err: &mut Watched<E>) -> u8
     ensures { ReportedOtherLine name.now line (stream E.contents err.old err.new) result }
 {
-    match format!(in alloc; "{name}:{line}: not canonical\n") {
-        Ok(says) => {
-            report_line(&says, err);
-            1
-        }
-        Err(_) => {
-            report_memory(err);
-            2
-        }
+    if let Ok(says) = format!(in alloc; "{name}:{line}: not canonical\n") {
+        report_line(&says, err);
+        return 1;
     }
+    report_memory(err);
+    2
 }
 
 // The records of the items of a part, and how far the stream so far is the same as the records of its items.
@@ -155,12 +150,8 @@ pub fn check_run<T: StreamItem + Drop, R: BufRead, E: Write>(
             Some(line) => report_other_line(alloc, name, line, err),
         },
         Err(Stop::Input(error)) => report_error(alloc, name, &error, err),
-        // Nothing is written to `out`.
-        Err(Stop::Output(fault)) => {
-            report_fault(alloc, name, &fault, err);
-            2
-        }
-        Err(Stop::Memory) => {
+        // Nothing is written to `out`, so memory ran out.
+        Err(_) => {
             report_memory(err);
             2
         }

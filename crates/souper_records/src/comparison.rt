@@ -5,21 +5,25 @@ ghost use Rattle.souper_records.specs.Comparisons.{AgreeUpTo, DifferFrom, IsComp
 
 use std::alloc::{AllocError, Global};
 
-/// How many bytes the texts begin with that are the same, and how many newlines are among these.
-pub(crate) fn common_front(text: &[u8], other: &[u8]) -> (usize, usize)
-    ensures same { AgreeUpTo text.now other.now result.0 }
+/// How many bytes the texts begin with that are the same, how many newlines are among these, and whether the next bytes differ. Else one
+/// of the texts ends there.
+pub(crate) fn common_front(text: &[u8], other: &[u8]) -> (usize, usize, bool)
+    ensures same { AgreeUpTo text.now other.now result.0 result.2 }
     ensures newlines { result.1 ≡ newlines (take result.0 text.now) }
 {
     let mut newlines = 0;
     for (index, byte) in text.iter().enumerate() {
-        if index == other.len() || other[index] != *byte {
-            return (index, newlines);
+        if index == other.len() {
+            return (index, newlines, false);
+        }
+        if other[index] != *byte {
+            return (index, newlines, true);
         }
         if *byte == b'\n' {
             newlines += 1;
         }
     }
-    (text.len(), newlines)
+    (text.len(), newlines, false)
 }
 
 /// Two texts that come part by part, compared as far as both came.
@@ -61,9 +65,9 @@ impl Comparison {
         }
         self.text.extend_from_slice(text)?;
         self.other.extend_from_slice(other)?;
-        let (len, newlines) = common_front(&self.text, &self.other);
+        let (len, newlines, differs) = common_front(&self.text, &self.other);
         self.line = self.line.saturating_add(newlines);
-        self.differs = len < self.text.len().min(self.other.len());
+        self.differs = differs;
         self.text = self.text[len..].to_vec(self.alloc)?;
         self.other = self.other[len..].to_vec(self.alloc)?;
         Ok(())

@@ -1,12 +1,11 @@
 //! The records of the distinct items, after all were read.
-ghost use Rattle.std.specs.Prelude.{◌≡◌, ◌⊎◌, ◌++◌, ℕ, List, [], OnOk, IfErr};
-ghost use Rattle.std.specs.String.{string_bytes};
+ghost use Rattle.std.specs.Prelude.{◌≡◌, ◌⊎◌, ◌++◌, List, OnOk, IfErr, string_bytes};
 ghost use Rattle.souper_graph.specs.Syntax.Spelling.{ItemType};
 ghost use Rattle.souper_graph.specs.Values.{Item};
 ghost use Rattle.souper_format.specs.Streams.{stream, IsGiven};
 ghost use Rattle.souper_format.specs.Watching.{has_failed};
 ghost use Rattle.souper_records.specs.Stops.{IfInput, UnlessOutput};
-ghost use Rattle.souper_records.specs.Uniques.{HasSeen, is_listed, count_line, summary_of_text, summary_of, WritesSummaryBegun};
+ghost use Rattle.souper_records.specs.Uniques.{HasSeen, summary_of_text, summary_of, WritesSummaryBegun};
 
 use crate::layout::{Layout, Summary};
 use crate::records::append_record_of_text;
@@ -15,22 +14,6 @@ use crate::stop::{Stop, write_text};
 use souper_format::watched::Watched;
 use std::alloc::{AllocError, Global};
 use std::io::Write;
-
-// Whether a graph with this count has a record.
-fn is_listed(summary: Summary, count: u64) -> bool
-    ensures { result ≡ is_listed summary count }
-{
-    !summary.repeated || count >= 2
-}
-
-// Appends a comment line with the count.
-fn append_count(alloc: Global, count: u64, out: &mut String) -> Result<(), AllocError>
-    ensures { OnOk result (string_bytes out.new ≡ string_bytes out.old ++ count_line count) }
-{
-    out.push_str("; count ")?;
-    out.push_str(count.to_string(alloc)?.as_str())?;
-    out.push_str("\n")
-}
 
 // Appends the record of a graph with this text and count, if it has one.
 fn append_summary(
@@ -43,30 +26,17 @@ fn append_summary(
 ) -> Result<(), AllocError>
     ensures { OnOk result (string_bytes out.new ≡ string_bytes out.old ++ summary_of_text layout summary text.now count) }
 {
-    if !is_listed(summary, count) {
+    if summary.repeated && count < 2 {
         return Ok(());
     }
     if summary.counts {
-        append_count(alloc, count, out)?;
+        out.push_str(format!(in alloc; "; count {count}\n")?.as_str())?;
     }
     append_record_of_text(alloc, layout, text, out)
 }
 
 // The size of records in bytes from which on they are written.
 const CHUNK: usize = 65536;
-
-// Writes the records, and drops them, if there are many.
-fn write_many<W: Write>(records: &mut String, out: &mut Watched<W>) -> Result<(), Stop>
-    ensures written { OnOk result ((IsGiven (stream W.contents out.old out.new) (string_bytes records.old) × (string_bytes records.new ≡ []))
-        ⊎ ((out.new ≡ out.old) × (records.new ≡ records.old))) }
-    ensures failed { IfErr result (λ stop. IfInput stop (λ e. ⊥) × UnlessOutput stop (has_failed out.new) ⊥) }
-{
-    if records.len() >= CHUNK {
-        write_text(records, out)?;
-        records.clear();
-    }
-    Ok(())
-}
 
 /// Writes the record of the first item of each graph that was seen, in order; with `repeated`, of the graphs that more than one item has.
 /// With `counts` each comes after a comment line that says how many items have its text, which are the items of the same graph:
@@ -90,7 +60,10 @@ pub fn write_counts<W: Write>(
     let mut records = String::new(alloc);
     for (text, count) in seen.counts.iter() {
         append_summary(alloc, layout, summary, text.as_str(), *count, &mut records)?;
-        write_many(&mut records, out)?;
+        if records.len() >= CHUNK {
+            write_text(&records, out)?;
+            records.clear();
+        }
     }
     write_text(&records, out)
 }

@@ -1,14 +1,12 @@
 //! The record of each item of a stream.
-ghost use Rattle.std.specs.Prelude.{◌≡◌, ◌++◌, [], true, IfOk, IfErr, OnOk};
+ghost use Rattle.std.specs.Prelude.{◌≡◌, ◌++◌, [], true, IfOk, IfErr, string_bytes};
 ghost use Rattle.std.specs.Io.KnownBytes.{Appends};
-ghost use Rattle.std.specs.String.{string_bytes};
-ghost use Rattle.souper_graph.specs.WellFormed.{WellFormed};
 ghost use Rattle.souper_ir.specs.Errors.{kind_of};
 ghost use Rattle.souper_format.specs.Streams.{stream};
 ghost use Rattle.souper_format.specs.Watching.{has_failed};
 ghost use Rattle.souper_records.specs.Stops.{IfInput};
 ghost use Rattle.souper_records.specs.Outcomes.{WritesParts, StopsAfter, OfItems, WritesRecords, items_of};
-ghost use Rattle.souper_records.specs.Records.{record_of, records_of};
+ghost use Rattle.souper_records.specs.Records.{records_of};
 
 use crate::layout::Layout;
 use crate::options::ReadOptions;
@@ -47,17 +45,6 @@ impl Records {
             out: String::new(alloc),
         }
     }
-
-    // The item is dropped then.
-    fn append<T: WholeItem + Drop>(&mut self, item: &mut T) -> Result<(), AllocError>
-        requires { WellFormed (T.view item.old) }
-        ensures { OnOk result ((self.new.layout ≡ self.old.layout)
-            × (string_bytes self.new.out ≡ string_bytes self.old.out ++ record_of self.old.layout (T.view item.old))) }
-    {
-        self.text.clear();
-        append_last_text(self.layout.rename, item, &mut self.text)?;
-        append_record_of_text(self.alloc, self.layout, self.text.as_str(), &mut self.out)
-    }
 }
 
 impl<T: WholeItem + Drop> Sink<T> for Records {
@@ -69,7 +56,9 @@ impl<T: WholeItem + Drop> Sink<T> for Records {
     }
 
     fn take_over(&mut self, mut item: T) -> Result<Option<Arena<Statement>>, AllocError> {
-        self.append(&mut item)?;
+        self.text.clear();
+        append_last_text(self.layout.rename, &mut item, &mut self.text)?;
+        append_record_of_text(self.alloc, self.layout, self.text.as_str(), &mut self.out)?;
         Ok(item.take_statements())
     }
 }

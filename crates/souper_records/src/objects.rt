@@ -1,7 +1,6 @@
 //! A JSON object for each item and each refusal of a stream, each on a line of its own.
-ghost use Rattle.std.specs.Prelude.{◌≡◌, ◌++◌, true, false, map, flat_map, Option, IfOk, IfErr, OnOk, option_copied};
+ghost use Rattle.std.specs.Prelude.{◌≡◌, ◌++◌, true, false, map, Option, IfOk, IfErr, OnOk, option_copied, string_bytes};
 ghost use Rattle.std.specs.Io.KnownBytes.{Appends};
-ghost use Rattle.std.specs.String.{string_bytes};
 ghost use Rattle.souper_ir.specs.Errors.{kind_of};
 ghost use Rattle.souper_format.specs.Streams.{stream};
 ghost use Rattle.souper_format.specs.Watching.{has_failed};
@@ -119,17 +118,6 @@ pub fn append_item(
     append_line(alloc, &object, out)
 }
 
-// The lines of a part's items, which have these texts.
-fn item_lines(alloc: Global, place: Place<'_>, texts: &[String]) -> Result<String, AllocError>
-    ensures { IfOk result (λ out. string_bytes out ≡ text_lines place.entry.name.now place.entry.starts.now (map string_bytes texts.now)) }
-{
-    let mut out = String::new(alloc);
-    for (start, text) in place.starts.iter().zip(texts) {
-        append_item(alloc, place.name, *start, text.as_str(), &mut out)?;
-    }
-    Ok(out)
-}
-
 // The lines of a part, whose items, or the ones that it begins with, have these texts.
 fn part_lines(
     alloc: Global,
@@ -140,7 +128,10 @@ fn part_lines(
     ensures { IfOk result (λ out. string_bytes out ≡ text_lines place.entry.name.now place.entry.starts.now (map string_bytes texts.now)
         ++ refusal_line place.entry.name.now (option_copied refusal.entry)) }
 {
-    let mut out = item_lines(alloc, place, texts)?;
+    let mut out = String::new(alloc);
+    for (start, text) in place.starts.iter().zip(texts) {
+        append_item(alloc, place.name, *start, text.as_str(), &mut out)?;
+    }
     append_refusal(alloc, place.name, refusal, &mut out)?;
     Ok(out)
 }

@@ -1,12 +1,11 @@
 //! The record of an item.
-ghost use Rattle.std.specs.Prelude.{◌≡◌, ◌++◌, ◌∷◌, [], map, flat_map, IfOk, IfErr, IsOkAnd, OnOk, option_copied};
-ghost use Rattle.std.specs.String.{string_bytes};
+ghost use Rattle.std.specs.Prelude.{◌≡◌, ◌++◌, ◌∷◌, [], map, flat_map, IfOk, IfErr, IsOkAnd, OnOk, option_copied, string_bytes};
 ghost use Rattle.souper_graph.specs.Text.{text_of};
 ghost use Rattle.souper_graph.specs.Renaming.{renamed};
 ghost use Rattle.souper_graph.specs.WellFormed.{WellFormed};
 ghost use Rattle.souper_graph.specs.Syntax.Tokens.{IsLastGap};
 ghost use Rattle.souper_ir.specs.Answers.{IsStrError};
-ghost use Rattle.souper_records.specs.Records.{chosen, key_of, key_line, delimited, record_of_text, record_of, AreRecordsOf};
+ghost use Rattle.souper_records.specs.Records.{chosen, key_of, record_of_text, record_of, AreRecordsOf};
 ghost use Rattle.souper_records.specs.Uniques.{text_by};
 
 use crate::each::Records;
@@ -45,22 +44,9 @@ fn append_text<T: Item + Drop>(rename: bool, item: &T, out: &mut String) -> Resu
     }
 }
 
-// Appends the canonical text of the item with names by its printed order. The item is dropped then, so it is renamed in place.
-#[tactic(auto, using(souper_graph::proofs::Judging::Needed::well_formed_below))]
-fn append_renamed<T: Item + Drop>(item: &mut T, out: &mut String) -> Result<(), AllocError>
-    requires { WellFormed (T.view item.old) }
-    ensures text { OnOk result (string_bytes out.new ≡ string_bytes out.old ++ text_of (renamed (T.view item.old))) }
-    ensures well_formed { OnOk result (WellFormed (renamed (T.view item.old))) }
-{
-    match item.rename() {
-        Ok(true) => append_canonical(item, out),
-        Ok(false) => append_text(true, item, out),
-        Err(_) => Err(AllocError),
-    }
-}
-
 /// Appends the canonical text of an item that is dropped then; with `rename` the text with names by its printed order. The error is out of
 /// memory.
+#[tactic(auto, using(souper_graph::proofs::Judging::Needed::well_formed_below))]
 pub fn append_last_text<T: Item + Drop>(
     rename: bool,
     item: &mut T,
@@ -71,7 +57,12 @@ pub fn append_last_text<T: Item + Drop>(
     ensures well_formed { OnOk result (WellFormed (chosen rename (T.view item.old))) }
 {
     if rename {
-        return append_renamed(item, out);
+        // The item is dropped then, so it is renamed in place, if that can be.
+        return match item.rename() {
+            Ok(true) => append_canonical(item, out),
+            Ok(false) => append_text(true, item, out),
+            Err(_) => Err(AllocError),
+        };
     }
     append_canonical(item, out)
 }
@@ -105,27 +96,6 @@ pub fn key_of(alloc: Global, text: &str) -> Result<String, AllocError>
     hex::encode(alloc, &Sha256::digest(text.as_bytes()))
 }
 
-// Appends a comment line with the key of the text.
-fn append_key(alloc: Global, text: &str, out: &mut String) -> Result<(), AllocError>
-    ensures { OnOk result (string_bytes out.new ≡ string_bytes out.old ++ key_line text.now) }
-{
-    let key = key_of(alloc, text)?;
-    out.push_str("; ")?;
-    out.push_str(key.as_str())?;
-    out.push_str("\n")
-}
-
-// Appends the text and what ends its record.
-fn append_delimited(delimiter: Delimiter, text: &str, out: &mut String) -> Result<(), AllocError>
-    ensures { OnOk result (string_bytes out.new ≡ string_bytes out.old ++ delimited delimiter text.now) }
-{
-    out.push_str(text)?;
-    match delimiter {
-        Delimiter::Nul => out.push_str("\0"),
-        Delimiter::Newline => out.push_str("\n"),
-    }
-}
-
 /// Appends the record of an item whose text this is. The error is out of memory.
 pub fn append_record_of_text(
     alloc: Global,
@@ -136,9 +106,16 @@ pub fn append_record_of_text(
     ensures { OnOk result (string_bytes out.new ≡ string_bytes out.old ++ record_of_text layout text.now) }
 {
     if layout.key {
-        append_key(alloc, text, out)?;
+        let key = key_of(alloc, text)?;
+        out.push_str("; ")?;
+        out.push_str(key.as_str())?;
+        out.push_str("\n")?;
     }
-    append_delimited(layout.delimiter, text, out)
+    out.push_str(text)?;
+    match layout.delimiter {
+        Delimiter::Nul => out.push_str("\0"),
+        Delimiter::Newline => out.push_str("\n"),
+    }
 }
 
 /// The records of items whose texts these are.

@@ -2,7 +2,7 @@
 ghost use Rattle.std.specs.Prelude.{◌≡◌, true, false, string_bytes, IfOk};
 ghost use Rattle.souper_format.specs.Streams.{stream, IsGiven};
 ghost use Rattle.souper_format.specs.Watching.{has_failed};
-ghost use Rattle.souper_records.specs.Reports.{IsErrorLine, IsFaultLineOf, ReportedMemory, Reported, ReportedFaultOf, ReportedError};
+ghost use Rattle.souper_records.specs.Reports.{IsErrorLine, IsFaultLineOf, ReportedMemory, ReportedFaultOf, ReportedError};
 
 use souper_format::watched::Watched;
 use souper_ir::parse::{ParseError, ParseErrorKind};

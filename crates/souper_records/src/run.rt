@@ -5,7 +5,7 @@ ghost use Rattle.souper_graph.specs.Values.{Item};
 ghost use Rattle.souper_format.specs.Streams.{stream};
 ghost use Rattle.souper_format.specs.Watching.{has_failed};
 ghost use Rattle.souper_records.specs.Uniques.{HasSeen};
-ghost use Rattle.souper_records.specs.Runs.{EndsWithFault, IsEnd, IsStop, IsPartsEnd, IsRecordsRun, IsObjectsRun, IsFirstsRun, IsCountRun};
+ghost use Rattle.souper_records.specs.Runs.{EndsWithFault, IsPartsEnd, IsRecordsRun, IsObjectsRun, IsFirstsRun, IsCountRun};
 
 use crate::counts::write_counts;
 use crate::each::write_records;
@@ -44,38 +44,6 @@ pub fn report_output<E: Write>(alloc: Global, fault: &io::Error, err: &mut Watch
     }
 }
 
-// Flushes the output after all was written to it, and returns the status: the one that is passed, unless the output fails.
-fn end<W: Write, E: Write>(
-    alloc: Global,
-    done: u8,
-    out: &mut Watched<W>,
-    err: &mut Watched<E>,
-) -> u8
-    ensures end { IsEnd done (stream W.contents out.old out.new) (stream E.contents err.old err.new) result }
-    ensures out_stays { has_failed out.old ≡ true → has_failed out.new ≡ true }
-    ensures stays { has_failed err.old ≡ true → has_failed err.new ≡ true }
-{
-    match out.flush() {
-        Ok(()) => done,
-        Err(fault) => report_output(alloc, &fault, err),
-    }
-}
-
-// Reports why not all was written, and returns the status.
-fn report_stop<E: Write>(alloc: Global, name: &str, stop: &Stop, err: &mut Watched<E>) -> u8
-    ensures stop { IsStop name.now stop.now (stream E.contents err.old err.new) result }
-    ensures stays { has_failed err.old ≡ true → has_failed err.new ≡ true }
-{
-    match stop {
-        Stop::Input(error) => report_error(alloc, name, error, err),
-        Stop::Output(fault) => report_output(alloc, fault, err),
-        Stop::Memory => {
-            report_memory(err);
-            2
-        }
-    }
-}
-
 /// Flushes the output after all parts were written to it ([`write_parts`](crate::parts::write_parts)), or reports why not all were.
 /// Returns the status of the program, as [`each_run_with`] does.
 pub fn end_parts<W: Write, E: Write>(
@@ -90,22 +58,20 @@ pub fn end_parts<W: Write, E: Write>(
     ensures stays { has_failed err.old ≡ true → has_failed err.new ≡ true }
 {
     match parts {
-        Ok(refused) => end(alloc, u8::from(refused), out, err),
-        Err(stop) => report_stop(alloc, name, &stop, err),
+        Ok(refused) => match out.flush() {
+            Ok(()) => u8::from(refused),
+            Err(fault) => report_output(alloc, &fault, err),
+        },
+        Err(Stop::Input(error)) => report_error(alloc, name, &error, err),
+        Err(Stop::Output(fault)) => report_output(alloc, &fault, err),
+        Err(Stop::Memory) => {
+            report_memory(err);
+            2
+        }
     }
 }
 
-/// Writes the record of each item of the stream to `out` ([`write_records`]), up to the first refusal, and returns the status of the
-/// program.
-///
-/// - 0: done, and nothing was written to `err`.
-/// - 1: the stream is refused. Records of items that it begins with were written, and to `err` the refusal, which shows the name,
-///   and a newline.
-/// - 2: a read or `out` failed, the input is not UTF-8, or memory ran out. A line that says so was written to `err`. Unless `out`
-///   failed, records of items that the stream begins with were written, and nothing else.
-/// - 141 ([`BROKEN_PIPE`]): `out` failed, since it is a pipe that nobody reads. Nothing was written to `err`.
-///
-/// If a write to `err` fails, the status is the same.
+/// Writes the record of each item of the stream to `out`, up to the first refusal, as [`each_run_with`] does.
 pub fn each_run<T: StreamItem + Drop, R: BufRead, W: Write, E: Write>(
     alloc: Global,
     layout: Layout,
@@ -125,16 +91,7 @@ pub fn each_run<T: StreamItem + Drop, R: BufRead, W: Write, E: Write>(
     each_run_with::<T, R, W, E>(alloc, layout, options, reader, out, err)
 }
 
-/// Writes the record of each item of the stream to `out` ([`write_records`]), and resumes after a refusal. Returns the status of the
-/// program.
-///
-/// - 0: done, no part was refused, and nothing was written to `err`.
-/// - 1: done, and some parts were refused. Each refusal was written to `err`, in order, with a newline.
-/// - 2: a read or `out` failed, the input is not UTF-8, or memory ran out, and a line that says so was written to `err`, after the
-///   refusals so far. Unless `out` failed, the records of the parts so far were written, and nothing else.
-/// - 141 ([`BROKEN_PIPE`]): `out` failed, since it is a pipe that nobody reads. Only the refusals so far were written to `err`.
-///
-/// If a write to `err` fails, the status is the same.
+/// Writes the record of each item of the stream to `out`, and resumes after a refusal, as [`each_run_with`] does.
 pub fn each_going_on_run<T: StreamItem + Drop, R: BufRead, W: Write, E: Write>(
     alloc: Global,
     layout: Layout,
@@ -157,8 +114,8 @@ pub fn each_going_on_run<T: StreamItem + Drop, R: BufRead, W: Write, E: Write>(
 /// Writes the record of each item of the stream to `out` ([`write_records`]), and returns the status of the program.
 ///
 /// - 0: done, no part was refused, and nothing was written to `err`.
-/// - 1: a part was refused. Each refusal was written to `err`, in order, with a newline: with recovery all of the stream, else the first
-///   one, and nothing after it was read.
+/// - 1: a part was refused. Each refusal was written to `err`, in order, with a newline, and shows the name: with recovery all of the
+///   stream, else the first one, and nothing after it was read.
 /// - 2: a read or `out` failed, the input is not UTF-8, or memory ran out, and a line that says so was written to `err`, after the
 ///   refusals so far. Unless `out` failed, the records of the parts so far were written, and nothing else.
 /// - 141 ([`BROKEN_PIPE`]): `out` failed, since it is a pipe that nobody reads. Only the refusals so far were written to `err`.
@@ -198,8 +155,7 @@ pub fn objects_run_with<T: StreamItem + Drop, R: BufRead, W: Write, E: Write>(
     end_parts(alloc, name, parts, out, err)
 }
 
-/// Writes a JSON object for each item of the stream and each refusal to `out` ([`write_objects`]). Returns the status of the program, as
-/// [`each_going_on_run`] does.
+/// Writes a JSON object for each item of the stream and each refusal to `out`, and resumes after a refusal, as [`objects_run_with`] does.
 pub fn objects_run<T: StreamItem + Drop, R: BufRead, W: Write, E: Write>(
     alloc: Global,
     rename: bool,
@@ -219,9 +175,8 @@ pub fn objects_run<T: StreamItem + Drop, R: BufRead, W: Write, E: Write>(
     objects_run_with::<T, R, W, E>(alloc, rename, options, reader, out, err)
 }
 
-/// Writes the record of each item of the stream that is the same graph as no earlier one to `out` ([`write_firsts`]), up to the first
-/// refusal, and returns the status of the program, as [`each_run`] does, with the records of first items. After status 2 or 141 nothing is
-/// known of `seen`, which is not to be used again.
+/// Writes the record of each item of the stream that is the same graph as no earlier one to `out`, up to the first refusal, as
+/// [`uniq_run_with`] does.
 pub fn uniq_run<T: StreamItem + Drop, R: BufRead, W: Write, E: Write>(
     _alloc: Global,
     layout: Layout,
@@ -243,9 +198,8 @@ pub fn uniq_run<T: StreamItem + Drop, R: BufRead, W: Write, E: Write>(
     uniq_run_with::<T, R, W, E>(layout, options, seen, reader, out, err)
 }
 
-/// Writes the record of each item of the stream that is the same graph as no earlier one to `out` ([`write_firsts`]), and resumes after a
-/// refusal. Returns the status of the program, as [`each_going_on_run`] does, with the records of first items. After status 2 or 141
-/// nothing is known of `seen`, which is not to be used again.
+/// Writes the record of each item of the stream that is the same graph as no earlier one to `out`, and resumes after a refusal, as
+/// [`uniq_run_with`] does.
 pub fn uniq_going_on_run<T: StreamItem + Drop, R: BufRead, W: Write, E: Write>(
     _alloc: Global,
     layout: Layout,
@@ -307,7 +261,7 @@ pub fn count_run<W: Write, E: Write>(
         → IsCountRun layout summary items (stream W.contents out.old out.new) (stream E.contents err.old err.new) result }
 {
     match write_counts(alloc, layout, summary, seen, out) {
-        Ok(()) => end(alloc, 0, out, err),
+        Ok(()) => end_parts(alloc, "", Ok(false), out, err),
         Err(Stop::Input(_)) => unreachable!(),
         Err(Stop::Output(fault)) => report_output(alloc, &fault, err),
         Err(Stop::Memory) => {

@@ -1,6 +1,5 @@
 //! Why writing the output of a stream stopped.
-ghost use Rattle.std.specs.Prelude.{◌≡◌, OnOk, IfErr};
-ghost use Rattle.std.specs.String.{string_bytes};
+ghost use Rattle.std.specs.Prelude.{◌≡◌, OnOk, IfErr, string_bytes};
 ghost use Rattle.souper_format.specs.Streams.{stream, IsGiven};
 ghost use Rattle.souper_format.specs.Watching.{has_failed};
 ghost use Rattle.souper_records.specs.Stops.{IfInput, UnlessOutput, IsStopOf};
@@ -49,8 +48,5 @@ pub fn write_text<W: Write>(text: &String, out: &mut Watched<W>) -> Result<(), S
     ensures written { OnOk result (IsGiven (stream W.contents out.old out.new) (string_bytes text.now)) }
     ensures failed { IfErr result (λ stop. IfInput stop (λ e. ⊥) × UnlessOutput stop (has_failed out.new) ⊥) }
 {
-    match out.write_all(text.as_bytes()) {
-        Ok(()) => Ok(()),
-        Err(fault) => Err(Stop::Output(fault)),
-    }
+    out.write_all(text.as_bytes()).map_err(Stop::Output)
 }

@@ -1,16 +1,13 @@
 //! The record of the first item of each graph in streams.
-ghost use Rattle.std.specs.Prelude.{◌≡◌, ◌++◌, ◌∷◌, [], List, map, flat_map, drop, true, OnOk, IfOk, IfErr};
+ghost use Rattle.std.specs.Prelude.{◌≡◌, ◌++◌, ◌∷◌, List, map, true, OnOk, IfOk, IfErr, string_bytes};
 ghost use Rattle.std.specs.List.{AllByRecursion};
-ghost use Rattle.std.specs.String.{string_bytes};
 ghost use Rattle.souper_graph.specs.Values.{Item};
-ghost use Rattle.souper_graph.specs.WellFormed.{WellFormed};
 ghost use Rattle.souper_ir.specs.Errors.{kind_of};
-ghost use Rattle.souper_format.specs.Streams.{stream, IsGiven};
+ghost use Rattle.souper_format.specs.Streams.{stream};
 ghost use Rattle.souper_format.specs.Watching.{has_failed};
-ghost use Rattle.souper_records.specs.Stops.{IfInput, UnlessOutput};
+ghost use Rattle.souper_records.specs.Stops.{IfInput};
 ghost use Rattle.souper_records.specs.Outcomes.{WritesParts, StopsAfter, OfItems, items_of};
 ghost use Rattle.souper_records.specs.Counts.{tally_all};
-ghost use Rattle.souper_records.specs.Records.{chosen, record_of_text};
 ghost use Rattle.souper_records.specs.Uniques.{text_by, HasText, HasSeen, text_count, WritesFirstRecords, WritesSeenFirsts, WritesNewFirsts};
 
 use crate::layout::Layout;
@@ -65,23 +62,6 @@ impl<T: WholeItem + Drop> ChunkSink<T> for Firsts {
     }
 }
 
-// Writes the records of the texts from the index `start` on.
-fn write_texts<W: Write>(
-    alloc: Global,
-    layout: Layout,
-    texts: &[String],
-    start: usize,
-    out: &mut Watched<W>,
-) -> Result<(), Stop>
-    ensures written { OnOk result (IsGiven (stream W.contents out.old out.new) (flat_map (record_of_text layout) (map string_bytes (drop start texts.now)))) }
-    ensures input { IfErr result (λ stop. IfInput stop (λ e. ⊥)) }
-    ensures unwritten { IfErr result (λ stop. UnlessOutput stop (has_failed out.new) (out.new ≡ out.old)) }
-{
-    let texts = &texts[start.min(texts.len())..];
-    let text = records_of_texts(alloc, layout, texts)?;
-    write_text(&text, out)
-}
-
 // Counts the items with these texts, and keeps the texts that are new.
 fn see_texts(seen: &mut Seen, texts: Vec<String>) -> Result<(), AllocError>
     ensures { OnOk result (map text_count seen.new.counts.entries ≡ tally_all (map text_count seen.old.counts.entries) (map string_bytes texts.items)) }
@@ -107,7 +87,9 @@ impl<T: StreamItem + Drop> PartSink<T> for Firsts {
         let texts = mem::replace(&mut self.texts, Vec::new(alloc));
         see_texts(&mut self.seen, texts)?;
         let seen = self.seen.counts.keys();
-        write_texts(alloc, self.layout, seen.as_slice(), start, out)
+        let new = &seen.as_slice()[start.min(seen.len())..];
+        let text = records_of_texts(alloc, self.layout, new)?;
+        write_text(&text, out)
     }
 }
 

@@ -1,7 +1,7 @@
 -- the records so far were written, but for the last ones
 use Rattle.std.specs.String.{string_bytes}
 use Rattle.souper_format.specs.Watching.{watched_inner}
-use Rattle.souper_records.proofs.Counting.{Taken}
+use Rattle.souper_records.proofs.Seeing.{Taken}
 use Rattle.souper_records.proofs.counts.write_counts.Given as goal
 
 abbrev pub invariant-loop-text : goal.invariant-loop-text

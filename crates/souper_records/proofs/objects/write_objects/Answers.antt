@@ -1,5 +1,4 @@
-use Rattle.std.proofs.Common.{map, refl, ap}
-use Rattle.std.specs.String.{string_bytes}
+use Rattle.std.proofs.Common.{map, refl, ap, string_bytes}
 use Rattle.std.proofs.KnownBytes.{Appends-nil}
 use Rattle.std.proofs.lemmas.Result.{IfOk-weaker, IfErr-weaker}
 use Rattle.souper_format.specs.Streams.{stream}

@@ -1,5 +1,4 @@
-use Rattle.std.proofs.Common.{rules, ◌≡◌, [], None, Some, refl, sym, ◌∙◌, subst, append-nil}
-use Rattle.std.specs.String.{string_bytes}
+use Rattle.std.proofs.Common.{rules, ◌≡◌, [], None, Some, refl, sym, ◌∙◌, subst, append-nil, string_bytes}
 use Rattle.std.proofs.KnownBytes.{Keeps-refl}
 use Rattle.souper_ir.specs.declared.parse.error.ParseErrorKind.TheVariants.{Parse}
 use Rattle.souper_ir.specs.Errors.{kind_of}

@@ -25,7 +25,7 @@ returns-then-not-source-clause-written g c =
     let e = rw (i.options, c.if-refused.true) at (rw c.in-Ok-Some.field-0-is at c.in-Ok-Some.ensures) in
     let stops : c.args.source.options.recover ≡ false = sym (ap (λ (o : ReadOptions). o.recover) e.options) ∙ c.if-not-source.true in
     reached_refusal g.E.Write.contents c.args.err.now c.loop-turn.err c.write_next.new.err e.stays (e.same ∙ i.same) (λ os o h more. more c.args.sink.now (g.W.Write.contents (watched_inner c.args.out.now)) os h) i.reached (e.part (g.R.Read.remaining c.args.reader.now) _ i.reached.had)
-    c.args.source.options.recover stops (i.quiet stops)
+    refl c.args.source.options.recover stops (i.quiet stops)
 
 pub returns-in-Ok-None-clause-written : goal.returns-in-Ok-None-clause-written
 returns-in-Ok-None-clause-written g c =

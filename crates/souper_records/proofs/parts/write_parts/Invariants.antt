@@ -1,6 +1,5 @@
 -- The parts that were read, their output, and the reports.
-use Rattle.std.proofs.Common.{◌≡◌, true, false, []}
-use Rattle.std.specs.Prelude.{Some}
+use Rattle.std.proofs.Common.{◌≡◌, true, false, [], Some}
 use Rattle.souper_stream.specs.Parts.{keeps_starts}
 use Rattle.souper_format.specs.Streams.{stream}
 use Rattle.souper_format.specs.Watching.{watched_inner, has_failed}

@@ -1,6 +1,5 @@
 -- the records so far are there
-use Rattle.std.proofs.Common.{◌≡◌, map, flat_map, take}
-use Rattle.std.specs.String.{string_bytes}
+use Rattle.std.proofs.Common.{◌≡◌, map, flat_map, take, string_bytes}
 use Rattle.souper_records.specs.Records.{record_of_text}
 use Rattle.souper_records.proofs.records.records_of_texts.Given as goal
 

@@ -1,5 +1,4 @@
-use Rattle.std.proofs.Common.{rules, refl, inl}
-use Rattle.std.specs.Prelude.{string_bytes}
+use Rattle.std.proofs.Common.{rules, refl, inl, string_bytes}
 use Rattle.souper_records.proofs.report.report_error.Goals as goal
 
 pub returns-clause-reported : goal.returns-clause-reported

@@ -1,4 +1,4 @@
-use Rattle.std.proofs.Common.{◌≡◌, ℕ, min, ltb, ltb-true, ltb-false, List, length, take, drop, ap, ◌∙◌, arith}
+use Rattle.std.proofs.Common.{◌≡◌, ℕ, List, take, drop, ap, ◌∙◌}
 use Rattle.std.proofs.lemmas.List.{take_rest}
 use Rattle.souper_ir.specs.Places.{newlines}
 use Rattle.souper_records.specs.declared.comparison.Comparison.{Comparison}
@@ -11,14 +11,12 @@ returns c = λ before others h.
     let old : Comparison = c.args.self.now in
     let held : List ℕ = c.extend_from_slice.new.self.items in
     let held_other : List ℕ = c.extend_from_slice-2.new.self.items in
-    let len : ℕ = c.common_front-len.result.0 in
+    let front = c.common_front-len in
     let text_is : c.deref.result.now ≡ held = c.deref.ensures.value in
     let other_is : c.deref-2.result.now ≡ held_other = c.deref-2.ensures.value in
-    let agree : AgreeUpTo held held_other len = rw (text_is, other_is) at c.common_front-len.ensures.same in
-    let shorter : c.min.result ≡ min (length held) (length held_other) = omega (arith, c.min.ensures, c.len.ensures, c.len-2.ensures, c.extend_from_slice.new.self.ok, c.extend_from_slice-2.new.self.ok) in
-    let new : Comparison = record { alloc = old.alloc; line = c.saturating_add-self.result; differs = ltb c.common_front-len.result.0 c.min.result; text = c.in_ok-self.field-0; other = c.in_ok-self-2.field-0 } in
-    compared_more old new before others c.args.text.now c.args.other.now held held_other len c.common_front-len.result.1 h c.if-self.false c.in_ok-extend_from_slice.ensures.items c.in_ok-extend_from_slice-2.ensures.items
-    agree (c.common_front-len.ensures.newlines ∙ ap (λ (x : List ℕ). newlines (take len x)) text_is) c.saturating_add-self.ensures
-    (c.in_ok-self.ensures.items_if_clones_equal (λ x y e. e) ∙ take_rest c.deref-3.result.now len ∙ ap (drop len) c.deref-3.ensures.value)
-    (c.in_ok-self-2.ensures.items_if_clones_equal (λ x y e. e) ∙ take_rest c.deref-4.result.now len ∙ ap (drop len) c.deref-4.ensures.value)
-    (λ e. omega (arith, ltb-true len c.min.result e, shorter)) (λ e. omega (arith, ltb-false len c.min.result e, shorter))
+    let agree : AgreeUpTo held held_other front.result.0 front.result.2 = rw (text_is, other_is) at front.ensures.same in
+    let new : Comparison = record { alloc = old.alloc; line = c.saturating_add-self.result; differs = front.result.2; text = c.in_ok-self.field-0; other = c.in_ok-self-2.field-0 } in
+    compared_more old new before others c.args.text.now c.args.other.now held held_other front.result.0 front.result.1 h c.if-self.false c.in_ok-extend_from_slice.ensures.items c.in_ok-extend_from_slice-2.ensures.items
+    agree (front.ensures.newlines ∙ ap (λ (x : List ℕ). newlines (take front.result.0 x)) text_is) c.saturating_add-self.ensures
+    (c.in_ok-self.ensures.items_if_clones_equal (λ x y e. e) ∙ take_rest c.deref-3.result.now front.result.0 ∙ ap (drop front.result.0) c.deref-3.ensures.value)
+    (c.in_ok-self-2.ensures.items_if_clones_equal (λ x y e. e) ∙ take_rest c.deref-4.result.now front.result.0 ∙ ap (drop front.result.0) c.deref-4.ensures.value)
