@@ -42,9 +42,8 @@ pub(crate) fn check_diff<T: StreamItem + Drop, R: BufRead, W: Write, E: Write>(
     if status != 1 {
         return status;
     }
-    let diff = match diff::<T>(alloc, name, &bytes) {
-        Ok(diff) => diff,
-        Err(_) => return out_of_memory(err),
+    let Ok(diff) = diff::<T>(alloc, name, &bytes) else {
+        return out_of_memory(err);
     };
     match out.write_all(diff.as_bytes()).and_then(|()| out.flush()) {
         Ok(()) => 1,

@@ -99,10 +99,9 @@ impl Style {
         };
         let all = self.columns(line, line.len());
         let limit = self.limit();
-        let mut first = 0;
-        if all > limit {
-            first = before.saturating_sub(limit / 2).min(all - limit);
-        }
+        let first = before
+            .saturating_sub(limit / 2)
+            .min(all.saturating_sub(limit));
         let end = first.saturating_add(limit);
         if first > 0 {
             shown.push(CUT)?;
@@ -120,10 +119,7 @@ impl Style {
         if end < all {
             shown.push(CUT)?;
         }
-        Ok(
-            before
-                .saturating_sub(skipped)
-                .saturating_add(usize::from(first > 0)),
-        )
+        let cut = usize::from(first > 0);
+        Ok(before.saturating_sub(skipped).saturating_add(cut))
     }
 }

@@ -65,22 +65,19 @@ fn begins_with<T: StreamItem + Drop>(rt: &HostRuntime, path: &str) -> bool {
 // The other kind as which the file reads.
 fn other_kind(rt: &HostRuntime, kind: Kind, path: &str) -> Option<&'static str> {
     if kind != Kind::Lhs && begins_with::<LeftHandSide>(rt, path) {
-        return Some("lhs");
+        Some("lhs")
+    } else if kind != Kind::Rhs && begins_with::<RightHandSide>(rt, path) {
+        Some("rhs")
+    } else if kind != Kind::Rep && begins_with::<Replacement>(rt, path) {
+        Some("rep")
+    } else {
+        None
     }
-    if kind != Kind::Rhs && begins_with::<RightHandSide>(rt, path) {
-        return Some("rhs");
-    }
-    if kind != Kind::Rep && begins_with::<Replacement>(rt, path) {
-        return Some("rep");
-    }
-    None
 }
 
 /// Reports as which other kind the file reads, if its beginning does.
 pub(crate) fn hint<E: Write>(rt: &HostRuntime, kind: Kind, path: &str, err: &mut Watched<E>) {
     if let Some(name) = other_kind(rt, kind, path) {
-        let _ = err.write_all(b"hint: this reads as ");
-        let _ = err.write_all(name.as_bytes());
-        let _ = err.write_all(b"\n");
+        let _ = writeln!(err, "hint: this reads as {name}");
     }
 }

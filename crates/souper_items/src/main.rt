@@ -17,7 +17,7 @@ use options::{Action, Color, Task, grammar, read_task};
 use progress::{Meter, Metered};
 use rewrite::rewrite;
 use souper_find::run::{fill_run, find_run, keyed_run};
-use souper_find::search::{Choice, Output, Search};
+use souper_find::search::{Output, Search};
 use souper_format::command::Kind;
 use souper_format::watched::Watched;
 use souper_ir::ast::{LeftHandSide, Replacement, RightHandSide};
@@ -78,96 +78,60 @@ struct Session<'s, W, E> {
 
 // Each method returns a status of the program.
 impl<'s, W: Write, E: Write> Session<'s, W, E> {
-    // The distinct items of a stream of items of the type, without output: the records come at the end.
-    fn count<T: StreamItem + Drop, R: BufRead>(
+    // A stream of items of the type.
+    fn items<T: StreamItem + Drop, R: BufRead>(
         &mut self,
-        layout: Layout,
         options: ReadOptions<'_>,
         reader: &mut R,
     ) -> u8 {
-        let layout = Layout {
-            key: false,
-            ..layout
-        };
-        let mut out = Watched::new(io::sink());
-        let (seen, err) = (&mut self.seen, &mut self.err);
-        uniq_run_with::<T, R, io::Sink, E>(layout, options, seen, reader, &mut out, err)
-    }
-
-    // How a stream is read for this output.
-    fn options<'n>(&self, output: Output, name: &'n str) -> ReadOptions<'n> {
-        ReadOptions {
-            name,
-            recover: self.task.keep_going || matches!(output, Output::Objects { .. }),
-            line_buffered: self.task.line_buffered,
-        }
-    }
-
-    // A stream of left-hand sides that the store is asked for.
-    fn answers<R: BufRead>(
-        &mut self,
-        choice: Choice,
-        output: Output,
-        reader: &mut R,
-        name: &str,
-    ) -> u8 {
-        let options = self.options(output, name);
-        let (store, out, err) = (&self.store, &mut self.out, &mut self.err);
-        let search = Search {
-            store,
-            choice,
-            output,
-        };
-        find_run::<R, W, E>(self.rt.alloc(), search, options, reader, out, err)
-    }
-
-    // A stream of items of the type.
-    fn items<T: StreamItem + Drop, R: BufRead>(&mut self, reader: &mut R, name: &str) -> u8 {
-        let alloc = self.rt.alloc();
-        let options = ReadOptions {
-            name,
-            recover: self.task.keep_going,
-            line_buffered: self.task.line_buffered,
-        };
+        let (alloc, name) = (self.rt.alloc(), options.name);
         let (seen, out, err) = (&mut self.seen, &mut self.out, &mut self.err);
         match self.task.action {
-            Action::Each(layout) => {
+            Action::Format(Output::Records(layout)) => {
                 each_run_with::<T, R, W, E>(alloc, layout, options, reader, out, err)
             }
-            Action::Objects { rename } => {
-                let options = ReadOptions {
-                    recover: true,
-                    ..options
-                };
+            Action::Format(Output::Objects { rename }) => {
                 objects_run_with::<T, R, W, E>(alloc, rename, options, reader, out, err)
             }
             Action::Uniq(layout) => {
                 uniq_run_with::<T, R, W, E>(layout, options, seen, reader, out, err)
             }
-            Action::Count(layout, _) => self.count::<T, R>(layout, options, reader),
+            // The records come at the end.
+            Action::Count(layout, _) => {
+                let layout = Layout {
+                    key: false,
+                    ..layout
+                };
+                let mut none = Watched::new(io::sink());
+                uniq_run_with::<T, R, io::Sink, E>(layout, options, seen, reader, &mut none, err)
+            }
             Action::Check { diff: false } => check_run::<T, R, E>(alloc, reader, name, err),
             Action::Check { diff: true } => check_diff::<T, R, W, E>(alloc, reader, name, out, err),
             Action::Write { .. } | Action::Find { .. } | Action::Keyed(_) => 2,
         }
     }
 
-    // A stream of replacements that are written with the keys of their left-hand sides.
-    fn keyed<R: BufRead>(&mut self, output: Output, reader: &mut R, name: &str) -> u8 {
-        let options = self.options(output, name);
-        let (out, err) = (&mut self.out, &mut self.err);
-        keyed_run::<R, W, E>(self.rt.alloc(), output, options, reader, out, err)
-    }
-
     fn stream<R: BufRead>(&mut self, reader: &mut R, name: &str) -> u8 {
-        match self.task.action {
-            Action::Find { choice, output } => return self.answers(choice, output, reader, name),
-            Action::Keyed(output) => return self.keyed(output, reader, name),
-            _ => {}
-        }
-        match self.task.kind {
-            Kind::Lhs => self.items::<LeftHandSide, R>(reader, name),
-            Kind::Rhs => self.items::<RightHandSide, R>(reader, name),
-            Kind::Rep => self.items::<Replacement, R>(reader, name),
+        let alloc = self.rt.alloc();
+        let options = ReadOptions {
+            name,
+            recover: self.task.recovers,
+            line_buffered: self.task.line_buffered,
+        };
+        let (store, out, err) = (&self.store, &mut self.out, &mut self.err);
+        match (self.task.action, self.task.kind) {
+            (Action::Find { choice, output }, _) => {
+                let search = Search {
+                    store,
+                    choice,
+                    output,
+                };
+                find_run(alloc, search, options, reader, out, err)
+            }
+            (Action::Keyed(output), _) => keyed_run(alloc, output, options, reader, out, err),
+            (_, Kind::Lhs) => self.items::<LeftHandSide, R>(options, reader),
+            (_, Kind::Rhs) => self.items::<RightHandSide, R>(options, reader),
+            (_, Kind::Rep) => self.items::<Replacement, R>(options, reader),
         }
     }
 
@@ -195,7 +159,13 @@ impl<'s, W: Write, E: Write> Session<'s, W, E> {
             return self.standard_input(meter);
         }
         self.begin(meter, path);
-        let status = self.named(meter, path);
+        let status = match self.task.action {
+            Action::Write { rename, force } => self.rewrite(rename, force, meter, path),
+            _ => match open(self.rt, meter, path) {
+                Ok(mut reader) => self.stream(&mut reader, path),
+                Err(fault) => failed(self.rt.alloc(), path, &fault, &mut self.err),
+            },
+        };
         self.end(self.task.kind, path);
         status
     }
@@ -217,47 +187,21 @@ impl<'s, W: Write, E: Write> Session<'s, W, E> {
         self.begin(meter, path);
         let (alloc, store, err) = (self.rt.alloc(), &mut self.store, &mut self.err);
         let status = match open(self.rt, meter, path) {
-            Ok(mut reader) => fill_run::<BufReader<Metered<'_, '_, File>>, E>(
-                alloc,
-                store,
-                &mut reader,
-                path,
-                err,
-            ),
+            Ok(mut reader) => fill_run(alloc, store, &mut reader, path, err),
             Err(fault) => failed(alloc, path, &fault, err),
         };
         self.end(Kind::Rep, path);
         status
     }
 
-    // The status of the first file whose replacements could not all be added, or 0.
-    fn fill_all(&mut self, meter: &mut Meter<'s>) -> u8 {
+    // The greatest status of the files. It ends after a failed write; what remembers items also ends after status 2. None is read unless
+    // the store has all its replacements.
+    fn files(&mut self, meter: &mut Meter<'s>) -> u8 {
         for path in self.task.stores {
             let status = self.fill(meter, path);
             if status != 0 {
                 return status;
             }
-        }
-        0
-    }
-
-    // A file that is no standard input.
-    fn named(&mut self, meter: &mut Meter<'s>, path: &'s str) -> u8 {
-        if let Action::Write { rename, force } = self.task.action {
-            return self.rewrite(rename, force, meter, path);
-        }
-        match open(self.rt, meter, path) {
-            Ok(mut reader) => self.stream(&mut reader, path),
-            Err(fault) => failed(self.rt.alloc(), path, &fault, &mut self.err),
-        }
-    }
-
-    // The greatest status of the files. It ends after a failed write; what remembers items also ends after status 2. None is read unless
-    // the store has all its replacements.
-    fn files(&mut self, meter: &mut Meter<'s>) -> u8 {
-        let filled = self.fill_all(meter);
-        if filled != 0 {
-            return filled;
         }
         if self.task.files.is_empty() {
             return self.standard_input(meter);
@@ -328,9 +272,8 @@ fn style(rt: &HostRuntime, color: Color) -> Style {
 
 // Does what the matches ask for, and returns the status.
 fn run_matches(rt: &HostRuntime, matches: &ArgMatches<'_>) -> u8 {
-    let task = match read_task(matches) {
-        Some(task) => task,
-        None => return 2,
+    let Some(task) = read_task(matches) else {
+        return 2;
     };
     let is_shown = Cell::new(false);
     let is_refused = Cell::new(false);
@@ -340,7 +283,7 @@ fn run_matches(rt: &HostRuntime, matches: &ArgMatches<'_>) -> u8 {
         Err(_) => return out_of_memory(&mut Watched::new(rt.stderr())),
     };
     if let Some(fault) = task.fault() {
-        let _ = err.write_all(fault);
+        let _ = writeln!(err, "error: {fault}");
         return 2;
     }
     Session {
@@ -391,21 +334,17 @@ fn words(rt: &HostRuntime) -> anyhow::Result<Option<Vec<String>>> {
 
 // Reads the command line and does what it asks for.
 fn run_words(rt: &HostRuntime) -> anyhow::Result<u8> {
-    let words = match words(rt)? {
-        Some(words) => words,
-        None => return Ok(2),
+    let Some(words) = words(rt)? else {
+        return Ok(2);
     };
     let command = grammar(rt.alloc())?;
-    let matches = match command.try_get_matches_from(words.as_slice()) {
-        Ok(matches) => matches,
-        Err(error) => {
-            return Ok(match error.print(rt) {
-                Ok(()) => error.exit_code() as u8,
-                Err(fault) => { report_output(rt.alloc(), &fault, &mut Watched::new(rt.stderr())) }
-            });
-        }
-    };
-    Ok(run_matches(rt, &matches))
+    Ok(match command.try_get_matches_from(words.as_slice()) {
+        Ok(matches) => run_matches(rt, &matches),
+        Err(error) => match error.print(rt) {
+            Ok(()) => error.exit_code() as u8,
+            Err(fault) => report_output(rt.alloc(), &fault, &mut Watched::new(rt.stderr())),
+        },
+    })
 }
 
 fn main(rt: HostRuntime) -> ExitCode {

@@ -76,19 +76,13 @@ fn new_path(alloc: Global, path: Path<'_>) -> Result<PathBuf, AllocError> {
 
 // Only the user may read a new file until it has the permissions of the old one.
 fn create(rt: &HostRuntime, path: Path<'_>) -> io::Result<File> {
-    OpenOptions::new()
-        .write(true)
-        .create_new(true)
-        .mode(0o600)
-        .open(rt, path)
-}
-
-// What is said of a new file that is there already.
-fn left_over(fault: io::Error) -> io::Error {
-    if fault.kind() == ErrorKind::AlreadyExists {
-        refusal("left by an interrupted run, or in use; if no other run uses it, remove it")
-    } else {
-        fault
+    let mut options = OpenOptions::new();
+    let options = options.write(true).create_new(true).mode(0o600);
+    match options.open(rt, path) {
+        Err(fault) if fault.kind() == ErrorKind::AlreadyExists => Err(refusal(
+            "left by an interrupted run, or in use; if no other run uses it, remove it",
+        )),
+        result => result,
     }
 }
 
@@ -107,14 +101,13 @@ fn replace<E: Write>(
     err: &mut Watched<E>,
 ) -> u8 {
     let alloc = rt.alloc();
-    let path = match new_path(alloc, target.path.as_path()) {
-        Ok(path) => path,
-        Err(_) => return out_of_memory(err),
+    let Ok(path) = new_path(alloc, target.path.as_path()) else {
+        return out_of_memory(err);
     };
     let path = path.as_path();
     let file = match create(rt, path) {
         Ok(file) => file,
-        Err(fault) => return failed(alloc, path.as_str(), &left_over(fault), err),
+        Err(fault) => return failed(alloc, path.as_str(), &fault, err),
     };
     let filled = fill(file, &target.metadata, text);
     match filled.and_then(|()| fs::rename(rt, path, target.path.as_path())) {
@@ -142,12 +135,9 @@ pub(crate) fn rewrite<T: WholeItem + Drop, E: Write>(
         Ok(target) => target,
         Err(fault) => return failed(alloc, name, &fault, err),
     };
-    let source = match str::from_utf8(&target.bytes) {
-        Ok(source) => source,
-        Err(_) => {
-            let before = Before { bytes: 0, lines: 0 };
-            return failed(alloc, name, &not_utf8(before, &target.bytes), err);
-        }
+    let Ok(source) = str::from_utf8(&target.bytes) else {
+        let before = Before { bytes: 0, lines: 0 };
+        return failed(alloc, name, &not_utf8(before, &target.bytes), err);
     };
     let layout = Layout { rename, ..PLAIN };
     match records_of_text::<T>(alloc, layout, source, Some(name)) {

@@ -3,6 +3,7 @@
 use crate::excerpt::Style;
 use std::alloc::{AllocError, Global};
 use std::cell::Cell;
+use std::fmt::Write as _;
 use std::io;
 use std::io::Write;
 
@@ -80,18 +81,25 @@ impl<'a, W: Write> Terminal<'a, W> {
     fn show(&mut self) -> io::Result<()> {
         self.shown.clear();
         let (style, shown) = (self.style, &mut self.shown);
-        let next = match (str::from_utf8(&self.line), self.part) {
-            (Ok(FRAME), Part::Message) => append_frame_line(style, shown),
-            (Ok(line), Part::Message) => append_message(style, line, shown),
-            (Ok(line), Part::Source) => keep_source(line, &mut self.source),
-            (Ok(line), Part::Caret) => append_excerpt(style, self.source.as_str(), line, shown),
-            (Err(_), _) => append_ascii(&self.line, shown),
+        let (next, result) = match (str::from_utf8(&self.line), self.part) {
+            (Ok(FRAME), Part::Message) => (Part::Source, append_frame(style, shown)),
+            (Ok(line), Part::Message) => (Part::Message, append_message(style, line, shown)),
+            (Ok(line), Part::Source) => (Part::Caret, replace(&mut self.source, line)),
+            (Ok(line), Part::Caret) => (
+                Part::Message,
+                append_excerpt(style, self.source.as_str(), line, shown),
+            ),
+            (Err(_), _) => (Part::Message, append_ascii(&self.line, shown)),
         };
         self.line.clear();
-        self.part = next?;
-        if self.part == Part::Source {
-            self.is_refused.set(true);
+        result?;
+        self.part = next;
+        match next {
+            Part::Caret => return Ok(()),
+            Part::Source => self.is_refused.set(true),
+            Part::Message => {}
         }
+        self.shown.push('\n')?;
         if self.is_shown.replace(false) {
             self.inner.write_all(ERASE)?;
         }
@@ -119,40 +127,23 @@ impl<W: Write> Write for Terminal<'_, W> {
     }
 }
 
-// Begins a color, where there are colors.
-fn begin(style: Style, color: &str, shown: &mut String) -> Result<(), AllocError> {
-    if style == Style::Color {
-        shown.push_str(color)?;
-    }
-    Ok(())
-}
-
-// Ends a color.
-fn end(style: Style, shown: &mut String) -> Result<(), AllocError> {
-    begin(style, RESET, shown)
+// What begins or ends a color, where there are colors.
+fn code(style: Style, code: &'static str) -> &'static str {
+    if style == Style::Color { code } else { "" }
 }
 
 fn append_frame(style: Style, shown: &mut String) -> Result<(), AllocError> {
-    begin(style, BLUE, shown)?;
-    shown.push_str(FRAME)?;
-    end(style, shown)
+    let (blue, reset) = (code(style, BLUE), code(style, RESET));
+    write!(shown, "{blue}{FRAME}{reset}").map_err(|_| AllocError)
 }
 
-// Appends the frame, which is a line of its own.
-fn append_frame_line(style: Style, shown: &mut String) -> Result<Part, AllocError> {
-    append_frame(style, shown)?;
-    shown.push('\n')?;
-    Ok(Part::Source)
-}
-
-fn keep_source(line: &str, source: &mut String) -> Result<Part, AllocError> {
-    source.clear();
-    source.push_str(line)?;
-    Ok(Part::Caret)
+fn replace(old: &mut String, text: &str) -> Result<(), AllocError> {
+    old.clear();
+    old.push_str(text)
 }
 
 // Of bytes that are no text the ASCII characters.
-fn append_ascii(line: &[u8], shown: &mut String) -> Result<Part, AllocError> {
+fn append_ascii(line: &[u8], shown: &mut String) -> Result<(), AllocError> {
     for byte in line {
         let c = if byte.is_ascii() {
             *byte as char
@@ -161,8 +152,7 @@ fn append_ascii(line: &[u8], shown: &mut String) -> Result<Part, AllocError> {
         };
         Style::Clean.append_char(c, shown)?;
     }
-    shown.push('\n')?;
-    Ok(Part::Message)
+    Ok(())
 }
 
 fn is_number(text: &str) -> bool {
@@ -177,72 +167,48 @@ fn after_location(text: &str) -> Option<&str> {
     (is_number(line) && is_number(column)).then_some(message)
 }
 
-// The length of `NAME:LINE:COLUMN: `, if the line begins with that.
-fn location_len(line: &str) -> Option<usize> {
+// The location of a line that begins with `NAME:LINE:COLUMN: `, and what follows.
+fn split_location(line: &str) -> Option<(&str, &str)> {
     for (index, byte) in line.bytes().enumerate() {
         if byte == b':'
             && let Some((_, rest)) = line.split_at_checked(index.saturating_add(1))
             && let Some(message) = after_location(rest)
         {
-            return Some(line.len().saturating_sub(message.len()));
+            return line.split_at_checked(line.len().saturating_sub(message.len()));
         }
     }
     None
 }
 
 // Appends a line that is a message, or another one.
-fn append_message(style: Style, line: &str, shown: &mut String) -> Result<Part, AllocError> {
-    match location_len(line).and_then(|len| line.split_at_checked(len)) {
+fn append_message(style: Style, line: &str, shown: &mut String) -> Result<(), AllocError> {
+    match split_location(line) {
         Some((location, message)) if style == Style::Color => {
             style.append_around(location, location.len(), shown)?;
             shown.push_str(BOLD)?;
             style.append_around(message, 0, shown)?;
-            shown.push_str(RESET)?;
+            shown.push_str(RESET)
         }
-        _ => {
-            style.append_around(line, 0, shown)?;
-        }
+        _ => style.append_around(line, 0, shown).map(|_| ()),
     }
-    shown.push('\n')?;
-    Ok(Part::Message)
 }
 
-// Appends the number of a line, and the line of the source, or of a long one what is around the byte at `caret`. Returns the columns
-// before that.
-fn append_source(
-    style: Style,
-    source: &str,
-    caret: usize,
-    shown: &mut String,
-) -> Result<usize, AllocError> {
-    let (number, text) = source.split_once("| ").unwrap_or(("     ", source));
-    begin(style, BLUE, shown)?;
-    shown.push_str(number)?;
-    shown.push('|')?;
-    end(style, shown)?;
-    shown.push(' ')?;
-    let columns = style.append_around(text, caret, shown)?;
-    shown.push('\n')?;
-    Ok(columns)
-}
-
-// Appends both lines: the one of the source, and the one with the caret.
+// Appends both lines: the one of the source after its number, or of a long one what is around the caret, and the one with the caret.
 fn append_excerpt(
     style: Style,
     source: &str,
     line: &str,
     shown: &mut String,
-) -> Result<Part, AllocError> {
+) -> Result<(), AllocError> {
+    let (number, text) = source.split_once("| ").unwrap_or(("     ", source));
     // Before the caret are the frame and a space.
     let caret = line.len().saturating_sub(FRAME.len() + 2);
-    let columns = append_source(style, source, caret, shown)?;
-    append_frame(style, shown)?;
-    begin(style, RED, shown)?;
+    let (blue, red, reset) = (code(style, BLUE), code(style, RED), code(style, RESET));
+    write!(shown, "{blue}{number}|{reset} ").map_err(|_| AllocError)?;
+    let columns = style.append_around(text, caret, shown)?;
+    write!(shown, "\n{blue}{FRAME}{reset}{red}").map_err(|_| AllocError)?;
     for _ in 0..=columns {
         shown.push(' ')?;
     }
-    shown.push('^')?;
-    end(style, shown)?;
-    shown.push('\n')?;
-    Ok(Part::Message)
+    write!(shown, "^{reset}").map_err(|_| AllocError)
 }
