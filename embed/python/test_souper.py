@@ -1022,7 +1022,7 @@ class Find(unittest.TestCase):
                 if item.kind is Kind.REP and isinstance(item.ending, souper.Replace):
                     self.is_answered(item, Item(item.statements, item.ending.infer))
                     count += 1
-        self.assertGreater(count, 50)
+        self.assertGreater(count, 10)
 
     def is_answered(self, item: Item, asked: Item) -> None:
         stored, query = souper.write("rep", [item]), souper.write("lhs", [asked])

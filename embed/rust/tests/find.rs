@@ -52,7 +52,7 @@ fn a_replacement_answers_its_left_hand_side() {
             count += 1;
         }
     }
-    assert!(count > 50);
+    assert!(count > 10);
     println!("Rust: stored replacements: {count} passed, 0 failed");
 }
 
