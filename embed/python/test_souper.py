@@ -468,7 +468,7 @@ class Instructions(unittest.TestCase):
 
     def test_numbers_are_the_ones_of_the_definition(self) -> None:
         numbers = (ROOT / "crates/souper_code/specs/Numbers.antt").read_text()
-        rows = re.findall(r"^number_of \(?(\w+)((?: \w)*)\)? = (\d+)$", numbers, re.MULTILINE)
+        rows = re.findall(r"^instruction_number \(?(\w+)((?: \w)*)\)? = (\d+)$", numbers, re.MULTILINE)
         defined = [(name.lower(), len(operands) // 2, int(n)) for name, operands, n in rows]
         ops = [(op.name.replace("_", "").lower(), op.arity, op.number) for op in Op]
         self.assertEqual((len(ops), ops), (59, defined))

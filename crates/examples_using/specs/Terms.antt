@@ -14,7 +14,7 @@ term_spells (Number c) ts = constant_spells c ts
 term_spells (Operation i) ts = instruction_spells [] i ts
 
 -- the text begins with tokens that spell the term, and then tokens that spell the numbers
-pub record BeginsWith (source : List ℕ) (term : Term) (numbers : List Constant) : Type 0 where
+pub record BeginsWithTerm (source : List ℕ) (term : Term) (numbers : List Constant) : Type 0 where
   pub first : List (ℕ × Lexeme)
   pub second : List (ℕ × Lexeme)
   pub rest : List (ℕ × Lexeme)

@@ -1,6 +1,6 @@
 //! Parsing parts of a text.
 ghost use Rattle.std.specs.Prelude.{IfOk};
-ghost use Rattle.examples_using.specs.Terms.{BeginsWith};
+ghost use Rattle.examples_using.specs.Terms.{BeginsWithTerm};
 
 use souper_ir::ast::{Constant, Instruction};
 use souper_ir::parse::{Parse, Parser, Peek, Result};
@@ -15,7 +15,7 @@ pub enum Term {
 
 /// The term that the text begins with, and the numbers that follow it.
 pub fn read_term(alloc: Global, source: &str) -> Result<(Term, Vec<Constant>)>
-    ensures { IfOk result (λ read. BeginsWith source.now read.0 read.1.items) }
+    ensures { IfOk result (λ read. BeginsWithTerm source.now read.0 read.1.items) }
 {
     let mut parser = Parser::new(alloc, source);
     let term = if Instruction::peek(&mut parser)? {

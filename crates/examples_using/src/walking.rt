@@ -3,7 +3,7 @@ ghost use Rattle.std.specs.Prelude.{◌≡◌, IfOk, map, option_copied};
 ghost use Rattle.souper_graph.specs.Order.{printed_order};
 ghost use Rattle.souper_graph.specs.Uses.{conditions, conditions_from, UsesBelow};
 ghost use Rattle.souper_graph.specs.View.{view_statement, view_left_hand_side};
-ghost use Rattle.examples_using.specs.Names.{name_at, names_at};
+ghost use Rattle.examples_using.specs.Names.{name_of_value, names_at};
 
 use souper_ir::ast::{Arena, AssignmentRhs, Id, Item, LeftHandSide, Operand, Statement, ValueId};
 use souper_ir::stringify::TextError;
@@ -11,7 +11,7 @@ use std::alloc::{AllocError, Global};
 
 /// The name of a value.
 pub fn name_of(statements: &Arena<Statement>, value: ValueId) -> Option<&str>
-    ensures { option_copied result ≡ name_at statements.now value }
+    ensures { option_copied result ≡ name_of_value statements.now value }
 {
     Some(statements.assignment(value)?.name.as_str())
 }

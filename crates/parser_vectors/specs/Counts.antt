@@ -6,5 +6,5 @@ use Rattle.souper_graph.specs.Syntax.Spelling.{TextSpells, left_hand_side}
 use Rattle.souper_stream.specs.Reading.{AreAll}
 
 -- the bytes read from the reader spell `count` left-hand sides
-abbrev pub Counts : Option (List ℕ) → Option (List ℕ) → ℕ → Type 0
-Counts before after count = (read : List ℕ) × (items : List Item) × Consumes before after read × AreAll before read × TextSpells left_hand_side read items × (count ≡ length items)
+abbrev pub CountsItems : Option (List ℕ) → Option (List ℕ) → ℕ → Type 0
+CountsItems before after count = (read : List ℕ) × (items : List Item) × Consumes before after read × AreAll before read × TextSpells left_hand_side read items × (count ≡ length items)

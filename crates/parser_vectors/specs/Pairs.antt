@@ -15,8 +15,8 @@ use Rattle.souper_ir.specs.Laws.Items.{starts_ahead}
 use Rattle.parser_vectors.specs.declared.pairs.Pair.{Pair}
 
 -- the first constant, and then the second
-abbrev pub pair_spells : Scope → Pair → List Lexeme → Type 0
-pair_spells s p ts = Split (λ s. constant_spells) constant_continues (λ s. constant_spells) s p.first p.second ts
+abbrev pub constants_spell : Scope → Pair → List Lexeme → Type 0
+constants_spell s p ts = Split (λ s. constant_spells) constant_continues (λ s. constant_spells) s p.first p.second ts
 
 abbrev pub pair_continues : Pair → Lexeme → Type 0
 pair_continues p t = constant_continues p.second t
@@ -31,10 +31,10 @@ constant_alone = alone constant_rule
 same_pair : (v w : Pair) → v.first ≡ w.first → v.second ≡ w.second → v ≡ w
 same_pair v w e f = ap (λ (x : Constant). record v { first = x }) e ∙ ap (λ (x : Constant). record w { second = x }) f
 
-pub pair_alone : Alone pair_spells pair_continues
+pub pair_alone : Alone constants_spell pair_continues
 pair_alone s v w a b c d e m n f g =
     let h = both_alone (λ s. constant_spells) constant_continues (λ s. constant_spells) constant_continues pair_continues (λ (p : Pair). p.first) (λ (p : Pair). p.second) (λ p t h. h) over constant_alone constant_alone s v w a b c d e m n f g in
     (h.0, same_pair v w h.1 h.2)
 
-pub pair_first : (s : Scope) (p : Pair) (ts : List Lexeme) → pair_spells s p ts → Starts is_int ts
+pub pair_first : (s : Scope) (p : Pair) (ts : List Lexeme) → constants_spell s p ts → Starts is_int ts
 pair_first s p ts h = rw h.whole (starts_ahead is_int h.prefix h.suffix (constant_first s p.first h.prefix h.first))

@@ -1,6 +1,6 @@
 //! Counting the items of a stream, which is not held in memory.
 ghost use Rattle.std.specs.Prelude.{IfOk};
-ghost use Rattle.parser_vectors.specs.Counts.{Counts};
+ghost use Rattle.parser_vectors.specs.Counts.{CountsItems};
 
 use crate::sinks::Count;
 use souper_ir::ast::LeftHandSide;
@@ -11,7 +11,7 @@ use std::io::BufRead;
 
 /// The number of left-hand sides that the stream has.
 pub fn count_left_hand_sides<R: BufRead>(alloc: Global, reader: &mut R) -> Result<u64, ParseError>
-    ensures { IfOk result (Counts (R.remaining reader.old) (R.remaining reader.new)) }
+    ensures { IfOk result (CountsItems (R.remaining reader.old) (R.remaining reader.new)) }
 {
     let mut count = Count { items: 0 };
     read_into::<LeftHandSide, R, Count>(alloc, reader, None, &mut count)?;

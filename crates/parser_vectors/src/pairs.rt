@@ -2,7 +2,7 @@
 
 ghost use Rattle.std.specs.Prelude.{refl};
 ghost use Rattle.souper_ir.specs.NodeReadings.{is_int};
-ghost use Rattle.parser_vectors.specs.Pairs.{pair_spells, pair_continues, pair_alone, pair_first};
+ghost use Rattle.parser_vectors.specs.Pairs.{constants_spell, pair_continues, pair_alone, pair_first};
 
 use souper_ir::ast::Constant;
 use souper_ir::parse::{Parse, Parser, Peek, Result};
@@ -19,7 +19,7 @@ impl Parse for Pair {
 
     ghost view = { λ p. p };
 
-    ghost spells = { pair_spells };
+    ghost spells = { constants_spell };
 
     ghost continues = { pair_continues };
 

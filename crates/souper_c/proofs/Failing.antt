@@ -6,7 +6,7 @@ use Rattle.std.proofs.lemmas.Bool.{cases_lt}
 use Rattle.souper_graph.specs.Syntax.Spelling.{left_hand_side, replacement}
 use Rattle.souper_ir.specs.Places.{IsRefusalTextAt}
 use Rattle.souper_c.specs.Kinds.{type_of_number, IsKind}
-use Rattle.souper_c.specs.Outcomes.{HasNoPlace, BeginsWith, WritesRefusal, SpellsSome}
+use Rattle.souper_c.specs.Outcomes.{HasNoPlace, FillsStart, WritesRefusal, SpellsSome}
 use Rattle.souper_c.specs.Answers.{ShowRefusal}
 use Rattle.souper_c.specs.Failures.{IsFailure, outcome_of, short_outcome, shown_of}
 use Rattle.souper_c.specs.declared.outcome.SouperOutcome.{SouperOutcome}
@@ -70,7 +70,7 @@ module _ (kind : ℕ) (source : List ℕ) (input : ℕ) (old new : List ℕ) whe
     refused_is_spelled : {A : Type 0} → SpellsSome kind source → A
     refused_is_spelled some = absurd (none_and_some (type_of_number kind) source (r.offset ≤ length source) (IsRefusalTextAt None source r.offset r.line r.column (string_bytes r.shown)) is some)
 
-    refusal_fails : BeginsWith old new (string_bytes r.shown) → Fails kind source (Refused r) input old new (outcome_of (Refused r) input)
+    refusal_fails : FillsStart old new (string_bytes r.shown) → Fails kind source (Refused r) input old new (outcome_of (Refused r) input)
     refusal_fails begins = record {
       known = (omega arith, λ two. absurd (omega (arith, two)));
       not_done = λ done. absurd (omega (arith, done));
@@ -102,7 +102,7 @@ module _ (kind : ℕ) (source : List ℕ) (input : ℕ) (old new : List ℕ) whe
 
 -- what `write_failure` does, by what it ensures
 pub fails : (kind : ℕ) (source : List ℕ) (input : ℕ) (old new : List ℕ) (f : Failure) (o : SouperOutcome) → IsKind kind → IsFailure kind source f
-    → (length (shown_of f) ≤ length old → (o ≡ outcome_of f input) × BeginsWith old new (shown_of f))
+    → (length (shown_of f) ≤ length old → (o ≡ outcome_of f input) × FillsStart old new (shown_of f))
     → (length old < length (shown_of f) → (o ≡ short_outcome (length (shown_of f))) × (new ≡ old)) → Fails kind source f input old new o
 fails kind source input old new NoKind o some is fits lacks = absurd (some is)
 fails kind source input old new NotUtf8 o some is fits lacks =

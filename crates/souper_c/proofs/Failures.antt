@@ -9,7 +9,7 @@ use Rattle.souper_ir.specs.Errors.{offset_of, line_of, column_of, shown_error, H
 use Rattle.souper_ir.specs.Places.{IsRefusalTextAt}
 use Rattle.souper_ir.specs.declared.parse.ParseError.{ParseError}
 use Rattle.souper_c.specs.Kinds.{type_of_number}
-use Rattle.souper_c.specs.Outcomes.{HasNoPlace, IsShortFor, BeginsWith, WritesRefusal}
+use Rattle.souper_c.specs.Outcomes.{HasNoPlace, IsShortFor, FillsStart, WritesRefusal}
 use Rattle.souper_c.specs.Failures.{IsFailure, IsFailureOf, outcome_of, short_outcome}
 use Rattle.souper_c.specs.declared.outcome.SouperOutcome.{SouperOutcome}
 use Rattle.souper_c.specs.declared.inputs.Refusal.{Refusal}
@@ -51,7 +51,7 @@ of_error number k source e NotUtf8 is_kind is impossible = absurd impossible
 
 -- what writing to a buffer of that content does: the outcome is the given one, or says that the buffer is short
 abbrev Wrote : List ℕ → List ℕ → List ℕ → SouperOutcome → SouperOutcome → Type 0
-Wrote old new shown given o = (length shown ≤ length old → (o ≡ given) × BeginsWith old new shown)
+Wrote old new shown given o = (length shown ≤ length old → (o ≡ given) × FillsStart old new shown)
     × (length old < length shown → (o ≡ short_outcome (length shown)) × (new ≡ old))
 
 -- a buffer that lacks room for a refusal
@@ -75,7 +75,7 @@ refusal_is_written number source old new r given o is (fits, lacks) is_given is_
 
 -- what was asked for was written
 pub bytes_are_written : (old new bytes : List ℕ) (given o : SouperOutcome) → Wrote old new bytes given o → given.length ≡ length bytes → o.status ≡ 0
-    → (o.length ≡ length bytes) × BeginsWith old new bytes
+    → (o.length ≡ length bytes) × FillsStart old new bytes
 bytes_are_written old new bytes given o (fits, lacks) is_given is_done =
     elim (cases_lt (length old) (length bytes)) [
       | inl l ↦ (let clash : 5 ≡ 0 = sym (ap (λ (o : SouperOutcome). o.status) (lacks l).0) ∙ is_done in absurd (omega (arith, clash)))

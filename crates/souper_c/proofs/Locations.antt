@@ -5,7 +5,7 @@ use Rattle.souper_graph.specs.Syntax.Spelling.{ItemType, SpellsNone}
 use Rattle.souper_ir.specs.Laws.Peeks.{some_is}
 use Rattle.souper_ir.specs.Answers.{IsStrError}
 use Rattle.souper_ir.specs.Errors.{at_end_of, kind_of, kind_of_cause, location_of, location_of_cause, offset_of, HasLocation, ShowsPlace, OnKind}
-use Rattle.souper_ir.specs.Places.{IsEnd, IsFault, IsPlace}
+use Rattle.souper_ir.specs.Places.{IsEnd, AtFault, IsPlace}
 use Rattle.souper_ir.specs.declared.parse.error.Cause.{Cause}
 use Rattle.souper_ir.specs.declared.parse.error.Cause.TheVariants.{Io, Parse as ParseCause, Memory}
 use Rattle.souper_ir.specs.declared.parse.error.ParseError.{ParseError}

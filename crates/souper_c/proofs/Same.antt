@@ -12,7 +12,7 @@ use Rattle.souper_format.specs.declared.items.Items.{Items}
 use Rattle.souper_format.specs.Kinds.{item_type_of, kind_of_items, view_items}
 use Rattle.souper_format.specs.Same.{SameItems}
 use Rattle.souper_c.specs.Kinds.{type_of_number, OfType}
-use Rattle.souper_c.specs.Outcomes.{BothSpell, AreSame, AreNotSame, IsNoTextInput, SpellsSome}
+use Rattle.souper_c.specs.Outcomes.{BothSpell, AreSameItems, AreNotSame, IsNoTextInput, SpellsSome}
 use Rattle.souper_c.specs.Failures.{IsFailure, outcome_of}
 use Rattle.souper_c.specs.declared.outcome.SouperOutcome.{SouperOutcome}
 use Rattle.souper_c.specs.declared.inputs.Failure.{Failure}
@@ -39,8 +39,8 @@ both None s t xs ys fact impossible _ _ = absurd impossible
 both (Some k) s t xs ys fact first second holds = (xs, ys, first, second, holds)
 
 pub spell_same : (n : ℕ) (a b : Items) (s t : List ℕ) → OfType n (λ k. TextSpells k s (view_items a)) → OfType n (λ k. TextSpells k t (view_items b))
-    → SameItems a b → BothSpell n s t AreSame
-spell_same n a b s t first second are = both (type_of_number n) s t (view_items a) (view_items b) AreSame first second are.1
+    → SameItems a b → BothSpell n s t AreSameItems
+spell_same n a b s t first second are = both (type_of_number n) s t (view_items a) (view_items b) AreSameItems first second are.1
 
 pub spell_others : (n : ℕ) (a b : Items) (s t : List ℕ) → OfType n (λ k. TextSpells k s (view_items a)) → OfType n (λ k. TextSpells k t (view_items b))
     → type_of_number n ≡ Some (item_type_of (kind_of_items a)) → type_of_number n ≡ Some (item_type_of (kind_of_items b))

@@ -6,7 +6,7 @@ use Rattle.souper_graph.specs.Text.{texts_of}
 use Rattle.souper_graph.specs.Syntax.Spelling.{left_hand_side, replacement, TextSpells}
 use Rattle.souper_lookup.specs.Instance.{AreInstances}
 use Rattle.souper_lookup.specs.Stored.{Entry, answers, replacements_of, AreAdded}
-use Rattle.souper_c.specs.Outcomes.{IsRefusedAt, BeginsWith, WritesRefusal, SpellsSome}
+use Rattle.souper_c.specs.Outcomes.{IsRefusedAt, FillsStart, WritesRefusal, SpellsSome}
 use Rattle.souper_c.specs.declared.outcome.SouperOutcome.{SouperOutcome}
 
 -- the entries of a new store to which the replacements that the text spells were added, one after another
@@ -23,16 +23,16 @@ AreGroups entries [] bytes = bytes ≡ []
 AreGroups entries (q ∷ qs) bytes = (group : List ℕ) × (rest : List ℕ) × IsGroup entries q group × (bytes ≡ group ++ rest) × AreGroups entries qs rest
 
 -- the text spells left-hand sides, and the bytes are their groups
-abbrev pub AreAnswers : List Entry → List ℕ → List ℕ → Type 0
-AreAnswers entries queries bytes = (qs : List Item) × TextSpells left_hand_side queries qs × AreGroups entries qs bytes
+abbrev pub AreAnswerGroups : List Entry → List ℕ → List ℕ → Type 0
+AreAnswerGroups entries queries bytes = (qs : List Item) × TextSpells left_hand_side queries qs × AreGroups entries qs bytes
 
 -- one text spells replacements, the other left-hand sides, and the bytes are what a store of these replacements answers for them
 abbrev pub AnswersTo : List ℕ → List ℕ → List ℕ → Type 0
-AnswersTo store queries bytes = (entries : List Entry) × AreEntriesOf store entries × AreAnswers entries queries bytes
+AnswersTo store queries bytes = (entries : List Entry) × AreEntriesOf store entries × AreAnswerGroups entries queries bytes
 
 -- the answers were written to the buffer
-abbrev pub WritesAnswers : List ℕ → List ℕ → SouperOutcome → List ℕ → List ℕ → Type 0
-WritesAnswers store queries o old new = (bytes : List ℕ) × AnswersTo store queries bytes × (o.length ≡ length bytes) × BeginsWith old new bytes
+abbrev pub WritesAnswerGroups : List ℕ → List ℕ → SouperOutcome → List ℕ → List ℕ → Type 0
+WritesAnswerGroups store queries o old new = (bytes : List ℕ) × AnswersTo store queries bytes × (o.length ≡ length bytes) × FillsStart old new bytes
 
 -- the outcome says a thing of the store, whose kind is 2, or after the store spelled replacements of the queries, whose kind is 0
 abbrev pub OfStoreOrQueries : List ℕ → List ℕ → SouperOutcome → (ℕ → List ℕ → Type 0) → Type 0

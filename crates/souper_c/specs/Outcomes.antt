@@ -43,32 +43,32 @@ abbrev pub HasNoPlace : SouperOutcome → Type 0
 HasNoPlace o = (o.offset ≡ 0) × (o.line ≡ 0) × (o.column ≡ 0)
 
 -- the buffer begins with the text, and has changed nowhere else
-abbrev pub BeginsWith : List ℕ → List ℕ → List ℕ → Type 0
-BeginsWith old new text = (length text ≤ length old) × (new ≡ text ++ drop (length text) old)
+abbrev pub FillsStart : List ℕ → List ℕ → List ℕ → Type 0
+FillsStart old new text = (length text ≤ length old) × (new ≡ text ++ drop (length text) old)
 
 -- the canonical texts were written to the buffer
 abbrev pub WritesTexts : ℕ → List ℕ → SouperOutcome → List ℕ → List ℕ → Type 0
 WritesTexts kind source o old new =
-    (text : List ℕ) × FormatsTo kind source text × (o.length ≡ length text) × BeginsWith old new text
+    (text : List ℕ) × FormatsTo kind source text × (o.length ≡ length text) × FillsStart old new text
 
 -- the code was written to the buffer
 abbrev pub WritesCode : ℕ → List ℕ → SouperOutcome → List ℕ → List ℕ → Type 0
 WritesCode kind source o old new =
-    (code : List ℕ) × CodesTo kind source code × (o.length ≡ length code) × BeginsWith old new code
+    (code : List ℕ) × CodesTo kind source code × (o.length ≡ length code) × FillsStart old new code
 
 -- the refusal was written to the buffer
 abbrev pub WritesRefusal : ℕ → List ℕ → SouperOutcome → List ℕ → List ℕ → Type 0
-WritesRefusal kind source o old new = (shown : List ℕ) × IsRefused kind source o shown × BeginsWith old new shown
+WritesRefusal kind source o old new = (shown : List ℕ) × IsRefused kind source o shown × FillsStart old new shown
 
 -- the bytes are the source's output: what a call gives for items, or a refusal
-abbrev pub IsAnswer : (ℕ → List ℕ → List ℕ → Type 0) → ℕ → List ℕ → List ℕ → Type 0
-IsAnswer gives kind source bytes =
+abbrev pub IsOutputOf : (ℕ → List ℕ → List ℕ → Type 0) → ℕ → List ℕ → List ℕ → Type 0
+IsOutputOf gives kind source bytes =
     gives kind source bytes ⊎ ((offset : ℕ) × (line : ℕ) × (column : ℕ) × IsRefusedAt kind source offset line column bytes)
 
 -- the buffer is shorter than the source's output, whose length the outcome has
 abbrev pub IsShortFor : (ℕ → List ℕ → List ℕ → Type 0) → ℕ → List ℕ → SouperOutcome → List ℕ → Type 0
 IsShortFor gives kind source o old =
-    (length old < o.length) × ((bytes : List ℕ) × IsAnswer gives kind source bytes × (o.length ≡ length bytes))
+    (length old < o.length) × ((bytes : List ℕ) × IsOutputOf gives kind source bytes × (o.length ≡ length bytes))
 
 -- of canonical texts
 abbrev pub IsShort : ℕ → List ℕ → SouperOutcome → List ℕ → Type 0
@@ -81,7 +81,7 @@ IsShortCode = IsShortFor CodesTo
 -- the canonical texts of the items of a code were written to the buffer
 abbrev pub WritesItems : ℕ → List ℕ → SouperOutcome → List ℕ → List ℕ → Type 0
 WritesItems kind code o old new =
-    (text : List ℕ) × OfType kind (λ k. IsWritten k code text) × (o.length ≡ length text) × BeginsWith old new text
+    (text : List ℕ) × OfType kind (λ k. IsWritten k code text) × (o.length ≡ length text) × FillsStart old new text
 
 -- the buffer is shorter than the canonical texts of the items of a code, whose length the outcome has
 abbrev pub IsShortItems : ℕ → List ℕ → SouperOutcome → List ℕ → Type 0
@@ -89,12 +89,12 @@ IsShortItems kind code o old =
     (length old < o.length) × ((text : List ℕ) × OfType kind (λ k. IsWritten k code text) × (o.length ≡ length text))
 
 -- the item that the outcome tells by the number of items and of bytes before it
-abbrev pub place_of : SouperOutcome → Place
-place_of o = record { index = o.length; offset = o.offset }
+abbrev pub outcome_place : SouperOutcome → Place
+outcome_place o = record { index = o.length; offset = o.offset }
 
 -- the source is its own canonical texts
-abbrev pub IsCanonical : ℕ → List ℕ → SouperOutcome → Type 0
-IsCanonical kind source o = FormatsTo kind source source × (o.length ≡ length source)
+abbrev pub IsCanonicalSource : ℕ → List ℕ → SouperOutcome → Type 0
+IsCanonicalSource kind source o = FormatsTo kind source source × (o.length ≡ length source)
 
 -- the source spells items of the kind, and their canonical texts are another text, whose length the outcome has
 abbrev pub IsNotCanonical : ℕ → List ℕ → SouperOutcome → Type 0
@@ -107,11 +107,11 @@ BothSpell kind a b fact = OfType kind (λ k.
     (xs : List Item) × (ys : List Item) × TextSpells k a xs × TextSpells k b ys × fact xs ys)
 
 -- one length, and each item the same graph as the one at its index
-abbrev pub AreSame : List Item → List Item → Type 0
-AreSame xs ys = AllZip SameGraph xs ys
+abbrev pub AreSameItems : List Item → List Item → Type 0
+AreSameItems xs ys = AllZip SameGraph xs ys
 
 abbrev pub AreNotSame : List Item → List Item → Type 0
-AreNotSame xs ys = ¬ (AreSame xs ys)
+AreNotSame xs ys = ¬ (AreSameItems xs ys)
 
 -- the source spells items of the kind
 abbrev pub SpellsSome : ℕ → List ℕ → Type 0

@@ -5,7 +5,7 @@ use Rattle.souper_records.specs.declared.layout.Layout.{Layout}
 use Rattle.souper_records.specs.Records.{AreRecordsOf}
 use Rattle.souper_c.specs.Kinds.{OfType}
 use Rattle.souper_c.specs.declared.outcome.SouperOutcome.{SouperOutcome}
-use Rattle.souper_c.specs.Outcomes.{BeginsWith}
+use Rattle.souper_c.specs.Outcomes.{FillsStart}
 
 -- the layout that the lowest three bits of the flags ask for: 1 with the key, 2 renamed, 4 ended by NUL
 abbrev pub layout_of : ℕ → Layout
@@ -20,6 +20,6 @@ abbrev pub RecordsTo : ℕ → ℕ → List ℕ → List ℕ → Type 0
 RecordsTo flags kind source bytes = OfType kind (λ k. AreRecordsOf (layout_of flags) k source bytes)
 
 -- the records were written to the buffer
-abbrev pub WritesRecords : ℕ → ℕ → List ℕ → SouperOutcome → List ℕ → List ℕ → Type 0
-WritesRecords flags kind source o old new =
-    (bytes : List ℕ) × RecordsTo flags kind source bytes × (o.length ≡ length bytes) × BeginsWith old new bytes
+abbrev pub WritesRecordsTo : ℕ → ℕ → List ℕ → SouperOutcome → List ℕ → List ℕ → Type 0
+WritesRecordsTo flags kind source o old new =
+    (bytes : List ℕ) × RecordsTo flags kind source bytes × (o.length ≡ length bytes) × FillsStart old new bytes

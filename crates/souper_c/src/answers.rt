@@ -10,7 +10,7 @@ ghost use Rattle.souper_graph.specs.Syntax.Spelling.{left_hand_side, replacement
 ghost use Rattle.souper_graph.specs.Syntax.Tokens.{IsLastGap};
 ghost use Rattle.souper_ir.specs.Answers.{IsStrError};
 ghost use Rattle.souper_lookup.specs.Stored.{Entry, Stores};
-ghost use Rattle.souper_c.specs.Answers.{AreEntriesOf, IsGroup, AreGroups, AreAnswers};
+ghost use Rattle.souper_c.specs.Answers.{AreEntriesOf, IsGroup, AreGroups, AreAnswerGroups};
 ghost use Rattle.souper_c.specs.Failures.{IsFailure};
 ghost use Rattle.souper_c.specs.declared.inputs.Failure.TheVariants.{NotUtf8};
 
@@ -84,7 +84,7 @@ impl Sink<LeftHandSide> for Groups<'_> {
 
 // The groups of the left-hand sides that the source spells.
 fn groups_of_source(alloc: Global, store: &Store, source: &str) -> Result<String, ParseError>
-    ensures answered { (entries : List Entry) → Stores entries store.now → IfOk result (λ out. AreAnswers entries source.now (string_bytes out)) }
+    ensures answered { (entries : List Entry) → Stores entries store.now → IfOk result (λ out. AreAnswerGroups entries source.now (string_bytes out)) }
     ensures refused { IfErr result (λ e. IsStrError left_hand_side None source.now e) }
     ensures gaps { IsLastGap source.now → IsOkAnd result (λ out. string_bytes out ≡ []) }
 {
@@ -99,7 +99,7 @@ fn groups_of_source(alloc: Global, store: &Store, source: &str) -> Result<String
 
 /// For each left-hand side that the bytes spell, in order, the canonical texts of its answers, a newline after each, and a byte 0.
 pub(crate) fn answers_to(alloc: Global, store: &Store, queries: &[u8]) -> Result<String, Failure>
-    ensures answered { (entries : List Entry) → Stores entries store.now → IfOk result (λ out. AreAnswers entries queries.now (string_bytes out)) }
+    ensures answered { (entries : List Entry) → Stores entries store.now → IfOk result (λ out. AreAnswerGroups entries queries.now (string_bytes out)) }
     ensures failed { IfErr result (IsFailure 0 queries.now) }
     ensures text { IsOk result → IsUtf8 queries.now }
     ensures no_text { ¬ (IsUtf8 queries.now) → result ≡ Err NotUtf8 }

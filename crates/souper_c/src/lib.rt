@@ -20,11 +20,11 @@ ghost use Rattle.std.specs.Prelude.{◌≡◌, ◌≢◌, ◌<◌, ◌≤◌, �
 ghost use Rattle.std.specs.Str.{IsUtf8};
 ghost use Rattle.souper_graph.specs.Syntax.Tokens.{IsLastGap};
 ghost use Rattle.souper_c.specs.Kinds.{type_of_number, IsKind, OfType};
-ghost use Rattle.souper_c.specs.Outcomes.{HasNoPlace, BeginsWith, WritesTexts, WritesCode, WritesItems, IsShortItems, place_of, WritesRefusal, IsShort, IsShortCode, IsShortFor, IsCanonical, IsNotCanonical, Refuses, BothSpell, AreSame, AreNotSame, RefusesInput, IsNoTextInput, SpellsSome};
+ghost use Rattle.souper_c.specs.Outcomes.{HasNoPlace, FillsStart, WritesTexts, WritesCode, WritesItems, IsShortItems, outcome_place, WritesRefusal, IsShort, IsShortCode, IsShortFor, IsCanonicalSource, IsNotCanonical, Refuses, BothSpell, AreSameItems, AreNotSame, RefusesInput, IsNoTextInput, SpellsSome};
 ghost use Rattle.souper_code.specs.Writing.{IsNoCode, IsNoCodeAt, IsCodeOfWellFormed, IsIllFormedAt};
-ghost use Rattle.souper_c.specs.Records.{RecordsTo, WritesRecords};
+ghost use Rattle.souper_c.specs.Records.{RecordsTo, WritesRecordsTo};
 ghost use Rattle.souper_c.specs.Failures.{outcome_of, short_outcome, shown_of};
-ghost use Rattle.souper_c.specs.Answers.{WritesAnswers, WritesRefusalOfOne, IsNoTextOfOne, IsShortFind};
+ghost use Rattle.souper_c.specs.Answers.{WritesAnswerGroups, WritesRefusalOfOne, IsNoTextOfOne, IsShortFind};
 ghost use Rattle.souper_c.specs.Locations.{HasNoLocation, LocatesFault};
 ghost use Rattle.souper_c.specs.Cuts.{OfWholeLines, CutsLast, HasFirstSegment, HasBadStart};
 ghost use Rattle.souper_c.specs.FlawAnswers.{answer_without, IsFlawAnswer};
@@ -48,7 +48,7 @@ use std::alloc::Global;
 
 // Writes the bytes to the beginning of the buffer, if it has the room.
 fn write(bytes: &[u8], outcome: SouperOutcome, out: &mut [u8]) -> SouperOutcome
-    ensures written { length bytes.now ≤ length out.old → (result ≡ outcome) × BeginsWith out.old out.new bytes.now }
+    ensures written { length bytes.now ≤ length out.old → (result ≡ outcome) × FillsStart out.old out.new bytes.now }
     ensures short { length out.old < length bytes.now → (result ≡ short_outcome (length bytes.now)) × (out.new ≡ out.old) }
 {
     let length = bytes.len();
@@ -61,7 +61,7 @@ fn write(bytes: &[u8], outcome: SouperOutcome, out: &mut [u8]) -> SouperOutcome
 
 // Writes what the failure of the input with that index shows, as `write` does, and returns the outcome for it.
 fn write_failure(failure: &Failure, input: u32, out: &mut [u8]) -> SouperOutcome
-    ensures written { length (shown_of failure.now) ≤ length out.old → (result ≡ outcome_of failure.now input) × BeginsWith out.old out.new (shown_of failure.now) }
+    ensures written { length (shown_of failure.now) ≤ length out.old → (result ≡ outcome_of failure.now input) × FillsStart out.old out.new (shown_of failure.now) }
     ensures short { length out.old < length (shown_of failure.now) → (result ≡ short_outcome (length (shown_of failure.now))) × (out.new ≡ out.old) }
 {
     write(failure.shown().as_bytes(), failure.outcome(input), out)
@@ -169,7 +169,7 @@ pub extern "C" fn souper_key(
     out: &mut [u8],
 ) -> SouperOutcome
     ensures known { (result.status ≤ 5) ⊎ (result.status ≡ 9) }
-    ensures recorded { result.status ≡ 0 → WritesRecords flags kind text.now result out.old out.new }
+    ensures recorded { result.status ≡ 0 → WritesRecordsTo flags kind text.now result out.old out.new }
     ensures refused { result.status ≡ 1 → WritesRefusal kind text.now result out.old out.new }
     ensures no_flags { (result.status ≡ 9) ↔ (8 ≤ flags) }
     ensures no_kind { (result.status ≡ 2) ↔ ((flags < 8) × (type_of_number kind ≡ None)) }
@@ -223,10 +223,10 @@ pub extern "C" fn souper_write(
     ensures written { result.status ≡ 0 → WritesItems kind code.now result out.old out.new }
     ensures no_kind { (result.status ≡ 2) ↔ (type_of_number kind ≡ None) }
     ensures short { result.status ≡ 5 → IsShortItems kind code.now result out.old }
-    ensures no_code { result.status ≡ 7 → OfType kind (λ k. IsNoCodeAt k code.now (place_of result)) }
+    ensures no_code { result.status ≡ 7 → OfType kind (λ k. IsNoCodeAt k code.now (outcome_place result)) }
     ensures no_other_code { OfType kind (λ k. IsNoCode k code.now) → (result.status ≡ 3) ⊎ (result.status ≡ 7) }
     ensures well_formed { OfType kind (λ k. IsCodeOfWellFormed k code.now) → (result.status ≡ 0) ⊎ (result.status ≡ 3) ⊎ (result.status ≡ 5) }
-    ensures ill_formed { result.status ≡ 8 → OfType kind (λ k. IsIllFormedAt k code.now (place_of result)) }
+    ensures ill_formed { result.status ≡ 8 → OfType kind (λ k. IsIllFormedAt k code.now (outcome_place result)) }
     ensures kept { 2 ≤ result.status → out.new ≡ out.old }
     ensures no_place { (7 ≤ result.status) ⊎ HasNoPlace result }
     ensures no_length { (result.status ≡ 2) ⊎ (result.status ≡ 3) → result.length ≡ 0 }
@@ -280,7 +280,7 @@ pub extern "C" fn souper_flaw(alloc: Global, kind: u32, code: &[u8]) -> SouperFl
 #[unsafe(no_mangle)]
 pub extern "C" fn souper_check(alloc: Global, kind: u32, text: &[u8]) -> SouperOutcome
     ensures known { (result.status ≤ 4) ⊎ (result.status ≡ 6) }
-    ensures canonical { result.status ≡ 0 → IsCanonical kind text.now result }
+    ensures canonical { result.status ≡ 0 → IsCanonicalSource kind text.now result }
     ensures not_canonical { result.status ≡ 6 → IsNotCanonical kind text.now result }
     ensures refused { result.status ≡ 1 → Refuses kind text.now result }
     ensures no_kind { (result.status ≡ 2) ↔ (type_of_number kind ≡ None) }
@@ -333,7 +333,7 @@ pub extern "C" fn souper_locate(alloc: Global, kind: u32, text: &[u8]) -> Souper
 #[unsafe(no_mangle)]
 pub extern "C" fn souper_same(alloc: Global, kind: u32, a: &[u8], b: &[u8]) -> SouperOutcome
     ensures known { (result.status ≤ 4) ⊎ (result.status ≡ 6) }
-    ensures same { result.status ≡ 0 → BothSpell kind a.now b.now AreSame }
+    ensures same { result.status ≡ 0 → BothSpell kind a.now b.now AreSameItems }
     ensures different { result.status ≡ 6 → BothSpell kind a.now b.now AreNotSame }
     ensures refused { result.status ≡ 1 → RefusesInput kind a.now b.now result }
     ensures no_kind { (result.status ≡ 2) ↔ (type_of_number kind ≡ None) }
@@ -425,7 +425,7 @@ pub extern "C" fn souper_find(
     out: &mut [u8],
 ) -> SouperOutcome
     ensures known { (result.status ≤ 5) × (result.status ≢ 2) }
-    ensures found { result.status ≡ 0 → WritesAnswers store.now queries.now result out.old out.new }
+    ensures found { result.status ≡ 0 → WritesAnswerGroups store.now queries.now result out.old out.new }
     ensures refused { result.status ≡ 1 → WritesRefusalOfOne store.now queries.now result out.old out.new }
     ensures no_text { result.status ≡ 4 → IsNoTextOfOne store.now queries.now result }
     ensures first_no_text { ¬ (IsUtf8 store.now) → (result.status ≡ 4) × (result.input ≡ 0) }

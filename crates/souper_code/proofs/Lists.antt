@@ -4,7 +4,7 @@ use Rattle.std.specs.List.{AllByRecursion}
 use Rattle.souper_code.specs.declared.decode.DecodeError.{DecodeError}
 use Rattle.souper_code.specs.Codes.{code_of_size, code_of_list}
 use Rattle.souper_code.specs.Codable.{CodableList}
-use Rattle.souper_code.specs.Reading.{IsMemory, Gives}
+use Rattle.souper_code.specs.Reading.{IsMemory, Decodes}
 
 -- each list of that length whose code the bytes begin with begins with done, and left begins with the code of its other elements
 abbrev pub Begins : {X : Type 0} → (X → List ℕ) → (X → Type 0) → ℕ → List ℕ → List X → List ℕ → Type 0
@@ -75,5 +75,5 @@ list_none code Codable whole all count done left e first begins short none = λ 
     begins_not code Codable count all done left e begins short none xs rest (sym size.0, fits.1) size.1
 
 -- an error is passed on
-pub passed : {V : Type 0} (r : Result V DecodeError) (e : DecodeError) (Is : V → Type 0) (left rest : List ℕ) → r ≡ Err e → IsMemory e → Gives r Is left rest
-passed {V} r e Is left rest is memory = subst (λ (r : Result V DecodeError). Gives r Is left rest) (sym is) memory
+pub passed : {V : Type 0} (r : Result V DecodeError) (e : DecodeError) (Is : V → Type 0) (left rest : List ℕ) → r ≡ Err e → IsMemory e → Decodes r Is left rest
+passed {V} r e Is left rest is memory = subst (λ (r : Result V DecodeError). Decodes r Is left rest) (sym is) memory

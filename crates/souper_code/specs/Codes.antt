@@ -10,7 +10,7 @@ use Rattle.souper_graph.specs.declared.ast.statements.Pc.{Pc}
 use Rattle.souper_graph.specs.declared.ast.statements.BlockPc.{BlockPc}
 use Rattle.souper_graph.specs.Instructions.{operands_of}
 use Rattle.souper_graph.specs.Values.{PlainAttribute, known_bits, power_of_two, negative, non_negative, non_zero, has_external_uses, sign_bits, range, PlainRootAttribute, demanded_bits, harvested_from_use, PlainPhi, PlainRhs, var, block, phi, reserved_inst, reserved_const, instruction, PlainAssignment, PlainStatement, assigned, condition, block_condition, PlainInfer, PlainCand, Ending, inferred, resulting, replaced, candidate, Item}
-use Rattle.souper_code.specs.Numbers.{number_of}
+use Rattle.souper_code.specs.Numbers.{instruction_number}
 
 -- a number of 2 bytes
 unfoldable pub code_of_u16 : ℕ → List ℕ
@@ -52,7 +52,7 @@ abbrev pub code_of_operands : List Operand → List ℕ
 code_of_operands xs = code_of_list code_of_operand xs
 
 abbrev pub code_of_instruction : Instruction → List ℕ
-code_of_instruction i = number_of i ∷ code_of_operands (operands_of i)
+code_of_instruction i = instruction_number i ∷ code_of_operands (operands_of i)
 
 abbrev pub code_of_phi : PlainPhi → List ℕ
 code_of_phi p = code_of_size p.block ++ code_of_operands p.values

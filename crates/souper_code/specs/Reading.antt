@@ -8,6 +8,6 @@ IsMemory NoCode = ⊥
 IsMemory OutOfMemory = Unit {0}
 
 -- the result has the property, and the rest is left; unless memory ran out
-abbrev pub Gives : {V : Type 0} → Result V DecodeError → (V → Type 0) → List ℕ → List ℕ → Type 0
-Gives (Ok v) Is left rest = Is v × (left ≡ rest)
-Gives (Err e) Is left rest = IsMemory e
+abbrev pub Decodes : {V : Type 0} → Result V DecodeError → (V → Type 0) → List ℕ → List ℕ → Type 0
+Decodes (Ok v) Is left rest = Is v × (left ≡ rest)
+Decodes (Err e) Is left rest = IsMemory e

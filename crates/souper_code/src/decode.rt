@@ -12,7 +12,7 @@ ghost use Rattle.souper_graph.specs.View.{view_infer, view_cand};
 ghost use Rattle.souper_code.specs.declared.decode.DecodeError.TheVariants.{OutOfMemory};
 ghost use Rattle.souper_code.specs.Codes.{code_of_infer, code_of_cand, code_of, code_of_items};
 ghost use Rattle.souper_code.specs.Codable.{CodableInfer, CodableCand, CodableItem};
-ghost use Rattle.souper_code.specs.Reading.{Gives};
+ghost use Rattle.souper_code.specs.Reading.{Decodes};
 ghost use Rattle.souper_code.specs.Writing.{IsCodeOfOnly, IsNoCode};
 
 use souper_graph::ast::{
@@ -76,7 +76,7 @@ impl<'a> Reader<'a> {
 
     fn infer(&mut self, alloc: Global) -> Result<Infer, DecodeError>
         ensures read { IfOk result (λ i. CodableInfer (view_infer i) × (self.old.rest.now ≡ code_of_infer (view_infer i) ++ self.new.rest.now)) }
-        ensures only { (x : PlainInfer) (rest : List ℕ) → CodableInfer x → self.old.rest.now ≡ code_of_infer x ++ rest → Gives result (λ i. view_infer i ≡ x) self.new.rest.now rest }
+        ensures only { (x : PlainInfer) (rest : List ℕ) → CodableInfer x → self.old.rest.now ≡ code_of_infer x ++ rest → Decodes result (λ i. view_infer i ≡ x) self.new.rest.now rest }
     {
         let value: Id<Statement> = Id::at(self.size()?);
         let attributes = self.root_attributes(alloc)?;
@@ -88,7 +88,7 @@ impl<'a> Reader<'a> {
 
     fn cand(&mut self, alloc: Global) -> Result<Cand, DecodeError>
         ensures read { IfOk result (λ c. CodableCand (view_cand c) × (self.old.rest.now ≡ code_of_cand (view_cand c) ++ self.new.rest.now)) }
-        ensures only { (x : PlainCand) (rest : List ℕ) → CodableCand x → self.old.rest.now ≡ code_of_cand x ++ rest → Gives result (λ c. view_cand c ≡ x) self.new.rest.now rest }
+        ensures only { (x : PlainCand) (rest : List ℕ) → CodableCand x → self.old.rest.now ≡ code_of_cand x ++ rest → Decodes result (λ c. view_cand c ≡ x) self.new.rest.now rest }
     {
         let lhs = self.operand()?;
         let rhs = self.operand()?;
@@ -108,7 +108,7 @@ pub trait Decode: Item {
     /// A code belongs to one item, and no code begins another. After an error the reader is not specified.
     fn decode(reader: &mut Reader<'_>, alloc: Global) -> Result<Self, DecodeError>
         ensures read { IfOk result (λ item. CodableItem Self.item_type (Self.view item) × (reader.old.rest.now ≡ code_of (Self.view item) ++ reader.new.rest.now)) }
-        ensures only { (x : PlainItem) (rest : List ℕ) → CodableItem Self.item_type x → reader.old.rest.now ≡ code_of x ++ rest → Gives result (λ item. Self.view item ≡ x) reader.new.rest.now rest };
+        ensures only { (x : PlainItem) (rest : List ℕ) → CodableItem Self.item_type x → reader.old.rest.now ≡ code_of x ++ rest → Decodes result (λ item. Self.view item ≡ x) reader.new.rest.now rest };
 }
 
 impl Decode for LeftHandSide {

@@ -10,7 +10,7 @@ use Rattle.souper_graph.specs.WellFormed.{WellFormed}
 use Rattle.souper_lookup.specs.Instance.{AreInstances}
 use Rattle.souper_graph.specs.Renaming.{renamed}
 use Rattle.souper_lookup.specs.declared.store.Store.{Store}
-use Rattle.souper_lookup.specs.Stored.{Entry, key_of, has_key, answers, replacements_of, Stores}
+use Rattle.souper_lookup.specs.Stored.{Entry, key_of_left, has_left_key, answers, replacements_of, Stores}
 use Rattle.souper_records.specs.Outcomes.{Outcome}
 use Rattle.souper_find.specs.declared.search.Choice.{Choice}
 use Rattle.souper_find.specs.declared.search.Choice.TheVariants.{All, First, Unanswered}
@@ -40,17 +40,17 @@ few p (x ∷ xs) = under (p x) (few p xs)
     under false h = omega arith
 
 pub all-answers : (q : Item) (entries : List Entry) (n : ℕ) → length entries ≤ n → take n (answers q entries) ≡ answers q entries
-all-answers q entries n l = let h = few (λ (e : Entry). has_key (key_of q) e.replacement) entries in take_all n (answers q entries) (omega arith)
+all-answers q entries n l = let h = few (λ (e : Entry). has_left_key (key_of_left q) e.replacement) entries in take_all n (answers q entries) (omega arith)
 
 -- The texts for a left-hand side. It is the one before its key was made.
 module _ {E : Type 0} (store : Store) (rename : Bool) (key : List ℕ) (r : Result (Vec (String Global) Global) E) where
   abbrev pub Found : ℕ → Item → Type 0
-  Found n x = WellFormed x → WellFormed (renamed x) → key ≡ key_of x → (entries : List Entry) → Stores entries store → IfOk r (λ texts. HaveTexts rename x (take n (answers x entries)) (map string_bytes texts.items))
+  Found n x = WellFormed x → WellFormed (renamed x) → key ≡ key_of_left x → (entries : List Entry) → Stores entries store → IfOk r (λ texts. HaveTexts rename x (take n (answers x entries)) (map string_bytes texts.items))
 
   abbrev pub Unfound : Item → Type 0
-  Unfound x = key ≡ key_of x → (entries : List Entry) → Stores entries store → IfOk r (λ texts. map string_bytes texts.items ≡ map (text_by rename) (if_unanswered x (answers x entries)))
+  Unfound x = key ≡ key_of_left x → (entries : List Entry) → Stores entries store → IfOk r (λ texts. map string_bytes texts.items ≡ map (text_by rename) (if_unanswered x (answers x entries)))
 
-  module _ (output : Output) (as_output : rename ≡ renames output) (entries : List Entry) (s : Stores entries store) (q now : Item) (kept : now ≡ q) (w : WellFormed q) (is : key ≡ key_of q) where
+  module _ (output : Output) (as_output : rename ≡ renames output) (entries : List Entry) (s : Stores entries store) (q now : Item) (kept : now ≡ q) (w : WellFormed q) (is : key ≡ key_of_left q) where
     pub are-all : WellFormed (renamed q) → (n : ℕ) → length entries ≤ n → Found n now → IfOk r (λ texts. AreTexts All output entries q (map string_bytes texts.items))
     are-all rq n l f =
         IfOk-weaker r _ _ (λ texts t. (t.0, subst (λ (es : List Entry). AreInstances q (replacements_of es) t.0) (all-answers q entries n l) t.1, t.2 ∙ ap (λ (b : Bool). map (text_by b) t.0) as_output))

@@ -6,7 +6,7 @@ ghost use Rattle.std.specs.String.{string_bytes};
 ghost use Rattle.souper_graph.specs.View.{view_left_hand_side, view_replacement};
 ghost use Rattle.souper_graph.specs.WellFormed.{WellFormed};
 ghost use Rattle.souper_graph.specs.Renaming.{renamed};
-ghost use Rattle.souper_lookup.specs.Stored.{Entry, key_of, answers, Stores};
+ghost use Rattle.souper_lookup.specs.Stored.{Entry, key_of_left, answers, Stores};
 ghost use Rattle.souper_records.specs.Uniques.{text_by};
 ghost use Rattle.souper_find.specs.Answers.{if_unanswered, HaveTexts, AreTexts};
 
@@ -51,7 +51,7 @@ fn found_texts(
     key: &String,
     limit: usize,
 ) -> Result<Vec<String>, TextError>
-    ensures { WellFormed (view_left_hand_side query.now) → WellFormed (renamed (view_left_hand_side query.now)) → string_bytes key.now ≡ key_of (view_left_hand_side query.now)
+    ensures { WellFormed (view_left_hand_side query.now) → WellFormed (renamed (view_left_hand_side query.now)) → string_bytes key.now ≡ key_of_left (view_left_hand_side query.now)
         → (entries : List Entry) → Stores entries store.now → IfOk result (λ texts. HaveTexts rename (view_left_hand_side query.now) (take limit (answers (view_left_hand_side query.now) entries)) (map string_bytes texts.items)) }
 {
     let found = find_by_key(alloc, store, query, key, limit)?;
@@ -68,7 +68,7 @@ fn unanswered_texts(
     text: &mut String,
 ) -> Result<Vec<String>, TextError>
     requires { WellFormed (view_left_hand_side query.old) }
-    ensures { string_bytes key.now ≡ key_of (view_left_hand_side query.old) → (entries : List Entry) → Stores entries store.now
+    ensures { string_bytes key.now ≡ key_of_left (view_left_hand_side query.old) → (entries : List Entry) → Stores entries store.now
         → IfOk result (λ texts. map string_bytes texts.items ≡ map (text_by rename) (if_unanswered (view_left_hand_side query.old) (answers (view_left_hand_side query.old) entries))) }
 {
     let mut texts = Vec::new(alloc);

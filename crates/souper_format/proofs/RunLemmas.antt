@@ -10,8 +10,8 @@ use Rattle.souper_ir.specs.declared.parse.ParseErrorKind.{ParseErrorKind}
 use Rattle.souper_ir.specs.declared.parse.ParseErrorKind.TheVariants.{Io, Parse, Memory}
 use Rattle.souper_format.specs.Streams.{Stream, IsGiven, IsGivenNothing}
 use Rattle.souper_format.specs.Reading.{ReadAll}
-use Rattle.souper_format.specs.Reporting.{ReportedLine, ReportedFault, StoppedByMemory, ErrorReported}
-use Rattle.souper_format.specs.Runs.{Formats, ReportedRefusal, IsRun, IsKnownRun}
+use Rattle.souper_format.specs.Reporting.{ReportedDisplay, ReportedIoError, StoppedByMemory, ErrorReported}
+use Rattle.souper_format.specs.Runs.{Formats, ReportedParseError, IsFormatRun, IsKnownRun}
 
 -- a refusal at an offset of the source, as the parser returns it
 abbrev pub IsRefusal : ItemType → Option (List ℕ) → List ℕ → ParseError → Type 0
@@ -19,25 +19,25 @@ IsRefusal k file source e = (offset : ℕ) × (offset_of e ≡ Some offset) × (
     × ShowsPlace file source offset e × HasLocation source e
 
 pub reported_refusal : (k : ItemType) (file : Option (List ℕ)) (source : List ℕ) (err : Stream) (e : ParseError)
-    → IsRefusal k file source e → ReportedLine err e → ReportedRefusal file source err
+    → IsRefusal k file source e → ReportedDisplay err e → ReportedParseError file source err
 reported_refusal k file source err e (offset, at, within, none, p, located) reported works =
     let (line, (bytes, are_shown, is_line), given) = reported works in
     let same = subst (λ o. IfSome o (λ s. bytes ≡ s)) p.shown_is are_shown in
     (offset, _, within, (p.line, p.column, (p.message, p.text, p.is_place, refl)), subst (IsGiven err) (is_line ∙ ap (λ (s : List ℕ). s ++ 10 ∷ []) same) given)
 
 stopped : (k : ItemType) (input out err : Stream) (status : ℕ)
-    → IsGivenNothing out → StoppedByMemory err status → IsRun k input out err status
+    → IsGivenNothing out → StoppedByMemory err status → IsFormatRun k input out err status
 stopped k input out err status nothing reported =
-    subst (IsRun k input out err) (sym reported.0) (inr reported.1, λ works. nothing)
+    subst (IsFormatRun k input out err) (sym reported.0) (inr reported.1, λ works. nothing)
 
 status_of_kind : (k : ItemType) (input out err : Stream) (source : List ℕ) (e : ParseError) (status : ℕ) (kind : ParseErrorKind)
     → ReadAll input source → IsUtf8 source → IsGivenNothing out
     → OnKind kind ⊥ (IsRefusal k None source e) (Unit {0})
-    → OnKind kind ((status ≡ 3) × ReportedFault err) (((status ≡ 1) × ReportedLine err e) ⊎ StoppedByMemory err status) (StoppedByMemory err status)
-    → IsRun k input out err status
+    → OnKind kind ((status ≡ 3) × ReportedIoError err) (((status ≡ 1) × ReportedDisplay err e) ⊎ StoppedByMemory err status) (StoppedByMemory err status)
+    → IsFormatRun k input out err status
 status_of_kind k input out err source e status Io read text nothing fault reported = absurd fault
 status_of_kind k input out err source e status Parse read text nothing refusal (inl reported) =
-    subst (IsRun k input out err) (sym reported.0)
+    subst (IsFormatRun k input out err) (sym reported.0)
     ((source, read, text, refusal.3, reported_refusal k None source err e refusal reported.1), nothing)
 status_of_kind k input out err source e status Parse read text nothing refusal (inr reported) = stopped k input out err status nothing reported
 status_of_kind k input out err source e status Memory read text nothing fault reported = stopped k input out err status nothing reported
@@ -45,7 +45,7 @@ status_of_kind k input out err source e status Memory read text nothing fault re
 -- an error that is reported gives one of the statuses
 pub status_of_error : (k : ItemType) (input out err : Stream) (source : List ℕ) (e : ParseError) (status : ℕ)
     → ReadAll input source → IsUtf8 source → IsGivenNothing out → IsStrError k None source e → ErrorReported err status e
-    → IsRun k input out err status
+    → IsFormatRun k input out err status
 status_of_error k input out err source e status read text nothing fault reported =
     status_of_kind k input out err source e status (kind_of e) read text nothing fault reported
 
@@ -62,7 +62,7 @@ of_any None = tt
 of_any (Some bytes) = tt
 
 pub known_of_run : (k : ItemType) (input out err : Stream) (status : ℕ)
-    → IsRun k input out err status → IsKnownRun k input.before out status
+    → IsFormatRun k input out err status → IsKnownRun k input.before out status
 known_of_run k input out err zero run =
     let (source, read, written) = run.0 in
     of_known (λ source. Formats k source out) input.before input.after source read.2 read.3 written

@@ -4,7 +4,7 @@ use Rattle.souper_format.specs.declared.command.Command.{Command}
 use Rattle.souper_format.specs.declared.command.Command.TheVariants.{Format, Same}
 use Rattle.souper_format.specs.Kinds.{item_type_of}
 use Rattle.souper_format.specs.Streams.{Stream, IsGiven, IsGivenNothing}
-use Rattle.souper_format.specs.Runs.{IsRun, IsKnownRun}
+use Rattle.souper_format.specs.Runs.{IsFormatRun, IsKnownRun}
 use Rattle.souper_format.specs.SameRuns.{FileRead, IsFilesRun}
 
 -- how the program is used
@@ -24,7 +24,7 @@ IsUnread input = input.after ≡ input.before
 -- paths: a run over the two files, where gives says what the read of a path may return.
 abbrev pub IsCommandRun : (List ℕ → FileRead → Type 0) → Option Command → Stream → Stream → Stream → ℕ → Type 0
 IsCommandRun gives None input out err status = (status ≡ 2) × ReportedUsage err × (IsGivenNothing out × IsUnread input)
-IsCommandRun gives (Some (Format kind)) input out err status = IsRun (item_type_of kind) input out err status
+IsCommandRun gives (Some (Format kind)) input out err status = IsFormatRun (item_type_of kind) input out err status
 IsCommandRun gives (Some (Same kind a b)) input out err status =
     IsFilesRun (item_type_of kind) gives (string_bytes a) (string_bytes b) out err status × IsUnread input
 

@@ -6,49 +6,49 @@ use Rattle.souper_ir.specs.Places.{IsRefusalText}
 use Rattle.souper_format.specs.Formatted.{IsFormatted}
 use Rattle.souper_format.specs.Streams.{Stream, IsGiven, IsGivenNothing}
 use Rattle.souper_format.specs.Reading.{ReadAll, ReadNoText}
-use Rattle.souper_format.specs.Reporting.{ReportedMemory, ReportedFault}
+use Rattle.souper_format.specs.Reporting.{ReportedOutOfMemory, ReportedIoError}
 
 -- the formatted source was written to `out`, and nothing else
 abbrev pub Formats : ItemType → List ℕ → Stream → Type 0
 Formats k source out = (text : List ℕ) × IsFormatted k source text × IsGiven out text
 
 -- all that was read spells items, their texts were written, and nothing was reported
-abbrev pub Done : ItemType → Stream → Stream → Stream → Type 0
-Done k input out err = ((source : List ℕ) × ReadAll input source × Formats k source out) × IsGivenNothing err
+abbrev pub Finished : ItemType → Stream → Stream → Stream → Type 0
+Finished k input out err = ((source : List ℕ) × ReadAll input source × Formats k source out) × IsGivenNothing err
 
 -- unless the writer has failed, the line of a refusal at an offset of the source, which has that file name, was written
 -- to it
-abbrev pub ReportedRefusal : Option (List ℕ) → List ℕ → Stream → Type 0
-ReportedRefusal file source err = err.failed ≡ false → (offset : ℕ) × (shown : List ℕ)
+abbrev pub ReportedParseError : Option (List ℕ) → List ℕ → Stream → Type 0
+ReportedParseError file source err = err.failed ≡ false → (offset : ℕ) × (shown : List ℕ)
     × (offset ≤ length source) × IsRefusalText file source offset shown × IsGiven err (shown ++ codes "\n")
 
 -- all that was read is a text that spells no items, nothing was written, and the refusal was reported
 abbrev pub Refused : ItemType → Stream → Stream → Stream → Type 0
 Refused k input out err =
-    ((source : List ℕ) × ReadAll input source × IsUtf8 source × SpellsNone k source × ReportedRefusal None source err)
+    ((source : List ℕ) × ReadAll input source × IsUtf8 source × SpellsNone k source × ReportedParseError None source err)
     × IsGivenNothing out
 
 -- the reader or `out` has failed, or what was read is no text, or memory ran out, and that was reported; nothing was
 -- written, unless `out` has failed
 abbrev pub Stopped : Stream → Stream → Stream → Type 0
 Stopped input out err =
-    ((((input.failed ≡ true) ⊎ (out.failed ≡ true) ⊎ ReadNoText input) × ReportedFault err) ⊎ ReportedMemory err)
+    ((((input.failed ≡ true) ⊎ (out.failed ≡ true) ⊎ ReadNoText input) × ReportedIoError err) ⊎ ReportedOutOfMemory err)
     × (out.failed ≡ false → IsGivenNothing out)
 
 -- a fact for each status, of which there are three
-abbrev pub OnStatus : ℕ → Type 0 → Type 0 → Type 0 → Type 0
-OnStatus zero done refused stopped = done
-OnStatus (suc zero) done refused stopped = refused
-OnStatus (suc (suc (suc zero))) done refused stopped = stopped
-OnStatus _ done refused stopped = ⊥
+abbrev pub OnFormatStatus : ℕ → Type 0 → Type 0 → Type 0 → Type 0
+OnFormatStatus zero done refused stopped = done
+OnFormatStatus (suc zero) done refused stopped = refused
+OnFormatStatus (suc (suc (suc zero))) done refused stopped = stopped
+OnFormatStatus _ done refused stopped = ⊥
 
 -- what the status of a run says
-abbrev pub IsRun : ItemType → Stream → Stream → Stream → ℕ → Type 0
-IsRun k input out err status = OnStatus status (Done k input out err) (Refused k input out err) (Stopped input out err)
+abbrev pub IsFormatRun : ItemType → Stream → Stream → Stream → ℕ → Type 0
+IsFormatRun k input out err status = OnFormatStatus status (Finished k input out err) (Refused k input out err) (Stopped input out err)
 
 -- if the reader's bytes are known: what status 0 and status 1 say of them
 abbrev pub IsKnownRun : ItemType → Option (List ℕ) → Stream → ℕ → Type 0
-IsKnownRun k bytes out status = IfSome bytes (λ source. OnStatus status
+IsKnownRun k bytes out status = IfSome bytes (λ source. OnFormatStatus status
     (Formats k source out)
     (IsUtf8 source × SpellsNone k source)
     (Unit {0}))

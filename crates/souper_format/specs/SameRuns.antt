@@ -10,8 +10,8 @@ use Rattle.souper_ir.specs.Answers.{IsStrError}
 use Rattle.souper_ir.specs.Files.{TellsFault}
 use Rattle.souper_ir.specs.declared.parse.ParseError.{ParseError}
 use Rattle.souper_format.specs.Streams.{Stream, IsGiven, IsGivenNothing}
-use Rattle.souper_format.specs.Reporting.{ReportedMemory, ReportedFault}
-use Rattle.souper_format.specs.Runs.{ReportedRefusal, OnStatus}
+use Rattle.souper_format.specs.Reporting.{ReportedOutOfMemory, ReportedIoError}
+use Rattle.souper_format.specs.Runs.{ReportedParseError, OnFormatStatus}
 
 -- what the read of a file returned: a text or a fault
 abbrev pub FileRead : Type 0
@@ -33,13 +33,13 @@ ReadError k path (Err fault) e = TellsFault fault e
 
 -- the read returned a text that spells no items, and its refusal was reported, which has that file name
 abbrev pub ReadRefused : ItemType → List ℕ → FileRead → Stream → Type 0
-ReadRefused k path (Ok source) err = SpellsNone k (string_bytes source) × ReportedRefusal (Some path) (string_bytes source) err
+ReadRefused k path (Ok source) err = SpellsNone k (string_bytes source) × ReportedParseError (Some path) (string_bytes source) err
 ReadRefused k path (Err fault) err = ⊥
 
 -- the read failed, and that was reported
 abbrev pub ReadFailed : FileRead → Stream → Type 0
 ReadFailed (Ok source) err = ⊥
-ReadFailed (Err fault) err = ReportedFault err
+ReadFailed (Err fault) err = ReportedIoError err
 
 -- `same` was written if the fact holds, else `different`
 abbrev pub Says : Type 0 → Stream → Type 0
@@ -61,22 +61,22 @@ OneRefused k a b first second out err =
 -- to `err`; nothing was written to `out`, unless it has failed
 abbrev pub NotCompared : ItemType → FileRead → FileRead → Stream → Stream → Type 0
 NotCompared k first second out err =
-    (ReadFailed first err ⊎ ((ReadSpellsSome k first × ReadFailed second err) ⊎ (((out.failed ≡ true) × ReportedFault err) ⊎ ReportedMemory err)))
+    (ReadFailed first err ⊎ ((ReadSpellsSome k first × ReadFailed second err) ⊎ (((out.failed ≡ true) × ReportedIoError err) ⊎ ReportedOutOfMemory err)))
     × (out.failed ≡ false → IsGivenNothing out)
 
 -- what the status of a comparison of two files says
 abbrev pub IsSameRun : ItemType → List ℕ → List ℕ → FileRead → FileRead → Stream → Stream → ℕ → Type 0
-IsSameRun k a b first second out err status = OnStatus status
+IsSameRun k a b first second out err status = OnFormatStatus status
     (Compared k first second out err)
     (OneRefused k a b first second out err)
     (NotCompared k first second out err)
 
 -- the first read was refused, or it has failed, or memory ran out, and that was reported; nothing was written
 abbrev pub StoppedAtFirst : ItemType → List ℕ → FileRead → Stream → Stream → ℕ → Type 0
-StoppedAtFirst k a first out err status = OnStatus status
+StoppedAtFirst k a first out err status = OnFormatStatus status
     ⊥
     (ReadRefused k a first err × IsGivenNothing out)
-    ((ReadFailed first err ⊎ ReportedMemory err) × IsGivenNothing out)
+    ((ReadFailed first err ⊎ ReportedOutOfMemory err) × IsGivenNothing out)
 
 -- what the status says if `gives` is what the read of a path may return: the first file was read, and with it the run
 -- stopped, or its text spells items and the second was read too
@@ -86,7 +86,7 @@ IsFilesRun k gives a b out err status = (first : FileRead) × gives a first × (
 
 -- what the status of a comparison of two lists says
 abbrev pub IsComparison : Type 0 → Stream → Stream → ℕ → Type 0
-IsComparison fact out err status = OnStatus status
+IsComparison fact out err status = OnFormatStatus status
     (Says fact out × IsGivenNothing err)
     ⊥
-    ((((out.failed ≡ true) × ReportedFault err) ⊎ ReportedMemory err) × (out.failed ≡ false → IsGivenNothing out))
+    ((((out.failed ≡ true) × ReportedIoError err) ⊎ ReportedOutOfMemory err) × (out.failed ≡ false → IsGivenNothing out))

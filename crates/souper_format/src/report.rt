@@ -1,7 +1,7 @@
 //! The lines that report an error, each to a stream that may fail.
 ghost use Rattle.std.specs.Prelude.{◌≡◌, string_bytes, IfOk, ℕ, List};
 ghost use Rattle.souper_format.specs.Streams.{stream};
-ghost use Rattle.souper_format.specs.Reporting.{fault_line, IsErrorLine, ReportedMemory, ReportedFault, ErrorReported};
+ghost use Rattle.souper_format.specs.Reporting.{fault_line, IsDisplayLine, ReportedOutOfMemory, ReportedIoError, ErrorReported};
 
 use crate::watched::Watched;
 use souper_ir::parse::{ParseError, ParseErrorKind};
@@ -11,7 +11,7 @@ use std::io::Write;
 
 /// Reports out of memory, without allocating.
 pub(crate) fn report_memory<E: Write>(err: &mut Watched<E>)
-    ensures { ReportedMemory (stream E.contents err.old err.new) }
+    ensures { ReportedOutOfMemory (stream E.contents err.old err.new) }
 {
     let _ = err.write_all(b"out of memory\n");
 }
@@ -29,7 +29,7 @@ fn line_of_fault(alloc: Global, fault: &io::Error) -> Result<String, AllocError>
 
 /// Reports a fault of a stream.
 pub(crate) fn report_fault<E: Write>(alloc: Global, fault: &io::Error, err: &mut Watched<E>)
-    ensures { ReportedFault (stream E.contents err.old err.new) }
+    ensures { ReportedIoError (stream E.contents err.old err.new) }
 {
     match line_of_fault(alloc, fault) {
         Ok(line) => {
@@ -41,7 +41,7 @@ pub(crate) fn report_fault<E: Write>(alloc: Global, fault: &io::Error, err: &mut
 
 /// The text that the error shows, and a newline.
 pub fn line_of_error(alloc: Global, error: &ParseError) -> Result<String, AllocError>
-    ensures { IfOk result (λ line. IsErrorLine error.now (string_bytes line)) }
+    ensures { IfOk result (λ line. IsDisplayLine error.now (string_bytes line)) }
 {
     let mut line = error.to_string(alloc)?;
     line.push('\n')?;

@@ -4,8 +4,8 @@ ghost use Rattle.souper_format.specs.Kinds.{item_type_of};
 ghost use Rattle.souper_format.specs.Watching.{watched_inner, has_failed, has_ended};
 ghost use Rattle.souper_format.specs.Streams.{stream, IsGiven};
 ghost use Rattle.souper_format.specs.Reading.{ReadAll, FaultMeans};
-ghost use Rattle.souper_format.specs.Reporting.{ReportedFault};
-ghost use Rattle.souper_format.specs.Runs.{IsRun, IsKnownRun};
+ghost use Rattle.souper_format.specs.Reporting.{ReportedIoError};
+ghost use Rattle.souper_format.specs.Runs.{IsFormatRun, IsKnownRun};
 ghost use Rattle.souper_format.specs.Dispatch.{ReportedUsage};
 
 use crate::command::Kind;
@@ -84,7 +84,7 @@ pub fn format_run<R: Read, W: Write, E: Write>(
     requires input_begins { has_ended input.old ≡ false }
     requires out_works { has_failed out.old ≡ false }
     requires err_works { has_failed err.old ≡ false }
-    ensures run { IsRun (item_type_of kind)
+    ensures run { IsFormatRun (item_type_of kind)
         (stream R.remaining input.old input.new) (stream W.contents out.old out.new) (stream E.contents err.old err.new) result }
     ensures known { IsKnownRun (item_type_of kind)
         (R.remaining (watched_inner input.old)) (stream W.contents out.old out.new) result }
@@ -104,7 +104,7 @@ fn run_to_status<R: Read, W: Write, E: Write>(
     requires input_begins { has_ended input.old ≡ false }
     requires out_works { has_failed out.old ≡ false }
     requires err_works { has_failed err.old ≡ false }
-    ensures { IsRun (item_type_of kind)
+    ensures { IsFormatRun (item_type_of kind)
         (stream R.remaining input.old input.new) (stream W.contents out.old out.new) (stream E.contents err.old err.new) result }
 {
     let source = match read_text(alloc, input) {
@@ -137,7 +137,7 @@ fn run_to_status<R: Read, W: Write, E: Write>(
 /// Writes to `err` the fault that kept the program from its command, and returns the status of the program, which is 3.
 pub fn report<E: Write>(alloc: Global, fault: &io::Error, err: &mut Watched<E>) -> u8
     ensures status { result ≡ 3 }
-    ensures reported { ReportedFault (stream E.contents err.old err.new) }
+    ensures reported { ReportedIoError (stream E.contents err.old err.new) }
 {
     report_fault(alloc, fault, err);
     3

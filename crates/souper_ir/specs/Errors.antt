@@ -17,7 +17,7 @@ use Rattle.souper_ir.specs.declared.parse.place.Place.{Place}
 use Rattle.souper_ir.specs.declared.parse.place.Places.{Places}
 use Rattle.souper_ir.specs.declared.parse.error.Before.{Before}
 use Rattle.souper_ir.specs.Joining.{IsLines}
-use Rattle.souper_ir.specs.Places.{newlines, IsPlace, IsFault, direct_text, file_or_unknown, shown_refusal}
+use Rattle.souper_ir.specs.Places.{newlines, IsPlace, AtFault, direct_text, file_or_unknown, shown_refusal}
 
 -- one of three facts, by the kind: for `Io`, `Parse` and `Memory`
 abbrev pub OnKind : ParseErrorKind → Type 0 → Type 0 → Type 0 → Type 0
@@ -161,7 +161,7 @@ IsPlaceOn file line column text place =
 -- where a source is at fault, if it was refused at that offset or where it ends: the offset, line, column and line text
 abbrev pub IsLocationIn : List ℕ → ℕ → Bool → Location → Type 0
 IsLocationIn source offset at_end location =
-    IsFault source offset at_end location.offset × IsPlace source (location.offset + 1) location.line location.column (string_bytes location.text)
+    AtFault source offset at_end location.offset × IsPlace source (location.offset + 1) location.line location.column (string_bytes location.text)
 
 -- the place and the location of a refusal of the source, which has that file name
 abbrev pub ArePlacesIn : Option (List ℕ) → List ℕ → ℕ → Bool → Places → Type 0
@@ -200,19 +200,19 @@ IsLocated file source old new = OnKind (kind_of old)
     (new ≡ old)
 
 -- the text is whole lines, with the given numbers of bytes and of lines
-pub record IsBefore (before : Before) (text : List ℕ) : Type 0 where
+pub record IsSizeOf (before : Before) (text : List ℕ) : Type 0 where
   pub lines : IsLines text
   pub bytes_are : length text ≡ before.bytes
   pub lines_are : newlines text ≡ before.lines
 
 -- the error of a source that comes after other lines says where both together are at fault
 abbrev pub HasLocationAfter : Before → List ℕ → ParseError → Type 0
-HasLocationAfter before source e = (text : List ℕ) → IsBefore before text → length (text ++ source) + 1 < 2 ^ 64 → HasLocation (text ++ source) e
+HasLocationAfter before source e = (text : List ℕ) → IsSizeOf before text → length (text ++ source) + 1 < 2 ^ 64 → HasLocation (text ++ source) e
 
 -- what became of a refusal at that offset of the source, before which other lines come: it shows its place in these lines and
 -- the source together, or memory ran out for that. The place of an offset is the place of the byte before it, which must be there.
 abbrev pub IsPlacedAfter : Option (List ℕ) → Before → List ℕ → ℕ → ParseError → Type 0
-IsPlacedAfter file before source offset new = (kind_of new ≡ Memory) ⊎ ((text : List ℕ) → IsBefore before text → (0 < offset) ⊎ (text ≡ [])
+IsPlacedAfter file before source offset new = (kind_of new ≡ Memory) ⊎ ((text : List ℕ) → IsSizeOf before text → (0 < offset) ⊎ (text ≡ [])
     → length (text ++ source) + 1 < 2 ^ 64 → IsRefusalAt file (text ++ source) (length text + offset) new)
 
 -- what became of an error of a part of a text, which begins at the offset skipped of the source; an error that is no refusal is

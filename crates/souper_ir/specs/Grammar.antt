@@ -13,9 +13,9 @@ Free goes_on [] = Unit {0}
 Free goes_on (t ∷ ts) = ¬ goes_on t
 
 -- the next token does not go on, or the text ends without a fault
-abbrev pub Stops : (Lexeme → Type 0) → Bool → List Lexeme → Type 0
-Stops goes_on faulty [] = faulty ≡ false
-Stops goes_on faulty (t ∷ ts) = ¬ goes_on t
+abbrev pub NextStops : (Lexeme → Type 0) → Bool → List Lexeme → Type 0
+NextStops goes_on faulty [] = faulty ≡ false
+NextStops goes_on faulty (t ∷ ts) = ¬ goes_on t
 
 -- the next token starts a value
 abbrev pub Starts : (Lexeme → Bool) → List Lexeme → Type 0
@@ -33,7 +33,7 @@ pub record Took {V : Type 0} (spells : Scope → V → List Lexeme → Type 0) (
 
 -- no prefix of these tokens spells a value so that a token which does not continue it, or the end of the text, follows
 abbrev pub NoFrontOf : {V : Type 0} → (V → List Lexeme → Type 0) → (V → Lexeme → Type 0) → Bool → List Lexeme → Type 0
-NoFrontOf {V} spells continues faulty ts = (v : V) (front rest : List Lexeme) → ts ≡ front ++ rest → spells v front → Stops (continues v) faulty rest → ⊥
+NoFrontOf {V} spells continues faulty ts = (v : V) (front rest : List Lexeme) → ts ≡ front ++ rest → spells v front → NextStops (continues v) faulty rest → ⊥
 
 -- no prefix of the remaining tokens
 abbrev pub NoFront : {V : Type 0} → (Scope → V → List Lexeme → Type 0) → (V → Lexeme → Type 0) → Parsing → Type 0

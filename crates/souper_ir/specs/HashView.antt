@@ -9,8 +9,8 @@ unfoldable pub half_at : List ℕ → ℕ → ℕ
 half_at b i = from_le_bytes w32 (slice_index b i ∷ slice_index b (i + 1) ∷ slice_index b (i + 2) ∷ slice_index b (i + 3) ∷ [])
 
 -- the number that the 8 bytes from a position on spell
-unfoldable pub word_at : List ℕ → ℕ → ℕ
-word_at b i = from_le_bytes w64 (
+unfoldable pub eight_bytes_at : List ℕ → ℕ → ℕ
+eight_bytes_at b i = from_le_bytes w64 (
     slice_index b i ∷ slice_index b (i + 1) ∷ slice_index b (i + 2) ∷ slice_index b (i + 3)
     ∷ slice_index b (i + 4) ∷ slice_index b (i + 5) ∷ slice_index b (i + 6) ∷ slice_index b (i + 7) ∷ []
     )
@@ -28,18 +28,18 @@ abbrev pub few_bytes : List ℕ → ℕ
 few_bytes n = if nat_lt (length n) 2 then 0 else joined (slice_index n 1) (slice_index n (length n - 1))
 
 -- the number of a name, by its first 16 bytes and its last 32
-abbrev pub ends : List ℕ → ℕ
-ends n =
+abbrev pub number_of_ends : List ℕ → ℕ
+number_of_ends n =
     if nat_lt (length n) 4 then few_bytes n else
     if nat_lt (length n) 8 then joined (half_at n 0) (half_at n (length n - 4)) else
-    if nat_le (length n) 16 then joined (word_at n 0) (word_at n (length n - 8)) else
-    if nat_le (length n) 24 then joined (joined (word_at n 0) (word_at n (length n - 8))) (word_at n (length n - 16)) else
-    if nat_le (length n) 32 then joined (joined (joined (word_at n 0) (word_at n (length n - 8))) (word_at n (length n - 16))) (word_at n (length n - 24)) else
-    joined (joined (joined (joined (joined (word_at n 0) (word_at n (length n - 8))) (word_at n (length n - 16))) (word_at n (length n - 24))) (word_at n (length n - 32))) (word_at n 8)
+    if nat_le (length n) 16 then joined (eight_bytes_at n 0) (eight_bytes_at n (length n - 8)) else
+    if nat_le (length n) 24 then joined (joined (eight_bytes_at n 0) (eight_bytes_at n (length n - 8))) (eight_bytes_at n (length n - 16)) else
+    if nat_le (length n) 32 then joined (joined (joined (eight_bytes_at n 0) (eight_bytes_at n (length n - 8))) (eight_bytes_at n (length n - 16))) (eight_bytes_at n (length n - 24)) else
+    joined (joined (joined (joined (joined (eight_bytes_at n 0) (eight_bytes_at n (length n - 8))) (eight_bytes_at n (length n - 16))) (eight_bytes_at n (length n - 24))) (eight_bytes_at n (length n - 32))) (eight_bytes_at n 8)
 
 -- the hash of a name
 unfoldable pub name_hash : List ℕ → ℕ
-name_hash n = ends n * factor % 2 ^ 64
+name_hash n = number_of_ends n * factor % 2 ^ 64
 
 -- the slot of a hash in a table with this number of slots
 abbrev pub slot : ℕ → ℕ → ℕ

@@ -8,7 +8,7 @@ use Rattle.souper_ir.specs.Continuation.{statement_continues, ending_continues}
 use Rattle.souper_ir.specs.NodeReadings.{starts_statement}
 use Rattle.souper_ir.specs.Parsing.{Parsing}
 use Rattle.souper_ir.specs.Reading.{cause_of, IfRefused, Fails}
-use Rattle.souper_ir.specs.Grammar.{Free, Stops, Starts, Took, NoFrontOf, LastGoesOn}
+use Rattle.souper_ir.specs.Grammar.{Free, NextStops, Starts, Took, NoFrontOf, LastGoesOn}
 
 -- the token starts no statement and continues none
 abbrev pub EndsStatements : Lexeme → Type 0
@@ -42,7 +42,7 @@ pub record Stated (new : List PlainStatement) (p q : Parsing) : Type 0 where
 -- no statement comes next, and no fault
 pub record AllStated (new : List PlainStatement) (p q : Parsing) : Type 0 where
   pub stated : Stated new p q
-  pub quiet : Stops (λ t. starts_statement t ≡ true) q.faulty (kinds q.tokens)
+  pub quiet : NextStops (λ t. starts_statement t ≡ true) q.faulty (kinds q.tokens)
   pub live : p.failed ≡ None
 
 -- the statements that the parser took, all that there are

@@ -41,13 +41,13 @@ pub record AreNames (names : Names) (s : Scope) : Type 0 where
   pub entered : AreEntered names s
   pub last : IsLast names.last names
 
-abbrev pub defines : Option PlainStatement → List ℕ → Bool
-defines (Some (assigned a)) n = bytes_eq a.name n
-defines _ n = false
+abbrev pub defines_name : Option PlainStatement → List ℕ → Bool
+defines_name (Some (assigned a)) n = bytes_eq a.name n
+defines_name _ n = false
 
 -- whether the statement at the position is an assignment of the name
 abbrev pub is_named : Scope → ℕ → List ℕ → Bool
-is_named s i n = defines (slice_get s i) n
+is_named s i n = defines_name (slice_get s i) n
 
 -- the entry, if the statement at its position is an assignment of the name
 abbrev pub entry_in_scope : Scope → Option NameEntry → List ℕ → Option NameEntry

@@ -10,17 +10,17 @@ use Rattle.souper_ir.specs.Grammar.{starts_next}
 use Rattle.souper_ir.specs.NodeReadings.{is_name, is_word}
 
 -- by whether the token is `pc`, `blockpc` or a name
-abbrev pub chosen : Bool → Bool → Bool → Next
-chosen pc block_pc name = if pc then Pc else (if block_pc then BlockPc else (if name then Assignment else Other))
+abbrev pub next_statement_by : Bool → Bool → Bool → Next
+next_statement_by pc block_pc name = if pc then Pc else (if block_pc then BlockPc else (if name then Assignment else Other))
 
-abbrev pub begins : Option Lexeme → Next
-begins t = chosen (starts_next (is_word (codes "pc")) t) (starts_next (is_word (codes "blockpc")) t) (starts_next is_name t)
+abbrev pub next_statement_of : Option Lexeme → Next
+next_statement_of t = next_statement_by (starts_next (is_word (codes "pc")) t) (starts_next (is_word (codes "blockpc")) t) (starts_next is_name t)
 
 unfoldable pub next_at : Parsing → Option (Next × Parsing)
 next_at p = do
   t ← look_at p
-  Some (begins t.0, t.1)
+  Some (next_statement_of t.0, t.1)
 
 -- a parser that has not failed, and whose next token begins this
-abbrev pub Begins : Next → Parsing → Type 0
-Begins n p = IsRead (next_at p) n p p
+abbrev pub NextIs : Next → Parsing → Type 0
+NextIs n p = IsRead (next_at p) n p p

@@ -32,33 +32,33 @@ accept meaning p = do
 
 -- ---- single tokens
 
-abbrev pub name_of : Lexeme → Option (List ℕ)
-name_of (val_name n) = Some n
-name_of _ = None
+abbrev pub as_name : Lexeme → Option (List ℕ)
+as_name (val_name n) = Some n
+as_name _ = None
 
 abbrev pub is_name : Lexeme → Bool
 is_name (val_name n) = true
 is_name _ = false
 
 -- the punctuation marks, each a token of its own
-abbrev pub mark_of : Lexeme → Lexeme → Option (Unit {0})
-mark_of comma comma = Some tt
-mark_of colon colon = Some tt
-mark_of equals equals = Some tt
-mark_of open_paren open_paren = Some tt
-mark_of close_paren close_paren = Some tt
-mark_of open_bracket open_bracket = Some tt
-mark_of _ _ = None
+abbrev pub as_mark : Lexeme → Lexeme → Option (Unit {0})
+as_mark comma comma = Some tt
+as_mark colon colon = Some tt
+as_mark equals equals = Some tt
+as_mark open_paren open_paren = Some tt
+as_mark close_paren close_paren = Some tt
+as_mark open_bracket open_bracket = Some tt
+as_mark _ _ = None
 
 abbrev pub is_mark : Lexeme → Lexeme → Bool
-is_mark m t = is_some (mark_of m t)
+is_mark m t = is_some (as_mark m t)
 
 abbrev pub is_word : List ℕ → Lexeme → Bool
 is_word k (ident w) = bytes_eq w k
 is_word k _ = false
 
-abbrev pub word_of : List ℕ → Lexeme → Option (Unit {0})
-word_of k t = if is_word k t then Some tt else None
+abbrev pub as_word : List ℕ → Lexeme → Option (Unit {0})
+as_word k t = if is_word k t then Some tt else None
 
 abbrev pub is_int : Lexeme → Bool
 is_int (int w) = true
@@ -87,7 +87,7 @@ type_at p = accept (ident_by type_of_word) p
 abbrev pub optional_type_by : Bool → Parsing → Option (Option Ty × Parsing)
 optional_type_by false p = Some (None, p)
 optional_type_by true p = do
-  c ← accept (mark_of colon) p
+  c ← accept (as_mark colon) p
   t ← type_at c.1
   Some (Some t.0, t.1)
 
@@ -110,7 +110,7 @@ named_operand_at n p = do
 
 abbrev pub operand_by : Bool → Parsing → Option (Operand × Parsing)
 operand_by true p = do
-  n ← accept name_of p
+  n ← accept as_name p
   i ← position_of n.1.scope n.0
   Some (Value i, n.1)
 operand_by false p = do
@@ -125,14 +125,14 @@ operand_at p = do
 -- an operand with a comma before it
 unfoldable pub next_operand_at : Parsing → Option (Operand × Parsing)
 next_operand_at p = do
-  c ← accept (mark_of comma) p
+  c ← accept (as_mark comma) p
   operand_at c.1
 
 -- this number of operands, each with a comma before it
 abbrev pub further_at : ℕ → Parsing → Option (List Operand × Parsing)
 further_at zero p = Some ([], p)
 further_at (suc k) p = do
-  c ← accept (mark_of comma) p
+  c ← accept (as_mark comma) p
   x ← operand_at c.1
   xs ← further_at k x.1
   Some (x.0 ∷ xs.0, xs.1)
@@ -153,16 +153,16 @@ block_after_word_at p = do
   n ← accept (int_by (count_of (2 ^ 32))) p
   Some (record { predecessors = n.0 }, n.1)
 
-unfoldable pub block_at : Parsing → Option (Block × Parsing)
-block_at p = do
-  k ← accept (word_of (codes "block")) p
+unfoldable pub block_node_at : Parsing → Option (Block × Parsing)
+block_node_at p = do
+  k ← accept (as_word (codes "block")) p
   block_after_word_at k.1
 
 -- the number of predecessors of a block
-abbrev pub predecessors_at : PlainStatement → Option ℕ
-predecessors_at (assigned a) = predecessors_if_block a.value
-predecessors_at (condition p) = None
-predecessors_at (block_condition p) = None
+abbrev pub block_predecessors : PlainStatement → Option ℕ
+block_predecessors (assigned a) = predecessors_if_block a.value
+block_predecessors (condition p) = None
+block_predecessors (block_condition p) = None
 
 -- the block of a name, with its number of predecessors
 abbrev pub block_entry : Option (ℕ × Option ℕ) → Option (ℕ × ℕ)
@@ -170,7 +170,7 @@ block_entry e = e >>= λ x. (x.1 >>= λ n. Some (x.0, n))
 
 unfoldable pub block_name_at : Parsing → Option ((ℕ × ℕ) × Parsing)
 block_name_at p = do
-  n ← accept name_of p
+  n ← accept as_name p
   b ← block_entry (entry_of n.1.scope n.0)
   Some (b, n.1)
 
@@ -183,7 +183,7 @@ phi_after_word_at p = do
 
 unfoldable pub phi_at : Parsing → Option (PlainPhi × Parsing)
 phi_at p = do
-  k ← accept (word_of (codes "phi")) p
+  k ← accept (as_word (codes "phi")) p
   phi_after_word_at k.1
 
 -- the instruction of an opcode, whose operands come next
@@ -260,24 +260,24 @@ attribute_by (bits_kind s) p = do
   bits ← known_bits_of s
   Some (known_bits_attribute bits, p)
 attribute_by sign_bits_kind p = do
-  e ← accept (mark_of equals) p
+  e ← accept (as_mark equals) p
   n ← accept (int_by (count_of (2 ^ 8))) e.1
   Some (sign_bits n.0, n.1)
 attribute_by range_kind p = do
-  e ← accept (mark_of equals) p
-  o ← accept (mark_of open_bracket) e.1
+  e ← accept (as_mark equals) p
+  o ← accept (as_mark open_bracket) e.1
   low ← accept (int_by number_of) o.1
-  c ← accept (mark_of comma) low.1
+  c ← accept (as_mark comma) low.1
   high ← accept (int_by number_of) c.1
-  k ← accept (mark_of close_paren) high.1
+  k ← accept (as_mark close_paren) high.1
   Some (range low.0 high.0, k.1)
 
 unfoldable pub attribute_at : Parsing → Option (PlainAttribute × Parsing)
 attribute_at p = do
-  o ← accept (mark_of open_paren) p
+  o ← accept (as_mark open_paren) p
   k ← accept attribute_kind_of o.1
   a ← attribute_by k.0 k.1
-  c ← accept (mark_of close_paren) a.1
+  c ← accept (as_mark close_paren) a.1
   Some (a.0, c.1)
 
 -- what a root attribute begins with: the word `demandedBits`, or `harvestedFromUse`
@@ -287,16 +287,16 @@ root_kind_of_word w = if bytes_eq w (codes "demandedBits") then Some DemandedBit
 abbrev pub root_attribute_by : RootKind → Parsing → Option (PlainRootAttribute × Parsing)
 root_attribute_by HarvestedFromUse p = Some (harvested_from_use, p)
 root_attribute_by DemandedBits p = do
-  e ← accept (mark_of equals) p
+  e ← accept (as_mark equals) p
   bits ← accept (int_by bits_of) e.1
   Some (demanded_bits bits.0, bits.1)
 
 unfoldable pub root_attribute_at : Parsing → Option (PlainRootAttribute × Parsing)
 root_attribute_at p = do
-  o ← accept (mark_of open_paren) p
+  o ← accept (as_mark open_paren) p
   k ← accept (ident_by root_kind_of_word) o.1
   a ← root_attribute_by k.0 k.1
-  c ← accept (mark_of close_paren) a.1
+  c ← accept (as_mark close_paren) a.1
   Some (a.0, c.1)
 
 -- ---- statements, up to their attributes
@@ -321,13 +321,13 @@ new_name_at n p = do
 unfoldable pub type_and_equals_at : Parsing → Option (Option Ty × Parsing)
 type_and_equals_at p = do
   t ← optional_type_at p
-  e ← accept (mark_of equals) t.1
+  e ← accept (as_mark equals) t.1
   Some (t.0, e.1)
 
 -- a name that is not in scope, a type, and the equals sign
 unfoldable pub heading_at : Parsing → Option ((List ℕ × Option Ty) × Parsing)
 heading_at p = do
-  n ← accept name_of p
+  n ← accept as_name p
   f ← fresh (position_of n.1.scope n.0)
   t ← type_and_equals_at n.1
   Some ((n.0, t.0), t.1)
@@ -346,7 +346,7 @@ starts_statement _ = false
 
 unfoldable pub pc_at : Parsing → Option (Pc × Parsing)
 pc_at p = do
-  k ← accept (word_of (codes "pc")) p
+  k ← accept (as_word (codes "pc")) p
   x ← operand_at k.1
   y ← operand_at x.1
   Some (record { x = x.0; y = y.0 }, y.1)
@@ -357,7 +357,7 @@ predecessor_below count n = if nat_lt n count then Some n else None
 
 unfoldable pub block_pc_at : Parsing → Option (BlockPc × Parsing)
 block_pc_at p = do
-  k ← accept (word_of (codes "blockpc")) p
+  k ← accept (as_word (codes "blockpc")) p
   b ← block_name_at k.1
   n ← accept (int_by (count_of (2 ^ 32))) b.1
   w ← predecessor_below b.0.1 n.0
@@ -369,14 +369,14 @@ block_pc_at p = do
 
 unfoldable pub root_at : Parsing → Option (ℕ × Parsing)
 root_at p = do
-  k ← accept (word_of (codes "infer")) p
-  n ← accept name_of k.1
+  k ← accept (as_word (codes "infer")) p
+  n ← accept as_name k.1
   i ← position_of n.1.scope n.0
   Some (i, n.1)
 
 abbrev pub comma_by : Bool → Parsing → Option (Unit {0} × Parsing)
 comma_by false p = Some (tt, p)
-comma_by true p = accept (mark_of comma) p
+comma_by true p = accept (as_mark comma) p
 
 unfoldable pub optional_comma_at : Parsing → Option (Unit {0} × Parsing)
 optional_comma_at p = do
@@ -385,7 +385,7 @@ optional_comma_at p = do
 
 unfoldable pub pair_at : Parsing → Option ((Operand × Operand) × Parsing)
 pair_at p = do
-  k ← accept (word_of (codes "cand")) p
+  k ← accept (as_word (codes "cand")) p
   x ← operand_at k.1
   c ← optional_comma_at x.1
   y ← operand_at c.1
@@ -393,5 +393,5 @@ pair_at p = do
 
 unfoldable pub result_at : Parsing → Option (Operand × Parsing)
 result_at p = do
-  k ← accept (word_of (codes "result")) p
+  k ← accept (as_word (codes "result")) p
   operand_at k.1

@@ -48,9 +48,9 @@ abbrev pub IsEnd : List ℕ → ℕ → Type 0
 IsEnd source at = (at ≤ length source) × IsAsciiWhitespaceFrom source at
 
 -- where a source is at fault that is refused at an offset: there, or where it ends
-abbrev pub IsFault : List ℕ → ℕ → Bool → ℕ → Type 0
-IsFault source offset false at = at ≡ offset
-IsFault source offset true at = IsEnd source at
+abbrev pub AtFault : List ℕ → ℕ → Bool → ℕ → Type 0
+AtFault source offset false at = at ≡ offset
+AtFault source offset true at = IsEnd source at
 
 -- an offset has one place
 abbrev pub OnePlace : Type 0

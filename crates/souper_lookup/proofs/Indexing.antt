@@ -16,7 +16,7 @@ use Rattle.souper_graph.specs.Syntax.Spelling.{replacement, IsEndingOf}
 use Rattle.souper_graph.proofs.Sameness.Renumbered.{ordered}
 use Rattle.souper_graph.proofs.Sameness.Renaming.{graph-renamed, renamed-graph}
 use Rattle.souper_ir.proofs.Items.OneText.{one_text}
-use Rattle.souper_lookup.specs.Stored.{Entry, replacements_of, Storable, NoneIsSame, NoTwoAreSame, raised, has_key, left_key, indices_from, optional_list, elements_at, IsIndexOf}
+use Rattle.souper_lookup.specs.Stored.{Entry, replacements_of, Storable, NoneIsSame, NoTwoAreSame, raised, has_left_key, left_key, indices_from, optional_list, elements_at, IsIndexOf}
 use Rattle.std.proofs.lemmas.Option.{same_Some}
 use Rattle.souper_lookup.proofs.Strings.{place_of}
 use Rattle.souper_lookup.proofs.Grouping.{IsFiled}
@@ -92,9 +92,9 @@ elements-from {X = X} p front (x ∷ back) = under (p x) (elements-from p (front
 pub elements-more : {X : Type 0} (xs : List X) (is : List ℕ) (i : ℕ) → elements_at xs (is ++ i ∷ []) ≡ elements_at xs is ++ optional_list (slice_get xs i)
 elements-more {X = X} xs is i = flat_map-append (λ (k : ℕ). optional_list (slice_get xs k)) is (i ∷ []) ∙ ap (λ (z : List X). elements_at xs is ++ z) (append-nil (optional_list (slice_get xs i)))
 
-pub elements-found : (entries : List Entry) (t : List ℕ) → elements_at entries (indices_from (has_key t) 0 (replacements_of entries)) ≡ filter (λ (e : Entry). has_key t e.replacement) entries
+pub elements-found : (entries : List Entry) (t : List ℕ) → elements_at entries (indices_from (has_left_key t) 0 (replacements_of entries)) ≡ filter (λ (e : Entry). has_left_key t e.replacement) entries
 elements-found entries t =
-    ap (elements_at entries) (indices-map (λ (e : Entry). e.replacement) (has_key t) 0 entries) ∙ elements-from (λ (e : Entry). has_key t e.replacement) [] entries
+    ap (elements_at entries) (indices-map (λ (e : Entry). e.replacement) (has_left_key t) 0 entries) ∙ elements-from (λ (e : Entry). has_left_key t e.replacement) [] entries
 
 -- ---- one more entry
 
@@ -106,7 +106,7 @@ indexed-more items b texts more ks new gs hs x s none is f = record {
   texts_are = is ∙ ap (λ (z : List (List ℕ)). z ++ text_of b ∷ []) x.texts_are ∙ sym (map-append text_of items (b ∷ []));
   paired = f.paired;
   grouped = λ t. f.grouped t ∙ ap (λ (z : List ℕ). z ++ (if bytes_eq t (left_key b) then length items ∷ [] else [])) (x.grouped t)
-      ∙ sym (indices-more (has_key t) 0 items b ∙ ap (λ (n : ℕ). indices_from (has_key t) 0 items ++ (if bytes_eq t (left_key b) then n ∷ [] else [])) (let e : 0 + length items ≡ length items = omega arith in e));
+      ∙ sym (indices-more (has_left_key t) 0 items b ∙ ap (λ (n : ℕ). indices_from (has_left_key t) 0 items ++ (if bytes_eq t (left_key b) then n ∷ [] else [])) (let e : 0 + length items ≡ length items = omega arith in e));
 }
 
 -- no text of other graphs is the text of b

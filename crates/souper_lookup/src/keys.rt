@@ -7,7 +7,7 @@ ghost use Rattle.souper_graph.specs.View.{view_left_hand_side, view_replacement}
 ghost use Rattle.souper_graph.specs.WellFormed.{WellFormed};
 ghost use Rattle.souper_graph.specs.Renaming.{renamed};
 ghost use Rattle.souper_graph.specs.LeftSides.{infer_of};
-ghost use Rattle.souper_lookup.specs.Stored.{key_of, IsLeftKey};
+ghost use Rattle.souper_lookup.specs.Stored.{key_of_left, IsLeftKey};
 
 use crate::names::{names_of, put_names};
 use souper_graph::ast::{LeftHandSide, Replacement};
@@ -18,7 +18,7 @@ use std::alloc::Global;
 ///
 /// Errors: of a well-formed left-hand side `OutOfMemory` alone.
 pub fn key_of_left(left: &LeftHandSide) -> Result<String, TextError>
-    ensures text { WellFormed (view_left_hand_side left.now) → IfOk result (λ key. string_bytes key ≡ key_of (view_left_hand_side left.now)) }
+    ensures text { WellFormed (view_left_hand_side left.now) → IfOk result (λ key. string_bytes key ≡ key_of_left (view_left_hand_side left.now)) }
     ensures well_formed { WellFormed (view_left_hand_side left.now) → IfOk result (λ key. WellFormed (renamed (view_left_hand_side left.now))) }
     ensures memory { WellFormed (view_left_hand_side left.now) → IfErr result (λ error. error ≡ OutOfMemory) }
 {
@@ -31,7 +31,7 @@ pub fn key_of_left(left: &LeftHandSide) -> Result<String, TextError>
 ///
 /// After an error some names may be others.
 pub fn key_in_place(alloc: Global, left: &mut LeftHandSide) -> Result<String, TextError>
-    ensures text { WellFormed (view_left_hand_side left.old) → IfOk result (λ key. string_bytes key ≡ key_of (view_left_hand_side left.old)) }
+    ensures text { WellFormed (view_left_hand_side left.old) → IfOk result (λ key. string_bytes key ≡ key_of_left (view_left_hand_side left.old)) }
     ensures well_formed { WellFormed (view_left_hand_side left.old) → OnOk result (WellFormed (renamed (view_left_hand_side left.old))) }
     ensures kept { WellFormed (view_left_hand_side left.old) → OnOk result (view_left_hand_side left.new ≡ view_left_hand_side left.old) }
     ensures memory { WellFormed (view_left_hand_side left.old) → IfErr result (λ error. error ≡ OutOfMemory) }

@@ -2,7 +2,7 @@
 use Rattle.std.specs.Prelude.{◌≡◌, ◌⊎◌, ℕ, ◌+◌, ◌-◌, ◌^◌, ◌<◌, ◌≤◌, List, [], ◌++◌, length, take, drop}
 use Rattle.souper_graph.specs.Syntax.Tokens.{IsOneLine}
 use Rattle.souper_ir.specs.declared.parse.error.Before.{Before}
-use Rattle.souper_ir.specs.Errors.{IsBefore}
+use Rattle.souper_ir.specs.Errors.{IsSizeOf}
 use Rattle.souper_ir.specs.Places.{newlines}
 use Rattle.souper_ir.specs.Joining.{IsLines}
 use Rattle.souper_stream.specs.declared.buffer.Buffer.{Buffer}
@@ -27,7 +27,7 @@ Counts before text = (before.bytes ≡ length text) × (before.lines ≡ newline
 pub record Buffers (done rest : List ℕ) (b : Buffer) : Type 0 where
   pub gone : List ℕ
   pub lines : IsLines gone
-  pub counted : length gone + 1 < 2 ^ 64 → IsBefore b.before gone
+  pub counted : length gone + 1 < 2 ^ 64 → IsSizeOf b.before gone
   pub done_is : done ≡ gone ++ take b.parsed (held b)
   pub rest_is : unparsed b ≡ rest
   pub placed : (0 < b.parsed) ⊎ (gone ≡ [])

@@ -5,7 +5,7 @@ ghost use Rattle.souper_graph.specs.Values.{PlainAttribute, PlainRootAttribute};
 ghost use Rattle.souper_graph.specs.View.{view_attribute, view_root_attribute};
 ghost use Rattle.souper_code.specs.Codes.{code_of_list, code_of_attribute, code_of_root_attribute};
 ghost use Rattle.souper_code.specs.Codable.{CodableAttribute, CodableRootAttribute, CodableList};
-ghost use Rattle.souper_code.specs.Reading.{Gives};
+ghost use Rattle.souper_code.specs.Reading.{Decodes};
 
 use crate::decode::{DecodeError, Reader};
 use souper_graph::ast::{Attribute, RootAttribute};
@@ -14,7 +14,7 @@ use std::alloc::Global;
 impl Reader<'_> {
     fn attribute(&mut self, alloc: Global) -> Result<Attribute, DecodeError>
         ensures read { IfOk result (λ a. CodableAttribute (view_attribute a) × (self.old.rest.now ≡ code_of_attribute (view_attribute a) ++ self.new.rest.now)) }
-        ensures only { (x : PlainAttribute) (rest : List ℕ) → CodableAttribute x → self.old.rest.now ≡ code_of_attribute x ++ rest → Gives result (λ a. view_attribute a ≡ x) self.new.rest.now rest }
+        ensures only { (x : PlainAttribute) (rest : List ℕ) → CodableAttribute x → self.old.rest.now ≡ code_of_attribute x ++ rest → Decodes result (λ a. view_attribute a ≡ x) self.new.rest.now rest }
     {
         match self.byte()? {
             0 => Ok(Attribute::KnownBits(self.known_bits(alloc)?)),
@@ -35,7 +35,7 @@ impl Reader<'_> {
 
     fn root_attribute(&mut self, alloc: Global) -> Result<RootAttribute, DecodeError>
         ensures read { IfOk result (λ a. CodableRootAttribute (view_root_attribute a) × (self.old.rest.now ≡ code_of_root_attribute (view_root_attribute a) ++ self.new.rest.now)) }
-        ensures only { (x : PlainRootAttribute) (rest : List ℕ) → CodableRootAttribute x → self.old.rest.now ≡ code_of_root_attribute x ++ rest → Gives result (λ a. view_root_attribute a ≡ x) self.new.rest.now rest }
+        ensures only { (x : PlainRootAttribute) (rest : List ℕ) → CodableRootAttribute x → self.old.rest.now ≡ code_of_root_attribute x ++ rest → Decodes result (λ a. view_root_attribute a ≡ x) self.new.rest.now rest }
     {
         match self.byte()? {
             0 => Ok(RootAttribute::DemandedBits(self.bits(alloc)?)),
@@ -46,7 +46,7 @@ impl Reader<'_> {
 
     pub(crate) fn attributes(&mut self, alloc: Global) -> Result<Vec<Attribute>, DecodeError>
         ensures read { IfOk result (λ v. CodableList CodableAttribute (map view_attribute v.items) × (self.old.rest.now ≡ code_of_list code_of_attribute (map view_attribute v.items) ++ self.new.rest.now)) }
-        ensures only { (xs : List PlainAttribute) (rest : List ℕ) → CodableList CodableAttribute xs → self.old.rest.now ≡ code_of_list code_of_attribute xs ++ rest → Gives result (λ v. map view_attribute v.items ≡ xs) self.new.rest.now rest }
+        ensures only { (xs : List PlainAttribute) (rest : List ℕ) → CodableList CodableAttribute xs → self.old.rest.now ≡ code_of_list code_of_attribute xs ++ rest → Decodes result (λ v. map view_attribute v.items ≡ xs) self.new.rest.now rest }
     {
         let count = self.size()?;
         let mut attributes = Vec::new(alloc);
@@ -62,7 +62,7 @@ impl Reader<'_> {
         alloc: Global,
     ) -> Result<Vec<RootAttribute>, DecodeError>
         ensures read { IfOk result (λ v. CodableList CodableRootAttribute (map view_root_attribute v.items) × (self.old.rest.now ≡ code_of_list code_of_root_attribute (map view_root_attribute v.items) ++ self.new.rest.now)) }
-        ensures only { (xs : List PlainRootAttribute) (rest : List ℕ) → CodableList CodableRootAttribute xs → self.old.rest.now ≡ code_of_list code_of_root_attribute xs ++ rest → Gives result (λ v. map view_root_attribute v.items ≡ xs) self.new.rest.now rest }
+        ensures only { (xs : List PlainRootAttribute) (rest : List ℕ) → CodableList CodableRootAttribute xs → self.old.rest.now ≡ code_of_list code_of_root_attribute xs ++ rest → Decodes result (λ v. map view_root_attribute v.items ≡ xs) self.new.rest.now rest }
     {
         let count = self.size()?;
         let mut root_attributes = Vec::new(alloc);

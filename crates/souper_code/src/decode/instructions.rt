@@ -4,17 +4,17 @@ ghost use Rattle.std.specs.Prelude.{◌≡◌, ◌++◌, ◌∷◌, [], ℕ, Lis
 ghost use Rattle.souper_graph.specs.declared.ast.operands.Operand.{Operand as OperandNode};
 ghost use Rattle.souper_graph.specs.declared.ast.instructions.Instruction.{Instruction as InstructionNode};
 ghost use Rattle.souper_graph.specs.Instructions.{operands_of};
-ghost use Rattle.souper_code.specs.Numbers.{number_of};
+ghost use Rattle.souper_code.specs.Numbers.{instruction_number};
 ghost use Rattle.souper_code.specs.Codes.{code_of_instruction};
 ghost use Rattle.souper_code.specs.Codable.{CodableInstruction};
-ghost use Rattle.souper_code.specs.Reading.{Gives};
+ghost use Rattle.souper_code.specs.Reading.{Decodes};
 
 use crate::decode::{DecodeError, Reader};
 use souper_graph::ast::{Instruction, Operand};
 
 fn nullary(number: u8) -> Option<Instruction>
-    ensures read { IfSome result (λ i. (number_of i ≡ number) × (operands_of i ≡ [])) }
-    ensures only { (i : InstructionNode) → number_of i ≡ number → operands_of i ≡ [] → result ≡ Some i }
+    ensures read { IfSome result (λ i. (instruction_number i ≡ number) × (operands_of i ≡ [])) }
+    ensures only { (i : InstructionNode) → instruction_number i ≡ number → operands_of i ≡ [] → result ≡ Some i }
 {
     match number {
         57 => Some(Instruction::Hole),
@@ -23,8 +23,8 @@ fn nullary(number: u8) -> Option<Instruction>
 }
 
 fn unary(number: u8, a: Operand) -> Option<Instruction>
-    ensures read { IfSome result (λ i. (number_of i ≡ number) × (operands_of i ≡ a ∷ [])) }
-    ensures only { (i : InstructionNode) → number_of i ≡ number → operands_of i ≡ a ∷ [] → result ≡ Some i }
+    ensures read { IfSome result (λ i. (instruction_number i ≡ number) × (operands_of i ≡ a ∷ [])) }
+    ensures only { (i : InstructionNode) → instruction_number i ≡ number → operands_of i ≡ a ∷ [] → result ≡ Some i }
 {
     match number {
         30 => Some(Instruction::Zext { a }),
@@ -41,8 +41,8 @@ fn unary(number: u8, a: Operand) -> Option<Instruction>
 }
 
 fn binary(number: u8, a: Operand, b: Operand) -> Option<Instruction>
-    ensures read { IfSome result (λ i. (number_of i ≡ number) × (operands_of i ≡ a ∷ b ∷ [])) }
-    ensures only { (i : InstructionNode) → number_of i ≡ number → operands_of i ≡ a ∷ b ∷ [] → result ≡ Some i }
+    ensures read { IfSome result (λ i. (instruction_number i ≡ number) × (operands_of i ≡ a ∷ b ∷ [])) }
+    ensures only { (i : InstructionNode) → instruction_number i ≡ number → operands_of i ≡ a ∷ b ∷ [] → result ≡ Some i }
 {
     match number {
         0 => Some(Instruction::Add { a, b }),
@@ -96,8 +96,8 @@ fn binary(number: u8, a: Operand, b: Operand) -> Option<Instruction>
 }
 
 fn ternary(number: u8, a: Operand, b: Operand, c: Operand) -> Option<Instruction>
-    ensures read { IfSome result (λ i. (number_of i ≡ number) × (operands_of i ≡ a ∷ b ∷ c ∷ [])) }
-    ensures only { (i : InstructionNode) → number_of i ≡ number → operands_of i ≡ a ∷ b ∷ c ∷ [] → result ≡ Some i }
+    ensures read { IfSome result (λ i. (instruction_number i ≡ number) × (operands_of i ≡ a ∷ b ∷ c ∷ [])) }
+    ensures only { (i : InstructionNode) → instruction_number i ≡ number → operands_of i ≡ a ∷ b ∷ c ∷ [] → result ≡ Some i }
 {
     match number {
         29 => Some(Instruction::Select { a, b, c }),
@@ -109,8 +109,8 @@ fn ternary(number: u8, a: Operand, b: Operand, c: Operand) -> Option<Instruction
 
 // The instruction with the number and the operands.
 fn instruction_of(number: u8, operands: &[Operand]) -> Option<Instruction>
-    ensures read { IfSome result (λ i. (number_of i ≡ number) × (operands_of i ≡ operands.now)) }
-    ensures only { (i : InstructionNode) → number_of i ≡ number → operands_of i ≡ operands.now → result ≡ Some i }
+    ensures read { IfSome result (λ i. (instruction_number i ≡ number) × (operands_of i ≡ operands.now)) }
+    ensures only { (i : InstructionNode) → instruction_number i ≡ number → operands_of i ≡ operands.now → result ≡ Some i }
 {
     match operands {
         [] => nullary(number),
@@ -125,7 +125,7 @@ impl Reader<'_> {
     #[tactic(auto, using(crate::proofs::Few::few_operands))]
     pub(crate) fn instruction(&mut self) -> Result<Instruction, DecodeError>
         ensures read { IfOk result (λ i. CodableInstruction i × (self.old.rest.now ≡ code_of_instruction i ++ self.new.rest.now)) }
-        ensures only { (i : InstructionNode) (rest : List ℕ) → CodableInstruction i → self.old.rest.now ≡ code_of_instruction i ++ rest → Gives result (λ v. v ≡ i) self.new.rest.now rest }
+        ensures only { (i : InstructionNode) (rest : List ℕ) → CodableInstruction i → self.old.rest.now ≡ code_of_instruction i ++ rest → Decodes result (λ v. v ≡ i) self.new.rest.now rest }
     {
         let number = self.byte()?;
         let operands = self.few_operands()?;

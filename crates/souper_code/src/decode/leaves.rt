@@ -8,7 +8,7 @@ ghost use Rattle.souper_graph.specs.declared.ast.operands.Operand.{Operand as Op
 ghost use Rattle.souper_code.specs.declared.decode.DecodeError.TheVariants.{NoCode};
 ghost use Rattle.souper_code.specs.Codes.{code_of_u16, code_of_u32, code_of_size, code_of_list, code_of_wide, code_of_number, code_of_type, code_of_constant, code_of_operand, code_of_bit, code_of_known_bit};
 ghost use Rattle.souper_code.specs.Codable.{CodableSize, CodableNumber, CodableType, CodableConstant, CodableOperand, CodableBit, CodableKnownBit, CodableList};
-ghost use Rattle.souper_code.specs.Reading.{Gives};
+ghost use Rattle.souper_code.specs.Reading.{Decodes};
 
 use crate::decode::{DecodeError, Reader};
 use arrayvec::ArrayVec;
@@ -59,7 +59,7 @@ impl Reader<'_> {
 
     fn u16(&mut self) -> Result<u16, DecodeError>
         ensures read { IfOk result (λ n. (n < 2 ^ 16) × (self.old.rest.now ≡ code_of_u16 n ++ self.new.rest.now)) }
-        ensures only { (n : ℕ) (rest : List ℕ) → n < 2 ^ 16 → self.old.rest.now ≡ code_of_u16 n ++ rest → Gives result (λ v. v ≡ n) self.new.rest.now rest }
+        ensures only { (n : ℕ) (rest : List ℕ) → n < 2 ^ 16 → self.old.rest.now ≡ code_of_u16 n ++ rest → Decodes result (λ v. v ≡ n) self.new.rest.now rest }
     {
         match self.rest.split_first_chunk::<2>() {
             None => Err(DecodeError::NoCode),
@@ -72,7 +72,7 @@ impl Reader<'_> {
 
     pub(crate) fn u32(&mut self) -> Result<u32, DecodeError>
         ensures read { IfOk result (λ n. (n < 2 ^ 32) × (self.old.rest.now ≡ code_of_u32 n ++ self.new.rest.now)) }
-        ensures only { (n : ℕ) (rest : List ℕ) → n < 2 ^ 32 → self.old.rest.now ≡ code_of_u32 n ++ rest → Gives result (λ v. v ≡ n) self.new.rest.now rest }
+        ensures only { (n : ℕ) (rest : List ℕ) → n < 2 ^ 32 → self.old.rest.now ≡ code_of_u32 n ++ rest → Decodes result (λ v. v ≡ n) self.new.rest.now rest }
     {
         match self.rest.split_first_chunk::<4>() {
             None => Err(DecodeError::NoCode),
@@ -85,7 +85,7 @@ impl Reader<'_> {
 
     pub(crate) fn size(&mut self) -> Result<usize, DecodeError>
         ensures read { IfOk result (λ n. CodableSize n × (self.old.rest.now ≡ code_of_size n ++ self.new.rest.now)) }
-        ensures only { (n : ℕ) (rest : List ℕ) → CodableSize n → self.old.rest.now ≡ code_of_size n ++ rest → Gives result (λ v. v ≡ n) self.new.rest.now rest }
+        ensures only { (n : ℕ) (rest : List ℕ) → CodableSize n → self.old.rest.now ≡ code_of_size n ++ rest → Decodes result (λ v. v ≡ n) self.new.rest.now rest }
     {
         match self.rest.split_first_chunk::<8>() {
             None => Err(DecodeError::NoCode),
@@ -98,7 +98,7 @@ impl Reader<'_> {
 
     fn wide(&mut self) -> Result<u128, DecodeError>
         ensures read { IfOk result (λ n. (n < 2 ^ 128) × (self.old.rest.now ≡ code_of_wide n ++ self.new.rest.now)) }
-        ensures only { (n : ℕ) (rest : List ℕ) → n < 2 ^ 128 → self.old.rest.now ≡ code_of_wide n ++ rest → Gives result (λ v. v ≡ n) self.new.rest.now rest }
+        ensures only { (n : ℕ) (rest : List ℕ) → n < 2 ^ 128 → self.old.rest.now ≡ code_of_wide n ++ rest → Decodes result (λ v. v ≡ n) self.new.rest.now rest }
     {
         let low = self.size()?;
         let high = self.size()?;
@@ -107,14 +107,14 @@ impl Reader<'_> {
 
     pub(crate) fn number(&mut self) -> Result<i128, DecodeError>
         ensures read { IfOk result (λ n. CodableNumber n × (self.old.rest.now ≡ code_of_number n ++ self.new.rest.now)) }
-        ensures only { (n : ℤ) (rest : List ℕ) → CodableNumber n → self.old.rest.now ≡ code_of_number n ++ rest → Gives result (λ v. v ≡ n) self.new.rest.now rest }
+        ensures only { (n : ℤ) (rest : List ℕ) → CodableNumber n → self.old.rest.now ≡ code_of_number n ++ rest → Decodes result (λ v. v ≡ n) self.new.rest.now rest }
     {
         Ok(self.wide()?.cast_signed())
     }
 
     pub(crate) fn ty(&mut self) -> Result<Option<Type>, DecodeError>
         ensures read { IfOk result (λ ty. CodableType ty × (self.old.rest.now ≡ code_of_type ty ++ self.new.rest.now)) }
-        ensures only { (ty : Option Ty) (rest : List ℕ) → CodableType ty → self.old.rest.now ≡ code_of_type ty ++ rest → Gives result (λ v. v ≡ ty) self.new.rest.now rest }
+        ensures only { (ty : Option Ty) (rest : List ℕ) → CodableType ty → self.old.rest.now ≡ code_of_type ty ++ rest → Decodes result (λ v. v ≡ ty) self.new.rest.now rest }
     {
         match self.byte()? {
             0 => Ok(None),
@@ -125,7 +125,7 @@ impl Reader<'_> {
 
     fn constant(&mut self) -> Result<Constant, DecodeError>
         ensures read { IfOk result (λ c. CodableConstant c × (self.old.rest.now ≡ code_of_constant c ++ self.new.rest.now)) }
-        ensures only { (c : ConstantNode) (rest : List ℕ) → CodableConstant c → self.old.rest.now ≡ code_of_constant c ++ rest → Gives result (λ v. v ≡ c) self.new.rest.now rest }
+        ensures only { (c : ConstantNode) (rest : List ℕ) → CodableConstant c → self.old.rest.now ≡ code_of_constant c ++ rest → Decodes result (λ v. v ≡ c) self.new.rest.now rest }
     {
         let value = self.number()?;
         let ty = self.ty()?;
@@ -134,7 +134,7 @@ impl Reader<'_> {
 
     pub(crate) fn operand(&mut self) -> Result<Operand, DecodeError>
         ensures read { IfOk result (λ o. CodableOperand o × (self.old.rest.now ≡ code_of_operand o ++ self.new.rest.now)) }
-        ensures only { (o : OperandNode) (rest : List ℕ) → CodableOperand o → self.old.rest.now ≡ code_of_operand o ++ rest → Gives result (λ v. v ≡ o) self.new.rest.now rest }
+        ensures only { (o : OperandNode) (rest : List ℕ) → CodableOperand o → self.old.rest.now ≡ code_of_operand o ++ rest → Decodes result (λ v. v ≡ o) self.new.rest.now rest }
     {
         match self.byte()? {
             0 => {
@@ -148,7 +148,7 @@ impl Reader<'_> {
 
     fn bit(&mut self) -> Result<bool, DecodeError>
         ensures read { IfOk result (λ bit. CodableBit bit × (self.old.rest.now ≡ code_of_bit bit ++ self.new.rest.now)) }
-        ensures only { (bit : Bool) (rest : List ℕ) → CodableBit bit → self.old.rest.now ≡ code_of_bit bit ++ rest → Gives result (λ v. v ≡ bit) self.new.rest.now rest }
+        ensures only { (bit : Bool) (rest : List ℕ) → CodableBit bit → self.old.rest.now ≡ code_of_bit bit ++ rest → Decodes result (λ v. v ≡ bit) self.new.rest.now rest }
     {
         match self.byte()? {
             0 => Ok(false),
@@ -159,7 +159,7 @@ impl Reader<'_> {
 
     fn known_bit(&mut self) -> Result<Option<bool>, DecodeError>
         ensures read { IfOk result (λ bit. CodableKnownBit bit × (self.old.rest.now ≡ code_of_known_bit bit ++ self.new.rest.now)) }
-        ensures only { (bit : Option Bool) (rest : List ℕ) → CodableKnownBit bit → self.old.rest.now ≡ code_of_known_bit bit ++ rest → Gives result (λ v. v ≡ bit) self.new.rest.now rest }
+        ensures only { (bit : Option Bool) (rest : List ℕ) → CodableKnownBit bit → self.old.rest.now ≡ code_of_known_bit bit ++ rest → Decodes result (λ v. v ≡ bit) self.new.rest.now rest }
     {
         match self.byte()? {
             0 => Ok(Some(false)),
@@ -171,7 +171,7 @@ impl Reader<'_> {
 
     pub(crate) fn operands(&mut self, alloc: Global) -> Result<Vec<Operand>, DecodeError>
         ensures read { IfOk result (λ v. CodableList CodableOperand v.items × (self.old.rest.now ≡ code_of_list code_of_operand v.items ++ self.new.rest.now)) }
-        ensures only { (xs : List OperandNode) (rest : List ℕ) → CodableList CodableOperand xs → self.old.rest.now ≡ code_of_list code_of_operand xs ++ rest → Gives result (λ v. v.items ≡ xs) self.new.rest.now rest }
+        ensures only { (xs : List OperandNode) (rest : List ℕ) → CodableList CodableOperand xs → self.old.rest.now ≡ code_of_list code_of_operand xs ++ rest → Decodes result (λ v. v.items ≡ xs) self.new.rest.now rest }
     {
         let count = self.size()?;
         let mut operands = Vec::new(alloc);
@@ -185,7 +185,7 @@ impl Reader<'_> {
     /// The operands of an instruction, which has at most three.
     pub(crate) fn few_operands(&mut self) -> Result<ArrayVec<Operand, 3>, DecodeError>
         ensures read { IfOk result (λ v. CodableList CodableOperand v.items × (self.old.rest.now ≡ code_of_list code_of_operand v.items ++ self.new.rest.now)) }
-        ensures only { (xs : List OperandNode) (rest : List ℕ) → length xs ≤ 3 → CodableList CodableOperand xs → self.old.rest.now ≡ code_of_list code_of_operand xs ++ rest → Gives result (λ v. v.items ≡ xs) self.new.rest.now rest }
+        ensures only { (xs : List OperandNode) (rest : List ℕ) → length xs ≤ 3 → CodableList CodableOperand xs → self.old.rest.now ≡ code_of_list code_of_operand xs ++ rest → Decodes result (λ v. v.items ≡ xs) self.new.rest.now rest }
     {
         let count = self.size()?;
         if count > 3 {
@@ -201,7 +201,7 @@ impl Reader<'_> {
 
     pub(crate) fn bits(&mut self, alloc: Global) -> Result<Vec<bool>, DecodeError>
         ensures read { IfOk result (λ v. CodableList CodableBit v.items × (self.old.rest.now ≡ code_of_list code_of_bit v.items ++ self.new.rest.now)) }
-        ensures only { (xs : List Bool) (rest : List ℕ) → CodableList CodableBit xs → self.old.rest.now ≡ code_of_list code_of_bit xs ++ rest → Gives result (λ v. v.items ≡ xs) self.new.rest.now rest }
+        ensures only { (xs : List Bool) (rest : List ℕ) → CodableList CodableBit xs → self.old.rest.now ≡ code_of_list code_of_bit xs ++ rest → Decodes result (λ v. v.items ≡ xs) self.new.rest.now rest }
     {
         let count = self.size()?;
         let mut bits = Vec::new(alloc);
@@ -214,7 +214,7 @@ impl Reader<'_> {
 
     pub(crate) fn known_bits(&mut self, alloc: Global) -> Result<Vec<Option<bool>>, DecodeError>
         ensures read { IfOk result (λ v. CodableList CodableKnownBit v.items × (self.old.rest.now ≡ code_of_list code_of_known_bit v.items ++ self.new.rest.now)) }
-        ensures only { (xs : List (Option Bool)) (rest : List ℕ) → CodableList CodableKnownBit xs → self.old.rest.now ≡ code_of_list code_of_known_bit xs ++ rest → Gives result (λ v. v.items ≡ xs) self.new.rest.now rest }
+        ensures only { (xs : List (Option Bool)) (rest : List ℕ) → CodableList CodableKnownBit xs → self.old.rest.now ≡ code_of_list code_of_known_bit xs ++ rest → Decodes result (λ v. v.items ≡ xs) self.new.rest.now rest }
     {
         let count = self.size()?;
         let mut known_bits = Vec::new(alloc);

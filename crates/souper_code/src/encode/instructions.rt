@@ -1,7 +1,7 @@
 //! Instructions.
 
 ghost use Rattle.std.specs.Prelude.{◌≡◌, ◌++◌, OnOk};
-ghost use Rattle.souper_code.specs.Numbers.{number_of};
+ghost use Rattle.souper_code.specs.Numbers.{instruction_number};
 ghost use Rattle.souper_code.specs.Codes.{code_of_instruction};
 
 use crate::encode::leaves::encode_operands;
@@ -9,8 +9,8 @@ use souper_graph::ast::Instruction;
 use std::alloc::AllocError;
 
 // The number of an instruction in the code.
-fn number_of(instruction: &Instruction) -> u8
-    ensures { result ≡ number_of instruction.now }
+fn instruction_number(instruction: &Instruction) -> u8
+    ensures { result ≡ instruction_number instruction.now }
 {
     match instruction {
         Instruction::Add { .. } => 0,
@@ -81,6 +81,6 @@ pub(crate) fn encode_instruction(
 ) -> Result<(), AllocError>
     ensures { OnOk result (out.new.items ≡ out.old.items ++ code_of_instruction instruction.now) }
 {
-    out.push(number_of(instruction))?;
+    out.push(instruction_number(instruction))?;
     encode_operands(&instruction.operands(), out)
 }

@@ -10,7 +10,7 @@ use Rattle.souper_graph.specs.Syntax.Spelling.{kinds, Scope, infer_spells, State
 use Rattle.souper_ir.specs.Continuation.{ending_continues, item_continues}
 use Rattle.souper_ir.specs.Parsing.{Cause, Parsing}
 use Rattle.souper_ir.specs.Reading.{cause_of, IfRefused, if_refused, IsRead, Fails, fails_later}
-use Rattle.souper_ir.specs.Grammar.{Free, Stops, Starts, Took, NoFrontOf, LastGoesOn, Refusal, peek_at}
+use Rattle.souper_ir.specs.Grammar.{Free, NextStops, Starts, Took, NoFrontOf, LastGoesOn, Refusal, peek_at}
 use Rattle.souper_ir.specs.Laws.Unique.{Free-weaker}
 use Rattle.souper_ir.specs.Laws.Peeks.{peeked, peeked_yes, peeked_no, unread}
 use Rattle.souper_ir.specs.Laws.Steps.{kinds-append}
@@ -72,7 +72,7 @@ list_free : (k : ItemType) (v : Item) (ws : List Item) (ts : List Lexeme) → li
 list_free k v [] ts m = subst (λ (x : List Lexeme). Free (item_continues v) x) (sym m) tt
 list_free k v (w ∷ ws) ts m = subst (λ (x : List Lexeme). Free (item_continues v) x) (sym m.whole) (starts_free v (m.prefix ++ m.suffix) (starts_ahead begins_line m.prefix m.suffix (item_begins k w m.prefix m.first)))
 
-free_stops : (v : Item) (ts : List Lexeme) → Free (item_continues v) ts → Stops (item_continues v) false ts
+free_stops : (v : Item) (ts : List Lexeme) → Free (item_continues v) ts → NextStops (item_continues v) false ts
 free_stops v [] h = refl
 free_stops v (t ∷ ts) h = h
 
@@ -157,7 +157,7 @@ item_shorter k vs v p q r so took =
 
 -- ---- the end of the loop
 
-none_left : (faulty : Bool) (ts : List (ℕ × Lexeme)) → Stops (λ t. is_any t ≡ true) faulty (kinds ts) → (ts ≡ []) × (faulty ≡ false)
+none_left : (faulty : Bool) (ts : List (ℕ × Lexeme)) → NextStops (λ t. is_any t ≡ true) faulty (kinds ts) → (ts ≡ []) × (faulty ≡ false)
 none_left faulty [] h = (refl, h)
 none_left faulty (t ∷ ts) h = absurd (h refl)
 

@@ -12,7 +12,7 @@ use Rattle.souper_ir.specs.Laws.Attributed.{Row, OneMore}
 use Rattle.souper_ir.specs.Laws.Peeks.{Answers, peeked, answered}
 use Rattle.souper_ir.specs.Laws.Tokens.{is_mark_means}
 use Rattle.souper_ir.specs.NextStatement.{next_at}
-use Rattle.souper_ir.specs.NodeReadings.{accept, mark_of, is_mark, is_name, optional_type_at, type_and_equals_at, operand_by, operand_at}
+use Rattle.souper_ir.specs.NodeReadings.{accept, as_mark, is_mark, is_name, optional_type_at, type_and_equals_at, operand_by, operand_at}
 use Rattle.souper_ir.specs.Parsing.{Parsing}
 use Rattle.souper_ir.specs.Reading.{Gives, IsRead}
 use Rattle.souper_ir.proofs.Nodes.Taken.{tested}
@@ -29,7 +29,7 @@ equals_for_type p h =
     let s = peeked (is_mark equals) p p true h in
     rw (answered (is_mark colon) p false s.1 (no_colon p.faulty p.tokens s.2)) refl
 
-pub equals_read : (p q : Parsing) → IsRead (accept (mark_of equals) p) tt p q → IsRead (peek_at (is_mark equals) p) true p p → IsRead (type_and_equals_at p) None p q
+pub equals_read : (p q : Parsing) → IsRead (accept (as_mark equals) p) tt p q → IsRead (peek_at (is_mark equals) p) true p p → IsRead (type_and_equals_at p) None p q
 unfolding type_and_equals_at
 equals_read p q h seen = (rw (equals_for_type p seen.0, h.0) refl, h.1, h.2, h.3)
 

@@ -7,7 +7,7 @@ use Rattle.souper_ir.specs.Parsing.{Cause, Parsing}
 use Rattle.souper_graph.specs.Syntax.Tokens.{Lexeme}
 use Rattle.souper_graph.specs.Syntax.Spelling.{kinds, Scope}
 use Rattle.souper_ir.specs.Reading.{cause_of, IfRefused, if_refused, Fails, fails_later, FailsForMemory, IsRead}
-use Rattle.souper_ir.specs.Grammar.{Free, Stops, Starts, Took, NoFront, NoFrontOf, Stuck, Refusal, peek_at, Members, LastGoesOn, ListGoesOn}
+use Rattle.souper_ir.specs.Grammar.{Free, NextStops, Starts, Took, NoFront, NoFrontOf, Stuck, Refusal, peek_at, Members, LastGoesOn, ListGoesOn}
 use Rattle.souper_ir.specs.Laws.Unique as unique
 use Rattle.souper_ir.specs.Laws.Peeks.{peeked, peeked_yes, peeked_no, unread}
 
@@ -107,7 +107,7 @@ module _ {V : Type 0} (spells : Scope → V → List Lexeme → Type 0) (continu
   -- ---- refusals
 
   nothing_at : (s : Scope) (faulty : Bool) (ws : List V) (c d : List Lexeme) → ((c ≡ []) × (faulty ≡ true)) ⊎ (Starts starts c × NoFrontOf (spells s) continues faulty c)
-      → Members (spells s) continues ws [] → c ≡ d → Stops (λ t. ListGoesOn continues starts ws t) faulty d → ⊥
+      → Members (spells s) continues ws [] → c ≡ d → NextStops (λ t. ListGoesOn continues starts ws t) faulty d → ⊥
   nothing_at s faulty ws (t ∷ c) [] k m e st = absurd cc
   nothing_at s faulty ws [] (t ∷ d) k m e st = absurd cc
   nothing_at s faulty ws [] [] (inl k) m e st = let no : true ≡ false = sym k.1 ∙ st in absurd cc
@@ -118,7 +118,7 @@ module _ {V : Type 0} (spells : Scope → V → List Lexeme → Type 0) (continu
   -- no list is spelled if the members end stuck
   no_list : (s : Scope) (faulty : Bool) (vs ws : List V) (a c b d : List Lexeme) → a ++ c ≡ b ++ d → Members (spells s) continues vs a → Free (λ t. LastGoesOn continues vs t) c
       → ((c ≡ []) × (faulty ≡ true)) ⊎ (Starts starts c × NoFrontOf (spells s) continues faulty c)
-      → Members (spells s) continues ws b → Stops (λ t. ListGoesOn continues starts ws t) faulty d → ⊥
+      → Members (spells s) continues ws b → NextStops (λ t. ListGoesOn continues starts ws t) faulty d → ⊥
   no_list s faulty [] [] a c b d e m f k n st =
       nothing_at s faulty [] c d k refl (ap (λ (x : List Lexeme). x ++ c) (sym m) ∙ e ∙ ap (λ (x : List Lexeme). x ++ d) n) st
   no_list s faulty [] (w ∷ ws) a c b d e m f (inl k) n st =

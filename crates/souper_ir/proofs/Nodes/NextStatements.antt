@@ -9,32 +9,32 @@ use Rattle.souper_ir.specs.Parsing.{Parsing}
 use Rattle.souper_ir.specs.Reading.{look_in, look_at, IsRead}
 use Rattle.souper_ir.specs.Grammar.{starts_next, peek_at}
 use Rattle.souper_ir.specs.NodeReadings.{is_name, is_word, starts_statement}
-use Rattle.souper_ir.specs.NextStatement.{chosen, begins, next_at, Begins}
+use Rattle.souper_ir.specs.NextStatement.{next_statement_by, next_statement_of, next_at, NextIs}
 use Rattle.souper_ir.specs.Laws.Peeks.{some_is}
 use Rattle.souper_ir.specs.Laws.Steps.{bind_some}
 
 abbrev any_of : Bool → Bool → Bool → Bool
 any_of a b c = if a then true else (if b then true else c)
 
-is_pc : (a b c : Bool) → chosen a b c ≡ Pc → (a ≡ true) × (any_of a b c ≡ true)
+is_pc : (a b c : Bool) → next_statement_by a b c ≡ Pc → (a ≡ true) × (any_of a b c ≡ true)
 is_pc true b c e = (refl, refl)
 is_pc false true c e = absurd cc
 is_pc false false true e = absurd cc
 is_pc false false false e = absurd cc
 
-is_block_pc : (a b c : Bool) → chosen a b c ≡ BlockPc → (b ≡ true) × (any_of a b c ≡ true)
+is_block_pc : (a b c : Bool) → next_statement_by a b c ≡ BlockPc → (b ≡ true) × (any_of a b c ≡ true)
 is_block_pc true b c e = absurd cc
 is_block_pc false true c e = (refl, refl)
 is_block_pc false false true e = absurd cc
 is_block_pc false false false e = absurd cc
 
-is_assignment : (a b c : Bool) → chosen a b c ≡ Assignment → (a ≡ false) × (b ≡ false) × (any_of a b c ≡ true)
+is_assignment : (a b c : Bool) → next_statement_by a b c ≡ Assignment → (a ≡ false) × (b ≡ false) × (any_of a b c ≡ true)
 is_assignment true b c e = absurd cc
 is_assignment false true c e = absurd cc
 is_assignment false false true e = (refl, refl, refl)
 is_assignment false false false e = absurd cc
 
-is_other : (a b c : Bool) → chosen a b c ≡ Other → any_of a b c ≡ false
+is_other : (a b c : Bool) → next_statement_by a b c ≡ Other → any_of a b c ≡ false
 is_other true b c e = absurd cc
 is_other false true c e = absurd cc
 is_other false false true e = absurd cc
@@ -64,17 +64,17 @@ starts_are (Some close_paren) = refl
 starts_are (Some open_bracket) = refl
 
 -- what each token that begins this is, the next one is
-seen : (starts : Lexeme → Bool) (b : Bool) (n : Next) (p q : Parsing) → ((t : Option Lexeme) → begins t ≡ n → starts_next starts t ≡ b) → IsRead (next_at p) n p q → IsRead (peek_at starts p) b p q
+seen : (starts : Lexeme → Bool) (b : Bool) (n : Next) (p q : Parsing) → ((t : Option Lexeme) → next_statement_of t ≡ n → starts_next starts t ≡ b) → IsRead (next_at p) n p q → IsRead (peek_at starts p) b p q
 unfolding next_at peek_at
 seen starts b n p q is h =
-    let s = bind_some (look_at p) (λ t. Some (begins t.0, t.1)) (n, q) h.0 in
-    let same : ◌≡◌ {A = Next × Parsing} (begins s.0.0, s.0.1) (n, q) = some_is s.2 in
+    let s = bind_some (look_at p) (λ t. Some (next_statement_of t.0, t.1)) (n, q) h.0 in
+    let same : ◌≡◌ {A = Next × Parsing} (next_statement_of s.0.0, s.0.1) (n, q) = some_is s.2 in
     let told : starts_next starts s.0.0 ≡ b = is s.0.0 (ap (λ (x : Next × Parsing). x.0) same) in
     let behind : s.0.1 ≡ q = ap (λ (x : Next × Parsing). x.1) same in
     (rw (s.1, told, behind) refl, h.1, h.2, h.3)
 
 abbrev nexts : Option (Option Lexeme × Parsing) → Option (Next × Parsing)
-nexts o = o >>= λ t. Some (begins t.0, t.1)
+nexts o = o >>= λ t. Some (next_statement_of t.0, t.1)
 
 abbrev peeks : (Lexeme → Bool) → Option (Option Lexeme × Parsing) → Option (Bool × Parsing)
 peeks starts o = o >>= λ t. Some (starts_next starts t.0, t.1)
@@ -105,7 +105,7 @@ IsStatement BlockPc = Unit {0}
 IsStatement Assignment = Unit {0}
 IsStatement Other = ⊥
 
-begun : (n : Next) (t : Option Lexeme) → IsStatement n → begins t ≡ n → starts_next starts_statement t ≡ true
+begun : (n : Next) (t : Option Lexeme) → IsStatement n → next_statement_of t ≡ n → starts_next starts_statement t ≡ true
 unfolding one_of
 begun Pc t h e = starts_are t ∙ (is_pc _ _ _ e).1
 begun BlockPc t h e = starts_are t ∙ (is_block_pc _ _ _ e).1
@@ -123,11 +123,11 @@ no_statement_seen p q h = seen starts_statement false Other p q (λ t e. starts_
 next_stays : (p q : Parsing) (n : Next) → next_at p ≡ Some (n, q) → p ≡ q
 unfolding next_at look_at
 next_stays p q n e =
-    let s = bind_some (look_in p.failed p.faulty p.tokens >>= λ t. Some (t, p)) (λ t. Some (begins t.0, t.1)) (n, q) e in
+    let s = bind_some (look_in p.failed p.faulty p.tokens >>= λ t. Some (t, p)) (λ t. Some (next_statement_of t.0, t.1)) (n, q) e in
     let l = bind_some (look_in p.failed p.faulty p.tokens) (λ t. Some (t, p)) s.0 s.1 in
     let looked : ◌≡◌ {A = Option Lexeme × Parsing} (l.0, p) s.0 = some_is l.2 in
-    let same : ◌≡◌ {A = Next × Parsing} (begins s.0.0, s.0.1) (n, q) = some_is s.2 in
+    let same : ◌≡◌ {A = Next × Parsing} (next_statement_of s.0.0, s.0.1) (n, q) = some_is s.2 in
     ap (λ (x : Option Lexeme × Parsing). x.1) looked ∙ ap (λ (x : Next × Parsing). x.1) same
 
-pub begins_here : (n : Next) (p q : Parsing) → IsRead (next_at p) n p q → Begins n q
+pub begins_here : (n : Next) (p q : Parsing) → IsRead (next_at p) n p q → NextIs n q
 begins_here n p q h = subst (λ (x : Parsing). IsRead (next_at x) n x q) (next_stays p q n h.0) h

@@ -8,9 +8,9 @@ use Rattle.souper_ir.specs.declared.parse.words.Opcode.{Opcode}
 use Rattle.souper_ir.specs.Words.{Shape, no_operand, one_operand, two_operands, three_operands, count_of_shape, shape_of, operand_count, instruction_by}
 use Rattle.souper_ir.specs.Parsing.{Parsing}
 use Rattle.souper_graph.specs.Syntax.Optional.{◌>>=◌}
-use Rattle.souper_ir.specs.NodeReadings.{accept, mark_of, operand_at, next_operand_at, further_at, operands_at, instruction_of_at}
+use Rattle.souper_ir.specs.NodeReadings.{accept, as_mark, operand_at, next_operand_at, further_at, operands_at, instruction_of_at}
 use Rattle.souper_ir.specs.Reading.{cause_of, IfRefused, if_refused, Fails, fails_later}
-use Rattle.souper_ir.specs.Laws.Steps.{bind_some, moved}
+use Rattle.souper_ir.specs.Laws.Steps.{bind_some, holds_of_same}
 
 bind_assoc : {A B C : Type 0} (o : Option A) (f : A → Option B) (g : B → Option C) → (o >>= λ x. f x >>= g) ≡ ((o >>= f) >>= g)
 bind_assoc (Some x) f g = refl
@@ -22,7 +22,7 @@ then_further k x = further_at k x.1 >>= λ xs. Some (x.0 ∷ xs.0, xs.1)
 
 further_next : (k : ℕ) (p : Parsing) → further_at (suc k) p ≡ (next_operand_at p >>= then_further k)
 unfolding next_operand_at
-further_next k p = bind_assoc (accept (mark_of comma) p) (λ c. operand_at c.1) (then_further k)
+further_next k p = bind_assoc (accept (as_mark comma) p) (λ c. operand_at c.1) (then_further k)
 
 -- what the operand that is read first, and those that are read after it, make together
 further_by : (k : ℕ) (p y q : Parsing) (x : Operand) (xs : List Operand) → next_operand_at p ≡ Some (x, y) → further_at k y ≡ Some (xs, q) → further_at (suc k) p ≡ Some (x ∷ xs, q)
@@ -39,12 +39,12 @@ operands_none_by k p y x d e = rw (d, e) refl
 
 further_more_suc : (n : ℕ) (p q r : Parsing) (xs : List Operand) (x : Operand) → further_at n p ≡ Some (xs, q) → next_operand_at q ≡ Some (x, r) → further_at (suc n) p ≡ Some (xs ++ x ∷ [], r)
 further_more_suc zero p q r xs x d e =
-    moved (λ (y : List Operand × Parsing). next_operand_at y.1 ≡ Some (x, r) → further_at (suc zero) p ≡ Some (y.0 ++ x ∷ [], r)) ([], p) (xs, q) d
+    holds_of_same (λ (y : List Operand × Parsing). next_operand_at y.1 ≡ Some (x, r) → further_at (suc zero) p ≡ Some (y.0 ++ x ∷ [], r)) ([], p) (xs, q) d
     (λ e. further_next zero p ∙ rw e refl) e
 further_more_suc (suc k) p q r xs x d e =
     let y = bind_some (next_operand_at p) (then_further k) (xs, q) (sym (further_next k p) ∙ d) in
     let ys = bind_some (further_at k y.0.1) (λ ys. Some (y.0.0 ∷ ys.0, ys.1)) (xs, q) y.2 in
-    moved (λ (z : List Operand × Parsing). next_operand_at z.1 ≡ Some (x, r) → further_at (suc (suc k)) p ≡ Some (z.0 ++ x ∷ [], r)) (y.0.0 ∷ ys.0.0, ys.0.1) (xs, q) ys.2
+    holds_of_same (λ (z : List Operand × Parsing). next_operand_at z.1 ≡ Some (x, r) → further_at (suc (suc k)) p ≡ Some (z.0 ++ x ∷ [], r)) (y.0.0 ∷ ys.0.0, ys.0.1) (xs, q) ys.2
     (λ e. further_by (suc k) p y.0.1 r y.0.0 (ys.0.0 ++ x ∷ []) y.1 (further_more_suc k y.0.1 ys.0.1 r ys.0.0 x ys.1 e)) e
 
 pub further_more : (n : ℕ) (p q r : Parsing) (xs : List Operand) (x : Operand) → further_at n p ≡ Some (xs, q) → next_operand_at q ≡ Some (x, r) → further_at (n + 1) p ≡ Some (xs ++ x ∷ [], r)
@@ -53,11 +53,11 @@ further_more n p q r xs x d e = rw add-one (further_more_suc n p q r xs x d e)
 further_stuck : (n k : ℕ) (p q : Parsing) (xs : List Operand) → n < k → further_at n p ≡ Some (xs, q) → next_operand_at q ≡ None → further_at k p ≡ None
 further_stuck n zero p q xs l d e = absurd (omega arith)
 further_stuck zero (suc k) p q xs l d e =
-    moved (λ (y : List Operand × Parsing). next_operand_at y.1 ≡ None → further_at (suc k) p ≡ None) ([], p) (xs, q) d (λ e. further_next k p ∙ rw e refl) e
+    holds_of_same (λ (y : List Operand × Parsing). next_operand_at y.1 ≡ None → further_at (suc k) p ≡ None) ([], p) (xs, q) d (λ e. further_next k p ∙ rw e refl) e
 further_stuck (suc n) (suc k) p q xs l d e =
     let y = bind_some (next_operand_at p) (then_further n) (xs, q) (sym (further_next n p) ∙ d) in
     let ys = bind_some (further_at n y.0.1) (λ ys. Some (y.0.0 ∷ ys.0, ys.1)) (xs, q) y.2 in
-    moved (λ (z : List Operand × Parsing). next_operand_at z.1 ≡ None → further_at (suc k) p ≡ None) (y.0.0 ∷ ys.0.0, ys.0.1) (xs, q) ys.2
+    holds_of_same (λ (z : List Operand × Parsing). next_operand_at z.1 ≡ None → further_at (suc k) p ≡ None) (y.0.0 ∷ ys.0.0, ys.0.1) (xs, q) ys.2
     (λ e. further_none k p y.0.1 y.0.0 y.1 (further_stuck n k y.0.1 ys.0.1 ys.0.0 (omega arith) ys.1 e)) e
 
 -- ---- with commas between them
@@ -74,7 +74,7 @@ operands_more_suc zero p q r xs x l d e = absurd (omega arith)
 operands_more_suc (suc k) p q r xs x l d e =
     let y = bind_some (operand_at p) (then_further k) (xs, q) d in
     let ys = bind_some (further_at k y.0.1) (λ ys. Some (y.0.0 ∷ ys.0, ys.1)) (xs, q) y.2 in
-    moved (λ (z : List Operand × Parsing). next_operand_at z.1 ≡ Some (x, r) → operands_at (suc (suc k)) p ≡ Some (z.0 ++ x ∷ [], r)) (y.0.0 ∷ ys.0.0, ys.0.1) (xs, q) ys.2
+    holds_of_same (λ (z : List Operand × Parsing). next_operand_at z.1 ≡ Some (x, r) → operands_at (suc (suc k)) p ≡ Some (z.0 ++ x ∷ [], r)) (y.0.0 ∷ ys.0.0, ys.0.1) (xs, q) ys.2
     (λ e. operands_by (suc k) p y.0.1 r y.0.0 (ys.0.0 ++ x ∷ []) y.1 (further_more_suc k y.0.1 ys.0.1 r ys.0.0 x ys.1 e)) e
 
 pub operands_more : (n : ℕ) (p q r : Parsing) (xs : List Operand) (x : Operand) → 0 < n → operands_at n p ≡ Some (xs, q) → next_operand_at q ≡ Some (x, r) → operands_at (n + 1) p ≡ Some (xs ++ x ∷ [], r)
@@ -86,7 +86,7 @@ operands_stuck (suc n) zero p q xs l m d e = absurd (omega arith)
 operands_stuck (suc n) (suc k) p q xs l m d e =
     let y = bind_some (operand_at p) (then_further n) (xs, q) d in
     let ys = bind_some (further_at n y.0.1) (λ ys. Some (y.0.0 ∷ ys.0, ys.1)) (xs, q) y.2 in
-    moved (λ (z : List Operand × Parsing). next_operand_at z.1 ≡ None → operands_at (suc k) p ≡ None) (y.0.0 ∷ ys.0.0, ys.0.1) (xs, q) ys.2
+    holds_of_same (λ (z : List Operand × Parsing). next_operand_at z.1 ≡ None → operands_at (suc k) p ≡ None) (y.0.0 ∷ ys.0.0, ys.0.1) (xs, q) ys.2
     (λ e. operands_none_by k p y.0.1 y.0.0 y.1 (further_stuck n k y.0.1 ys.0.1 ys.0.0 (omega arith) ys.1 e)) e
 
 -- ---- an instruction of its operands

@@ -12,7 +12,7 @@ use Rattle.souper_graph.specs.Syntax.Tokens.{Lexeme}
 use Rattle.souper_graph.specs.Syntax.Spelling.{kinds, attribute_spells, assignment_spells, pc_spells, block_pc_spells, statement_spells}
 use Rattle.souper_ir.specs.Continuation.{assignment_continues, pc_continues, block_pc_continues, statement_continues}
 use Rattle.souper_ir.specs.Reading.{cause_of, IfRefused, if_refused, Fails, fails_later, IsRead}
-use Rattle.souper_ir.specs.Grammar.{Stops, Starts, Took, NoFront, Refusal, peek_at}
+use Rattle.souper_ir.specs.Grammar.{NextStops, Starts, Took, NoFront, Refusal, peek_at}
 use Rattle.souper_ir.specs.Laws.Unique.{clash_at}
 use Rattle.souper_ir.specs.Laws.Peeks.{peeked, peeked_yes, peeked_no, none_if_unread}
 use Rattle.souper_ir.specs.NodeReadings.{is_name, is_word, rhs_at, Definition, heading_at, definition_at, pc_at, block_pc_at}
@@ -115,7 +115,7 @@ attributes_refused e d p k q r h v f =
 pub passed : (P : Parsing → Type 0) (k : List ℕ) (p q : Parsing) → IsRead (peek_at (is_word k) p) false p q → P q → P p
 passed P k p q h x = subst P (peeked (is_word k) p q false h.0).0 x
 
-other_none : (p : Parsing) → Stops (λ t. is_word (codes "pc") t ≡ true) p.faulty (kinds p.tokens) → Stops (λ t. is_word (codes "blockpc") t ≡ true) p.faulty (kinds p.tokens)
+other_none : (p : Parsing) → NextStops (λ t. is_word (codes "pc") t ≡ true) p.faulty (kinds p.tokens) → NextStops (λ t. is_word (codes "blockpc") t ≡ true) p.faulty (kinds p.tokens)
     → NoFront assignment_spells assignment_continues p → NoFront statement_spells statement_continues p
 other_none p no_pc no_block_pc none (assigned a) front rest e s stops = none a front rest e s stops
 other_none p no_pc no_block_pc none (condition v) front rest e s stops = clash_at (is_word (codes "pc")) p.faulty front (kinds p.tokens) rest (pc_first p.scope v front s) e no_pc

@@ -17,10 +17,10 @@ use Rattle.souper_ir.specs.Parsing.{Parsing}
 use Rattle.souper_ir.specs.Reading.{IsRead, look_at, take_at}
 use Rattle.souper_ir.specs.Grammar.{Comes, peek_at}
 use Rattle.souper_ir.specs.MarkView.{lexeme_of_mark}
-use Rattle.souper_ir.specs.NodeReadings.{accept, mark_of}
+use Rattle.souper_ir.specs.NodeReadings.{accept, as_mark}
 use Rattle.souper_ir.proofs.Nodes.Options.{none_is}
 
-pub mark_itself : (m : Mark) → mark_of (lexeme_of_mark m) (lexeme_of_mark m) ≡ Some tt
+pub mark_itself : (m : Mark) → as_mark (lexeme_of_mark m) (lexeme_of_mark m) ≡ Some tt
 mark_itself Comma = refl
 mark_itself Colon = refl
 mark_itself Equals = refl

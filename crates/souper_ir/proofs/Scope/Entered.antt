@@ -13,7 +13,7 @@ use Rattle.souper_graph.specs.Syntax.Spelling.{Scope, predecessors_if_block, ent
 use Rattle.souper_ir.specs.declared.parse.parser.Failure.{Failure}
 use Rattle.souper_ir.specs.FailureView.{cause_of_failure}
 use Rattle.souper_ir.specs.Laws.Peeks.{some_is}
-use Rattle.souper_ir.specs.NamesView.{NameMap, entry_in, entry_in_map, AddsToMap, Adds, AreEntered, defines, is_named, entry_in_scope}
+use Rattle.souper_ir.specs.NamesView.{NameMap, entry_in, entry_in_map, AddsToMap, Adds, AreEntered, defines_name, is_named, entry_in_scope}
 use Rattle.souper_ir.specs.declared.parse.names.Names.{Names}
 use Rattle.souper_ir.specs.TableView.{NameEntry, or_else, last_entry}
 use Rattle.souper_ir.specs.NodeReadings.{new_name_at}
@@ -63,7 +63,7 @@ Stands s i n = (a : PlainAssignment) × (slice_get s i ≡ Some (assigned a)) ×
 stands : (s : Scope) (i : ℕ) (n : List ℕ) → is_named s i n ≡ true → Stands s i n
 stands s i n h = by_statement (slice_get s i) refl h
   where
-    by_statement : (o : Option PlainStatement) → slice_get s i ≡ o → defines o n ≡ true → Stands s i n
+    by_statement : (o : Option PlainStatement) → slice_get s i ≡ o → defines_name o n ≡ true → Stands s i n
     by_statement (Some (assigned a)) e d = (a, e, (bytes_eq-Decides a.name n).0 d)
     by_statement (Some (condition p)) e d = absurd cc
     by_statement (Some (block_condition p)) e d = absurd cc

@@ -4,7 +4,7 @@ use Rattle.std.specs.Prelude.{◌==◌, Bool, true, false, ◌≤◌}
 use Rattle.std.specs.Char.{is_ascii_whitespace}
 use Rattle.std.proofs.lemmas.List.{get_or-append_right}
 use Rattle.std.proofs.lemmas.List.Sums.{sum_by-append, count_by-le-length}
-use Rattle.souper_ir.specs.Places.{EndsIn, newlines, IsFault, IsLineFrom, IsPlace}
+use Rattle.souper_ir.specs.Places.{EndsIn, newlines, AtFault, IsLineFrom, IsPlace}
 use Rattle.souper_ir.specs.Joining.{IsLines}
 
 newlines-append : (xs ys : List ℕ) → newlines (xs ++ ys) ≡ newlines xs + newlines ys
@@ -77,7 +77,7 @@ place_next {source} {rest} {text} {offset} {number} {start} {line} {column} f h 
     (subst (λ (n : ℕ). IsPlace (f.front ++ rest) n (line + newlines f.front) column text) to placed))
 
 -- where a source is at fault, it is after other lines too
-pub fault_after : (before source : List ℕ) (offset : ℕ) (at_end : Bool) (at : ℕ) → IsFault source offset at_end at → IsFault (before ++ source) (length before + offset) at_end (length before + at)
+pub fault_after : (before source : List ℕ) (offset : ℕ) (at_end : Bool) (at : ℕ) → AtFault source offset at_end at → AtFault (before ++ source) (length before + offset) at_end (length before + at)
 fault_after before source offset false at h = ap (λ (n : ℕ). length before + n) h
 fault_after before source offset true at h =
     let long = length-append before source in
@@ -87,6 +87,6 @@ fault_after before source offset true at h =
     )
 
 -- the offset of a location is within its source
-pub fault_within : (source : List ℕ) (offset : ℕ) (at_end : Bool) (at : ℕ) → IsFault source offset at_end at → offset ≤ length source → at ≤ length source
+pub fault_within : (source : List ℕ) (offset : ℕ) (at_end : Bool) (at : ℕ) → AtFault source offset at_end at → offset ≤ length source → at ≤ length source
 fault_within source offset false at h within = omega (arith, h, within)
 fault_within source offset true at h within = h.0

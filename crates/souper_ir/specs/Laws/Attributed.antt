@@ -10,7 +10,7 @@ use Rattle.souper_ir.specs.Grammar.{Free, Starts, Members, ListGoesOn, Took, Ref
 use Rattle.souper_ir.specs.Laws.Unique.{Alone, list_alone}
 use Rattle.souper_ir.specs.NodeReadings.{is_mark}
 use Rattle.souper_ir.specs.Laws.Tokens.{is_mark_means}
-use Rattle.souper_ir.specs.Laws.Attributes.{one_more, more_if_open}
+use Rattle.souper_ir.specs.Laws.Attributes.{goes_on_by_paren, more_if_open}
 use Rattle.souper_ir.specs.Laws.Sequence.{Split, both_alone, refused_first, refused_second, both_taken, respelled_taken, respelled_refused}
 
 -- attributes in sequence, and the token that begins one more
@@ -70,7 +70,7 @@ module _ {A X C : Type 0} (spells_a : Scope → A → List Lexeme → Type 0) (g
   Parts s c ts = Split spells_a goes_on_a (Row spells_x) s (a_of c) (xs_of c) ts
 
   last : (c : C) (t : Lexeme) → OneMore (xs_of c) t → attributes_continue (goes_on_a (a_of c) t) (xs_of c) t
-  last c t h = attributes_open (goes_on_a (a_of c) t) (xs_of c) t (one_more (xs_of c) t h)
+  last c t h = attributes_open (goes_on_a (a_of c) t) (xs_of c) t (goes_on_by_paren (xs_of c) t h)
 
   over : (s : Scope) (c : C) (t : Lexeme) → Row spells_x s (xs_of c) [] → goes_on_a (a_of c) t → attributes_continue (goes_on_a (a_of c) t) (xs_of c) t
   over s c t m h = attributes_before spells_x first_x (goes_on_a (a_of c) t) (xs_of c) t m h

@@ -10,12 +10,12 @@ use Rattle.souper_graph.specs.Syntax.Optional.{◌>>=◌}
 use Rattle.souper_ir.specs.declared.parse.attributes.RootKind.{RootKind}
 use Rattle.souper_ir.specs.declared.parse.attributes.RootKind.TheVariants.{DemandedBits, HarvestedFromUse}
 use Rattle.souper_ir.specs.Grammar.{Free, Starts, Followed, Members, LastGoesOn, ListGoesOn}
-use Rattle.souper_ir.specs.NodeReadings.{accept, mark_of, is_mark, ident_by, AttributeKind, plain_kind, bits_kind, sign_bits_kind, range_kind, attribute_kind_of_word, attribute_kind_of, attribute_by, attribute_at, root_kind_of_word, root_attribute_by, root_attribute_at}
+use Rattle.souper_ir.specs.NodeReadings.{accept, as_mark, is_mark, ident_by, AttributeKind, plain_kind, bits_kind, sign_bits_kind, range_kind, attribute_kind_of_word, attribute_kind_of, attribute_by, attribute_at, root_kind_of_word, root_attribute_by, root_attribute_at}
 use Rattle.souper_ir.specs.Laws.Unique.{never}
 use Rattle.souper_ir.specs.Laws.Peeks.{some_is}
 use Rattle.souper_ir.specs.Laws.Steps.{bind_some}
 use Rattle.souper_ir.specs.Laws.Tokens.{is_mark_means, by_word, ident_means}
-use Rattle.souper_ir.specs.Laws.Combinators.{Ends, Form, Reading, Rule, Ruled, ruled, Node, From, respelled, both, and_then, done, found, given, one, mark, next, after, next_word, number}
+use Rattle.souper_ir.specs.Laws.Combinators.{Ends, Form, ReadingOf, Rule, Ruled, ruled, Node, From, respelled, both, and_then, done, found, given, one, mark, next, after, next_word, number}
 use Rattle.souper_ir.specs.Laws.FromReadings.{Complete}
 
 -- ---- bit lists
@@ -132,8 +132,8 @@ pub record Enclosed {K V : Type 0} (kind_of : Lexeme → Option K) (G : K → Fo
   pub is : kind_of token ≡ Some kind
   pub inner : G kind ends s v body (close_paren ∷ rest)
 
-enclosed : {K V : Type 0} {G : K → Form V} {f : K → Reading V} (kind_of : Lexeme → Option K) → ((k : K) → Rule (G k) (f k))
-    → Rule (Enclosed kind_of G) (λ p. accept (mark_of open_paren) p >>= λ o. (accept kind_of o.1 >>= λ k. (f k.0 k.1 >>= λ a. (accept (mark_of close_paren) a.1 >>= λ c. Some (a.0, c.1)))))
+enclosed : {K V : Type 0} {G : K → Form V} {f : K → ReadingOf V} (kind_of : Lexeme → Option K) → ((k : K) → Rule (G k) (f k))
+    → Rule (Enclosed kind_of G) (λ p. accept (as_mark open_paren) p >>= λ o. (accept kind_of o.1 >>= λ k. (f k.0 k.1 >>= λ a. (accept (as_mark close_paren) a.1 >>= λ c. Some (a.0, c.1)))))
 enclosed {G = G} kind_of n = respelled (after (mark open_paren refl) (and_then (one kind_of) (λ k. and_then (n k) (λ a. after (mark close_paren refl) (done a)))))
     (λ s v ts rest h.
     let k = h.after in
@@ -264,9 +264,9 @@ last_ends [] t h = h
 last_ends (v ∷ []) t h = h
 last_ends (v ∷ (w ∷ vs)) t h = last_ends (w ∷ vs) t h
 
-pub one_more : {V : Type 0} (vs : List V) (t : Lexeme) → ListGoesOn (λ v t. ⊥) (is_mark open_paren) vs t → t ≡ open_paren
-one_more vs t (inl h) = is_mark_means open_paren t h
-one_more vs t (inr h) = absurd (last_ends vs t h)
+pub goes_on_by_paren : {V : Type 0} (vs : List V) (t : Lexeme) → ListGoesOn (λ v t. ⊥) (is_mark open_paren) vs t → t ≡ open_paren
+goes_on_by_paren vs t (inl h) = is_mark_means open_paren t h
+goes_on_by_paren vs t (inr h) = absurd (last_ends vs t h)
 
 pub more_if_open : {V : Type 0} (vs : List V) (t : Lexeme) → t ≡ open_paren → ListGoesOn (λ v t. ⊥) (is_mark open_paren) vs t
 more_if_open vs t e = inl (ap (is_mark open_paren) e)

@@ -7,16 +7,16 @@ use Rattle.souper_graph.specs.Syntax.Tokens.{Lexeme, ident, val_name, int}
 use Rattle.souper_graph.specs.Syntax.Spelling.{kinds, Scope}
 use Rattle.souper_ir.specs.Parsing.{Cause, Parsing}
 use Rattle.souper_ir.specs.Reading.{take_in, take_at}
-use Rattle.souper_ir.specs.Grammar.{Free, Stops, Starts, peek_at}
-use Rattle.souper_ir.specs.NodeReadings.{accept, name_of, mark_of, word_of, int_by, ident_by}
+use Rattle.souper_ir.specs.Grammar.{Free, NextStops, Starts, peek_at}
+use Rattle.souper_ir.specs.NodeReadings.{accept, as_name, as_mark, as_word, int_by, ident_by}
 use Rattle.souper_ir.specs.Laws.Unique.{Free-from_Stops}
 use Rattle.souper_ir.specs.Laws.Peeks.{some_is, Answers, peeked, answered, peeked_yes, peeked_no}
-use Rattle.souper_ir.specs.Laws.Steps.{Takes, Takes-then, Takes-none, state_then, taken_ahead, At, bind_some, moved}
+use Rattle.souper_ir.specs.Laws.Steps.{TakesTokens, Takes-then, Takes-none, state_then, taken_ahead, At, bind_some, holds_of_same}
 use Rattle.souper_ir.specs.Laws.Tokens.{name_means, mark_means, word_means, word_of_is, int_means, ident_means}
 
 -- ---- rules
 
--- the condition on the tokens after a node that some tokens continue: a reading ensures `Free`, and requires `Stops`
+-- the condition on the tokens after a node that some tokens continue: a reading ensures `Free`, and requires `NextStops`
 abbrev pub Ends : Type 1
 Ends = (Lexeme → Type 0) → List Lexeme → Type 0
 
@@ -24,27 +24,27 @@ Ends = (Lexeme → Type 0) → List Lexeme → Type 0
 abbrev pub Form : Type 0 → Type 1
 Form V = Ends → Scope → V → List Lexeme → List Lexeme → Type 0
 
-abbrev pub Reading : Type 0 → Type 0
-Reading V = Parsing → Option (V × Parsing)
+abbrev pub ReadingOf : Type 0 → Type 0
+ReadingOf V = Parsing → Option (V × Parsing)
 
 -- the value is read, and these tokens remain
-pub record Reads {V : Type 0} (read : Reading V) (v : V) (p : Parsing) (rest : List Lexeme) : Type 0 where
+pub record ReadsValue {V : Type 0} (read : ReadingOf V) (v : V) (p : Parsing) (rest : List Lexeme) : Type 0 where
   pub next : Parsing
   pub is_read : read p ≡ Some (v, next)
   pub ahead : At next rest
   pub state : next ≡ record p { tokens = next.tokens }
 
 -- a value is read if and only if it has the form
-pub record Rule {V : Type 0} (form : Form V) (read : Reading V) : Type 0 where
-  pub sound : (p q : Parsing) (v : V) → p.failed ≡ None → read p ≡ Some (v, q) → (used : List Lexeme) × Takes p q used × form Free p.scope v used (kinds q.tokens)
-  pub complete : (p : Parsing) (v : V) (front rest : List Lexeme) → At p (front ++ rest) → form (λ goes_on. Stops goes_on p.faulty) p.scope v front rest → Reads read v p rest
+pub record Rule {V : Type 0} (form : Form V) (read : ReadingOf V) : Type 0 where
+  pub sound : (p q : Parsing) (v : V) → p.failed ≡ None → read p ≡ Some (v, q) → (used : List Lexeme) × TakesTokens p q used × form Free p.scope v used (kinds q.tokens)
+  pub complete : (p : Parsing) (v : V) (front rest : List Lexeme) → At p (front ++ rest) → form (λ goes_on. NextStops goes_on p.faulty) p.scope v front rest → ReadsValue read v p rest
 
 -- a reading with its form and rule
-pub record Ruled {V : Type 0} (read : Reading V) : Type 1 where
+pub record Ruled {V : Type 0} (read : ReadingOf V) : Type 1 where
   pub form : Form V
   pub rule : Rule form read
 
-abbrev pub ruled : {V : Type 0} {F : Form V} {r : Reading V} → Rule F r → Ruled r
+abbrev pub ruled : {V : Type 0} {F : Form V} {r : ReadingOf V} → Rule F r → Ruled r
 ruled {F = F} m = record { form = F; rule = m }
 
 -- the tokens spell the value, and those after them do not continue it
@@ -57,10 +57,10 @@ To {V} F G = (s : Scope) (v : V) (ts rest : List Lexeme) → F Free s v ts rest 
 
 -- a value that is to be read has the second form if it has the first
 abbrev pub From : {V : Type 0} → Form V → Form V → Type 0
-From {V} F G = (faulty : Bool) (s : Scope) (v : V) (ts rest : List Lexeme) → F (λ goes_on. Stops goes_on faulty) s v ts rest → G (λ goes_on. Stops goes_on faulty) s v ts rest
+From {V} F G = (faulty : Bool) (s : Scope) (v : V) (ts rest : List Lexeme) → F (λ goes_on. NextStops goes_on faulty) s v ts rest → G (λ goes_on. NextStops goes_on faulty) s v ts rest
 
 -- another way to state the form
-pub respelled : {V : Type 0} {F G : Form V} {r : Reading V} → Rule F r → To F G → From G F → Rule G r
+pub respelled : {V : Type 0} {F G : Form V} {r : ReadingOf V} → Rule F r → To F G → From G F → Rule G r
 respelled m to from = record {
   sound = λ p q v live e. let k = m.sound p q v live e in (k.0, k.1, to p.scope v k.0 (kinds q.tokens) k.2);
   complete = λ p v front rest at h. m.complete p v front rest at (from p.faulty p.scope v front rest h);
@@ -81,7 +81,7 @@ pub both : {A B : Type 0} {F : Form A} {G : A → Form B} {ends : Ends} {s : Sco
     → F ends s a x (y ++ rest) → G a ends s v y rest → Then F G ends s v (x ++ y) rest
 both a x y f g = record { value = a; prefix = x; suffix = y; whole = refl; first = f; second = g }
 
-pub and_then : {A B : Type 0} {F : Form A} {G : A → Form B} {r : Reading A} {f : A → Reading B} → Rule F r → ((a : A) → Rule (G a) (f a)) → Rule (Then F G) (λ p. r p >>= λ x. f x.0 x.1)
+pub and_then : {A B : Type 0} {F : Form A} {G : A → Form B} {r : ReadingOf A} {f : A → ReadingOf B} → Rule F r → ((a : A) → Rule (G a) (f a)) → Rule (Then F G) (λ p. r p >>= λ x. f x.0 x.1)
 and_then {F = F} {G = G} {r = r} {f = f} m n = record {
   sound = λ p q v live e.
       let x = bind_some (r p) (λ x. f x.0 x.1) (v, q) e in
@@ -101,7 +101,7 @@ and_then {F = F} {G = G} {r = r} {f = f} m n = record {
   complete = λ p v front rest at h.
       let ahead : At p (h.prefix ++ (h.suffix ++ rest)) = subst (At p) (ap (λ (x : List Lexeme). x ++ rest) h.whole ∙ append_assoc h.prefix h.suffix rest) at in
       let j = m.complete p h.value h.prefix (h.suffix ++ rest) ahead h.first in
-      let k = (n h.value).complete j.next v h.suffix rest j.ahead (subst (λ (x : Parsing). G h.value (λ goes_on. Stops goes_on x.faulty) x.scope v h.suffix rest) (sym j.state) h.second) in
+      let k = (n h.value).complete j.next v h.suffix rest j.ahead (subst (λ (x : Parsing). G h.value (λ goes_on. NextStops goes_on x.faulty) x.scope v h.suffix rest) (sym j.state) h.second) in
       record { next = k.next; is_read = rw (j.is_read, k.is_read) (refl {a = Some (v, k.next)}); ahead = k.ahead; state = state_then p j.next k.next j.state k.state };
 }
 
@@ -113,7 +113,7 @@ Done w = λ ends s v ts rest. (v ≡ w) × (ts ≡ [])
 
 pub done : {V : Type 0} (w : V) → Rule (Done w) (λ p. Some (w, p))
 done {V} w = record {
-  sound = λ p q v live e. moved (λ (x : V × Parsing). (used : List Lexeme) × Takes p x.1 used × ((x.0 ≡ w) × (used ≡ []))) (w, p) (v, q) e ([], Takes-none p, (refl, refl));
+  sound = λ p q v live e. holds_of_same (λ (x : V × Parsing). (used : List Lexeme) × TakesTokens p x.1 used × ((x.0 ≡ w) × (used ≡ []))) (w, p) (v, q) e ([], Takes-none p, (refl, refl));
   complete = λ p v front rest at h. record { next = p; is_read = ap (λ (x : V). Some (x, p)) (sym h.0); ahead = subst (λ (x : List Lexeme). At p (x ++ rest)) h.1 at; state = refl };
 }
 
@@ -130,7 +130,7 @@ pub record Given {A B : Type 0} (o : Scope → Option A) (G : A → Form B) (end
 pub found : {A B : Type 0} {o : Scope → Option A} {G : A → Form B} {ends : Ends} {s : Scope} {a : A} {v : B} {ts rest : List Lexeme} → o s ≡ Some a → G a ends s v ts rest → Given o G ends s v ts rest
 found {a = a} e h = record { value = a; is = e; after = h }
 
-pub given : {A B : Type 0} {G : A → Form B} {f : A → Reading B} (o : Scope → Option A) → ((a : A) → Rule (G a) (f a)) → Rule (Given o G) (λ p. o p.scope >>= λ x. f x p)
+pub given : {A B : Type 0} {G : A → Form B} {f : A → ReadingOf B} (o : Scope → Option A) → ((a : A) → Rule (G a) (f a)) → Rule (Given o G) (λ p. o p.scope >>= λ x. f x p)
 given {f = f} o n = record {
   sound = λ p q v live e.
       let x = bind_some (o p.scope) (λ x. f x p) (v, q) e in
@@ -150,7 +150,7 @@ pub record Last {A B : Type 0} (F : Form A) (g : A → B) (ends : Ends) (s : Sco
 pub made : {A B : Type 0} {F : Form A} {g : A → B} {ends : Ends} {s : Scope} {ts rest : List Lexeme} (a : A) → F ends s a ts rest → Last F g ends s (g a) ts rest
 made a h = record { value = a; is = refl; last = h }
 
-pub last : {A B : Type 0} {F : Form A} {r : Reading A} → Rule F r → (g : A → B) → Rule (Last F g) (λ p. r p >>= λ x. Some (g x.0, x.1))
+pub last : {A B : Type 0} {F : Form A} {r : ReadingOf A} → Rule F r → (g : A → B) → Rule (Last F g) (λ p. r p >>= λ x. Some (g x.0, x.1))
 last {F = F} m g = respelled (and_then m (λ a. done (g a)))
     (λ s v ts rest h. record {
       value = h.value;
@@ -182,7 +182,7 @@ take = record {
   sound = λ p q t live e.
       let b = bind_some (take_in p.failed p.tokens) (λ x. Some (x.0, record p { tokens = x.1 })) (t, q) e in
       let k = take_some p.failed p.tokens b.0.0 b.0.1 b.1 in
-      moved (λ (x : Lexeme × Parsing). (used : List Lexeme) × Takes p x.1 used × (used ≡ x.0 ∷ [])) (b.0.0, record p { tokens = b.0.1 }) (t, q) b.2
+      holds_of_same (λ (x : Lexeme × Parsing). (used : List Lexeme) × TakesTokens p x.1 used × (used ≡ x.0 ∷ [])) (b.0.0, record p { tokens = b.0.1 }) (t, q) b.2
       (b.0.0 ∷ [], record { places = (k.0, b.0.0) ∷ []; parts = k.1; kinds_are = refl; state = refl }, refl);
   complete = λ p t front rest at h.
       let k = take_is p.failed p.tokens t rest at.live (at.kinds_are ∙ ap (λ (x : List Lexeme). x ++ rest) h) in
@@ -203,11 +203,11 @@ one meaning = respelled (and_then take (λ t. given (λ s. meaning t) (λ a. don
 abbrev pub Just : Lexeme → Form (Unit {0})
 Just t = λ ends s a ts rest. ts ≡ t ∷ []
 
-pub mark : (m : Lexeme) → mark_of m m ≡ Some tt → Rule (Just m) (accept (mark_of m))
-mark m is = respelled (one (mark_of m)) (λ s v ts rest h. h.1 ∙ ap (λ (x : Lexeme). x ∷ []) (mark_means m h.0 h.2)) (λ faulty s v ts rest h. (m, h, is))
+pub mark : (m : Lexeme) → as_mark m m ≡ Some tt → Rule (Just m) (accept (as_mark m))
+mark m is = respelled (one (as_mark m)) (λ s v ts rest h. h.1 ∙ ap (λ (x : Lexeme). x ∷ []) (mark_means m h.0 h.2)) (λ faulty s v ts rest h. (m, h, is))
 
-pub word : (k : List ℕ) → Rule (Just (ident k)) (accept (word_of k))
-word k = respelled (one (word_of k)) (λ s v ts rest h. h.1 ∙ ap (λ (x : Lexeme). x ∷ []) (word_means k h.0 h.2)) (λ faulty s v ts rest h. (ident k, h, word_of_is k))
+pub word : (k : List ℕ) → Rule (Just (ident k)) (accept (as_word k))
+word k = respelled (one (as_word k)) (λ s v ts rest h. h.1 ∙ ap (λ (x : Lexeme). x ∷ []) (word_means k h.0 h.2)) (λ faulty s v ts rest h. (ident k, h, word_of_is k))
 
 -- a value after this token
 pub record After {V : Type 0} (t : Lexeme) (F : Form V) (ends : Ends) (s : Scope) (v : V) (ts rest : List Lexeme) : Type 0 where
@@ -218,7 +218,7 @@ pub record After {V : Type 0} (t : Lexeme) (F : Form V) (ends : Ends) (s : Scope
 pub next : {V : Type 0} {t : Lexeme} {F : Form V} {ends : Ends} {s : Scope} {v : V} {more rest : List Lexeme} → F ends s v more rest → After t F ends s v (t ∷ more) rest
 next {more = more} h = record { more = more; whole = refl; after = h }
 
-pub after : {V : Type 0} {t : Lexeme} {F : Form V} {m : Reading (Unit {0})} {r : Reading V} → Rule (Just t) m → Rule F r → Rule (After t F) (λ p. m p >>= λ x. r x.1)
+pub after : {V : Type 0} {t : Lexeme} {F : Form V} {m : ReadingOf (Unit {0})} {r : ReadingOf V} → Rule (Just t) m → Rule F r → Rule (After t F) (λ p. m p >>= λ x. r x.1)
 after {t = t} m n = respelled (and_then m (λ u. n))
     (λ s v ts rest h. record { more = h.suffix; whole = rw (h.whole, h.first) refl; after = h.second })
     (λ faulty s v ts rest h. record { value = tt; prefix = t ∷ []; suffix = h.more; whole = h.whole; first = refl; second = h.after })
@@ -236,7 +236,7 @@ pub next_word : {A V : Type 0} {kind : List ℕ → Lexeme} {meaning : List ℕ 
     → meaning w ≡ Some a → G a ends s v more rest → Token kind meaning G ends s v (kind w ∷ more) rest
 next_word {a = a} {more = more} w e h = record { word = w; value = a; more = more; whole = refl; means = e; after = h }
 
-token : {A V : Type 0} {G : A → Form V} {f : A → Reading V} (kind : List ℕ → Lexeme) (meaning : List ℕ → Option A) (accepts : Lexeme → Option A)
+token : {A V : Type 0} {G : A → Form V} {f : A → ReadingOf V} (kind : List ℕ → Lexeme) (meaning : List ℕ → Option A) (accepts : Lexeme → Option A)
     → ((t : Lexeme) (a : A) → accepts t ≡ Some a → (w : List ℕ) × (t ≡ kind w) × (meaning w ≡ Some a)) → ((w : List ℕ) → accepts (kind w) ≡ meaning w)
     → ((a : A) → Rule (G a) (f a)) → Rule (Token kind meaning G) (λ p. accept accepts p >>= λ x. f x.0 x.1)
 token kind meaning accepts means is n = respelled (and_then (one accepts) n)
@@ -245,10 +245,10 @@ token kind meaning accepts means is n = respelled (and_then (one accepts) n)
     record { word = w.0; value = h.value; more = h.suffix; whole = h.whole ∙ ap (λ (x : List Lexeme). x ++ h.suffix) (h.first.1 ∙ ap (λ (x : Lexeme). x ∷ []) w.1); means = w.2; after = h.second })
     (λ faulty s v ts rest h. record { value = h.value; prefix = kind h.word ∷ []; suffix = h.more; whole = h.whole; first = (kind h.word, refl, is h.word ∙ h.means); second = h.after })
 
-pub number : {A V : Type 0} {G : A → Form V} {f : A → Reading V} (meaning : List ℕ → Option A) → ((a : A) → Rule (G a) (f a)) → Rule (Token int meaning G) (λ p. accept (int_by meaning) p >>= λ x. f x.0 x.1)
+pub number : {A V : Type 0} {G : A → Form V} {f : A → ReadingOf V} (meaning : List ℕ → Option A) → ((a : A) → Rule (G a) (f a)) → Rule (Token int meaning G) (λ p. accept (int_by meaning) p >>= λ x. f x.0 x.1)
 number meaning = token int meaning (int_by meaning) (int_means meaning) (λ w. refl)
 
-pub keyword : {A V : Type 0} {G : A → Form V} {f : A → Reading V} (meaning : List ℕ → Option A) → ((a : A) → Rule (G a) (f a)) → Rule (Token ident meaning G) (λ p. accept (ident_by meaning) p >>= λ x. f x.0 x.1)
+pub keyword : {A V : Type 0} {G : A → Form V} {f : A → ReadingOf V} (meaning : List ℕ → Option A) → ((a : A) → Rule (G a) (f a)) → Rule (Token ident meaning G) (λ p. accept (ident_by meaning) p >>= λ x. f x.0 x.1)
 keyword meaning = token ident meaning (ident_by meaning) (ident_means meaning) (λ w. refl)
 
 -- a value after a name, on which it depends
@@ -261,8 +261,8 @@ pub record Named {V : Type 0} (G : List ℕ → Form V) (ends : Ends) (s : Scope
 pub next_name : {V : Type 0} {G : List ℕ → Form V} {ends : Ends} {s : Scope} {v : V} {more rest : List Lexeme} (n : List ℕ) → G n ends s v more rest → Named G ends s v (val_name n ∷ more) rest
 next_name {more = more} n h = record { name = n; more = more; whole = refl; after = h }
 
-pub named : {V : Type 0} {G : List ℕ → Form V} {f : List ℕ → Reading V} → ((n : List ℕ) → Rule (G n) (f n)) → Rule (Named G) (λ p. accept name_of p >>= λ x. f x.0 x.1)
-named n = respelled (and_then (one name_of) n)
+pub named : {V : Type 0} {G : List ℕ → Form V} {f : List ℕ → ReadingOf V} → ((n : List ℕ) → Rule (G n) (f n)) → Rule (Named G) (λ p. accept as_name p >>= λ x. f x.0 x.1)
+named n = respelled (and_then (one as_name) n)
     (λ s v ts rest h. record { name = h.value; more = h.suffix; whole = h.whole ∙ ap (λ (x : List Lexeme). x ++ h.suffix) (h.first.1 ∙ ap (λ (x : Lexeme). x ∷ []) (name_means h.first.0 h.value h.first.2)); after = h.second })
     (λ faulty s v ts rest h. record { value = h.name; prefix = val_name h.name ∷ []; suffix = h.more; whole = h.whole; first = (val_name h.name, refl, refl); second = h.after })
 
@@ -286,13 +286,13 @@ if_not : (b : Bool) → ¬ (b ≡ true) → b ≡ false
 if_not true h = absurd (h refl)
 if_not false h = refl
 
-answers : (starts : Lexeme → Bool) (b faulty : Bool) (ts : List (ℕ × Lexeme)) → Seen (λ goes_on. Stops goes_on faulty) starts b (kinds ts) → Answers starts b faulty ts
+answers : (starts : Lexeme → Bool) (b faulty : Bool) (ts : List (ℕ × Lexeme)) → Seen (λ goes_on. NextStops goes_on faulty) starts b (kinds ts) → Answers starts b faulty ts
 answers starts true faulty [] h = absurd h
 answers starts true faulty (t ∷ ts) h = h
 answers starts false faulty [] h = (refl, h)
 answers starts false faulty (t ∷ ts) h = if_not (starts t.1) h
 
-pub choice : {V : Type 0} {f : Bool → Reading V} (starts : Lexeme → Bool) (n : (b : Bool) → Ruled (f b)) → Rule (Choice starts (λ b. (n b).form)) (λ p. peek_at starts p >>= λ b. f b.0 b.1)
+pub choice : {V : Type 0} {f : Bool → ReadingOf V} (starts : Lexeme → Bool) (n : (b : Bool) → Ruled (f b)) → Rule (Choice starts (λ b. (n b).form)) (λ p. peek_at starts p >>= λ b. f b.0 b.1)
 choice {f = f} starts n = record {
   sound = λ p q v live e.
       let b = bind_some (peek_at starts p) (λ b. f b.0 b.1) (v, q) e in
@@ -301,6 +301,6 @@ choice {f = f} starts n = record {
       (k.0, k.1, record { branch = b.0.0; seen = subst (Seen Free starts b.0.0) (taken_ahead p q k.0 k.1) (seen_after starts b.0.0 p look.2); chosen = k.2 });
   complete = λ p v front rest at h.
       let k = (n h.branch).rule.complete p v front rest at h.chosen in
-      let seen : Seen (λ goes_on. Stops goes_on p.faulty) starts h.branch (kinds p.tokens) = subst (Seen (λ goes_on. Stops goes_on p.faulty) starts h.branch) (sym at.kinds_are) h.seen in
+      let seen : Seen (λ goes_on. NextStops goes_on p.faulty) starts h.branch (kinds p.tokens) = subst (Seen (λ goes_on. NextStops goes_on p.faulty) starts h.branch) (sym at.kinds_are) h.seen in
       record { next = k.next; is_read = rw (answered starts p h.branch at.live (answers starts h.branch p.faulty p.tokens seen), k.is_read) refl; ahead = k.ahead; state = k.state };
 }

@@ -7,16 +7,16 @@ use Rattle.souper_ir.specs.Parsing.{Cause, no_memory, Parsing}
 use Rattle.souper_graph.specs.Syntax.Tokens.{Lexeme}
 use Rattle.souper_graph.specs.Syntax.Spelling.{kinds, Scope}
 use Rattle.souper_ir.specs.Reading.{Gives, cause_of, IfRefused, if_refused, Fails, FailsForMemory, fails_later, IsRead}
-use Rattle.souper_ir.specs.Grammar.{Free, Stops, Took, NoFront, Refusal}
+use Rattle.souper_ir.specs.Grammar.{Free, NextStops, Took, NoFront, Refusal}
 use Rattle.souper_ir.specs.Laws.Peeks.{some_is}
 use Rattle.souper_ir.specs.Laws.Steps.{At}
 use Rattle.souper_ir.specs.Laws.Unique.{Alone}
-use Rattle.souper_ir.specs.Laws.Combinators.{Reading, Reads, Rule, Node}
+use Rattle.souper_ir.specs.Laws.Combinators.{ReadingOf, ReadsValue, Rule, Node}
 
-module _ {Y : Type 0} (spells : Scope → Y → List Lexeme → Type 0) (continues : Y → Lexeme → Type 0) (read : Reading Y) where
+module _ {Y : Type 0} (spells : Scope → Y → List Lexeme → Type 0) (continues : Y → Lexeme → Type 0) (read : ReadingOf Y) where
   -- a value that is spelled so, and not continued, is read
   abbrev pub Complete : Type 0
-  Complete = (p : Parsing) (y : Y) (front rest : List Lexeme) → At p (front ++ rest) → spells p.scope y front × Stops (continues y) p.faulty rest → Reads read y p rest
+  Complete = (p : Parsing) (y : Y) (front rest : List Lexeme) → At p (front ++ rest) → spells p.scope y front × NextStops (continues y) p.faulty rest → ReadsValue read y p rest
 
   none_read : Complete → (p : Parsing) → read p ≡ None → p.failed ≡ None → NoFront spells continues p
   none_read complete p unread live y front rest e s st =
@@ -32,7 +32,7 @@ module _ {Y : Type 0} (spells : Scope → Y → List Lexeme → Type 0) (continu
   kinds_of_places [] = refl
   kinds_of_places (t ∷ ts) = ap (λ (x : List Lexeme). t ∷ x) (kinds_of_places ts)
 
-  stops : (goes_on : Lexeme → Type 0) (ts : List Lexeme) → Free goes_on ts → Stops goes_on false ts
+  stops : (goes_on : Lexeme → Type 0) (ts : List Lexeme) → Free goes_on ts → NextStops goes_on false ts
   stops goes_on [] h = refl
   stops goes_on (t ∷ ts) h = h
 
@@ -45,7 +45,7 @@ module _ {Y : Type 0} (spells : Scope → Y → List Lexeme → Type 0) (continu
       let rest : c ≡ d = sym j.ahead.kinds_are ∙ ap (λ (x : Y × Parsing). kinds x.1.tokens) same ∙ k.ahead.kinds_are in
       (append_cancel_right a b c (e ∙ ap (λ (x : List Lexeme). b ++ x) (sym rest)), ap (λ (x : Y × Parsing). x.0) same)
 
-module _ {Y : Type 0} {spells : Scope → Y → List Lexeme → Type 0} {continues : Y → Lexeme → Type 0} {read : Reading Y} (rule : Rule (Node spells continues) read) where
+module _ {Y : Type 0} {spells : Scope → Y → List Lexeme → Type 0} {continues : Y → Lexeme → Type 0} {read : ReadingOf Y} (rule : Rule (Node spells continues) read) where
   pub alone : Alone spells continues
   alone = one_alone spells continues read rule.complete
 

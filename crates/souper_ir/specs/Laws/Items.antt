@@ -10,7 +10,7 @@ use Rattle.souper_graph.specs.Syntax.Spelling.{kinds, Scope, Joined, statement_s
 use Rattle.souper_ir.specs.Continuation.{statement_continues, infer_continues, result_continues, item_continues}
 use Rattle.souper_ir.specs.Parsing.{Parsing}
 use Rattle.souper_ir.specs.Reading.{cause_of, IfRefused, if_refused, IsRead, Fails, fails_later}
-use Rattle.souper_ir.specs.Grammar.{Free, Stops, Starts, NoFront, LastGoesOn, Refusal, peek_at}
+use Rattle.souper_ir.specs.Grammar.{Free, NextStops, Starts, NoFront, LastGoesOn, Refusal, peek_at}
 use Rattle.souper_ir.specs.Laws.Unique.{Alone, never, Free-weaker, Free-from_Stops, clash as starts_clash}
 use Rattle.souper_ir.specs.NodeReadings.{starts_statement, is_word}
 use Rattle.souper_ir.specs.Laws.Peeks.{peeked, peeked_yes, peeked_no, unread}
@@ -46,15 +46,15 @@ free_over s v (w ∷ vs) a c m f =
     free_start v (t ∷ a) b c st = start_ends v t st
 
 -- the same at the end of the text or before an opening
-stops_over : (faulty : Bool) (s : Scope) (v : PlainStatement) (vs : List PlainStatement) (a c : List Lexeme) → Statements s vs a → Opens c → Stops (statement_continues v) faulty (a ++ c)
-stops_over faulty s v [] a c m o = subst (λ (x : List Lexeme). Stops (statement_continues v) faulty (x ++ c)) (sym m) (opened c o)
+stops_over : (faulty : Bool) (s : Scope) (v : PlainStatement) (vs : List PlainStatement) (a c : List Lexeme) → Statements s vs a → Opens c → NextStops (statement_continues v) faulty (a ++ c)
+stops_over faulty s v [] a c m o = subst (λ (x : List Lexeme). NextStops (statement_continues v) faulty (x ++ c)) (sym m) (opened c o)
   where
-    opened : (c : List Lexeme) → Opens c → Stops (statement_continues v) faulty c
+    opened : (c : List Lexeme) → Opens c → NextStops (statement_continues v) faulty c
     opened [] o = absurd o
     opened (t ∷ c) o = o.1 v
-stops_over faulty s v (w ∷ vs) a c m o = subst (λ (x : List Lexeme). Stops (statement_continues v) faulty (x ++ c)) (sym m.whole) (stops_start m.prefix m.suffix c (statement_first s w m.prefix m.first))
+stops_over faulty s v (w ∷ vs) a c m o = subst (λ (x : List Lexeme). NextStops (statement_continues v) faulty (x ++ c)) (sym m.whole) (stops_start m.prefix m.suffix c (statement_first s w m.prefix m.first))
   where
-    stops_start : (a b c : List Lexeme) → Starts starts_statement a → Stops (statement_continues v) faulty ((a ++ b) ++ c)
+    stops_start : (a b c : List Lexeme) → Starts starts_statement a → NextStops (statement_continues v) faulty ((a ++ b) ++ c)
     stops_start [] b c st = absurd st
     stops_start (t ∷ a) b c st = start_ends v t st
 
@@ -74,8 +74,8 @@ statements_push s (w ∷ ws) v a b m sp =
 
 -- ---- the loop
 
-pub begins : (p : Parsing) → Stated [] p p
-begins p = record {
+pub none_stated : (p : Parsing) → Stated [] p p
+none_stated p = record {
   used = [];
   parts = refl;
   spelled = refl;
@@ -108,8 +108,8 @@ failed_same vs p q so = ap (λ (x : Parsing). x.failed) so.state
 pub len_same : (vs : List PlainStatement) (p q : Parsing) → Stated vs p q → q.len ≡ p.len
 len_same vs p q so = ap (λ (x : Parsing). x.len) so.state
 
-pub ends : (vs : List PlainStatement) (p q r : Parsing) → Stated vs p q → IsRead (peek_at starts_statement q) false q r → AllStated vs p r
-ends vs p q r so h =
+pub statements_end : (vs : List PlainStatement) (p q r : Parsing) → Stated vs p q → IsRead (peek_at starts_statement q) false q r → AllStated vs p r
+statements_end vs p q r so h =
     let seen = peeked starts_statement q r false h.0 in
     let here : AllStated vs p q = record { stated = so; quiet = peeked_no starts_statement q.faulty q.tokens seen.2; live = sym (failed_same vs p q so) ∙ h.1 } in
     subst (λ (x : Parsing). AllStated vs p x) (sym seen.0) here
@@ -179,7 +179,7 @@ opens_over (t ∷ e) d o = o
 module _ {Y : Type 0} (tail : Scope → Y → List Lexeme → Type 0) (continues : Y → Lexeme → Type 0) (opens : (s : Scope) (y : Y) (ts : List Lexeme) → tail s y ts → Opens ts) where
   -- no statements and their tail are spelled if the statements end stuck
   pub no_item : (faulty : Bool) (s : Scope) (vs ws : List PlainStatement) (a c b e d : List Lexeme) (y : Y) → a ++ c ≡ b ++ (e ++ d) → Statements s vs a → Free (λ t. LastGoesOn statement_continues vs t) c
-      → NoMore tail continues (s ++ vs) faulty c → Statements s ws b → tail (s ++ ws) y e → Stops (continues y) faulty d → ⊥
+      → NoMore tail continues (s ++ vs) faulty c → Statements s ws b → tail (s ++ ws) y e → NextStops (continues y) faulty d → ⊥
   no_item faulty s [] [] a c b e d y eq m f (inl (inl k)) n sp st =
       no_tokens e d (opens (s ++ []) y e sp) (sym k.0 ∙ ap (λ (x : List Lexeme). x ++ c) (sym m) ∙ eq ∙ ap (λ (x : List Lexeme). x ++ (e ++ d)) n)
   no_item faulty s [] [] a c b e d y eq m f (inl (inr k)) n sp st =
@@ -196,14 +196,14 @@ module _ {Y : Type 0} (tail : Scope → Y → List Lexeme → Type 0) (continues
           starts_clash starts_statement f [] (g ++ (e ++ d)) (statement_first s w f first) (sym k.0 ∙ ahead) tt
       no_first faulty s w ws c f g e d y ahead (inl (inr k)) first more sp =
           k.1 w f (g ++ (e ++ d)) ahead (subst (λ (x : Scope). statement_spells x w f) (sym (append-nil s)) first)
-          (subst (λ (x : List Lexeme). Stops (statement_continues w) faulty x) (append_assoc g e d) (over (g ++ e) d (stops_over faulty (s ++ w ∷ []) w ws g e more (opens (s ++ (w ∷ ws)) y e sp)) (grown g e (opens (s ++ (w ∷ ws)) y e sp))))
+          (subst (λ (x : List Lexeme). NextStops (statement_continues w) faulty x) (append_assoc g e d) (over (g ++ e) d (stops_over faulty (s ++ w ∷ []) w ws g e more (opens (s ++ (w ∷ ws)) y e sp)) (grown g e (opens (s ++ (w ∷ ws)) y e sp))))
         where
           grown : (g e : List Lexeme) → Opens e → g ++ e ≡ [] → ⊥
           grown [] [] o h = o
           grown [] (t ∷ e) o h = absurd cc
           grown (t ∷ g) e o h = absurd cc
 
-          over : (x d : List Lexeme) → Stops (statement_continues w) faulty x → (x ≡ [] → ⊥) → Stops (statement_continues w) faulty (x ++ d)
+          over : (x d : List Lexeme) → NextStops (statement_continues w) faulty x → (x ≡ [] → ⊥) → NextStops (statement_continues w) faulty (x ++ d)
           over [] d h no_end = absurd (no_end refl)
           over (t ∷ x) d h no_end = h
       no_first faulty s w ws c f g e d y ahead (inr k) first more sp =
@@ -270,14 +270,14 @@ tail_opens replacement s (new, candidate c) ts h = cand_opens s c ts h.1
 tail_opens replacement s y ts h = absurd h
 
 -- neither a statement nor the result line continues an infer line
-pub infer_over : (faulty : Bool) (s t : Scope) (i : PlainInfer) (r : Operand) (new : List PlainStatement) (middle result d : List Lexeme) → Statements s new middle → result_spells t r result → Stops (infer_continues i) faulty ((middle ++ result) ++ d)
+pub infer_over : (faulty : Bool) (s t : Scope) (i : PlainInfer) (r : Operand) (new : List PlainStatement) (middle result d : List Lexeme) → Statements s new middle → result_spells t r result → NextStops (infer_continues i) faulty ((middle ++ result) ++ d)
 infer_over faulty s t i r [] middle result d m h =
-    subst (λ (x : List Lexeme). Stops (infer_continues i) faulty ((x ++ result) ++ d)) (sym m)
-    (subst (λ (x : List Lexeme). Stops (infer_continues i) faulty (x ++ d)) (sym h.1) (infer_ends i (ident (codes "result")) refl))
+    subst (λ (x : List Lexeme). NextStops (infer_continues i) faulty ((x ++ result) ++ d)) (sym m)
+    (subst (λ (x : List Lexeme). NextStops (infer_continues i) faulty (x ++ d)) (sym h.1) (infer_ends i (ident (codes "result")) refl))
 infer_over faulty s t i r (v ∷ new) middle result d m h =
-    subst (λ (x : List Lexeme). Stops (infer_continues i) faulty ((x ++ result) ++ d)) (sym m.whole) (by_start m.prefix m.suffix (statement_first s v m.prefix m.first))
+    subst (λ (x : List Lexeme). NextStops (infer_continues i) faulty ((x ++ result) ++ d)) (sym m.whole) (by_start m.prefix m.suffix (statement_first s v m.prefix m.first))
   where
-    by_start : (a b : List Lexeme) → Starts starts_statement a → Stops (infer_continues i) faulty (((a ++ b) ++ result) ++ d)
+    by_start : (a b : List Lexeme) → Starts starts_statement a → NextStops (infer_continues i) faulty (((a ++ b) ++ result) ++ d)
     by_start [] b st = absurd st
     by_start (t ∷ a) b st = infer_ends i t (starts_begins t st)
 

@@ -9,7 +9,7 @@ use Rattle.souper_graph.specs.Syntax.Numbers.{number_of, width_of}
 use Rattle.souper_graph.specs.Syntax.Spelling.{Scope, position_of, type_spells, optional_type_spells, constant_spells, operand_spells, further_spells, operands_spells, pair_spells}
 use Rattle.souper_graph.specs.Syntax.Optional.{◌>>=◌}
 use Rattle.souper_ir.specs.Continuation.{optional_type_continues, constant_continues, operand_continues, operands_continue}
-use Rattle.souper_ir.specs.Grammar.{Free, Stops, Starts}
+use Rattle.souper_ir.specs.Grammar.{Free, NextStops, Starts}
 use Rattle.souper_ir.specs.NodeReadings.{is_name, is_mark, is_int, ident_by, type_of_word, type_at, optional_type_by, optional_type_at, constant_at, operand_by, operand_at, further_at, operands_at}
 use Rattle.souper_ir.specs.Laws.Unique.{never, Free-weaker, Stops-weaker}
 use Rattle.souper_ir.specs.Laws.Peeks.{some_is}
@@ -106,7 +106,7 @@ operand_stops (Value i) t h = λ y. y
 operand_stops (constant_variant c) t h = optional_type_stops c.ty t h
 
 -- an operand does not continue the one before it
-pub operand_over : (s : Scope) (x y : Operand) (faulty : Bool) (back rest : List Lexeme) → operand_spells s y back → Stops (operand_continues x) faulty (back ++ rest)
+pub operand_over : (s : Scope) (x y : Operand) (faulty : Bool) (back rest : List Lexeme) → operand_spells s y back → NextStops (operand_continues x) faulty (back ++ rest)
 operand_over s x (Value i) faulty back rest h = rw h.1 (operand_stops x (val_name h.0) (λ e. cc))
 operand_over s x (constant_variant c) faulty back rest h = rw h.whole (operand_stops x (int h.word) (λ e. cc))
 
@@ -147,7 +147,7 @@ none spells is = respelled (done [])
     (λ faulty s xs ts rest h. let e = no_operand xs h.0 in (e, (is s ts).0 (subst (λ (x : List Operand). spells s x ts) e h.1.0)))
 
 -- the operands after the first do not continue it
-further_over : (s : Scope) (x : Operand) (xs : List Operand) (faulty : Bool) (back rest : List Lexeme) → further_spells s xs back → Stops (operands_continue (x ∷ xs)) faulty rest → Stops (operand_continues x) faulty (back ++ rest)
+further_over : (s : Scope) (x : Operand) (xs : List Operand) (faulty : Bool) (back rest : List Lexeme) → further_spells s xs back → NextStops (operands_continue (x ∷ xs)) faulty rest → NextStops (operand_continues x) faulty (back ++ rest)
 further_over s x [] faulty back rest h st = rw h st
 further_over s x (y ∷ ys) faulty back rest h st = rw h.1 (operand_stops x comma (λ e. cc))
 

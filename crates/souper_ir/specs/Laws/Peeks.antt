@@ -5,7 +5,7 @@ use Rattle.souper_graph.specs.Syntax.Tokens.{Lexeme}
 use Rattle.souper_graph.specs.Syntax.Spelling.{kinds, Scope}
 use Rattle.souper_graph.specs.Syntax.Optional.{◌>>=◌}
 use Rattle.souper_ir.specs.Reading.{IfRefused, if_refused, look_in, look_at}
-use Rattle.souper_ir.specs.Grammar.{Stops, Starts, NoFront, starts_next, peek_at}
+use Rattle.souper_ir.specs.Grammar.{NextStops, Starts, NoFront, starts_next, peek_at}
 
 -- the first token decides, and at the end there is no fault
 abbrev pub Answers : (Lexeme → Bool) → Bool → Bool → List (ℕ × Lexeme) → Type 0
@@ -50,7 +50,7 @@ pub peeked_yes : (starts : Lexeme → Bool) (faulty : Bool) (ts : List (ℕ × L
 peeked_yes starts faulty [] h = absurd (let e : true ≡ false = h.0 in cc)
 peeked_yes starts faulty (t ∷ ts) h = h
 
-pub peeked_no : (starts : Lexeme → Bool) (faulty : Bool) (ts : List (ℕ × Lexeme)) → Answers starts false faulty ts → Stops (λ t. starts t ≡ true) faulty (kinds ts)
+pub peeked_no : (starts : Lexeme → Bool) (faulty : Bool) (ts : List (ℕ × Lexeme)) → Answers starts false faulty ts → NextStops (λ t. starts t ≡ true) faulty (kinds ts)
 peeked_no starts faulty [] h = h.1
 peeked_no starts faulty (t ∷ ts) h = λ y. let e : true ≡ false = sym y ∙ h in absurd cc
 
@@ -68,7 +68,7 @@ unfolding peek_at look_at
 unread starts p e live = unread_in starts p p.failed p.faulty p.tokens e live
 
 -- at a fault nothing is spelled
-fault_after : (goes_on : Lexeme → Type 0) (faulty : Bool) (front rest : List Lexeme) → [] ≡ front ++ rest → faulty ≡ true → Stops goes_on faulty rest → ⊥
+fault_after : (goes_on : Lexeme → Type 0) (faulty : Bool) (front rest : List Lexeme) → [] ≡ front ++ rest → faulty ≡ true → NextStops goes_on faulty rest → ⊥
 fault_after goes_on faulty (t ∷ front) rest e f h = absurd cc
 fault_after goes_on faulty [] (t ∷ rest) e f h = absurd cc
 fault_after goes_on faulty [] [] e f h = absurd cc

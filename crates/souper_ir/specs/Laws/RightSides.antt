@@ -17,12 +17,12 @@ use Rattle.souper_ir.specs.declared.parse.words.RhsWord.TheVariants.{Var as begi
 use Rattle.souper_ir.specs.Words.{opcode_of, operand_count, instruction_by, rhs_keyword_of, instruction_or, rhs_word_of}
 use Rattle.souper_ir.specs.Continuation.{operands_continue, phi_continues, instruction_continues, rhs_continues}
 use Rattle.souper_ir.specs.Grammar.{Free, Starts}
-use Rattle.souper_ir.specs.NodeReadings.{is_word, is_any, ident_by, block_after_word_at, block_at, block_entry, block_name_at, phi_after_word_at, phi_at, instruction_of_at, instruction_at, starts_instruction, rhs_word_by, rhs_word_at, rhs_by, rhs_at}
+use Rattle.souper_ir.specs.NodeReadings.{is_word, is_any, ident_by, block_after_word_at, block_node_at, block_entry, block_name_at, phi_after_word_at, phi_at, instruction_of_at, instruction_at, starts_instruction, rhs_word_by, rhs_word_at, rhs_by, rhs_at}
 use Rattle.souper_ir.specs.Laws.Unique.{never}
 use Rattle.souper_ir.specs.Laws.Peeks.{some_is}
 use Rattle.souper_ir.specs.Laws.Words.{opcode_is, opcode_makes, opcode_names}
 use Rattle.souper_ir.specs.Laws.Tokens.{word_is, by_word, ident_means}
-use Rattle.souper_ir.specs.Laws.Combinators.{Ends, Form, Reading, Rule, Ruled, ruled, Node, To, From, respelled, Then, both, and_then, done, found, given, made, last, one, Just, word, after, Token, next_word, number, keyword, next_name, named, choice, fail}
+use Rattle.souper_ir.specs.Laws.Combinators.{Ends, Form, ReadingOf, Rule, Ruled, ruled, Node, To, From, respelled, Then, both, and_then, done, found, given, made, last, one, Just, word, after, Token, next_word, number, keyword, next_name, named, choice, fail}
 use Rattle.souper_ir.specs.Laws.Operands.{further_rule, operands_rule}
 use Rattle.souper_ir.specs.Laws.FromReadings.{Complete}
 
@@ -31,7 +31,7 @@ abbrev pub Behind : {V : Type 0} → Lexeme → (Scope → V → List Lexeme →
 Behind t spells continues = λ ends s v ts rest. spells s v (t ∷ ts) × ends (continues v) rest
 
 -- the token, and what comes after it
-whole : {V : Type 0} {t : Lexeme} {spells : Scope → V → List Lexeme → Type 0} {continues : V → Lexeme → Type 0} {m : Reading (Unit {0})} {r : Reading V}
+whole : {V : Type 0} {t : Lexeme} {spells : Scope → V → List Lexeme → Type 0} {continues : V → Lexeme → Type 0} {m : ReadingOf (Unit {0})} {r : ReadingOf V}
     → Rule (Just t) m → Rule (Behind t spells continues) r → ((s : Scope) (v : V) (ts : List Lexeme) → spells s v ts → (more : List Lexeme) × (ts ≡ t ∷ more)) → Rule (Node spells continues) (λ p. m p >>= λ x. r x.1)
 whole {spells = spells} m n begins = respelled (after m n)
     (λ s v ts rest h. (subst (spells s v) (sym h.whole) h.after.0, h.after.1))
@@ -45,11 +45,11 @@ block_after_rule = respelled (number (count_of (2 ^ 32)) (λ n. done (record { p
     (λ s b ts rest h. rw h.after.0 ((h.word, rw (h.whole, h.after.1) refl, h.means), never rest))
     (λ faulty s b ts rest h. let e : ts ≡ int h.0.0 ∷ [] = cc in rw e (next_word h.0.0 h.0.2 (refl, refl)))
 
-pub block_rule : Rule (Node (λ s. block_spells) (λ b t. ⊥)) block_at
-unfolding block_at
+pub block_rule : Rule (Node (λ s. block_spells) (λ b t. ⊥)) block_node_at
+unfolding block_node_at
 block_rule = whole (word (codes "block")) block_after_rule (λ s b ts h. (int h.0 ∷ [], h.1))
 
-pub block_complete : Complete (λ s. block_spells) (λ b t. ⊥) block_at
+pub block_complete : Complete (λ s. block_spells) (λ b t. ⊥) block_node_at
 block_complete = block_rule.complete
 
 pub block_first : (s : Scope) (b : Block) (ts : List Lexeme) → block_spells b ts → Starts (is_word (codes "block")) ts
@@ -77,7 +77,7 @@ pub record BlockNamed {V : Type 0} (G : ℕ × ℕ → Form V) (ends : Ends) (s 
   pub is : entry_of s name ≡ Some (block.0, Some block.1)
   pub after : G block ends s v more rest
 
-pub block_named : {V : Type 0} {G : ℕ × ℕ → Form V} {f : ℕ × ℕ → Reading V} → ((b : ℕ × ℕ) → Rule (G b) (f b)) → Rule (BlockNamed G) (λ p. block_name_at p >>= λ x. f x.0 x.1)
+pub block_named : {V : Type 0} {G : ℕ × ℕ → Form V} {f : ℕ × ℕ → ReadingOf V} → ((b : ℕ × ℕ) → Rule (G b) (f b)) → Rule (BlockNamed G) (λ p. block_name_at p >>= λ x. f x.0 x.1)
 unfolding block_name_at
 block_named n = respelled (and_then (named (λ n. given (λ s. block_entry (entry_of s n)) (λ b. done b))) n)
     (λ s v ts rest h.

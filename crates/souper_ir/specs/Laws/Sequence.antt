@@ -7,7 +7,7 @@ use Rattle.souper_ir.specs.Parsing.{Cause, Parsing}
 use Rattle.souper_graph.specs.Syntax.Tokens.{Lexeme}
 use Rattle.souper_graph.specs.Syntax.Spelling.{kinds, Scope}
 use Rattle.souper_ir.specs.Reading.{cause_of, IfRefused, if_refused, fails_later}
-use Rattle.souper_ir.specs.Grammar.{Free, Stops, Followed, Took, NoFront, Refusal}
+use Rattle.souper_ir.specs.Grammar.{Free, NextStops, Followed, Took, NoFront, Refusal}
 use Rattle.souper_ir.specs.Laws.Unique.{Alone, Free-from_Stops, Free-front}
 use Rattle.souper_ir.specs.Laws.Steps.{kinds-append}
 
@@ -29,7 +29,7 @@ module _ {A B C : Type 0} (spells_a : Scope → A → List Lexeme → Type 0) (g
   free_over s c [] [] sp f g = tt
   free_over s c [] (t ∷ rest) sp f g = λ h. g (over s c t sp h)
 
-  stops_over : (faulty : Bool) (s : Scope) (c : C) (y rest : List Lexeme) → spells_b s (b_of c) y → Free (goes_on_a (a_of c)) y → Stops (goes_on_c c) faulty rest → Stops (goes_on_a (a_of c)) faulty (y ++ rest)
+  stops_over : (faulty : Bool) (s : Scope) (c : C) (y rest : List Lexeme) → spells_b s (b_of c) y → Free (goes_on_a (a_of c)) y → NextStops (goes_on_c c) faulty rest → NextStops (goes_on_a (a_of c)) faulty (y ++ rest)
   stops_over faulty s c (t ∷ y) rest sp f g = f
   stops_over faulty s c [] [] sp f g = g
   stops_over faulty s c [] (t ∷ rest) sp f g = λ h. g (over s c t sp h)
@@ -38,7 +38,7 @@ module _ {A B C : Type 0} (spells_a : Scope → A → List Lexeme → Type 0) (g
   free_last c [] f = tt
   free_last c (t ∷ rest) f = λ h. f (last c t h)
 
-  stops_last : (faulty : Bool) (c : C) (rest : List Lexeme) → Stops (goes_on_c c) faulty rest → Stops (goes_on_b (b_of c)) faulty rest
+  stops_last : (faulty : Bool) (c : C) (rest : List Lexeme) → NextStops (goes_on_c c) faulty rest → NextStops (goes_on_b (b_of c)) faulty rest
   stops_last faulty c [] f = f
   stops_last faulty c (t ∷ rest) f = λ h. f (last c t h)
 
@@ -74,7 +74,7 @@ module _ {A B C : Type 0} (spells_a : Scope → A → List Lexeme → Type 0) (g
       (Free-from_Stops (goes_on_a (a_of c)) p.faulty (sp.suffix ++ rest) (stops_over p.faulty p.scope c sp.suffix rest sp.second sp.free st)) in
       let tail : kinds q.tokens ≡ sp.suffix ++ rest = append_cancel_left sp.prefix (kinds q.tokens) (sp.suffix ++ rest) (ap (λ (x : List Lexeme). x ++ kinds q.tokens) (sym here.0) ∙ whole) in
       let at_q : spells_b q.scope (b_of c) sp.suffix = subst (λ (x : Parsing). spells_b x.scope (b_of c) sp.suffix) (sym took.state) sp.second in
-      none (b_of c) sp.suffix rest tail at_q (subst (λ (x : Parsing). Stops (goes_on_b (b_of c)) x.faulty rest) (sym took.state) (stops_last p.faulty c rest st))
+      none (b_of c) sp.suffix rest tail at_q (subst (λ (x : Parsing). NextStops (goes_on_b (b_of c)) x.faulty rest) (sym took.state) (stops_last p.faulty c rest st))
 
   none_second_if : (a : A) (p q : Parsing) (f : Option Cause) → Took spells_a goes_on_a (λ s. s) a p q → IfRefused f (q.failed ≡ None → NoFront spells_b goes_on_b q) → IfRefused f (p.failed ≡ None → NoFront Both goes_on_c p)
   none_second_if a p q f took = if_refused f (λ h live. none_second a p q took (h (ap (λ (x : Parsing). x.failed) took.state ∙ live)))

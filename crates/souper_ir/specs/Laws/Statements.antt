@@ -14,7 +14,7 @@ use Rattle.souper_graph.specs.Syntax.Tokens.{Lexeme, ident, val_name, int, comma
 use Rattle.souper_graph.specs.Syntax.Numbers.{count_of}
 use Rattle.souper_graph.specs.Syntax.Spelling.{Scope, position_of, optional_type_spells, operand_spells, rhs_spells, attribute_spells, root_attribute_spells, assignment_spells, pc_spells, block_pc_spells, statement_spells, infer_spells, IsOptionalComma, cand_spells, result_spells}
 use Rattle.souper_ir.specs.Continuation.{optional_type_continues, operand_continues, operands_continue, rhs_continues, attributes_continue, assignment_continues, pc_continues, block_pc_continues, statement_continues, infer_continues, cand_continues, result_continues}
-use Rattle.souper_ir.specs.Grammar.{Free, Stops, Starts}
+use Rattle.souper_ir.specs.Grammar.{Free, NextStops, Starts}
 use Rattle.souper_ir.specs.NodeReadings.{is_name, is_mark, is_word, Definition, fresh, type_and_equals_at, heading_at, definition_at, starts_statement, pc_at, predecessor_below, block_pc_at, root_at, comma_by, optional_comma_at, pair_at, result_at}
 use Rattle.souper_ir.specs.Laws.Unique.{Alone, never}
 use Rattle.souper_ir.specs.Laws.Peeks.{some_is}
@@ -94,7 +94,7 @@ definition_rule = respelled (and_then heading_rule (λ h. last rhs_rule (λ r. r
     let k = h.0 in
     let front : List Lexeme = val_name d.name ∷ (k.ty ++ equals ∷ []) in
     let parts : ts ≡ front ++ k.rhs = rw k.whole (simp append_assoc) in
-    let heading : Heading (λ goes_on. Stops goes_on faulty) s (d.name, d.ty) front (k.rhs ++ rest) = record { ty = k.ty; whole = refl; name_is_new = k.name_is_new; ty_spelled = k.ty_spelled } in
+    let heading : Heading (λ goes_on. NextStops goes_on faulty) s (d.name, d.ty) front (k.rhs ++ rest) = record { ty = k.ty; whole = refl; name_is_new = k.name_is_new; ty_spelled = k.ty_spelled } in
     rw parts (both (d.name, d.ty) front k.rhs heading (made d.value (k.rhs_spelled, h.1))))
 
 -- ---- path conditions
@@ -203,17 +203,17 @@ comma_is : (b : Bool) (ends : Ends) (s : Scope) (u : Unit {0}) (ts rest : List L
 comma_is false ends s u ts rest h = inl h.1
 comma_is true ends s u ts rest h = inr h
 
-comma_seen : (faulty : Bool) (s : Scope) (ts rest : List Lexeme) → Stops (λ t. is_mark comma t ≡ true) faulty rest → IsOptionalComma ts → Choice (is_mark comma) (λ b. (comma_by_rule b).form) (λ goes_on. Stops goes_on faulty) s tt ts rest
+comma_seen : (faulty : Bool) (s : Scope) (ts rest : List Lexeme) → NextStops (λ t. is_mark comma t ≡ true) faulty rest → IsOptionalComma ts → Choice (is_mark comma) (λ b. (comma_by_rule b).form) (λ goes_on. NextStops goes_on faulty) s tt ts rest
 comma_seen faulty s ts rest st (inl h) = record { branch = false; seen = rw h st; chosen = (refl, h) }
 comma_seen faulty s ts rest st (inr h) = record { branch = true; seen = rw h refl; chosen = h }
 
 -- an operand begins with a name or a number
-operand_no_comma : (s : Scope) (y : Operand) (faulty : Bool) (back rest : List Lexeme) → operand_spells s y back → Stops (λ t. is_mark comma t ≡ true) faulty (back ++ rest)
+operand_no_comma : (s : Scope) (y : Operand) (faulty : Bool) (back rest : List Lexeme) → operand_spells s y back → NextStops (λ t. is_mark comma t ≡ true) faulty (back ++ rest)
 operand_no_comma s (Value i) faulty back rest h = rw h.1 (λ e. cc)
 operand_no_comma s (constant_variant c) faulty back rest h = rw h.whole (λ e. cc)
 
 -- neither the comma nor the second operand continues the first
-comma_over : (s : Scope) (x y : Operand) (faulty : Bool) (between back rest : List Lexeme) → IsOptionalComma between → operand_spells s y back → Stops (operand_continues x) faulty ((between ++ back) ++ rest)
+comma_over : (s : Scope) (x y : Operand) (faulty : Bool) (between back rest : List Lexeme) → IsOptionalComma between → operand_spells s y back → NextStops (operand_continues x) faulty ((between ++ back) ++ rest)
 comma_over s x y faulty between back rest (inl h) sp = rw h (operand_over s x y faulty back rest sp)
 comma_over s x y faulty between back rest (inr h) sp = rw h (operand_stops x comma (λ e. cc))
 

@@ -7,7 +7,7 @@ use Rattle.souper_graph.specs.Syntax.Optional.{◌>>=◌}
 use Rattle.souper_ir.specs.Laws.Peeks.{some_is}
 
 -- the tokens were taken, and nothing else changed
-pub record Takes (p q : Parsing) (used : List Lexeme) : Type 0 where
+pub record TakesTokens (p q : Parsing) (used : List Lexeme) : Type 0 where
   pub places : List (ℕ × Lexeme)
   pub parts : p.tokens ≡ places ++ q.tokens
   pub kinds_are : kinds places ≡ used
@@ -21,7 +21,7 @@ kinds-append (t ∷ a) b = ap (λ (x : List Lexeme). t.1 ∷ x) (kinds-append a 
 pub state_then : (p q r : Parsing) → q ≡ record p { tokens = q.tokens } → r ≡ record q { tokens = r.tokens } → r ≡ record p { tokens = r.tokens }
 state_then p q r e f = f ∙ ap (λ (x : Parsing). record x { tokens = r.tokens }) e
 
-pub Takes-then : (p q r : Parsing) (a b : List Lexeme) → Takes p q a → Takes q r b → Takes p r (a ++ b)
+pub Takes-then : (p q r : Parsing) (a b : List Lexeme) → TakesTokens p q a → TakesTokens q r b → TakesTokens p r (a ++ b)
 Takes-then p q r a b m n = record {
   places = m.places ++ n.places;
   parts = m.parts ∙ ap (λ (x : List (ℕ × Lexeme)). m.places ++ x) n.parts ∙ sym (append_assoc m.places n.places r.tokens);
@@ -29,11 +29,11 @@ Takes-then p q r a b m n = record {
   state = state_then p q r m.state n.state;
 }
 
-pub Takes-none : (p : Parsing) → Takes p p []
+pub Takes-none : (p : Parsing) → TakesTokens p p []
 Takes-none p = record { places = []; parts = refl; kinds_are = refl; state = refl }
 
 -- what was next
-pub taken_ahead : (p q : Parsing) (used : List Lexeme) → Takes p q used → kinds p.tokens ≡ used ++ kinds q.tokens
+pub taken_ahead : (p q : Parsing) (used : List Lexeme) → TakesTokens p q used → kinds p.tokens ≡ used ++ kinds q.tokens
 taken_ahead p q used h = ap kinds h.parts ∙ kinds-append h.places q.tokens ∙ ap (λ (x : List Lexeme). x ++ kinds q.tokens) h.kinds_are
 
 -- these tokens come next
@@ -47,5 +47,5 @@ bind_some (Some x) f y e = (x, refl, e)
 bind_some None f y e = absurd cc
 
 -- what holds of the value that was computed holds of the one that it is
-pub moved : {Y : Type 0} (P : Y → Type 0) (x y : Y) → Some x ≡ Some y → P x → P y
-moved P x y e h = subst P (some_is e) h
+pub holds_of_same : {Y : Type 0} (P : Y → Type 0) (x y : Y) → Some x ≡ Some y → P x → P y
+holds_of_same P x y e h = subst P (some_is e) h

@@ -3,14 +3,14 @@ use Rattle.std.proofs.Common.{◌≡◌, ℕ, Bool, true, false, List, Option, S
 use Rattle.std.specs.Prelude.{bytes_eq, is_some, if◌then◌else◌}
 use Rattle.std.proofs.lemmas.Slice.Eq.{bytes_eq-Decides}
 use Rattle.souper_graph.specs.Syntax.Tokens.{Lexeme, ident, val_name, int, comma, colon, equals, open_paren, close_paren, open_bracket}
-use Rattle.souper_ir.specs.NodeReadings.{name_of, mark_of, is_mark, is_word, word_of, int_by, ident_by}
+use Rattle.souper_ir.specs.NodeReadings.{as_name, as_mark, is_mark, is_word, as_word, int_by, ident_by}
 use Rattle.souper_ir.specs.Laws.Peeks.{some_is}
 
-pub name_means : (t : Lexeme) (n : List ℕ) → name_of t ≡ Some n → t ≡ val_name n
+pub name_means : (t : Lexeme) (n : List ℕ) → as_name t ≡ Some n → t ≡ val_name n
 name_means (val_name m) n e = ap val_name (some_is e)
 name_means _ n e = absurd cc
 
-pub mark_means : (m t : Lexeme) → mark_of m t ≡ Some tt → t ≡ m
+pub mark_means : (m t : Lexeme) → as_mark m t ≡ Some tt → t ≡ m
 mark_means comma comma e = refl
 mark_means colon colon e = refl
 mark_means equals equals e = refl
@@ -24,7 +24,7 @@ some_unit (Some u) e = refl
 some_unit None e = absurd cc
 
 pub is_mark_means : (m t : Lexeme) → is_mark m t ≡ true → t ≡ m
-is_mark_means m t e = mark_means m t (some_unit (mark_of m t) e)
+is_mark_means m t e = mark_means m t (some_unit (as_mark m t) e)
 
 pub is_word_means : (k : List ℕ) (t : Lexeme) → is_word k t ≡ true → t ≡ ident k
 is_word_means k (ident w) e = ap ident ((bytes_eq-Decides w k).0 e)
@@ -34,13 +34,13 @@ if_some : (b : Bool) → ◌≡◌ {A = Option (Unit {0})} (if b then Some tt el
 if_some true e = refl
 if_some false e = absurd cc
 
-pub word_means : (k : List ℕ) (t : Lexeme) → word_of k t ≡ Some tt → t ≡ ident k
+pub word_means : (k : List ℕ) (t : Lexeme) → as_word k t ≡ Some tt → t ≡ ident k
 word_means k t e = is_word_means k t (if_some (is_word k t) e)
 
 pub word_is : (k : List ℕ) → is_word k (ident k) ≡ true
 word_is k = (bytes_eq-Decides k k).1 refl
 
-pub word_of_is : (k : List ℕ) → word_of k (ident k) ≡ Some tt
+pub word_of_is : (k : List ℕ) → as_word k (ident k) ≡ Some tt
 word_of_is k = rw (word_is k) refl
 
 by_word_if : {K : Type 0} (P : List ℕ → K → Type 0) (b : Bool) (w c : List ℕ) (x k : K) (rest : Option K) → (b ≡ true → w ≡ c) → (if b then Some x else rest) ≡ Some k → P c x → (rest ≡ Some k → P w k) → P w k

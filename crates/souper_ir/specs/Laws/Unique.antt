@@ -4,7 +4,7 @@ use Rattle.std.proofs.Common.{refl, sym, ◌∙◌, ap, subst, inl, inr, append_
 use Rattle.std.proofs.lemmas.List.{append_cancel_left}
 use Rattle.souper_graph.specs.Syntax.Tokens.{Lexeme}
 use Rattle.souper_graph.specs.Syntax.Spelling.{Scope}
-use Rattle.souper_ir.specs.Grammar.{Free, Stops, Starts, Members, LastGoesOn, ListGoesOn, OptionSpells, OptionGoesOn}
+use Rattle.souper_ir.specs.Grammar.{Free, NextStops, Starts, Members, LastGoesOn, ListGoesOn, OptionSpells, OptionGoesOn}
 
 -- at most one prefix spells a value so that what follows does not continue it
 abbrev pub Alone : {V : Type 0} → (Scope → V → List Lexeme → Type 0) → (V → Lexeme → Type 0) → Type 0
@@ -21,11 +21,11 @@ pub Free-weaker : (P Q : Lexeme → Type 0) (ts : List Lexeme) → ((t : Lexeme)
 Free-weaker P Q [] f h = tt
 Free-weaker P Q (t ∷ ts) f h = λ q. h (f t q)
 
-pub Stops-weaker : (P Q : Lexeme → Type 0) (faulty : Bool) (ts : List Lexeme) → ((t : Lexeme) → Q t → P t) → Stops P faulty ts → Stops Q faulty ts
+pub Stops-weaker : (P Q : Lexeme → Type 0) (faulty : Bool) (ts : List Lexeme) → ((t : Lexeme) → Q t → P t) → NextStops P faulty ts → NextStops Q faulty ts
 Stops-weaker P Q faulty [] f h = h
 Stops-weaker P Q faulty (t ∷ ts) f h = λ q. h (f t q)
 
-pub Free-from_Stops : (P : Lexeme → Type 0) (faulty : Bool) (ts : List Lexeme) → Stops P faulty ts → Free P ts
+pub Free-from_Stops : (P : Lexeme → Type 0) (faulty : Bool) (ts : List Lexeme) → NextStops P faulty ts → Free P ts
 Free-from_Stops P faulty [] h = tt
 Free-from_Stops P faulty (t ∷ ts) h = h
 
@@ -38,7 +38,7 @@ pub clash : (starts : Lexeme → Bool) (b c d : List Lexeme) → Starts starts b
 clash starts [] c d st e f = st
 clash starts (t ∷ b) c d st e f = (subst (Free (λ t. starts t ≡ true)) e f) st
 
-pub clash_at : (starts : Lexeme → Bool) (faulty : Bool) (b c d : List Lexeme) → Starts starts b → c ≡ b ++ d → Stops (λ t. starts t ≡ true) faulty c → ⊥
+pub clash_at : (starts : Lexeme → Bool) (faulty : Bool) (b c d : List Lexeme) → Starts starts b → c ≡ b ++ d → NextStops (λ t. starts t ≡ true) faulty c → ⊥
 clash_at starts faulty b c d st e f = clash starts b c d st e (Free-from_Stops (λ t. starts t ≡ true) faulty c f)
 
 module _ {V : Type 0} (spells : V → List Lexeme → Type 0) (continues : V → Lexeme → Type 0) (starts : Lexeme → Bool)
@@ -66,7 +66,7 @@ module _ {V : Type 0} (spells : V → List Lexeme → Type 0) (continues : V →
   free_over v [] [] c f m g = g
   free_over v (w ∷ vs) [] c f m g = absurd (not_empty w m.prefix m.suffix m.first (sym m.whole))
 
-  pub stops_over : (faulty : Bool) (v : V) (vs : List V) (a c : List Lexeme) → Free (continues v) a → Members spells continues vs a → Stops (λ t. LastGoesOn continues (v ∷ vs) t) faulty c → Stops (continues v) faulty (a ++ c)
+  pub stops_over : (faulty : Bool) (v : V) (vs : List V) (a c : List Lexeme) → Free (continues v) a → Members spells continues vs a → NextStops (λ t. LastGoesOn continues (v ∷ vs) t) faulty c → NextStops (continues v) faulty (a ++ c)
   stops_over faulty v vs (t ∷ a) c f m g = f
   stops_over faulty v [] [] c f m g = g
   stops_over faulty v (w ∷ vs) [] c f m g = absurd (not_empty w m.prefix m.suffix m.first (sym m.whole))

@@ -1,6 +1,6 @@
 //! A hash of names.
 ghost use Rattle.std.specs.Prelude.{◌≡◌, ◌≤◌, ◌<◌, ◌+◌, length};
-ghost use Rattle.souper_ir.specs.HashView.{half_at, word_at, joined, few_bytes, ends, name_hash, slot};
+ghost use Rattle.souper_ir.specs.HashView.{half_at, eight_bytes_at, joined, few_bytes, number_of_ends, name_hash, slot};
 
 // 2 to the 64th over the golden ratio: the highest bits of a product with it depend on all bits of a number (Knuth's multiplicative
 // hashing).
@@ -19,10 +19,10 @@ fn half_at(bytes: &[u8], at: usize) -> u64
 
 // The number that the 8 bytes from a position on spell, the lowest first.
 #[inline(always)]
-#[tactic(auto, unfolding(crate::specs::HashView::word_at))]
-fn word_at(bytes: &[u8], at: usize) -> u64
+#[tactic(auto, unfolding(crate::specs::HashView::eight_bytes_at))]
+fn eight_bytes_at(bytes: &[u8], at: usize) -> u64
     requires { at + 8 ≤ length bytes.now }
-    ensures { result ≡ word_at bytes.now at }
+    ensures { result ≡ eight_bytes_at bytes.now at }
 {
     u64::from_le_bytes([
         bytes[at],
@@ -58,8 +58,8 @@ fn few_bytes(bytes: &[u8]) -> u64
 
 // The number of a name: of its first 16 bytes and its last 32, so of all of them if there are 48 at most. A longer name takes no longer.
 #[inline(always)]
-fn ends(bytes: &[u8]) -> u64
-    ensures { result ≡ ends bytes.now }
+fn number_of_ends(bytes: &[u8]) -> u64
+    ensures { result ≡ number_of_ends bytes.now }
 {
     let len = bytes.len();
     if len < 4 {
@@ -68,19 +68,22 @@ fn ends(bytes: &[u8]) -> u64
     if len < 8 {
         return joined(half_at(bytes, 0), half_at(bytes, len - 4));
     }
-    let words = joined(word_at(bytes, 0), word_at(bytes, len - 8));
+    let words = joined(eight_bytes_at(bytes, 0), eight_bytes_at(bytes, len - 8));
     if len <= 16 {
         return words;
     }
-    let words = joined(words, word_at(bytes, len - 16));
+    let words = joined(words, eight_bytes_at(bytes, len - 16));
     if len <= 24 {
         return words;
     }
-    let words = joined(words, word_at(bytes, len - 24));
+    let words = joined(words, eight_bytes_at(bytes, len - 24));
     if len <= 32 {
         return words;
     }
-    joined(joined(words, word_at(bytes, len - 32)), word_at(bytes, 8))
+    joined(
+        joined(words, eight_bytes_at(bytes, len - 32)),
+        eight_bytes_at(bytes, 8),
+    )
 }
 
 /// The hash of a name.
@@ -89,7 +92,7 @@ fn ends(bytes: &[u8]) -> u64
 pub(crate) fn hash_of(name: &str) -> u64
     ensures { result ≡ name_hash name.now }
 {
-    ends(name.as_bytes()).wrapping_mul(FACTOR)
+    number_of_ends(name.as_bytes()).wrapping_mul(FACTOR)
 }
 
 /// The slot of a hash: the hash over 2 to the 64th, times the number of slots.

@@ -11,7 +11,7 @@ ghost use Rattle.souper_ir.specs.Errors.{error_of, widened, kind_of};
 ghost use Rattle.souper_ir.specs.Continuation.{statement_continues, item_continues};
 ghost use Rattle.souper_ir.specs.Grammar.{Took, Refusal};
 ghost use Rattle.souper_ir.specs.declared.parse.item.Next.{Next};
-ghost use Rattle.souper_ir.specs.NextStatement.{next_at, Begins};
+ghost use Rattle.souper_ir.specs.NextStatement.{next_at, NextIs};
 ghost use Rattle.souper_ir.specs.Reading.{Gives, IfRefused, cause_of};
 ghost use Rattle.souper_ir.specs.Items.{Enters, TakesStatements, StatedRefusal};
 ghost use Rattle.souper_ir.specs.Laws.Items.{item_alone};
@@ -63,7 +63,7 @@ fn next_kind(parser: &mut Parser<'_>) -> Read<Next>
 // The next statement, a path condition, which is entered into the scope.
 #[inline(never)]
 fn enter_pc(parser: &mut Parser<'_>) -> Read<()>
-    requires { Begins Next.Pc parser.old }
+    requires { NextIs Next.Pc parser.old }
     ensures ok { OnOk result (Enters parser.old parser.new) }
     ensures err { IfErr result (λ e. Refusal statement_spells statement_continues (error_of e) parser.old parser.new) }
 {
@@ -74,7 +74,7 @@ fn enter_pc(parser: &mut Parser<'_>) -> Read<()>
 // The next statement, a path condition on a predecessor of a block, which is entered into the scope.
 #[inline(never)]
 fn enter_block_pc(parser: &mut Parser<'_>) -> Read<()>
-    requires { Begins Next.BlockPc parser.old }
+    requires { NextIs Next.BlockPc parser.old }
     ensures ok { OnOk result (Enters parser.old parser.new) }
     ensures err { IfErr result (λ e. Refusal statement_spells statement_continues (error_of e) parser.old parser.new) }
 {
@@ -85,7 +85,7 @@ fn enter_block_pc(parser: &mut Parser<'_>) -> Read<()>
 // The next statement, an assignment, which is entered into the scope.
 #[inline(never)]
 fn enter_assignment(parser: &mut Parser<'_>) -> Read<()>
-    requires { Begins Next.Assignment parser.old }
+    requires { NextIs Next.Assignment parser.old }
     ensures ok { OnOk result (Enters parser.old parser.new) }
     ensures err { IfErr result (λ e. Refusal statement_spells statement_continues (error_of e) parser.old parser.new) }
 {

@@ -7,7 +7,7 @@ ghost use Rattle.souper_graph.specs.Syntax.Tokens.{Lexeme, ident, val_name, int,
 ghost use Rattle.souper_lexer.specs.TokenView.{lexeme_of};
 ghost use Rattle.souper_graph.specs.Uses.{is_condition};
 ghost use Rattle.souper_graph.specs.Syntax.Spelling.{entry_of, position_of, predecessors_if_block};
-ghost use Rattle.souper_ir.specs.NodeReadings.{accept, block_entry, is_any, is_mark, is_name, mark_of, name_of, new_name_at};
+ghost use Rattle.souper_ir.specs.NodeReadings.{accept, block_entry, is_any, is_mark, is_name, as_mark, as_name, new_name_at};
 ghost use Rattle.souper_ir.specs.NamesView.{is_named, entry_in_scope};
 ghost use Rattle.souper_ir.specs.Grammar.{Comes, peek_at};
 ghost use Rattle.souper_ir.specs.MarkView.{lexeme_of_mark};
@@ -303,7 +303,7 @@ impl<'a> Parser<'a> {
     /// may be this mark even if it is not taken.
     #[inline(always)]
     pub(crate) fn take_mark(&mut self, mark: Mark) -> bool
-        ensures taken { result ≡ true → IsRead (accept (mark_of (lexeme_of_mark mark)) self.old) tt self.old self.new }
+        ensures taken { result ≡ true → IsRead (accept (as_mark (lexeme_of_mark mark)) self.old) tt self.old self.new }
         ensures seen { result ≡ true → IsRead (peek_at (is_mark (lexeme_of_mark mark)) self.old) true self.old self.old }
         ensures kept { result ≡ false → self.new ≡ self.old }
     {
@@ -323,7 +323,7 @@ impl<'a> Parser<'a> {
     /// most. It may be a name even if it is not taken.
     #[inline(always)]
     pub(crate) fn take_name(&mut self) -> Option<&'a str>
-        ensures taken { IfSome result (λ name. IsRead (accept name_of self.old) name.now self.old self.new) }
+        ensures taken { IfSome result (λ name. IsRead (accept as_name self.old) name.now self.old self.new) }
         ensures seen { IfSome result (λ name. IsRead (peek_at is_name self.old) true self.old self.old) }
         ensures kept { IfNone result (self.new ≡ self.old) }
     {

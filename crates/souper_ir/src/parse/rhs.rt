@@ -8,7 +8,7 @@ ghost use Rattle.souper_ir.specs.Reading.{Gives};
 ghost use Rattle.souper_ir.specs.Grammar.{peek_at};
 ghost use Rattle.souper_graph.specs.Syntax.Spelling.{block_spells, phi_spells, instruction_spells, rhs_spells};
 ghost use Rattle.souper_ir.specs.Continuation.{phi_continues, instruction_continues, rhs_continues};
-ghost use Rattle.souper_ir.specs.NodeReadings.{accept, ident_by, is_word, starts_instruction, block_after_word_at, block_at, block_name_at, phi_after_word_at, phi_at, instruction_at, instruction_of_at, rhs_word_at, rhs_at};
+ghost use Rattle.souper_ir.specs.NodeReadings.{accept, ident_by, is_word, starts_instruction, block_after_word_at, block_node_at, block_name_at, phi_after_word_at, phi_at, instruction_at, instruction_of_at, rhs_word_at, rhs_at};
 ghost use Rattle.souper_ir.specs.Words.{opcode_of};
 ghost use Rattle.souper_ir.specs.Laws.FromReadings.{one_alone};
 ghost use Rattle.souper_ir.specs.Laws.RightSides.{block_complete, block_first, phi_complete, phi_first, instruction_complete, instruction_first, rhs_complete};
@@ -32,9 +32,9 @@ fn block_after_word(parser: &mut Parser<'_>) -> Read<Block>
     Ok(Block { predecessors })
 }
 
-#[tactic(auto, unfolding(crate::specs::NodeReadings::block_at))]
+#[tactic(auto, unfolding(crate::specs::NodeReadings::block_node_at))]
 pub(crate) fn block(parser: &mut Parser<'_>) -> Read<Block>
-    ensures { Gives (λ b. b) (widened result) (block_at parser.old) parser.old parser.new }
+    ensures { Gives (λ b. b) (widened result) (block_node_at parser.old) parser.old parser.new }
 {
     keyword(parser, "block")?;
     block_after_word(parser)
@@ -163,7 +163,7 @@ impl Parse for Block {
 
     ghost continues = { λ b t. ⊥ };
 
-    ghost alone = { one_alone (λ s. block_spells) (λ b t. ⊥) block_at block_complete };
+    ghost alone = { one_alone (λ s. block_spells) (λ b t. ⊥) block_node_at block_complete };
 
     fn parse<'a>(parser: &mut Parser<'a>) -> Result<Self> {
         widen(block(parser))

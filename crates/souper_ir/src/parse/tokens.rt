@@ -8,7 +8,7 @@ ghost use Rattle.souper_graph.specs.Syntax.Numbers.{number_of, count_of};
 ghost use Rattle.souper_lexer.specs.TokenReading.{mark_of as mark_of_byte};
 ghost use Rattle.souper_lexer.specs.TokenView.{lexeme_of};
 ghost use Rattle.souper_ir.specs.MarkView.{lexeme_of_mark};
-ghost use Rattle.souper_ir.specs.NodeReadings.{accept, name_of, is_name, is_any, mark_of, is_mark, is_word, word_of, is_int, int_by};
+ghost use Rattle.souper_ir.specs.NodeReadings.{accept, as_name, is_name, is_any, as_mark, is_mark, is_word, as_word, is_int, int_by};
 
 use crate::parse::message::Message;
 use crate::parse::numbers::{count, number, small_count};
@@ -73,7 +73,7 @@ fn is_token(mark: Mark, token: Token<'_>) -> bool
 #[inline(never)]
 #[tactic(auto, unfolding(crate::specs::NodeReadings::accept))]
 fn next_mark(parser: &mut Parser<'_>, mark: Mark) -> Read<()>
-    ensures { Gives (λ u. u) (widened result) (accept (mark_of (lexeme_of_mark mark)) parser.old) parser.old parser.new }
+    ensures { Gives (λ u. u) (widened result) (accept (as_mark (lexeme_of_mark mark)) parser.old) parser.old parser.new }
 {
     let token = parser.token()?;
     if is_token(mark, token) {
@@ -86,7 +86,7 @@ fn next_mark(parser: &mut Parser<'_>, mark: Mark) -> Read<()>
 #[inline(always)]
 #[tactic(auto, unfolding(crate::specs::NodeReadings::accept))]
 pub(crate) fn punctuation(parser: &mut Parser<'_>, mark: Mark) -> Read<()>
-    ensures { Gives (λ u. u) (widened result) (accept (mark_of (lexeme_of_mark mark)) parser.old) parser.old parser.new }
+    ensures { Gives (λ u. u) (widened result) (accept (as_mark (lexeme_of_mark mark)) parser.old) parser.old parser.new }
 {
     if parser.take_mark(mark) {
         return Ok(());
@@ -108,7 +108,7 @@ pub(crate) fn mark_comes(parser: &mut Parser<'_>, mark: Mark) -> Read<bool>
 #[inline(never)]
 #[tactic(auto, unfolding(crate::specs::NodeReadings::accept))]
 fn next_value_name<'a>(parser: &mut Parser<'a>) -> Read<&'a str>
-    ensures { Gives (λ name. name.now) (widened result) (accept name_of parser.old) parser.old parser.new }
+    ensures { Gives (λ name. name.now) (widened result) (accept as_name parser.old) parser.old parser.new }
 {
     match parser.token()? {
         Token::ValName(name) => Ok(name),
@@ -119,7 +119,7 @@ fn next_value_name<'a>(parser: &mut Parser<'a>) -> Read<&'a str>
 #[inline(always)]
 #[tactic(auto, unfolding(crate::specs::NodeReadings::accept))]
 pub(crate) fn value_name<'a>(parser: &mut Parser<'a>) -> Read<&'a str>
-    ensures { Gives (λ name. name.now) (widened result) (accept name_of parser.old) parser.old parser.new }
+    ensures { Gives (λ name. name.now) (widened result) (accept as_name parser.old) parser.old parser.new }
 {
     if let Some(name) = parser.take_name() {
         return Ok(name);
@@ -129,7 +129,7 @@ pub(crate) fn value_name<'a>(parser: &mut Parser<'a>) -> Read<&'a str>
 
 #[tactic(auto, unfolding(crate::specs::NodeReadings::accept))]
 pub(crate) fn keyword(parser: &mut Parser<'_>, word: &'static str) -> Read<()>
-    ensures { Gives (λ u. u) (widened result) (accept (word_of word.now) parser.old) parser.old parser.new }
+    ensures { Gives (λ u. u) (widened result) (accept (as_word word.now) parser.old) parser.old parser.new }
 {
     match parser.token()? {
         Token::Ident(other) if other == word => Ok(()),

@@ -4,7 +4,7 @@ use Rattle.souper_graph.specs.Values.{Item}
 use Rattle.souper_graph.specs.View.{view_left_hand_side, view_replacement}
 use Rattle.souper_graph.specs.WellFormed.{WellFormed}
 use Rattle.souper_graph.specs.LeftSides.{IsLeftOf}
-use Rattle.souper_lookup.specs.Stored.{key_of}
+use Rattle.souper_lookup.specs.Stored.{key_of_left}
 use Rattle.souper_graph.proofs.Lefts.{left-well}
 use Rattle.souper_lookup.proofs.keys.left_key.Goals as goal
 
@@ -22,5 +22,5 @@ returns-in_ok-key_of_left-in-Some-clause-key c = λ w.
     record {
       infer = l.infer;
       line = l.line;
-      is = c.in_ok-key_of_left-in-Some.ensures.text (subst (λ (x : Item). WellFormed x) (sym l.is) (left-well a l.infer l.line w)) ∙ ap key_of l.is;
+      is = c.in_ok-key_of_left-in-Some.ensures.text (subst (λ (x : Item). WellFormed x) (sym l.is) (left-well a l.infer l.line w)) ∙ ap key_of_left l.is;
     }

@@ -4,7 +4,7 @@ use Rattle.souper_ir.specs.declared.parse.place.Place.{Place}
 use Rattle.souper_ir.specs.declared.parse.place.Places.{Places}
 use Rattle.souper_ir.specs.Errors.{IsLocationIn, shown_by_place}
 use Rattle.std.specs.Prelude.{option_map}
-use Rattle.souper_ir.specs.Places.{newlines, IsFault, IsPlace, shown_refusal, file_or_unknown}
+use Rattle.souper_ir.specs.Places.{newlines, AtFault, IsPlace, shown_refusal, file_or_unknown}
 use Rattle.souper_ir.proofs.Shown.After.{fault_after, fault_within, line_fits, place_after}
 use Rattle.souper_ir.proofs.parse.error.locate_after.Goals as goal
 
@@ -70,10 +70,10 @@ returns-in-Ok-clause-location c kind text b fits =
       location_is = ap (λ (r : Refusal). option_map (λ (q : Places). q.location) r.places) c.deref_mut-in-Ok.ensures.value;
       offset_is = refl;
       is_location = (
-        subst (λ (r : Refusal). IsFault (text ++ source) c.saturating_add.result r.at_end c.saturating_add-places-in-Ok-2.result) (sym (c.deref_mut-in-Ok.ensures.value))
-            (subst (λ (r : Refusal). IsFault (text ++ source) c.saturating_add.result r.at_end c.saturating_add-places-in-Ok-2.result) (sym kept)
-            (subst (λ (m : ℕ). IsFault (text ++ source) m at_end c.saturating_add-places-in-Ok-2.result) offset
-            (subst (λ (m : ℕ). IsFault (text ++ source) (length text + o) at_end m) to (fault_after text source o at_end location.offset fault)))),
+        subst (λ (r : Refusal). AtFault (text ++ source) c.saturating_add.result r.at_end c.saturating_add-places-in-Ok-2.result) (sym (c.deref_mut-in-Ok.ensures.value))
+            (subst (λ (r : Refusal). AtFault (text ++ source) c.saturating_add.result r.at_end c.saturating_add-places-in-Ok-2.result) (sym kept)
+            (subst (λ (m : ℕ). AtFault (text ++ source) m at_end c.saturating_add-places-in-Ok-2.result) offset
+            (subst (λ (m : ℕ). AtFault (text ++ source) (length text + o) at_end m) to (fault_after text source o at_end location.offset fault)))),
         subst (λ (m : ℕ). IsPlace (text ++ source) (c.saturating_add-places-in-Ok-2.result + 1) m location.column line_text) line
             (subst (λ (m : ℕ). IsPlace (text ++ source) m (location.line + newlines text) location.column line_text) to_next after),
       );

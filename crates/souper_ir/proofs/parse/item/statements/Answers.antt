@@ -3,7 +3,7 @@ use Rattle.souper_ir.specs.declared.parse.item.Next.TheVariants.{Assignment, Pc,
 use Rattle.souper_ir.specs.Errors.{error_of}
 use Rattle.souper_ir.specs.Reading.{cause_of, if_refused}
 use Rattle.souper_ir.specs.NodeReadings.{starts_statement}
-use Rattle.souper_ir.specs.Laws.Items.{ends, goes_on_behind, entered_shorter, peek_refused, member_refused}
+use Rattle.souper_ir.specs.Laws.Items.{statements_end, goes_on_behind, entered_shorter, peek_refused, member_refused}
 use Rattle.souper_ir.proofs.Nodes.NextStatements.{unseen, statement_seen, no_statement_seen, begins_here}
 use Rattle.souper_ir.proofs.parse.item.statements.Goals as goal
 
@@ -18,7 +18,7 @@ returns-in_err-next_kind-clause-err c =
 pub returns-in-Other-clause-ok : goal.returns-in-Other-clause-ok
 returns-in-Other-clause-ok c = (
   c.loop-parser.invariant.0,
-  ends c.loop-parser.invariant.0 c.args.parser.now c.loop-parser.parser c.next_kind.new.parser c.loop-parser.invariant.1
+  statements_end c.loop-parser.invariant.0 c.args.parser.now c.loop-parser.parser c.next_kind.new.parser c.loop-parser.invariant.1
       (no_statement_seen c.loop-parser.parser c.next_kind.new.parser (rw c.in-Other.is at c.in_ok-next_kind.ensures)),
 )
 
