@@ -1,34 +1,19 @@
 -- The bytes of a reader, the buffer of a stream, the parsed text, and where items begin in it.
-use Rattle.std.proofs.Common.{◌≡◌, ◌⊎◌, inl, inr, ℕ, ◌+◌, ◌-◌, ◌<◌, Bool, true, false, length, take, drop, get_or, get_or-append-add, eqb-true, length-append, append_assoc, subst, arith, List, [], ◌∷◌, ◌++◌, Option, Some, None, refl, sym, ap, ◌∙◌, ◌^◌, ◌≤◌, cond, append-nil, min, is_some, Ok, Err, Result}
-use Rattle.std.specs.Prelude.{IfSome, Result, ◌==◌, slice_index_or, if◌then◌else◌, ◌^◌, option_map, vec_len, IfErr}
+use Rattle.std.proofs.Common.{◌≡◌, ◌⊎◌, inl, inr, ℕ, ◌+◌, ◌-◌, ◌<◌, Bool, true, false, length, take, drop, get_or, get_or-append-add, eqb-true, length-append, append_assoc, subst, arith, List, [], ◌∷◌, ◌++◌, Option, Some, None, refl, sym, ap, ◌∙◌, ◌^◌, ◌≤◌, append-nil, min, is_some, Ok, Err, Result, IfSome, ◌==◌, slice_index_or, if◌then◌else◌, option_map, vec_len, IfErr, take_all, length-drop, length-take, take-add}
 use Rattle.std.specs.Io.{StartsWith, appended_bytes}
 use Rattle.std.specs.Io.BufRead.{take_through}
 use Rattle.std.specs.Io.KnownBytes.{Consumes}
 use Rattle.std.proofs.KnownBytes.{starts_with_rest, Consumes-more}
 use Rattle.std.proofs.Transfers.{starts_with_trans, starts_with_length}
 use Rattle.std.proofs.lemmas.Bool.{eqb-false}
-use Rattle.std.proofs.lemmas.List.{same_from_push, take_all, take_more, drop-append-le, take-append-le, length-drop, length-take, drop_more, drop_all}
-use Rattle.std.proofs.Math.Seq.{drop-append_seam, take-append-add, take-add}
-use Rattle.std.proofs.lemmas.List.Sums.{sum_by-append, count_by-le-length}
-use Rattle.souper_graph.specs.Syntax.Tokens.{IsOneLine, Lexeme, spelling, Begins}
-use Rattle.souper_graph.specs.Values.{Item}
-use Rattle.souper_graph.specs.Syntax.Spelling.{kinds, ItemType, list_spells, TextSpells}
-use Rattle.souper_ir.specs.Places.{EndsIn, newlines, IsLineText, IsPlace}
-use Rattle.souper_ir.specs.declared.parse.error.ParseError.{ParseError}
-use Rattle.souper_ir.specs.declared.parse.error.ParseErrorKind.TheVariants.{Io, Parse, Memory as MemoryKind}
-use Rattle.souper_ir.specs.Joining.{IsLines}
-use Rattle.souper_ir.proofs.Items.Parting.{lines_end}
-use Rattle.souper_ir.specs.Errors.{kind_of, HasLocation, HasLocationAfter, IsPlacedAfter, IsRefusalAt}
-use Rattle.souper_ir.specs.declared.parse.error.Before.{Before}
+use Rattle.std.proofs.lemmas.List.{same_from_push, take_more, drop-append-le, take-append-le, drop_more, drop_all}
+use Rattle.std.proofs.Math.Seq.{drop-append_seam, take-append-add}
+use Rattle.std.proofs.lemmas.List.Sums.{count_by-le-length}
+use Rattle.souper_stream.proofs.Prelude.{newlines-append, IsOneLine, Lexeme, spelling, Begins, Item, kinds, ItemType, list_spells, EndsIn, newlines, IsLineText, IsPlace, ParseError, Io, Parse, MemoryKind, IsLines, lines_end, kind_of, HasLocation, HasLocationAfter, IsPlacedAfter, IsRefusalAt, Before, Memory, IsStrError, kinds-append, TakesOver, TakesPrefix, StartsAt, SpellEachFrom, PrefixSpellsFrom, TakesFrom, HasStarts, starts_of}
 use Rattle.souper_ir.specs.declared.parse.error.ParseErrorKind.{ParseErrorKind}
-use Rattle.souper_ir.specs.declared.parse.memory.Memory.{Memory}
-use Rattle.souper_ir.specs.Answers.{IsStrError}
-use Rattle.souper_ir.specs.Laws.Steps.{kinds-append}
-use Rattle.souper_ir.specs.Sinks.{PrefixSpells, TakesOver, TakesPrefix}
-use Rattle.souper_ir.specs.Starts.{StartsAt, SpellEachFrom, TextSpellsFrom, PrefixSpellsFrom, TakesFrom, HasStarts, starts_of}
-use Rattle.souper_stream.specs.Reading.{AreAll, Reads}
+use Rattle.souper_stream.specs.Reading.{AreAll, ReadsBytes}
 use Rattle.souper_stream.specs.declared.buffer.Buffer.{Buffer}
-use Rattle.souper_stream.specs.Buffering.{held, Buffers, KeepsHeld, Counts, unparsed}
+use Rattle.souper_stream.specs.Buffering.{window, Buffers, KeepsWindow, Counts, unparsed}
 use Rattle.souper_stream.specs.declared.starts.Start.{Start}
 use Rattle.souper_stream.specs.Starts.{Ascend, AreStarts}
 
@@ -50,7 +35,7 @@ through_ends (x ∷ xs) = under (x == 10) refl (through_ends xs)
 appended_both : (old mid new : List ℕ) → StartsWith mid old → StartsWith new mid → appended_bytes old new ≡ appended_bytes old mid ++ appended_bytes mid new
 appended_both old mid new p q = ap (drop (length old)) (starts_with_rest new mid q) ∙ drop-append-le (length old) mid (appended_bytes mid new) (starts_with_length mid old p)
 
-pub reads_both : {E F : Type 0} (a b c : Option (List ℕ)) (old mid new : List ℕ) (r : Result Bool E) (s : Result Bool F) → Reads a b old mid r → Reads b c mid new s → Reads a c old new s
+pub reads_both : {E F : Type 0} (a b c : Option (List ℕ)) (old mid new : List ℕ) (r : Result Bool E) (s : Result Bool F) → ReadsBytes a b old mid r → ReadsBytes b c mid new s → ReadsBytes a c old new s
 reads_both a b c old mid new r s f g = record {
   kept = starts_with_trans new mid old g.kept f.kept;
   consumed = Consumes-more a b c old mid new f.kept g.kept f.consumed g.consumed;
@@ -88,9 +73,6 @@ line_reads (Some xs) old new last starts longer last_is b other =
       | inr rest ↦ sym (same ∙ rest)
     ]
 
-pub newlines-append : (xs ys : List ℕ) → newlines (xs ++ ys) ≡ newlines xs + newlines ys
-newlines-append xs ys = sum_by-append (λ b. cond (b == 10) 1 0) xs ys
-
 -- nothing was read
 pub buffers_none : (b : Buffer) → b.bytes.items ≡ [] → b.start ≡ 0 → b.parsed ≡ 0 → b.last ≡ 0 → b.before.bytes ≡ 0 → b.before.lines ≡ 0 → Buffers [] [] b
 buffers_none b bytes start parsed last bytes_before lines_before = record {
@@ -108,22 +90,22 @@ buffers_none b bytes start parsed last bytes_before lines_before = record {
 -- more was read
 pub buffers_more : (done rest more : List ℕ) (b c : Buffer) → c.bytes.items ≡ b.bytes.items ++ more → Buffers done rest b → Buffers done (rest ++ more) (record b { bytes = c.bytes })
 buffers_more done rest more b c e p =
-    let held_is : drop b.start c.bytes.items ≡ held b ++ more = ap (drop b.start) e ∙ drop-append-le b.start b.bytes.items more (omega (arith, p.within)) in
-    let short : b.parsed ≤ length (held b) = omega (arith, p.within, length-drop b.start b.bytes.items) in
+    let held_is : drop b.start c.bytes.items ≡ window b ++ more = ap (drop b.start) e ∙ drop-append-le b.start b.bytes.items more (omega (arith, p.within)) in
+    let short : b.parsed ≤ length (window b) = omega (arith, p.within, length-drop b.start b.bytes.items) in
     record {
       gone = p.gone;
       lines = p.lines;
       counted = p.counted;
-      done_is = p.done_is ∙ ap (λ (x : List ℕ). p.gone ++ x) (sym (ap (take b.parsed) held_is ∙ take-append-le b.parsed (held b) more short));
-      rest_is = ap (drop b.parsed) held_is ∙ drop-append-le b.parsed (held b) more short ∙ ap (λ (x : List ℕ). x ++ more) p.rest_is;
+      done_is = p.done_is ∙ ap (λ (x : List ℕ). p.gone ++ x) (sym (ap (take b.parsed) held_is ∙ take-append-le b.parsed (window b) more short));
+      rest_is = ap (drop b.parsed) held_is ∙ drop-append-le b.parsed (window b) more short ∙ ap (λ (x : List ℕ). x ++ more) p.rest_is;
       placed = p.placed;
-      one_line = subst (λ (x : List ℕ). IsOneLine x) (sym (ap (take (b.parsed - 1)) held_is ∙ take-append-le (b.parsed - 1) (held b) more (omega arith))) p.one_line;
+      one_line = subst (λ (x : List ℕ). IsOneLine x) (sym (ap (take (b.parsed - 1)) held_is ∙ take-append-le (b.parsed - 1) (window b) more (omega arith))) p.one_line;
       within = omega (arith, ap length e, length-append b.bytes.items more, p.within);
       last = p.last;
     }
 
 -- the same is held
-pub buffers_drained : (done rest : List ℕ) (b c : Buffer) → c.bytes.items ≡ held b → Buffers done rest b → Buffers done rest (record b { bytes = c.bytes; start = 0; last = 0 })
+pub buffers_drained : (done rest : List ℕ) (b c : Buffer) → c.bytes.items ≡ window b → Buffers done rest b → Buffers done rest (record b { bytes = c.bytes; start = 0; last = 0 })
 buffers_drained done rest b c e p = record {
   gone = p.gone;
   lines = p.lines;
@@ -191,28 +173,24 @@ module _ (file : Option (List ℕ)) (done rest after : List ℕ) (b : Buffer) (l
   abbrev text : List ℕ
   text = done ++ take len rest
 
-  text_is : p.gone ++ take (b.parsed + len) (held b) ≡ text
+  text_is : p.gone ++ take (b.parsed + len) (window b) ≡ text
   text_is =
-      ap (λ (x : List ℕ). p.gone ++ x) (take-add b.parsed len (held b) ∙ ap (λ (x : List ℕ). take b.parsed (held b) ++ take len x) p.rest_is)
-      ∙ sym (append_assoc p.gone (take b.parsed (held b)) (take len rest)) ∙ ap (λ (x : List ℕ). x ++ take len rest) (sym p.done_is)
+      ap (λ (x : List ℕ). p.gone ++ x) (take-add b.parsed len (window b) ∙ ap (λ (x : List ℕ). take b.parsed (window b) ++ take len x) p.rest_is)
+      ∙ sym (append_assoc p.gone (take b.parsed (window b)) (take len rest)) ∙ ap (λ (x : List ℕ). x ++ take len rest) (sym p.done_is)
 
-  placed_there : kind_of shown ≡ Parse → IsPlacedAfter file b.before (take (b.parsed + len) (held b)) (b.parsed + offset) shown → length text + 1 < 2 ^ 64 → IsRefusalAt file text (length done + offset) shown
+  placed_there : kind_of shown ≡ Parse → IsPlacedAfter file b.before (take (b.parsed + len) (window b)) (b.parsed + offset) shown → length text + 1 < 2 ^ 64 → IsRefusalAt file text (length done + offset) shown
   placed_there kind (inl memory) small = let bad : MemoryKind ≡ Parse = sym memory ∙ kind in absurd cc
   placed_there kind (inr at) small =
       let at_offset : length p.gone + (b.parsed + offset) ≡ length done + offset =
-      omega (arith, length-append p.gone (take b.parsed (held b)), length-take b.parsed (held b), ap length p.done_is, p.within, length-drop b.start b.bytes.items) in
-      let sizes = ap length text_is in
-      let few = length-append p.gone (take (b.parsed + len) (held b)) in
+      omega (arith, length-append p.gone (take b.parsed (window b)), length-take b.parsed (window b), ap length p.done_is, p.within, length-drop b.start b.bytes.items) in
       let begun : (0 < b.parsed + offset) ⊎ (p.gone ≡ []) = elim p.placed [ inl k ↦ inl (omega arith) | inr k ↦ inr k ] in
-      subst (λ (x : List ℕ). IsRefusalAt file x (length done + offset) shown) text_is (subst (λ (n : ℕ). IsRefusalAt file (p.gone ++ take (b.parsed + len) (held b)) n shown) at_offset (at p.gone (p.counted (omega arith)) begun (omega arith)))
+      subst (λ (x : List ℕ). IsRefusalAt file x (length done + offset) shown) text_is (subst (λ (n : ℕ). IsRefusalAt file (p.gone ++ take (b.parsed + len) (window b)) n shown) at_offset (at p.gone (p.counted (omega (arith, ap length text_is, length-append p.gone (take (b.parsed + len) (window b))))) begun (rw text_is small)))
 
-  pub buffers_located : HasLocationAfter b.before (take (b.parsed + len) (held b)) shown → length text + 1 < 2 ^ 64 → HasLocation text shown
+  pub buffers_located : HasLocationAfter b.before (take (b.parsed + len) (window b)) shown → length text + 1 < 2 ^ 64 → HasLocation text shown
   buffers_located at small =
-      let sizes = ap length text_is in
-      let few = length-append p.gone (take (b.parsed + len) (held b)) in
-      subst (λ (x : List ℕ). HasLocation x shown) text_is (at p.gone (p.counted (omega arith)) (omega arith))
+      subst (λ (x : List ℕ). HasLocation x shown) text_is (at p.gone (p.counted (omega (arith, ap length text_is, length-append p.gone (take (b.parsed + len) (window b))))) (rw text_is small))
 
-  pub buffers_placed : IsLines (take len rest) ⊎ (after ≡ []) → kind_of shown ≡ Parse → IsPlacedAfter file b.before (take (b.parsed + len) (held b)) (b.parsed + offset) shown → length (text ++ after) + 1 < 2 ^ 64 → IsRefusalAt file (text ++ after) (length done + offset) shown
+  pub buffers_placed : IsLines (take len rest) ⊎ (after ≡ []) → kind_of shown ≡ Parse → IsPlacedAfter file b.before (take (b.parsed + len) (window b)) (b.parsed + offset) shown → length (text ++ after) + 1 < 2 ^ 64 → IsRefusalAt file (text ++ after) (length done + offset) shown
   buffers_placed (inl lines) kind located small =
       let part_long = length-take len rest in
       let long = length-append done (take len rest) in
@@ -220,8 +198,8 @@ module _ (file : Option (List ℕ)) (done rest after : List ℕ) (b : Buffer) (l
   buffers_placed (inr none) kind located small =
       subst (λ (x : List ℕ). IsRefusalAt file x (length done + offset) shown) (sym (ap (λ (x : List ℕ). text ++ x) none ∙ append-nil text)) (placed_there kind located (omega (arith, small, length-append text after)))
 
-pub keeps_more : (a b c : Buffer) → KeepsHeld a b → (more : List ℕ) × (c.bytes.items ≡ b.bytes.items ++ more) → KeepsHeld a c
-keeps_more a b c h (more, e) = record { more = h.more ++ more; bytes_are = e ∙ ap (λ (x : List ℕ). x ++ more) h.bytes_are ∙ append_assoc (held a) h.more more }
+pub keeps_more : (a b c : Buffer) → KeepsWindow a b → (more : List ℕ) × (c.bytes.items ≡ b.bytes.items ++ more) → KeepsWindow a c
+keeps_more a b c h (more, e) = record { more = h.more ++ more; bytes_are = e ∙ ap (λ (x : List ℕ). x ++ more) h.bytes_are ∙ append_assoc (window a) h.more more }
 
 -- after some tokens the others begin further on, and no later than the end
 later : (us ts : List (ℕ × Lexeme)) (n : ℕ) (bs rest : List ℕ) → Begins n bs (us ++ ts) rest → (m : ℕ) × (cs : List ℕ) × Begins m cs ts rest × (n ≤ m) × ((start : ℕ) → StartsAt start us → (n ≤ start) × (start ≤ m)) × (m + length cs ≡ n + length bs)
@@ -245,25 +223,16 @@ each_ascend k (a ∷ items) (start ∷ starts) ts n bs rest e h =
     let (from, after) = first start e.starts in
     (from, ascend_from start m starts (n + length bs) after (subst (λ (x : ℕ). Ascend m starts x) to (each_ascend k items starts e.others m cs rest e.further begun)))
 
-pub text_ascends : (k : ItemType) (bs : List ℕ) (items : List Item) (starts : List ℕ) → TextSpellsFrom k bs items starts → Ascend 0 starts (length bs)
-text_ascends k bs items starts (ts, (rest, begun, gap), each) = let all : Ascend 0 starts (0 + length bs) = each_ascend k items starts ts 0 bs rest each begun in subst (λ (n : ℕ). Ascend 0 starts n) (omega arith) all
-
 pub prefix_ascends : (k : ItemType) (bs : List ℕ) (items : List Item) (starts : List ℕ) → PrefixSpellsFrom k bs items starts → Ascend 0 starts (length bs)
 prefix_ascends k bs items starts (ts, rest, begun, each) = let all : Ascend 0 starts (0 + length bs) = each_ascend k items starts ts 0 bs rest each begun in subst (λ (n : ℕ). Ascend 0 starts n) (omega arith) all
 
 -- the items are spelled, wherever they begin
-each_spells : (k : ItemType) (items : List Item) (starts : List ℕ) (ts : List (ℕ × Lexeme)) → SpellEachFrom k items starts ts → list_spells k items (kinds ts)
+pub each_spells : (k : ItemType) (items : List Item) (starts : List ℕ) (ts : List (ℕ × Lexeme)) → SpellEachFrom k items starts ts → list_spells k items (kinds ts)
 each_spells k [] [] ts e = ap kinds e
 each_spells k [] (start ∷ starts) ts e = absurd e
 each_spells k (a ∷ items) [] ts e = absurd e
 each_spells k (a ∷ items) (start ∷ starts) ts e =
     record { prefix = kinds e.used; suffix = kinds e.others; whole = ap kinds e.whole ∙ kinds-append e.used e.others; first = e.spelled; second = each_spells k items starts e.others e.further }
-
-pub text_spells : (k : ItemType) (bs : List ℕ) (items : List Item) (starts : List ℕ) → TextSpellsFrom k bs items starts → TextSpells k bs items
-text_spells k bs items starts (ts, is, each) = (ts, is, each_spells k items starts ts each)
-
-pub prefix_spells : (k : ItemType) (bs : List ℕ) (items : List Item) (starts : List ℕ) → PrefixSpellsFrom k bs items starts → PrefixSpells k bs items
-prefix_spells k bs items starts (ts, rest, begun, each) = (ts, rest, begun, each_spells k items starts ts each)
 
 -- ---- offsets that a memory has, if it is asked
 
@@ -306,12 +275,9 @@ module _ (before : Before) (part offsets : List ℕ) (index passed lines : ℕ) 
         let few = count_by-le-length (λ b. b == 10) (done ++ take offset part) in
         let short = length-append done (take offset part) in
         let cut = length-take offset part in
-        let bytes = counts.0 in
-        let here = t.0 in
-        let end = to_end in
-        let more_is : more ≡ newlines (done ++ take offset part) = omega (arith, lines_are, here, step, few, short, cut, end, long, small) in (
+        let more_is : more ≡ newlines (done ++ take offset part) = omega (arith, lines_are, t.0, step, few, short, cut, to_end, long, small) in (
           more_is,
-          λ rest are. rw (new_is, append_assoc) (t.1 (start ∷ rest) (rw (drop_more offsets index 0 less) ((omega (arith, offset_is, bytes, end, long, small), omega (arith, line_is, more_is, few, short, cut, end, long, small)), are))),
+          λ rest are. rw (new_is, append_assoc) (t.1 (start ∷ rest) (rw (drop_more offsets index 0 less) ((omega (arith, offset_is, counts.0, to_end, long, small), omega (arith, line_is, more_is, few, short, cut, to_end, long, small)), are))),
         ));
   }
 
@@ -323,9 +289,8 @@ all_told before part offsets index passed lines starts told end done counts smal
 pub within_text : {S : Type 0} (holds : S → S → List Item → Type 0) (spells : List Item → List ℕ → Type 0) (text : List ℕ) (b : Buffer) (len : ℕ) (a m : Memory) (old new : S) → b.start + b.parsed + len ≤ vec_len b.bytes → text ≡ take len (unparsed b)
     → ((items : List Item) (starts : List ℕ) → spells items starts → Ascend 0 starts (length text)) → TakesFrom holds spells (HasStarts a m) old new → IfSome (starts_of m) (λ offsets. Ascend 0 offsets len)
 within_text holds spells text b len a m old new within is ascends t =
-    let long : length text ≡ len = omega (arith, within, b.bytes.ok, ap length is, length-take len (unparsed b), length-drop b.start b.bytes.items, length-drop b.parsed (held b)) in
-    let p = subst (λ (n : ℕ). Ascend 0 t.starts n) long (ascends t.items t.starts t.spelled) in
-    rw t.has (elim (starts_of a) as (λ o. IfSome (option_map (λ before. t.starts) o) (λ offsets. Ascend 0 offsets len)) [ None ↦ tt | Some before ↦ p ])
+    let long : length text ≡ len = omega (arith, within, b.bytes.ok, ap length is, length-take len (unparsed b), length-drop b.start b.bytes.items, length-drop b.parsed (window b)) in
+    rw t.has (elim (starts_of a) as (λ o. IfSome (option_map (λ before. t.starts) o) (λ offsets. Ascend 0 offsets len)) [ None ↦ tt | Some before ↦ subst (λ (n : ℕ). Ascend 0 t.starts n) long (ascends t.items t.starts t.spelled) ])
 
 pub kept_starts : (known : Option (List ℕ)) (P : List ℕ → Type 0) (offsets : List ℕ) → IfSome known (λ starts. offsets ≡ starts) → P offsets → IfSome known P
 kept_starts None P offsets e p = tt

@@ -1,39 +1,29 @@
 -- Where a text is cut: its lines are scanned one after the other or passed over, up to the first cut point; the last cut point.
-use Rattle.std.proofs.Common.{length, arith, length-append, ◌≡◌, ◌⊎◌, inl, inr, Bool, true, false, List, [], ◌∷◌, ◌++◌, refl, sym, ap, ◌∙◌, subst, append_assoc, append-nil, ℕ, ◌+◌, ◌-◌, ◌<◌, take, drop, length-take, take-append-drop, get_or, IsUtf8, ◌≤◌}
-use Rattle.std.specs.Prelude.{◌↔◌, codes}
+use Rattle.std.proofs.Common.{length, arith, length-append, ◌≡◌, ◌⊎◌, inl, inr, Bool, true, false, List, [], ◌∷◌, ◌++◌, refl, sym, ap, ◌∙◌, subst, append_assoc, append-nil, ℕ, ◌+◌, ◌-◌, ◌<◌, take, drop, length-take, take-append-drop, get_or, IsUtf8, ◌≤◌, ◌↔◌, codes, IsCharBoundary, drop_at, drop-drop, take-take}
 use Rattle.std.specs.Io.BufRead.{take_through}
 use Rattle.std.specs.List.{AllByRecursion}
 use Rattle.std.specs.Io.{StartsWith}
-use Rattle.std.specs.Str.{IsCharBoundary}
-use Rattle.std.proofs.lemmas.List.{nil_from_length, drop_at, get_or_at, drop-drop, take-take}
+use Rattle.std.proofs.lemmas.List.{nil_from_length, get_or_at}
 use Rattle.std.proofs.Math.Seq.{take-append_seam, drop-append_seam}
 use Rattle.std.proofs.KnownBytes.{starts_with_rest}
 use Rattle.std.proofs.Transfers.{starts_with_of_append, starts_with_length}
 use Rattle.std.proofs.lemmas.Bool.{false_from_ne_true}
 use Rattle.std.proofs.lemmas.Slice.Eq.{bytes_eq-Decides}
 use Rattle.std.proofs.lemmas.Str.{IsCharBoundary-after_ascii, IsUtf8-nil, IsUtf8-take, IsUtf8-drop}
-use Rattle.memchr.specs.Find.{Nowhere, OccursAt}
+use Rattle.souper_stream.proofs.Prelude.{Nowhere, OccursAt, Lexeme, ident, spelling, Begins, ItemType, kinds, lexed_of, tokens_law, is_name, IsLines, parted_twice, All-both}
 use Rattle.memchr.proofs.lemmas.MatchLemmas.{OccursAt-from_part}
-use Rattle.souper_graph.specs.Syntax.Tokens.{Lexeme, ident, spelling, Begins}
-use Rattle.souper_graph.specs.Syntax.Spelling.{ItemType, kinds}
-use Rattle.souper_lexer.specs.TokenReading.{lexed_of}
-use Rattle.souper_lexer.proofs.TokenLaws.{tokens_law}
-use Rattle.souper_ir.specs.NodeReadings.{is_name}
-use Rattle.souper_ir.specs.Joining.{IsLines}
-use Rattle.souper_ir.proofs.Items.Parting.{parted_twice}
 use Rattle.souper_stream.specs.declared.lines.ScanState.{ScanState}
-use Rattle.souper_stream.specs.Lines.{line_word, is_end_word, defines, shows_line, NoStart, LastEnds, first_state, state_after, scanned, starts_line, end_word, IsAbsent, NoEndWord, IsWithoutEnd, PassesOver}
-use Rattle.souper_stream.specs.Segments.{Line, concat, AreLines, tokens_of, tokens_of_lines, EndsItem, Starts, HasNoCut, IsCut, IsFirstSegment, IsLine, CutsAt, HasNoCutAfter, HasBadLine}
-use Rattle.souper_stream.proofs.Parting.{end_is_line, NoEnd, all_append, no_end_ends, ends_within, starts_longer}
+use Rattle.souper_stream.specs.Lines.{line_word, is_terminator_token, defines, shows_line, NoStart, LastEnds, first_state, state_after, scanned, starts_line, is_terminator, IsAbsent, NoTerminator, IsWithoutEnd, PassesOver}
+use Rattle.souper_stream.specs.Segments.{Line, concat, AreLines, tokens_of, tokens_of_lines, EndsItem, FirstStarts, HasNoCut, IsCut, IsFirstSegment, IsWholeLine, CutsAt, HasNoCutAfter, HasBadLine}
+use Rattle.souper_stream.proofs.Parting.{end_is_line, NoEnd, no_end_ends, ends_within, starts_longer}
 use Rattle.souper_stream.proofs.LineLists.{starts_not_none, concat-append, tokens_snoc, lines_back, lines_split, no_bytes, line_first, are_front, lines_whole, tokens-append, lines_exist}
 
 -- no line begins in the tokens, nor with the name before them, if there is one
-Quiet : Bool → List Lexeme → Type 0
+abbrev Quiet : Bool → List Lexeme → Type 0
 Quiet named ts = NoStart ts × (named ≡ true → defines ts ≡ false)
 
 -- that is so if the first token shows no line, and none begins after it
 quiet_step : (named : Bool) (t : Lexeme) (ts : List Lexeme) → Quiet named (t ∷ ts) ↔ (shows_line named t ≡ false) × Quiet (is_name t) ts
-unfolding Quiet
 quiet_step named t ts = grind arith
 
 -- ---- where an item ends
@@ -52,20 +42,19 @@ ends_later k xs ys h = record {
   quiet = h.quiet;
 }
 
-end_shows : (k : ItemType) (named : Bool) (t : Lexeme) → is_end_word k t ≡ true → shows_line named t ≡ true
+end_shows : (k : ItemType) (named : Bool) (t : Lexeme) → is_terminator_token k t ≡ true → shows_line named t ≡ true
 end_shows k named t h = grind (arith, end_is_line k)
 
-ends_here : (k : ItemType) (t : Lexeme) (ts : List Lexeme) → is_end_word k t ≡ true → NoStart ts → LastEnds k (t ∷ ts)
+ends_here : (k : ItemType) (t : Lexeme) (ts : List Lexeme) → is_terminator_token k t ≡ true → NoStart ts → LastEnds k (t ∷ ts)
 ends_here k (ident w) ts h q = record { before = []; word = w; after = ts; whole = refl; ends = h; quiet = q }
 ends_here k _ ts h q = absurd cc
 
 -- an item ends with the tokens, or ended before them, and no line begins in them
-EndsBy : ItemType → ScanState → List Lexeme → Type 0
+abbrev EndsBy : ItemType → ScanState → List Lexeme → Type 0
 EndsBy k s ts = LastEnds k ts ⊎ ((s.ends_item ≡ true) × Quiet s.after_name ts)
 
 -- the tokens after the first, from the state after the first
 ends_step : (k : ItemType) (s : ScanState) (t : Lexeme) (ts : List Lexeme) → EndsBy k s (t ∷ ts) → EndsBy k (state_after k s t) ts
-unfolding EndsBy Quiet
 ends_step k s t ts (inr q) = let step = (quiet_step s.after_name t ts).0 q.1 in inr (rw step.0 q.0, step.1)
 ends_step k s t ts (inl h) = under h.before h.whole
   where
@@ -79,7 +68,6 @@ ends_step k s t ts (inl h) = under h.before h.whole
 
 -- and back
 ends_back : (k : ItemType) (s : ScanState) (t : Lexeme) (ts : List Lexeme) → EndsBy k (state_after k s t) ts → EndsBy k s (t ∷ ts)
-unfolding EndsBy Quiet
 ends_back k s t ts (inl h) = inl (ends_later k (t ∷ []) ts h)
 ends_back k s t ts (inr q) = under (shows_line s.after_name t) refl
   where
@@ -88,7 +76,6 @@ ends_back k s t ts (inr q) = under (shows_line s.after_name t) refl
     under false e = inr (rw e at q.0, (quiet_step s.after_name t ts).1 (e, q.1))
 
 state_tells : (k : ItemType) (s : ScanState) (ts : List Lexeme) → ((scanned k s ts).ends_item ≡ true) ↔ EndsBy k s ts
-unfolding EndsBy Quiet
 state_tells k s [] = (λ e. inr (e, (tt, λ e. refl)), λ h. elim h [ inl l ↦ absurd (no_tokens k l) | inr q ↦ q.0 ])
 state_tells k s (t ∷ ts) = let more = state_tells k (state_after k s t) ts in (λ e. ends_back k s t ts (more.0 e), λ h. more.1 (ends_step k s t ts h))
 
@@ -99,7 +86,6 @@ abbrev pub IsStateAfter : ItemType → List Lexeme → ScanState → Type 0
 IsStateAfter k ts s = (us : List Lexeme) → ((scanned k s us).ends_item ≡ true) ↔ LastEnds k (ts ++ us)
 
 pub state_first : (k : ItemType) → IsStateAfter k [] first_state
-unfolding EndsBy
 state_first k us = grind (arith, state_tells k first_state us)
 
 pub state_ends : (k : ItemType) (ts : List Lexeme) (s : ScanState) → IsStateAfter k ts s → (s.ends_item ≡ true) ↔ LastEnds k ts
@@ -113,7 +99,7 @@ pub state_more : (k : ItemType) (ts us : List Lexeme) (s : ScanState) → IsStat
 state_more k ts us s h vs = rw (append_assoc ts us vs, ← scanned-append k s us vs) (h (us ++ vs))
 
 -- if no item ends before the token, one ends with it at the word of an item's end alone
-going_step : (k : ItemType) (s : ScanState) (t : Lexeme) → s.ends_item ≡ false → (state_after k s t).ends_item ≡ is_end_word k t
+going_step : (k : ItemType) (s : ScanState) (t : Lexeme) → s.ends_item ≡ false → (state_after k s t).ends_item ≡ is_terminator_token k t
 going_step k s t going = grind (arith, end_shows k s.after_name t)
 
 -- and the name before plays no part
@@ -138,12 +124,12 @@ pub no_cut_more : (k : ItemType) (ls : List Line) (line : Line) → HasNoCut k l
 no_cut_more k ls line h not_both front back e ends starts = elim (parted_twice ls (line ∷ []) front back e) [ inl w ↦ here w.left w.first w.second | inr b ↦ before b.more b.some b.first b.second ]
   where
     here : (left : List Line) → front ≡ ls ++ left → line ∷ [] ≡ left ++ back → ⊥
-    here [] f b = not_both (subst (λ (x : List Line). EndsItem k x) (f ∙ append-nil ls) ends) (subst (λ (x : List Line). Starts x) (sym b) starts)
+    here [] f b = not_both (subst (λ (x : List Line). EndsItem k x) (f ∙ append-nil ls) ends) (subst (λ (x : List Line). FirstStarts x) (sym b) starts)
     here (m ∷ left) f b = starts_not_none back starts (nil_from_length back (omega (arith, ap length b, length-append left back)))
 
     before : (more : List Line) → 0 < length more → ls ≡ front ++ more → back ≡ more ++ line ∷ [] → ⊥
     before [] some f b = absurd (omega arith)
-    before (m ∷ more) some f b = h front (m ∷ more) f ends (subst (λ (x : List Line). Starts x) b starts)
+    before (m ∷ more) some f b = h front (m ∷ more) f ends (subst (λ (x : List Line). FirstStarts x) b starts)
 
 -- ---- forward
 
@@ -184,7 +170,7 @@ module _ (k : ItemType) (ls : List Line) (rest : List ℕ) (s : ScanState) (line
   pub first_cut : (text : List ℕ) (n : ℕ) → text ≡ concat ls → 0 < length rest → n ≡ length (take_through 10 rest) → s.ends_item ≡ true → starts_line (tokens_of (take n rest)) ≡ true → IsFirstSegment k ls (length text - length rest)
   first_cut text n e some first ends starts =
       let (back, back_is, rest_is) = line_first h.back rest n h.rest_is lines_left some first in
-      first_segment text e (inr ((state_ends k (tokens_of_lines h.front) s h.after).0 ends, subst (λ (x : List Line). Starts x) (sym back_is) starts))
+      first_segment text e (inr ((state_ends k (tokens_of_lines h.front) s h.after).0 ends, subst (λ (x : List Line). FirstStarts x) (sym back_is) starts))
 
   -- or with the text
   pub first_end : (text : List ℕ) → text ≡ concat ls → length rest ≡ 0 → IsFirstSegment k ls (length text - length rest)
@@ -218,20 +204,20 @@ absent_before bs w n some none front back e =
     sym (take-append-drop n bs) ∙ ap (λ (x : List ℕ). x ++ drop n bs) e ∙ append_assoc front (w ++ back) (drop n bs) ∙ ap (λ (x : List ℕ). front ++ x) (append_assoc w back (drop n bs)) in
     none (length front) (omega arith) (omega (arith, length-take n bs, ap length e, length-append front (w ++ back), length-append w back)) (occurs front w (back ++ drop n bs) bs whole)
 
-pub end_word_some : (k : ItemType) (w : List ℕ) → end_word k w ≡ true → 0 < length w
+pub end_word_some : (k : ItemType) (w : List ℕ) → is_terminator k w ≡ true → 0 < length w
 end_word_some k w h = grind (arith, bytes_eq-Decides)
 
 -- the words that items end with
-pub no_end_words : (k : ItemType) (bs : List ℕ) → (end_word k (codes "infer") ≡ true → IsAbsent (codes "infer") bs) → (end_word k (codes "result") ≡ true → IsAbsent (codes "result") bs) → (end_word k (codes "cand") ≡ true → IsAbsent (codes "cand") bs) → NoEndWord k bs
+pub no_end_words : (k : ItemType) (bs : List ℕ) → (is_terminator k (codes "infer") ≡ true → IsAbsent (codes "infer") bs) → (is_terminator k (codes "result") ≡ true → IsAbsent (codes "result") bs) → (is_terminator k (codes "cand") ≡ true → IsAbsent (codes "cand") bs) → NoTerminator k bs
 no_end_words k bs a b c w h = grind (arith, bytes_eq-Decides)
 
 -- ---- tokens
 
-no_end_first : (k : ItemType) (t : Lexeme) (gap after bs : List ℕ) → bs ≡ gap ++ (spelling t ++ after) → NoEndWord k bs → is_end_word k t ≡ false
-no_end_first k (ident w) gap after bs e q = false_from_ne_true (end_word k w) (λ h. q w h gap after e)
+no_end_first : (k : ItemType) (t : Lexeme) (gap after bs : List ℕ) → bs ≡ gap ++ (spelling t ++ after) → NoTerminator k bs → is_terminator_token k t ≡ false
+no_end_first k (ident w) gap after bs e q = false_from_ne_true (is_terminator k w) (λ h. q w h gap after e)
 no_end_first k _ gap after bs e q = refl
 
-no_end_tokens : (k : ItemType) (ts : List (ℕ × Lexeme)) (n : ℕ) (bs rest : List ℕ) → Begins n bs ts rest → NoEndWord k bs → NoEnd k (kinds ts)
+no_end_tokens : (k : ItemType) (ts : List (ℕ × Lexeme)) (n : ℕ) (bs rest : List ℕ) → Begins n bs ts rest → NoTerminator k bs → NoEnd k (kinds ts)
 no_end_tokens k [] n bs rest h q = tt
 no_end_tokens k (t ∷ ts) n bs rest h q = (
   no_end_first k t.1 h.gap h.after bs h.stands.text q,
@@ -251,7 +237,7 @@ utf8_parts a b (inr end) h =
     let seam = subst (λ (m : ℕ). IsCharBoundary (a ++ b) m) long (IsCharBoundary-after_ascii (a ++ b) n h (omega (arith, length-append a b)) (omega arith)) in
     (subst (λ (x : List ℕ). IsUtf8 x) (take-append_seam a b) (IsUtf8-take (a ++ b) (length a) h seam), subst (λ (x : List ℕ). IsUtf8 x) (drop-append_seam a b) (IsUtf8-drop (a ++ b) (length a) h seam))
 
-pub no_end_lines : (k : ItemType) (ls : List Line) → AllByRecursion IsLine ls → IsUtf8 (concat ls) → NoEndWord k (concat ls) → AllByRecursion (λ l. NoEnd k (tokens_of l)) ls
+pub no_end_lines : (k : ItemType) (ls : List Line) → AllByRecursion IsWholeLine ls → IsUtf8 (concat ls) → NoTerminator k (concat ls) → AllByRecursion (λ l. NoEnd k (tokens_of l)) ls
 no_end_lines k [] each utf8 none = tt
 no_end_lines k (l ∷ ls) each utf8 none =
     let (first, rest) = utf8_parts l (concat ls) (inr (each.0.0, each.0.2)) utf8 in
@@ -260,17 +246,17 @@ no_end_lines k (l ∷ ls) each utf8 none =
       no_end_lines k ls each.1 rest (λ w e. absent_back w l (concat ls) (none w e)),
     )
 
-pub without_end : (k : ItemType) (bytes front : List ℕ) (len : ℕ) → StartsWith bytes front → NoEndWord k front → len ≤ length front → IsLines (take len front) → IsUtf8 (take len front) → IsWithoutEnd k bytes len
+pub without_end : (k : ItemType) (bytes front : List ℕ) (len : ℕ) → StartsWith bytes front → NoTerminator k front → len ≤ length front → IsLines (take len front) → IsUtf8 (take len front) → IsWithoutEnd k bytes len
 without_end k bytes front len starts none within lines utf8 =
     let same : take len front ≡ take len bytes = sym (ap (take len) starts) ∙ take-take len (length front) bytes within in
     record {
       within = omega (arith, within, starts_with_length bytes front starts);
       lines = subst (λ (x : List ℕ). IsLines x) same lines;
       utf8 = subst (λ (x : List ℕ). IsUtf8 x) same utf8;
-      none = subst (λ (x : List ℕ). NoEndWord k x) same (λ w h. absent_front w (take len front) front (front_take len front) (none w h));
+      none = subst (λ (x : List ℕ). NoTerminator k x) same (λ w h. absent_front w (take len front) front (front_take len front) (none w h));
     }
 
-pub no_end_nil : (k : ItemType) → NoEndWord k []
+pub no_end_nil : (k : ItemType) → NoTerminator k []
 no_end_nil k w e front back h = let some = end_word_some k w e in let n = ap length h ∙ length-append front (w ++ back) in let m = length-append w back in absurd (omega arith)
 
 -- ---- lines that are passed over
@@ -289,7 +275,7 @@ passed_over k ls rest left s lines h (inr (going, len, left_is, p)) =
     let back_lines = lines_left k ls rest s lines h in
     let (more, back, parts, bytes) = lines_split h.back (take len rest) (drop len rest) back_lines (sym h.rest_is ∙ sym (take-append-drop len rest)) p.lines in
     let each = lines_whole more (are_front more back (subst (λ (x : List Line). AreLines x) parts back_lines)) (subst (λ (x : List ℕ). IsLines x) (sym bytes) p.lines) in
-    let none = no_end_lines k more each (subst (λ (x : List ℕ). IsUtf8 x) (sym bytes) p.utf8) (subst (λ (x : List ℕ). NoEndWord k x) (sym bytes) p.none) in
+    let none = no_end_lines k more each (subst (λ (x : List ℕ). IsUtf8 x) (sym bytes) p.utf8) (subst (λ (x : List ℕ). NoTerminator k x) (sym bytes) p.none) in
     let r = pass_lines k h.front more s going none h.after h.uncut in
     let long : length (concat more) ≡ len = omega (arith, ap length bytes, length-take len rest, p.within) in
     record {
@@ -301,21 +287,17 @@ passed_over k ls rest left s lines h (inr (going, len, left_is, p)) =
       uncut = r.1;
     }
 
--- ---- tokens
-
--- ---- lines
-
 -- no cut point is after the lines, if a line starts after them, or none are before
-uncut_after : (k : ItemType) (xs ys : List Line) → (xs ≡ []) ⊎ Starts ys → HasNoCut k ys → HasNoCutAfter k (xs ++ ys) (length (concat xs))
+uncut_after : (k : ItemType) (xs ys : List Line) → (xs ≡ []) ⊎ FirstStarts ys → HasNoCut k ys → HasNoCutAfter k (xs ++ ys) (length (concat xs))
 uncut_after k xs ys first uncut front back e cut = elim (parted_twice xs ys front back e) [ inl w ↦ inside w.left w.first w.second | inr b ↦ before b.more b.first ]
   where
     before : (more : List Line) → xs ≡ front ++ more → length (concat front) ≤ length (concat xs)
     before more f = omega (arith, ap (λ (x : List Line). length (concat x)) f, ap length (concat-append front more), length-append (concat front) (concat more))
 
-    ends_there : (l : Line) (left : List Line) → LastEnds k (tokens_of_lines xs ++ tokens_of_lines (l ∷ left)) → ys ≡ (l ∷ left) ++ back → (xs ≡ []) ⊎ Starts ys → EndsItem k (l ∷ left)
+    ends_there : (l : Line) (left : List Line) → LastEnds k (tokens_of_lines xs ++ tokens_of_lines (l ∷ left)) → ys ≡ (l ∷ left) ++ back → (xs ≡ []) ⊎ FirstStarts ys → EndsItem k (l ∷ left)
     ends_there l left ends s (inl none) = subst (λ (x : List Line). LastEnds k (tokens_of_lines x ++ tokens_of_lines (l ∷ left))) none ends
     ends_there l left ends s (inr starts) =
-        let line : starts_line (tokens_of l) ≡ true = subst (λ (x : List Line). Starts x) s starts in
+        let line : starts_line (tokens_of l) ≡ true = subst (λ (x : List Line). FirstStarts x) s starts in
         ends_within k (tokens_of_lines xs) (tokens_of_lines (l ∷ left)) (starts_longer (tokens_of l) (tokens_of_lines left) line) ends
 
     inside : (left : List Line) → front ≡ xs ++ left → ys ≡ left ++ back → length (concat front) ≤ length (concat xs)
@@ -327,22 +309,20 @@ uncut_after k xs ys first uncut front back e cut = elim (parted_twice xs ys fron
 -- all of a text is its first segment
 pub whole_uncut : (k : ItemType) (ls : List Line) (text : List ℕ) (len : ℕ) → text ≡ concat ls → AreLines ls → IsFirstSegment k ls len → length text ≤ len → HasNoCut k ls
 whole_uncut k ls text len e lines f long =
-    let bytes = ap length e in
     let parted = ap (λ (x : List Line). length (concat x)) f.whole ∙ ap length (concat-append f.front f.back) ∙ length-append (concat f.front) (concat f.back) in
-    let same = f.len_is in
-    let none : f.back ≡ [] = no_bytes f.back (lines_back f.front f.back (subst (λ (x : List Line). AreLines x) f.whole lines)) (omega arith) in
+    let none : f.back ≡ [] = no_bytes f.back (lines_back f.front f.back (subst (λ (x : List Line). AreLines x) f.whole lines)) (omega (arith, ap length e, f.len_is)) in
     subst (λ (x : List Line). HasNoCut k x) (sym (f.whole ∙ ap (λ (x : List Line). f.front ++ x) none ∙ append-nil f.front)) f.uncut
 
 -- ---- lines without an end word
 
 no_end_front : (k : ItemType) (xs ys : List Line) → AllByRecursion (λ l. NoEnd k (tokens_of l)) (xs ++ ys) → NoEnd k (tokens_of_lines xs)
 no_end_front k [] ys each = tt
-no_end_front k (x ∷ xs) ys each = all_append (λ t. is_end_word k t ≡ false) (tokens_of x) (tokens_of_lines xs) each.0 (no_end_front k xs ys each.1)
+no_end_front k (x ∷ xs) ys each = All-both (λ t. is_terminator_token k t ≡ false) (tokens_of x) (tokens_of_lines xs) each.0 (no_end_front k xs ys each.1)
 
 -- no cut point is in whole lines in which no end word occurs
-pub no_end_uncut : (k : ItemType) (ls : List Line) (text : List ℕ) → text ≡ concat ls → AreLines ls → IsLines text → IsUtf8 text → NoEndWord k text → HasNoCutAfter k ls 0
+pub no_end_uncut : (k : ItemType) (ls : List Line) (text : List ℕ) → text ≡ concat ls → AreLines ls → IsLines text → IsUtf8 text → NoTerminator k text → HasNoCutAfter k ls 0
 no_end_uncut k ls text e lines whole utf8 none front back parts cut =
-    let each = no_end_lines k ls (lines_whole ls lines (subst (λ (x : List ℕ). IsLines x) e whole)) (subst (λ (x : List ℕ). IsUtf8 x) e utf8) (subst (λ (x : List ℕ). NoEndWord k x) e none) in
+    let each = no_end_lines k ls (lines_whole ls lines (subst (λ (x : List ℕ). IsLines x) e whole)) (subst (λ (x : List ℕ). IsUtf8 x) e utf8) (subst (λ (x : List ℕ). NoTerminator k x) e none) in
     let last = cut.0 in
     absurd (no_end_ends k last.before last.after last.word (subst (λ (x : List Lexeme). NoEnd k x) last.whole (no_end_front k front back (subst (λ (x : List Line). AllByRecursion (λ l. NoEnd k (tokens_of l)) x) parts each))) last.ends)
 
@@ -424,5 +404,5 @@ module _ (k : ItemType) (ls : List Line) (text : List ℕ) (start place : ℕ) (
             let found : ls ≡ (p.front ++ b.front) ++ b.line ∷ b.back = p.whole ∙ ap (λ (x : List Line). p.front ++ x) b.whole ∙ sym (append_assoc p.front b.front (b.line ∷ b.back)) in
             absurd (b.fault (utf8_line (p.front ++ b.front) b.back b.line (subst (λ (x : List Line). AreLines x) found lines) (subst (λ (x : List Line). IsUtf8 (concat x)) found (subst (λ (x : List ℕ). IsUtf8 x) e utf8))))
       ] in
-      let first : (p.front ≡ []) ⊎ Starts p.back = elim at [ inl zero ↦ inl (no_bytes p.front (are_front p.front p.back (subst (λ (x : List Line). AreLines x) p.whole lines)) (p.len_is ∙ zero)) | inr some ↦ inr (is_cut some).1 ] in
+      let first : (p.front ≡ []) ⊎ FirstStarts p.back = elim at [ inl zero ↦ inl (no_bytes p.front (are_front p.front p.back (subst (λ (x : List Line). AreLines x) p.whole lines)) (p.len_is ∙ zero)) | inr some ↦ inr (is_cut some).1 ] in
       subst (λ (m : ℕ). HasNoCutAfter k ls m) p.len_is (subst (λ (x : List Line). HasNoCutAfter k x (length (concat p.front))) (sym p.whole) (uncut_after k p.front p.back first uncut))

@@ -1,3 +1,4 @@
+pub mod Prelude
 mod Parting
 mod LineLists
 pub mod Cutting

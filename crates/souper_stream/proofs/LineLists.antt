@@ -1,22 +1,12 @@
 -- Texts after lines, and the lines of a text as a list.
-use Rattle.std.proofs.Common.{◌≡◌, ◌⊎◌, inl, inr, ℕ, ◌+◌, ◌-◌, ◌<◌, List, [], ◌∷◌, ◌++◌, length, refl, sym, ap, ◌∙◌, subst, arith, append_assoc, append-nil, length-append, ◌≤◌, Bool, true, false, take, drop, eqb-true}
-use Rattle.std.specs.Prelude.{◌==◌, zero, suc}
+use Rattle.std.proofs.Common.{◌≡◌, ◌⊎◌, inl, inr, ℕ, ◌+◌, ◌-◌, ◌<◌, List, [], ◌∷◌, ◌++◌, length, refl, sym, ap, ◌∙◌, subst, arith, append_assoc, append-nil, length-append, ◌≤◌, Bool, true, false, take, drop, eqb-true, ◌==◌, zero, suc, take_at, drop_at, length-take, take-take}
 use Rattle.std.specs.List.{AllByRecursion}
 use Rattle.std.specs.Io.BufRead.{take_through}
 use Rattle.std.proofs.lemmas.Bool.{false_from_ne_true}
+use Rattle.std.proofs.lemmas.List.{append_cancel_left}
+use Rattle.souper_stream.proofs.Prelude.{Passes, is_byte, Item, Lexeme, IsGap, Begins, IsTextOf, IsOneLine, kinds, ItemType, list_spells, TextSpells, begins_length, begins_append, text_tokens, one_reading, IsLines, moved, PrefixSpells, kinds-append, begins_more, begins_moved, begins_later, left_of_lines, gap_of_lines, kinds_moved, list_append, no_lines_end, lines_end, tokens_part}
 use Rattle.std.proofs.lemmas.Grind.{flat_map-append}
-use Rattle.std.proofs.lemmas.List.{append_cancel_left, take_at, drop_at, length-take, take-take}
-use Rattle.memchr.specs.Find.{Passes, is_byte}
-use Rattle.souper_graph.specs.Values.{Item}
-use Rattle.souper_graph.specs.Syntax.Tokens.{Lexeme, IsGap, Begins, IsTextOf, IsOneLine}
-use Rattle.souper_graph.specs.Syntax.Spelling.{kinds, ItemType, list_spells, TextSpells}
-use Rattle.souper_lexer.proofs.TokenLaws.{begins_length, begins_append, text_tokens, one_reading}
-use Rattle.souper_ir.specs.Joining.{IsLines, moved}
-use Rattle.souper_ir.specs.Sinks.{PrefixSpells}
-use Rattle.souper_ir.specs.Laws.Steps.{kinds-append}
-use Rattle.souper_ir.proofs.Items.Joining.{begins_more, begins_moved, begins_later, left_of_lines, gap_of_lines, kinds_moved, list_append, no_lines_end}
-use Rattle.souper_ir.proofs.Items.Parting.{lines_end, tokens_part}
-use Rattle.souper_stream.specs.Segments.{Line, concat, IsLine, IsLastLine, AreLines, tokens_of, tokens_of_lines, Starts, IsLastLineAt}
+use Rattle.souper_stream.specs.Segments.{Line, concat, IsWholeLine, AreLines, tokens_of, tokens_of_lines, FirstStarts, IsLastLineAt}
 
 pub lines_append : (a b : List ℕ) → IsLines a → IsLines b → IsLines (a ++ b)
 lines_append a b l (inl none) = subst (λ (x : List ℕ). IsLines x) (sym (ap (λ (x : List ℕ). a ++ x) none ∙ append-nil a)) l
@@ -42,13 +32,11 @@ begins_join a b ra rest ts (u ∷ us) h some g k =
 
 -- items of lines, and those that the text after them begins with
 pub prefix_after : (k : ItemType) (done part : List ℕ) (xs ys : List Item) → IsLines done → TextSpells k done xs → PrefixSpells k part ys → PrefixSpells k (done ++ part) (xs ++ ys)
-prefix_after k done part xs ys l a b =
-    let ts = a.0 in
-    let text = a.1 in
-    let j = begins_join done part text.0 b.1 ts b.0 text.1 (left_of_lines ts done text.0 l text.1) (gap_of_lines ts done text.0 l text.1 text.2) b.2 in
-    let are : kinds ts ++ kinds b.0 ≡ kinds (ts ++ moved (length done) b.0) =
-    ap (λ (x : List Lexeme). kinds ts ++ x) (sym (kinds_moved (length done) b.0)) ∙ sym (kinds-append ts (moved (length done) b.0)) in
-    (ts ++ moved (length done) b.0, j.0, j.1, subst (λ (x : List Lexeme). list_spells k (xs ++ ys) x) are (list_append k xs ys (kinds ts) (kinds b.0) a.2 b.3))
+prefix_after k done part xs ys l (ts, (left, begun, gap), spelled) (us, rest, begins, more) =
+    let j = begins_join done part left rest ts us begun (left_of_lines ts done left l begun) (gap_of_lines ts done left l begun gap) begins in
+    let are : kinds ts ++ kinds us ≡ kinds (ts ++ moved (length done) us) =
+    ap (λ (x : List Lexeme). kinds ts ++ x) (sym (kinds_moved (length done) us)) ∙ sym (kinds-append ts (moved (length done) us)) in
+    (ts ++ moved (length done) us, j.0, j.1, subst (λ (x : List Lexeme). list_spells k (xs ++ ys) x) are (list_append k xs ys (kinds ts) (kinds us) spelled more))
 
 -- and with more after them
 pub prefix_longer : (k : ItemType) (part rest : List ℕ) (ys : List Item) → IsLines part → PrefixSpells k part ys → PrefixSpells k (part ++ rest) ys
@@ -68,33 +56,29 @@ tokens_snoc ls l = tokens-append ls (l ∷ []) ∙ ap (λ (ts : List Lexeme). to
 
 -- ---- lines
 
-pub starts_not_none : (q : List Line) → Starts q → q ≡ [] → ⊥
+pub starts_not_none : (q : List Line) → FirstStarts q → q ≡ [] → ⊥
 starts_not_none q s e = grind arith
 
-pub starts_with_more : (ls more : List Line) → Starts ls → Starts (ls ++ more)
+pub starts_with_more : (ls more : List Line) → FirstStarts ls → FirstStarts (ls ++ more)
 starts_with_more ls more h = grind arith
 
-line_some : (l : Line) → IsLastLine l → 0 < length l
-line_some l h = grind (arith, length-append {A = ℕ})
+first_some : (l : Line) (ls : List Line) → AreLines (l ∷ ls) → 0 < length l
+first_some l ls h = grind (arith, length-append {A = ℕ})
 
-pub all_are_lines : (ls : List Line) → AllByRecursion IsLine ls → AreLines ls
-all_are_lines [] h = tt
-all_are_lines (l ∷ []) h = inl h.0
-all_are_lines (l ∷ (m ∷ ls)) h = (h.0, all_are_lines (m ∷ ls) h.1)
-
-pub lines-append : (xs ys : List Line) → AllByRecursion IsLine xs → AreLines ys → AreLines (xs ++ ys)
+pub lines-append : (xs ys : List Line) → AllByRecursion IsWholeLine xs → AreLines ys → AreLines (xs ++ ys)
 lines-append [] ys h k = k
 lines-append (x ∷ []) [] h k = inl h.0
 lines-append (x ∷ []) (y ∷ ys) h k = (h.0, k)
 lines-append (x ∷ (z ∷ xs)) ys h k = (h.0, lines-append (z ∷ xs) ys h.1 k)
 
+pub all_are_lines : (ls : List Line) → AllByRecursion IsWholeLine ls → AreLines ls
+all_are_lines ls h = subst (λ (x : List Line). AreLines x) (append-nil ls) (lines-append ls [] h tt)
+
 pub lines_back : (xs ys : List Line) → AreLines (xs ++ ys) → AreLines ys
 lines_back [] ys h = h
-lines_back (x ∷ []) [] h = tt
-lines_back (x ∷ []) (y ∷ ys) h = h.1
-lines_back (x ∷ (z ∷ xs)) ys h = lines_back (z ∷ xs) ys h.1
+lines_back (x ∷ xs) ys h = lines_back xs ys (grind arith)
 
-pub lines_front : (xs ys : List Line) → (ys ≡ [] → ⊥) → AreLines (xs ++ ys) → AllByRecursion IsLine xs
+pub lines_front : (xs ys : List Line) → (ys ≡ [] → ⊥) → AreLines (xs ++ ys) → AllByRecursion IsWholeLine xs
 lines_front [] ys some h = tt
 lines_front (l ∷ []) [] some h = absurd (some refl)
 lines_front (l ∷ []) (m ∷ ys) some h = (h.0, tt)
@@ -106,15 +90,14 @@ are_front xs (y ∷ ys) h = all_are_lines xs (lines_front xs (y ∷ ys) (λ e. c
 
 pub no_bytes : (ls : List Line) → AreLines ls → length (concat ls) ≡ 0 → ls ≡ []
 no_bytes [] h e = refl
-no_bytes (l ∷ []) h e = let some = line_some l h in let n = length-append l [] in absurd (omega arith)
-no_bytes (l ∷ (m ∷ ls)) h e = let some = line_some l (inl h.0) in let n = length-append l (concat (m ∷ ls)) in absurd (omega arith)
+no_bytes (l ∷ ls) h e = absurd (omega (arith, first_some l ls h, length-append l (concat ls)))
 
-pub lines_of : (ls : List Line) → AllByRecursion IsLine ls → IsLines (concat ls)
+pub lines_of : (ls : List Line) → AllByRecursion IsWholeLine ls → IsLines (concat ls)
 lines_of [] h = inl refl
 lines_of (l ∷ ls) h = lines_append l (concat ls) (inr (h.0.0, h.0.2)) (lines_of ls h.1)
 
 -- lines that end in a newline are whole
-pub lines_whole : (ls : List Line) → AreLines ls → IsLines (concat ls) → AllByRecursion IsLine ls
+pub lines_whole : (ls : List Line) → AreLines ls → IsLines (concat ls) → AllByRecursion IsWholeLine ls
 lines_whole [] h e = tt
 lines_whole (l ∷ []) (inl h) e = (h, tt)
 lines_whole (l ∷ []) (inr h) e = absurd (no_lines_end (l ++ []) [] l e h.1 h.0 (append-nil l))
@@ -125,7 +108,7 @@ pub lines_exist : (bs : List ℕ) → (ls : List Line) × AreLines ls × (bs ≡
 lines_exist [] = ([], tt, refl)
 lines_exist (b ∷ bs) = let r = lines_exist bs in under (b == 10) refl r.0 r.1 r.2
   where
-    longer : (b == 10) ≡ false → (l : Line) → IsLine l → IsLine (b ∷ l)
+    longer : (b == 10) ≡ false → (l : Line) → IsWholeLine l → IsWholeLine (b ∷ l)
     longer ne l h = (b ∷ h.0, (ne, h.1), ap (λ (x : Line). b ∷ x) h.2)
 
     under : (c : Bool) → (b == 10) ≡ c → (ls : List Line) → AreLines ls → bs ≡ concat ls → (ms : List Line) × AreLines ms × (b ∷ bs ≡ concat ms)
@@ -141,7 +124,7 @@ through_append : (xs ys : List ℕ) → IsOneLine xs → take_through 10 (xs ++ 
 through_append [] ys h = refl
 through_append (x ∷ xs) ys h = rw h.0 (ap (λ (l : List ℕ). x ∷ l) (through_append xs ys h.1))
 
-through_whole : (l rest : List ℕ) → IsLine l → take_through 10 (l ++ rest) ≡ l
+through_whole : (l rest : List ℕ) → IsWholeLine l → take_through 10 (l ++ rest) ≡ l
 through_whole l rest h = ap (take_through 10) (ap (λ (x : List ℕ). x ++ rest) h.2 ∙ append_assoc h.0 (10 ∷ []) rest) ∙ through_append h.0 (10 ∷ rest) h.1 ∙ sym h.2
 
 first_through : (l : Line) (ls : List Line) → AreLines (l ∷ ls) → take_through 10 (concat (l ∷ ls)) ≡ l

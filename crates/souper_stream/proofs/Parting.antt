@@ -1,41 +1,32 @@
 -- The tokens of items: where lines begin in them and items end; what a text spells is parted at a cut point.
-use Rattle.std.proofs.Common.{◌≡◌, ℕ, ◌<◌, true, false, ◌⊎◌, inl, inr, List, [], ◌∷◌, ◌++◌, length, Option, refl, sym, ap, ◌∙◌, subst, arith, append_assoc, append-nil, length-append}
-use Rattle.std.specs.Prelude.{codes}
+use Rattle.std.proofs.Common.{◌≡◌, ℕ, ◌<◌, true, false, ◌⊎◌, inl, inr, List, [], ◌∷◌, ◌++◌, length, Option, refl, sym, ap, ◌∙◌, subst, arith, append_assoc, append-nil, length-append, codes}
 use Rattle.std.specs.List.{AllByRecursion}
 use Rattle.std.proofs.lemmas.Slice.Eq.{bytes_eq-Decides}
+use Rattle.souper_stream.proofs.Prelude.{All-both, Lexeme, ident, val_name, equals, comma, IsTextOf, IsLines, moved, kinds-append, kinds_moved, Within, Beyond, parted_twice, tokens_part}
 use Rattle.souper_graph.specs.declared.ast.operands.«Type».{«Type» as Ty}
 use Rattle.souper_graph.specs.declared.ast.operands.Operand.{Operand}
 use Rattle.souper_graph.specs.declared.ast.instructions.Instruction.{Instruction}
 use Rattle.souper_graph.specs.Instructions.{word_of}
 use Rattle.souper_graph.specs.Values.{PlainAttribute, PlainRootAttribute, PlainRhs, PlainStatement, assigned, condition, block_condition, PlainCand, inferred, resulting, replaced, candidate, Item}
-use Rattle.souper_graph.specs.Syntax.Tokens.{Lexeme, ident, val_name, equals, comma, IsTextOf}
 use Rattle.souper_graph.specs.Syntax.Spelling.{kinds, Scope, optional_type_spells, operand_spells, further_spells, operands_spells, pair_spells, rhs_spells, attributes_spell, root_attributes_spell, statement_spells, cand_spells, result_spells, Statements, ItemType, left_hand_side, right_hand_side, replacement, Tail, tail_spells, item_spells, list_spells, TextSpells}
-use Rattle.souper_ir.specs.Joining.{IsLines, moved}
-use Rattle.souper_ir.specs.Laws.Steps.{kinds-append}
 use Rattle.souper_ir.specs.Laws.Words.{opcode_is}
-use Rattle.souper_ir.proofs.Items.Joining.{kinds_moved}
-use Rattle.souper_ir.proofs.Items.Parting.{Within, Beyond, parted_twice, tokens_part}
-use Rattle.souper_stream.specs.Lines.{last_word, line_word, end_word, is_end_word, defines, starts_line, NoStart, LastEnds}
+use Rattle.souper_stream.specs.Lines.{last_word, line_word, is_terminator, is_terminator_token, defines, starts_line, NoStart, LastEnds}
 
 -- ---- words
 
-pub end_is_line : (k : ItemType) (w : List ℕ) → end_word k w ≡ true → line_word w ≡ true
+pub end_is_line : (k : ItemType) (w : List ℕ) → is_terminator k w ≡ true → line_word w ≡ true
 end_is_line k w h = grind arith
 
 not_last : (w : List ℕ) → line_word w ≡ false → last_word w ≡ false
 not_last w h = grind arith
 
-not_end : (k : ItemType) (w : List ℕ) → last_word w ≡ false → end_word k w ≡ false
+not_end : (k : ItemType) (w : List ℕ) → last_word w ≡ false → is_terminator k w ≡ false
 not_end k w h = grind arith
 
 instruction_word : (i : Instruction) → line_word (word_of i) ≡ false
 instruction_word i = let o = opcode_is i in grind (arith, bytes_eq-Decides)
 
 -- ---- tokens
-
-pub all_append : {A : Type 0} (P : A → Type 0) (xs ys : List A) → AllByRecursion P xs → AllByRecursion P ys → AllByRecursion P (xs ++ ys)
-all_append P [] ys a b = b
-all_append P (x ∷ xs) ys a b = (a.0, all_append P xs ys a.1 b)
 
 -- no line starts at the token, whatever follows it
 abbrev pub Plain : Lexeme → Type 0
@@ -48,21 +39,23 @@ ArePlain ts = AllByRecursion Plain ts
 
 -- none is the word of a line that an item of the type ends with
 abbrev pub NoEnd : ItemType → List Lexeme → Type 0
-NoEnd k ts = AllByRecursion (λ t. is_end_word k t ≡ false) ts
+NoEnd k ts = AllByRecursion (λ t. is_terminator_token k t ≡ false) ts
 
 pub quiet_append : (xs ys : List Lexeme) → ArePlain xs → NoStart ys → NoStart (xs ++ ys)
 quiet_append [] ys p q = q
 quiet_append (x ∷ xs) ys p q = (grind arith, quiet_append xs ys p.1 q)
 
-plain_no_end : (k : ItemType) (xs : List Lexeme) → ArePlain xs → NoEnd k xs
-plain_no_end k [] p = tt
-plain_no_end k (x ∷ xs) p = (grind (arith, not_end k, not_last), plain_no_end k xs p.1)
+pub plain_quiet : (xs : List Lexeme) → ArePlain xs → NoStart xs
+plain_quiet xs p = subst (λ (x : List Lexeme). NoStart x) (append-nil xs) (quiet_append xs [] p tt)
 
 quiet_no_end : (k : ItemType) (ts : List Lexeme) → NoStart ts → NoEnd k ts
 quiet_no_end k [] h = tt
 quiet_no_end k (t ∷ ts) h = (grind (arith, not_end k, not_last), quiet_no_end k ts h.1)
 
-pub no_end_ends : (k : ItemType) (before after : List Lexeme) (w : List ℕ) → NoEnd k (before ++ ident w ∷ after) → end_word k w ≡ true → ⊥
+plain_no_end : (k : ItemType) (xs : List Lexeme) → ArePlain xs → NoEnd k xs
+plain_no_end k xs p = quiet_no_end k xs (plain_quiet xs p)
+
+pub no_end_ends : (k : ItemType) (before after : List Lexeme) (w : List ℕ) → NoEnd k (before ++ ident w ∷ after) → is_terminator k w ≡ true → ⊥
 no_end_ends k [] after w none h = let no = none.0 in cc
 no_end_ends k (t ∷ before) after w none h = no_end_ends k before after w none.1 h
 
@@ -108,16 +101,14 @@ operand_quiet s x ts ys h d q = grind (arith, optional_type_plain, quiet_append)
 
 further_no_end : (k : ItemType) (s : Scope) (xs : List Operand) (ts : List Lexeme) → further_spells s xs ts → NoEnd k ts
 further_no_end k s [] ts h = rw h tt
-further_no_end k s (x ∷ xs) ts h =
-    let j = h.2 in
-    rw (h.1, j.whole) (refl, all_append (λ t. is_end_word k t ≡ false) j.prefix j.suffix (operand_no_end k s x j.prefix j.first) (further_no_end k s xs j.suffix j.second))
+further_no_end k s (x ∷ xs) ts (us, e, h) = rw (e, h.whole) (refl, All-both (λ t. is_terminator_token k t ≡ false) h.prefix h.suffix (operand_no_end k s x h.prefix h.first) (further_no_end k s xs h.suffix h.second))
 
 operands_no_end : (k : ItemType) (s : Scope) (xs : List Operand) (ts : List Lexeme) → operands_spells s xs ts → NoEnd k ts
 operands_no_end k s [] ts h = rw h tt
-operands_no_end k s (x ∷ xs) ts h = rw h.whole (all_append (λ t. is_end_word k t ≡ false) h.prefix h.suffix (operand_no_end k s x h.prefix h.first) (further_no_end k s xs h.suffix h.second))
+operands_no_end k s (x ∷ xs) ts h = rw h.whole (All-both (λ t. is_terminator_token k t ≡ false) h.prefix h.suffix (operand_no_end k s x h.prefix h.first) (further_no_end k s xs h.suffix h.second))
 
 pair_no_end : (k : ItemType) (s : Scope) (x y : Operand) (ts : List Lexeme) → pair_spells s x y ts → NoEnd k ts
-pair_no_end k s x y ts h = rw h.whole (all_append (λ t. is_end_word k t ≡ false) h.prefix h.suffix (operand_no_end k s x h.prefix h.first) (operand_no_end k s y h.suffix h.second))
+pair_no_end k s x y ts h = rw h.whole (All-both (λ t. is_terminator_token k t ≡ false) h.prefix h.suffix (operand_no_end k s x h.prefix h.first) (operand_no_end k s y h.suffix h.second))
 
 -- ---- right sides and attributes
 
@@ -126,19 +117,15 @@ rhs_no_end k s v ts h = grind (arith, further_no_end k, operands_no_end k, not_e
 
 attributes_plain : (xs : List PlainAttribute) (ts : List Lexeme) → attributes_spell xs ts → ArePlain ts
 attributes_plain [] ts h = rw h tt
-attributes_plain (x ∷ xs) ts h = rw h.whole (all_append Plain h.prefix h.suffix (grind arith) (attributes_plain xs h.suffix h.second))
+attributes_plain (x ∷ xs) ts h = rw h.whole (All-both Plain h.prefix h.suffix (grind arith) (attributes_plain xs h.suffix h.second))
 
 pub root_attributes_plain : (xs : List PlainRootAttribute) (ts : List Lexeme) → root_attributes_spell xs ts → ArePlain ts
 root_attributes_plain [] ts h = rw h tt
-root_attributes_plain (x ∷ xs) ts h = rw h.whole (all_append Plain h.prefix h.suffix (grind arith) (root_attributes_plain xs h.suffix h.second))
+root_attributes_plain (x ∷ xs) ts h = rw h.whole (All-both Plain h.prefix h.suffix (grind arith) (root_attributes_plain xs h.suffix h.second))
 
 pub root_attributes_not_define : (xs : List PlainRootAttribute) (ts : List Lexeme) → root_attributes_spell xs ts → defines ts ≡ false
 root_attributes_not_define [] ts h = rw h refl
 root_attributes_not_define (x ∷ xs) ts h = rw h.whole (grind arith)
-
-pub plain_quiet : (xs : List Lexeme) → ArePlain xs → NoStart xs
-plain_quiet [] p = tt
-plain_quiet (x ∷ xs) p = (grind arith, plain_quiet xs p.1)
 
 -- ---- statements
 
@@ -146,15 +133,15 @@ statement_no_end : (k : ItemType) (s : Scope) (v : PlainStatement) (ts : List Le
 statement_no_end k s (assigned a) ts h =
     rw h.whole (
       refl,
-      all_append (λ t. is_end_word k t ≡ false) h.ty (equals ∷ (h.rhs ++ h.attributes)) (plain_no_end k h.ty (optional_type_plain a.ty h.ty h.ty_spelled))
-          (refl, all_append (λ t. is_end_word k t ≡ false) h.rhs h.attributes (rhs_no_end k s a.value h.rhs h.rhs_spelled) (plain_no_end k h.attributes (attributes_plain a.attributes h.attributes h.attributes_spelled))),
+      All-both (λ t. is_terminator_token k t ≡ false) h.ty (equals ∷ (h.rhs ++ h.attributes)) (plain_no_end k h.ty (optional_type_plain a.ty h.ty h.ty_spelled))
+          (refl, All-both (λ t. is_terminator_token k t ≡ false) h.rhs h.attributes (rhs_no_end k s a.value h.rhs h.rhs_spelled) (plain_no_end k h.attributes (attributes_plain a.attributes h.attributes h.attributes_spelled))),
     )
 statement_no_end k s (condition p) ts h = rw h.1 (not_end k (codes "pc") refl, pair_no_end k s p.x p.y h.0 h.2)
 statement_no_end k s (block_condition p) ts h = rw h.whole (not_end k (codes "blockpc") refl, (refl, (refl, pair_no_end k s p.x p.y h.rest h.operands_spelled)))
 
 statements_no_end : (k : ItemType) (s : Scope) (vs : List PlainStatement) (ts : List Lexeme) → Statements s vs ts → NoEnd k ts
 statements_no_end k s [] ts h = rw h tt
-statements_no_end k s (v ∷ vs) ts h = rw h.whole (all_append (λ t. is_end_word k t ≡ false) h.prefix h.suffix (statement_no_end k s v h.prefix h.first) (statements_no_end k (s ++ v ∷ []) vs h.suffix h.second))
+statements_no_end k s (v ∷ vs) ts h = rw h.whole (All-both (λ t. is_terminator_token k t ≡ false) h.prefix h.suffix (statement_no_end k s v h.prefix h.first) (statements_no_end k (s ++ v ∷ []) vs h.suffix h.second))
 
 -- ---- last lines
 
@@ -180,7 +167,7 @@ record EndsOnce (k : ItemType) (ts : List Lexeme) : Type 0 where
   pub others : List Lexeme
   pub whole : ts ≡ head ++ ident word ∷ others
   pub no_end : NoEnd k head
-  pub ends : end_word k word ≡ true
+  pub ends : is_terminator k word ≡ true
   pub quiet : NoStart others
 
 tail_ends : (k : ItemType) (s : Scope) (y : Tail) (ts : List Lexeme) → tail_spells k s y ts → EndsOnce k ts
@@ -197,7 +184,7 @@ tail_ends replacement s (new, replaced i r) ts h =
       word = codes "result";
       others = last.0;
       whole = h.whole ∙ ap (λ (x : List Lexeme). h.infer ++ (h.middle ++ x)) last.1 ∙ sym (append_assoc h.infer h.middle (ident (codes "result") ∷ last.0));
-      no_end = all_append (λ t. is_end_word replacement t ≡ false) h.infer h.middle infer_no_end middle_no_end;
+      no_end = All-both (λ t. is_terminator_token replacement t ≡ false) h.infer h.middle infer_no_end middle_no_end;
       ends = refl;
       quiet = result_quiet (s ++ new) r h.result last;
     }
@@ -213,26 +200,23 @@ item_ends k a ts h =
       word = t.word;
       others = t.others;
       whole = h.whole ∙ ap (λ (x : List Lexeme). h.head ++ x) t.whole ∙ sym (append_assoc h.head t.head (ident t.word ∷ t.others));
-      no_end = all_append (λ t. is_end_word k t ≡ false) h.head t.head (statements_no_end k [] h.first h.head h.head_spelled) t.no_end;
+      no_end = All-both (λ t. is_terminator_token k t ≡ false) h.head t.head (statements_no_end k [] h.first h.head h.head_spelled) t.no_end;
       ends = t.ends;
       quiet = t.quiet;
     }
 
 -- what comes after a word that ends the item is what comes after its last one
-one_end : (k : ItemType) (head pre others more : List Lexeme) (v w : List ℕ) → NoEnd k head → NoEnd k others → end_word k w ≡ true → head ++ ident v ∷ others ≡ pre ++ ident w ∷ more → more ≡ others
+one_end : (k : ItemType) (head pre others more : List Lexeme) (v w : List ℕ) → NoEnd k head → NoEnd k others → is_terminator k w ≡ true → head ++ ident v ∷ others ≡ pre ++ ident w ∷ more → more ≡ others
 one_end k [] [] others more v w a b h e = cc
 one_end k [] (x ∷ pre) others more v w a b h e = let rest : others ≡ pre ++ ident w ∷ more = cc in absurd (no_end_ends k pre more w (subst (λ (z : List Lexeme). NoEnd k z) rest b) h)
-one_end k (y ∷ head) [] others more v w a b h e = let same : y ≡ ident w = cc in let bad : end_word k w ≡ false = ap (λ (z : Lexeme). is_end_word k z) (sym same) ∙ a.0 in cc
+one_end k (y ∷ head) [] others more v w a b h e = let same : y ≡ ident w = cc in let bad : is_terminator k w ≡ false = ap (λ (z : Lexeme). is_terminator_token k z) (sym same) ∙ a.0 in cc
 one_end k (y ∷ head) (x ∷ pre) others more v w a b h e = let tails : head ++ ident v ∷ others ≡ pre ++ ident w ∷ more = cc in one_end k head pre others more v w a.1 b h tails
 
 -- ---- where an item begins
 
 head_starts : (k : ItemType) (s : Scope) (vs : List PlainStatement) (head tail ys : List Lexeme) → Statements s vs head → ((zs : List Lexeme) → starts_line (tail ++ zs) ≡ true) → starts_line ((head ++ tail) ++ ys) ≡ true
 head_starts k s [] head tail ys m t = rw m (t ys)
-head_starts k s (v ∷ vs) head tail ys m t =
-    let parts : (head ++ tail) ++ ys ≡ m.prefix ++ ((m.suffix ++ tail) ++ ys) =
-    ap (λ (x : List Lexeme). (x ++ tail) ++ ys) m.whole ∙ ap (λ (x : List Lexeme). x ++ ys) (append_assoc m.prefix m.suffix tail) ∙ append_assoc m.prefix (m.suffix ++ tail) ys in
-    rw parts (grind arith)
+head_starts k s (v ∷ vs) head tail ys m t = rw m.whole (simp append_assoc (grind arith))
 
 list_starts : (k : ItemType) (ws : List Item) (ts : List Lexeme) → list_spells k ws ts → (ts ≡ []) ⊎ (starts_line ts ≡ true)
 list_starts k [] ts h = inl h

@@ -1,30 +1,21 @@
 -- The reader of a stream: more is read, and parts are parsed.
-use Rattle.std.proofs.Common.{◌≡◌, ◌⊎◌, inl, inr, ℕ, ◌+◌, ◌-◌, ◌<◌, ◌≤◌, Bool, true, false, is_some, List, [], ◌∷◌, ◌++◌, length, take, drop, Option, None, refl, sym, ap, ◌∙◌, subst, arith, append_assoc, append-nil, length-append}
+use Rattle.std.proofs.Common.{◌≡◌, ◌⊎◌, inl, inr, ℕ, ◌+◌, ◌-◌, ◌<◌, ◌≤◌, Bool, true, false, is_some, List, [], ◌∷◌, ◌++◌, length, take, drop, Option, None, refl, sym, ap, ◌∙◌, subst, arith, append_assoc, append-nil, length-append, take_at, drop_at, length-drop, length-take}
 use Rattle.std.specs.Io.KnownBytes.{Consumes}
-use Rattle.std.proofs.lemmas.List.{nil_from_length, take_at, drop_at, length-drop, length-take}
+use Rattle.std.proofs.lemmas.List.{nil_from_length}
 use Rattle.std.proofs.KnownBytes.{Consumes-nil, Consumes-trans}
-use Rattle.souper_graph.specs.Values.{Item}
-use Rattle.souper_graph.specs.Syntax.Tokens.{Lexeme}
-use Rattle.souper_graph.specs.Syntax.Spelling.{ItemType, SpellsNone}
-use Rattle.souper_ir.specs.declared.parse.error.ParseError.{ParseError}
-use Rattle.souper_ir.specs.declared.parse.error.ParseErrorKind.TheVariants.{Parse}
-use Rattle.souper_ir.specs.declared.parse.memory.Memory.{Memory}
-use Rattle.souper_ir.specs.Answers.{IsStrError}
-use Rattle.souper_ir.specs.Errors.{kind_of, HasLocation, HasLocationAfter, IsLocatedAfter, IsRefusalAt}
-use Rattle.souper_ir.specs.Joining.{IsLines}
-use Rattle.souper_ir.specs.Starts.{TextSpellsFrom, PrefixSpellsFrom, TakesFrom, HasStarts}
+use Rattle.souper_stream.proofs.Prelude.{Item, Lexeme, ItemType, SpellsNone, ParseError, Parse, Memory, IsStrError, kind_of, HasLocation, HasLocationAfter, IsLocatedAfter, IsRefusalAt, IsLines, TextSpellsFrom, PrefixSpellsFrom, TakesFrom, HasStarts, All-both}
 use Rattle.souper_stream.specs.declared.buffer.Buffer.{Buffer}
 use Rattle.souper_stream.specs.declared.reader.ItemReader.{ItemReader}
-use Rattle.souper_stream.specs.Buffering.{held, unparsed, Buffers}
+use Rattle.souper_stream.specs.Buffering.{window, unparsed, Buffers}
 use Rattle.souper_stream.specs.Lines.{LastEnds}
-use Rattle.souper_stream.specs.Segments.{Line, concat, IsLine, AreLines, tokens_of_lines, EndsItem, Starts, HasNoCut, IsCut, AreCut, all_lines, AreParts, CutsAt, IsFirstSegment}
+use Rattle.souper_stream.specs.Segments.{Line, concat, IsWholeLine, AreLines, tokens_of_lines, EndsItem, FirstStarts, HasNoCut, IsCut, AreCut, all_lines, AreParts, CutsAt, IsFirstSegment}
 use Rattle.souper_stream.specs.Starts.{ItemsStartAt}
 use Rattle.souper_stream.specs.Parts.{IsChunk, and_next, HasLines, HasRead, HasParts, HasAll, Advances, AreNextStarts, Holds, keeps_starts, TakesPart, RefusesPart}
 use Rattle.souper_stream.specs.Reading.{AreAll, NeverSpells}
-use Rattle.souper_stream.proofs.Buffers.{all_after, buffers_more, buffers_located, buffers_placed, text_spells, prefix_spells, kept_now}
+use Rattle.souper_stream.proofs.Buffers.{all_after, buffers_more, buffers_located, buffers_placed, each_spells, kept_now}
 use Rattle.souper_stream.proofs.LineLists.{starts_not_none, starts_with_more, concat-append, tokens-append, lines-append, are_front, lines_front, lines_back, lines_of, no_bytes, lines_whole, lines_exist}
 use Rattle.souper_stream.proofs.SegmentLaws.{lines_start, none_with}
-use Rattle.souper_stream.proofs.Parting.{all_append, ends_within}
+use Rattle.souper_stream.proofs.Parting.{ends_within}
 
 -- ---- lists of lines and of parts
 
@@ -36,7 +27,7 @@ pub done_more : (ps : List (List Line)) (p : List Line) → concat (all_lines (p
 done_more ps p = ap concat (all_lines_snoc ps p) ∙ concat-append (all_lines ps) p
 
 -- the last part is longer, or parted
-cut_last : (k : ItemType) (ps : List (List Line)) (p q : List Line) (qs : List (List Line)) → (Starts p → Starts q) → AreCut k (q ∷ qs) → AreCut k (ps ++ p ∷ []) → AreCut k (ps ++ q ∷ qs)
+cut_last : (k : ItemType) (ps : List (List Line)) (p q : List Line) (qs : List (List Line)) → (FirstStarts p → FirstStarts q) → AreCut k (q ∷ qs) → AreCut k (ps ++ p ∷ []) → AreCut k (ps ++ q ∷ qs)
 cut_last k [] p q qs starts c h = c
 cut_last k (r ∷ []) p q qs starts c h = (h.0, starts h.1, c)
 cut_last k (r ∷ (t ∷ ps)) p q qs starts c h = (h.0, h.1, cut_last k (t ∷ ps) p q qs starts c h.2)
@@ -76,9 +67,9 @@ all_consumed start now ls ended failed h well =
     (same, subst (λ (x : List ℕ). Consumes start now x) same h.consumed)
 
 module _ (k : ItemType) (start mid after : Option (List ℕ)) (ps : List (List Line)) (p : ItemReader) (had : HasParts k start mid ps p) (going : p.ended ≡ false) (well : is_some p.fault ≡ false) (none : p.rejected ≡ 0) (c : Buffer) (more lost : List ℕ) (held_is : c.bytes.items ≡ p.buffer.bytes.items ++ more) where
-  pub read_more : (ended failed : Bool) → Consumes mid after (more ++ lost) → (failed ≡ false → lost ≡ []) → (ended ≡ true → failed ≡ false) → (ended ≡ false → IsLines more) → (ended ≡ true → AreAll mid more)
+  pub read_more : (ended failed : Bool) (read : List ℕ) → Consumes mid after read → more ++ lost ≡ read → (failed ≡ false → lost ≡ []) → (ended ≡ true → failed ≡ false) → (ended ≡ false → IsLines more) → (ended ≡ true → AreAll mid more)
       → (ls : List Line) × HasRead k start after ps ls (record p.buffer { bytes = c.bytes }) ended failed p.rejected
-  read_more ended failed consumed none_lost not_failed whole all_read =
+  read_more ended failed read consumed read_is none_lost not_failed whole all_read =
       let (ls, h) = had in
       let (ms, ms_are, more_is) = lines_exist more in
       let all = all_lines ps ++ ls in
@@ -90,12 +81,12 @@ module _ (k : ItemType) (start mid after : Option (List ℕ)) (ps : List (List L
         record {
           lines = subst (λ (x : List Line). HasLines start after x ended failed) (append_assoc (all_lines ps) ls ms) (record {
             lost = lost;
-            consumed = subst (λ (x : List ℕ). Consumes start after x) (sym (ap (λ (x : List ℕ). x ++ lost) text ∙ append_assoc (concat all) more lost)) (Consumes-trans start mid after (concat all) (more ++ lost) before consumed);
+            consumed = subst (λ (x : List ℕ). Consumes start after x) (sym (ap (λ (x : List ℕ). x ++ lost) text ∙ append_assoc (concat all) more lost ∙ ap (λ (x : List ℕ). concat all ++ x) read_is)) (Consumes-trans start mid after (concat all) read before consumed);
             none_lost = none_lost;
             not_failed = not_failed;
             all_read = λ e. subst (λ (x : List ℕ). AreAll start x) (sym text) (all_after start mid (concat all) more before (all_read e));
             are = lines-append all ms each ms_are;
-            whole = λ e. all_append IsLine all ms each (lines_whole ms ms_are (subst (λ (x : List ℕ). IsLines x) more_is (whole e)));
+            whole = λ e. All-both IsWholeLine all ms each (lines_whole ms ms_are (subst (λ (x : List ℕ). IsLines x) more_is (whole e)));
           });
           buffers = subst (λ (x : List ℕ). Buffers (concat (all_lines ps)) x (record p.buffer { bytes = c.bytes })) rest (buffers_more (concat (all_lines ps)) (concat ls) more p.buffer c held_is h.buffers);
           cut = next_longer k ps ls ms (h.some going) h.cut;
@@ -173,8 +164,7 @@ chunk_within k ended ls len c = grind (arith, concat-append, length-append {A = 
 
 pub rejected_fits : (k : ItemType) (start now : Option (List ℕ)) (ps : List (List Line)) (r : ItemReader) → HasParts k start now ps r → 0 < r.rejected → r.buffer.start + r.buffer.parsed + r.rejected ≤ length r.buffer.bytes.items
 rejected_fits k start now ps r (ls, h) some =
-    let b = h.buffers in
-    omega (arith, chunk_within k r.ended ls r.rejected (h.chunk some), b.within, ap length b.rest_is, length-drop r.buffer.start r.buffer.bytes.items, length-drop r.buffer.parsed (held r.buffer))
+    omega (arith, chunk_within k r.ended ls r.rejected (h.chunk some), h.buffers.within, ap length h.buffers.rest_is, length-drop r.buffer.start r.buffer.bytes.items, length-drop r.buffer.parsed (window r.buffer))
 
 -- the next part was parsed
 module _ (k : ItemType) (start now : Option (List ℕ)) (ps : List (List Line)) (r q : ItemReader) (len : ℕ) (had : HasParts k start now ps r) (c : IsChunk k r.ended had.0 len) (left : 0 < r.rejected - len → IsChunk k r.ended c.back (r.rejected - len)) (some : 0 < len) (a : Advances r len q) where
@@ -218,12 +208,12 @@ module _ (k : ItemType) (start now : Option (List ℕ)) (ps : List (List Line)) 
     text = a.passes.part ∙ text_there;
     items = t.items;
     begin = begins (TextSpellsFrom k) m t.items t.starts t.spelled t.has;
-    spelled = text_spells k (concat c.front) t.items t.starts (subst (λ (y : List ℕ). TextSpellsFrom k y t.items t.starts) text_there t.spelled);
+    spelled = (let s = subst (λ (y : List ℕ). TextSpellsFrom k y t.items t.starts) text_there t.spelled in (s.0, s.1, each_spells k t.items t.starts s.0 s.2));
     taken = λ s y. t.taken s [] (held_none s y);
   }
 
   pub part_refused : {S : Type 0} (holds : S → S → List Item → Type 0) (first old new : S) (m : Memory) (file : Option (List ℕ)) (e shown : ParseError) → Holds holds [] first old → TakesFrom holds (PrefixSpellsFrom k (take len (unparsed r.buffer))) (HasStarts m r.memory) old new → HasNoCut k c.front → kind_of e ≡ Parse → kind_of shown ≡ Parse
-      → IsStrError k None (take len (unparsed r.buffer)) e → IsLocatedAfter file r.buffer.before (take (r.buffer.parsed + len) (held r.buffer)) r.buffer.parsed e shown → HasLocationAfter r.buffer.before (take (r.buffer.parsed + len) (held r.buffer)) shown → RefusesPart k file start now ps holds first new q shown
+      → IsStrError k None (take len (unparsed r.buffer)) e → IsLocatedAfter file r.buffer.before (take (r.buffer.parsed + len) (window r.buffer)) r.buffer.parsed e shown → HasLocationAfter r.buffer.before (take (r.buffer.parsed + len) (window r.buffer)) shown → RefusesPart k file start now ps holds first new q shown
   unfolding passed
   part_refused holds first old new m file e shown held_none t uncut kind shown_kind error located location =
       let h = had.1 in
@@ -246,7 +236,7 @@ module _ (k : ItemType) (start now : Option (List ℕ)) (ps : List (List Line)) 
         none = none;
         items = t.items;
         begin = begins (PrefixSpellsFrom k) m t.items t.starts t.spelled t.has;
-        begun = prefix_spells k (concat c.front) t.items t.starts (subst (λ (y : List ℕ). PrefixSpellsFrom k y t.items t.starts) text_there t.spelled);
+        begun = (let s = subst (λ (y : List ℕ). PrefixSpellsFrom k y t.items t.starts) text_there t.spelled in (s.0, s.1, s.2, each_spells k t.items t.starts s.0 s.3));
         taken = λ s y. t.taken s [] (held_none s y);
         read = read;
         after = after;
@@ -289,7 +279,7 @@ module _ (k : ItemType) (start now : Option (List ℕ)) (ps : List (List Line)) 
       under : (first.back ≡ []) ⊎ IsCut k first.front first.back → IsCut k chunk.front chunk.back ⊎ ((chunk.back ≡ []) × (r.ended ≡ true)) → IsCut k first.front (first.back ++ chunk.back) ⊎ ((first.back ++ chunk.back ≡ []) × (r.ended ≡ true))
       under (inl none) (inl cut) =
           let same : chunk.front ≡ first.front = first.whole ∙ ap (λ (x : List Line). first.front ++ x) none ∙ append-nil first.front in
-          inl (subst (λ (x : List Line). EndsItem k x) same cut.0, subst (λ (x : List Line). Starts (x ++ chunk.back)) (sym none) cut.1)
+          inl (subst (λ (x : List Line). EndsItem k x) same cut.0, subst (λ (x : List Line). FirstStarts (x ++ chunk.back)) (sym none) cut.1)
       under (inl none) (inr end) = inr ((λ i. none i ++ end.0 i), end.1)
       under (inr cut) u = inl (cut.0, starts_with_more first.back chunk.back cut.1)
 

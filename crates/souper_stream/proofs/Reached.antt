@@ -1,15 +1,9 @@
 -- A stream that is read to its end, or up to its first refusal.
-use Rattle.std.proofs.Common.{◌≡◌, ◌⊎◌, inl, inr, ℕ, Bool, true, false, List, [], ◌∷◌, ◌++◌, length, Option, refl, sym, ap, ◌∙◌, subst, arith, append_assoc, append-nil, length-append}
-use Rattle.std.specs.Prelude.{map}
+use Rattle.std.proofs.Common.{◌≡◌, ◌⊎◌, inl, inr, ℕ, Bool, true, false, List, [], ◌∷◌, ◌++◌, length, Option, refl, sym, ap, ◌∙◌, subst, arith, append_assoc, append-nil, length-append, map}
 use Rattle.std.specs.List.{AllByRecursion}
 use Rattle.std.proofs.lemmas.List.{nil_from_length}
 use Rattle.std.specs.Io.KnownBytes.{Consumes}
-use Rattle.souper_graph.specs.Values.{Item}
-use Rattle.souper_graph.specs.WellFormed.{WellFormed}
-use Rattle.souper_graph.specs.Syntax.Spelling.{ItemType, TextSpells}
-use Rattle.souper_ir.specs.declared.parse.error.ParseError.{ParseError}
-use Rattle.souper_ir.specs.Joining.{IsLines}
-use Rattle.souper_ir.specs.Sinks.{TakesOver, PrefixSpells}
+use Rattle.souper_stream.proofs.Prelude.{Item, WellFormed, ItemType, TextSpells, ParseError, IsLines, TakesOver, PrefixSpells}
 use Rattle.souper_stream.specs.declared.reader.ItemReader.{ItemReader}
 use Rattle.souper_stream.specs.Segments.{Line, concat, AreLines, EndsItem, AreCut, all_lines, PartsSpell}
 use Rattle.souper_stream.specs.Reading.{IsStreamTaken, IsStreamRefused}
@@ -131,23 +125,16 @@ refusal_begun k file start now ps holds old new q e t items spelled =
 -- the stream is refused
 pub reached_refusal : {S V : Type 0} (k : ItemType) (file : Option (List ℕ)) (before mid after : Option (List ℕ)) (holds : S → S → List Item → Type 0) (keeps : V → V → List Item → Type 0) (first old new : S) (empty full : V) (p q : ItemReader) (e : ParseError) (taken : List Item)
     (r : Reached k before mid holds first old p) (t : RefusesPart k file before after r.parts keeps empty full q e) → (keeps empty full t.items → taken ≡ t.items) → keeps empty empty [] → TakesOver holds taken old new → IsStreamRefused k file before after holds first new e
-reached_refusal k file before mid after holds keeps first old new empty full p q e taken r t are none over = record {
-  read = t.read;
-  consumed = t.consumed;
-  taken = r.items ++ t.items;
-  over = over_both holds r.items t.items first old new r.over (subst (λ (x : List Item). TakesOver holds x old new) (are (t.taken empty none)) over);
-  begun = refusal_begun k file before after r.parts keeps empty full q e t r.items r.spelled;
-  never = t.never;
-  placed = λ small.
-      let at = t.placed small in
-      let whole = ap length t.whole ∙ length-append (concat (all_lines (r.parts ++ t.part ∷ []))) t.after in
-      let part = ap length (done_more r.parts t.part) ∙ length-append (concat (all_lines r.parts)) (concat t.part) in
-      let both = length-append (concat (all_lines r.parts)) (concat t.part) in
-      let within = at.2 in
-      (at.0, omega arith, at.3);
-  located = λ small.
-      let whole = ap length t.whole ∙ length-append (concat (all_lines (r.parts ++ t.part ∷ []))) t.after in
-      let part = done_more r.parts t.part in
-      let long = ap length part in
-      (concat (all_lines r.parts) ++ concat t.part, t.after, t.whole ∙ ap (λ (x : List ℕ). x ++ t.after) part, t.located (omega arith));
-}
+reached_refusal k file before mid after holds keeps first old new empty full p q e taken r t are none over =
+    let front = concat (all_lines r.parts) ++ concat t.part in
+    let text : t.read ≡ front ++ t.after = t.whole ∙ ap (λ (x : List ℕ). x ++ t.after) (done_more r.parts t.part) in
+    record {
+      read = t.read;
+      consumed = t.consumed;
+      taken = r.items ++ t.items;
+      over = over_both holds r.items t.items first old new r.over (subst (λ (x : List Item). TakesOver holds x old new) (are (t.taken empty none)) over);
+      begun = refusal_begun k file before after r.parts keeps empty full q e t r.items r.spelled;
+      never = t.never;
+      placed = λ small. let at = t.placed small in (at.0, omega (arith, at.2, ap length text, length-append front t.after), at.3);
+      located = λ small. (front, t.after, text, t.located (omega (arith, small, ap length text, length-append front t.after)));
+    }

@@ -1,18 +1,14 @@
 -- A text spells the items that its parts spell.
-use Rattle.std.proofs.Common.{◌≡◌, ℕ, true, List, [], ◌∷◌, ◌++◌, refl, sym, subst, append-nil}
-use Rattle.souper_graph.specs.Values.{Item}
-use Rattle.souper_graph.specs.Syntax.Tokens.{Lexeme, IsTextOf}
-use Rattle.souper_graph.specs.Syntax.Spelling.{kinds, ItemType, TextSpells, SpellsNone}
+use Rattle.std.proofs.Common.{◌≡◌, ℕ, true, List, [], ◌∷◌, ◌++◌, refl, sym, subst, append-nil, arith}
+use Rattle.souper_stream.proofs.Prelude.{Item, Lexeme, IsTextOf, kinds, ItemType, TextSpells, SpellsNone, items_join}
 use Rattle.souper_ir.proofs.Items.Lists.{text_alone}
-use Rattle.souper_ir.proofs.Items.Joining.{items_join}
 use Rattle.souper_stream.specs.Lines.{starts_line, LastEnds}
-use Rattle.souper_stream.specs.Segments.{Line, concat, AreLines, tokens_of, tokens_of_lines, Starts, AreCut, all_lines, AreParts, PartsSpell, SpellsByParts}
+use Rattle.souper_stream.specs.Segments.{Line, concat, AreLines, tokens_of_lines, FirstStarts, AreCut, all_lines, AreParts, PartsSpell, SpellsByParts}
 use Rattle.souper_stream.proofs.Parting.{starts_longer, part_by}
 use Rattle.souper_stream.proofs.LineLists.{none_spelled, starts_not_none, starts_with_more, concat-append, all_are_lines, lines_back, lines_front, lines_of, kinds_of_lines}
 
-pub lines_start : (q : List Line) → Starts q → starts_line (tokens_of_lines q) ≡ true
-lines_start [] s = absurd s
-lines_start (l ∷ q) s = starts_longer (tokens_of l) (tokens_of_lines q) s
+pub lines_start : (q : List Line) → FirstStarts q → starts_line (tokens_of_lines q) ≡ true
+lines_start q s = grind (arith, starts_longer)
 
 whole_parts : (k : ItemType) (ps : List (List Line)) (ws : List Item) → AreLines (all_lines ps) → AreCut k ps → TextSpells k (concat (all_lines ps)) ws → PartsSpell k ps ws
 whole_parts k [] ws lines cut h = text_alone k [] ws [] h (none_spelled k)
@@ -20,11 +16,10 @@ whole_parts k (p ∷ []) ws lines cut h = (ws, [], sym (append-nil ws), subst (�
 whole_parts k (p ∷ (q ∷ ps)) ws lines cut h =
     let more = all_lines ps in
     let p_lines = lines_front p (q ++ more) (starts_not_none (q ++ more) (starts_with_more q more cut.1)) lines in
-    let text = subst (λ (x : List ℕ). TextSpells k x ws) (concat-append p (q ++ more)) h in
     let rest_lines = lines_back p (q ++ more) lines in
     let ends : (ts : List (ℕ × Lexeme)) → IsTextOf (concat p) ts → LastEnds k (kinds ts) = λ ts v. subst (λ (x : List Lexeme). LastEnds k x) (sym (kinds_of_lines p ts (all_are_lines p p_lines) v)) cut.0 in
     let starts : (vs : List (ℕ × Lexeme)) → IsTextOf (concat (q ++ more)) vs → starts_line (kinds vs) ≡ true = λ vs u. rw (kinds_of_lines (q ++ more) vs rest_lines u) (lines_start (q ++ more) (starts_with_more q more cut.1)) in
-    let r = part_by k (concat p) (concat (q ++ more)) ws (lines_of p p_lines) ends starts text in
+    let r = part_by k (concat p) (concat (q ++ more)) ws (lines_of p p_lines) ends starts (subst (λ (x : List ℕ). TextSpells k x ws) (concat-append p (q ++ more)) h) in
     (r.0, r.1, r.2, r.3, whole_parts k (q ∷ ps) r.1 rest_lines cut.2 r.4)
 
 parts_whole : (k : ItemType) (ps : List (List Line)) (ws : List Item) → AreLines (all_lines ps) → AreCut k ps → PartsSpell k ps ws → TextSpells k (concat (all_lines ps)) ws

@@ -1,19 +1,15 @@
 -- Definitions. The buffer of a stream, and its relation to the parsed text (`done`).
 use Rattle.std.specs.Prelude.{◌≡◌, ◌⊎◌, ℕ, ◌+◌, ◌-◌, ◌^◌, ◌<◌, ◌≤◌, List, [], ◌++◌, length, take, drop}
-use Rattle.souper_graph.specs.Syntax.Tokens.{IsOneLine}
-use Rattle.souper_ir.specs.declared.parse.error.Before.{Before}
-use Rattle.souper_ir.specs.Errors.{IsSizeOf}
-use Rattle.souper_ir.specs.Places.{newlines}
-use Rattle.souper_ir.specs.Joining.{IsLines}
+use Rattle.souper_stream.specs.Prelude.{IsOneLine, Before, IsSizeOf, newlines, IsLines}
 use Rattle.souper_stream.specs.declared.buffer.Buffer.{Buffer}
 
 -- the last parsed line, if there is one, and the bytes after it
-abbrev pub held : Buffer → List ℕ
-held b = drop b.start b.bytes.items
+abbrev pub window : Buffer → List ℕ
+window b = drop b.start b.bytes.items
 
 -- the bytes that are not parsed
 abbrev pub unparsed : Buffer → List ℕ
-unparsed b = drop b.parsed (held b)
+unparsed b = drop b.parsed (window b)
 
 -- the bytes that were parsed last
 abbrev pub last_part : Buffer → List ℕ
@@ -28,10 +24,10 @@ pub record Buffers (done rest : List ℕ) (b : Buffer) : Type 0 where
   pub gone : List ℕ
   pub lines : IsLines gone
   pub counted : length gone + 1 < 2 ^ 64 → IsSizeOf b.before gone
-  pub done_is : done ≡ gone ++ take b.parsed (held b)
+  pub done_is : done ≡ gone ++ take b.parsed (window b)
   pub rest_is : unparsed b ≡ rest
   pub placed : (0 < b.parsed) ⊎ (gone ≡ [])
-  pub one_line : IsOneLine (take (b.parsed - 1) (held b))
+  pub one_line : IsOneLine (take (b.parsed - 1) (window b))
   pub within : b.start + b.parsed ≤ length b.bytes.items
   pub last : b.last ≤ b.start + b.parsed
 
@@ -42,6 +38,6 @@ pub record Passes (old : Buffer) (len : ℕ) (new : Buffer) : Type 0 where
   pub buffers : (done rest : List ℕ) → Buffers done rest old → Buffers (done ++ take len rest) (drop len rest) new
 
 -- the parsed lines but the last were dropped, and bytes were read
-pub record KeepsHeld (old new : Buffer) : Type 0 where
+pub record KeepsWindow (old new : Buffer) : Type 0 where
   pub more : List ℕ
-  pub bytes_are : new.bytes.items ≡ held old ++ more
+  pub bytes_are : new.bytes.items ≡ window old ++ more

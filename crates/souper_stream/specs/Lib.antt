@@ -1,3 +1,4 @@
+pub mod Prelude
 pub mod Lines
 pub mod Segments
 pub mod Reading

@@ -1,9 +1,6 @@
 -- Definitions. Which tokens begin a statement or one of an item's last lines.
 use Rattle.std.specs.Prelude.{◌≡◌, ◌⊎◌, ◌||◌, Bool, true, false, cond, ℕ, ◌≤◌, List, [], ◌∷◌, ◌++◌, length, take, drop, codes, bytes_eq, IsUtf8}
-use Rattle.souper_graph.specs.Syntax.Tokens.{Lexeme, ident, val_name, equals, colon}
-use Rattle.souper_graph.specs.Syntax.Spelling.{ItemType, left_hand_side, right_hand_side, replacement}
-use Rattle.souper_ir.specs.NodeReadings.{is_name}
-use Rattle.souper_ir.specs.Joining.{IsLines}
+use Rattle.souper_stream.specs.Prelude.{Lexeme, ident, val_name, equals, colon, ItemType, left_hand_side, right_hand_side, replacement, is_name, IsLines}
 use Rattle.souper_stream.specs.declared.lines.ScanState.{ScanState}
 
 -- the word begins one of an item's last lines
@@ -15,15 +12,15 @@ abbrev pub line_word : List ℕ → Bool
 line_word w = last_word w || (bytes_eq w (codes "pc") || bytes_eq w (codes "blockpc"))
 
 -- the word begins the line that an item of the type ends with
-abbrev pub end_word : ItemType → List ℕ → Bool
-end_word left_hand_side w = bytes_eq w (codes "infer")
-end_word right_hand_side w = bytes_eq w (codes "result")
-end_word replacement w = bytes_eq w (codes "result") || bytes_eq w (codes "cand")
+abbrev pub is_terminator : ItemType → List ℕ → Bool
+is_terminator left_hand_side w = bytes_eq w (codes "infer")
+is_terminator right_hand_side w = bytes_eq w (codes "result")
+is_terminator replacement w = bytes_eq w (codes "result") || bytes_eq w (codes "cand")
 
 -- the token is a word that begins the line that an item of the type ends with
-abbrev pub is_end_word : ItemType → Lexeme → Bool
-is_end_word k (ident w) = end_word k w
-is_end_word k _ = false
+abbrev pub is_terminator_token : ItemType → Lexeme → Bool
+is_terminator_token k (ident w) = is_terminator k w
+is_terminator_token k _ = false
 
 -- what follows a name that is defined: its type, or the equals sign
 abbrev pub defines : List Lexeme → Bool
@@ -48,7 +45,7 @@ pub record LastEnds (k : ItemType) (ts : List Lexeme) : Type 0 where
   pub word : List ℕ
   pub after : List Lexeme
   pub whole : ts ≡ before ++ ident word ∷ after
-  pub ends : end_word k word ≡ true
+  pub ends : is_terminator k word ≡ true
   pub quiet : NoStart after
 
 -- the token shows that a line begins: it is the word of one, or it defines the name before it, if there is one
@@ -67,7 +64,7 @@ first_state = record { after_name = false; ends_item = false }
 
 -- the state after one token more
 abbrev pub state_after : ItemType → ScanState → Lexeme → ScanState
-state_after k s t = record { after_name = is_name t; ends_item = cond (shows_line s.after_name t) (is_end_word k t) s.ends_item }
+state_after k s t = record { after_name = is_name t; ends_item = cond (shows_line s.after_name t) (is_terminator_token k t) s.ends_item }
 
 -- the state after more tokens
 abbrev pub scanned : ItemType → ScanState → List Lexeme → ScanState
@@ -79,15 +76,15 @@ abbrev pub IsAbsent : List ℕ → List ℕ → Type 0
 IsAbsent w bs = (front back : List ℕ) → bs ≡ front ++ (w ++ back) → ⊥
 
 -- no word that an item of the type ends with is in the bytes
-abbrev pub NoEndWord : ItemType → List ℕ → Type 0
-NoEndWord k bs = (w : List ℕ) → end_word k w ≡ true → IsAbsent w bs
+abbrev pub NoTerminator : ItemType → List ℕ → Type 0
+NoTerminator k bs = (w : List ℕ) → is_terminator k w ≡ true → IsAbsent w bs
 
 -- the first `len` bytes are whole lines of UTF-8 without such a word
 pub record IsWithoutEnd (k : ItemType) (bytes : List ℕ) (len : ℕ) : Type 0 where
   pub within : len ≤ length bytes
   pub lines : IsLines (take len bytes)
   pub utf8 : IsUtf8 (take len bytes)
-  pub none : NoEndWord k (take len bytes)
+  pub none : NoTerminator k (take len bytes)
 
 -- such lines were passed over, if no item ends before them
 abbrev pub PassesOver : ItemType → ScanState → List ℕ → List ℕ → Type 0

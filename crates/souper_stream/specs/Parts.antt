@@ -2,19 +2,13 @@
 use Rattle.std.specs.Prelude.{◌≡◌, ◌⊎◌, ℕ, ◌+◌, ◌-◌, ◌^◌, ◌<◌, ◌≤◌, Bool, true, false, is_some, List, [], ◌∷◌, ◌++◌, length, take, Option, IfSome}
 use Rattle.std.specs.List.{AllByRecursion}
 use Rattle.std.specs.Io.KnownBytes.{Consumes}
-use Rattle.souper_graph.specs.Syntax.Spelling.{ItemType, TextSpells, SpellsNone}
-use Rattle.souper_graph.specs.Values.{Item}
-use Rattle.souper_ir.specs.declared.parse.error.ParseError.{ParseError}
-use Rattle.souper_ir.specs.Errors.{HasLocation, IsRefusalAt}
-use Rattle.souper_ir.specs.Joining.{IsLines}
-use Rattle.souper_ir.specs.Sinks.{PrefixSpells}
+use Rattle.souper_stream.specs.Prelude.{ItemType, TextSpells, SpellsNone, Item, ParseError, HasLocation, IsRefusalAt, IsLines, PrefixSpells, PrefixSpellsFrom, TextSpellsFrom, starts_of}
 use Rattle.souper_stream.specs.declared.buffer.Buffer.{Buffer}
 use Rattle.souper_stream.specs.declared.reader.ItemReader.{ItemReader}
-use Rattle.souper_stream.specs.Buffering.{last_part, Buffers, Passes, KeepsHeld}
-use Rattle.souper_ir.specs.Starts.{PrefixSpellsFrom, TextSpellsFrom, starts_of}
+use Rattle.souper_stream.specs.Buffering.{last_part, Buffers, Passes, KeepsWindow}
 use Rattle.souper_stream.specs.declared.starts.Start.{Start}
 use Rattle.souper_stream.specs.Starts.{AreStarts, ItemsStartAt}
-use Rattle.souper_stream.specs.Segments.{Line, concat, IsLine, AreLines, HasNoCut, IsCut, AreCut, all_lines, AreParts}
+use Rattle.souper_stream.specs.Segments.{Line, concat, IsWholeLine, AreLines, HasNoCut, IsCut, AreCut, all_lines, AreParts}
 use Rattle.souper_stream.specs.Reading.{AreAll, NeverSpells}
 
 -- the first `len` bytes of the lines are whole segments: a cut point is after them, or the stream has ended
@@ -38,7 +32,7 @@ pub record HasLines (start now : Option (List ℕ)) (ls : List Line) (ended fail
   pub not_failed : ended ≡ true → failed ≡ false
   pub all_read : ended ≡ true → AreAll start (concat ls)
   pub are : AreLines ls
-  pub whole : ended ≡ false → AllByRecursion IsLine ls
+  pub whole : ended ≡ false → AllByRecursion IsWholeLine ls
 
 -- these parts of a stream were read and parsed, and these lines are buffered after them
 pub record HasRead (k : ItemType) (start now : Option (List ℕ)) (ps : List (List Line)) (ls : List Line) (b : Buffer) (ended failed : Bool) (rejected : ℕ) : Type 0 where
@@ -70,7 +64,7 @@ starts_of_part r = r.starts.items
 
 -- If a chunk was read, the parsed text but for its last line was dropped before; else the buffer is the old one.
 pub record ReadsOn (old new : ItemReader) : Type 0 where
-  pub chunk : old.rejected ≡ 0 → KeepsHeld old.buffer new.buffer
+  pub chunk : old.rejected ≡ 0 → KeepsWindow old.buffer new.buffer
   pub segment : 0 < old.rejected → new.buffer.bytes.items ≡ old.buffer.bytes.items
 
 -- `r.part()`

@@ -2,18 +2,14 @@
 use Rattle.std.specs.Prelude.{◌≡◌, ◌⊎◌, ℕ, ◌+◌, ◌^◌, ◌<◌, ◌≤◌, Bool, true, List, ◌++◌, length, Option, IfSome, Result, Ok}
 use Rattle.std.specs.Io.{StartsWith, appended_bytes}
 use Rattle.std.specs.Io.KnownBytes.{Consumes}
-use Rattle.souper_graph.specs.Values.{Item}
-use Rattle.souper_graph.specs.Syntax.Spelling.{ItemType, SpellsNone}
-use Rattle.souper_ir.specs.declared.parse.error.ParseError.{ParseError}
-use Rattle.souper_ir.specs.Errors.{HasLocation, IsRefusalAt}
-use Rattle.souper_ir.specs.Sinks.{TakesOver, TakesText, PrefixSpells}
+use Rattle.souper_stream.specs.Prelude.{Item, ItemType, SpellsNone, ParseError, HasLocation, IsRefusalAt, TakesOver, TakesText, PrefixSpells}
 
 -- if the bytes of a reader are known, they are these
 abbrev pub AreAll : Option (List ℕ) → List ℕ → Type 0
 AreAll known bytes = IfSome known (λ all. all ≡ bytes)
 
 -- bytes were read and appended to the buffer; at `Ok true` they are all that was left of the input
-pub record Reads {E : Type 0} (before after : Option (List ℕ)) (old new : List ℕ) (result : Result Bool E) : Type 0 where
+pub record ReadsBytes {E : Type 0} (before after : Option (List ℕ)) (old new : List ℕ) (result : Result Bool E) : Type 0 where
   pub kept : StartsWith new old
   pub consumed : Consumes before after (appended_bytes old new)
   pub all_read : result ≡ Ok true → AreAll before (appended_bytes old new)

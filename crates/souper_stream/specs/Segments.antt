@@ -1,13 +1,8 @@
 -- Definitions. The segments of a text: lines, cut where an item ends and a line of the next begins, as far as tokens show it. A line
 -- starts if it begins with a statement, or with one of an item's last lines. A lexical fault hides the tokens after it on its line, and
 -- no others; so the next segment can be parsed though this one is invalid.
-use Rattle.std.specs.Prelude.{◌≡◌, ◌⊎◌, ◌↔◌, ℕ, ◌-◌, ◌<◌, ◌≤◌, true, List, [], ◌∷◌, ◌++◌, length, take, drop, IsUtf8}
-use Rattle.std.specs.List.{flat_map}
-use Rattle.souper_graph.specs.Values.{Item}
-use Rattle.souper_graph.specs.Syntax.Tokens.{Lexeme, IsOneLine}
-use Rattle.souper_graph.specs.Syntax.Spelling.{kinds, ItemType, TextSpells}
-use Rattle.souper_lexer.specs.TokenReading.{lexed_of}
-use Rattle.souper_ir.specs.Joining.{IsLines}
+use Rattle.std.specs.Prelude.{◌≡◌, ◌⊎◌, ◌↔◌, ℕ, ◌-◌, ◌<◌, ◌≤◌, true, List, [], ◌∷◌, ◌++◌, length, take, drop, IsUtf8, flat_map}
+use Rattle.souper_stream.specs.Prelude.{Item, Lexeme, IsOneLine, kinds, ItemType, TextSpells, lexed_of, IsLines}
 use Rattle.souper_stream.specs.Lines.{starts_line, LastEnds}
 
 -- the bytes of a line, without a newline but at the end
@@ -20,18 +15,18 @@ concat [] = []
 concat (l ∷ ls) = l ++ concat ls
 
 -- a line with its newline
-abbrev pub IsLine : Line → Type 0
-IsLine l = (body : List ℕ) × IsOneLine body × (l ≡ body ++ 10 ∷ [])
+abbrev pub IsWholeLine : Line → Type 0
+IsWholeLine l = (body : List ℕ) × IsOneLine body × (l ≡ body ++ 10 ∷ [])
 
 -- the last line of a text, which may have none
 abbrev pub IsLastLine : Line → Type 0
-IsLastLine l = IsLine l ⊎ (IsOneLine l × (0 < length l))
+IsLastLine l = IsWholeLine l ⊎ (IsOneLine l × (0 < length l))
 
 -- the lines of a text
 abbrev pub AreLines : List Line → Type 0
 AreLines [] = Unit {0}
 AreLines (l ∷ []) = IsLastLine l
-AreLines (l ∷ (m ∷ ls)) = IsLine l × AreLines (m ∷ ls)
+AreLines (l ∷ (m ∷ ls)) = IsWholeLine l × AreLines (m ∷ ls)
 
 -- the tokens of a text, up to a fault if it has one
 abbrev pub tokens_of : List ℕ → List Lexeme
@@ -46,23 +41,23 @@ abbrev pub EndsItem : ItemType → List Line → Type 0
 EndsItem k ls = LastEnds k (tokens_of_lines ls)
 
 -- the first of these lines starts
-abbrev pub Starts : List Line → Type 0
-Starts [] = ⊥
-Starts (l ∷ ls) = starts_line (tokens_of l) ≡ true
+abbrev pub FirstStarts : List Line → Type 0
+FirstStarts [] = ⊥
+FirstStarts (l ∷ ls) = starts_line (tokens_of l) ≡ true
 
 -- no cut point is between the lines
 abbrev pub HasNoCut : ItemType → List Line → Type 0
-HasNoCut k ls = (front back : List Line) → ls ≡ front ++ back → EndsItem k front → Starts back → ⊥
+HasNoCut k ls = (front back : List Line) → ls ≡ front ++ back → EndsItem k front → FirstStarts back → ⊥
 
 -- a cut point is between these lines
 abbrev pub IsCut : ItemType → List Line → List Line → Type 0
-IsCut k front back = EndsItem k front × Starts back
+IsCut k front back = EndsItem k front × FirstStarts back
 
 -- Each part has lines. An item ends with each but the last, and a line starts with each but the first.
 abbrev pub AreCut : ItemType → List (List Line) → Type 0
 AreCut k [] = Unit {0}
 AreCut k (p ∷ []) = p ≡ [] → ⊥
-AreCut k (p ∷ (q ∷ ps)) = EndsItem k p × Starts q × AreCut k (q ∷ ps)
+AreCut k (p ∷ (q ∷ ps)) = EndsItem k p × FirstStarts q × AreCut k (q ∷ ps)
 
 -- the lines of all parts
 abbrev pub all_lines : List (List Line) → List Line

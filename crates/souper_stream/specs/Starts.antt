@@ -1,7 +1,6 @@
 -- Definitions. Where the items of a part of a stream begin.
 use Rattle.std.specs.Prelude.{◌≡◌, ℕ, ◌+◌, ◌^◌, ◌<◌, ◌≤◌, List, [], ◌∷◌, ◌++◌, length, take}
-use Rattle.souper_graph.specs.Values.{Item}
-use Rattle.souper_ir.specs.Places.{newlines}
+use Rattle.souper_stream.specs.Prelude.{Item, newlines}
 use Rattle.souper_stream.specs.declared.starts.Start.{Start}
 
 -- the offsets ascend, and are within the bounds

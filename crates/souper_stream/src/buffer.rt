@@ -1,7 +1,7 @@
 //! The buffer of a stream.
 ghost use Rattle.std.specs.Prelude.{◌≡◌, ℕ, ◌+◌, ◌^◌, ◌<◌, ◌≤◌, List, [], length, take, vec_len, OnOk};
-ghost use Rattle.souper_ir.specs.Places.{newlines};
-ghost use Rattle.souper_stream.specs.Buffering.{Buffers, Counts, held, unparsed, Passes};
+ghost use Rattle.souper_stream.specs.Prelude.{newlines};
+ghost use Rattle.souper_stream.specs.Buffering.{Buffers, Counts, window, unparsed, Passes};
 
 use crate::lines::last_line_start;
 use souper_ir::parse::Before;
@@ -69,9 +69,9 @@ impl Buffer {
     }
 
     /// The bytes from the last parsed line on, up to the first `len` that are not parsed.
-    pub(crate) fn held(&self, len: usize) -> &[u8]
+    pub(crate) fn window(&self, len: usize) -> &[u8]
         requires { self.now.start + self.now.parsed + len ≤ vec_len self.now.bytes }
-        ensures { result.now ≡ take (self.now.parsed + len) (held self.now) }
+        ensures { result.now ≡ take (self.now.parsed + len) (window self.now) }
     {
         &self.bytes[self.start..self.start + self.parsed + len]
     }
@@ -86,7 +86,7 @@ impl Buffer {
             lines: self
                 .before
                 .lines
-                .saturating_add(newline_count(self.held(0))),
+                .saturating_add(newline_count(self.window(0))),
         }
     }
 
@@ -104,7 +104,7 @@ impl Buffer {
         requires within { self.old.start + self.old.parsed + len ≤ vec_len self.old.bytes }
         ensures { Passes self.old len self.new }
     {
-        let lines = self.held(len);
+        let lines = self.window(len);
         let line = last_line_start(lines);
         let count = newline_count(&lines[..line]);
         self.before.bytes = self.before.bytes.saturating_add(line);
@@ -118,7 +118,7 @@ impl Buffer {
     #[tactic(auto, using(std::proofs::lemmas::List::take_rest, crate::proofs::Buffers::buffers_drained))]
     pub(crate) fn drain(&mut self, alloc: Global) -> Result<(), AllocError>
         requires { self.old.start + self.old.parsed ≤ vec_len self.old.bytes }
-        ensures bytes { OnOk result (self.new.bytes.items ≡ held self.old) }
+        ensures bytes { OnOk result (self.new.bytes.items ≡ window self.old) }
         ensures within { OnOk result (self.new.start + self.new.parsed ≤ vec_len self.new.bytes) }
         ensures buffers { OnOk result ((done rest : List ℕ) → Buffers done rest self.old → Buffers done rest self.new) }
     {

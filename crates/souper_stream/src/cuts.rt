@@ -1,6 +1,6 @@
 //! Where a text is cut.
 ghost use Rattle.std.specs.Prelude.{◌≡◌, ◌⊎◌, ◌<◌, ◌≤◌, List, length, take, IfOk, IfSome, IfNone, OnErr, IsUtf8};
-ghost use Rattle.souper_ir.specs.Joining.{IsLines};
+ghost use Rattle.souper_stream.specs.Prelude.{IsLines};
 ghost use Rattle.souper_stream.specs.Lines.{PassesOver};
 ghost use Rattle.souper_stream.specs.Segments.{Line, concat, AreLines, HasNoCut, CutsAt, HasNoCutAfter, IsFirstSegment, HasBadLine};
 

@@ -2,12 +2,9 @@
 ghost use Rattle.std.specs.Prelude.{◌≡◌, ◌≤◌, ◌<◌, ◌∷◌, [], length, take, drop, true, false, IfOk, IfSome, IfNone, OnErr, IsUtf8};
 ghost use Rattle.std.specs.Io.{StartsWith};
 ghost use Rattle.std.specs.Io.BufRead.{take_through};
-ghost use Rattle.souper_graph.specs.Syntax.Tokens.{IsOneLine};
-ghost use Rattle.souper_graph.specs.Syntax.Spelling.{kinds};
+ghost use Rattle.souper_stream.specs.Prelude.{IsOneLine, kinds, is_name, IsLines};
 ghost use Rattle.souper_lexer.specs.TokenView.{lexeme_of, Yields};
-ghost use Rattle.souper_ir.specs.NodeReadings.{is_name};
-ghost use Rattle.souper_ir.specs.Joining.{IsLines};
-ghost use Rattle.souper_stream.specs.Lines.{last_word, line_word, is_end_word, shows_line, defines, starts_line, end_word, first_state, state_after, scanned, IsAbsent, NoEndWord, IsWithoutEnd};
+ghost use Rattle.souper_stream.specs.Lines.{last_word, line_word, is_terminator_token, shows_line, defines, starts_line, is_terminator, first_state, state_after, scanned, IsAbsent, NoTerminator, IsWithoutEnd};
 ghost use Rattle.souper_stream.specs.Segments.{tokens_of, IsLastLineAt};
 
 use crate::item::StreamItem;
@@ -110,10 +107,7 @@ pub(crate) fn utf8(bytes: &[u8]) -> io::Result<&str>
     ensures utf8 { IfOk result (λ text. IsUtf8 text.now) }
     ensures failed { OnErr result (¬ (IsUtf8 bytes.now)) }
 {
-    match str::from_utf8(bytes) {
-        Ok(text) => Ok(text),
-        Err(_) => Err(io::Error::from(ErrorKind::InvalidData)),
-    }
+    str::from_utf8(bytes).map_err(|_| io::Error::from(ErrorKind::InvalidData))
 }
 
 /// The length of the first line of the text, with its newline.
@@ -155,7 +149,7 @@ pub fn lines_len(bytes: &[u8]) -> usize
 #[tactic(auto, using(crate::proofs::Cutting::front_take, crate::proofs::Cutting::absent_before, crate::proofs::Cutting::end_word_some))]
 fn before_word<'a, T: StreamItem>(bytes: &'a [u8], word: &str) -> &'a [u8]
     ensures front { StartsWith bytes.now result.now }
-    ensures none { end_word T.item_type word.now ≡ true → IsAbsent word.now result.now }
+    ensures none { is_terminator T.item_type word.now ≡ true → IsAbsent word.now result.now }
 {
     if !T::ends_with(word) {
         return bytes;
@@ -188,7 +182,7 @@ pub(crate) fn len_without_end<T: StreamItem>(bytes: &[u8]) -> (usize, usize)
 // The end of the first byte of the last occurrence of the word, if items of the type end with a line that it begins. Else 0.
 fn last_occurrence<T: StreamItem>(bytes: &[u8], word: &str) -> usize
     ensures within { result ≤ length bytes.now }
-    ensures none { result ≡ 0 → end_word T.item_type word.now ≡ true → IsAbsent word.now bytes.now }
+    ensures none { result ≡ 0 → is_terminator T.item_type word.now ≡ true → IsAbsent word.now bytes.now }
 {
     // Where the word does not occur, a search forward finds that out faster.
     if !T::ends_with(word) || before_word::<T>(bytes, word).len() == bytes.len() {
@@ -203,7 +197,7 @@ fn last_occurrence<T: StreamItem>(bytes: &[u8], word: &str) -> usize
 /// The offset of the last line in which a word occurs that items of the type end with, be it in a token or in a comment.
 pub(crate) fn last_line_with_end<T: StreamItem>(bytes: &[u8]) -> Option<usize>
     ensures line { IfSome result (λ start. IsLines (take start bytes.now) × (start ≤ length bytes.now)) }
-    ensures none { IfNone result (NoEndWord T.item_type bytes.now) }
+    ensures none { IfNone result (NoTerminator T.item_type bytes.now) }
 {
     let infer = last_occurrence::<T>(bytes, "infer");
     let result = last_occurrence::<T>(bytes, "result");

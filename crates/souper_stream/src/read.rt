@@ -1,9 +1,7 @@
 //! Reading items from a stream.
 ghost use Rattle.std.specs.Prelude.{◌≡◌, [], IfErr, OnOk, map, option_copied};
 ghost use Rattle.std.specs.List.{AllByRecursion};
-ghost use Rattle.souper_graph.specs.WellFormed.{WellFormed};
-ghost use Rattle.souper_ir.specs.Errors.{kind_of};
-ghost use Rattle.souper_ir.specs.Sinks.{TakesOver};
+ghost use Rattle.souper_stream.specs.Prelude.{WellFormed, kind_of, TakesOver};
 ghost use Rattle.souper_stream.specs.Reading.{IsStreamTaken, IsStreamRefused};
 
 use crate::item::StreamItem;
@@ -54,10 +52,8 @@ impl<T: WholeItem + Drop> Sink<T> for Pending<T> {
     ghost holds = { λ first pending items. (map T.view pending.items.items ≡ items) × AllByRecursion WellFormed items };
 
     fn take(&mut self, item: T) -> std::result::Result<(), AllocError> {
-        match self.items.push(item) {
-            Ok(()) => Ok(()),
-            Err(_) => Err(AllocError),
-        }
+        self.items.push(item)?;
+        Ok(())
     }
 }
 

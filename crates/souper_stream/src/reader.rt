@@ -1,18 +1,12 @@
 //! The reader of a stream: chunks of whole segments, and the segments of a chunk that spells no items.
 ghost use Rattle.std.specs.Prelude.{◌≡◌, ◌+◌, ◌++◌, ◌<◌, ◌≤◌, ℕ, List, [], length, take, true, false, Option, None, is_some, Ok, IfOk, IfErr, IfSome, OnOk, vec_len, option_copied};
 ghost use Rattle.std.specs.Io.{StopsAt, appended_bytes};
-ghost use Rattle.souper_graph.specs.Syntax.Spelling.{ItemType};
-ghost use Rattle.souper_graph.specs.Values.{Item};
-ghost use Rattle.souper_ir.specs.Answers.{IsStrError};
-ghost use Rattle.souper_ir.specs.Errors.{kind_of, offset_of, HasLocationAfter, IsLocatedAfter};
-ghost use Rattle.souper_ir.specs.Places.{EndsIn};
-ghost use Rattle.souper_ir.specs.Sinks.{TakesOver};
-ghost use Rattle.souper_ir.specs.Starts.{TakesFrom, TextSpellsFrom, PrefixSpellsFrom, HasStarts, starts_of};
 ghost use Rattle.std.specs.IoError.{error_kind};
+ghost use Rattle.souper_stream.specs.Prelude.{ItemType, Item, IsStrError, kind_of, offset_of, HasLocationAfter, IsLocatedAfter, EndsIn, TakesOver, TakesFrom, TextSpellsFrom, PrefixSpellsFrom, HasStarts, starts_of};
 ghost use Rattle.souper_stream.specs.Starts.{Ascend};
-ghost use Rattle.souper_stream.specs.Buffering.{held, unparsed, KeepsHeld};
+ghost use Rattle.souper_stream.specs.Buffering.{window, unparsed, KeepsWindow};
 ghost use Rattle.souper_stream.specs.Segments.{Line};
-ghost use Rattle.souper_stream.specs.Reading.{Reads};
+ghost use Rattle.souper_stream.specs.Reading.{ReadsBytes};
 ghost use Rattle.souper_stream.specs.Parts.{Advances, KeepsParts, HasParts, HasAll, Holds, part_of, keeps_starts, starts_of_part, ReadsOn, TakesPart, RefusesPart};
 
 use crate::buffer::Buffer;
@@ -32,7 +26,7 @@ const BLOCK: usize = 65536;
 
 // Takes bytes of what the reader has buffered, and returns whether the input has ended.
 fn read_block<R: BufRead>(reader: &mut R, bytes: &mut Vec<u8>) -> io::Result<bool>
-    ensures { Reads (R.remaining reader.old) (R.remaining reader.new) bytes.old.items bytes.new.items result }
+    ensures { ReadsBytes (R.remaining reader.old) (R.remaining reader.new) bytes.old.items bytes.new.items result }
 {
     let shown = match reader.fill_buf() {
         Ok(shown) => shown,
@@ -48,7 +42,7 @@ fn read_block<R: BufRead>(reader: &mut R, bytes: &mut Vec<u8>) -> io::Result<boo
 
 // Reads until `goal` bytes are buffered, or until the input has ended. Returns whether it has ended.
 fn fill_blocks<R: BufRead>(reader: &mut R, bytes: &mut Vec<u8>, goal: usize) -> io::Result<bool>
-    ensures { Reads (R.remaining reader.old) (R.remaining reader.new) bytes.old.items bytes.new.items result }
+    ensures { ReadsBytes (R.remaining reader.old) (R.remaining reader.new) bytes.old.items bytes.new.items result }
 {
     for _turn in 0..u64::MAX {
         if bytes.len() >= goal {
@@ -66,7 +60,7 @@ fn fill_blocks<R: BufRead>(reader: &mut R, bytes: &mut Vec<u8>, goal: usize) -> 
 // Reads a line, and returns whether the input has ended: it is then empty, or has no newline.
 #[tactic(auto, using(crate::proofs::Buffers::line_reads, crate::proofs::Buffers::line_ends))]
 fn read_line<R: BufRead>(reader: &mut R, bytes: &mut Vec<u8>) -> io::Result<bool>
-    ensures read { Reads (R.remaining reader.old) (R.remaining reader.new) bytes.old.items bytes.new.items result }
+    ensures read { ReadsBytes (R.remaining reader.old) (R.remaining reader.new) bytes.old.items bytes.new.items result }
     ensures line { StopsAt (appended_bytes bytes.old.items bytes.new.items) 10 }
     ensures ends { result ≡ Ok false → EndsIn (appended_bytes bytes.old.items bytes.new.items) 10 }
 {
@@ -78,7 +72,7 @@ fn read_line<R: BufRead>(reader: &mut R, bytes: &mut Vec<u8>) -> io::Result<bool
 // are read in any case, if there are any.
 #[tactic(auto, using(crate::proofs::Buffers::line_ends, crate::proofs::Buffers::ends_both))]
 fn fill_lines<R: BufRead>(reader: &mut R, bytes: &mut Vec<u8>, goal: usize) -> io::Result<bool>
-    ensures read { Reads (R.remaining reader.old) (R.remaining reader.new) bytes.old.items bytes.new.items result }
+    ensures read { ReadsBytes (R.remaining reader.old) (R.remaining reader.new) bytes.old.items bytes.new.items result }
     ensures ends { result ≡ Ok false → EndsIn (appended_bytes bytes.old.items bytes.new.items) 10 }
 {
     let start = bytes.len();
@@ -239,7 +233,7 @@ impl ItemReader {
         ensures next { OnOk result ((start : Option (List ℕ)) (ps : List (List Line)) → HasParts T.item_type start (R.remaining reader.old) ps self.old
             → HasParts T.item_type start (R.remaining reader.new) ps self.new × (self.new.rejected ≡ 0 → HasAll T.item_type start (R.remaining reader.new) ps)) }
         ensures within { OnOk result (self.new.buffer.start + self.new.buffer.parsed + self.new.rejected ≤ vec_len self.new.buffer.bytes) }
-        ensures kept { OnOk result (KeepsHeld self.old.buffer self.new.buffer) }
+        ensures kept { OnOk result (KeepsWindow self.old.buffer self.new.buffer) }
     {
         self.buffer.drain(alloc)?;
         let mut goal = self.buffer.bytes.len().saturating_add(self.min_chunk);
@@ -332,7 +326,7 @@ impl ItemReader {
                 Ok(true)
             }
             Err(error) if error.kind() == ParseErrorKind::Parse => {
-                let error = match utf8(self.buffer.held(len)) {
+                let error = match utf8(self.buffer.window(len)) {
                     Ok(source) => error.locate_after(
                         alloc,
                         self.buffer.before,

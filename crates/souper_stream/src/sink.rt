@@ -1,6 +1,6 @@
 //! A sink for the items of a stream.
 ghost use Rattle.std.specs.Prelude.{[], List};
-ghost use Rattle.souper_graph.specs.Values.{Item};
+ghost use Rattle.souper_stream.specs.Prelude.{Item};
 
 use souper_ir::parse::{Sink, WholeItem};
 

@@ -1,7 +1,7 @@
 -- The count so far and the newlines of the remaining bytes add up to the newlines of all bytes.
 use Rattle.std.proofs.Common.{◌≡◌, ◌+◌}
+use Rattle.souper_stream.proofs.Prelude.{newlines}
 use Rattle.std.specs.Slice.Iter.{chunks_rest, chunks_size}
-use Rattle.souper_ir.specs.Places.{newlines}
 use Rattle.souper_stream.proofs.buffer.newline_count.Given as goal
 
 abbrev pub invariant-loop-chunk : goal.invariant-loop-chunk

@@ -1,6 +1,6 @@
 -- The count is the number of newlines of the bytes so far.
 use Rattle.std.proofs.Common.{◌≡◌, ◌≤◌, take}
-use Rattle.souper_ir.specs.Places.{newlines}
+use Rattle.souper_stream.proofs.Prelude.{newlines}
 use Rattle.souper_stream.proofs.buffer.newlines_of_chunk.Given as goal
 
 abbrev pub invariant-loop-byte : goal.invariant-loop-byte

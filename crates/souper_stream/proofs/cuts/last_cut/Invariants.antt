@@ -1,6 +1,6 @@
 -- Whole lines are before the start.
 use Rattle.std.proofs.Common.{◌≤◌, length, take}
-use Rattle.souper_ir.specs.Joining.{IsLines}
+use Rattle.souper_stream.proofs.Prelude.{IsLines}
 use Rattle.souper_stream.proofs.cuts.last_cut.Given as goal
 
 abbrev pub invariant-loop-start : goal.invariant-loop-start

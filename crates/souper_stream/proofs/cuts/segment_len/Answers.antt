@@ -1,6 +1,6 @@
 use Rattle.std.proofs.Common.{◌≡◌, ◌<◌, [], true, false, length, take, refl, sym, ◌∙◌, arith, eqb-true}
-use Rattle.std.proofs.lemmas.Bool.Decides.{nat_tests}
 use Rattle.std.proofs.lemmas.Result.{err_from_is_err_and}
+use Rattle.std.proofs.lemmas.Bool.Decides.{nat_tests}
 use Rattle.souper_stream.specs.Lines.{starts_line}
 use Rattle.souper_stream.specs.Segments.{tokens_of}
 use Rattle.souper_stream.proofs.Cutting.{state_first, scanned_step, no_cut_none, first_cut, first_end, passed_over, bad_line}
@@ -36,21 +36,15 @@ loop-state-preserved g c =
 
 pub returns-then-starts_line-clause-segment : goal.returns-then-starts_line-clause-segment
 returns-then-starts_line-clause-segment g c = λ ls e lines.
-    let rest = c.loop-state.rest.now in
-    let n = c.first_line_len.result in
-    let line : c.in_ok-line.line.now ≡ take n rest = c.in_ok-line.ensures.same ∙ c.split_at.ensures.front in
-    let some : 0 < length rest = grind (arith, nat_tests, c.is_empty.ensures, c.loop-state-test.true) in
-    first_cut g.T.Item.item_type ls rest c.loop-state.state lines (c.loop-state.invariant.scanned ls e lines) c.args.text.now n e some c.first_line_len.ensures.line
+    let line : c.in_ok-line.line.now ≡ take c.first_line_len.result c.loop-state.rest.now = c.in_ok-line.ensures.same ∙ c.split_at.ensures.front in
+    first_cut _ _ _ _ lines (c.loop-state.invariant.scanned ls e lines) c.args.text.now _ e (grind (arith, nat_tests, c.is_empty.ensures, c.loop-state-test.true)) c.first_line_len.ensures.line
     c.if-state.true (rw (← line, ← c.starts_line.ensures) c.if-starts_line.true)
 
 pub returns-clause-segment : goal.returns-clause-segment
 returns-clause-segment g c = λ ls e lines.
-    let rest = c.loop-state.rest.now in
-    first_end g.T.Item.item_type ls rest c.loop-state.state lines (c.loop-state.invariant.scanned ls e lines) c.args.text.now e (eqb-true (length rest) 0 (sym c.is_empty.ensures ∙ c.loop-state-test.false))
+    first_end _ _ _ _ lines (c.loop-state.invariant.scanned ls e lines) c.args.text.now e (eqb-true _ 0 (sym c.is_empty.ensures ∙ c.loop-state-test.false))
 
 pub returns-in_err-line-clause-failed : goal.returns-in_err-line-clause-failed
 returns-in_err-line-clause-failed g c =
-    let rest = c.loop-state.rest.now in
-    let some : 0 < length rest = grind (arith, nat_tests, c.is_empty.ensures, c.loop-state-test.true) in
     rw (err_from_is_err_and c.from_residual.result c.from_residual.ensures.1).1 (λ ls e lines.
-    bad_line g.T.Item.item_type ls rest c.loop-state.state lines (c.loop-state.invariant.scanned ls e lines) c.first_line_len.result some c.first_line_len.ensures.line (rw c.split_at.ensures.front at c.in_err-line.ensures.failed))
+    bad_line _ _ _ _ lines (c.loop-state.invariant.scanned ls e lines) _ (grind (arith, nat_tests, c.is_empty.ensures, c.loop-state-test.true)) c.first_line_len.ensures.line (rw c.split_at.ensures.front at c.in_err-line.ensures.failed))

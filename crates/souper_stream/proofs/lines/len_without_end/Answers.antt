@@ -1,5 +1,4 @@
-use Rattle.std.proofs.Common.{inl, refl, take, arith}
-use Rattle.std.specs.Prelude.{codes}
+use Rattle.std.proofs.Common.{inl, refl, take, arith, codes}
 use Rattle.std.proofs.Transfers.{starts_with_trans}
 use Rattle.std.proofs.lemmas.Str.{IsUtf8-nil}
 use Rattle.souper_stream.proofs.Cutting.{front_take, absent_front, no_end_words, no_end_nil, without_end}

@@ -1,6 +1,6 @@
 -- The tokens that are left lead to the same state as all tokens.
 use Rattle.std.proofs.Common.{◌≡◌, length}
-use Rattle.souper_graph.specs.Syntax.Spelling.{kinds}
+use Rattle.souper_stream.proofs.Prelude.{kinds}
 use Rattle.souper_stream.specs.Lines.{scanned}
 use Rattle.souper_stream.specs.Segments.{tokens_of}
 use Rattle.souper_stream.proofs.lines.scan_line.Given as goal

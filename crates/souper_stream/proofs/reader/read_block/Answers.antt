@@ -1,9 +1,8 @@
-use Rattle.std.proofs.Common.{ℕ, ◌≡◌, ◌≤◌, length, take, drop, sym, ◌∙◌, ap, subst, arith, eqb-true}
+use Rattle.std.proofs.Common.{ℕ, ◌≡◌, length, take, drop, sym, ◌∙◌, ap, subst, arith, eqb-true, take_all}
 use Rattle.std.specs.Io.{appended_bytes}
 use Rattle.std.specs.Io.BufRead.{FillKeeps}
-use Rattle.std.proofs.BufReadLemmas.{Consumes_shown}
 use Rattle.std.proofs.Math.Seq.{take-append_seam, drop-append_seam}
-use Rattle.std.proofs.lemmas.List.{take_all}
+use Rattle.std.proofs.BufReadLemmas.{Consumes_shown}
 use Rattle.souper_stream.proofs.reader.read_block.Goals as goal
 
 pub returns : goal.returns
@@ -13,8 +12,7 @@ returns g c =
     let shown = c.in-Ok.shown.now in
     let rested = c.fill_buf.follows.lender-at-none in
     let filled = subst (FillKeeps _ (g.R.Read.remaining rested) (g.R.BufRead.consumable_len rested)) c.in-Ok.is c.fill_buf.follows.holds-at-none in
-    let bound : n ≤ length shown = omega arith in
-    let moved = Consumes_shown (g.R.Read.remaining c.args.reader.now) _ _ _ shown n bound c.in-Ok.ensures.front c.in-Ok.ensures.end filled.0 filled.1 c.consume.ensures.bytes in
+    let moved = Consumes_shown (g.R.Read.remaining c.args.reader.now) _ _ _ shown n (omega arith) c.in-Ok.ensures.front c.in-Ok.ensures.end filled.0 filled.1 c.consume.ensures.bytes in
     let items = c.in_ok-extend_from_slice.ensures.items in
     let same : appended_bytes old c.extend_from_slice.new.self.items ≡ take n shown = ap (drop (length old)) items ∙ drop-append_seam old (take n shown) in
     record {

@@ -1,15 +1,10 @@
-use Rattle.std.proofs.Common.{◌≡◌, ◌+◌, ◌-◌, ◌<◌, ◌≤◌, inl, List, ℕ, ◌++◌, length, take, drop, refl, sym, ap, ◌∙◌, subst, arith, append_assoc, length-append}
-use Rattle.std.specs.Prelude.{◌==◌}
-use Rattle.std.proofs.Math.Seq.{take-add}
-use Rattle.std.proofs.lemmas.List.{take-take, drop-take, length-take, length-drop, drop-drop}
+use Rattle.std.proofs.Common.{◌≡◌, ◌+◌, ◌-◌, ◌<◌, ◌≤◌, inl, List, ℕ, ◌++◌, length, take, drop, refl, sym, ap, ◌∙◌, subst, arith, append_assoc, length-append, ◌==◌, take-add, take-take, length-take, length-drop, drop-drop}
+use Rattle.std.proofs.lemmas.List.{drop-take}
 use Rattle.std.proofs.lemmas.List.Sums.{count_by-le-length}
-use Rattle.souper_graph.specs.Syntax.Tokens.{IsOneLine}
-use Rattle.souper_ir.specs.Joining.{IsLines}
-use Rattle.souper_ir.specs.Places.{newlines}
-use Rattle.souper_stream.specs.Buffering.{held}
+use Rattle.souper_stream.proofs.Prelude.{newlines-append, IsOneLine, IsLines, newlines}
+use Rattle.souper_stream.specs.Buffering.{window}
 use Rattle.souper_stream.specs.Segments.{IsLastLineAt}
 use Rattle.souper_stream.proofs.LineLists.{lines_append}
-use Rattle.souper_stream.proofs.Buffers.{newlines-append}
 use Rattle.souper_stream.proofs.buffer.Buffer.pass.Goals as goal
 
 pub returns : goal.returns
@@ -17,13 +12,13 @@ returns c =
     let old = c.args.self.now in
     let len = c.args.len in
     let bytes = old.bytes.items in
-    let all : List ℕ = held old in
+    let all : List ℕ = window old in
     let end : ℕ = old.parsed + len in
     let line : ℕ = c.last_line_start-line.result in
     let front : List ℕ = take line all in
     let left : ℕ = end - line in
     let fits : end ≤ length all = omega (arith, c.requires.within, old.bytes.ok, length-drop old.start bytes) in
-    let at : IsLastLineAt (take end all) line = subst (λ (x : List ℕ). IsLastLineAt x line) c.held-lines.ensures c.last_line_start-line.ensures in
+    let at : IsLastLineAt (take end all) line = subst (λ (x : List ℕ). IsLastLineAt x line) c.window-lines.ensures c.last_line_start-line.ensures in
     let long : length (take end all) ≡ end = omega (arith, length-take end all) in
     let before : line < end = omega (arith, at.before) in
     let front_is : take line (take end all) ≡ front = take-take line end all (omega arith) in
@@ -38,18 +33,14 @@ returns c =
       part = (λ i. take len (drop (begin i) bytes)) ∙ ap (take len) (sym (drop-drop old.parsed old.start bytes));
       buffers = λ done rest p.
           let gone = length-append p.gone front in
-          let counts = newlines-append p.gone front in
-          let few = count_by-le-length (λ b. b == 10) p.gone in
-          let few_more = count_by-le-length (λ b. b == 10) front in
           let front_long = length-take line all in
-          let sum : left + line ≡ len + old.parsed = omega arith in
           record {
             gone = p.gone ++ front;
             lines = lines_append p.gone front p.lines lines;
             counted = λ small. let b = p.counted (omega arith) in record {
               lines = lines_append p.gone front p.lines lines;
               bytes_are = omega (arith, b.bytes_are, c.saturating_add-self.ensures);
-              lines_are = omega (arith, b.lines_are, c.saturating_add-self-2.ensures, c.newline_count-count.ensures, ap newlines front_is, ap (λ (x : List ℕ). newlines (take line x)) c.held-lines.ensures);
+              lines_are = omega (arith, b.lines_are, c.saturating_add-self-2.ensures, c.newline_count-count.ensures, newlines-append p.gone front, count_by-le-length (λ b. b == 10) (p.gone ++ front), ap newlines front_is, ap (λ (x : List ℕ). newlines (take line x)) c.window-lines.ensures);
             };
             done_is = ap (λ (x : List ℕ). x ++ take len rest) p.done_is ∙ append_assoc p.gone (take old.parsed all) (take len rest)
                 ∙ ap (λ (x : List ℕ). p.gone ++ x) (ap (λ (x : List ℕ). take old.parsed all ++ take len x) (sym p.rest_is) ∙ sym (take-add old.parsed len all) ∙ both) ∙ sym (append_assoc p.gone front (take left (drop (old.start + line) bytes)));

@@ -1,7 +1,6 @@
 -- The same parts were parsed as before, and what is not needed of them was dropped.
-use Rattle.std.proofs.Common.{◌≡◌, ◌≤◌, ◌+◌}
-use Rattle.std.specs.Prelude.{vec_len}
-use Rattle.souper_stream.specs.Buffering.{KeepsHeld}
+use Rattle.std.proofs.Common.{◌≡◌, ◌≤◌, ◌+◌, vec_len}
+use Rattle.souper_stream.specs.Buffering.{KeepsWindow}
 use Rattle.souper_stream.specs.Parts.{KeepsParts, keeps_starts}
 use Rattle.souper_stream.proofs.reader.ItemReader.next_chunk.Given as goal
 
@@ -10,6 +9,6 @@ invariant-loop-turn g l = record {
   same : keeps_starts l.self ≡ keeps_starts l.fn.self;
   parsed : l.self.buffer.start + l.self.buffer.parsed ≤ vec_len l.self.buffer.bytes;
   none : l.self.rejected ≡ 0;
-  kept : KeepsHeld l.fn.self.buffer l.self.buffer;
+  kept : KeepsWindow l.fn.self.buffer l.self.buffer;
   parts : KeepsParts g.T.Item.item_type (g.R.Read.remaining l.fn.reader) (g.R.Read.remaining l.reader) l.fn.self l.self;
 }

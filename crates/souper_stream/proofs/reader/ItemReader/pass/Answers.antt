@@ -1,5 +1,5 @@
 use Rattle.std.proofs.Common.{take, refl, arith, length-append}
-use Rattle.souper_ir.specs.Starts.{starts_of}
+use Rattle.souper_stream.proofs.Prelude.{starts_of}
 use Rattle.souper_stream.specs.Parts.{AreNextStarts}
 use Rattle.souper_stream.proofs.Buffers.{kept_starts}
 use Rattle.souper_stream.proofs.reader.ItemReader.pass.Goals as goal

@@ -1,9 +1,6 @@
-use Rattle.std.proofs.Common.{rules, ◌≡◌, ◌<◌, [], refl, subst, arith}
+use Rattle.std.proofs.Common.{rules, ◌<◌, [], refl, arith}
 use Rattle.std.proofs.lemmas.Result.{IfOk-weaker, IfErr-weaker}
-use Rattle.souper_ir.specs.declared.parse.error.ParseErrorKind.TheVariants.{Memory}
-use Rattle.souper_ir.specs.Errors.{kind_of}
 use Rattle.souper_stream.specs.declared.reader.ItemReader.{ItemReader}
-use Rattle.souper_stream.specs.Parts.{Advances}
 use Rattle.souper_stream.proofs.Passing.{rejected_fits, part_taken}
 use Rattle.souper_stream.proofs.reader.ItemReader.read_part.Goals as goal
 
@@ -17,23 +14,19 @@ returns-then-len-eq0-clause-ended g c = λ e start ps had. ((c.in-Ok.ensures.nex
 
 pub returns-in_ok-pass-in-Ok-read_text-clause-read : goal.returns-in_ok-pass-in-Ok-read_text-clause-read
 returns-in_ok-pass-in-Ok-read_text-clause-read g c = λ e start ps had.
-    let k = g.T.Item.item_type in
-    let q = c.pass.new.self in
     let r : ItemReader = record c.next_chunk.new.self { memory = c.read_text.new.self.memory } in
     let now = (c.in-Ok.ensures.next start ps had).0 in
     let some : 0 < r.rejected = omega (arith, c.if-len-eq0.false) in
-    part_taken k start (g.R.Read.remaining c.next_chunk.new.reader) ps r q r.rejected now (now.1.chunk some) (λ s. absurd (omega arith)) some
-    (subst (λ (x : ItemReader). Advances x r.rejected q) c.read_text.ensures.same c.in_ok-pass-in-Ok-read_text.ensures.advanced) g.S.Sink.holds c.args.sink.now c.args.sink.now c.read_text.new.sink c.next_chunk.new.self.memory (λ s y. y) c.in-Ok-read_text.ensures.taken
+    part_taken g.T.Item.item_type start (g.R.Read.remaining c.next_chunk.new.reader) ps r c.pass.new.self r.rejected now (now.1.chunk some) (λ s. absurd (omega arith)) some
+    (rw c.read_text.ensures.same at c.in_ok-pass-in-Ok-read_text.ensures.advanced) g.S.Sink.holds c.args.sink.now c.args.sink.now c.read_text.new.sink c.next_chunk.new.self.memory (λ s y. y) c.in-Ok-read_text.ensures.taken
 
 pub returns-in-Err-2-read_text-clause-read : goal.returns-in-Err-2-read_text-clause-read
 returns-in-Err-2-read_text-clause-read g c =
-    let not_memory : kind_of c.in-Err-2-read_text.field-0 ≡ Memory → ⊥ = search rules in
-    let (items, over) = c.in-Err-2-read_text.ensures.over not_memory in
+    let (items, over) = c.in-Err-2-read_text.ensures.over (search rules) in
     IfOk-weaker c.read_segment-in-Err-2-read_text.result _ _ (λ more taken e start ps had. taken start (g.R.Read.remaining c.next_chunk.new.reader) ps c.args.sink.now (rw c.read_text.ensures.same (c.in-Ok.ensures.next start ps had).0) (λ s y. c.rollback.ensures s items (over s [] y))) c.read_segment-in-Err-2-read_text.ensures.taken
 
 pub returns-in-Err-2-read_text-clause-refused : goal.returns-in-Err-2-read_text-clause-refused
 returns-in-Err-2-read_text-clause-refused g c =
-    let not_memory : kind_of c.in-Err-2-read_text.field-0 ≡ Memory → ⊥ = search rules in
-    let (items, over) = c.in-Err-2-read_text.ensures.over not_memory in
+    let (items, over) = c.in-Err-2-read_text.ensures.over (search rules) in
     IfErr-weaker c.read_segment-in-Err-2-read_text.result _ _ (λ error refused kind start ps had. refused kind start (g.R.Read.remaining c.next_chunk.new.reader) ps c.args.sink.now (rw c.read_text.ensures.same (c.in-Ok.ensures.next start ps had).0) (λ s y. c.rollback.ensures s items (over s [] y)))
     c.read_segment-in-Err-2-read_text.ensures.refused
