@@ -8,7 +8,7 @@ use Rattle.souper_ir.specs.declared.parse.error.ParseError.{ParseError}
 use Rattle.souper_stream.specs.declared.starts.Start.{Start}
 use Rattle.souper_format.specs.Streams.{Stream, IsGiven}
 use Rattle.souper_graph.specs.LeftSides.{infer_of, with_infer}
-use Rattle.souper_lookup.specs.Stored.{key_of as left_text}
+use Rattle.souper_lookup.specs.Stored.{key_of_left}
 use Rattle.souper_records.specs.declared.layout.Layout.{Layout}
 use Rattle.souper_records.specs.Records.{key_of, record_of_text}
 use Rattle.souper_records.specs.Uniques.{text_by}
@@ -22,7 +22,7 @@ use Rattle.souper_find.specs.Answers.{renames}
 -- The key of the left-hand side of a replacement: the SHA-256 of its canonical text with names by its printed order. None of a replacement
 -- of a constant.
 abbrev pub lhs_key : Item → Option (List ℕ)
-lhs_key a = option_map (λ (i : PlainInfer). key_of (left_text (with_infer a i))) (infer_of a.ending)
+lhs_key a = option_map (λ (i : PlainInfer). key_of (key_of_left (with_infer a i))) (infer_of a.ending)
 
 -- the text of a replacement, and the key of its left-hand side
 abbrev pub keyed_by : Bool → Item → List ℕ × Option (List ℕ)

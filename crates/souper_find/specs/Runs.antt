@@ -1,8 +1,8 @@
 -- Definitions. What each status of a run says of the store, of the stream and of the writers.
-use Rattle.std.specs.Prelude.{◌≡◌, ◌⊎◌, ℕ, ◌+◌, ◌^◌, ◌<◌, ◌≤◌, Bool, List, ◌++◌, length, Option, Some}
+use Rattle.std.specs.Prelude.{◌≡◌, ◌⊎◌, ℕ, ◌+◌, ◌^◌, ◌<◌, ◌≤◌, List, ◌++◌, length, Option, Some}
 use Rattle.std.specs.Io.KnownBytes.{Consumes}
 use Rattle.souper_graph.specs.Values.{Item}
-use Rattle.souper_graph.specs.Syntax.Spelling.{left_hand_side, replacement, TextSpells}
+use Rattle.souper_graph.specs.Syntax.Spelling.{replacement, TextSpells}
 use Rattle.souper_ir.specs.declared.parse.error.ParseError.{ParseError}
 use Rattle.souper_ir.specs.Errors.{HasLocation, IsRefusalAt}
 use Rattle.souper_stream.specs.Reading.{AreAll, NeverSpells}
@@ -10,6 +10,7 @@ use Rattle.souper_format.specs.Streams.{Stream, IsGivenNothing}
 use Rattle.souper_lookup.specs.declared.store.Store.{Store}
 use Rattle.souper_lookup.specs.Stored.{Entry, AreAdded, Stores}
 use Rattle.souper_records.specs.Canonical.{IsWhole}
+use Rattle.souper_records.specs.Outcomes.{InputStream}
 use Rattle.souper_records.specs.Reports.{ReportedLine, ReportedFault, ReportedMemory}
 use Rattle.souper_records.specs.Runs.{OnStatus, IsRun}
 use Rattle.souper_find.specs.declared.search.Choice.{Choice}
@@ -48,9 +49,9 @@ IsFillRun entries name before after store err status = OnStatus status
     ⊥
 
 -- writing the answers for the left-hand sides of a stream
-abbrev pub IsFindRun : Choice → Output → List Entry → List ℕ → Bool → Option (List ℕ) → Option (List ℕ) → Stream → Stream → ℕ → Type 0
-IsFindRun c output entries name recover before after out err status = IsRun left_hand_side name recover before after (WritesAnswers c output entries name out) (WritesAnswers c output entries name out) out err status
+abbrev pub IsFindRun : Choice → Output → List Entry → InputStream → Option (List ℕ) → Stream → Stream → ℕ → Type 0
+IsFindRun c output entries r after out err status = IsRun r after (WritesAnswers c output entries r.name out) (WritesAnswers c output entries r.name out) out err status
 
 -- writing the replacements of a stream with the keys of their left-hand sides
-abbrev pub IsKeyedRun : Output → List ℕ → Bool → Option (List ℕ) → Option (List ℕ) → Stream → Stream → ℕ → Type 0
-IsKeyedRun output name recover before after out err status = IsRun replacement name recover before after (WritesKeyed output name out) (WritesKeyed output name out) out err status
+abbrev pub IsKeyedRun : Output → InputStream → Option (List ℕ) → Stream → Stream → ℕ → Type 0
+IsKeyedRun output r after out err status = IsRun r after (WritesKeyed output r.name out) (WritesKeyed output r.name out) out err status

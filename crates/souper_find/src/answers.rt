@@ -10,7 +10,7 @@ ghost use Rattle.souper_format.specs.Streams.{stream};
 ghost use Rattle.souper_format.specs.Watching.{has_failed};
 ghost use Rattle.souper_lookup.specs.Stored.{Entry, Stores};
 ghost use Rattle.souper_records.specs.Stops.{IfInput};
-ghost use Rattle.souper_records.specs.Outcomes.{WritesParts, StopsAfter};
+ghost use Rattle.souper_records.specs.Outcomes.{input_stream, IsPartsResult};
 ghost use Rattle.souper_records.specs.Records.{record_of_text};
 ghost use Rattle.souper_find.specs.Answers.{AreAllTexts, group_records, group_lines, part_text, AppendsAnswers, WritesAnswers};
 ghost use Rattle.souper_find.specs.Views.{view_texts};
@@ -23,7 +23,7 @@ use souper_ir::parse::{ParseError, ParseErrorKind, Sink, WholeItem};
 use souper_records::layout::Layout;
 use souper_records::objects::{append_item, append_refusal};
 use souper_records::options::ReadOptions;
-use souper_records::parts::{PartSink, Place, Source, write_parts};
+use souper_records::parts::{Part, PartSink, Source, write_parts};
 use souper_records::records::append_record_of_text;
 use souper_records::stop::{Stop, write_text};
 use souper_stream::{ChunkSink, Start};
@@ -73,12 +73,12 @@ fn part_records(alloc: Global, layout: Layout, groups: &[Vec<String>]) -> Result
 }
 
 // The lines for the left-hand sides of a part.
-fn part_lines(alloc: Global, place: Place<'_>, groups: &[Vec<String>]) -> Result<String, AllocError>
-    ensures { IfOk result (λ out. string_bytes out ≡ flat_map (group_lines place.entry.name.now) (zip place.entry.starts.now (map view_texts groups.now))) }
+fn part_lines(alloc: Global, part: Part<'_>, groups: &[Vec<String>]) -> Result<String, AllocError>
+    ensures { IfOk result (λ out. string_bytes out ≡ flat_map (group_lines part.entry.name.now) (zip part.entry.starts.now (map view_texts groups.now))) }
 {
     let mut out = String::new(alloc);
-    for (start, texts) in place.starts.iter().zip(groups) {
-        append_lines(alloc, place.name, *start, texts.as_slice(), &mut out)?;
+    for (start, texts) in part.starts.iter().zip(groups) {
+        append_lines(alloc, part.name, *start, texts.as_slice(), &mut out)?;
     }
     Ok(out)
 }
@@ -87,17 +87,17 @@ fn part_lines(alloc: Global, place: Place<'_>, groups: &[Vec<String>]) -> Result
 fn part_text(
     alloc: Global,
     output: Output,
-    place: Place<'_>,
+    part: Part<'_>,
     refusal: Option<&ParseError>,
     groups: &[Vec<String>],
 ) -> Result<String, AllocError>
-    ensures { IfOk result (λ out. string_bytes out ≡ part_text output place.entry.name.now place.entry.starts.now (option_copied refusal.entry) (map view_texts groups.now)) }
+    ensures { IfOk result (λ out. string_bytes out ≡ part_text output part.entry.name.now part.entry.starts.now (option_copied refusal.entry) (map view_texts groups.now)) }
 {
     match output {
         Output::Records(layout) => part_records(alloc, layout, groups),
         Output::Objects { .. } => {
-            let mut out = part_lines(alloc, place, groups)?;
-            append_refusal(alloc, place.name, refusal, &mut out)?;
+            let mut out = part_lines(alloc, part, groups)?;
+            append_refusal(alloc, part.name, refusal, &mut out)?;
             Ok(out)
         }
     }
@@ -154,14 +154,14 @@ impl PartSink<LeftHandSide> for Answers<'_> {
     fn write_part<W: Write>(
         &mut self,
         alloc: Global,
-        place: Place<'_>,
+        part: Part<'_>,
         refusal: Option<&ParseError>,
         out: &mut Watched<W>,
     ) -> Result<(), Stop> {
         let text = part_text(
             alloc,
             self.search.output,
-            place,
+            part,
             refusal,
             self.groups.as_slice(),
         )?;
@@ -184,12 +184,9 @@ pub fn write_answers<R: BufRead, W: Write, E: Write>(
     out: &mut Watched<W>,
     err: &mut Watched<E>,
 ) -> Result<bool, Stop>
-    ensures written { IfOk result (λ refused. (entries : List Entry) → Stores entries search.entry.store.now
-        → WritesParts left_hand_side options.entry.name.now options.entry.recover (R.remaining reader.old) (R.remaining reader.new)
-        (WritesAnswers search.entry.choice search.entry.output entries options.entry.name.now (stream W.contents out.old out.new)) (stream E.contents err.old err.new) refused) }
-    ensures stopped { IfErr result (λ stop. (entries : List Entry) → Stores entries search.entry.store.now
-        → StopsAfter left_hand_side options.entry.name.now options.entry.recover (R.remaining reader.old)
-        (WritesAnswers search.entry.choice search.entry.output entries options.entry.name.now (stream W.contents out.old out.new)) (has_failed out.new) (stream E.contents err.old err.new) stop) }
+    ensures returned { (entries : List Entry) → Stores entries search.entry.store.now
+        → (let answers = WritesAnswers search.entry.choice search.entry.output entries options.entry.name.now (stream W.contents out.old out.new) in
+        IsPartsResult (input_stream left_hand_side options.entry (R.remaining reader.old)) (R.remaining reader.new) answers answers (has_failed out.new) (stream E.contents err.old err.new) result) }
     ensures input { IfErr result (λ stop. IfInput stop (λ e. kind_of e ≡ ParseErrorKind.Io)) }
     ensures stays { has_failed err.old ≡ true → has_failed err.new ≡ true }
 {

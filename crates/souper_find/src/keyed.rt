@@ -4,7 +4,7 @@
 //! ([`key_of`](souper_records::records::key_of)): the same for left-hand sides that are the same graph up to names. So a store on disk finds the
 //! replacements of a left-hand side by its key.
 
-ghost use Rattle.std.specs.Prelude.{◌≡◌, ◌++◌, true, map, flat_map, IfOk, IfErr, OnOk, Option, option_copied, option_map};
+ghost use Rattle.std.specs.Prelude.{◌≡◌, ◌++◌, true, map, flat_map, IfOk, OnOk, Option, option_copied, option_map};
 ghost use Rattle.std.specs.List.{zip};
 ghost use Rattle.std.specs.Io.KnownBytes.{Appends};
 ghost use Rattle.std.specs.String.{string_bytes};
@@ -13,12 +13,10 @@ ghost use Rattle.serde_json.specs.Written.{has_float};
 ghost use Rattle.souper_graph.specs.Syntax.Spelling.{replacement};
 ghost use Rattle.souper_graph.specs.View.{view_replacement};
 ghost use Rattle.souper_graph.specs.WellFormed.{WellFormed};
-ghost use Rattle.souper_ir.specs.Errors.{kind_of};
 ghost use Rattle.souper_format.specs.Streams.{stream};
 ghost use Rattle.souper_format.specs.Watching.{has_failed};
-ghost use Rattle.souper_records.specs.Stops.{IfInput};
 ghost use Rattle.souper_records.specs.Objects.{optional_string};
-ghost use Rattle.souper_records.specs.Outcomes.{WritesParts, StopsAfter};
+ghost use Rattle.souper_records.specs.Outcomes.{input_stream, IsPartsResult};
 ghost use Rattle.souper_find.specs.Answers.{renames};
 ghost use Rattle.souper_find.specs.Keyed.{lhs_key, keyed_by, view_keyed, lhs_line, keyed_record, keyed_object, keyed_line, part_keyed, keyed_of, WritesKeyed};
 
@@ -26,13 +24,13 @@ use crate::search::Output;
 use serde_json::{Value, json};
 use souper_format::watched::Watched;
 use souper_ir::ast::{Arena, Replacement, Statement};
-use souper_ir::parse::{ParseError, ParseErrorKind, Sink, WholeItem};
+use souper_ir::parse::{ParseError, Sink, WholeItem};
 use souper_ir::stringify::TextError;
 use souper_lookup::keys::left_key;
 use souper_records::layout::Layout;
 use souper_records::objects::{append_line, append_refusal};
 use souper_records::options::ReadOptions;
-use souper_records::parts::{PartSink, Place, Source, write_parts};
+use souper_records::parts::{Part, PartSink, Source, write_parts};
 use souper_records::records::{append_last_text, append_record_of_text, key_of};
 use souper_records::stop::{Stop, write_text};
 use souper_stream::{ChunkSink, Start};
@@ -146,12 +144,12 @@ fn append_object(
     append_line(alloc, &object, out)
 }
 
-fn part_lines(alloc: Global, place: Place<'_>, items: &[Keyed]) -> Result<String, AllocError>
-    ensures { IfOk result (λ out. string_bytes out ≡ flat_map (keyed_line place.entry.name.now) (zip place.entry.starts.now (map view_keyed items.now))) }
+fn part_lines(alloc: Global, part: Part<'_>, items: &[Keyed]) -> Result<String, AllocError>
+    ensures { IfOk result (λ out. string_bytes out ≡ flat_map (keyed_line part.entry.name.now) (zip part.entry.starts.now (map view_keyed items.now))) }
 {
     let mut out = String::new(alloc);
-    for (start, item) in place.starts.iter().zip(items) {
-        append_object(alloc, place.name, *start, item, &mut out)?;
+    for (start, item) in part.starts.iter().zip(items) {
+        append_object(alloc, part.name, *start, item, &mut out)?;
     }
     Ok(out)
 }
@@ -160,17 +158,17 @@ fn part_lines(alloc: Global, place: Place<'_>, items: &[Keyed]) -> Result<String
 fn part_text(
     alloc: Global,
     output: Output,
-    place: Place<'_>,
+    part: Part<'_>,
     refusal: Option<&ParseError>,
     items: &[Keyed],
 ) -> Result<String, AllocError>
-    ensures { IfOk result (λ out. string_bytes out ≡ part_keyed output place.entry.name.now place.entry.starts.now (option_copied refusal.entry) (map view_keyed items.now)) }
+    ensures { IfOk result (λ out. string_bytes out ≡ part_keyed output part.entry.name.now part.entry.starts.now (option_copied refusal.entry) (map view_keyed items.now)) }
 {
     match output {
         Output::Records(layout) => part_records(alloc, layout, items),
         Output::Objects { .. } => {
-            let mut out = part_lines(alloc, place, items)?;
-            append_refusal(alloc, place.name, refusal, &mut out)?;
+            let mut out = part_lines(alloc, part, items)?;
+            append_refusal(alloc, part.name, refusal, &mut out)?;
             Ok(out)
         }
     }
@@ -220,11 +218,11 @@ impl PartSink<Replacement> for KeyedItems {
     fn write_part<W: Write>(
         &mut self,
         alloc: Global,
-        place: Place<'_>,
+        part: Part<'_>,
         refusal: Option<&ParseError>,
         out: &mut Watched<W>,
     ) -> Result<(), Stop> {
-        let text = part_text(alloc, self.output, place, refusal, self.items.as_slice())?;
+        let text = part_text(alloc, self.output, part, refusal, self.items.as_slice())?;
         write_text(&text, out)?;
         self.items.clear();
         Ok(())
@@ -245,11 +243,8 @@ pub fn write_keyed<R: BufRead, W: Write, E: Write>(
     out: &mut Watched<W>,
     err: &mut Watched<E>,
 ) -> Result<bool, Stop>
-    ensures written { IfOk result (λ refused. WritesParts replacement options.entry.name.now options.entry.recover (R.remaining reader.old) (R.remaining reader.new)
-        (WritesKeyed output options.entry.name.now (stream W.contents out.old out.new)) (stream E.contents err.old err.new) refused) }
-    ensures stopped { IfErr result (λ stop. StopsAfter replacement options.entry.name.now options.entry.recover (R.remaining reader.old)
-        (WritesKeyed output options.entry.name.now (stream W.contents out.old out.new)) (has_failed out.new) (stream E.contents err.old err.new) stop) }
-    ensures input { IfErr result (λ stop. IfInput stop (λ e. kind_of e ≡ ParseErrorKind.Io)) }
+    ensures returned { let keyed = WritesKeyed output options.entry.name.now (stream W.contents out.old out.new) in
+        IsPartsResult (input_stream replacement options.entry (R.remaining reader.old)) (R.remaining reader.new) keyed keyed (has_failed out.new) (stream E.contents err.old err.new) result }
     ensures stays { has_failed err.old ≡ true → has_failed err.new ≡ true }
 {
     let mut items = KeyedItems {

@@ -2,7 +2,9 @@
 
 ghost use Rattle.std.specs.Prelude.{List};
 ghost use Rattle.souper_format.specs.Streams.{stream};
+ghost use Rattle.souper_graph.specs.Syntax.Spelling.{left_hand_side, replacement};
 ghost use Rattle.souper_lookup.specs.Stored.{Entry, Stores};
+ghost use Rattle.souper_records.specs.Outcomes.{input_stream};
 ghost use Rattle.souper_find.specs.Runs.{IsFillRun, IsFindRun, IsKeyedRun};
 
 use crate::answers::write_answers;
@@ -52,7 +54,7 @@ pub fn find_run<R: BufRead, W: Write, E: Write>(
     err: &mut Watched<E>,
 ) -> u8
     ensures { (entries : List Entry) → Stores entries search.entry.store.now
-        → IsFindRun search.entry.choice search.entry.output entries options.entry.name.now options.entry.recover (R.remaining reader.old) (R.remaining reader.new)
+        → IsFindRun search.entry.choice search.entry.output entries (input_stream left_hand_side options.entry (R.remaining reader.old)) (R.remaining reader.new)
         (stream W.contents out.old out.new) (stream E.contents err.old err.new) result }
 {
     let name = options.name;
@@ -70,7 +72,7 @@ pub fn keyed_run<R: BufRead, W: Write, E: Write>(
     out: &mut Watched<W>,
     err: &mut Watched<E>,
 ) -> u8
-    ensures { IsKeyedRun output options.entry.name.now options.entry.recover (R.remaining reader.old) (R.remaining reader.new)
+    ensures { IsKeyedRun output (input_stream replacement options.entry (R.remaining reader.old)) (R.remaining reader.new)
         (stream W.contents out.old out.new) (stream E.contents err.old err.new) result }
 {
     let name = options.name;

@@ -2,18 +2,10 @@
 use Rattle.std.proofs.Common.{◌≡◌, inl, inr, ℕ, Bool, false, List, [], Option, Some, refl, sym, ap, ◌∙◌, subst, None, IsNone, IfNone, IfSome}
 use Rattle.std.specs.declared.io.Error.{Error}
 use Rattle.std.proofs.KnownBytes.{Appends-nil, Appends-trans, Appends-kept}
-use Rattle.souper_graph.specs.Values.{Item}
-use Rattle.souper_graph.specs.Syntax.Spelling.{ItemType, TextSpells}
-use Rattle.souper_graph.specs.Text.{texts_of}
-use Rattle.souper_ir.specs.declared.parse.error.ParseError.{ParseError}
-use Rattle.souper_ir.specs.declared.parse.error.ParseErrorKind.TheVariants.{Io, Parse}
-use Rattle.souper_ir.specs.Errors.{kind_of}
+use Rattle.souper_records.proofs.Prelude.{Item, ItemType, TextSpells, texts_of, ParseError, Io, Parse, kind_of, concat, all_lines, Watched, Stream, stream, IsGiven, IsGivenNothing}
 use Rattle.souper_ir.proofs.Items.Lists.{text_alone}
-use Rattle.souper_stream.specs.Segments.{concat, all_lines}
-use Rattle.souper_format.specs.declared.watched.Watched.{Watched}
-use Rattle.souper_format.specs.Streams.{Stream, stream, IsGiven, IsGivenNothing}
-use Rattle.souper_records.specs.declared.comparison.Comparison.{Comparison}
-use Rattle.souper_records.specs.Comparisons.{DifferOnLine, DifferFrom, IsCompared}
+use Rattle.souper_diff.specs.declared.comparison.Comparison.{Comparison}
+use Rattle.souper_diff.specs.Comparisons.{DifferOnLine, DifferFrom, IsCompared}
 use Rattle.souper_records.specs.Canonical.{IsCanonical, IsOtherLine, other_line, ReportedOtherLine, IsWhole, IsCheckRun}
 use Rattle.souper_records.specs.Outcomes.{parts_of, items_of, WritesParts, WroteParts}
 use Rattle.souper_records.specs.Reports.{IsMemoryLine, IsFaultLine, Reported, ReportedFaultOf, ReportedError}
@@ -38,7 +30,7 @@ pub record IsChecked (k : ItemType) (before after : Option (List ℕ)) (c : Comp
   pub compared : IsCompared c read (texts_of items)
 
 pub checked_parts : {X : Type 0} {asked : Bool} (k : ItemType) (name : List ℕ) (before after : Option (List ℕ)) (c : Comparison) (err : Stream)
-    → WritesParts k name false before after (WroteParts k asked (λ os. X × IsCompared c (concat (all_lines (parts_of os))) (texts_of (items_of os)))) err false → IsChecked k before after c × IsGivenNothing err
+    → WritesParts (record { kind = k; name = name; recover = false; before = before }) after (WroteParts k asked (λ os. X × IsCompared c (concat (all_lines (parts_of os))) (texts_of (items_of os)))) err false → IsChecked k before after c × IsGivenNothing err
 checked_parts k name before after c err p =
     let (all, parts) = p.ended (inr refl) in
     let os = p.outcomes in (
@@ -49,7 +41,7 @@ checked_parts k name before after c err p =
         spelled = p.spelled refl;
         compared = subst (λ (x : List ℕ). IsCompared c x (texts_of (items_of os))) (sym parts.whole) p.are_written.0.1;
       },
-      none_reported k name before err os p.reads.are (sym p.any) p.reported,
+      none_reported (record { kind = k; name = name; recover = false; before = before }) err os p.reads.are (sym p.any) p.reported,
     )
 
 -- The reports come after none.

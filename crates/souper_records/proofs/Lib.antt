@@ -1,6 +1,6 @@
-mod Comparing
+pub mod Prelude
 mod Checking
-mod Firsts
+mod Distinct
 mod Seeing
 pub mod Outcomes
 mod ObjectLines

@@ -2,17 +2,15 @@
 use Rattle.std.proofs.Common.{◌≡◌, inl, inr, ℕ, zero, suc, ◌+◌, ◌/◌, ◌%◌, Bool, true, false, ◌&&◌, not, nat_lt, List, [], ◌∷◌, Option, Some, None, refl, sym, subst, arith, ne_eqb, ◌==◌, if◌then◌else◌, decimal}
 use Rattle.std.specs.Fmt.{digit_glyph, digits_onto, digits}
 use Rattle.std.proofs.lemmas.Bool.{and_parts, not-true, cases_lt, agree_below, agree_below_at}
-use Rattle.souper_graph.proofs.Judging.Closed.{All-both}
+use Rattle.souper_records.proofs.Prelude.{All-both, ParseError, Start}
 use Rattle.json.specs.Print.{escape_byte, escape, quoted}
 use Rattle.json.proofs.Printed.Strings.{escape_byte_plain}
 use Rattle.serde_json.specs.Data.{Data, object, Members, no_members, member}
 use Rattle.serde_json.specs.Written.{compact_text, members_text, comma_if}
 use Rattle.souper_graph.specs.Syntax.Tokens.{IsOneLine}
-use Rattle.souper_ir.specs.declared.parse.error.ParseError.{ParseError}
 use Rattle.souper_ir.specs.Errors.{offset_of, message_of}
-use Rattle.souper_stream.specs.declared.starts.Start.{Start}
 use Rattle.souper_records.specs.Records.{key_of}
-use Rattle.souper_records.specs.Objects.{column_at, item_object, line_at, optional_number, optional_string, refusal_object}
+use Rattle.souper_records.specs.Objects.{error_column, item_object, error_line, optional_number, optional_string, refusal_object}
 
 either : {A : Type 0} (P : A → Type 0) (b : Bool) (x y : A) → P x → P y → P (if b then x else y)
 either P true x y p q = p
@@ -91,4 +89,4 @@ string_line (Some s) = quoted_line s
 
 pub refusal_line : (name : List ℕ) (e : ParseError) → IsOneLine (compact_text (refusal_object name e))
 refusal_line name e =
-    (refl, members_line false (fields (refusal_object name e)) (number_line (column_at e), (quoted_line name, (number_line (line_at e), (string_line (message_of e), (number_line (offset_of e), tt))))))
+    (refl, members_line false (fields (refusal_object name e)) (number_line (error_column e), (quoted_line name, (number_line (error_line e), (string_line (message_of e), (number_line (offset_of e), tt))))))

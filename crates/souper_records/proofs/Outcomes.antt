@@ -1,17 +1,14 @@
 -- Part after part: the text read of a stream, the output, and the reports.
-use Rattle.std.proofs.Common.{◌≡◌, ◌⊎◌, inl, inr, ℕ, Bool, true, false, ◌||◌, List, [], ◌∷◌, ◌++◌, is_some, Option, Some, None, refl, sym, ap, ◌∙◌, subst, append_assoc, append-nil, Result, Ok, Err, IfOk, IfErr}
+use Rattle.std.proofs.Common.{◌≡◌, ◌⊎◌, inl, inr, ℕ, Bool, true, false, ◌||◌, List, [], ◌∷◌, ◌++◌, is_some, Option, Some, None, refl, sym, ap, ◌∙◌, subst, append_assoc, append-nil, Result, Ok, Err, IfErr}
 use Rattle.std.specs.List.{cons_option}
 use Rattle.std.specs.declared.io.Error.{Error}
-use Rattle.std.proofs.KnownBytes.{Appends-nil, Appends-trans, Appends-kept, Keeps-trans}
 use Rattle.std.proofs.lemmas.Bool.{false_from_ne_true, both_ways}
 use Rattle.std.proofs.lemmas.Grind.{flat_map-append}
 use Rattle.std.proofs.lemmas.List.{map-append}
-use Rattle.std.proofs.lemmas.List.Elements.{filter_map-append}
 use Rattle.std.proofs.lemmas.List.Folds.{list_any-append}
-use Rattle.souper_graph.specs.Values.{Item}
-use Rattle.souper_graph.specs.Syntax.Spelling.{ItemType, TextSpells}
-use Rattle.souper_ir.specs.declared.parse.error.ParseError.{ParseError}
-use Rattle.souper_ir.specs.declared.parse.error.ParseErrorKind.TheVariants.{Io, Parse}
+use Rattle.souper_records.proofs.Prelude.{Item, TextSpells, ParseError, Io, Parse, Watched, Stream, stream, IsGiven, IsGivenNothing, has_failed}
+use Rattle.std.proofs.KnownBytes.{Appends-nil, Appends-trans, Appends-kept, Keeps-trans}
+use Rattle.std.proofs.lemmas.List.Elements.{filter_map-append}
 use Rattle.souper_ir.specs.Errors.{kind_of}
 use Rattle.souper_ir.specs.Sinks.{PrefixSpells}
 use Rattle.souper_stream.specs.declared.reader.ItemReader.{ItemReader}
@@ -19,15 +16,12 @@ use Rattle.souper_stream.specs.Segments.{Line, concat, all_lines, PartsSpell}
 use Rattle.souper_stream.specs.Parts.{HasParts, HasAll, keeps_starts}
 use Rattle.souper_stream.proofs.SegmentLaws.{spells_by_parts}
 use Rattle.souper_stream.proofs.Reached.{prefix_of, parts_begin}
-use Rattle.souper_format.specs.declared.watched.Watched.{Watched}
-use Rattle.souper_format.specs.Streams.{Stream, stream, IsGiven, IsGivenNothing}
-use Rattle.souper_format.specs.Watching.{has_failed}
 use Rattle.souper_records.specs.declared.stop.Stop.{Stop}
 use Rattle.souper_records.specs.declared.stop.Stop.TheVariants.{Input, Output, Memory}
 use Rattle.souper_records.specs.Stops.{IfInput, UnlessOutput}
 use Rattle.souper_records.specs.Runs.{output_name, EndsWithFault, IsPartsEnd, IsRun}
 use Rattle.souper_records.specs.Reports.{IsMemoryLine, IsFaultLine, Reported, ReportedFault, ReportedFaultOf}
-use Rattle.souper_records.specs.Outcomes.{Outcome, IsOutcome, IsOutcomeAfter, AllAfter, AreOutcomes, HasItemStarts, HaveItemStarts, parts_of, items_of, refusals_of, any_refused, AreErrorLines, AreReported, AreReportedThen, WritesPart, WritesParts, ReadsParts, EndsRefused, IsBegun, StopsAfter, WroteParts}
+use Rattle.souper_records.specs.Outcomes.{InputStream, Outcome, IsOutcome, IsOutcomeAfter, AllAfter, AreOutcomes, HasItemStarts, HaveItemStarts, parts_of, items_of, refusals_of, any_refused, AreErrorLines, AreReported, AreReportedThen, WritesPart, WritesParts, ReadsParts, EndsRefused, IsBegun, StopsAfter, IsPartsResult, WroteParts}
 
 -- ---- lists of outcomes
 
@@ -83,11 +77,11 @@ some_fault fault name err h works = let (line, is, given) = h works in (line, (f
 -- ---- part after part
 
 -- the output of the parts so far
-pub record Reached (k : ItemType) (file start mid : Option (List ℕ)) (asked : Bool) (wrote : List Outcome → Type 0) (err : Stream) (any : Bool) (r : ItemReader) : Type 0 where
+pub record Reached (r : InputStream) (mid : Option (List ℕ)) (asked : Bool) (wrote : List Outcome → Type 0) (err : Stream) (any : Bool) (reader : ItemReader) : Type 0 where
   pub outcomes : List Outcome
-  pub had : HasParts k start mid (parts_of outcomes) r
-  pub are : AreOutcomes k file start [] outcomes
-  pub started : asked ≡ true → HaveItemStarts k [] outcomes
+  pub had : HasParts r.kind r.before mid (parts_of outcomes) reader
+  pub are : AreOutcomes r [] outcomes
+  pub started : asked ≡ true → HaveItemStarts r.kind [] outcomes
   pub written : wrote outcomes
   pub reported : AreReported err (refusals_of outcomes)
   pub any_is : any ≡ any_refused outcomes
@@ -95,54 +89,54 @@ pub record Reached (k : ItemType) (file start mid : Option (List ℕ)) (asked : 
 -- ---- refusals
 
 -- no part was refused
-pub none_refused : (k : ItemType) (file start : Option (List ℕ)) (before : List (List Line)) (os : List Outcome) → AreOutcomes k file start before os → any_refused os ≡ false → (refusals_of os ≡ []) × PartsSpell k (parts_of os) (items_of os)
-none_refused k file start before [] h none = (refl, refl)
-none_refused k file start before (o ∷ os) h none = under o.refusal h.0 none (λ rest. none_refused k file start (before ++ o.part ∷ []) os h.1 rest)
+pub none_refused : (r : InputStream) (before : List (List Line)) (os : List Outcome) → AreOutcomes r before os → any_refused os ≡ false → (refusals_of os ≡ []) × PartsSpell r.kind (parts_of os) (items_of os)
+none_refused r before [] h none = (refl, refl)
+none_refused r before (o ∷ os) h none = under o.refusal h.0 none (λ rest. none_refused r (before ++ o.part ∷ []) os h.1 rest)
   where
-    under : (r : Option ParseError) → IsOutcome k file start (concat (all_lines before)) o.part o.items r → (is_some r || any_refused os) ≡ false → (any_refused os ≡ false → (refusals_of os ≡ []) × PartsSpell k (parts_of os) (items_of os))
-        → (cons_option r (refusals_of os) ≡ []) × PartsSpell k (o.part ∷ parts_of os) (o.items ++ items_of os)
+    under : (e : Option ParseError) → IsOutcome r (concat (all_lines before)) o.part o.items e → (is_some e || any_refused os) ≡ false → (any_refused os ≡ false → (refusals_of os ≡ []) × PartsSpell r.kind (parts_of os) (items_of os))
+        → (cons_option e (refusals_of os) ≡ []) × PartsSpell r.kind (o.part ∷ parts_of os) (o.items ++ items_of os)
     under (Some e) is bad more = absurd cc
     under None is rest more = let m = more rest in (m.0, (o.items, items_of os, refl, is, m.1))
 
 -- nothing was reported if no part was refused
-pub none_reported : (k : ItemType) (name : List ℕ) (before : Option (List ℕ)) (err : Stream) (os : List Outcome) → AreOutcomes k (Some name) before [] os → any_refused os ≡ false → AreReported err (refusals_of os) → IsGivenNothing err
-none_reported k name before err os are none reported = subst (AreReported err) (none_refused k (Some name) before [] os are none).0 reported
+pub none_reported : (r : InputStream) (err : Stream) (os : List Outcome) → AreOutcomes r [] os → any_refused os ≡ false → AreReported err (refusals_of os) → IsGivenNothing err
+none_reported r err os are none reported = subst (AreReported err) (none_refused r [] os are none).0 reported
 
 -- a part was, so the parts spell no items
-parts_none : (k : ItemType) (file start : Option (List ℕ)) (before : List (List Line)) (os : List Outcome) (items : List Item) → AreOutcomes k file start before os → any_refused os ≡ true → PartsSpell k (parts_of os) items → ⊥
-parts_none k file start before [] items h any spells = absurd cc
-parts_none k file start before (o ∷ os) items h any (xs, ys, is, one, more) = under o.refusal h.0 any (λ some. parts_none k file start (before ++ o.part ∷ []) os ys h.1 some more)
+parts_none : (r : InputStream) (before : List (List Line)) (os : List Outcome) (items : List Item) → AreOutcomes r before os → any_refused os ≡ true → PartsSpell r.kind (parts_of os) items → ⊥
+parts_none r before [] items h any spells = absurd cc
+parts_none r before (o ∷ os) items h any (xs, ys, is, one, more) = under o.refusal h.0 any (λ some. parts_none r (before ++ o.part ∷ []) os ys h.1 some more)
   where
-    under : (r : Option ParseError) → IsOutcome k file start (concat (all_lines before)) o.part o.items r → (is_some r || any_refused os) ≡ true → (any_refused os ≡ true → ⊥) → ⊥
+    under : (e : Option ParseError) → IsOutcome r (concat (all_lines before)) o.part o.items e → (is_some e || any_refused os) ≡ true → (any_refused os ≡ true → ⊥) → ⊥
     under (Some e) refused some later = refused.none xs one
     under None spelled some later = later some
 
 -- one part more
-module _ {k : ItemType} {name : List ℕ} {start mid after : Option (List ℕ)} {asked : Bool} {wrote both : List Outcome → Type 0} {more : Outcome → Type 0} {any refused : Bool} {p q : ItemReader} {E : Type 0} (bytes_of : E → Option (List ℕ)) (x y z : Watched E) (stays : has_failed y ≡ true → has_failed z ≡ true)
-    (same : keeps_starts q ≡ asked) (join : (os : List Outcome) (o : Outcome) → wrote os → more o → both (os ++ o ∷ [])) (r : Reached k (Some name) start mid asked wrote (stream bytes_of x y) any p) (w : WritesPart k (Some name) start after (parts_of r.outcomes) more (stream bytes_of y z) refused q) where
-  abbrev pub reached_more : Reached k (Some name) start after asked both (stream bytes_of x z) (any || refused) q
+module _ {i : InputStream} {mid after : Option (List ℕ)} {asked : Bool} {wrote both : List Outcome → Type 0} {more : Outcome → Type 0} {any refused : Bool} {p q : ItemReader} {E : Type 0} (bytes_of : E → Option (List ℕ)) (x y z : Watched E) (stays : has_failed y ≡ true → has_failed z ≡ true) (same : keeps_starts q ≡ asked)
+    (join : (os : List Outcome) (o : Outcome) → wrote os → more o → both (os ++ o ∷ [])) (r : Reached i mid asked wrote (stream bytes_of x y) any p) (w : WritesPart i after (parts_of r.outcomes) more (stream bytes_of y z) refused q) where
+  abbrev pub reached_more : Reached i after asked both (stream bytes_of x z) (any || refused) q
   reached_more =
       let os = r.outcomes in
       let o = w.outcome in
       record {
         outcomes = os ++ o ∷ [];
-        had = subst (λ (ps : List (List Line)). HasParts k start after ps q) (sym (parts_more os o)) w.had;
-        are = all_more (IsOutcomeAfter k (Some name) start) [] os o r.are w.is;
-        started = λ e. all_more (HasItemStarts k) [] os o (r.started e) (w.begin (same ∙ e));
+        had = subst (λ (ps : List (List Line)). HasParts i.kind i.before after ps q) (sym (parts_more os o)) w.had;
+        are = all_more (IsOutcomeAfter i) [] os o r.are w.is;
+        started = λ e. all_more (HasItemStarts i.kind) [] os o (r.started e) (w.begin (same ∙ e));
         written = join os o r.written w.are_written;
         reported = subst (AreReported (stream bytes_of x z)) (sym (filter_map-append (λ (p : Outcome). p.refusal) os (o ∷ []))) (reported_both bytes_of x y z stays (refusals_of os) (refusals_of (o ∷ [])) r.reported w.reported);
         any_is = (λ i. r.any_is i || w.any i) ∙ sym (list_any-append (λ (p : Outcome). is_some p.refusal) os (o ∷ []));
       }
 
   -- it was refused, and reading ends with it
-  pub reached_refusal : refused ≡ true → (recover : Bool) → recover ≡ false → any ≡ false → WritesParts k name recover start after (WroteParts k asked both) (stream bytes_of x z) true
-  reached_refusal last recover stops quiet =
+  pub reached_refusal : refused ≡ true → i.recover ≡ false → any ≡ false → WritesParts i after (WroteParts i.kind asked both) (stream bytes_of x z) true
+  reached_refusal last stops quiet =
       let os = r.outcomes in
       let o = w.outcome in
       let now = reached_more in
       let t = w.after last in
       let none : any_refused os ≡ false = sym r.any_is ∙ quiet in
-      let begun : PrefixSpells k t.read (items_of (os ++ o ∷ [])) = subst (PrefixSpells k t.read) (sym (items_more os o)) (t.begun (items_of os) (none_refused k (Some name) start [] os r.are none).1) in
+      let begun : PrefixSpells i.kind t.read (items_of (os ++ o ∷ [])) = subst (PrefixSpells i.kind t.read) (sym (items_more os o)) (t.begun (items_of os) (none_refused i [] os r.are none).1) in
       record {
         outcomes = os ++ o ∷ [];
         reads = record {
@@ -164,12 +158,12 @@ module _ {k : ItemType} {name : List ℕ} {start mid after : Option (List ℕ)} 
 
 -- ---- the end
 
-module _ {k : ItemType} {name : List ℕ} {start mid : Option (List ℕ)} {asked : Bool} {wrote : List Outcome → Type 0} {err : Stream} {any : Bool} {p : ItemReader} (r : Reached k (Some name) start mid asked wrote err any p) (recover : Bool) (quiet : recover ≡ false → any ≡ false) where
-  none_spelled : any_refused r.outcomes ≡ false → PartsSpell k (parts_of r.outcomes) (items_of r.outcomes)
-  none_spelled none = (none_refused k (Some name) start [] r.outcomes r.are none).1
+module _ {i : InputStream} {mid : Option (List ℕ)} {asked : Bool} {wrote : List Outcome → Type 0} {err : Stream} {any : Bool} {p : ItemReader} (r : Reached i mid asked wrote err any p) (quiet : i.recover ≡ false → any ≡ false) where
+  none_spelled : any_refused r.outcomes ≡ false → PartsSpell i.kind (parts_of r.outcomes) (items_of r.outcomes)
+  none_spelled none = (none_refused i [] r.outcomes r.are none).1
 
   -- the stream has ended
-  pub reached_end : {after : Option (List ℕ)} → HasAll k start after (parts_of r.outcomes) → WritesParts k name recover start after (WroteParts k asked wrote) err any
+  pub reached_end : {after : Option (List ℕ)} → HasAll i.kind i.before after (parts_of r.outcomes) → WritesParts i after (WroteParts i.kind asked wrote) err any
   reached_end (read, consumed, all, parts) = record {
     outcomes = r.outcomes;
     reads = record {
@@ -178,25 +172,25 @@ module _ {k : ItemType} {name : List ℕ} {start mid : Option (List ℕ)} {asked
       consumed = consumed;
       whole = parts.whole ∙ sym (append-nil (concat (all_lines (parts_of r.outcomes))));
       are = r.are;
-      begun = λ none. prefix_of k read (items_of r.outcomes) (spells none);
+      begun = λ none. prefix_of i.kind read (items_of r.outcomes) (spells none);
     };
     any = r.any_is;
     ended = λ e. (all, parts);
     spelled = λ none. spells (sym r.any_is ∙ none);
-    never = λ some. inr (all, λ items h. parts_none k (Some name) start [] r.outcomes items r.are (sym r.any_is ∙ some) ((spells_by_parts k read (parts_of r.outcomes) items parts).0 h));
+    never = λ some. inr (all, λ items h. parts_none i [] r.outcomes items r.are (sym r.any_is ∙ some) ((spells_by_parts i.kind read (parts_of r.outcomes) items parts).0 h));
     stopped = λ stops some. (let none = quiet stops in absurd cc);
     are_written = (r.written, r.started);
     reported = r.reported;
   }
     where
-      spells : any_refused r.outcomes ≡ false → TextSpells k read (items_of r.outcomes)
-      spells none = (spells_by_parts k read (parts_of r.outcomes) (items_of r.outcomes) parts).1 (none_spelled none)
+      spells : any_refused r.outcomes ≡ false → TextSpells i.kind read (items_of r.outcomes)
+      spells none = (spells_by_parts i.kind read (parts_of r.outcomes) (items_of r.outcomes) parts).1 (none_spelled none)
 
   -- reading or writing stopped
-  pub stopped_after : (known : List Outcome → Type 0) (failed : Bool) (stop : Stop) → UnlessOutput stop failed (known r.outcomes) → StopsAfter k name recover start known failed err stop
+  pub stopped_after : (known : List Outcome → Type 0) (failed : Bool) (stop : Stop) → UnlessOutput stop failed (known r.outcomes) → StopsAfter i known failed err stop
   stopped_after known failed stop unless =
-      let (read, rest, consumed, whole, begun) = parts_begin k start mid (parts_of r.outcomes) p r.had in
-      let reads : ReadsParts k name start mid r.outcomes = record { read = read; rest = rest; consumed = consumed; whole = whole; are = r.are; begun = λ none. begun (items_of r.outcomes) (none_spelled none) } in
+      let (read, rest, consumed, whole, begun) = parts_begin i.kind i.before mid (parts_of r.outcomes) p r.had in
+      let reads : ReadsParts i mid r.outcomes = record { read = read; rest = rest; consumed = consumed; whole = whole; are = r.are; begun = λ none. begun (items_of r.outcomes) (none_spelled none) } in
       (r.outcomes, (mid, reads, λ stops. inl (sym r.any_is ∙ quiet stops)), (λ stops. sym r.any_is ∙ quiet stops), r.reported, unless)
 
 -- ---- the same outcomes, the output in other words
@@ -207,8 +201,7 @@ known_mapped (Input e) failed P Q f h = f h
 known_mapped (Output fault) failed P Q f h = h
 known_mapped Memory failed P Q f h = f h
 
-pub parts_mapped : {k : ItemType} {name : List ℕ} {recover : Bool} {before after : Option (List ℕ)} {one other : List Outcome → Type 0} {a b : Stream} {refused : Bool} → ((os : List Outcome) → one os → other os) → ((es : List ParseError) → AreReported a es → AreReported b es)
-    → WritesParts k name recover before after one a refused → WritesParts k name recover before after other b refused
+pub parts_mapped : {r : InputStream} {after : Option (List ℕ)} {one other : List Outcome → Type 0} {a b : Stream} {refused : Bool} → ((os : List Outcome) → one os → other os) → ((es : List ParseError) → AreReported a es → AreReported b es) → WritesParts r after one a refused → WritesParts r after other b refused
 parts_mapped f kept w = record {
   outcomes = w.outcomes;
   reads = w.reads;
@@ -221,22 +214,28 @@ parts_mapped f kept w = record {
   reported = kept (refusals_of w.outcomes) w.reported;
 }
 
-pub stops_mapped : (k : ItemType) (name : List ℕ) (recover : Bool) (before : Option (List ℕ)) (one other : List Outcome → Type 0) (failed : Bool) (err : Stream) (stop : Stop) → ((os : List Outcome) → one os → other os) → StopsAfter k name recover before one failed err stop → StopsAfter k name recover before other failed err stop
-stops_mapped k name recover before one other failed err stop f (os, begun, none, reported, written) = (os, begun, none, reported, known_mapped stop failed (one os) (other os) (f os) written)
+pub result_mapped : (r : InputStream) (after : Option (List ℕ)) (one other known more : List Outcome → Type 0) (failed : Bool) (err : Stream) (parts : Result Bool Stop) → ((os : List Outcome) → one os → other os) → ((os : List Outcome) → known os → more os)
+    → IsPartsResult r after one known failed err parts → IsPartsResult r after other more failed err parts
+result_mapped r after one other known more failed err (Ok refused) f g w = parts_mapped f (λ es h. h) w
+result_mapped r after one other known more failed err (Err stop) f g ((os, begun, none, reported, written), input) = ((os, begun, none, reported, known_mapped stop failed (known os) (more os) (g os) written), input)
+
+-- an error of the input is a fault
+pub result_input : (r : InputStream) (after : Option (List ℕ)) (written known : List Outcome → Type 0) (failed : Bool) (err : Stream) (parts : Result Bool Stop) → IsPartsResult r after written known failed err parts → IfErr parts (λ stop. IfInput stop (λ e. kind_of e ≡ Io))
+result_input r after written known failed err (Ok refused) w = tt
+result_input r after written known failed err (Err stop) w = w.1
 
 -- ---- runs
 
 -- The end of a run. The output was written in two parts, from x to y for the parts of the stream and then to z, and so were the reports.
-module _ {W E : Type 0} (out_of : W → Option (List ℕ)) (err_of : E → Option (List ℕ)) (x y z : Watched W) (out_stays : has_failed y ≡ true → has_failed z ≡ true) (u v w : Watched E) (stays : has_failed v ≡ true → has_failed w ≡ true)
-    (k : ItemType) (name : List ℕ) (recover : Bool) (before after : Option (List ℕ)) (so_far written known_so_far known : List Outcome → Type 0)
+module _ {W E : Type 0} (out_of : W → Option (List ℕ)) (err_of : E → Option (List ℕ)) (x y z : Watched W) (out_stays : has_failed y ≡ true → has_failed z ≡ true) (u v w : Watched E) (stays : has_failed v ≡ true → has_failed w ≡ true) (r : InputStream) (after : Option (List ℕ)) (so_far written known_so_far known : List Outcome → Type 0)
     (mapped : IsGivenNothing (stream out_of y z) → (os : List Outcome) → so_far os → written os) (known_so : IsGivenNothing (stream out_of y z) → (os : List Outcome) → known_so_far os → known os) where
   abbrev run : ℕ → Type 0
-  run status = IsRun k name recover before after written known (stream out_of x z) (stream err_of u w) status
+  run status = IsRun r after written known (stream out_of x z) (stream err_of u w) status
 
-  whole : (refused : Bool) → IsGivenNothing (stream out_of y z) → IsGivenNothing (stream err_of v w) → WritesParts k name recover before after so_far (stream err_of u v) refused → WritesParts k name recover before after written (stream err_of u w) refused
-  whole refused kept quiet = parts_mapped (mapped kept) (λ es r. reported_none err_of u v w stays es r quiet)
+  whole : (refused : Bool) → IsGivenNothing (stream out_of y z) → IsGivenNothing (stream err_of v w) → WritesParts r after so_far (stream err_of u v) refused → WritesParts r after written (stream err_of u w) refused
+  whole refused kept quiet = parts_mapped (mapped kept) (λ es h. reported_none err_of u v w stays es h quiet)
 
-  last_alone : (refused : Bool) (p : WritesParts k name recover before after so_far (stream err_of u v) refused) → recover ≡ false → (any_refused p.outcomes ≡ false) ⊎ EndsRefused k p.reads.read p.outcomes
+  last_alone : (refused : Bool) (p : WritesParts r after so_far (stream err_of u v) refused) → r.recover ≡ false → (any_refused p.outcomes ≡ false) ⊎ EndsRefused r.kind p.reads.read p.outcomes
   last_alone false p stops = inl (sym p.any)
   last_alone true p stops = inr (p.stopped stops refl)
 
@@ -244,17 +243,16 @@ module _ {W E : Type 0} (out_of : W → Option (List ℕ)) (err_of : E → Optio
   told_then os P reported line = reported_then err_of u v w stays (refusals_of os) P reported line
 
   -- the output has failed
-  output_ends : (fault : Error) (status : ℕ) (os : List Outcome) → IsBegun k name recover before os → AreReported (stream err_of u v) (refusals_of os) → has_failed z ≡ true → EndsWithFault fault (stream err_of v w) status → run status
+  output_ends : (fault : Error) (status : ℕ) (os : List Outcome) → IsBegun r os → AreReported (stream err_of u v) (refusals_of os) → has_failed z ≡ true → EndsWithFault fault (stream err_of v w) status → run status
   output_ends fault status os begun reported bad (inl (kind, broken, quiet)) = rw broken (refl, (os, begun, bad, reported_none err_of u v w stays (refusals_of os) reported quiet))
   output_ends fault status os begun reported bad (inr (kind, two, line)) = rw two (os, begun, inr (bad, told_then os (IsFaultLine output_name) reported (some_fault fault output_name (stream err_of v w) line)))
 
-  pub run_ends : (parts : Result Bool Stop) (status : ℕ) → IfOk parts (λ refused. WritesParts k name recover before after so_far (stream err_of u v) refused) → IfErr parts (λ stop. StopsAfter k name recover before known_so_far (has_failed y) (stream err_of u v) stop)
-      → IfErr parts (λ stop. IfInput stop (λ e. kind_of e ≡ Io)) → IsPartsEnd name parts (stream out_of y z) (stream err_of v w) status → run status
-  run_ends (Ok false) status p stops input (inl (zero_is, kept, quiet)) = let all = whole false kept quiet p in rw zero_is (all, none_reported k name before (stream err_of u w) all.outcomes all.reads.are (sym all.any) all.reported)
-  run_ends (Ok true) status p stops input (inl (one_is, kept, quiet)) = rw one_is (whole true kept quiet p)
-  run_ends (Ok refused) status p stops input (inr (bad, (fault, ends))) = output_ends fault status p.outcomes (after, p.reads, last_alone refused p) p.reported bad ends
-  run_ends (Err (Input e)) status p stops input (kept, inl (one, kind, line)) = absurd (let bad : Io ≡ Parse = sym input ∙ kind in cc)
-  run_ends (Err (Input e)) status p (os, begun, none, reported, so) input (kept, inr (inl (two, kind, (fault, is, line)))) = rw two (os, begun, inl (known_so kept os so, inl (told_then os (IsFaultLine name) reported (some_fault fault name (stream err_of v w) line))))
-  run_ends (Err (Input e)) status p (os, begun, none, reported, so) input (kept, inr (inr (two, line))) = rw two (os, begun, inl (known_so kept os so, inr (told_then os IsMemoryLine reported line)))
-  run_ends (Err (Output f)) status p (os, begun, none, reported, bad) input (kept, ends) = output_ends f status os begun reported (out_stays bad) ends
-  run_ends (Err Memory) status p (os, begun, none, reported, so) input (kept, two, line) = rw two (os, begun, inl (known_so kept os so, inr (told_then os IsMemoryLine reported line)))
+  pub run_ends : (parts : Result Bool Stop) (status : ℕ) → IsPartsResult r after so_far known_so_far (has_failed y) (stream err_of u v) parts → IsPartsEnd r.name parts (stream out_of y z) (stream err_of v w) status → run status
+  run_ends (Ok false) status p (inl (zero_is, kept, quiet)) = let all = whole false kept quiet p in rw zero_is (all, none_reported r (stream err_of u w) all.outcomes all.reads.are (sym all.any) all.reported)
+  run_ends (Ok true) status p (inl (one_is, kept, quiet)) = rw one_is (whole true kept quiet p)
+  run_ends (Ok refused) status p (inr (bad, (fault, ends))) = output_ends fault status p.outcomes (after, p.reads, last_alone refused p) p.reported bad ends
+  run_ends (Err (Input e)) status (stops, input) (kept, inl (one, kind, line)) = absurd (let bad : Io ≡ Parse = sym input ∙ kind in cc)
+  run_ends (Err (Input e)) status ((os, begun, none, reported, so), input) (kept, inr (inl (two, kind, (fault, is, line)))) = rw two (os, begun, inl (known_so kept os so, inl (told_then os (IsFaultLine r.name) reported (some_fault fault r.name (stream err_of v w) line))))
+  run_ends (Err (Input e)) status ((os, begun, none, reported, so), input) (kept, inr (inr (two, line))) = rw two (os, begun, inl (known_so kept os so, inr (told_then os IsMemoryLine reported line)))
+  run_ends (Err (Output f)) status ((os, begun, none, reported, bad), input) (kept, ends) = output_ends f status os begun reported (out_stays bad) ends
+  run_ends (Err Memory) status ((os, begun, none, reported, so), input) (kept, two, line) = rw two (os, begun, inl (known_so kept os so, inr (told_then os IsMemoryLine reported line)))

@@ -1,13 +1,10 @@
 -- Definitions. Canonical texts, and what each status of a run that looks for them says.
 use Rattle.std.specs.Prelude.{◌≡◌, ◌⊎◌, ℕ, ◌+◌, ◌^◌, ◌<◌, List, ◌++◌, length, Option, true, false, codes, decimal}
 use Rattle.std.specs.Io.KnownBytes.{Consumes}
+use Rattle.souper_records.specs.Prelude.{Item, ItemType, TextSpells, AreAll, Stream, IsGiven, IsGivenNothing}
 use Rattle.souper_graph.specs.Text.{texts_of}
-use Rattle.souper_graph.specs.Values.{Item}
-use Rattle.souper_graph.specs.Syntax.Spelling.{ItemType, TextSpells}
-use Rattle.souper_stream.specs.Reading.{AreAll}
-use Rattle.souper_format.specs.Streams.{Stream, IsGiven, IsGivenNothing}
 use Rattle.souper_format.specs.Formatted.{IsFormatted}
-use Rattle.souper_records.specs.Comparisons.{DifferOnLine}
+use Rattle.souper_diff.specs.Comparisons.{DifferOnLine}
 use Rattle.souper_records.specs.Outcomes.{WritesParts}
 use Rattle.souper_records.specs.Reports.{ReportedMemory, ReportedFault}
 use Rattle.souper_records.specs.Runs.{OnStatus}
@@ -39,7 +36,7 @@ ReportedOther k name read err = (line : ℕ) × (length read + 1 < 2 ^ 64 → Is
 -- The stream is refused: it begins with parts of which the last alone spells no items, and the refusal of that was reported. Whatever
 -- follows the text read, the stream spells no items.
 abbrev pub ReportedRefusal : ItemType → List ℕ → Option (List ℕ) → Option (List ℕ) → Stream → Type 0
-ReportedRefusal k name before after err = WritesParts k name false before after (λ os. Unit {0}) err true
+ReportedRefusal k name before after err = WritesParts (record { kind = k; name = name; recover = false; before = before }) after (λ os. Unit {0}) err true
 
 -- What the status says: 0, the whole stream is canonical, and nothing was reported; 1, it is not, and that was reported, or it is refused;
 -- 2, something failed, and that was reported.

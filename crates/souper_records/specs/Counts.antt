@@ -1,19 +1,19 @@
 -- Definitions. How many elements have the key of each first one.
 use Rattle.std.specs.Prelude.{ℕ, ◌+◌, ◌-◌, ◌^◌, List, [], ◌∷◌, map, min, bytes_eq, if◌then◌else◌}
 use Rattle.std.specs.List.{count_by}
-use Rattle.souper_records.specs.Firsts.{firsts_by}
+use Rattle.souper_records.specs.Distinct.{distinct_by}
 
 -- one more, up to the greatest number of 64 bits
 abbrev pub one_more : ℕ → ℕ
 one_more n = min (n + 1) (2 ^ 64 - 1)
 
 -- how many elements have the key of a, up to the greatest number of 64 bits
-abbrev pub count_of : {A : Type 0} → (A → List ℕ) → List A → A → ℕ
-count_of key xs a = min (count_by (λ b. bytes_eq (key a) (key b)) xs) (2 ^ 64 - 1)
+abbrev pub count_with_key : {A : Type 0} → (A → List ℕ) → List A → A → ℕ
+count_with_key key xs a = min (count_by (λ b. bytes_eq (key a) (key b)) xs) (2 ^ 64 - 1)
 
 -- the key of each first one, and its count
 abbrev pub counts_by : {A : Type 0} → (A → List ℕ) → List A → List (List ℕ × ℕ)
-counts_by key xs = map (λ a. (key a, count_of key xs a)) (firsts_by key [] xs)
+counts_by key xs = map (λ a. (key a, count_with_key key xs a)) (distinct_by key [] xs)
 
 -- ---- The next two definitions are the code's, step by step. The promises are in `counts_by` alone, and a proof joins the two.
 

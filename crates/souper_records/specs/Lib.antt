@@ -1,11 +1,11 @@
+pub mod Prelude
 pub mod Records
 pub mod Stops
 pub mod Reports
 pub mod Outcomes
 pub mod Objects
 pub mod Runs
-pub mod Comparisons
 pub mod Canonical
-pub mod Firsts
+pub mod Distinct
 pub mod Counts
 pub mod Uniques

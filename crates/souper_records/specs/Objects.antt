@@ -1,17 +1,13 @@
 -- Definitions. The JSON objects of items and of refusals.
 use Rattle.std.specs.Prelude.{Bool, ℕ, List, [], ◌++◌, flat_map, map, codes, Option, None, Some, option_map}
 use Rattle.serde_json.specs.Data.{Data, null, number, unsigned, string, object, member, no_members}
-use Rattle.serde_json.specs.Written.{compact_text}
+use Rattle.souper_records.specs.Prelude.{compact_text, Start, ParseError, Stream, IsGiven}
 use Rattle.std.specs.List.{zip}
-use Rattle.souper_graph.specs.Syntax.Spelling.{ItemType}
-use Rattle.souper_stream.specs.declared.starts.Start.{Start}
-use Rattle.souper_ir.specs.declared.parse.error.ParseError.{ParseError}
 use Rattle.souper_ir.specs.declared.parse.place.Location.{Location}
 use Rattle.souper_ir.specs.Errors.{location_of, message_of, offset_of}
-use Rattle.souper_format.specs.Streams.{Stream, IsGiven}
 use Rattle.souper_records.specs.Records.{key_of}
 use Rattle.souper_records.specs.Uniques.{text_by}
-use Rattle.souper_records.specs.Outcomes.{Outcome, HaveItemStarts}
+use Rattle.souper_records.specs.Outcomes.{InputStream, Outcome, HaveItemStarts}
 
 -- the object of an item that has this text, in the stream of this name, and begins there
 abbrev pub item_object : List ℕ → Start → List ℕ → Data
@@ -29,16 +25,16 @@ optional_string None = null
 optional_string (Some text) = string text
 
 -- the line and the column of the location of a refusal
-abbrev pub line_at : ParseError → Option ℕ
-line_at e = option_map (λ (location : Location). location.line) (location_of e)
+abbrev pub error_line : ParseError → Option ℕ
+error_line e = option_map (λ (location : Location). location.line) (location_of e)
 
-abbrev pub column_at : ParseError → Option ℕ
-column_at e = option_map (λ (location : Location). location.column) (location_of e)
+abbrev pub error_column : ParseError → Option ℕ
+error_column e = option_map (λ (location : Location). location.column) (location_of e)
 
 -- the object of a refusal of the stream of this name
 abbrev pub refusal_object : List ℕ → ParseError → Data
 refusal_object name e =
-    object (member (codes "column") (optional_number (column_at e)) (member (codes "file") (string name) (member (codes "line") (optional_number (line_at e))
+    object (member (codes "column") (optional_number (error_column e)) (member (codes "file") (string name) (member (codes "line") (optional_number (error_line e))
     (member (codes "message") (optional_string (message_of e)) (member (codes "offset") (optional_number (offset_of e)) no_members)))))
 
 -- the text of an object, with no space in it, and a newline
@@ -67,5 +63,5 @@ abbrev pub objects_of : Bool → List ℕ → List Outcome → List ℕ
 objects_of rename name os = flat_map (part_lines rename name) os
 
 -- the lines of the parts were written, and nothing else; their items begin there
-abbrev pub WritesObjects : ItemType → Bool → List ℕ → Stream → List Outcome → Type 0
-WritesObjects k rename name out os = IsGiven out (objects_of rename name os) × HaveItemStarts k [] os
+abbrev pub WritesObjects : Bool → InputStream → Stream → List Outcome → Type 0
+WritesObjects rename r out os = IsGiven out (objects_of rename r.name os) × HaveItemStarts r.kind [] os

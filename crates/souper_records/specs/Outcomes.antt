@@ -1,27 +1,36 @@
 -- Definitions. The outcomes of the parts of a stream: their output and reports.
-use Rattle.std.specs.Prelude.{◌≡◌, ◌⊎◌, ℕ, Bool, true, false, List, [], ◌∷◌, ◌++◌, map, flat_map, filter_map, is_some, Option, None, Some}
+use Rattle.std.specs.Prelude.{◌≡◌, ◌⊎◌, ℕ, Bool, true, false, List, [], ◌∷◌, ◌++◌, map, flat_map, filter_map, is_some, Option, None, Some, Result, Ok, Err}
 use Rattle.std.specs.List.{list_any}
 use Rattle.std.specs.Io.KnownBytes.{Consumes}
-use Rattle.souper_graph.specs.Values.{Item}
+use Rattle.souper_records.specs.Prelude.{Item, ParseError, kind_of, Start, Stream, IsGiven, IsGivenNothing}
 use Rattle.souper_graph.specs.Syntax.Spelling.{ItemType, TextSpells, SpellsNone}
-use Rattle.souper_ir.specs.declared.parse.error.ParseError.{ParseError}
-use Rattle.souper_ir.specs.declared.parse.error.ParseErrorKind.TheVariants.{Parse}
-use Rattle.souper_ir.specs.Errors.{kind_of}
+use Rattle.souper_ir.specs.declared.parse.error.ParseErrorKind.TheVariants.{Io, Parse}
 use Rattle.souper_ir.specs.Sinks.{PrefixSpells}
 use Rattle.souper_stream.specs.Segments.{Line, concat, all_lines, HasNoCut, AreParts, PartsSpell}
 use Rattle.souper_stream.specs.declared.reader.ItemReader.{ItemReader}
 use Rattle.souper_records.specs.Reports.{IsErrorLine}
 use Rattle.souper_ir.specs.Starts.{PrefixSpellsFrom, TextSpellsFrom}
-use Rattle.souper_stream.specs.declared.starts.Start.{Start}
 use Rattle.souper_stream.specs.Starts.{ItemsStartAt}
 use Rattle.souper_stream.specs.Parts.{IsLocatedIn, IsPlacedIn, HasParts, keeps_starts}
 use Rattle.souper_stream.specs.Reading.{AreAll, NeverSpells}
-use Rattle.souper_format.specs.Streams.{Stream, IsGiven, IsGivenNothing}
 use Rattle.souper_records.specs.declared.layout.Layout.{Layout}
+use Rattle.souper_records.specs.declared.options.ReadOptions.{ReadOptions}
 use Rattle.souper_records.specs.declared.parts.Source.{Source}
 use Rattle.souper_records.specs.declared.stop.Stop.{Stop}
-use Rattle.souper_records.specs.Stops.{UnlessOutput}
+use Rattle.souper_records.specs.Stops.{IfInput, UnlessOutput}
 use Rattle.souper_records.specs.Records.{records_of}
+
+-- a stream that is read: the type of its items, its name, whether reading resumes after a refusal, and the bytes that are left before
+-- reading, if they are known
+pub record InputStream : Type 0 where
+  pub kind : ItemType
+  pub name : List ℕ
+  pub recover : Bool
+  pub before : Option (List ℕ)
+
+-- a stream that is read with these options
+abbrev pub input_stream : ItemType → ReadOptions → Option (List ℕ) → InputStream
+input_stream k options before = record { kind = k; name = options.name.now; recover = options.recover; before = before }
 
 -- the outcome of a part: its items, or the ones that it begins with, where they begin, if that was asked for, and its refusal, if it is refused
 pub record Outcome : Type 0 where
@@ -32,25 +41,25 @@ pub record Outcome : Type 0 where
 
 -- A refused part, after the parsed text `done`. It is one segment. The refusal has its place in the text read of the stream, and says where
 -- that is at fault.
-pub record IsRefusedPart (k : ItemType) (file start : Option (List ℕ)) (done : List ℕ) (part : List Line) (items : List Item) (e : ParseError) : Type 0 where
+pub record IsRefusedPart (r : InputStream) (done : List ℕ) (part : List Line) (items : List Item) (e : ParseError) : Type 0 where
   pub kind : kind_of e ≡ Parse
-  pub segment : HasNoCut k part
-  pub none : SpellsNone k (concat part)
-  pub begun : PrefixSpells k (concat part) items
+  pub segment : HasNoCut r.kind part
+  pub none : SpellsNone r.kind (concat part)
+  pub begun : PrefixSpells r.kind (concat part) items
   pub now : Option (List ℕ)
   pub read : List ℕ
-  pub consumed : Consumes start now read
-  pub placed : IsPlacedIn file read done (concat part) e
+  pub consumed : Consumes r.before now read
+  pub placed : IsPlacedIn (Some r.name) read done (concat part) e
   pub located : IsLocatedIn done (concat part) e
 
 -- the part spells the items, or it was refused
-abbrev pub IsOutcome : ItemType → Option (List ℕ) → Option (List ℕ) → List ℕ → List Line → List Item → Option ParseError → Type 0
-IsOutcome k file start done part items None = TextSpells k (concat part) items
-IsOutcome k file start done part items (Some e) = IsRefusedPart k file start done part items e
+abbrev pub IsOutcome : InputStream → List ℕ → List Line → List Item → Option ParseError → Type 0
+IsOutcome r done part items None = TextSpells r.kind (concat part) items
+IsOutcome r done part items (Some e) = IsRefusedPart r done part items e
 
 -- the outcome of a part, given the parsed text `done` before it
-abbrev pub IsOutcomeAfter : ItemType → Option (List ℕ) → Option (List ℕ) → List ℕ → Outcome → Type 0
-IsOutcomeAfter k file start done o = IsOutcome k file start done o.part o.items o.refusal
+abbrev pub IsOutcomeAfter : InputStream → List ℕ → Outcome → Type 0
+IsOutcomeAfter r done o = IsOutcome r done o.part o.items o.refusal
 
 -- the offsets of items that the part spells, or begins with
 abbrev pub SpellsAtOffsets : ItemType → List ℕ → Option ParseError → List Item → List ℕ → Type 0
@@ -71,8 +80,8 @@ abbrev pub HaveItemStarts : ItemType → List (List Line) → List Outcome → T
 HaveItemStarts k before os = AllAfter (HasItemStarts k) before os
 
 -- the outcome of each part, given the parts before it
-abbrev pub AreOutcomes : ItemType → Option (List ℕ) → Option (List ℕ) → List (List Line) → List Outcome → Type 0
-AreOutcomes k file start before os = AllAfter (IsOutcomeAfter k file start) before os
+abbrev pub AreOutcomes : InputStream → List (List Line) → List Outcome → Type 0
+AreOutcomes r before os = AllAfter (IsOutcomeAfter r) before os
 
 abbrev pub parts_of : List Outcome → List (List Line)
 parts_of os = map (λ (o : Outcome). o.part) os
@@ -101,38 +110,38 @@ abbrev pub AreReportedThen : Stream → List ParseError → (List ℕ → Type 0
 AreReportedThen err es P = err.failed ≡ false → (text : List ℕ) × (line : List ℕ) × AreErrorLines es text × P line × IsGiven err (text ++ line)
 
 -- the stream is read from its beginning
-abbrev pub Begins : Source → Type 0
-Begins source = ((k : ItemType) (start : Option (List ℕ)) → HasParts k start start [] source.parts)
+abbrev pub IsAtStart : Source → Type 0
+IsAtStart source = ((k : ItemType) (start : Option (List ℕ)) → HasParts k start start [] source.parts)
 
 -- The text of a stream that was read so far: these parts, the last of which is refused, and more. Whatever follows, the stream spells no
 -- items. If the parts before spell items, the text begins with these and the ones of the last.
-pub record IsRefusedAfter (k : ItemType) (start now : Option (List ℕ)) (ps : List (List Line)) (o : Outcome) : Type 0 where
+pub record IsRefusedAfter (r : InputStream) (now : Option (List ℕ)) (ps : List (List Line)) (o : Outcome) : Type 0 where
   pub read : List ℕ
   pub rest : List ℕ
-  pub consumed : Consumes start now read
+  pub consumed : Consumes r.before now read
   pub whole : read ≡ concat (all_lines (ps ++ o.part ∷ [])) ++ rest
-  pub never : NeverSpells k (AreAll start read) read
-  pub begun : (items : List Item) → PartsSpell k ps items → PrefixSpells k read (items ++ o.items)
+  pub never : NeverSpells r.kind (AreAll r.before read) read
+  pub begun : (items : List Item) → PartsSpell r.kind ps items → PrefixSpells r.kind read (items ++ o.items)
 
 -- the next part was read, its outcome was written, and its refusal was reported, if it was refused
-pub record WritesPart (k : ItemType) (file start now : Option (List ℕ)) (ps : List (List Line)) (written : Outcome → Type 0) (err : Stream) (refused : Bool) (r : ItemReader) : Type 0 where
+pub record WritesPart (r : InputStream) (now : Option (List ℕ)) (ps : List (List Line)) (written : Outcome → Type 0) (err : Stream) (refused : Bool) (reader : ItemReader) : Type 0 where
   pub outcome : Outcome
-  pub had : HasParts k start now (ps ++ outcome.part ∷ []) r
-  pub is : IsOutcomeAfter k file start (concat (all_lines ps)) outcome
-  pub begin : keeps_starts r ≡ true → HasItemStarts k (concat (all_lines ps)) outcome
+  pub had : HasParts r.kind r.before now (ps ++ outcome.part ∷ []) reader
+  pub is : IsOutcomeAfter r (concat (all_lines ps)) outcome
+  pub begin : keeps_starts reader ≡ true → HasItemStarts r.kind (concat (all_lines ps)) outcome
   pub any : refused ≡ any_refused (outcome ∷ [])
-  pub after : refused ≡ true → IsRefusedAfter k start now ps outcome
+  pub after : refused ≡ true → IsRefusedAfter r now ps outcome
   pub are_written : written outcome
   pub reported : AreReported err (refusals_of (outcome ∷ []))
 
 -- The stream begins with parts that have these outcomes. If none of them is refused, it begins with their items.
-pub record ReadsParts (k : ItemType) (name : List ℕ) (before now : Option (List ℕ)) (outcomes : List Outcome) : Type 0 where
+pub record ReadsParts (r : InputStream) (now : Option (List ℕ)) (outcomes : List Outcome) : Type 0 where
   pub read : List ℕ
   pub rest : List ℕ
-  pub consumed : Consumes before now read
+  pub consumed : Consumes r.before now read
   pub whole : read ≡ concat (all_lines (parts_of outcomes)) ++ rest
-  pub are : AreOutcomes k (Some name) before [] outcomes
-  pub begun : any_refused outcomes ≡ false → PrefixSpells k read (items_of outcomes)
+  pub are : AreOutcomes r [] outcomes
+  pub begun : any_refused outcomes ≡ false → PrefixSpells r.kind read (items_of outcomes)
 
 -- of these outcomes the last alone is refused, and the text read begins with their items
 pub record EndsRefused (k : ItemType) (read : List ℕ) (outcomes : List Outcome) : Type 0 where
@@ -144,25 +153,31 @@ pub record EndsRefused (k : ItemType) (read : List ℕ) (outcomes : List Outcome
 
 -- The stream was read to its end, or without recovery to its first refusal: the outcome of each part was written, and each refusal was
 -- reported, in order. If a part was refused, the stream spells no items, whatever follows the text read; if none was, it spells their items.
-pub record WritesParts (k : ItemType) (name : List ℕ) (recover : Bool) (before after : Option (List ℕ)) (written : List Outcome → Type 0) (err : Stream) (refused : Bool) : Type 0 where
+pub record WritesParts (r : InputStream) (after : Option (List ℕ)) (written : List Outcome → Type 0) (err : Stream) (refused : Bool) : Type 0 where
   pub outcomes : List Outcome
-  pub reads : ReadsParts k name before after outcomes
+  pub reads : ReadsParts r after outcomes
   pub any : refused ≡ any_refused outcomes
-  pub ended : (recover ≡ true) ⊎ (refused ≡ false) → AreAll before reads.read × AreParts k reads.read (parts_of outcomes)
-  pub spelled : refused ≡ false → TextSpells k reads.read (items_of outcomes)
-  pub never : refused ≡ true → NeverSpells k (AreAll before reads.read) reads.read
-  pub stopped : recover ≡ false → refused ≡ true → EndsRefused k reads.read outcomes
+  pub ended : (r.recover ≡ true) ⊎ (refused ≡ false) → AreAll r.before reads.read × AreParts r.kind reads.read (parts_of outcomes)
+  pub spelled : refused ≡ false → TextSpells r.kind reads.read (items_of outcomes)
+  pub never : refused ≡ true → NeverSpells r.kind (AreAll r.before reads.read) reads.read
+  pub stopped : r.recover ≡ false → refused ≡ true → EndsRefused r.kind reads.read outcomes
   pub are_written : written outcomes
   pub reported : AreReported err (refusals_of outcomes)
 
 -- the stream begins with parts that have these outcomes; without recovery none of them is refused, or the last alone
-abbrev pub IsBegun : ItemType → List ℕ → Bool → Option (List ℕ) → List Outcome → Type 0
-IsBegun k name recover before os = (now : Option (List ℕ)) × (r : ReadsParts k name before now os) × (recover ≡ false → (any_refused os ≡ false) ⊎ EndsRefused k r.read os)
+abbrev pub IsBegun : InputStream → List Outcome → Type 0
+IsBegun r os = (now : Option (List ℕ)) × (begun : ReadsParts r now os) × (r.recover ≡ false → (any_refused os ≡ false) ⊎ EndsRefused r.kind begun.read os)
 
 -- Reading or writing stopped after these parts: without recovery none of them is refused, their refusals were reported, and unless the
 -- output is the cause their outcomes were written; if it is, it has failed.
-abbrev pub StopsAfter : ItemType → List ℕ → Bool → Option (List ℕ) → (List Outcome → Type 0) → Bool → Stream → Stop → Type 0
-StopsAfter k name recover before written failed err stop = (os : List Outcome) × IsBegun k name recover before os × (recover ≡ false → any_refused os ≡ false) × AreReported err (refusals_of os) × UnlessOutput stop failed (written os)
+abbrev pub StopsAfter : InputStream → (List Outcome → Type 0) → Bool → Stream → Stop → Type 0
+StopsAfter r written failed err stop = (os : List Outcome) × IsBegun r os × (r.recover ≡ false → any_refused os ≡ false) × AreReported err (refusals_of os) × UnlessOutput stop failed (written os)
+
+-- What writing the output of the parts returned: whether a part was refused, and then the outcomes were written; or why it stopped, and then
+-- `known` holds of them unless the output is the cause. If the input is the cause, a read failed, or bytes are not UTF-8.
+abbrev pub IsPartsResult : InputStream → Option (List ℕ) → (List Outcome → Type 0) → (List Outcome → Type 0) → Bool → Stream → Result Bool Stop → Type 0
+IsPartsResult r after written known failed err (Ok refused) = WritesParts r after written err refused
+IsPartsResult r after written known failed err (Err stop) = StopsAfter r known failed err stop × IfInput stop (λ e. kind_of e ≡ Io)
 
 -- the outcomes were written; and if it was asked where items begin, they begin there
 abbrev pub WroteParts : ItemType → Bool → (List Outcome → Type 0) → List Outcome → Type 0

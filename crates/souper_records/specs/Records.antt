@@ -1,11 +1,8 @@
 -- Definitions. The record of an item.
 use Rattle.std.specs.Prelude.{◌≡◌, Bool, ℕ, List, [], ◌∷◌, ◌++◌, flat_map, codes, if◌then◌else◌}
+use Rattle.souper_records.specs.Prelude.{Item, text_of, renamed, ItemType, TextSpells}
 use Rattle.sha2.specs.Sha256.{sha256}
 use Rattle.hex.specs.Hex.{encode_lower}
-use Rattle.souper_graph.specs.Values.{Item}
-use Rattle.souper_graph.specs.Text.{text_of}
-use Rattle.souper_graph.specs.Renaming.{renamed}
-use Rattle.souper_graph.specs.Syntax.Spelling.{ItemType, TextSpells}
 use Rattle.souper_records.specs.declared.layout.Delimiter.{Delimiter}
 use Rattle.souper_records.specs.declared.layout.Delimiter.TheVariants.{Newline, Nul}
 use Rattle.souper_records.specs.declared.layout.Layout.{Layout}

@@ -1,12 +1,12 @@
 -- Definitions. The lines that the program reports an error with.
 use Rattle.std.specs.Prelude.{◌≡◌, ◌⊎◌, ℕ, List, ◌++◌, false, codes, Some, IfSome}
 use Rattle.std.specs.declared.io.Error.{Error}
-use Rattle.std.specs.declared.io.ErrorKind.TheVariants.{InvalidData}
 use Rattle.std.specs.IoError.{error_kind}
+use Rattle.souper_records.specs.Prelude.{Stream, IsGiven}
+use Rattle.std.specs.declared.io.ErrorKind.TheVariants.{InvalidData}
 use Rattle.souper_ir.specs.Errors.{fault_of, kind_of, located_error}
 use Rattle.souper_ir.specs.declared.parse.ParseError.{ParseError}
 use Rattle.souper_ir.specs.declared.parse.ParseErrorKind.TheVariants.{Io, Parse}
-use Rattle.souper_format.specs.Streams.{Stream, IsGiven}
 
 -- the program's name, and what it says
 abbrev pub program_line : List ℕ → List ℕ

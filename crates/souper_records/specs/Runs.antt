@@ -1,20 +1,18 @@
 -- Definitions. What each status of a run over a stream says of the stream and of the writers.
 use Rattle.std.specs.Prelude.{◌≡◌, ◌⊎◌, ℕ, zero, suc, Bool, true, false, if◌then◌else◌, List, Option, Result, Ok, Err, codes}
 use Rattle.std.specs.declared.io.Error.{Error}
-use Rattle.std.specs.declared.io.ErrorKind.TheVariants.{BrokenPipe}
 use Rattle.std.specs.IoError.{error_kind}
-use Rattle.souper_graph.specs.Values.{Item}
-use Rattle.souper_graph.specs.Syntax.Spelling.{ItemType}
-use Rattle.souper_format.specs.Streams.{Stream, IsGiven, IsGivenNothing}
+use Rattle.souper_records.specs.Prelude.{Item, Stream, IsGiven, IsGivenNothing}
+use Rattle.std.specs.declared.io.ErrorKind.TheVariants.{BrokenPipe}
 use Rattle.souper_records.specs.declared.run.TheConstants.{BROKEN_PIPE}
 use Rattle.souper_records.specs.declared.layout.Layout.{Layout}
 use Rattle.souper_records.specs.declared.layout.Summary.{Summary}
 use Rattle.souper_records.specs.declared.seen.Seen.{Seen}
 use Rattle.souper_records.specs.declared.stop.Stop.{Stop}
 use Rattle.souper_records.specs.declared.stop.Stop.TheVariants.{Input, Output, Memory}
-use Rattle.souper_records.specs.Uniques.{WritesFirstRecords, WritesSeenFirsts, summary_of, WritesSummaryBegun}
+use Rattle.souper_records.specs.Uniques.{WritesDistinct, WritesSeenDistinct, summary_of, WritesSummaryBegun}
 use Rattle.souper_records.specs.Objects.{WritesObjects}
-use Rattle.souper_records.specs.Outcomes.{Outcome, refusals_of, AreReported, AreReportedThen, WritesParts, IsBegun, OfItems, WritesRecords}
+use Rattle.souper_records.specs.Outcomes.{InputStream, Outcome, refusals_of, AreReported, AreReportedThen, WritesParts, IsBegun, OfItems, WritesRecords}
 use Rattle.souper_records.specs.Reports.{IsMemoryLine, IsFaultLine, ReportedMemory, ReportedFault, ReportedFaultOf, ReportedError}
 
 -- a fact for each of the four statuses
@@ -50,26 +48,26 @@ HasStopped name known out reported = (known × (reported (IsFaultLine name) ⊎ 
 -- What the status of a run over a stream says: 0, no part is refused, and nothing was reported; 1, a part is refused; 2, the run has
 -- stopped after some parts, and that was reported after their refusals: unless the output has failed, their outcomes were written; 141, the
 -- output is a pipe that nobody reads, and the refusals so far were reported.
-abbrev pub IsRun : ItemType → List ℕ → Bool → Option (List ℕ) → Option (List ℕ) → (List Outcome → Type 0) → (List Outcome → Type 0) → Stream → Stream → ℕ → Type 0
-IsRun k name recover before after written known out err status = OnStatus status
-    (WritesParts k name recover before after written err false × IsGivenNothing err)
-    (WritesParts k name recover before after written err true)
-    ((os : List Outcome) × IsBegun k name recover before os × HasStopped name (known os) out (AreReportedThen err (refusals_of os)))
-    ((os : List Outcome) × IsBegun k name recover before os × (out.failed ≡ true) × AreReported err (refusals_of os))
+abbrev pub IsRun : InputStream → Option (List ℕ) → (List Outcome → Type 0) → (List Outcome → Type 0) → Stream → Stream → ℕ → Type 0
+IsRun r after written known out err status = OnStatus status
+    (WritesParts r after written err false × IsGivenNothing err)
+    (WritesParts r after written err true)
+    ((os : List Outcome) × IsBegun r os × HasStopped r.name (known os) out (AreReportedThen err (refusals_of os)))
+    ((os : List Outcome) × IsBegun r os × (out.failed ≡ true) × AreReported err (refusals_of os))
 
 -- writing the record of each item
-abbrev pub IsRecordsRun : ItemType → Layout → List ℕ → Bool → Option (List ℕ) → Option (List ℕ) → Stream → Stream → ℕ → Type 0
-IsRecordsRun k l name recover before after out err status = IsRun k name recover before after (OfItems (WritesRecords l out)) (OfItems (WritesRecords l out)) out err status
+abbrev pub IsRecordsRun : Layout → InputStream → Option (List ℕ) → Stream → Stream → ℕ → Type 0
+IsRecordsRun l r after out err status = IsRun r after (OfItems (WritesRecords l out)) (OfItems (WritesRecords l out)) out err status
 
 -- writing the object of each item and of each refusal
-abbrev pub IsObjectsRun : ItemType → Bool → List ℕ → Bool → Option (List ℕ) → Option (List ℕ) → Stream → Stream → ℕ → Type 0
-IsObjectsRun k rename name recover before after out err status = IsRun k name recover before after (WritesObjects k rename name out) (WritesObjects k rename name out) out err status
+abbrev pub IsObjectsRun : Bool → InputStream → Option (List ℕ) → Stream → Stream → ℕ → Type 0
+IsObjectsRun rename r after out err status = IsRun r after (WritesObjects rename r out) (WritesObjects rename r out) out err status
 
--- writing the records of the first items, after earlier ones
-abbrev pub IsFirstsRun : ItemType → Layout → List Item → List ℕ → Bool → Option (List ℕ) → Option (List ℕ) → Stream → Seen → Stream → ℕ → Type 0
-IsFirstsRun k l earlier name recover before after out seen err status = IsRun k name recover before after
-    (OfItems (WritesSeenFirsts k l earlier out seen))
-    (OfItems (WritesFirstRecords l earlier out)) out err status
+-- writing the records of the distinct items, after earlier ones
+abbrev pub IsDistinctRun : Layout → List Item → InputStream → Option (List ℕ) → Stream → Seen → Stream → ℕ → Type 0
+IsDistinctRun l earlier r after out seen err status = IsRun r after
+    (OfItems (WritesSeenDistinct r.kind l earlier out seen))
+    (OfItems (WritesDistinct l earlier out)) out err status
 
 -- What the status of writing the records of the distinct items says: 0, all were written, and nothing was reported; 2, memory ran out
 -- after some were written, or the output has failed, and that was reported; 141, the output is a pipe that nobody reads.

@@ -1,6 +1,6 @@
 -- Definitions. Why the output of a stream was not all written.
 use Rattle.std.specs.Prelude.{◌≡◌, Bool, true}
-use Rattle.souper_ir.specs.declared.parse.error.ParseError.{ParseError}
+use Rattle.souper_records.specs.Prelude.{ParseError}
 use Rattle.souper_ir.specs.Errors.{OnKind, kind_of}
 use Rattle.souper_records.specs.declared.stop.Stop.{Stop}
 use Rattle.souper_records.specs.declared.stop.Stop.TheVariants.{Input, Output, Memory}

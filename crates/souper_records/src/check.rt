@@ -1,21 +1,19 @@
 //! Whether a text is canonical.
 ghost use Rattle.std.specs.Prelude.{◌≡◌, ◌↔◌, Some, IfOk, IfErr, IfSome, IfNone, IsNone, string_bytes};
-ghost use Rattle.souper_ir.specs.Answers.{IsStrError};
-ghost use Rattle.souper_stream.specs.Segments.{concat, all_lines};
-ghost use Rattle.souper_format.specs.Streams.{stream};
+ghost use Rattle.souper_records.specs.Prelude.{IsStrError, concat, all_lines, stream};
 ghost use Rattle.souper_records.specs.Canonical.{IsCanonical, IsOtherLine, ReportedOtherLine, IsCheckRun};
-ghost use Rattle.souper_records.specs.Comparisons.{DifferOnLine, IsCompared};
+ghost use Rattle.souper_diff.specs.Comparisons.{IsCompared};
 ghost use Rattle.souper_records.specs.Outcomes.{parts_of, items_of};
 ghost use Rattle.souper_records.specs.Records.{records_of};
 
-use crate::comparison::{Comparison, common_front};
 use crate::each::Records;
 use crate::layout::PLAIN;
 use crate::options::ReadOptions;
-use crate::parts::{PartSink, Place, Source, write_parts};
+use crate::parts::{Part, PartSink, Source, write_parts};
 use crate::records::records_of_text;
 use crate::report::{report_error, report_fault, report_line, report_memory};
 use crate::stop::Stop;
+use souper_diff::comparison::{Comparison, differing_line};
 use souper_format::watched::Watched;
 use souper_ir::ast::{Arena, Statement};
 use souper_ir::parse::{ParseError, Sink, WholeItem};
@@ -23,18 +21,6 @@ use souper_stream::{ChunkSink, StreamItem};
 use std::alloc::{AllocError, Global};
 use std::io;
 use std::io::{BufRead, Write};
-
-// The line, counted from 1, on which the texts first differ, or none if they are the same.
-fn differing_line(text: &[u8], other: &[u8]) -> Option<usize>
-    ensures same { IfNone result (text.now ≡ other.now) }
-    ensures differs { IfSome result (DifferOnLine text.now other.now) }
-{
-    if text == other {
-        return None;
-    }
-    let (_, newlines, _) = common_front(text, other);
-    Some(newlines + 1)
-}
 
 /// The line of the text, counted from 1, on which it first differs from what [`format_text`](souper_format::items::format_text) returns
 /// for it; none if it is canonical. If the text is a beginning of that, it is the line on which the rest would begin.
@@ -97,12 +83,12 @@ impl<T: StreamItem + Drop> PartSink<T> for Checked {
     fn write_part<W: Write>(
         &mut self,
         _alloc: Global,
-        place: Place<'_>,
+        part: Part<'_>,
         _refusal: Option<&ParseError>,
         _out: &mut Watched<W>,
     ) -> Result<(), Stop> {
         self.comparison
-            .append(place.text, self.records.out.as_bytes())?;
+            .append(part.text, self.records.out.as_bytes())?;
         self.records.out.clear();
         Ok(())
     }

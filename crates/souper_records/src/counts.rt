@@ -1,9 +1,6 @@
 //! The records of the distinct items, after all were read.
 ghost use Rattle.std.specs.Prelude.{◌≡◌, ◌⊎◌, ◌++◌, List, OnOk, IfErr, string_bytes};
-ghost use Rattle.souper_graph.specs.Syntax.Spelling.{ItemType};
-ghost use Rattle.souper_graph.specs.Values.{Item};
-ghost use Rattle.souper_format.specs.Streams.{stream, IsGiven};
-ghost use Rattle.souper_format.specs.Watching.{has_failed};
+ghost use Rattle.souper_records.specs.Prelude.{ItemType, Item, stream, IsGiven, has_failed};
 ghost use Rattle.souper_records.specs.Stops.{IfInput, UnlessOutput};
 ghost use Rattle.souper_records.specs.Uniques.{HasSeen, summary_of_text, summary_of, WritesSummaryBegun};
 

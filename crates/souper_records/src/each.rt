@@ -1,21 +1,18 @@
 //! The record of each item of a stream.
-ghost use Rattle.std.specs.Prelude.{◌≡◌, ◌++◌, [], true, IfOk, IfErr, string_bytes};
+ghost use Rattle.std.specs.Prelude.{◌≡◌, ◌++◌, [], true, string_bytes};
 ghost use Rattle.std.specs.Io.KnownBytes.{Appends};
-ghost use Rattle.souper_ir.specs.Errors.{kind_of};
-ghost use Rattle.souper_format.specs.Streams.{stream};
-ghost use Rattle.souper_format.specs.Watching.{has_failed};
-ghost use Rattle.souper_records.specs.Stops.{IfInput};
-ghost use Rattle.souper_records.specs.Outcomes.{WritesParts, StopsAfter, OfItems, WritesRecords, items_of};
+ghost use Rattle.souper_records.specs.Prelude.{stream, has_failed};
+ghost use Rattle.souper_records.specs.Outcomes.{input_stream, IsPartsResult, OfItems, WritesRecords, items_of};
 ghost use Rattle.souper_records.specs.Records.{records_of};
 
 use crate::layout::Layout;
 use crate::options::ReadOptions;
-use crate::parts::{PartSink, Place, Source, write_parts};
+use crate::parts::{Part, PartSink, Source, write_parts};
 use crate::records::{append_last_text, append_record_of_text};
 use crate::stop::{Stop, write_text};
 use souper_format::watched::Watched;
 use souper_ir::ast::{Arena, Statement};
-use souper_ir::parse::{ParseError, ParseErrorKind, Sink, WholeItem};
+use souper_ir::parse::{ParseError, Sink, WholeItem};
 use souper_stream::{ChunkSink, StreamItem};
 use std::alloc::{AllocError, Global};
 use std::io::{BufRead, Write};
@@ -76,7 +73,7 @@ impl<T: StreamItem + Drop> PartSink<T> for Records {
     fn write_part<W: Write>(
         &mut self,
         _alloc: Global,
-        _place: Place<'_>,
+        _part: Part<'_>,
         _refusal: Option<&ParseError>,
         out: &mut Watched<W>,
     ) -> Result<(), Stop> {
@@ -100,11 +97,8 @@ pub fn write_records<T: StreamItem + Drop, R: BufRead, W: Write, E: Write>(
     out: &mut Watched<W>,
     err: &mut Watched<E>,
 ) -> Result<bool, Stop>
-    ensures written { IfOk result (λ refused. WritesParts T.item_type options.entry.name.now options.entry.recover (R.remaining reader.old) (R.remaining reader.new)
-        (OfItems (WritesRecords layout (stream W.contents out.old out.new))) (stream E.contents err.old err.new) refused) }
-    ensures stopped { IfErr result (λ stop. StopsAfter T.item_type options.entry.name.now options.entry.recover (R.remaining reader.old)
-        (OfItems (WritesRecords layout (stream W.contents out.old out.new))) (has_failed out.new) (stream E.contents err.old err.new) stop) }
-    ensures input { IfErr result (λ stop. IfInput stop (λ e. kind_of e ≡ ParseErrorKind.Io)) }
+    ensures returned { let records = OfItems (WritesRecords layout (stream W.contents out.old out.new)) in
+        IsPartsResult (input_stream T.item_type options.entry (R.remaining reader.old)) (R.remaining reader.new) records records (has_failed out.new) (stream E.contents err.old err.new) result }
     ensures stays { has_failed err.old ≡ true → has_failed err.new ≡ true }
 {
     let mut records = Records::new(alloc, layout);

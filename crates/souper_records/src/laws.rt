@@ -1,9 +1,7 @@
 //! Laws of the definitions that the contracts of this crate cite. No function here does anything.
 ghost use Rattle.std.specs.Prelude.{ℕ, List};
-ghost use Rattle.serde_json.specs.Written.{compact_text};
+ghost use Rattle.souper_records.specs.Prelude.{compact_text, ParseError, Start};
 ghost use Rattle.souper_graph.specs.Syntax.Tokens.{IsOneLine};
-ghost use Rattle.souper_ir.specs.declared.parse.error.ParseError.{ParseError};
-ghost use Rattle.souper_stream.specs.declared.starts.Start.{Start};
 ghost use Rattle.souper_records.specs.Objects.{item_object, refusal_object};
 
 /// The text of an object has no newline, so the output has one line for each object.

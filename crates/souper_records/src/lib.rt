@@ -4,7 +4,6 @@
 #![tactic(auto)]
 
 pub mod check;
-mod comparison;
 pub mod counts;
 pub mod each;
 pub mod laws;

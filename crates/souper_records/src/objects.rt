@@ -1,24 +1,21 @@
 //! A JSON object for each item and each refusal of a stream, each on a line of its own.
-ghost use Rattle.std.specs.Prelude.{◌≡◌, ◌++◌, true, false, map, Option, IfOk, IfErr, OnOk, option_copied, string_bytes};
+ghost use Rattle.std.specs.Prelude.{◌≡◌, ◌++◌, true, false, map, Option, IfOk, OnOk, option_copied, string_bytes};
 ghost use Rattle.std.specs.Io.KnownBytes.{Appends};
-ghost use Rattle.souper_ir.specs.Errors.{kind_of};
-ghost use Rattle.souper_format.specs.Streams.{stream};
-ghost use Rattle.souper_format.specs.Watching.{has_failed};
-ghost use Rattle.souper_records.specs.Stops.{IfInput};
+ghost use Rattle.souper_records.specs.Prelude.{stream, has_failed};
 ghost use Rattle.souper_records.specs.Objects.{item_object, refusal_object, refusal_line, object_line, text_line, text_lines, objects_of, optional_number, optional_string, WritesObjects};
-ghost use Rattle.souper_records.specs.Outcomes.{WritesParts, StopsAfter};
+ghost use Rattle.souper_records.specs.Outcomes.{input_stream, IsPartsResult};
 ghost use Rattle.souper_records.specs.Uniques.{text_by};
 ghost use Rattle.serde_json.specs.View.{view};
 ghost use Rattle.serde_json.specs.Written.{has_float};
 
 use crate::options::ReadOptions;
-use crate::parts::{PartSink, Place, Source, write_parts};
+use crate::parts::{Part, PartSink, Source, write_parts};
 use crate::records::{key_of, push_last_text};
 use crate::stop::{Stop, write_text};
 use serde_json::{Value, json};
 use souper_format::watched::Watched;
 use souper_ir::ast::{Arena, Statement};
-use souper_ir::parse::{ParseError, ParseErrorKind, Sink, WholeItem};
+use souper_ir::parse::{ParseError, Sink, WholeItem};
 use souper_stream::{ChunkSink, Start, StreamItem};
 use std::alloc::{AllocError, Global};
 use std::io::{BufRead, Write};
@@ -121,18 +118,18 @@ pub fn append_item(
 // The lines of a part, whose items, or the ones that it begins with, have these texts.
 fn part_lines(
     alloc: Global,
-    place: Place<'_>,
+    part: Part<'_>,
     refusal: Option<&ParseError>,
     texts: &[String],
 ) -> Result<String, AllocError>
-    ensures { IfOk result (λ out. string_bytes out ≡ text_lines place.entry.name.now place.entry.starts.now (map string_bytes texts.now)
-        ++ refusal_line place.entry.name.now (option_copied refusal.entry)) }
+    ensures { IfOk result (λ out. string_bytes out ≡ text_lines part.entry.name.now part.entry.starts.now (map string_bytes texts.now)
+        ++ refusal_line part.entry.name.now (option_copied refusal.entry)) }
 {
     let mut out = String::new(alloc);
-    for (start, text) in place.starts.iter().zip(texts) {
-        append_item(alloc, place.name, *start, text.as_str(), &mut out)?;
+    for (start, text) in part.starts.iter().zip(texts) {
+        append_item(alloc, part.name, *start, text.as_str(), &mut out)?;
     }
-    append_refusal(alloc, place.name, refusal, &mut out)?;
+    append_refusal(alloc, part.name, refusal, &mut out)?;
     Ok(out)
 }
 
@@ -182,11 +179,11 @@ impl<T: StreamItem + Drop> PartSink<T> for Objects {
     fn write_part<W: Write>(
         &mut self,
         alloc: Global,
-        place: Place<'_>,
+        part: Part<'_>,
         refusal: Option<&ParseError>,
         out: &mut Watched<W>,
     ) -> Result<(), Stop> {
-        let lines = part_lines(alloc, place, refusal, self.texts.as_slice())?;
+        let lines = part_lines(alloc, part, refusal, self.texts.as_slice())?;
         write_text(&lines, out)?;
         self.texts.clear();
         Ok(())
@@ -209,11 +206,9 @@ pub fn write_objects<T: StreamItem + Drop, R: BufRead, W: Write, E: Write>(
     out: &mut Watched<W>,
     err: &mut Watched<E>,
 ) -> Result<bool, Stop>
-    ensures written { IfOk result (λ refused. WritesParts T.item_type options.entry.name.now options.entry.recover (R.remaining reader.old) (R.remaining reader.new)
-        (WritesObjects T.item_type rename options.entry.name.now (stream W.contents out.old out.new)) (stream E.contents err.old err.new) refused) }
-    ensures stopped { IfErr result (λ stop. StopsAfter T.item_type options.entry.name.now options.entry.recover (R.remaining reader.old)
-        (WritesObjects T.item_type rename options.entry.name.now (stream W.contents out.old out.new)) (has_failed out.new) (stream E.contents err.old err.new) stop) }
-    ensures input { IfErr result (λ stop. IfInput stop (λ e. kind_of e ≡ ParseErrorKind.Io)) }
+    ensures returned { let source = input_stream T.item_type options.entry (R.remaining reader.old) in
+        let objects = WritesObjects rename source (stream W.contents out.old out.new) in
+        IsPartsResult source (R.remaining reader.new) objects objects (has_failed out.new) (stream E.contents err.old err.new) result }
     ensures stays { has_failed err.old ≡ true → has_failed err.new ≡ true }
 {
     let mut objects = Objects {

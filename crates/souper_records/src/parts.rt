@@ -1,12 +1,10 @@
 //! The parts of a stream, whose output is written one after the other.
 ghost use Rattle.std.specs.Prelude.{◌≡◌, ◌++◌, ◌∷◌, ℕ, [], List, true, Option, Some, IfOk, IfErr, IfSome, IfNone, OnOk, option_copied};
-ghost use Rattle.souper_ir.specs.Errors.{kind_of};
-ghost use Rattle.souper_stream.specs.Segments.{Line, concat};
+ghost use Rattle.souper_records.specs.Prelude.{kind_of, Line, concat, stream};
 ghost use Rattle.souper_stream.specs.Parts.{HasParts, HasAll, keeps_starts};
-ghost use Rattle.souper_format.specs.Streams.{stream};
 ghost use Rattle.souper_format.specs.Watching.{watched_inner, has_failed};
 ghost use Rattle.souper_records.specs.Stops.{IfInput, UnlessOutput};
-ghost use Rattle.souper_records.specs.Outcomes.{Outcome, Begins, WritesPart, WritesParts, StopsAfter, WroteParts};
+ghost use Rattle.souper_records.specs.Outcomes.{Outcome, IsAtStart, WritesPart, IsPartsResult, WroteParts, input_stream};
 
 use crate::options::ReadOptions;
 use crate::report::{line_of_error, report_line};
@@ -18,9 +16,9 @@ use std::alloc::Global;
 use std::io;
 use std::io::{BufRead, ErrorKind, Write};
 
-/// A part of a stream, and its location.
+/// A part of a stream that was read.
 #[derive(Clone, Copy)]
-pub struct Place<'a> {
+pub struct Part<'a> {
     /// The name of the stream.
     pub name: &'a str,
 
@@ -43,13 +41,13 @@ pub trait PartSink<T: StreamItem + Drop>: ChunkSink<T> {
     fn write_part<W: Write>(
         &mut self,
         alloc: Global,
-        place: Place<'_>,
+        part: Part<'_>,
         refusal: Option<&ParseError>,
         out: &mut Watched<W>,
     ) -> Result<(), Stop>
-        ensures written { OnOk result ((first : Self) (start : Option (List ℕ)) (os : List Outcome) (before : Self) (o : Outcome) → wrote place.entry.name.now first start before (W.contents (watched_inner out.old)) os
-            → Self.holds before before [] → Self.holds before self.old o.items → o.starts ≡ place.entry.starts.now → concat o.part ≡ place.entry.text.now → o.refusal ≡ option_copied refusal.entry
-            → wrote place.entry.name.now first start self.new (W.contents (watched_inner out.new)) (os ++ o ∷ [])) }
+        ensures written { OnOk result ((first : Self) (start : Option (List ℕ)) (os : List Outcome) (before : Self) (o : Outcome) → wrote part.entry.name.now first start before (W.contents (watched_inner out.old)) os
+            → Self.holds before before [] → Self.holds before self.old o.items → o.starts ≡ part.entry.starts.now → concat o.part ≡ part.entry.text.now → o.refusal ≡ option_copied refusal.entry
+            → wrote part.entry.name.now first start self.new (W.contents (watched_inner out.new)) (os ++ o ∷ [])) }
         ensures none { OnOk result (Self.holds self.new self.new []) }
         ensures input { IfErr result (λ stop. IfInput stop (λ e. ⊥)) }
         ensures unwritten { IfErr result (λ stop. UnlessOutput stop (has_failed out.new) (out.new ≡ out.old)) };
@@ -81,7 +79,7 @@ impl<'a> Source<'a> {
     /// or for lines whenever the reader has shown more.
     pub fn new(alloc: Global, options: ReadOptions<'a>) -> Source<'a>
         ensures options { result.options ≡ options.entry }
-        ensures begins { Begins result }
+        ensures begins { IsAtStart result }
     {
         Source {
             options,
@@ -93,7 +91,7 @@ impl<'a> Source<'a> {
     pub fn with_starts(alloc: Global, options: ReadOptions<'a>) -> Source<'a>
         ensures options { result.options ≡ options.entry }
         ensures asked { keeps_starts result.parts ≡ true }
-        ensures begins { Begins result }
+        ensures begins { IsAtStart result }
     {
         Source {
             options,
@@ -117,7 +115,7 @@ fn write_next<T: StreamItem + Drop, S: PartSink<T>, R: BufRead, W: Write, E: Wri
     ensures options { source.new.options ≡ source.old.options }
     ensures same { keeps_starts source.new.parts ≡ keeps_starts source.old.parts }
     ensures part { IfOk result (λ more. IfSome more (λ refused. (start : Option (List ℕ)) (ps : List (List Line)) → HasParts T.item_type start (R.remaining reader.old) ps source.old.parts
-        → WritesPart T.item_type (Some source.old.options.name.now) start (R.remaining reader.new) ps (λ o. (first : S) (before : Option (List ℕ)) (os : List Outcome) → S.wrote source.old.options.name.now first before sink.old (W.contents (watched_inner out.old)) os
+        → WritesPart (input_stream T.item_type source.old.options start) (R.remaining reader.new) ps (λ o. (first : S) (before : Option (List ℕ)) (os : List Outcome) → S.wrote source.old.options.name.now first before sink.old (W.contents (watched_inner out.old)) os
         → S.wrote source.old.options.name.now first before sink.new (W.contents (watched_inner out.new)) (os ++ o ∷ [])) (stream E.contents err.old err.new) refused source.new.parts)) }
     ensures none { IfOk result (λ more. S.holds sink.new sink.new []) }
     ensures ended { IfOk result (λ more. IfNone more ((start : Option (List ℕ)) (ps : List (List Line)) → HasParts T.item_type start (R.remaining reader.old) ps source.old.parts
@@ -135,15 +133,15 @@ fn write_next<T: StreamItem + Drop, S: PartSink<T>, R: BufRead, W: Write, E: Wri
     {
         Ok(true) => {
             let (starts, text) = (source.parts.starts(), source.parts.part());
-            sink.write_part(alloc, Place { name, starts, text }, None, out)?;
+            sink.write_part(alloc, Part { name, starts, text }, None, out)?;
             Ok(Some(false))
         }
         Ok(false) => Ok(None),
         Err(error) if error.kind() == ParseErrorKind::Parse => {
             let shown = line_of_error(alloc, &error)?;
             let (starts, text) = (source.parts.starts(), source.parts.part());
-            let place = Place { name, starts, text };
-            sink.write_part(alloc, place, Some(&error), out)?;
+            let part = Part { name, starts, text };
+            sink.write_part(alloc, part, Some(&error), out)?;
             report_line(&shown, err);
             Ok(Some(true))
         }
@@ -166,12 +164,9 @@ pub fn write_parts<T: StreamItem + Drop, S: PartSink<T>, R: BufRead, W: Write, E
 ) -> Result<bool, Stop>
     requires none { S.holds sink.old sink.old [] }
     requires started { S.wrote source.options.name.now sink.old (W.contents (watched_inner out.old)) sink.old (W.contents (watched_inner out.old)) [] }
-    requires begins { Begins source }
-    ensures written { IfOk result (λ refused. WritesParts T.item_type source.entry.options.name.now source.entry.options.recover (R.remaining reader.old) (R.remaining reader.new)
-        (WroteParts T.item_type (keeps_starts source.entry.parts) (S.wrote source.entry.options.name.now sink.old (W.contents (watched_inner out.old)) sink.new (W.contents (watched_inner out.new)))) (stream E.contents err.old err.new) refused) }
-    ensures stopped { IfErr result (λ stop. StopsAfter T.item_type source.entry.options.name.now source.entry.options.recover (R.remaining reader.old)
-        (λ os. (s : S) × WroteParts T.item_type (keeps_starts source.entry.parts) (S.wrote source.entry.options.name.now sink.old (W.contents (watched_inner out.old)) s (W.contents (watched_inner out.new))) os) (has_failed out.new) (stream E.contents err.old err.new) stop) }
-    ensures input { IfErr result (λ stop. IfInput stop (λ e. kind_of e ≡ ParseErrorKind.Io)) }
+    requires begins { IsAtStart source }
+    ensures returned { let wrote = λ (s : S). WroteParts T.item_type (keeps_starts source.entry.parts) (S.wrote source.entry.options.name.now sink.old (W.contents (watched_inner out.old)) s (W.contents (watched_inner out.new))) in
+        IsPartsResult (input_stream T.item_type source.entry.options (R.remaining reader.old)) (R.remaining reader.new) (wrote sink.new) (λ os. (s : S) × wrote s os) (has_failed out.new) (stream E.contents err.old err.new) result }
     ensures stays { has_failed err.old ≡ true → has_failed err.new ≡ true }
 {
     let mut any = false;

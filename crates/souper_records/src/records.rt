@@ -1,10 +1,7 @@
 //! The record of an item.
 ghost use Rattle.std.specs.Prelude.{◌≡◌, ◌++◌, ◌∷◌, [], map, flat_map, IfOk, IfErr, IsOkAnd, OnOk, option_copied, string_bytes};
-ghost use Rattle.souper_graph.specs.Text.{text_of};
-ghost use Rattle.souper_graph.specs.Renaming.{renamed};
-ghost use Rattle.souper_graph.specs.WellFormed.{WellFormed};
+ghost use Rattle.souper_records.specs.Prelude.{text_of, renamed, WellFormed, IsStrError};
 ghost use Rattle.souper_graph.specs.Syntax.Tokens.{IsLastGap};
-ghost use Rattle.souper_ir.specs.Answers.{IsStrError};
 ghost use Rattle.souper_records.specs.Records.{chosen, key_of, record_of_text, record_of, AreRecordsOf};
 ghost use Rattle.souper_records.specs.Uniques.{text_by};
 

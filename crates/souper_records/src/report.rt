@@ -1,7 +1,6 @@
 //! The lines that report an error, each to a stream that may fail.
 ghost use Rattle.std.specs.Prelude.{◌≡◌, true, false, string_bytes, IfOk};
-ghost use Rattle.souper_format.specs.Streams.{stream, IsGiven};
-ghost use Rattle.souper_format.specs.Watching.{has_failed};
+ghost use Rattle.souper_records.specs.Prelude.{stream, IsGiven, has_failed};
 ghost use Rattle.souper_records.specs.Reports.{IsErrorLine, IsFaultLineOf, ReportedMemory, ReportedFaultOf, ReportedError};
 
 use souper_format::watched::Watched;

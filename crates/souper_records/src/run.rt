@@ -1,11 +1,9 @@
 //! Runs over one stream, by their statuses.
 ghost use Rattle.std.specs.Prelude.{◌≡◌, true, false, List};
-ghost use Rattle.souper_graph.specs.Syntax.Spelling.{ItemType};
-ghost use Rattle.souper_graph.specs.Values.{Item};
-ghost use Rattle.souper_format.specs.Streams.{stream};
-ghost use Rattle.souper_format.specs.Watching.{has_failed};
+ghost use Rattle.souper_records.specs.Prelude.{ItemType, Item, stream, has_failed};
 ghost use Rattle.souper_records.specs.Uniques.{HasSeen};
-ghost use Rattle.souper_records.specs.Runs.{EndsWithFault, IsPartsEnd, IsRecordsRun, IsObjectsRun, IsFirstsRun, IsCountRun};
+ghost use Rattle.souper_records.specs.Outcomes.{input_stream};
+ghost use Rattle.souper_records.specs.Runs.{EndsWithFault, IsPartsEnd, IsRecordsRun, IsObjectsRun, IsDistinctRun, IsCountRun};
 
 use crate::counts::write_counts;
 use crate::each::write_records;
@@ -15,7 +13,7 @@ use crate::options::ReadOptions;
 use crate::report::{report_error, report_fault, report_memory};
 use crate::seen::Seen;
 use crate::stop::Stop;
-use crate::uniq::write_firsts;
+use crate::uniq::write_distinct;
 use souper_format::watched::Watched;
 use souper_stream::StreamItem;
 use std::alloc::Global;
@@ -80,7 +78,7 @@ pub fn each_run<T: StreamItem + Drop, R: BufRead, W: Write, E: Write>(
     out: &mut Watched<W>,
     err: &mut Watched<E>,
 ) -> u8
-    ensures { IsRecordsRun T.item_type layout name.now false (R.remaining reader.old) (R.remaining reader.new)
+    ensures { IsRecordsRun layout (record { kind = T.item_type; name = name.now; recover = false; before = R.remaining reader.old }) (R.remaining reader.new)
         (stream W.contents out.old out.new) (stream E.contents err.old err.new) result }
 {
     let options = ReadOptions {
@@ -100,7 +98,7 @@ pub fn each_going_on_run<T: StreamItem + Drop, R: BufRead, W: Write, E: Write>(
     out: &mut Watched<W>,
     err: &mut Watched<E>,
 ) -> u8
-    ensures { IsRecordsRun T.item_type layout name.now true (R.remaining reader.old) (R.remaining reader.new)
+    ensures { IsRecordsRun layout (record { kind = T.item_type; name = name.now; recover = true; before = R.remaining reader.old }) (R.remaining reader.new)
         (stream W.contents out.old out.new) (stream E.contents err.old err.new) result }
 {
     let options = ReadOptions {
@@ -129,7 +127,7 @@ pub fn each_run_with<T: StreamItem + Drop, R: BufRead, W: Write, E: Write>(
     out: &mut Watched<W>,
     err: &mut Watched<E>,
 ) -> u8
-    ensures { IsRecordsRun T.item_type layout options.entry.name.now options.entry.recover (R.remaining reader.old) (R.remaining reader.new)
+    ensures { IsRecordsRun layout (input_stream T.item_type options.entry (R.remaining reader.old)) (R.remaining reader.new)
         (stream W.contents out.old out.new) (stream E.contents err.old err.new) result }
 {
     let name = options.name;
@@ -147,7 +145,7 @@ pub fn objects_run_with<T: StreamItem + Drop, R: BufRead, W: Write, E: Write>(
     out: &mut Watched<W>,
     err: &mut Watched<E>,
 ) -> u8
-    ensures { IsObjectsRun T.item_type rename options.entry.name.now options.entry.recover (R.remaining reader.old) (R.remaining reader.new)
+    ensures { IsObjectsRun rename (input_stream T.item_type options.entry (R.remaining reader.old)) (R.remaining reader.new)
         (stream W.contents out.old out.new) (stream E.contents err.old err.new) result }
 {
     let name = options.name;
@@ -164,7 +162,7 @@ pub fn objects_run<T: StreamItem + Drop, R: BufRead, W: Write, E: Write>(
     out: &mut Watched<W>,
     err: &mut Watched<E>,
 ) -> u8
-    ensures { IsObjectsRun T.item_type rename name.now true (R.remaining reader.old) (R.remaining reader.new)
+    ensures { IsObjectsRun rename (record { kind = T.item_type; name = name.now; recover = true; before = R.remaining reader.old }) (R.remaining reader.new)
         (stream W.contents out.old out.new) (stream E.contents err.old err.new) result }
 {
     let options = ReadOptions {
@@ -187,7 +185,7 @@ pub fn uniq_run<T: StreamItem + Drop, R: BufRead, W: Write, E: Write>(
     err: &mut Watched<E>,
 ) -> u8
     ensures { (earlier : List Item) → HasSeen T.item_type layout.rename earlier seen.old
-        → IsFirstsRun T.item_type layout earlier name.now false (R.remaining reader.old) (R.remaining reader.new)
+        → IsDistinctRun layout earlier (record { kind = T.item_type; name = name.now; recover = false; before = R.remaining reader.old }) (R.remaining reader.new)
         (stream W.contents out.old out.new) seen.new (stream E.contents err.old err.new) result }
 {
     let options = ReadOptions {
@@ -210,7 +208,7 @@ pub fn uniq_going_on_run<T: StreamItem + Drop, R: BufRead, W: Write, E: Write>(
     err: &mut Watched<E>,
 ) -> u8
     ensures { (earlier : List Item) → HasSeen T.item_type layout.rename earlier seen.old
-        → IsFirstsRun T.item_type layout earlier name.now true (R.remaining reader.old) (R.remaining reader.new)
+        → IsDistinctRun layout earlier (record { kind = T.item_type; name = name.now; recover = true; before = R.remaining reader.old }) (R.remaining reader.new)
         (stream W.contents out.old out.new) seen.new (stream E.contents err.old err.new) result }
 {
     let options = ReadOptions {
@@ -221,9 +219,9 @@ pub fn uniq_going_on_run<T: StreamItem + Drop, R: BufRead, W: Write, E: Write>(
     uniq_run_with::<T, R, W, E>(layout, options, seen, reader, out, err)
 }
 
-/// Writes the record of each item of the stream that is the same graph as no earlier one to `out` ([`write_firsts`]), and returns the
-/// status of the program, as [`each_run_with`] does, with the records of first items. After status 2 or 141 nothing is known of `seen`, which is
-/// not to be used again.
+/// Writes the record of each item of the stream that is the same graph as no earlier one to `out` ([`write_distinct`]), and returns the
+/// status of the program, as [`each_run_with`] does, with the records of the distinct items. After status 2 or 141 nothing is known of `seen`,
+/// which is not to be used again.
 pub fn uniq_run_with<T: StreamItem + Drop, R: BufRead, W: Write, E: Write>(
     layout: Layout,
     options: ReadOptions<'_>,
@@ -233,11 +231,11 @@ pub fn uniq_run_with<T: StreamItem + Drop, R: BufRead, W: Write, E: Write>(
     err: &mut Watched<E>,
 ) -> u8
     ensures { (earlier : List Item) → HasSeen T.item_type layout.rename earlier seen.old
-        → IsFirstsRun T.item_type layout earlier options.entry.name.now options.entry.recover (R.remaining reader.old) (R.remaining reader.new)
+        → IsDistinctRun layout earlier (input_stream T.item_type options.entry (R.remaining reader.old)) (R.remaining reader.new)
         (stream W.contents out.old out.new) seen.new (stream E.contents err.old err.new) result }
 {
     let (alloc, name) = (seen.alloc, options.name);
-    let parts = write_firsts::<T, R, W, E>(layout, options, seen, reader, out, err);
+    let parts = write_distinct::<T, R, W, E>(layout, options, seen, reader, out, err);
     end_parts(alloc, name, parts, out, err)
 }
 

@@ -1,7 +1,6 @@
 //! Why writing the output of a stream stopped.
 ghost use Rattle.std.specs.Prelude.{◌≡◌, OnOk, IfErr, string_bytes};
-ghost use Rattle.souper_format.specs.Streams.{stream, IsGiven};
-ghost use Rattle.souper_format.specs.Watching.{has_failed};
+ghost use Rattle.souper_records.specs.Prelude.{stream, IsGiven, has_failed};
 ghost use Rattle.souper_records.specs.Stops.{IfInput, UnlessOutput, IsStopOf};
 ghost use Rattle.souper_records.specs.declared.stop.Stop.TheVariants.{Memory};
 

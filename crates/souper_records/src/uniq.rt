@@ -1,18 +1,15 @@
 //! The record of the first item of each graph in streams.
-ghost use Rattle.std.specs.Prelude.{◌≡◌, ◌++◌, ◌∷◌, List, map, true, OnOk, IfOk, IfErr, string_bytes};
+ghost use Rattle.std.specs.Prelude.{◌≡◌, ◌++◌, ◌∷◌, List, map, true, OnOk, IfErr, string_bytes};
 ghost use Rattle.std.specs.List.{AllByRecursion};
-ghost use Rattle.souper_graph.specs.Values.{Item};
-ghost use Rattle.souper_ir.specs.Errors.{kind_of};
-ghost use Rattle.souper_format.specs.Streams.{stream};
-ghost use Rattle.souper_format.specs.Watching.{has_failed};
+ghost use Rattle.souper_records.specs.Prelude.{Item, kind_of, stream, has_failed};
 ghost use Rattle.souper_records.specs.Stops.{IfInput};
-ghost use Rattle.souper_records.specs.Outcomes.{WritesParts, StopsAfter, OfItems, items_of};
+ghost use Rattle.souper_records.specs.Outcomes.{input_stream, IsPartsResult, OfItems, items_of};
 ghost use Rattle.souper_records.specs.Counts.{tally_all};
-ghost use Rattle.souper_records.specs.Uniques.{text_by, HasText, HasSeen, text_count, WritesFirstRecords, WritesSeenFirsts, WritesNewFirsts};
+ghost use Rattle.souper_records.specs.Uniques.{text_by, HasText, HasSeen, text_count, WritesDistinct, WritesSeenDistinct, WritesNewDistinct};
 
 use crate::layout::Layout;
 use crate::options::ReadOptions;
-use crate::parts::{PartSink, Place, Source, write_parts};
+use crate::parts::{Part, PartSink, Source, write_parts};
 use crate::records::{push_last_text, records_of_texts};
 use crate::seen::{Seen, count};
 use crate::stop::{Stop, write_text};
@@ -26,7 +23,7 @@ use std::mem;
 
 // The texts of the items of a part, and of the first item of each graph before it.
 #[derive(Drop)]
-struct Firsts {
+struct Distinct {
     alloc: Global,
     layout: Layout,
 
@@ -36,8 +33,8 @@ struct Firsts {
     seen: Seen,
 }
 
-impl<T: WholeItem + Drop> Sink<T> for Firsts {
-    ghost holds = { λ first firsts items. (firsts.layout ≡ first.layout) × (firsts.seen ≡ first.seen) × (map string_bytes firsts.texts.items ≡ map (text_by first.layout.rename) items) × AllByRecursion (HasText T.item_type first.layout.rename) items };
+impl<T: WholeItem + Drop> Sink<T> for Distinct {
+    ghost holds = { λ first distinct items. (distinct.layout ≡ first.layout) × (distinct.seen ≡ first.seen) × (map string_bytes distinct.texts.items ≡ map (text_by first.layout.rename) items) × AllByRecursion (HasText T.item_type first.layout.rename) items };
 
     fn take(&mut self, item: T) -> Result<(), AllocError> {
         Sink::<T>::take_over(self, item)?;
@@ -56,7 +53,7 @@ impl<T: WholeItem + Drop> Sink<T> for Firsts {
     }
 }
 
-impl<T: WholeItem + Drop> ChunkSink<T> for Firsts {
+impl<T: WholeItem + Drop> ChunkSink<T> for Distinct {
     fn rollback(&mut self) {
         self.texts.clear();
     }
@@ -72,14 +69,14 @@ fn see_texts(seen: &mut Seen, texts: Vec<String>) -> Result<(), AllocError>
     Ok(())
 }
 
-// Writes the records of the first items of each part, and drops the texts.
-impl<T: StreamItem + Drop> PartSink<T> for Firsts {
-    ghost wrote = { λ name a x b y os. (b.layout ≡ a.layout) × WritesNewFirsts T.item_type a.layout x y a.seen b.seen (items_of os) };
+// Writes the records of the distinct items of each part, and drops the texts.
+impl<T: StreamItem + Drop> PartSink<T> for Distinct {
+    ghost wrote = { λ name a x b y os. (b.layout ≡ a.layout) × WritesNewDistinct T.item_type a.layout x y a.seen b.seen (items_of os) };
 
     fn write_part<W: Write>(
         &mut self,
         alloc: Global,
-        _place: Place<'_>,
+        _part: Part<'_>,
         _refusal: Option<&ParseError>,
         out: &mut Watched<W>,
     ) -> Result<(), Stop> {
@@ -99,7 +96,7 @@ impl<T: StreamItem + Drop> PartSink<T> for Firsts {
 ///
 /// `seen` is passed from stream to stream of one type and one layout: it has the texts of the items so far, in memory. After an error
 /// nothing is known of it, and it is not to be used again.
-pub fn write_firsts<T: StreamItem + Drop, R: BufRead, W: Write, E: Write>(
+pub fn write_distinct<T: StreamItem + Drop, R: BufRead, W: Write, E: Write>(
     layout: Layout,
     options: ReadOptions<'_>,
     seen: &mut Seen,
@@ -107,17 +104,15 @@ pub fn write_firsts<T: StreamItem + Drop, R: BufRead, W: Write, E: Write>(
     out: &mut Watched<W>,
     err: &mut Watched<E>,
 ) -> Result<bool, Stop>
-    ensures written { IfOk result (λ refused. (earlier : List Item) → HasSeen T.item_type layout.rename earlier seen.old
-        → WritesParts T.item_type options.entry.name.now options.entry.recover (R.remaining reader.old) (R.remaining reader.new)
-        (OfItems (WritesSeenFirsts T.item_type layout earlier (stream W.contents out.old out.new) seen.new)) (stream E.contents err.old err.new) refused) }
-    ensures stopped { IfErr result (λ stop. (earlier : List Item) → HasSeen T.item_type layout.rename earlier seen.old
-        → StopsAfter T.item_type options.entry.name.now options.entry.recover (R.remaining reader.old)
-        (OfItems (WritesFirstRecords layout earlier (stream W.contents out.old out.new))) (has_failed out.new) (stream E.contents err.old err.new) stop) }
+    ensures returned { (earlier : List Item) → HasSeen T.item_type layout.rename earlier seen.old
+        → IsPartsResult (input_stream T.item_type options.entry (R.remaining reader.old)) (R.remaining reader.new)
+        (OfItems (WritesSeenDistinct T.item_type layout earlier (stream W.contents out.old out.new) seen.new))
+        (OfItems (WritesDistinct layout earlier (stream W.contents out.old out.new))) (has_failed out.new) (stream E.contents err.old err.new) result }
     ensures input { IfErr result (λ stop. IfInput stop (λ e. kind_of e ≡ ParseErrorKind.Io)) }
     ensures stays { has_failed err.old ≡ true → has_failed err.new ≡ true }
 {
     let alloc = seen.alloc;
-    let mut firsts = Firsts {
+    let mut distinct = Distinct {
         alloc,
         layout,
         text: String::new(alloc),
@@ -125,7 +120,14 @@ pub fn write_firsts<T: StreamItem + Drop, R: BufRead, W: Write, E: Write>(
         seen: mem::replace(seen, Seen::new(alloc)),
     };
     let source = Source::new(alloc, options);
-    let result = write_parts::<T, Firsts, R, W, E>(alloc, source, &mut firsts, reader, out, err);
-    *seen = firsts.seen;
+    let result = write_parts::<T, Distinct, R, W, E>(
+        alloc,
+        source,
+        &mut distinct,
+        reader,
+        out,
+        err,
+    );
+    *seen = distinct.seen;
     result
 }

@@ -8,4 +8,4 @@ use Rattle.souper_find.proofs.answers.part_lines.Given as goal
 
 abbrev pub invariant-loop-start : goal.invariant-loop-start
 invariant-loop-start l = goal.iterator-loop-start.can_next l.start-iterator × goal.iterator-loop-start.is_finite l.start-iterator
-    × (string_bytes l.out ≡ so_far (group_lines l.place.name.now) view_texts l.place.starts.now l.groups (length l.yielded))
+    × (string_bytes l.out ≡ so_far (group_lines l.part.name.now) view_texts l.part.starts.now l.groups (length l.yielded))

@@ -7,8 +7,8 @@ use Rattle.souper_find.proofs.keyed.part_lines.Goals as goal
 
 pub loop-start-preserved : goal.loop-start-preserved
 loop-start-preserved c =
-    let name = c.args.place.name.now in
-    let starts = c.args.place.starts.now in
+    let name = c.args.part.name.now in
+    let starts = c.args.part.starts.now in
     let items = c.args.items.now in
     let first : c.into_iter-start-iterator.result.a.rest.now ≡ starts = search rules in
     let second : c.into_iter-start-iterator.result.b.rest.now ≡ items = search rules in
@@ -20,9 +20,9 @@ loop-start-preserved c =
 
 pub returns : goal.returns
 returns c =
-    let starts = c.args.place.starts.now in
+    let starts = c.args.part.starts.now in
     let items = c.args.items.now in
     let first : c.into_iter-start-iterator.result.a.rest.now ≡ starts = search rules in
     let second : c.into_iter-start-iterator.result.b.rest.now ≡ items = search rules in
-    c.loop-start.invariant.2 ∙ all_so_far (keyed_line c.args.place.name.now) view_keyed starts items (length c.loop-start.yielded)
+    c.loop-start.invariant.2 ∙ all_so_far (keyed_line c.args.part.name.now) view_keyed starts items (length c.loop-start.yielded)
     (zip_end starts items c.loop-start.yielded c.into_iter-start-iterator.result c.loop-start.start-iterator c.next.new.self c.next.result first second c.loop-start.yielded_by c.in-None.is c.next.ensures.steps)

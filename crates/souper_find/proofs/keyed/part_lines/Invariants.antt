@@ -7,4 +7,4 @@ use Rattle.souper_find.proofs.keyed.part_lines.Given as goal
 
 abbrev pub invariant-loop-start : goal.invariant-loop-start
 invariant-loop-start l = goal.iterator-loop-start.can_next l.start-iterator × goal.iterator-loop-start.is_finite l.start-iterator
-    × (string_bytes l.out ≡ so_far (keyed_line l.place.name.now) view_keyed l.place.starts.now l.items (length l.yielded))
+    × (string_bytes l.out ≡ so_far (keyed_line l.part.name.now) view_keyed l.part.starts.now l.items (length l.yielded))

@@ -1,12 +1,7 @@
 use Rattle.std.proofs.KnownBytes.{Appends-kept}
-use Rattle.std.proofs.lemmas.Result.{IfOk-weaker, IfErr-weaker}
-use Rattle.souper_graph.specs.Syntax.Spelling.{left_hand_side}
 use Rattle.souper_records.proofs.Outcomes.{run_ends}
 use Rattle.souper_find.proofs.run.find_run.Goals as goal
 
 pub returns : goal.returns
 returns g c = λ entries h. run_ends g.W.Write.contents g.E.Write.contents c.args.out.now c.write_answers-parts.new.out c.end_parts.new.out c.end_parts.ensures.out_stays c.args.err.now c.write_answers-parts.new.err c.end_parts.new.err c.end_parts.ensures.stays
-    left_hand_side c.args.options.name.now c.args.options.recover (g.R.Read.remaining c.args.reader.now) (g.R.Read.remaining c.write_answers-parts.new.reader) _ _ _ _
-    (λ kept os w. ((w.0.0, w.0.1, Appends-kept _ _ _ _ w.0.2 kept), w.1)) (λ kept os w. ((w.0.0, w.0.1, Appends-kept _ _ _ _ w.0.2 kept), w.1)) c.write_answers-parts.result c.end_parts.result
-    (IfOk-weaker c.write_answers-parts.result _ _ (λ refused f. f entries h) c.write_answers-parts.ensures.written) (IfErr-weaker c.write_answers-parts.result _ _ (λ stop f. f entries h) c.write_answers-parts.ensures.stopped) c.write_answers-parts.ensures.input
-    c.end_parts.ensures.end
+    _ _ _ _ _ _ (λ kept os w. ((w.0.0, w.0.1, Appends-kept _ _ _ _ w.0.2 kept), w.1)) (λ kept os w. ((w.0.0, w.0.1, Appends-kept _ _ _ _ w.0.2 kept), w.1)) c.write_answers-parts.result c.end_parts.result (c.write_answers-parts.ensures.returned entries h) c.end_parts.ensures.end

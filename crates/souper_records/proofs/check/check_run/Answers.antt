@@ -1,34 +1,33 @@
 use Rattle.std.proofs.Common.{inr, refl}
-use Rattle.souper_format.specs.Streams.{stream}
-use Rattle.souper_graph.specs.Text.{texts_of}
+use Rattle.souper_records.proofs.Prelude.{stream, texts_of}
 use Rattle.souper_records.proofs.Outcomes.{parts_mapped, none_reported}
 use Rattle.souper_records.proofs.Checking.{checked_parts, check_other, check_memory, check_stopped}
 use Rattle.souper_records.proofs.check.check_run.Goals as goal
 
 pub returns-in-Ok-true : goal.returns-in-Ok-true
 returns-in-Ok-true g c =
-    let p = rw (c.new-source.ensures.options, c.in-Ok-true.field-0-test) at c.in-Ok-true.ensures.written in
+    let p = rw (c.new-source.ensures.options, c.in-Ok-true.field-0-test) at c.in-Ok-true.ensures.returned in
     inr (parts_mapped (λ os w. tt) (λ es r. r) p)
 
 pub returns-in-None : goal.returns-in-None
 returns-in-None g c =
-    let (h, quiet) = checked_parts _ _ _ _ c.write_parts.new.sink.comparison _ (rw (c.new-source.ensures.options, c.new.ensures.layout, c.in-Ok-false.field-0-test) at c.in-Ok-false.ensures.written) in
+    let (h, quiet) = checked_parts _ _ _ _ c.write_parts.new.sink.comparison _ (rw (c.new-source.ensures.options, c.new.ensures.layout, c.in-Ok-false.field-0-test) at c.in-Ok-false.ensures.returned) in
     (h.read, h.whole, (h.items, h.spelled, c.in-None.ensures.same h.read (texts_of h.items) h.compared), quiet)
 
 pub returns-in-Ok-false : goal.returns-in-Ok-false
 returns-in-Ok-false g c =
-    let (h, quiet) = checked_parts _ _ _ _ c.write_parts.new.sink.comparison _ (rw (c.new-source.ensures.options, c.new.ensures.layout, c.in-Ok-false.field-0-test) at c.in-Ok-false.ensures.written) in
+    let (h, quiet) = checked_parts _ _ _ _ c.write_parts.new.sink.comparison _ (rw (c.new-source.ensures.options, c.new.ensures.layout, c.in-Ok-false.field-0-test) at c.in-Ok-false.ensures.returned) in
     check_other g.E.Write.contents c.args.err.now c.write_parts.new.err c.report_other_line.new.err quiet g.T.Item.item_type c.args.name.now (g.R.Read.remaining c.args.reader.now) (g.R.Read.remaining c.write_parts.new.reader) _ c.in-Some.line c.report_other_line.result h
     (c.in-Some.ensures.differs h.read (texts_of h.items) h.compared) c.report_other_line.ensures
 
 pub returns-in-Err-Input : goal.returns-in-Err-Input
 returns-in-Err-Input g c =
-    let e = rw (c.new-source.ensures.options, c.in-Err-Input.field-0-is) at c.in-Err-Input.ensures in
-    let quiet = none_reported g.T.Item.item_type c.args.name.now (g.R.Read.remaining c.args.reader.now) (stream g.E.Write.contents c.args.err.now c.write_parts.new.err) e.stopped.0 e.stopped.1.1.are (e.stopped.2 refl) e.stopped.3 in
-    check_stopped g.E.Write.contents c.args.err.now c.write_parts.new.err c.report_error.new.err quiet g.T.Item.item_type c.args.name.now (g.R.Read.remaining c.args.reader.now) (g.R.Read.remaining c.write_parts.new.reader) c.in-Err-Input.error c.report_error.result e.input c.report_error.ensures.reported
+    let e = rw (c.new-source.ensures.options, c.in-Err-Input.field-0-is) at c.in-Err-Input.ensures.returned in
+    let quiet = none_reported _ (stream g.E.Write.contents c.args.err.now c.write_parts.new.err) e.0.0 e.0.1.1.are (e.0.2 refl) e.0.3 in
+    check_stopped g.E.Write.contents c.args.err.now c.write_parts.new.err c.report_error.new.err quiet g.T.Item.item_type c.args.name.now (g.R.Read.remaining c.args.reader.now) (g.R.Read.remaining c.write_parts.new.reader) c.in-Err-Input.error c.report_error.result e.1 c.report_error.ensures.reported
 
 pub returns : goal.returns
 returns g c =
-    let e = rw (c.new-source.ensures.options) at c.in-Err.ensures in
-    let quiet = none_reported g.T.Item.item_type c.args.name.now (g.R.Read.remaining c.args.reader.now) (stream g.E.Write.contents c.args.err.now c.write_parts.new.err) e.stopped.0 e.stopped.1.1.are (e.stopped.2 refl) e.stopped.3 in
+    let e = rw (c.new-source.ensures.options) at c.in-Err.ensures.returned in
+    let quiet = none_reported _ (stream g.E.Write.contents c.args.err.now c.write_parts.new.err) e.0.0 e.0.1.1.are (e.0.2 refl) e.0.3 in
     check_memory g.E.Write.contents c.args.err.now c.write_parts.new.err c.report_memory.new.err quiet g.T.Item.item_type c.args.name.now (g.R.Read.remaining c.args.reader.now) (g.R.Read.remaining c.write_parts.new.reader) c.report_memory.ensures.reported

@@ -1,8 +1,7 @@
 use Rattle.std.proofs.Common.{[], string_bytes}
 use Rattle.std.proofs.KnownBytes.{Appends-nil}
+use Rattle.souper_records.proofs.Prelude.{stream, watched_inner}
 use Rattle.std.proofs.lemmas.Result.{err_from_is_err_and, on_ok_weaker}
-use Rattle.souper_format.specs.Streams.{stream}
-use Rattle.souper_format.specs.Watching.{watched_inner}
 use Rattle.souper_records.proofs.Seeing.{taken_more, taken_written, taken_all, taken_begun}
 use Rattle.souper_records.proofs.counts.write_counts.Goals as goal
 

@@ -7,5 +7,5 @@ use Rattle.souper_records.proofs.objects.part_lines.Given as goal
 
 abbrev pub invariant-loop-start : goal.invariant-loop-start
 invariant-loop-start l = goal.iterator-loop-start.can_next l.start-iterator × goal.iterator-loop-start.is_finite l.start-iterator
-    × (string_bytes l.out ++ text_lines l.place.name.now (iter_rest (zip_first l.start-iterator)) (map string_bytes (iter_rest (zip_second l.start-iterator)))
-    ≡ text_lines l.place.name.now l.place.starts.now (map string_bytes l.texts))
+    × (string_bytes l.out ++ text_lines l.part.name.now (iter_rest (zip_first l.start-iterator)) (map string_bytes (iter_rest (zip_second l.start-iterator)))
+    ≡ text_lines l.part.name.now l.part.starts.now (map string_bytes l.texts))

@@ -1,7 +1,6 @@
 use Rattle.std.proofs.Common.{rules, ◌≡◌, [], None, Some, refl, sym, ◌∙◌, subst, append-nil, string_bytes}
 use Rattle.std.proofs.KnownBytes.{Keeps-refl}
-use Rattle.souper_ir.specs.declared.parse.error.ParseErrorKind.TheVariants.{Parse}
-use Rattle.souper_ir.specs.Errors.{kind_of}
+use Rattle.souper_records.proofs.Prelude.{Parse, kind_of}
 use Rattle.souper_stream.specs.Parts.{starts_of_part}
 use Rattle.souper_stream.proofs.Reached.{refusal_begun}
 use Rattle.souper_records.specs.Outcomes.{Outcome}

@@ -1,7 +1,6 @@
-use Rattle.std.proofs.Common.{◌≡◌, ◌||◌, false, List, [], refl, sym, ap, ◌∙◌}
+use Rattle.std.proofs.Common.{◌≡◌, ◌||◌, false, List, [], refl, sym, ap, ◌∙◌, rules}
 use Rattle.std.proofs.KnownBytes.{Keeps-refl}
-use Rattle.souper_stream.specs.Parts.{keeps_starts}
-use Rattle.souper_format.specs.Watching.{watched_inner, has_failed}
+use Rattle.souper_records.proofs.Prelude.{keeps_starts, watched_inner, has_failed}
 use Rattle.souper_records.specs.declared.stop.Stop.TheVariants.{Input}
 use Rattle.souper_records.specs.Outcomes.{Outcome, WroteParts}
 use Rattle.souper_records.specs.declared.options.ReadOptions.{ReadOptions}
@@ -19,27 +18,26 @@ loop-turn-init g c = record {
   stays = λ e. e;
 }
 
-pub returns-then-not-source-clause-written : goal.returns-then-not-source-clause-written
-returns-then-not-source-clause-written g c =
+pub returns-then-not-source-clause-returned : goal.returns-then-not-source-clause-returned
+returns-then-not-source-clause-returned g c =
     let i = c.loop-turn.invariant in
     let e = rw (i.options, c.if-refused.true) at (rw c.in-Ok-Some.field-0-is at c.in-Ok-Some.ensures) in
     let stops : c.args.source.options.recover ≡ false = sym (ap (λ (o : ReadOptions). o.recover) e.options) ∙ c.if-not-source.true in
     reached_refusal g.E.Write.contents c.args.err.now c.loop-turn.err c.write_next.new.err e.stays (e.same ∙ i.same) (λ os o h more. more c.args.sink.now (g.W.Write.contents (watched_inner c.args.out.now)) os h) i.reached (e.part (g.R.Read.remaining c.args.reader.now) _ i.reached.had)
-    refl c.args.source.options.recover stops (i.quiet stops)
+    refl stops (i.quiet stops)
 
-pub returns-in-Ok-None-clause-written : goal.returns-in-Ok-None-clause-written
-returns-in-Ok-None-clause-written g c =
+pub returns-in-Ok-None-clause-returned : goal.returns-in-Ok-None-clause-returned
+returns-in-Ok-None-clause-returned g c =
     let i = c.loop-turn.invariant in
     let e = rw c.in-Ok-None.field-0-is at c.in-Ok-None.ensures in
-    rw (e.quiet.0, e.quiet.1, e.quiet.2) (reached_end i.reached c.args.source.options.recover i.quiet (e.ended (g.R.Read.remaining c.args.reader.now) _ i.reached.had))
+    rw (e.quiet.0, e.quiet.1, e.quiet.2) (reached_end i.reached i.quiet (e.ended (g.R.Read.remaining c.args.reader.now) _ i.reached.had))
 
-pub returns-in-Err-clause-stopped : goal.returns-in-Err-clause-stopped
-returns-in-Err-clause-stopped g c =
+pub returns-in-Err-clause-returned : goal.returns-in-Err-clause-returned
+returns-in-Err-clause-returned g c =
     let i = c.loop-turn.invariant in
     let e = c.in-Err.ensures in
     let known : List Outcome → Type 0 = λ os. (s : _) × WroteParts g.T.Item.item_type (keeps_starts c.args.source.parts) (g.S.PartSink.wrote c.args.source.options.name.now c.args.sink.now (g.W.Write.contents (watched_inner c.args.out.now)) s (g.W.Write.contents (watched_inner c.write_next.new.out))) os in
-    rw e.stopped (stopped_after i.reached c.args.source.options.recover i.quiet known _ c.in-Err.stop
-    (known_mapped c.in-Err.stop _ _ _ (λ same. (c.loop-turn.sink, (rw same i.reached.written, i.reached.started))) e.unwritten))
+    rw e.stopped (stopped_after i.reached i.quiet known _ c.in-Err.stop (known_mapped c.in-Err.stop _ _ _ (λ same. (c.loop-turn.sink, (rw same i.reached.written, i.reached.started))) e.unwritten), e.input)
 
 pub loop-turn-preserved : goal.loop-turn-preserved
 loop-turn-preserved g c =
@@ -59,8 +57,8 @@ loop-turn-preserved g c =
       stays = λ f. e.stays (i.stays f);
     }
 
-pub returns-clause-stopped : goal.returns-clause-stopped
-returns-clause-stopped g c =
+pub returns-clause-returned : goal.returns-clause-returned
+returns-clause-returned g c =
     let i = c.loop-turn.invariant in
     let known : List Outcome → Type 0 = λ os. (s : _) × WroteParts g.T.Item.item_type (keeps_starts c.args.source.parts) (g.S.PartSink.wrote c.args.source.options.name.now c.args.sink.now (g.W.Write.contents (watched_inner c.args.out.now)) s (g.W.Write.contents (watched_inner c.loop-turn.out))) os in
-    stopped_after i.reached c.args.source.options.recover i.quiet known (has_failed c.loop-turn.out) (Input c.from.result) (c.loop-turn.sink, (i.reached.written, i.reached.started))
+    (stopped_after i.reached i.quiet known (has_failed c.loop-turn.out) (Input c.from.result) (c.loop-turn.sink, (i.reached.written, i.reached.started)), search rules)

@@ -4,5 +4,4 @@ use Rattle.souper_records.proofs.run.each_run_with.Goals as goal
 
 pub returns : goal.returns
 returns g c = run_ends g.W.Write.contents g.E.Write.contents c.args.out.now c.write_records-parts.new.out c.end_parts.new.out c.end_parts.ensures.out_stays c.args.err.now c.write_records-parts.new.err c.end_parts.new.err c.end_parts.ensures.stays
-    g.T.Item.item_type c.args.options.name.now c.args.options.recover (g.R.Read.remaining c.args.reader.now) (g.R.Read.remaining c.write_records-parts.new.reader) _ _ _ _ (λ kept os w. Appends-kept _ _ _ _ w kept) (λ kept os w. Appends-kept _ _ _ _ w kept) c.write_records-parts.result c.end_parts.result
-    c.write_records-parts.ensures.written c.write_records-parts.ensures.stopped c.write_records-parts.ensures.input c.end_parts.ensures.end
+    _ _ _ _ _ _ (λ kept os w. Appends-kept _ _ _ _ w kept) (λ kept os w. Appends-kept _ _ _ _ w kept) c.write_records-parts.result c.end_parts.result c.write_records-parts.ensures.returned c.end_parts.ensures.end

@@ -1,7 +1,7 @@
 use Rattle.std.proofs.Common.{◌≡◌, map, length, refl, ap, ◌∙◌, arith}
 use Rattle.std.proofs.lemmas.List.{nil_from_length}
 use Rattle.souper_records.specs.Uniques.{text_count}
-use Rattle.souper_records.proofs.Firsts.{inserted}
+use Rattle.souper_records.proofs.Distinct.{inserted}
 use Rattle.souper_records.proofs.uniq.see_texts.Goals as goal
 
 pub loop-text-init : goal.loop-text-init

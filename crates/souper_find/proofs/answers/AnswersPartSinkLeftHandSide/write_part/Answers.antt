@@ -8,7 +8,7 @@ use Rattle.souper_find.proofs.answers.AnswersPartSinkLeftHandSide.write_part.Goa
 
 pub returns-clause-written : goal.returns-clause-written
 returns-clause-written g c = λ first start os before o wrote idle taken starts text refusal.
-    let name = c.args.place.name.now in
+    let name = c.args.part.name.now in
     let s = first.search in
     let groups = map view_texts c.args.self.now.groups.items in
     let held = rw wrote.0 at taken in

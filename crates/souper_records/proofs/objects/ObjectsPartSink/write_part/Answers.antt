@@ -7,7 +7,7 @@ use Rattle.souper_records.proofs.objects.ObjectsPartSink.write_part.Goals as goa
 
 pub returns-clause-written : goal.returns-clause-written
 returns-clause-written g c = λ first start os before o wrote idle taken starts text refusal.
-    let name = c.args.place.name.now in
+    let name = c.args.part.name.now in
     let texts : map string_bytes c.as_slice.result.now ≡ map (text_by before.rename) o.items = ap (map string_bytes) c.as_slice.ensures.value ∙ taken.1 in
     let lines : string_bytes c.in_ok-lines.lines ≡ part_lines before.rename name o =
     c.in_ok-lines.ensures ∙ (λ i. text_lines name (sym starts i) (texts i) ++ refusal_line name (sym refusal i)) in

@@ -1,8 +1,8 @@
 use Rattle.std.proofs.Common.{◌≡◌, true, false, length, sym, ap, ◌∙◌, arith}
 use Rattle.std.proofs.lemmas.Bool.{eqb-false}
-use Rattle.souper_records.proofs.Comparing.{compared_apart}
-use Rattle.souper_records.proofs.comparison.Comparison.differing_line.Goals as goal
-use Rattle.souper_records.proofs.comparison.Comparison.differing_line.Goals.{else-not-self-via-then-not-self+then-is_empty+else-is_empty-2, else-not-self-via-then-not-self+else-is_empty, else-not-self-via-else-not-self}
+use Rattle.souper_diff.proofs.Comparing.{compared_apart}
+use Rattle.souper_diff.proofs.comparison.Comparison.differing_line.Goals as goal
+use Rattle.souper_diff.proofs.comparison.Comparison.differing_line.Goals.{else-not-self-via-then-not-self+then-is_empty+else-is_empty-2, else-not-self-via-then-not-self+else-is_empty, else-not-self-via-else-not-self}
 
 pub returns-clause-differs : goal.returns-clause-differs
 returns-clause-differs c = λ text other h. compared_apart c.args.self.now text other h (λ good none.

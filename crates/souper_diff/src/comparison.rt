@@ -1,15 +1,14 @@
-//! Two texts, compared part by part.
+//! Where two texts differ first, whole or part by part.
 ghost use Rattle.std.specs.Prelude.{◌≡◌, ◌++◌, [], ℕ, List, take, OnOk, IfSome, IfNone};
-ghost use Rattle.souper_ir.specs.Places.{newlines};
-ghost use Rattle.souper_records.specs.Comparisons.{AgreeUpTo, DifferFrom, IsCompared};
+ghost use Rattle.souper_diff.specs.Comparisons.{line_ends, AgreeUpTo, DifferOnLine, DifferFrom, IsCompared};
 
 use std::alloc::{AllocError, Global};
 
-/// How many bytes the texts begin with that are the same, how many newlines are among these, and whether the next bytes differ. Else one
-/// of the texts ends there.
-pub(crate) fn common_front(text: &[u8], other: &[u8]) -> (usize, usize, bool)
+// How many bytes the texts begin with that are the same, how many newlines are among these, and whether the next bytes differ. Else one
+// of the texts ends there.
+fn common_front(text: &[u8], other: &[u8]) -> (usize, usize, bool)
     ensures same { AgreeUpTo text.now other.now result.0 result.2 }
-    ensures newlines { result.1 ≡ newlines (take result.0 text.now) }
+    ensures newlines { result.1 ≡ line_ends (take result.0 text.now) }
 {
     let mut newlines = 0;
     for (index, byte) in text.iter().enumerate() {
@@ -26,9 +25,21 @@ pub(crate) fn common_front(text: &[u8], other: &[u8]) -> (usize, usize, bool)
     (text.len(), newlines, false)
 }
 
+/// The line, counted from 1, on which the texts first differ, or none if they are the same.
+pub fn differing_line(text: &[u8], other: &[u8]) -> Option<usize>
+    ensures same { IfNone result (text.now ≡ other.now) }
+    ensures differs { IfSome result (DifferOnLine text.now other.now) }
+{
+    if text == other {
+        return None;
+    }
+    let (_, newlines, _) = common_front(text, other);
+    Some(newlines + 1)
+}
+
 /// Two texts that come part by part, compared as far as both came.
 #[derive(Drop)]
-pub(crate) struct Comparison {
+pub struct Comparison {
     alloc: Global,
 
     // The line, counted from 1, after the bytes that both texts begin with.
@@ -44,7 +55,7 @@ pub(crate) struct Comparison {
 
 impl Comparison {
     /// Two texts without bytes.
-    pub(crate) fn new(alloc: Global) -> Comparison
+    pub fn new(alloc: Global) -> Comparison
         ensures { IsCompared result [] [] }
     {
         Comparison {
@@ -56,8 +67,8 @@ impl Comparison {
         }
     }
 
-    /// More of both texts comes.
-    pub(crate) fn append(&mut self, text: &[u8], other: &[u8]) -> Result<(), AllocError>
+    /// More of both texts comes. The error is out of memory; then nothing is known of the comparison.
+    pub fn append(&mut self, text: &[u8], other: &[u8]) -> Result<(), AllocError>
         ensures { OnOk result ((before others : List ℕ) → IsCompared self.old before others → IsCompared self.new (before ++ text.now) (others ++ other.now)) }
     {
         if self.differs {
@@ -74,7 +85,7 @@ impl Comparison {
     }
 
     /// The line, counted from 1, on which the texts first differ, or none if they are the same.
-    pub(crate) fn differing_line(&self) -> Option<usize>
+    pub fn differing_line(&self) -> Option<usize>
         ensures same { (text other : List ℕ) → IsCompared self.now text other → IfNone result (text ≡ other) }
         ensures differs { (text other : List ℕ) → IsCompared self.now text other → IfSome result (DifferFrom text other) }
     {

@@ -2,9 +2,8 @@
 use Rattle.std.proofs.Common.{◌≡◌, ◌⊎◌, inl, inr, ℕ, ◌+◌, ◌-◌, ◌^◌, ◌<◌, Bool, true, false, cond, List, [], ◌∷◌, ◌++◌, length, take, drop, refl, sym, ap, ◌∙◌, arith, append_assoc, take-append-drop, length-append, ◌==◌, min, MatchBool}
 use Rattle.std.proofs.lemmas.List.{append_cancel_left}
 use Rattle.std.proofs.lemmas.List.Sums.{sum_by-append, count_by-le-length}
-use Rattle.souper_ir.specs.Places.{newlines}
-use Rattle.souper_records.specs.declared.comparison.Comparison.{Comparison}
-use Rattle.souper_records.specs.Comparisons.{FirstDiffer, OneIsEmpty, DifferFrom, AgreeUpTo, IsCompared}
+use Rattle.souper_diff.specs.declared.comparison.Comparison.{Comparison}
+use Rattle.souper_diff.specs.Comparisons.{line_ends, FirstDiffer, OneIsEmpty, DifferFrom, AgreeUpTo, IsCompared}
 
 pub apart : {P Q : Type 0} (b : Bool) → MatchBool b P Q → P ⊎ Q
 apart true h = inl h
@@ -20,8 +19,8 @@ first_not [] b h e = absurd h
 first_not (a ∷ xs) [] h e = absurd h
 first_not (a ∷ xs) (b ∷ ys) h e = h cc
 
-newlines-append : (xs ys : List ℕ) → newlines (xs ++ ys) ≡ newlines xs + newlines ys
-newlines-append xs ys = sum_by-append (λ b. cond (b == 10) 1 0) xs ys
+line_ends-append : (xs ys : List ℕ) → line_ends (xs ++ ys) ≡ line_ends xs + line_ends ys
+line_ends-append xs ys = sum_by-append (λ b. cond (b == 10) 1 0) xs ys
 
 -- more comes of texts that differ
 pub compared_differs : (c : Comparison) (before others text other : List ℕ) → c.differs ≡ true → IsCompared c before others → IsCompared c (before ++ text) (others ++ other)
@@ -37,14 +36,14 @@ compared_differs c before others text other bad h = record {
 
 -- more comes of texts that agreed so far: what is held of them agrees up to `len`
 pub compared_more : (old new : Comparison) (before others text other held held_other : List ℕ) (len lines : ℕ) → IsCompared old before others → old.differs ≡ false → held ≡ old.text.items ++ text → held_other ≡ old.other.items ++ other
-    → AgreeUpTo held held_other len new.differs → lines ≡ newlines (take len held) → new.line ≡ min (old.line + lines) (2 ^ 64 - 1) → new.text.items ≡ drop len held → new.other.items ≡ drop len held_other → IsCompared new (before ++ text) (others ++ other)
+    → AgreeUpTo held held_other len new.differs → lines ≡ line_ends (take len held) → new.line ≡ min (old.line + lines) (2 ^ 64 - 1) → new.text.items ≡ drop len held → new.other.items ≡ drop len held_other → IsCompared new (before ++ text) (others ++ other)
 compared_more old new before others text other held held_other len lines h good held_is other_is agree lines_are line text_left other_left =
     let k = rw good at h.kept in
     let front = take len held in
     let whole : (base rest more all : List ℕ) → base ≡ h.same ++ rest → all ≡ rest ++ more → take len all ≡ front → base ++ more ≡ (h.same ++ front) ++ drop len all =
     λ base rest more all base_is all_is front_is. ap (λ (x : List ℕ). x ++ more) base_is ∙ append_assoc h.same rest more ∙ ap (λ (x : List ℕ). h.same ++ x) (sym all_is ∙ sym (take-append-drop len all) ∙ ap (λ (x : List ℕ). x ++ drop len all) front_is) ∙ sym (append_assoc h.same front (drop len all)) in
     let before_line = h.line_is in
-    let counts = newlines-append h.same front in
+    let counts = line_ends-append h.same front in
     record {
       same = h.same ++ front;
       rest = drop len held;
@@ -78,5 +77,5 @@ compared_apart c text other h some = (unlike, λ small. (unlike, h.same, h.rest,
     unlike : ¬ (text ≡ other)
     unlike e = begun.1 (append_cancel_left h.same h.rest h.more (sym h.text_is ∙ e ∙ h.other_is))
 
-    exact : length text + 1 < 2 ^ 64 → c.line ≡ newlines h.same + 1
+    exact : length text + 1 < 2 ^ 64 → c.line ≡ line_ends h.same + 1
     exact small = let few = count_by-le-length (λ b. b == 10) h.same in let line = h.line_is in omega (arith, ap length h.text_is, length-append h.same h.rest)

@@ -1,8 +1,8 @@
 use Rattle.std.proofs.Common.{◌+◌, ℕ, List, ◌++◌, take, drop, sym, ap, ◌∙◌, take-append-drop, bytes_eq}
 use Rattle.std.proofs.lemmas.Bool.{both_ways}
 use Rattle.std.proofs.lemmas.Slice.Eq.{bytes_eq-Decides}
-use Rattle.souper_records.proofs.Comparing.{apart}
-use Rattle.souper_records.proofs.check.differing_line.Goals as goal
+use Rattle.souper_diff.proofs.Comparing.{apart}
+use Rattle.souper_diff.proofs.comparison.differing_line.Goals as goal
 
 pub returns-clause-differs : goal.returns-clause-differs
 returns-clause-differs c =

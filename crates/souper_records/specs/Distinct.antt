@@ -1,4 +1,4 @@
--- Definitions. The first of each among elements with a key.
+-- Definitions. Distinct elements: the first of each key.
 use Rattle.std.specs.Prelude.{◌⊎◌, Bool, ℕ, List, [], ◌∷◌, ◌++◌, if◌then◌else◌, bytes_eq}
 use Rattle.std.specs.List.{list_any, AllByRecursion}
 
@@ -7,9 +7,9 @@ abbrev pub has_key : {A : Type 0} → (A → List ℕ) → List ℕ → List A �
 has_key key k xs = list_any (λ b. bytes_eq k (key b)) xs
 
 -- the elements whose key no earlier one has, neither one of `before` nor one of these
-abbrev pub firsts_by : {A : Type 0} → (A → List ℕ) → List A → List A → List A
-firsts_by key before [] = []
-firsts_by key before (a ∷ rest) = (if has_key key (key a) before then [] else a ∷ []) ++ firsts_by key (before ++ a ∷ []) rest
+abbrev pub distinct_by : {A : Type 0} → (A → List ℕ) → List A → List A → List A
+distinct_by key before [] = []
+distinct_by key before (a ∷ rest) = (if has_key key (key a) before then [] else a ∷ []) ++ distinct_by key (before ++ a ∷ []) rest
 
 -- R holds of no element and a later one
 abbrev pub NoTwo : {A : Type 0} → (A → A → Type 0) → List A → Type 0

@@ -1,7 +1,10 @@
 -- Definitions. Where two texts differ first, and how far texts that come part by part are compared.
-use Rattle.std.specs.Prelude.{◌≡◌, ◌⊎◌, ℕ, ◌+◌, ◌-◌, ◌^◌, ◌<◌, ◌≤◌, min, Bool, MatchBool, List, [], ◌∷◌, ◌++◌, length, take, drop}
-use Rattle.souper_ir.specs.Places.{newlines}
-use Rattle.souper_records.specs.declared.comparison.Comparison.{Comparison}
+use Rattle.std.specs.Prelude.{◌≡◌, ◌⊎◌, ℕ, ◌+◌, ◌-◌, ◌^◌, ◌<◌, ◌≤◌, min, ◌==◌, Bool, MatchBool, List, [], ◌∷◌, ◌++◌, length, take, drop, count_by}
+use Rattle.souper_diff.specs.declared.comparison.Comparison.{Comparison}
+
+-- how many lines end in the text
+abbrev pub line_ends : List ℕ → ℕ
+line_ends text = count_by (λ b. b == 10) text
 
 -- both texts have bytes, and the first ones differ
 abbrev pub FirstDiffer : List ℕ → List ℕ → Type 0
@@ -16,7 +19,7 @@ OneIsEmpty text other = (text ≡ []) ⊎ (other ≡ [])
 -- the texts differ: they are the same up to a byte of this line, counted from 1, where the next bytes differ, or one of the texts ends
 abbrev pub DifferOnLine : List ℕ → List ℕ → ℕ → Type 0
 DifferOnLine text other line = ¬ (text ≡ other) × (same : List ℕ) × (rest : List ℕ) × (more : List ℕ)
-    × (text ≡ same ++ rest) × (other ≡ same ++ more) × (FirstDiffer rest more ⊎ OneIsEmpty rest more) × (line ≡ newlines same + 1)
+    × (text ≡ same ++ rest) × (other ≡ same ++ more) × (FirstDiffer rest more ⊎ OneIsEmpty rest more) × (line ≡ line_ends same + 1)
 
 -- the texts differ, first on this line, if numbers of 64 bits can count the lines
 abbrev pub DifferFrom : List ℕ → List ℕ → ℕ → Type 0
@@ -37,5 +40,5 @@ pub record IsCompared (c : Comparison) (text other : List ℕ) : Type 0 where
   pub more : List ℕ
   pub text_is : text ≡ same ++ rest
   pub other_is : other ≡ same ++ more
-  pub line_is : c.line ≡ min (newlines same + 1) (2 ^ 64 - 1)
+  pub line_is : c.line ≡ min (line_ends same + 1) (2 ^ 64 - 1)
   pub kept : MatchBool c.differs (FirstDiffer rest more) ((c.text.items ≡ rest) × (c.other.items ≡ more) × OneIsEmpty rest more)

@@ -1,14 +1,13 @@
 use Rattle.std.proofs.Common.{◌≡◌, ◌-◌, min, map, length, take, drop, sym, ap, ◌∙◌, string_bytes}
 use Rattle.std.proofs.lemmas.List.{take_rest, drop_min}
 use Rattle.std.proofs.lemmas.Result.{on_ok_weaker}
-use Rattle.indexmap.specs.IndexMap.{keys, index_map_len}
-use Rattle.souper_format.specs.Watching.{watched_inner}
+use Rattle.souper_records.proofs.Prelude.{keys, index_map_len, watched_inner}
 use Rattle.souper_records.specs.Counts.{tally_all}
 use Rattle.souper_records.specs.Uniques.{text_count}
 use Rattle.souper_records.specs.Outcomes.{items_of}
 use Rattle.souper_records.proofs.Outcomes.{items_more}
 use Rattle.souper_records.proofs.Seeing.{keeps_one, keeps_join}
-use Rattle.souper_records.proofs.uniq.FirstsPartSink.write_part.Goals as goal
+use Rattle.souper_records.proofs.uniq.DistinctPartSink.write_part.Goals as goal
 
 pub returns-clause-written : goal.returns-clause-written
 returns-clause-written g c = on_ok_weaker c.write_text.result (λ w first from os before o wrote idle taken line text refusal.

@@ -7,11 +7,11 @@ use Rattle.std.proofs.lemmas.List.Folds.{list_any-append}
 use Rattle.souper_graph.specs.Uses.{Has}
 use Rattle.souper_graph.proofs.Lists.{Has-right}
 use Rattle.souper_graph.proofs.Judging.Closed.{All-both, All-has, All-from_has}
-use Rattle.souper_records.specs.Firsts.{has_key, firsts_by, NoTwo, HoldsOfOne}
+use Rattle.souper_records.specs.Distinct.{has_key, distinct_by, NoTwo, HoldsOfOne}
 use Rattle.std.specs.Map.{lookup}
 use Rattle.std.proofs.lemmas.List.Sums.{sum_by-append, sum_by-cons}
 use Rattle.indexmap.specs.IndexMap.{insert_entry}
-use Rattle.souper_records.specs.Counts.{one_more, count_of, counts_by, tally, tally_all}
+use Rattle.souper_records.specs.Counts.{one_more, count_with_key, counts_by, tally, tally_all}
 use Rattle.souper_records.specs.Uniques.{text_count}
 
 -- the count of one text more
@@ -30,19 +30,19 @@ module _ {A : Type 0} (key : A → List ℕ) where
   kept before a = if has_key key (key a) before then [] else a ∷ []
 
   -- the first elements of two lists, one after the other
-  pub firsts-append : (before xs ys : List A) → firsts_by key before (xs ++ ys) ≡ firsts_by key before xs ++ firsts_by key (before ++ xs) ys
-  firsts-append before [] ys = ap (λ (b : List A). firsts_by key b ys) (sym (append-nil before))
-  firsts-append before (x ∷ xs) ys =
-      ap (λ (l : List A). kept before x ++ l) (firsts-append (before ++ x ∷ []) xs ys ∙ ap (λ (b : List A). firsts_by key (before ++ x ∷ []) xs ++ firsts_by key b ys) (append_assoc before (x ∷ []) xs))
-      ∙ sym (append_assoc (kept before x) (firsts_by key (before ++ x ∷ []) xs) (firsts_by key (before ++ x ∷ xs) ys))
+  pub distinct-append : (before xs ys : List A) → distinct_by key before (xs ++ ys) ≡ distinct_by key before xs ++ distinct_by key (before ++ xs) ys
+  distinct-append before [] ys = ap (λ (b : List A). distinct_by key b ys) (sym (append-nil before))
+  distinct-append before (x ∷ xs) ys =
+      ap (λ (l : List A). kept before x ++ l) (distinct-append (before ++ x ∷ []) xs ys ∙ ap (λ (b : List A). distinct_by key (before ++ x ∷ []) xs ++ distinct_by key b ys) (append_assoc before (x ∷ []) xs))
+      ∙ sym (append_assoc (kept before x) (distinct_by key (before ++ x ∷ []) xs) (distinct_by key (before ++ x ∷ xs) ys))
 
-  -- a key is among the firsts, or before, if and only if it is among all
-  pub has-firsts : (k : List ℕ) (before xs : List A) → (has_key key k before || has_key key k (firsts_by key before xs)) ≡ (has_key key k before || has_key key k xs)
-  has-firsts k before [] = refl
-  has-firsts k before (x ∷ xs) =
-      let rest = firsts_by key (before ++ x ∷ []) xs in
+  -- a key is among the distinct elements, or before, if and only if it is among all
+  pub has-distinct : (k : List ℕ) (before xs : List A) → (has_key key k before || has_key key k (distinct_by key before xs)) ≡ (has_key key k before || has_key key k xs)
+  has-distinct k before [] = refl
+  has-distinct k before (x ∷ xs) =
+      let rest = distinct_by key (before ++ x ∷ []) xs in
       let more : ((has_key key k before || has_key key k (x ∷ [])) || has_key key k rest) ≡ ((has_key key k before || has_key key k (x ∷ [])) || has_key key k xs) =
-      subst (λ (b : Bool). (b || has_key key k rest) ≡ (b || has_key key k xs)) (has_append k before (x ∷ [])) (has-firsts k (before ++ x ∷ []) xs) in
+      subst (λ (b : Bool). (b || has_key key k rest) ≡ (b || has_key key k xs)) (has_append k before (x ∷ [])) (has-distinct k (before ++ x ∷ []) xs) in
       elim (cases_Bool (has_key key k before)) [
         | inl here ↦ rw here refl
         | inr none ↦ elim (cases_Bool (bytes_eq k (key x))) [
@@ -60,11 +60,11 @@ module _ {A : Type 0} (key : A → List ℕ) where
   has_in k (x ∷ xs) a (inr h) e = or_right (bytes_eq k (key x)) (has_key key k xs) (has_in k xs a h e)
 
   -- a first one is an element, and none before has its key
-  in_firsts : (before xs : List A) (y : A) → Has (firsts_by key before xs) y → Has xs y × (has_key key (key y) before ≡ false)
-  in_firsts before [] y h = absurd h
-  in_firsts before (x ∷ xs) y h =
-      let later : Has (firsts_by key (before ++ x ∷ []) xs) y → Has (x ∷ xs) y × (has_key key (key y) before ≡ false) =
-      (λ more. let p = in_firsts (before ++ x ∷ []) xs y more in (inr p.0, (or_parts (has_key key (key y) before) (has_key key (key y) (x ∷ [])) (sym (has_append (key y) before (x ∷ [])) ∙ p.1)).0)) in
+  in_distinct : (before xs : List A) (y : A) → Has (distinct_by key before xs) y → Has xs y × (has_key key (key y) before ≡ false)
+  in_distinct before [] y h = absurd h
+  in_distinct before (x ∷ xs) y h =
+      let later : Has (distinct_by key (before ++ x ∷ []) xs) y → Has (x ∷ xs) y × (has_key key (key y) before ≡ false) =
+      (λ more. let p = in_distinct (before ++ x ∷ []) xs y more in (inr p.0, (or_parts (has_key key (key y) before) (has_key key (key y) (x ∷ [])) (sym (has_append (key y) before (x ∷ [])) ∙ p.1)).0)) in
       elim (cases_Bool (has_key key (key x) before)) [
         | inl known ↦ later (rw known at h)
         | inr new ↦ elim (rw new at h) [
@@ -73,28 +73,28 @@ module _ {A : Type 0} (key : A → List ℕ) where
         ]
       ]
 
-  firsts-all : (P : A → Type 0) (before xs : List A) → AllByRecursion P xs → AllByRecursion P (firsts_by key before xs)
-  firsts-all P before xs ps = All-from_has P (firsts_by key before xs) (λ y h. All-has P xs y ps (in_firsts before xs y h).0)
+  distinct-all : (P : A → Type 0) (before xs : List A) → AllByRecursion P xs → AllByRecursion P (distinct_by key before xs)
+  distinct-all P before xs ps = All-from_has P (distinct_by key before xs) (λ y h. All-has P xs y ps (in_distinct before xs y h).0)
 
   -- elements that are the same have one key, if P holds of them
   module _ (P : A → Type 0) (R : A → A → Type 0) (same : (a b : A) → P a → P b → R a b → key a ≡ key b) where
-    unlike : (before xs : List A) (b y : A) → AllByRecursion P xs → P b → Has before b → Has (firsts_by key before xs) y → R b y → ⊥
+    unlike : (before xs : List A) (b y : A) → AllByRecursion P xs → P b → Has before b → Has (distinct_by key before xs) y → R b y → ⊥
     unlike before xs b y ps p at h r =
-        let first = in_firsts before xs y h in
+        let first = in_distinct before xs y h in
         both_ways (has_key key (key y) before) first.1 (has_in (key y) before b at (sym (same b y p (All-has P xs y ps first.0) r)))
 
     -- no first one is the same as one before
-    pub firsts-unseen : (before xs : List A) → AllByRecursion P before → AllByRecursion P xs → AllByRecursion (λ y. AllByRecursion (λ b. R b y → ⊥) before) (firsts_by key before xs)
-    firsts-unseen before xs bs ps = All-from_has (λ y. AllByRecursion (λ b. R b y → ⊥) before) (firsts_by key before xs) (λ y h. All-from_has (λ b. R b y → ⊥) before (λ b at. unlike before xs b y ps (All-has P before b bs at) at h))
+    pub distinct-unseen : (before xs : List A) → AllByRecursion P before → AllByRecursion P xs → AllByRecursion (λ y. AllByRecursion (λ b. R b y → ⊥) before) (distinct_by key before xs)
+    distinct-unseen before xs bs ps = All-from_has (λ y. AllByRecursion (λ b. R b y → ⊥) before) (distinct_by key before xs) (λ y h. All-from_has (λ b. R b y → ⊥) before (λ b at. unlike before xs b y ps (All-has P before b bs at) at h))
 
-    -- no two of the firsts are the same
-    pub firsts-distinct : (before xs : List A) → AllByRecursion P xs → NoTwo R (firsts_by key before xs)
-    firsts-distinct before [] ps = tt
-    firsts-distinct before (x ∷ xs) ps =
-        let two = firsts-distinct (before ++ x ∷ []) xs ps.1 in
+    -- no two of the distinct elements are the same
+    pub distinct-no_two : (before xs : List A) → AllByRecursion P xs → NoTwo R (distinct_by key before xs)
+    distinct-no_two before [] ps = tt
+    distinct-no_two before (x ∷ xs) ps =
+        let two = distinct-no_two (before ++ x ∷ []) xs ps.1 in
         elim (cases_Bool (has_key key (key x) before)) [
           | inl known ↦ rw known two
-          | inr new ↦ rw new (All-from_has (λ y. R x y → ⊥) (firsts_by key (before ++ x ∷ []) xs) (λ y h. unlike (before ++ x ∷ []) xs x y ps.1 ps.0 (Has-right before (x ∷ []) x (inl refl)) h), two)
+          | inr new ↦ rw new (All-from_has (λ y. R x y → ⊥) (distinct_by key (before ++ x ∷ []) xs) (λ y h. unlike (before ++ x ∷ []) xs x y ps.1 ps.0 (Has-right before (x ∷ []) x (inl refl)) h), two)
         ]
 
   -- elements with one key are the same, if P holds of them
@@ -107,11 +107,11 @@ module _ {A : Type 0} (key : A → List ℕ) where
     ]
 
     -- each element is the same as a first one, or as one before
-    pub firsts-cover : (before xs : List A) → AllByRecursion P before → AllByRecursion P xs → AllByRecursion (λ a. HoldsOfOne (R a) (before ++ firsts_by key before xs)) xs
-    firsts-cover before xs bs ps =
-        let first = firsts_by key before xs in
-        All-from_has (λ a. HoldsOfOne (R a) (before ++ first)) xs (λ a h. found a (before ++ first) (All-has P xs a ps h) (All-both P before first bs (firsts-all P before xs ps))
-        (has_append (key a) before first ∙ has-firsts (key a) before xs ∙ or_right (has_key key (key a) before) (has_key key (key a) xs) (has_in (key a) xs a h refl)))
+    pub distinct-cover : (before xs : List A) → AllByRecursion P before → AllByRecursion P xs → AllByRecursion (λ a. HoldsOfOne (R a) (before ++ distinct_by key before xs)) xs
+    distinct-cover before xs bs ps =
+        let first = distinct_by key before xs in
+        All-from_has (λ a. HoldsOfOne (R a) (before ++ first)) xs (λ a h. found a (before ++ first) (All-has P xs a ps h) (All-both P before first bs (distinct-all P before xs ps))
+        (has_append (key a) before first ∙ has-distinct (key a) before xs ∙ or_right (has_key key (key a) before) (has_key key (key a) xs) (has_in (key a) xs a h refl)))
 
   -- ---- counts
 
@@ -121,13 +121,13 @@ module _ {A : Type 0} (key : A → List ℕ) where
   counts_more : (a x : A) (xs : List A) → count_by (λ b. bytes_eq (key a) (key b)) (xs ++ x ∷ []) ≡ count_by (λ b. bytes_eq (key a) (key b)) xs + cond (bytes_eq (key a) (key x)) 1 0
   counts_more a x xs = let e = sum_by-append (λ b. cond (bytes_eq (key a) (key b)) 1 0) xs (x ∷ []) in omega arith
 
-  other_count : (a x : A) (xs : List A) → (key x ≡ key a → ⊥) → count_of key xs a ≡ count_of key (xs ++ x ∷ []) a
+  other_count : (a x : A) (xs : List A) → (key x ≡ key a → ⊥) → count_with_key key xs a ≡ count_with_key key (xs ++ x ∷ []) a
   other_count a x xs other = let more = rw (not_own a x other) at (counts_more a x xs) in omega arith
 
-  own_count : (a x : A) (xs : List A) → key x ≡ key a → one_more (count_of key xs a) ≡ count_of key (xs ++ x ∷ []) a
+  own_count : (a x : A) (xs : List A) → key x ≡ key a → one_more (count_with_key key xs a) ≡ count_with_key key (xs ++ x ∷ []) a
   own_count a x xs same = let more = rw ((bytes_eq-Decides (key a) (key x)).1 (sym same)) at (counts_more a x xs) in omega arith
 
-  no_count : (x : A) (xs : List A) → has_key key (key x) xs ≡ false → count_of key xs x ≡ 0
+  no_count : (x : A) (xs : List A) → has_key key (key x) xs ≡ false → count_with_key key xs x ≡ 0
   no_count x [] none = omega arith
   no_count x (a ∷ xs) none =
       let p = or_parts (bytes_eq (key x) (key a)) (has_key key (key x) xs) none in
@@ -136,14 +136,14 @@ module _ {A : Type 0} (key : A → List ℕ) where
       omega arith
 
   abbrev counted : List A → A → List ℕ × ℕ
-  counted xs a = (key a, count_of key xs a)
+  counted xs a = (key a, count_with_key key xs a)
 
   -- the counts of those with another key stay
   others : (x a : A) (xs fs : List A) → key x ≡ key a → AllByRecursion (λ b. key a ≡ key b → ⊥) fs → map (counted xs) fs ≡ map (counted (xs ++ x ∷ [])) (fs ++ [])
   others x a xs [] same h = refl
   others x a xs (b ∷ fs) same h = (λ i. (key b, other_count b x xs (λ e. h.0 (sym same ∙ e)) i) ∷ others x a xs fs same h.1 i)
 
-  among : (x : A) (xs fs : List A) → NoTwo (λ a b. key a ≡ key b) fs → (has_key key (key x) fs ≡ false → count_of key xs x ≡ 0)
+  among : (x : A) (xs fs : List A) → NoTwo (λ a b. key a ≡ key b) fs → (has_key key (key x) fs ≡ false → count_with_key key xs x ≡ 0)
       → tally (map (counted xs) fs) (key x) ≡ map (counted (xs ++ x ∷ [])) (fs ++ (if has_key key (key x) fs then [] else x ∷ []))
   among x xs [] two fresh = (λ i. (key x, (ap one_more (sym (fresh refl)) ∙ own_count x x xs refl) i) ∷ [])
   among x xs (a ∷ fs) two fresh = elim (cases_Bool (bytes_eq (key x) (key a))) [
@@ -154,11 +154,11 @@ module _ {A : Type 0} (key : A → List ℕ) where
 
   tallied : (xs : List A) (x : A) → tally (counts_by key xs) (key x) ≡ counts_by key (xs ++ x ∷ [])
   tallied xs x =
-      let fs = firsts_by key [] xs in
-      let has : has_key key (key x) fs ≡ has_key key (key x) xs = has-firsts (key x) [] xs in
-      let two : NoTwo (λ a b. key a ≡ key b) fs = firsts-distinct (λ a. Unit {0}) (λ a b. key a ≡ key b) (λ a b p q e. e) [] xs (All-from_has (λ a. Unit {0}) xs (λ a h. tt)) in
+      let fs = distinct_by key [] xs in
+      let has : has_key key (key x) fs ≡ has_key key (key x) xs = has-distinct (key x) [] xs in
+      let two : NoTwo (λ a b. key a ≡ key b) fs = distinct-no_two (λ a. Unit {0}) (λ a b. key a ≡ key b) (λ a b p q e. e) [] xs (All-from_has (λ a. Unit {0}) xs (λ a h. tt)) in
       among x xs fs two (λ none. no_count x xs (sym has ∙ none))
-      ∙ ap (map (counted (xs ++ x ∷ []))) ((λ i. fs ++ (if has i then [] else x ∷ [])) ∙ ap (λ l. fs ++ l) (sym (append-nil (if has_key key (key x) xs then [] else x ∷ []))) ∙ sym (firsts-append [] xs (x ∷ [])))
+      ∙ ap (map (counted (xs ++ x ∷ []))) ((λ i. fs ++ (if has i then [] else x ∷ [])) ∙ ap (λ l. fs ++ l) (sym (append-nil (if has_key key (key x) xs then [] else x ∷ []))) ∙ sym (distinct-append [] xs (x ∷ [])))
 
   pub tallied_all : (xs ys : List A) → tally_all (counts_by key xs) (map key ys) ≡ counts_by key (xs ++ ys)
   tallied_all xs [] = ap (counts_by key) (sym (append-nil xs))
