@@ -10,8 +10,8 @@ ghost use Rattle.souper_graph.specs.Text.{text_of_result, line_at, lines_of, tex
 ghost use Rattle.souper_graph.specs.Faults.{AreMet, IsFaultAmong};
 
 use crate::ast::{Arena, Ending, Id, Infer, Operand, Parts, Statement};
+use crate::stringify::context::DisplayWithContext;
 use crate::stringify::errors::TextError;
-use crate::stringify::nodes::Append;
 
 // The line of the statement at the position; nothing past the end.
 fn append_line(

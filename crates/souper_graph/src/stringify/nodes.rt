@@ -1,4 +1,4 @@
-//! Nodes that name statements, appended to a text.
+//! The text of each node that names statements.
 
 ghost use Rattle.std.specs.Prelude.{◌≡◌, ◌++◌, ◌∷◌, [], List, ℕ, codes, map, OnOk, IfErr};
 ghost use Rattle.std.specs.String.{string_bytes};
@@ -16,24 +16,12 @@ use crate::ast::{
 use crate::stringify::append::{
     append_attributes, append_block, append_constant, append_optional_type, append_root_attributes,
 };
+use crate::stringify::context::DisplayWithContext;
 use crate::stringify::errors::TextError;
 use crate::stringify::names::{name_of_block, name_of_value};
 
-// A node that is appended to a text. On an error a part of it may be left there.
-pub(crate) trait Append {
-    // The bytes, with the names of an arena's statements.
-    ghost text: { List PlainStatement → Self → List ℕ };
-
-    // The uses of the node itself.
-    ghost uses: { Self → List Use };
-
-    fn append(&self, statements: &Arena<Statement>, out: &mut String) -> Result<(), TextError>
-        ensures ok { OnOk result (string_bytes out.new ≡ string_bytes out.old ++ text (map view_statement statements.now) self.now) }
-        ensures met { OnOk result (AreMet (map view_statement statements.now) (uses self.now)) }
-        ensures refused { IfErr result (λ error. IsFaultAmong (map view_statement statements.now) (uses self.now) error) };
-}
-
-impl Append for ValueId {
+/// The name of the assignment.
+impl DisplayWithContext for ValueId {
     ghost text = { λ ss id. name_at ss id };
 
     ghost uses = { λ id. value_use id ∷ [] };
@@ -44,7 +32,8 @@ impl Append for ValueId {
     }
 }
 
-impl Append for BlockId {
+/// The name of the block.
+impl DisplayWithContext for BlockId {
     ghost text = { λ ss id. name_at ss id };
 
     ghost uses = { λ id. block_use id ∷ [] };
@@ -55,7 +44,8 @@ impl Append for BlockId {
     }
 }
 
-impl Append for Operand {
+/// The name of the value, or the constant.
+impl DisplayWithContext for Operand {
     ghost text = { λ ss operand. text_of_operand ss operand };
 
     ghost uses = { λ operand. uses_of_operand operand };
@@ -112,7 +102,8 @@ fn append_further(
     Ok(())
 }
 
-impl Append for Instruction {
+/// The word and the operands, as `add %0, 1:i8`.
+impl DisplayWithContext for Instruction {
     ghost text = { λ ss instruction. text_of_instruction ss instruction };
 
     ghost uses = { λ instruction. uses_of_operands (operands_of instruction) };
@@ -135,7 +126,8 @@ impl Append for Instruction {
     }
 }
 
-impl Append for Phi {
+/// The word, the block and the values, as `phi %0, %1, 2:i8`.
+impl DisplayWithContext for Phi {
     ghost text = { λ ss node. text_of_phi ss (view_phi node) };
 
     ghost uses = { λ node. uses_of_rhs (phi (view_phi node)) };
@@ -147,7 +139,8 @@ impl Append for Phi {
     }
 }
 
-impl Append for AssignmentRhs {
+/// The text after the `=`, as `var` or `add %0, 1:i8`.
+impl DisplayWithContext for AssignmentRhs {
     ghost text = { λ ss rhs. text_of_rhs ss (view_rhs rhs) };
 
     ghost uses = { λ rhs. uses_of_rhs (view_rhs rhs) };
@@ -173,7 +166,8 @@ impl Append for AssignmentRhs {
     }
 }
 
-impl Append for Assignment {
+/// The name, the type, the right side and the attributes, as `%1:i8 = add %0, 1:i8 (nonZero)`.
+impl DisplayWithContext for Assignment {
     ghost text = { λ ss assignment. text_of_assignment ss (view_assignment assignment) };
 
     ghost uses = { λ assignment. uses_of_rhs (view_rhs assignment.value) };
@@ -187,7 +181,8 @@ impl Append for Assignment {
     }
 }
 
-impl Append for Pc {
+/// The word and the two operands, as `pc %0 1:i1`.
+impl DisplayWithContext for Pc {
     ghost text = { λ ss pc. text_of_pc ss pc };
 
     ghost uses = { λ pc. uses_of_operand pc.x ++ uses_of_operand pc.y };
@@ -200,7 +195,8 @@ impl Append for Pc {
     }
 }
 
-impl Append for BlockPc {
+/// The word, the block, the predecessor and the two operands, as `blockpc %0 1 %2 1:i1`.
+impl DisplayWithContext for BlockPc {
     ghost text = { λ ss pc. text_of_block_pc ss pc };
 
     ghost uses = { λ pc. block_use pc.block ∷ (uses_of_operand pc.x ++ uses_of_operand pc.y) };
@@ -216,7 +212,8 @@ impl Append for BlockPc {
     }
 }
 
-impl Append for Statement {
+/// The line of the statement, with its newline.
+impl DisplayWithContext for Statement {
     ghost text = { λ ss statement. text_of_statement ss (view_statement statement) };
 
     ghost uses = { λ statement. uses_of (view_statement statement) };
@@ -232,7 +229,8 @@ impl Append for Statement {
     }
 }
 
-impl Append for Infer {
+/// The line with the value and its attributes, as `infer %0 (harvestedFromUse)`, with its newline.
+impl DisplayWithContext for Infer {
     ghost text = { λ ss infer. text_of_infer ss (view_infer infer) };
 
     ghost uses = { λ infer. value_use infer.value ∷ [] };
@@ -246,7 +244,8 @@ impl Append for Infer {
     }
 }
 
-impl Append for Cand {
+/// The line with the two operands and the attributes, as `cand %0 1:i8`, with its newline.
+impl DisplayWithContext for Cand {
     ghost text = { λ ss cand. text_of_cand ss (view_cand cand) };
 
     ghost uses = { λ cand. uses_of_operand cand.lhs ++ uses_of_operand cand.rhs };

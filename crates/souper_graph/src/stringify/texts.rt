@@ -12,9 +12,9 @@ ghost use Rattle.souper_graph.specs.Faults.{IsFaultAmong, IsFaultOf};
 ghost use Rattle.souper_graph.specs.LeftSides.{left_text};
 
 use crate::ast::{Arena, Infer, Operand, Replacement, Statement};
+use crate::stringify::context::DisplayWithContext;
 use crate::stringify::errors::TextError;
 use crate::stringify::lines::{append_lines, append_result};
-use crate::stringify::nodes::Append;
 use crate::stringify::order::Order;
 
 impl Replacement {

@@ -5,7 +5,7 @@ use Rattle.std.proofs.lemmas.Result.{on_ok_weaker}
 use Rattle.souper_graph.specs.View.{view_statement}
 use Rattle.souper_graph.specs.Text.{name_at, text_of_operand}
 use Rattle.souper_graph.proofs.Texts.Naming.{eight_parts}
-use Rattle.souper_graph.proofs.stringify.nodes.BlockPcAppend.append.Goals as goal
+use Rattle.souper_graph.proofs.stringify.nodes.BlockPcDisplayWithContext.append.Goals as goal
 
 pub returns-clause-ok : goal.returns-clause-ok
 returns-clause-ok c =
