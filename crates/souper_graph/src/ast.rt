@@ -29,7 +29,7 @@ pub(crate) use instructions::Operands;
 pub use item::Item;
 pub use items::{Cand, Infer, LeftHandSide, Replacement, RightHandSide};
 pub use operands::{Constant, Operand, Type};
-pub(crate) use parts::{Ending, Parts};
+pub use parts::{Ending, Parts};
 pub use rhs_builder::RightHandSideBuilder;
 pub use statements::{Assignment, AssignmentRhs, Block, BlockPc, Pc, Phi, Statement, Var};
 pub use uses::{Use, Uses};

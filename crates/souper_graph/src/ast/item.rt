@@ -7,6 +7,7 @@ ghost use Rattle.souper_graph.specs.View.{view_statement, view_left_hand_side, v
 ghost use Rattle.std.specs.Borrow.{sem};
 ghost use Rattle.souper_graph.specs.declared.ast.statements.Statement.{Statement as StatementNode};
 ghost use Rattle.souper_graph.specs.Lending.{LendsStatements};
+ghost use Rattle.souper_graph.specs.PartsView.{view_parts};
 ghost use Rattle.souper_graph.specs.StatementsPut.{left_hand_side_of, right_hand_side_of, replacement_of, replacement_puts};
 ghost use Rattle.souper_graph.specs.Uses.{root_operands};
 ghost use Rattle.souper_graph.specs.Faults.{IsFaultOf};
@@ -25,6 +26,7 @@ use crate::ast::flaws::Flaw;
 use crate::ast::ids::ValueId;
 use crate::ast::items::{LeftHandSide, Replacement, RightHandSide};
 use crate::ast::operands::Operand;
+use crate::ast::parts::Parts;
 use crate::ast::statements::Statement;
 use crate::stringify::{Order, TextError};
 use arrayvec::ArrayVec;
@@ -32,7 +34,8 @@ use std::alloc::AllocError;
 
 /// A left-hand side, a right-hand side or a replacement, for functions that take any of them.
 ///
-/// The calls are those that the types themselves have, and besides `statements_mut` and `well_formed_text`.
+/// The calls are those that the types themselves have, and besides `statements`, `statements_mut`, `roots` and
+/// `well_formed_text`.
 pub trait Item {
     ghost item_type: { ItemType };
 
@@ -42,9 +45,16 @@ pub trait Item {
     /// The item with other statements.
     ghost put_statements: { Self → List StatementNode → Self };
 
+    /// The statements and the last lines.
+    fn parts(&self) -> Parts<'_>
+        ensures { view_parts result ≡ view self.now };
+
     /// The statements, at the positions that ids name.
     fn statements(&self) -> &Arena<Statement>
-        ensures { map view_statement result.now ≡ (view self.now).statements };
+        ensures { map view_statement result.now ≡ (view self.now).statements }
+    {
+        self.parts().statements
+    }
 
     /// The statements, for writing. The last lines stay.
     fn statements_mut(&mut self) -> &mut Arena<Statement>
@@ -57,29 +67,44 @@ pub trait Item {
 
     /// The operands of the last lines, in the order of the text: one, or the left-hand side and then its replacement.
     fn roots(&self) -> ArrayVec<Operand, 2>
-        ensures { result.items ≡ root_operands (view self.now).ending };
+        ensures { result.items ≡ root_operands (view self.now).ending }
+    {
+        self.parts().roots()
+    }
 
     /// The statements that the text has, in its order, as [`LeftHandSide::print_order`] returns them.
     fn print_order(&self) -> Result<Order, TextError>
         ensures refused { IfErr result (λ error. IsFaultOf (view self.now) error) }
-        ensures ordered { IfOk result (λ order. IsPrintOrder (view self.now) order.ids.items order.lead order.turns) };
+        ensures ordered { IfOk result (λ order. IsPrintOrder (view self.now) order.ids.items order.lead order.turns) }
+    {
+        self.parts().print_order()
+    }
 
     /// The printed order in the memory of an earlier one, as [`LeftHandSide::print_order_into`] returns it.
     fn print_order_into(&self, order: &mut Order) -> Result<(), TextError>
         ensures refused { IfErr result (λ error. IsFaultOf (view self.now) error) }
         ensures ordered { OnOk result (IsPrintOrder (view self.now) order.new.ids.items order.new.lead order.new.turns) }
-        ensures emptied { OnErr result (IsEmptyOrder order.new.ids.items order.new.lead order.new.turns) };
+        ensures emptied { OnErr result (IsEmptyOrder order.new.ids.items order.new.lead order.new.turns) }
+    {
+        self.parts().print_order_into(order)
+    }
 
     /// Appends the canonical text to `out`, as [`LeftHandSide::append_text`] does.
     fn append_text(&self, out: &mut String) -> Result<(), TextError>
         ensures refused { IfErr result (λ error. IsFaultOf (view self.now) error) }
         ensures appended { OnOk result (AppendsItemText item_type (view self.now) (string_bytes out.old) (string_bytes out.new)) }
-        ensures kept { OnErr result (string_bytes out.new ≡ string_bytes out.old) };
+        ensures kept { OnErr result (string_bytes out.new ≡ string_bytes out.old) }
+    {
+        self.parts().append_text(out)
+    }
 
     /// The canonical text, as [`LeftHandSide::to_text`] returns it.
     fn to_text(&self) -> Result<String, TextError>
         ensures refused { IfErr result (λ error. IsFaultOf (view self.now) error) }
-        ensures printed { IfOk result (λ text. IsItemText item_type (view self.now) (string_bytes text)) };
+        ensures printed { IfOk result (λ text. IsItemText item_type (view self.now) (string_bytes text)) }
+    {
+        self.parts().to_text()
+    }
 
     /// The canonical text of a well-formed item. Its only error is out of memory.
     fn well_formed_text(&self) -> Result<String, AllocError>
@@ -112,12 +137,18 @@ pub trait Item {
 
     /// Whether the item is well formed, by the conditions of [`Replacement::is_well_formed`].
     fn is_well_formed(&self) -> Result<bool, AllocError>
-        ensures { IfOk result (λ answer. IsTrue answer ↔ WellFormed (view self.now)) };
+        ensures { IfOk result (λ answer. IsTrue answer ↔ WellFormed (view self.now)) }
+    {
+        self.parts().is_well_formed()
+    }
 
     /// The first flaw, or `None` if the item is well formed, as [`LeftHandSide::flaw`] returns it.
     fn flaw(&self) -> Result<Option<Flaw>, AllocError>
         ensures none { IfOk result (λ found. IsNone found ↔ WellFormed (view self.now)) }
-        ensures first { IfOk result (λ found. IfSome found (IsFirstFlaw (view self.now))) };
+        ensures first { IfOk result (λ found. IfSome found (IsFirstFlaw (view self.now))) }
+    {
+        self.parts().flaw()
+    }
 
     /// Other statements leave the last lines as they are.
     ghost puts: { (item : Self) (ss : List StatementNode) → view (put_statements item ss) ≡ with_statements (view item) (map view_statement ss) };
@@ -137,8 +168,8 @@ impl Item for LeftHandSide {
 
     ghost ends = { λ item. tt };
 
-    fn statements(&self) -> &Arena<Statement> {
-        &self.statements
+    fn parts(&self) -> Parts<'_> {
+        LeftHandSide::parts(self)
     }
 
     fn statements_mut(&mut self) -> &mut Arena<Statement> {
@@ -149,28 +180,6 @@ impl Item for LeftHandSide {
         LeftHandSide::replace_uses(self, of, by)
     }
 
-    fn roots(&self) -> ArrayVec<Operand, 2> {
-        let mut roots = ArrayVec::new();
-        roots.push(Operand::Value(self.infer.value));
-        roots
-    }
-
-    fn print_order(&self) -> Result<Order, TextError> {
-        LeftHandSide::print_order(self)
-    }
-
-    fn print_order_into(&self, order: &mut Order) -> Result<(), TextError> {
-        LeftHandSide::print_order_into(self, order)
-    }
-
-    fn append_text(&self, out: &mut String) -> Result<(), TextError> {
-        LeftHandSide::append_text(self, out)
-    }
-
-    fn to_text(&self) -> Result<String, TextError> {
-        LeftHandSide::to_text(self)
-    }
-
     fn renamed(&self) -> Result<Self, TextError> {
         LeftHandSide::renamed(self)
     }
@@ -178,14 +187,6 @@ impl Item for LeftHandSide {
     fn rename(&mut self) -> Result<bool, TextError> {
         LeftHandSide::rename(self)?;
         Ok(true)
-    }
-
-    fn is_well_formed(&self) -> Result<bool, AllocError> {
-        LeftHandSide::is_well_formed(self)
-    }
-
-    fn flaw(&self) -> Result<Option<Flaw>, AllocError> {
-        LeftHandSide::flaw(self)
     }
 }
 
@@ -200,8 +201,8 @@ impl Item for RightHandSide {
 
     ghost ends = { λ item. tt };
 
-    fn statements(&self) -> &Arena<Statement> {
-        &self.statements
+    fn parts(&self) -> Parts<'_> {
+        RightHandSide::parts(self)
     }
 
     fn statements_mut(&mut self) -> &mut Arena<Statement> {
@@ -212,28 +213,6 @@ impl Item for RightHandSide {
         RightHandSide::replace_uses(self, of, by)
     }
 
-    fn roots(&self) -> ArrayVec<Operand, 2> {
-        let mut roots = ArrayVec::new();
-        roots.push(self.result);
-        roots
-    }
-
-    fn print_order(&self) -> Result<Order, TextError> {
-        RightHandSide::print_order(self)
-    }
-
-    fn print_order_into(&self, order: &mut Order) -> Result<(), TextError> {
-        RightHandSide::print_order_into(self, order)
-    }
-
-    fn append_text(&self, out: &mut String) -> Result<(), TextError> {
-        RightHandSide::append_text(self, out)
-    }
-
-    fn to_text(&self) -> Result<String, TextError> {
-        RightHandSide::to_text(self)
-    }
-
     fn renamed(&self) -> Result<Self, TextError> {
         RightHandSide::renamed(self)
     }
@@ -241,14 +220,6 @@ impl Item for RightHandSide {
     fn rename(&mut self) -> Result<bool, TextError> {
         RightHandSide::rename(self)?;
         Ok(true)
-    }
-
-    fn is_well_formed(&self) -> Result<bool, AllocError> {
-        RightHandSide::is_well_formed(self)
-    }
-
-    fn flaw(&self) -> Result<Option<Flaw>, AllocError> {
-        RightHandSide::flaw(self)
     }
 }
 
@@ -263,11 +234,8 @@ impl Item for Replacement {
 
     ghost ends = { replacement_ending };
 
-    fn statements(&self) -> &Arena<Statement> {
-        match self {
-            Replacement::LhsRhs { statements, .. } => statements,
-            Replacement::Cand { statements, .. } => statements,
-        }
+    fn parts(&self) -> Parts<'_> {
+        Replacement::parts(self)
     }
 
     fn statements_mut(&mut self) -> &mut Arena<Statement> {
@@ -281,37 +249,6 @@ impl Item for Replacement {
         Replacement::replace_uses(self, of, by)
     }
 
-    fn roots(&self) -> ArrayVec<Operand, 2> {
-        let mut roots = ArrayVec::new();
-        match self {
-            Replacement::LhsRhs { lhs, rhs, .. } => {
-                roots.push(Operand::Value(lhs.value));
-                roots.push(*rhs);
-            }
-            Replacement::Cand { cand, .. } => {
-                roots.push(cand.lhs);
-                roots.push(cand.rhs);
-            }
-        }
-        roots
-    }
-
-    fn print_order(&self) -> Result<Order, TextError> {
-        Replacement::print_order(self)
-    }
-
-    fn print_order_into(&self, order: &mut Order) -> Result<(), TextError> {
-        Replacement::print_order_into(self, order)
-    }
-
-    fn append_text(&self, out: &mut String) -> Result<(), TextError> {
-        Replacement::append_text(self, out)
-    }
-
-    fn to_text(&self) -> Result<String, TextError> {
-        Replacement::to_text(self)
-    }
-
     fn renamed(&self) -> Result<Self, TextError> {
         Replacement::renamed(self)
     }
@@ -319,13 +256,5 @@ impl Item for Replacement {
     fn rename(&mut self) -> Result<bool, TextError> {
         Replacement::rename(self)?;
         Ok(true)
-    }
-
-    fn is_well_formed(&self) -> Result<bool, AllocError> {
-        Replacement::is_well_formed(self)
-    }
-
-    fn flaw(&self) -> Result<Option<Flaw>, AllocError> {
-        Replacement::flaw(self)
     }
 }

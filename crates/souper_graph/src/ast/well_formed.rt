@@ -69,7 +69,7 @@ impl Parts<'_> {
         }
     }
 
-    fn is_well_formed(&self) -> Result<bool, AllocError>
+    pub(crate) fn is_well_formed(&self) -> Result<bool, AllocError>
         ensures { IfOk result (λ answer. IsTrue answer ↔ WellFormed (view_parts self.now)) }
     {
         if !self.ending_stands() {

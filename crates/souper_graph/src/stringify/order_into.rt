@@ -65,7 +65,7 @@ impl Replacement {
 }
 
 impl Parts<'_> {
-    fn print_order_into(&self, order: &mut Order) -> Result<(), TextError>
+    pub(crate) fn print_order_into(&self, order: &mut Order) -> Result<(), TextError>
         ensures refused { IfErr result (λ error. IsFaultOf (view_parts self.now) error) }
         ensures ordered { OnOk result (IsPrintOrder (view_parts self.now) order.new.ids.items order.new.lead order.new.turns) }
         ensures emptied { OnErr result (IsEmptyOrder order.new.ids.items order.new.lead order.new.turns) }

@@ -54,7 +54,7 @@ impl Parts<'_> {
     }
 
     // Into an empty buffer the text is put at once. Else it is made apart, so that an error leaves the buffer as it was.
-    fn append_text(&self, out: &mut String) -> Result<(), TextError>
+    pub(crate) fn append_text(&self, out: &mut String) -> Result<(), TextError>
         ensures refused { IfErr result (λ error. IsFaultOf (view_parts self.now) error) }
         ensures appended { (k : ItemType) (a : Item) → view_parts self.now ≡ a → IsEndingOf k a.ending → OnOk result (AppendsItemText k a (string_bytes out.old) (string_bytes out.new)) }
         ensures kept { OnErr result (string_bytes out.new ≡ string_bytes out.old) }
@@ -67,7 +67,7 @@ impl Parts<'_> {
         Ok(())
     }
 
-    fn to_text(&self) -> Result<String, TextError>
+    pub(crate) fn to_text(&self) -> Result<String, TextError>
         ensures refused { IfErr result (λ error. IsFaultOf (view_parts self.now) error) }
         ensures printed { (k : ItemType) (a : Item) → view_parts self.now ≡ a → IsEndingOf k a.ending → IfOk result (λ text. IsItemText k a (string_bytes text)) }
     {

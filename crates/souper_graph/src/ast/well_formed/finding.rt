@@ -73,7 +73,7 @@ impl Parts<'_> {
         Some(Flaw { location, reason })
     }
 
-    fn flaw(&self) -> Result<Option<Flaw>, AllocError>
+    pub(crate) fn flaw(&self) -> Result<Option<Flaw>, AllocError>
         ensures none { IfOk result (λ found. IsNone found ↔ WellFormed (view_parts self.now)) }
         ensures first { IfOk result (λ found. IfSome found (IsFirstFlaw (view_parts self.now))) }
     {
