@@ -10,7 +10,7 @@ use crate::stringify::numbers::write_number;
 use std::fmt;
 
 // `x` for a bit that is not known.
-pub(crate) fn known_bit_text(known: Option<bool>) -> &'static str
+fn known_bit_text(known: Option<bool>) -> &'static str
     ensures { result.now ≡ text_of_known_bit known ∷ [] }
 {
     match known {
@@ -20,7 +20,7 @@ pub(crate) fn known_bit_text(known: Option<bool>) -> &'static str
     }
 }
 
-pub(crate) fn bit_text(set: bool) -> &'static str
+fn bit_text(set: bool) -> &'static str
     ensures { result.now ≡ text_of_bit set ∷ [] }
 {
     if set { "1" } else { "0" }

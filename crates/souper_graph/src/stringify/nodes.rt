@@ -14,7 +14,7 @@ use crate::ast::{
     Operands, Pc, Phi, Statement, ValueId,
 };
 use crate::stringify::append::{
-    append_attributes, append_block, append_constant, append_optional_type, append_root_attributes,
+    append_attributes, append_constant, append_optional_type, append_root_attributes,
 };
 use crate::stringify::context::DisplayWithContext;
 use crate::stringify::errors::TextError;
@@ -151,7 +151,10 @@ impl DisplayWithContext for AssignmentRhs {
                 out.push_str("var")?;
                 Ok(())
             }
-            AssignmentRhs::Block(block) => append_block(*block, out),
+            AssignmentRhs::Block(block) => {
+                write!(out, "{block}")?;
+                Ok(())
+            }
             AssignmentRhs::Phi(phi) => phi.append(statements, out),
             AssignmentRhs::ReservedInst => {
                 out.push_str("reservedinst")?;
