@@ -2,7 +2,7 @@
 use Rattle.std.specs.Prelude.{◌≡◌, ◌⊎◌, ℕ, ◌+◌, ◌-◌, ◌^◌, ◌<◌, ◌≤◌, min, ◌==◌, Bool, MatchBool, List, [], ◌∷◌, ◌++◌, length, take, drop, count_by}
 use Rattle.souper_diff.specs.declared.comparison.Comparison.{Comparison}
 
--- how many lines end in the text
+-- how many lines end in the text: its newlines
 abbrev pub line_ends : List ℕ → ℕ
 line_ends text = count_by (λ b. b == 10) text
 

@@ -10,7 +10,7 @@ use Rattle.souper_ir.specs.declared.parse.ParseErrorKind.{ParseErrorKind}
 use Rattle.souper_ir.specs.declared.parse.ParseErrorKind.TheVariants.{Io, Parse, Memory}
 use Rattle.souper_format.specs.Streams.{Stream, IsGiven, IsGivenNothing}
 use Rattle.souper_format.specs.Reading.{ReadAll}
-use Rattle.souper_format.specs.Reporting.{ReportedDisplay, ReportedIoError, StoppedByMemory, ErrorReported}
+use Rattle.souper_format.specs.Reporting.{ReportedDisplayLine, ReportedIoError, StoppedByMemory, ErrorReported}
 use Rattle.souper_format.specs.Runs.{Formats, ReportedParseError, IsFormatRun, IsKnownRun}
 
 -- a refusal at an offset of the source, as the parser returns it
@@ -19,7 +19,7 @@ IsRefusal k file source e = (offset : ℕ) × (offset_of e ≡ Some offset) × (
     × ShowsPlace file source offset e × HasLocation source e
 
 pub reported_refusal : (k : ItemType) (file : Option (List ℕ)) (source : List ℕ) (err : Stream) (e : ParseError)
-    → IsRefusal k file source e → ReportedDisplay err e → ReportedParseError file source err
+    → IsRefusal k file source e → ReportedDisplayLine err e → ReportedParseError file source err
 reported_refusal k file source err e (offset, at, within, none, p, located) reported works =
     let (line, (bytes, are_shown, is_line), given) = reported works in
     let same = subst (λ o. IfSome o (λ s. bytes ≡ s)) p.shown_is are_shown in
@@ -33,7 +33,7 @@ stopped k input out err status nothing reported =
 status_of_kind : (k : ItemType) (input out err : Stream) (source : List ℕ) (e : ParseError) (status : ℕ) (kind : ParseErrorKind)
     → ReadAll input source → IsUtf8 source → IsGivenNothing out
     → OnKind kind ⊥ (IsRefusal k None source e) (Unit {0})
-    → OnKind kind ((status ≡ 3) × ReportedIoError err) (((status ≡ 1) × ReportedDisplay err e) ⊎ StoppedByMemory err status) (StoppedByMemory err status)
+    → OnKind kind ((status ≡ 3) × ReportedIoError err) (((status ≡ 1) × ReportedDisplayLine err e) ⊎ StoppedByMemory err status) (StoppedByMemory err status)
     → IsFormatRun k input out err status
 status_of_kind k input out err source e status Io read text nothing fault reported = absurd fault
 status_of_kind k input out err source e status Parse read text nothing refusal (inl reported) =

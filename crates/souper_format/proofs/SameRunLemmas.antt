@@ -17,15 +17,15 @@ use Rattle.souper_ir.specs.declared.parse.ParseErrorKind.TheVariants.{Io, Parse,
 use Rattle.souper_format.specs.declared.items.Items.{Items}
 use Rattle.souper_format.specs.Kinds.{kind_of_items, view_items}
 use Rattle.souper_format.specs.Streams.{Stream, IsGivenNothing}
-use Rattle.souper_format.specs.Reporting.{ReportedDisplay, ReportedOutOfMemory, ReportedIoError, StoppedByMemory, ErrorReported}
-use Rattle.souper_format.specs.Runs.{OnFormatStatus}
+use Rattle.souper_format.specs.Reporting.{ReportedDisplayLine, ReportedOutOfMemory, ReportedIoError, StoppedByMemory, ErrorReported}
+use Rattle.souper_format.specs.Runs.{OnFmtStatus}
 use Rattle.souper_format.specs.Same.{SameItems}
 use Rattle.souper_format.specs.SameRuns.{FileRead, ReadSpells, ReadError, ReadRefused, ReadFailed, Says, IsSameRun, StoppedAtFirst, IsFilesRun, IsComparison}
 use Rattle.souper_format.proofs.RunLemmas.{IsRefusal, reported_refusal}
 
 -- what the status of an error says of the read
 abbrev Outcome : ItemType → List ℕ → FileRead → Stream → ℕ → Type 0
-Outcome k path read err status = OnFormatStatus status ⊥ (ReadRefused k path read err) (ReadFailed read err ⊎ ReportedOutOfMemory err)
+Outcome k path read err status = OnFmtStatus status ⊥ (ReadRefused k path read err) (ReadFailed read err ⊎ ReportedOutOfMemory err)
 
 by_memory : (k : ItemType) (path : List ℕ) (read : FileRead) (err : Stream) (status : ℕ)
     → StoppedByMemory err status → Outcome k path read err status
@@ -33,7 +33,7 @@ by_memory k path read err status reported = subst (Outcome k path read err) (sym
 
 of_text : (k : ItemType) (path : List ℕ) (source : String Global) (err : Stream) (e : ParseError) (status : ℕ) (kind : ParseErrorKind)
     → OnKind kind ⊥ (IsRefusal k (Some path) (string_bytes source) e) (Unit {0})
-    → OnKind kind ((status ≡ 3) × ReportedIoError err) (((status ≡ 1) × ReportedDisplay err e) ⊎ StoppedByMemory err status) (StoppedByMemory err status)
+    → OnKind kind ((status ≡ 3) × ReportedIoError err) (((status ≡ 1) × ReportedDisplayLine err e) ⊎ StoppedByMemory err status) (StoppedByMemory err status)
     → Outcome k path (Ok source) err status
 of_text k path source err e status Io fault reported = absurd fault
 of_text k path source err e status Parse refusal (inl reported) =
@@ -44,7 +44,7 @@ of_text k path source err e status Memory fault reported = by_memory k path (Ok 
 
 of_fault : (k : ItemType) (path : List ℕ) (fault : Error) (err : Stream) (e : ParseError) (status : ℕ) (kind : ParseErrorKind)
     → OnKind kind (fault_of e ≡ Some fault) ⊥ (error_kind fault ≡ OutOfMemory)
-    → OnKind kind ((status ≡ 3) × ReportedIoError err) (((status ≡ 1) × ReportedDisplay err e) ⊎ StoppedByMemory err status) (StoppedByMemory err status)
+    → OnKind kind ((status ≡ 3) × ReportedIoError err) (((status ≡ 1) × ReportedDisplayLine err e) ⊎ StoppedByMemory err status) (StoppedByMemory err status)
     → Outcome k path (Err fault) err status
 of_fault k path fault err e status Io is reported = subst (Outcome k path (Err fault) err) (sym reported.0) (inl reported.1)
 of_fault k path fault err e status Parse is reported = absurd is

@@ -1,5 +1,5 @@
 -- Definitions. The lines that report an error.
-use Rattle.std.specs.Prelude.{◌≡◌, ℕ, List, ◌++◌, false, codes, IfSome, ◌⊎◌}
+use Rattle.std.specs.Prelude.{◌≡◌, ℕ, List, ◌++◌, false, codes, Option, IfSome, ◌⊎◌}
 use Rattle.souper_ir.specs.Errors.{kind_of, shown_error, OnKind}
 use Rattle.souper_ir.specs.declared.parse.ParseError.{ParseError}
 use Rattle.souper_format.specs.Streams.{Stream, IsGiven}
@@ -20,17 +20,21 @@ fault_line shown = codes "IO error: " ++ shown ++ codes "\n"
 abbrev pub ReportedIoError : Stream → Type 0
 ReportedIoError err = err.failed ≡ false → ((shown : List ℕ) × IsGiven err (fault_line shown)) ⊎ IsGiven err memory_line
 
--- the bytes are the text of the error, if that text is known
-abbrev pub IsDisplayed : ParseError → List ℕ → Type 0
-IsDisplayed e bytes = IfSome (shown_error e) (λ shown. bytes ≡ shown)
+-- a line of text: this text, if it is known
+abbrev pub IsLineOf : Option (List ℕ) → List ℕ → Type 0
+IsLineOf known line = (shown : List ℕ) × IfSome known (λ text. shown ≡ text) × (line ≡ shown ++ codes "\n")
 
--- the line of an error
+-- unless the writer has failed, a line with the property P was written to it
+abbrev pub Reported : Stream → (List ℕ → Type 0) → Type 0
+Reported err P = err.failed ≡ false → (line : List ℕ) × P line × IsGiven err line
+
+-- the line of the error's text
 abbrev pub IsDisplayLine : ParseError → List ℕ → Type 0
-IsDisplayLine e line = (shown : List ℕ) × IsDisplayed e shown × (line ≡ shown ++ codes "\n")
+IsDisplayLine e line = IsLineOf (shown_error e) line
 
--- unless the writer has failed, the line of the error was written to it
-abbrev pub ReportedDisplay : Stream → ParseError → Type 0
-ReportedDisplay err e = err.failed ≡ false → (line : List ℕ) × IsDisplayLine e line × IsGiven err line
+-- the line of the error was reported
+abbrev pub ReportedDisplayLine : Stream → ParseError → Type 0
+ReportedDisplayLine err e = Reported err (IsDisplayLine e)
 
 -- the status is 3, and out of memory was reported
 abbrev pub StoppedByMemory : Stream → ℕ → Type 0
@@ -40,5 +44,5 @@ StoppedByMemory err status = (status ≡ 3) × ReportedOutOfMemory err
 abbrev pub ErrorReported : Stream → ℕ → ParseError → Type 0
 ErrorReported err status e = OnKind (kind_of e)
     ((status ≡ 3) × ReportedIoError err)
-    (((status ≡ 1) × ReportedDisplay err e) ⊎ StoppedByMemory err status)
+    (((status ≡ 1) × ReportedDisplayLine err e) ⊎ StoppedByMemory err status)
     (StoppedByMemory err status)

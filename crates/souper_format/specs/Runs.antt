@@ -36,19 +36,19 @@ Stopped input out err =
     × (out.failed ≡ false → IsGivenNothing out)
 
 -- a fact for each status, of which there are three
-abbrev pub OnFormatStatus : ℕ → Type 0 → Type 0 → Type 0 → Type 0
-OnFormatStatus zero done refused stopped = done
-OnFormatStatus (suc zero) done refused stopped = refused
-OnFormatStatus (suc (suc (suc zero))) done refused stopped = stopped
-OnFormatStatus _ done refused stopped = ⊥
+abbrev pub OnFmtStatus : ℕ → Type 0 → Type 0 → Type 0 → Type 0
+OnFmtStatus zero done refused stopped = done
+OnFmtStatus (suc zero) done refused stopped = refused
+OnFmtStatus (suc (suc (suc zero))) done refused stopped = stopped
+OnFmtStatus _ done refused stopped = ⊥
 
 -- what the status of a run says
 abbrev pub IsFormatRun : ItemType → Stream → Stream → Stream → ℕ → Type 0
-IsFormatRun k input out err status = OnFormatStatus status (Finished k input out err) (Refused k input out err) (Stopped input out err)
+IsFormatRun k input out err status = OnFmtStatus status (Finished k input out err) (Refused k input out err) (Stopped input out err)
 
 -- if the reader's bytes are known: what status 0 and status 1 say of them
 abbrev pub IsKnownRun : ItemType → Option (List ℕ) → Stream → ℕ → Type 0
-IsKnownRun k bytes out status = IfSome bytes (λ source. OnFormatStatus status
+IsKnownRun k bytes out status = IfSome bytes (λ source. OnFmtStatus status
     (Formats k source out)
     (IsUtf8 source × SpellsNone k source)
     (Unit {0}))

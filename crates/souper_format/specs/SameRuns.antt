@@ -11,7 +11,7 @@ use Rattle.souper_ir.specs.Files.{TellsFault}
 use Rattle.souper_ir.specs.declared.parse.ParseError.{ParseError}
 use Rattle.souper_format.specs.Streams.{Stream, IsGiven, IsGivenNothing}
 use Rattle.souper_format.specs.Reporting.{ReportedOutOfMemory, ReportedIoError}
-use Rattle.souper_format.specs.Runs.{ReportedParseError, OnFormatStatus}
+use Rattle.souper_format.specs.Runs.{ReportedParseError, OnFmtStatus}
 
 -- what the read of a file returned: a text or a fault
 abbrev pub FileRead : Type 0
@@ -66,14 +66,14 @@ NotCompared k first second out err =
 
 -- what the status of a comparison of two files says
 abbrev pub IsSameRun : ItemType → List ℕ → List ℕ → FileRead → FileRead → Stream → Stream → ℕ → Type 0
-IsSameRun k a b first second out err status = OnFormatStatus status
+IsSameRun k a b first second out err status = OnFmtStatus status
     (Compared k first second out err)
     (OneRefused k a b first second out err)
     (NotCompared k first second out err)
 
 -- the first read was refused, or it has failed, or memory ran out, and that was reported; nothing was written
 abbrev pub StoppedAtFirst : ItemType → List ℕ → FileRead → Stream → Stream → ℕ → Type 0
-StoppedAtFirst k a first out err status = OnFormatStatus status
+StoppedAtFirst k a first out err status = OnFmtStatus status
     ⊥
     (ReadRefused k a first err × IsGivenNothing out)
     ((ReadFailed first err ⊎ ReportedOutOfMemory err) × IsGivenNothing out)
@@ -86,7 +86,7 @@ IsFilesRun k gives a b out err status = (first : FileRead) × gives a first × (
 
 -- what the status of a comparison of two lists says
 abbrev pub IsComparison : Type 0 → Stream → Stream → ℕ → Type 0
-IsComparison fact out err status = OnFormatStatus status
+IsComparison fact out err status = OnFmtStatus status
     (Says fact out × IsGivenNothing err)
     ⊥
     ((((out.failed ≡ true) × ReportedIoError err) ⊎ ReportedOutOfMemory err) × (out.failed ≡ false → IsGivenNothing out))

@@ -6,7 +6,7 @@ ghost use Rattle.souper_graph.specs.Text.{name_at};
 ghost use Rattle.souper_graph.specs.View.{view_statement};
 ghost use Rattle.souper_graph.specs.Order.{Distinct};
 ghost use Rattle.souper_graph.specs.Renaming.{with_name, name_in, named_from};
-ghost use Rattle.souper_lookup.specs.Instance.{AreAllNames, AreExtended, HasSameElements};
+ghost use Rattle.souper_lookup.specs.Instance.{AreNamesThenFresh, AreExtended, HasSameElements};
 
 use indexmap::IndexSet;
 use souper_graph::ast::{Arena, Id, Statement};
@@ -20,7 +20,7 @@ pub(crate) fn names_for(
     count: usize,
 ) -> Result<Vec<String>, AllocError>
     ensures long { IfOk result (λ names. count ≤ length names.items) }
-    ensures names { length ids.now ≤ count → IfOk result (λ names. AreAllNames (map view_statement statements.now) ids.now count (map string_bytes names.items)) }
+    ensures names { length ids.now ≤ count → IfOk result (λ names. AreNamesThenFresh (map view_statement statements.now) ids.now count (map string_bytes names.items)) }
 {
     let names = names_of(alloc, statements, ids)?;
     let taken = set_of(alloc, &names)?;

@@ -8,7 +8,8 @@ use Rattle.souper_diff.specs.declared.comparison.Comparison.{Comparison}
 use Rattle.souper_diff.specs.Comparisons.{DifferOnLine, DifferFrom, IsCompared}
 use Rattle.souper_records.specs.Canonical.{IsCanonical, IsOtherLine, other_line, ReportedOtherLine, IsWhole, IsCheckRun}
 use Rattle.souper_records.specs.Outcomes.{parts_of, items_of, WritesParts, WroteParts}
-use Rattle.souper_records.specs.Reports.{IsMemoryLine, IsFaultLine, Reported, ReportedFaultOf, ReportedError}
+use Rattle.souper_format.specs.Reporting.{Reported}
+use Rattle.souper_records.specs.Reports.{IsMemoryLine, IsFaultLine, ReportedFaultOf, ReportedError}
 use Rattle.souper_records.proofs.Outcomes.{none_reported, some_fault}
 
 -- ---- canonical texts

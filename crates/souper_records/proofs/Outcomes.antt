@@ -20,7 +20,8 @@ use Rattle.souper_records.specs.declared.stop.Stop.{Stop}
 use Rattle.souper_records.specs.declared.stop.Stop.TheVariants.{Input, Output, Memory}
 use Rattle.souper_records.specs.Stops.{IfInput, UnlessOutput}
 use Rattle.souper_records.specs.Runs.{output_name, EndsWithFault, IsPartsEnd, IsRun}
-use Rattle.souper_records.specs.Reports.{IsMemoryLine, IsFaultLine, Reported, ReportedFault, ReportedFaultOf}
+use Rattle.souper_format.specs.Reporting.{Reported}
+use Rattle.souper_records.specs.Reports.{IsMemoryLine, IsFaultLine, ReportedFault, ReportedFaultOf}
 use Rattle.souper_records.specs.Outcomes.{InputStream, Outcome, IsOutcome, IsOutcomeAfter, AllAfter, AreOutcomes, HasItemStarts, HaveItemStarts, parts_of, items_of, refusals_of, any_refused, AreErrorLines, AreReported, AreReportedThen, WritesPart, WritesParts, ReadsParts, EndsRefused, IsBegun, StopsAfter, IsPartsResult, WroteParts}
 
 -- ---- lists of outcomes

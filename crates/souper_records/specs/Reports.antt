@@ -1,8 +1,9 @@
 -- Definitions. The lines that the program reports an error with.
-use Rattle.std.specs.Prelude.{◌≡◌, ◌⊎◌, ℕ, List, ◌++◌, false, codes, Some, IfSome}
+use Rattle.std.specs.Prelude.{◌≡◌, ◌⊎◌, ℕ, List, ◌++◌, codes, Some}
 use Rattle.std.specs.declared.io.Error.{Error}
 use Rattle.std.specs.IoError.{error_kind}
-use Rattle.souper_records.specs.Prelude.{Stream, IsGiven}
+use Rattle.souper_records.specs.Prelude.{Stream}
+use Rattle.souper_format.specs.Reporting.{IsLineOf, Reported}
 use Rattle.std.specs.declared.io.ErrorKind.TheVariants.{InvalidData}
 use Rattle.souper_ir.specs.Errors.{fault_of, kind_of, located_error}
 use Rattle.souper_ir.specs.declared.parse.ParseError.{ParseError}
@@ -33,21 +34,13 @@ IsFaultLineOf fault name line = ((shown : List ℕ) × ((line ≡ named_line nam
 abbrev pub IsFaultLine : List ℕ → List ℕ → Type 0
 IsFaultLine name line = (fault : Error) × IsFaultLineOf fault name line
 
--- unless the writer has failed, a line with the property P was written to it
-abbrev pub Reported : Stream → (List ℕ → Type 0) → Type 0
-Reported err P = err.failed ≡ false → (line : List ℕ) × P line × IsGiven err line
-
--- the bytes are the text that the error shows with its location, if that text is known
-abbrev pub IsShown : ParseError → List ℕ → Type 0
-IsShown e bytes = IfSome (located_error e) (λ shown. bytes ≡ shown)
-
--- the line of an error
+-- the line of the text that the error shows with its location
 abbrev pub IsErrorLine : ParseError → List ℕ → Type 0
-IsErrorLine e line = (shown : List ℕ) × IsShown e shown × (line ≡ shown ++ codes "\n")
+IsErrorLine e line = IsLineOf (located_error e) line
 
--- unless the writer has failed, the line of the error was written to it
+-- the line of the error was reported
 abbrev pub ReportedLine : Stream → ParseError → Type 0
-ReportedLine err e = err.failed ≡ false → (line : List ℕ) × IsErrorLine e line × IsGiven err line
+ReportedLine err e = Reported err (IsErrorLine e)
 
 -- out of memory was reported
 abbrev pub ReportedMemory : Stream → Type 0

@@ -13,7 +13,7 @@ use Rattle.std.proofs.lemmas.Str.{IsCharBoundary-after_ascii, IsUtf8-nil, IsUtf8
 use Rattle.souper_stream.proofs.Prelude.{Nowhere, OccursAt, Lexeme, ident, spelling, Begins, ItemType, kinds, lexed_of, tokens_law, is_name, IsLines, parted_twice, All-both}
 use Rattle.memchr.proofs.lemmas.MatchLemmas.{OccursAt-from_part}
 use Rattle.souper_stream.specs.declared.lines.ScanState.{ScanState}
-use Rattle.souper_stream.specs.Lines.{line_word, is_terminator_token, defines, shows_line, NoStart, LastEnds, first_state, state_after, scanned, starts_line, is_terminator, IsAbsent, NoTerminator, IsWithoutEnd, PassesOver}
+use Rattle.souper_stream.specs.Lines.{line_word, token_begins_terminator, defines, shows_line, NoStart, LastEnds, first_state, state_after, scanned, starts_line, begins_terminator, IsAbsent, NoTerminatorWord, IsWithoutEnd, PassesOver}
 use Rattle.souper_stream.specs.Segments.{Line, concat, AreLines, tokens_of, tokens_of_lines, EndsItem, FirstStarts, HasNoCut, IsCut, IsFirstSegment, IsWholeLine, CutsAt, HasNoCutAfter, HasBadLine}
 use Rattle.souper_stream.proofs.Parting.{end_is_line, NoEnd, no_end_ends, ends_within, starts_longer}
 use Rattle.souper_stream.proofs.LineLists.{starts_not_none, concat-append, tokens_snoc, lines_back, lines_split, no_bytes, line_first, are_front, lines_whole, tokens-append, lines_exist}
@@ -42,10 +42,10 @@ ends_later k xs ys h = record {
   quiet = h.quiet;
 }
 
-end_shows : (k : ItemType) (named : Bool) (t : Lexeme) → is_terminator_token k t ≡ true → shows_line named t ≡ true
+end_shows : (k : ItemType) (named : Bool) (t : Lexeme) → token_begins_terminator k t ≡ true → shows_line named t ≡ true
 end_shows k named t h = grind (arith, end_is_line k)
 
-ends_here : (k : ItemType) (t : Lexeme) (ts : List Lexeme) → is_terminator_token k t ≡ true → NoStart ts → LastEnds k (t ∷ ts)
+ends_here : (k : ItemType) (t : Lexeme) (ts : List Lexeme) → token_begins_terminator k t ≡ true → NoStart ts → LastEnds k (t ∷ ts)
 ends_here k (ident w) ts h q = record { before = []; word = w; after = ts; whole = refl; ends = h; quiet = q }
 ends_here k _ ts h q = absurd cc
 
@@ -99,7 +99,7 @@ pub state_more : (k : ItemType) (ts us : List Lexeme) (s : ScanState) → IsStat
 state_more k ts us s h vs = rw (append_assoc ts us vs, ← scanned-append k s us vs) (h (us ++ vs))
 
 -- if no item ends before the token, one ends with it at the word of an item's end alone
-going_step : (k : ItemType) (s : ScanState) (t : Lexeme) → s.ends_item ≡ false → (state_after k s t).ends_item ≡ is_terminator_token k t
+going_step : (k : ItemType) (s : ScanState) (t : Lexeme) → s.ends_item ≡ false → (state_after k s t).ends_item ≡ token_begins_terminator k t
 going_step k s t going = grind (arith, end_shows k s.after_name t)
 
 -- and the name before plays no part
@@ -204,20 +204,20 @@ absent_before bs w n some none front back e =
     sym (take-append-drop n bs) ∙ ap (λ (x : List ℕ). x ++ drop n bs) e ∙ append_assoc front (w ++ back) (drop n bs) ∙ ap (λ (x : List ℕ). front ++ x) (append_assoc w back (drop n bs)) in
     none (length front) (omega arith) (omega (arith, length-take n bs, ap length e, length-append front (w ++ back), length-append w back)) (occurs front w (back ++ drop n bs) bs whole)
 
-pub end_word_some : (k : ItemType) (w : List ℕ) → is_terminator k w ≡ true → 0 < length w
-end_word_some k w h = grind (arith, bytes_eq-Decides)
+pub terminator_some : (k : ItemType) (w : List ℕ) → begins_terminator k w ≡ true → 0 < length w
+terminator_some k w h = grind (arith, bytes_eq-Decides)
 
 -- the words that items end with
-pub no_end_words : (k : ItemType) (bs : List ℕ) → (is_terminator k (codes "infer") ≡ true → IsAbsent (codes "infer") bs) → (is_terminator k (codes "result") ≡ true → IsAbsent (codes "result") bs) → (is_terminator k (codes "cand") ≡ true → IsAbsent (codes "cand") bs) → NoTerminator k bs
-no_end_words k bs a b c w h = grind (arith, bytes_eq-Decides)
+pub no_terminators : (k : ItemType) (bs : List ℕ) → (begins_terminator k (codes "infer") ≡ true → IsAbsent (codes "infer") bs) → (begins_terminator k (codes "result") ≡ true → IsAbsent (codes "result") bs) → (begins_terminator k (codes "cand") ≡ true → IsAbsent (codes "cand") bs) → NoTerminatorWord k bs
+no_terminators k bs a b c w h = grind (arith, bytes_eq-Decides)
 
 -- ---- tokens
 
-no_end_first : (k : ItemType) (t : Lexeme) (gap after bs : List ℕ) → bs ≡ gap ++ (spelling t ++ after) → NoTerminator k bs → is_terminator_token k t ≡ false
-no_end_first k (ident w) gap after bs e q = false_from_ne_true (is_terminator k w) (λ h. q w h gap after e)
+no_end_first : (k : ItemType) (t : Lexeme) (gap after bs : List ℕ) → bs ≡ gap ++ (spelling t ++ after) → NoTerminatorWord k bs → token_begins_terminator k t ≡ false
+no_end_first k (ident w) gap after bs e q = false_from_ne_true (begins_terminator k w) (λ h. q w h gap after e)
 no_end_first k _ gap after bs e q = refl
 
-no_end_tokens : (k : ItemType) (ts : List (ℕ × Lexeme)) (n : ℕ) (bs rest : List ℕ) → Begins n bs ts rest → NoTerminator k bs → NoEnd k (kinds ts)
+no_end_tokens : (k : ItemType) (ts : List (ℕ × Lexeme)) (n : ℕ) (bs rest : List ℕ) → Begins n bs ts rest → NoTerminatorWord k bs → NoEnd k (kinds ts)
 no_end_tokens k [] n bs rest h q = tt
 no_end_tokens k (t ∷ ts) n bs rest h q = (
   no_end_first k t.1 h.gap h.after bs h.stands.text q,
@@ -237,7 +237,7 @@ utf8_parts a b (inr end) h =
     let seam = subst (λ (m : ℕ). IsCharBoundary (a ++ b) m) long (IsCharBoundary-after_ascii (a ++ b) n h (omega (arith, length-append a b)) (omega arith)) in
     (subst (λ (x : List ℕ). IsUtf8 x) (take-append_seam a b) (IsUtf8-take (a ++ b) (length a) h seam), subst (λ (x : List ℕ). IsUtf8 x) (drop-append_seam a b) (IsUtf8-drop (a ++ b) (length a) h seam))
 
-pub no_end_lines : (k : ItemType) (ls : List Line) → AllByRecursion IsWholeLine ls → IsUtf8 (concat ls) → NoTerminator k (concat ls) → AllByRecursion (λ l. NoEnd k (tokens_of l)) ls
+pub no_end_lines : (k : ItemType) (ls : List Line) → AllByRecursion IsWholeLine ls → IsUtf8 (concat ls) → NoTerminatorWord k (concat ls) → AllByRecursion (λ l. NoEnd k (tokens_of l)) ls
 no_end_lines k [] each utf8 none = tt
 no_end_lines k (l ∷ ls) each utf8 none =
     let (first, rest) = utf8_parts l (concat ls) (inr (each.0.0, each.0.2)) utf8 in
@@ -246,18 +246,18 @@ no_end_lines k (l ∷ ls) each utf8 none =
       no_end_lines k ls each.1 rest (λ w e. absent_back w l (concat ls) (none w e)),
     )
 
-pub without_end : (k : ItemType) (bytes front : List ℕ) (len : ℕ) → StartsWith bytes front → NoTerminator k front → len ≤ length front → IsLines (take len front) → IsUtf8 (take len front) → IsWithoutEnd k bytes len
+pub without_end : (k : ItemType) (bytes front : List ℕ) (len : ℕ) → StartsWith bytes front → NoTerminatorWord k front → len ≤ length front → IsLines (take len front) → IsUtf8 (take len front) → IsWithoutEnd k bytes len
 without_end k bytes front len starts none within lines utf8 =
     let same : take len front ≡ take len bytes = sym (ap (take len) starts) ∙ take-take len (length front) bytes within in
     record {
       within = omega (arith, within, starts_with_length bytes front starts);
       lines = subst (λ (x : List ℕ). IsLines x) same lines;
       utf8 = subst (λ (x : List ℕ). IsUtf8 x) same utf8;
-      none = subst (λ (x : List ℕ). NoTerminator k x) same (λ w h. absent_front w (take len front) front (front_take len front) (none w h));
+      none = subst (λ (x : List ℕ). NoTerminatorWord k x) same (λ w h. absent_front w (take len front) front (front_take len front) (none w h));
     }
 
-pub no_end_nil : (k : ItemType) → NoTerminator k []
-no_end_nil k w e front back h = let some = end_word_some k w e in let n = ap length h ∙ length-append front (w ++ back) in let m = length-append w back in absurd (omega arith)
+pub no_end_nil : (k : ItemType) → NoTerminatorWord k []
+no_end_nil k w e front back h = let some = terminator_some k w e in let n = ap length h ∙ length-append front (w ++ back) in let m = length-append w back in absurd (omega arith)
 
 -- ---- lines that are passed over
 
@@ -275,7 +275,7 @@ passed_over k ls rest left s lines h (inr (going, len, left_is, p)) =
     let back_lines = lines_left k ls rest s lines h in
     let (more, back, parts, bytes) = lines_split h.back (take len rest) (drop len rest) back_lines (sym h.rest_is ∙ sym (take-append-drop len rest)) p.lines in
     let each = lines_whole more (are_front more back (subst (λ (x : List Line). AreLines x) parts back_lines)) (subst (λ (x : List ℕ). IsLines x) (sym bytes) p.lines) in
-    let none = no_end_lines k more each (subst (λ (x : List ℕ). IsUtf8 x) (sym bytes) p.utf8) (subst (λ (x : List ℕ). NoTerminator k x) (sym bytes) p.none) in
+    let none = no_end_lines k more each (subst (λ (x : List ℕ). IsUtf8 x) (sym bytes) p.utf8) (subst (λ (x : List ℕ). NoTerminatorWord k x) (sym bytes) p.none) in
     let r = pass_lines k h.front more s going none h.after h.uncut in
     let long : length (concat more) ≡ len = omega (arith, ap length bytes, length-take len rest, p.within) in
     record {
@@ -317,12 +317,12 @@ whole_uncut k ls text len e lines f long =
 
 no_end_front : (k : ItemType) (xs ys : List Line) → AllByRecursion (λ l. NoEnd k (tokens_of l)) (xs ++ ys) → NoEnd k (tokens_of_lines xs)
 no_end_front k [] ys each = tt
-no_end_front k (x ∷ xs) ys each = All-both (λ t. is_terminator_token k t ≡ false) (tokens_of x) (tokens_of_lines xs) each.0 (no_end_front k xs ys each.1)
+no_end_front k (x ∷ xs) ys each = All-both (λ t. token_begins_terminator k t ≡ false) (tokens_of x) (tokens_of_lines xs) each.0 (no_end_front k xs ys each.1)
 
 -- no cut point is in whole lines in which no end word occurs
-pub no_end_uncut : (k : ItemType) (ls : List Line) (text : List ℕ) → text ≡ concat ls → AreLines ls → IsLines text → IsUtf8 text → NoTerminator k text → HasNoCutAfter k ls 0
+pub no_end_uncut : (k : ItemType) (ls : List Line) (text : List ℕ) → text ≡ concat ls → AreLines ls → IsLines text → IsUtf8 text → NoTerminatorWord k text → HasNoCutAfter k ls 0
 no_end_uncut k ls text e lines whole utf8 none front back parts cut =
-    let each = no_end_lines k ls (lines_whole ls lines (subst (λ (x : List ℕ). IsLines x) e whole)) (subst (λ (x : List ℕ). IsUtf8 x) e utf8) (subst (λ (x : List ℕ). NoTerminator k x) e none) in
+    let each = no_end_lines k ls (lines_whole ls lines (subst (λ (x : List ℕ). IsLines x) e whole)) (subst (λ (x : List ℕ). IsUtf8 x) e utf8) (subst (λ (x : List ℕ). NoTerminatorWord k x) e none) in
     let last = cut.0 in
     absurd (no_end_ends k last.before last.after last.word (subst (λ (x : List Lexeme). NoEnd k x) last.whole (no_end_front k front back (subst (λ (x : List Line). AllByRecursion (λ l. NoEnd k (tokens_of l)) x) parts each))) last.ends)
 

@@ -10,17 +10,17 @@ use Rattle.souper_graph.specs.Instructions.{word_of}
 use Rattle.souper_graph.specs.Values.{PlainAttribute, PlainRootAttribute, PlainRhs, PlainStatement, assigned, condition, block_condition, PlainCand, inferred, resulting, replaced, candidate, Item}
 use Rattle.souper_graph.specs.Syntax.Spelling.{kinds, Scope, optional_type_spells, operand_spells, further_spells, operands_spells, pair_spells, rhs_spells, attributes_spell, root_attributes_spell, statement_spells, cand_spells, result_spells, Statements, ItemType, left_hand_side, right_hand_side, replacement, Tail, tail_spells, item_spells, list_spells, TextSpells}
 use Rattle.souper_ir.specs.Laws.Words.{opcode_is}
-use Rattle.souper_stream.specs.Lines.{last_word, line_word, is_terminator, is_terminator_token, defines, starts_line, NoStart, LastEnds}
+use Rattle.souper_stream.specs.Lines.{last_word, line_word, begins_terminator, token_begins_terminator, defines, starts_line, NoStart, LastEnds}
 
 -- ---- words
 
-pub end_is_line : (k : ItemType) (w : List ℕ) → is_terminator k w ≡ true → line_word w ≡ true
+pub end_is_line : (k : ItemType) (w : List ℕ) → begins_terminator k w ≡ true → line_word w ≡ true
 end_is_line k w h = grind arith
 
 not_last : (w : List ℕ) → line_word w ≡ false → last_word w ≡ false
 not_last w h = grind arith
 
-not_end : (k : ItemType) (w : List ℕ) → last_word w ≡ false → is_terminator k w ≡ false
+not_end : (k : ItemType) (w : List ℕ) → last_word w ≡ false → begins_terminator k w ≡ false
 not_end k w h = grind arith
 
 instruction_word : (i : Instruction) → line_word (word_of i) ≡ false
@@ -39,7 +39,7 @@ ArePlain ts = AllByRecursion Plain ts
 
 -- none is the word of a line that an item of the type ends with
 abbrev pub NoEnd : ItemType → List Lexeme → Type 0
-NoEnd k ts = AllByRecursion (λ t. is_terminator_token k t ≡ false) ts
+NoEnd k ts = AllByRecursion (λ t. token_begins_terminator k t ≡ false) ts
 
 pub quiet_append : (xs ys : List Lexeme) → ArePlain xs → NoStart ys → NoStart (xs ++ ys)
 quiet_append [] ys p q = q
@@ -55,7 +55,7 @@ quiet_no_end k (t ∷ ts) h = (grind (arith, not_end k, not_last), quiet_no_end 
 plain_no_end : (k : ItemType) (xs : List Lexeme) → ArePlain xs → NoEnd k xs
 plain_no_end k xs p = quiet_no_end k xs (plain_quiet xs p)
 
-pub no_end_ends : (k : ItemType) (before after : List Lexeme) (w : List ℕ) → NoEnd k (before ++ ident w ∷ after) → is_terminator k w ≡ true → ⊥
+pub no_end_ends : (k : ItemType) (before after : List Lexeme) (w : List ℕ) → NoEnd k (before ++ ident w ∷ after) → begins_terminator k w ≡ true → ⊥
 no_end_ends k [] after w none h = let no = none.0 in cc
 no_end_ends k (t ∷ before) after w none h = no_end_ends k before after w none.1 h
 
@@ -101,14 +101,14 @@ operand_quiet s x ts ys h d q = grind (arith, optional_type_plain, quiet_append)
 
 further_no_end : (k : ItemType) (s : Scope) (xs : List Operand) (ts : List Lexeme) → further_spells s xs ts → NoEnd k ts
 further_no_end k s [] ts h = rw h tt
-further_no_end k s (x ∷ xs) ts (us, e, h) = rw (e, h.whole) (refl, All-both (λ t. is_terminator_token k t ≡ false) h.prefix h.suffix (operand_no_end k s x h.prefix h.first) (further_no_end k s xs h.suffix h.second))
+further_no_end k s (x ∷ xs) ts (us, e, h) = rw (e, h.whole) (refl, All-both (λ t. token_begins_terminator k t ≡ false) h.prefix h.suffix (operand_no_end k s x h.prefix h.first) (further_no_end k s xs h.suffix h.second))
 
 operands_no_end : (k : ItemType) (s : Scope) (xs : List Operand) (ts : List Lexeme) → operands_spells s xs ts → NoEnd k ts
 operands_no_end k s [] ts h = rw h tt
-operands_no_end k s (x ∷ xs) ts h = rw h.whole (All-both (λ t. is_terminator_token k t ≡ false) h.prefix h.suffix (operand_no_end k s x h.prefix h.first) (further_no_end k s xs h.suffix h.second))
+operands_no_end k s (x ∷ xs) ts h = rw h.whole (All-both (λ t. token_begins_terminator k t ≡ false) h.prefix h.suffix (operand_no_end k s x h.prefix h.first) (further_no_end k s xs h.suffix h.second))
 
 pair_no_end : (k : ItemType) (s : Scope) (x y : Operand) (ts : List Lexeme) → pair_spells s x y ts → NoEnd k ts
-pair_no_end k s x y ts h = rw h.whole (All-both (λ t. is_terminator_token k t ≡ false) h.prefix h.suffix (operand_no_end k s x h.prefix h.first) (operand_no_end k s y h.suffix h.second))
+pair_no_end k s x y ts h = rw h.whole (All-both (λ t. token_begins_terminator k t ≡ false) h.prefix h.suffix (operand_no_end k s x h.prefix h.first) (operand_no_end k s y h.suffix h.second))
 
 -- ---- right sides and attributes
 
@@ -133,15 +133,15 @@ statement_no_end : (k : ItemType) (s : Scope) (v : PlainStatement) (ts : List Le
 statement_no_end k s (assigned a) ts h =
     rw h.whole (
       refl,
-      All-both (λ t. is_terminator_token k t ≡ false) h.ty (equals ∷ (h.rhs ++ h.attributes)) (plain_no_end k h.ty (optional_type_plain a.ty h.ty h.ty_spelled))
-          (refl, All-both (λ t. is_terminator_token k t ≡ false) h.rhs h.attributes (rhs_no_end k s a.value h.rhs h.rhs_spelled) (plain_no_end k h.attributes (attributes_plain a.attributes h.attributes h.attributes_spelled))),
+      All-both (λ t. token_begins_terminator k t ≡ false) h.ty (equals ∷ (h.rhs ++ h.attributes)) (plain_no_end k h.ty (optional_type_plain a.ty h.ty h.ty_spelled))
+          (refl, All-both (λ t. token_begins_terminator k t ≡ false) h.rhs h.attributes (rhs_no_end k s a.value h.rhs h.rhs_spelled) (plain_no_end k h.attributes (attributes_plain a.attributes h.attributes h.attributes_spelled))),
     )
 statement_no_end k s (condition p) ts h = rw h.1 (not_end k (codes "pc") refl, pair_no_end k s p.x p.y h.0 h.2)
 statement_no_end k s (block_condition p) ts h = rw h.whole (not_end k (codes "blockpc") refl, (refl, (refl, pair_no_end k s p.x p.y h.rest h.operands_spelled)))
 
 statements_no_end : (k : ItemType) (s : Scope) (vs : List PlainStatement) (ts : List Lexeme) → Statements s vs ts → NoEnd k ts
 statements_no_end k s [] ts h = rw h tt
-statements_no_end k s (v ∷ vs) ts h = rw h.whole (All-both (λ t. is_terminator_token k t ≡ false) h.prefix h.suffix (statement_no_end k s v h.prefix h.first) (statements_no_end k (s ++ v ∷ []) vs h.suffix h.second))
+statements_no_end k s (v ∷ vs) ts h = rw h.whole (All-both (λ t. token_begins_terminator k t ≡ false) h.prefix h.suffix (statement_no_end k s v h.prefix h.first) (statements_no_end k (s ++ v ∷ []) vs h.suffix h.second))
 
 -- ---- last lines
 
@@ -167,7 +167,7 @@ record EndsOnce (k : ItemType) (ts : List Lexeme) : Type 0 where
   pub others : List Lexeme
   pub whole : ts ≡ head ++ ident word ∷ others
   pub no_end : NoEnd k head
-  pub ends : is_terminator k word ≡ true
+  pub ends : begins_terminator k word ≡ true
   pub quiet : NoStart others
 
 tail_ends : (k : ItemType) (s : Scope) (y : Tail) (ts : List Lexeme) → tail_spells k s y ts → EndsOnce k ts
@@ -184,7 +184,7 @@ tail_ends replacement s (new, replaced i r) ts h =
       word = codes "result";
       others = last.0;
       whole = h.whole ∙ ap (λ (x : List Lexeme). h.infer ++ (h.middle ++ x)) last.1 ∙ sym (append_assoc h.infer h.middle (ident (codes "result") ∷ last.0));
-      no_end = All-both (λ t. is_terminator_token replacement t ≡ false) h.infer h.middle infer_no_end middle_no_end;
+      no_end = All-both (λ t. token_begins_terminator replacement t ≡ false) h.infer h.middle infer_no_end middle_no_end;
       ends = refl;
       quiet = result_quiet (s ++ new) r h.result last;
     }
@@ -200,16 +200,16 @@ item_ends k a ts h =
       word = t.word;
       others = t.others;
       whole = h.whole ∙ ap (λ (x : List Lexeme). h.head ++ x) t.whole ∙ sym (append_assoc h.head t.head (ident t.word ∷ t.others));
-      no_end = All-both (λ t. is_terminator_token k t ≡ false) h.head t.head (statements_no_end k [] h.first h.head h.head_spelled) t.no_end;
+      no_end = All-both (λ t. token_begins_terminator k t ≡ false) h.head t.head (statements_no_end k [] h.first h.head h.head_spelled) t.no_end;
       ends = t.ends;
       quiet = t.quiet;
     }
 
 -- what comes after a word that ends the item is what comes after its last one
-one_end : (k : ItemType) (head pre others more : List Lexeme) (v w : List ℕ) → NoEnd k head → NoEnd k others → is_terminator k w ≡ true → head ++ ident v ∷ others ≡ pre ++ ident w ∷ more → more ≡ others
+one_end : (k : ItemType) (head pre others more : List Lexeme) (v w : List ℕ) → NoEnd k head → NoEnd k others → begins_terminator k w ≡ true → head ++ ident v ∷ others ≡ pre ++ ident w ∷ more → more ≡ others
 one_end k [] [] others more v w a b h e = cc
 one_end k [] (x ∷ pre) others more v w a b h e = let rest : others ≡ pre ++ ident w ∷ more = cc in absurd (no_end_ends k pre more w (subst (λ (z : List Lexeme). NoEnd k z) rest b) h)
-one_end k (y ∷ head) [] others more v w a b h e = let same : y ≡ ident w = cc in let bad : is_terminator k w ≡ false = ap (λ (z : Lexeme). is_terminator_token k z) (sym same) ∙ a.0 in cc
+one_end k (y ∷ head) [] others more v w a b h e = let same : y ≡ ident w = cc in let bad : begins_terminator k w ≡ false = ap (λ (z : Lexeme). token_begins_terminator k z) (sym same) ∙ a.0 in cc
 one_end k (y ∷ head) (x ∷ pre) others more v w a b h e = let tails : head ++ ident v ∷ others ≡ pre ++ ident w ∷ more = cc in one_end k head pre others more v w a.1 b h tails
 
 -- ---- where an item begins

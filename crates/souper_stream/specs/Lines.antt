@@ -12,15 +12,15 @@ abbrev pub line_word : List ℕ → Bool
 line_word w = last_word w || (bytes_eq w (codes "pc") || bytes_eq w (codes "blockpc"))
 
 -- the word begins the line that an item of the type ends with
-abbrev pub is_terminator : ItemType → List ℕ → Bool
-is_terminator left_hand_side w = bytes_eq w (codes "infer")
-is_terminator right_hand_side w = bytes_eq w (codes "result")
-is_terminator replacement w = bytes_eq w (codes "result") || bytes_eq w (codes "cand")
+abbrev pub begins_terminator : ItemType → List ℕ → Bool
+begins_terminator left_hand_side w = bytes_eq w (codes "infer")
+begins_terminator right_hand_side w = bytes_eq w (codes "result")
+begins_terminator replacement w = bytes_eq w (codes "result") || bytes_eq w (codes "cand")
 
 -- the token is a word that begins the line that an item of the type ends with
-abbrev pub is_terminator_token : ItemType → Lexeme → Bool
-is_terminator_token k (ident w) = is_terminator k w
-is_terminator_token k _ = false
+abbrev pub token_begins_terminator : ItemType → Lexeme → Bool
+token_begins_terminator k (ident w) = begins_terminator k w
+token_begins_terminator k _ = false
 
 -- what follows a name that is defined: its type, or the equals sign
 abbrev pub defines : List Lexeme → Bool
@@ -45,7 +45,7 @@ pub record LastEnds (k : ItemType) (ts : List Lexeme) : Type 0 where
   pub word : List ℕ
   pub after : List Lexeme
   pub whole : ts ≡ before ++ ident word ∷ after
-  pub ends : is_terminator k word ≡ true
+  pub ends : begins_terminator k word ≡ true
   pub quiet : NoStart after
 
 -- the token shows that a line begins: it is the word of one, or it defines the name before it, if there is one
@@ -64,7 +64,7 @@ first_state = record { after_name = false; ends_item = false }
 
 -- the state after one token more
 abbrev pub state_after : ItemType → ScanState → Lexeme → ScanState
-state_after k s t = record { after_name = is_name t; ends_item = cond (shows_line s.after_name t) (is_terminator_token k t) s.ends_item }
+state_after k s t = record { after_name = is_name t; ends_item = cond (shows_line s.after_name t) (token_begins_terminator k t) s.ends_item }
 
 -- the state after more tokens
 abbrev pub scanned : ItemType → ScanState → List Lexeme → ScanState
@@ -76,15 +76,15 @@ abbrev pub IsAbsent : List ℕ → List ℕ → Type 0
 IsAbsent w bs = (front back : List ℕ) → bs ≡ front ++ (w ++ back) → ⊥
 
 -- no word that an item of the type ends with is in the bytes
-abbrev pub NoTerminator : ItemType → List ℕ → Type 0
-NoTerminator k bs = (w : List ℕ) → is_terminator k w ≡ true → IsAbsent w bs
+abbrev pub NoTerminatorWord : ItemType → List ℕ → Type 0
+NoTerminatorWord k bs = (w : List ℕ) → begins_terminator k w ≡ true → IsAbsent w bs
 
 -- the first `len` bytes are whole lines of UTF-8 without such a word
 pub record IsWithoutEnd (k : ItemType) (bytes : List ℕ) (len : ℕ) : Type 0 where
   pub within : len ≤ length bytes
   pub lines : IsLines (take len bytes)
   pub utf8 : IsUtf8 (take len bytes)
-  pub none : NoTerminator k (take len bytes)
+  pub none : NoTerminatorWord k (take len bytes)
 
 -- such lines were passed over, if no item ends before them
 abbrev pub PassesOver : ItemType → ScanState → List ℕ → List ℕ → Type 0

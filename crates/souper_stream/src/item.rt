@@ -1,6 +1,6 @@
 //! The types of items that are read from a stream, and the words that they end with.
 ghost use Rattle.std.specs.Prelude.{◌≡◌};
-ghost use Rattle.souper_stream.specs.Lines.{is_terminator};
+ghost use Rattle.souper_stream.specs.Lines.{begins_terminator};
 
 use souper_ir::ast::{LeftHandSide, Replacement, RightHandSide};
 use souper_ir::parse::WholeItem;
@@ -9,7 +9,7 @@ use souper_ir::parse::WholeItem;
 pub trait StreamItem: WholeItem {
     /// Whether the word begins a terminator: the line that an item of the type ends with.
     fn ends_with(word: &str) -> bool
-        ensures { result ≡ is_terminator Self.item_type word.now };
+        ensures { result ≡ begins_terminator Self.item_type word.now };
 }
 
 impl StreamItem for LeftHandSide {

@@ -4,7 +4,7 @@ ghost use Rattle.std.specs.Io.{StartsWith};
 ghost use Rattle.std.specs.Io.BufRead.{take_through};
 ghost use Rattle.souper_stream.specs.Prelude.{IsOneLine, kinds, is_name, IsLines};
 ghost use Rattle.souper_lexer.specs.TokenView.{lexeme_of, Yields};
-ghost use Rattle.souper_stream.specs.Lines.{last_word, line_word, is_terminator_token, shows_line, defines, starts_line, is_terminator, first_state, state_after, scanned, IsAbsent, NoTerminator, IsWithoutEnd};
+ghost use Rattle.souper_stream.specs.Lines.{last_word, line_word, token_begins_terminator, shows_line, defines, starts_line, begins_terminator, first_state, state_after, scanned, IsAbsent, NoTerminatorWord, IsWithoutEnd};
 ghost use Rattle.souper_stream.specs.Segments.{tokens_of, IsLastLineAt};
 
 use crate::item::StreamItem;
@@ -146,10 +146,10 @@ pub fn lines_len(bytes: &[u8]) -> usize
 }
 
 // The bytes before the first occurrence of the word, if an item of the type ends with a line that it begins; else all.
-#[tactic(auto, using(crate::proofs::Cutting::front_take, crate::proofs::Cutting::absent_before, crate::proofs::Cutting::end_word_some))]
+#[tactic(auto, using(crate::proofs::Cutting::front_take, crate::proofs::Cutting::absent_before, crate::proofs::Cutting::terminator_some))]
 fn before_word<'a, T: StreamItem>(bytes: &'a [u8], word: &str) -> &'a [u8]
     ensures front { StartsWith bytes.now result.now }
-    ensures none { is_terminator T.item_type word.now ≡ true → IsAbsent word.now result.now }
+    ensures none { begins_terminator T.item_type word.now ≡ true → IsAbsent word.now result.now }
 {
     if !T::ends_with(word) {
         return bytes;
@@ -182,7 +182,7 @@ pub(crate) fn len_without_end<T: StreamItem>(bytes: &[u8]) -> (usize, usize)
 // The end of the first byte of the last occurrence of the word, if items of the type end with a line that it begins. Else 0.
 fn last_occurrence<T: StreamItem>(bytes: &[u8], word: &str) -> usize
     ensures within { result ≤ length bytes.now }
-    ensures none { result ≡ 0 → is_terminator T.item_type word.now ≡ true → IsAbsent word.now bytes.now }
+    ensures none { result ≡ 0 → begins_terminator T.item_type word.now ≡ true → IsAbsent word.now bytes.now }
 {
     // Where the word does not occur, a search forward finds that out faster.
     if !T::ends_with(word) || before_word::<T>(bytes, word).len() == bytes.len() {
@@ -197,7 +197,7 @@ fn last_occurrence<T: StreamItem>(bytes: &[u8], word: &str) -> usize
 /// The offset of the last line in which a word occurs that items of the type end with, be it in a token or in a comment.
 pub(crate) fn last_line_with_end<T: StreamItem>(bytes: &[u8]) -> Option<usize>
     ensures line { IfSome result (λ start. IsLines (take start bytes.now) × (start ≤ length bytes.now)) }
-    ensures none { IfNone result (NoTerminator T.item_type bytes.now) }
+    ensures none { IfNone result (NoTerminatorWord T.item_type bytes.now) }
 {
     let infer = last_occurrence::<T>(bytes, "infer");
     let result = last_occurrence::<T>(bytes, "result");
