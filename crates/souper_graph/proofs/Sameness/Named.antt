@@ -1,5 +1,5 @@
 -- Items with other names: the same graph up to names, and well formed if the names are.
-use Rattle.std.proofs.Common.{◌≡◌, ℕ, zero, suc, ◌+◌, ◌<◌, length, List, [], ◌∷◌, Bool, true, false, cond, Some, refl, sym, ap, ◌∙◌, subst, arith}
+use Rattle.std.proofs.Common.{◌≡◌, ℕ, zero, suc, ◌+◌, length, List, [], ◌∷◌, Bool, true, false, cond, Some, refl, sym, ap, ◌∙◌, subst, arith}
 use Rattle.std.specs.Prelude.{nat_lt, option_map}
 use Rattle.std.specs.List.{slice_get}
 use Rattle.std.proofs.lemmas.Bool.{lt-ltb}
@@ -9,13 +9,13 @@ use Rattle.souper_graph.specs.Uses.{Has, Use, position_of, conditions, roots_of,
 use Rattle.souper_graph.specs.Faults.{IsMet}
 use Rattle.souper_graph.specs.WellFormed.{FitsStatement, FitsEnding, AgreesWithBlock, Closed, WellFormed}
 use Rattle.souper_graph.specs.Text.{name_of, name_at}
-use Rattle.souper_graph.specs.Sameness.{carried, SameGraph, place}
+use Rattle.souper_graph.specs.Sameness.{carried, carried_ending, SameGraph, place}
 use Rattle.souper_graph.specs.Renaming.{with_name, nameless, SameUpToNames, named_at, named_from, named_by, with_statements}
 use Rattle.souper_graph.proofs.Judging.Needed.{stood, statement_at, well_formed_stands}
 use Rattle.souper_graph.proofs.Sameness.Carrying.{carried-still, agrees-carried}
 use Rattle.souper_graph.proofs.Sameness.Indices.{place-inside}
-use Rattle.souper_graph.proofs.Sameness.Renumbered.{Ordered, contents-at}
-use Rattle.souper_graph.proofs.Sameness.Nameless.{uses-named, named-twice, carried-named, without_names, Alike, nameless-alike, alike-conditions, alike-needed, alike-predecessors, alike-met, nameless-at, nameless-ordered}
+use Rattle.souper_graph.proofs.Sameness.Renumbered.{Ordered}
+use Rattle.souper_graph.proofs.Sameness.Nameless.{uses-named, named-twice, carried-named, without_names, Alike, nameless-alike, alike-conditions, alike-needed, alike-predecessors, alike-met, without-get, there-named, nameless-at, nameless-ordered}
 
 -- ---- an item in which the statements of a list have the names of their indices
 
@@ -73,53 +73,51 @@ own-name (assigned a) = refl
 own-name (condition p) = refl
 own-name (block_condition p) = refl
 
--- a new name hides whether the statement had one
-pub hidden : (x : Item) → Ordered x → (m : List ℕ) (i : ℕ) → NeededIn x i → with_name m (statement_at x.statements i) ≡ with_name m (statement_at (nameless x).statements i)
-hidden x o m i d =
-    let u = statement_at x.statements i in
-    sym (named-twice m [] u) ∙ ap (with_name m) (sym (ap stood (nameless-at x i u (o.there i d))))
+pub own-names : (a : Item) → IsNamedBy (name_at a.statements) a a
+own-names a = record {
+  alike = refl;
+  named = λ p s d e. e ∙ ap (λ (z : PlainStatement). Some z) (sym (ap (λ (n : List ℕ). with_name n s) (ap name_of e) ∙ own-name s));
+}
+
+-- the names that b has do not depend on those that a has
+pub nameless-named : (a b : Item) (f : ℕ → List ℕ) → IsNamedBy f a b → IsNamedBy f (nameless a) b
+nameless-named a b f n = record {
+  alike = n.alike ∙ sym (nameless-alike a);
+  named = λ p s d e.
+      let u = statement_at a.statements p in
+      let at = there-named (slice_get a.statements p) s (sym (without-get a.statements p) ∙ e) in
+      n.named p u (alike-needed (nameless a) a (sym (nameless-alike a)) d) at
+      ∙ ap (λ (z : PlainStatement). Some z) (sym (named-twice (f p) [] u) ∙ ap (with_name (f p)) (ap stood (sym (nameless-at a p u at) ∙ e)));
+}
+
+-- items that are the same graph still are, once each two statements that match have the same name
+abbrev pub both-named : (a b x y : Item) (f g : ℕ → List ℕ) → Ordered a → (s : SameGraph a b) → IsNamedBy f a x → IsNamedBy g b y → ((p : ℕ) → NeededIn a p → g (s.to p) ≡ f p) → SameGraph x y
+both-named a b x y f g oa s m n same = record {
+  to = s.to;
+  needed = λ i d. alike-needed b y n.alike (s.needed i (from d));
+  onto = λ j d. let r = s.onto j (alike-needed y b (sym n.alike) d) in (r.0, alike-needed a x m.alike r.1, r.2);
+  one_to_one = λ i j di dj e. s.one_to_one i j (from di) (from dj) e;
+  contents = λ i t d e.
+      let u = statement_at a.statements i in
+      let at = oa.there i (from d) in
+      n.named (s.to i) (carried s.to u) (s.needed i (from d)) (s.contents i u (from d) at)
+      ∙ ap (λ (z : List ℕ). Some (with_name z (carried s.to u))) (same i (from d))
+      ∙ ap (λ (z : PlainStatement). Some z) (sym (carried-named s.to (f i) u) ∙ ap (carried s.to) (ap stood (sym (m.named i u (from d) at) ∙ e)));
+  ending = ap (λ (z : Item). z.ending) n.alike ∙ s.ending ∙ ap (λ (z : Item). carried_ending s.to z.ending) (sym m.alike);
+  condition_order = λ i j hi hj l. s.condition_order i j (condition_from i hi) (condition_from j hj) l;
+}
+  where
+    from : {i : ℕ} → NeededIn x i → NeededIn a i
+    from d = alike-needed x a (sym m.alike) d
+
+    condition_from : (i : ℕ) → Has (conditions x) i → Has (conditions a) i
+    condition_from i h = subst (λ (z : List ℕ). Has z i) (alike-conditions a x m.alike) h
 
 -- b has the names of q, and is the same graph up to names
 unfoldable pub named-graph : (q l b : Item) (f : ℕ → List ℕ) → Ordered q → Ordered l → (s : SameUpToNames q l) → IsNamedBy f l b → ((p : ℕ) → NeededIn q p → f (s.to p) ≡ name_at q.statements p) → SameGraph q b
-named-graph q l b f oq ol s n same = record {
-  to = s.to;
-  needed = λ i d. to-b (s.needed i (bare q d));
-  onto = λ j d. let r = s.onto j (from-b d) in (r.0, clad q r.1, r.2);
-  one_to_one = λ i j di dj e. s.one_to_one i j (bare q di) (bare q dj) e;
-  contents = contents;
-  ending = ap (λ (x : Item). x.ending) n.alike ∙ s.ending;
-  condition_order = λ i j hi hj lt. s.condition_order i j (bare_condition i hi) (bare_condition j hj) lt;
-}
-  where
-    bare : (x : Item) → {i : ℕ} → NeededIn x i → NeededIn (nameless x) i
-    bare x d = alike-needed x (nameless x) (nameless-alike x) d
-
-    clad : (x : Item) → {i : ℕ} → NeededIn (nameless x) i → NeededIn x i
-    clad x d = alike-needed (nameless x) x (sym (nameless-alike x)) d
-
-    to-b : {i : ℕ} → NeededIn (nameless l) i → NeededIn b i
-    to-b d = alike-needed l b n.alike (clad l d)
-
-    from-b : {i : ℕ} → NeededIn b i → NeededIn (nameless l) i
-    from-b d = bare l (alike-needed b l (sym n.alike) d)
-
-    bare_condition : (i : ℕ) → Has (conditions q) i → Has (conditions (nameless q)) i
-    bare_condition i h = subst (λ (z : List ℕ). Has z i) (sym (alike-conditions q (nameless q) (nameless-alike q))) h
-
-    contents : (i : ℕ) (t : PlainStatement) → NeededIn q i → slice_get q.statements i ≡ Some t → slice_get b.statements (s.to i) ≡ Some (carried s.to t)
-    contents i t d e =
-        let dn = bare q d in
-        let dl = clad l (s.needed i dn) in
-        let m = name_at q.statements i in
-        let t-is : statement_at q.statements i ≡ t = ap stood e in
-        let m-is : m ≡ name_of (Some t) = ap name_of e in
-        let is : with_name m (statement_at l.statements (s.to i)) ≡ carried s.to t =
-        hidden l ol m (s.to i) dl ∙ ap (with_name m) (contents-at (nameless q) (nameless l) (nameless-ordered q oq) s i dn)
-        ∙ sym (carried-named s.to m (statement_at (nameless q).statements i))
-        ∙ ap (carried s.to) (sym (hidden q oq m i d) ∙ ap (with_name m) t-is ∙ ap (λ (z : List ℕ). with_name z t) m-is ∙ own-name t) in
-        n.named (s.to i) (statement_at l.statements (s.to i)) dl (ol.there (s.to i) dl)
-        ∙ ap (λ (z : List ℕ). Some (with_name z (statement_at l.statements (s.to i)))) (same i d)
-        ∙ ap (λ (z : PlainStatement). Some z) is
+named-graph q l b f oq ol s n same =
+    both-named (nameless q) (nameless l) q b (name_at q.statements) f (nameless-ordered q oq) s (nameless-named q q (name_at q.statements) (own-names q)) (nameless-named l b f n)
+    (λ p d. same p (alike-needed (nameless q) q (sym (nameless-alike q)) d))
 
 -- ---- well formed
 

@@ -9,10 +9,10 @@ use Rattle.souper_graph.specs.Order.{unfold_to, firsts, order_of_walks, printed_
 use Rattle.souper_graph.specs.Faults.{IsAssigned, IsBlock, IsMet}
 use Rattle.souper_graph.specs.WellFormed.{predecessors_of, predecessors_at}
 use Rattle.souper_graph.specs.Sameness.{carried}
-use Rattle.souper_graph.specs.Renaming.{with_name, nameless, with_statements}
+use Rattle.souper_graph.specs.Renaming.{with_name, nameless, SameUpToNames, with_statements}
 use Rattle.souper_graph.proofs.Judging.Needed.{stood, statement_at, first_of, last_of}
 use Rattle.souper_graph.proofs.Sameness.Carrying.{map-map}
-use Rattle.souper_graph.proofs.Sameness.Renumbered.{Ordered}
+use Rattle.souper_graph.proofs.Sameness.Renumbered.{Ordered, order-carried}
 
 -- ---- a statement with another name
 
@@ -46,29 +46,17 @@ optional-predecessors (Some (assigned a)) = refl
 optional-predecessors (Some (condition p)) = refl
 optional-predecessors (Some (block_condition p)) = refl
 
-assigned-nameless : (o : Option PlainStatement) → IsAssigned o → IsAssigned (option_map (with_name []) o)
-assigned-nameless None h = h
-assigned-nameless (Some (assigned a)) h = h
-assigned-nameless (Some (condition p)) h = h
-assigned-nameless (Some (block_condition p)) h = h
+assigned-nameless : (o : Option PlainStatement) → IsAssigned (option_map (with_name []) o) ≡ IsAssigned o
+assigned-nameless None = refl
+assigned-nameless (Some (assigned a)) = refl
+assigned-nameless (Some (condition p)) = refl
+assigned-nameless (Some (block_condition p)) = refl
 
-nameless-assigned : (o : Option PlainStatement) → IsAssigned (option_map (with_name []) o) → IsAssigned o
-nameless-assigned None h = h
-nameless-assigned (Some (assigned a)) h = h
-nameless-assigned (Some (condition p)) h = h
-nameless-assigned (Some (block_condition p)) h = h
-
-block-nameless : (o : Option PlainStatement) → IsBlock o → IsBlock (option_map (with_name []) o)
-block-nameless None h = h
-block-nameless (Some (assigned a)) h = h
-block-nameless (Some (condition p)) h = h
-block-nameless (Some (block_condition p)) h = h
-
-nameless-block : (o : Option PlainStatement) → IsBlock (option_map (with_name []) o) → IsBlock o
-nameless-block None h = h
-nameless-block (Some (assigned a)) h = h
-nameless-block (Some (condition p)) h = h
-nameless-block (Some (block_condition p)) h = h
+block-nameless : (o : Option PlainStatement) → IsBlock (option_map (with_name []) o) ≡ IsBlock o
+block-nameless None = refl
+block-nameless (Some (assigned a)) = refl
+block-nameless (Some (condition p)) = refl
+block-nameless (Some (block_condition p)) = refl
 
 -- ---- statements without names
 
@@ -139,16 +127,26 @@ pub alike-predecessors : (a b : Item) → Alike a b → (i : ℕ) → predecesso
 alike-predecessors a b e i =
     sym (optional-predecessors (slice_get b.statements i)) ∙ ap predecessors_of (alike-get a b e i) ∙ optional-predecessors (slice_get a.statements i)
 
-pub alike-met : (a b : Item) → Alike a b → (u : Use) → IsMet a.statements u → IsMet b.statements u
-alike-met a b e (value_use i) h =
-    nameless-assigned (slice_get b.statements i)
-    (subst (λ (o : Option PlainStatement). IsAssigned o) (sym (alike-get a b e i)) (assigned-nameless (slice_get a.statements i) h))
-alike-met a b e (block_use i) h =
-    nameless-block (slice_get b.statements i)
-    (subst (λ (o : Option PlainStatement). IsBlock o) (sym (alike-get a b e i)) (block-nameless (slice_get a.statements i) h))
+met-without : (ss : List PlainStatement) (u : Use) → IsMet (without_names ss) u ≡ IsMet ss u
+met-without ss (value_use i) = ap IsAssigned (without-get ss i) ∙ assigned-nameless (slice_get ss i)
+met-without ss (block_use i) = ap IsBlock (without-get ss i) ∙ block-nameless (slice_get ss i)
 
-some-stood : (o : Option PlainStatement) (s : PlainStatement) → o ≡ Some s → o ≡ Some (stood o)
-some-stood o s e = e ∙ ap (λ (z : PlainStatement). Some z) (sym (ap stood e))
+pub alike-met : (a b : Item) → Alike a b → (u : Use) → IsMet a.statements u → IsMet b.statements u
+alike-met a b e u h =
+    subst (λ (X : Type 0). X) (sym (met-without a.statements u) ∙ ap (λ (x : Item). IsMet x.statements u) (sym e) ∙ met-without b.statements u) h
+
+pub there-named : (o : Option PlainStatement) (t : PlainStatement) → option_map (with_name []) o ≡ Some t → o ≡ Some (stood o)
+there-named None t e = absurd (cc)
+there-named (Some s) t e = refl
+
+pub alike-ordered : (a b : Item) → Alike a b → Ordered a → Ordered b
+alike-ordered a b e o = record {
+  below = λ i u d h. o.below i u (needed d) (subst (λ (z : List ℕ). Has z u) (alike-used a b e i) h);
+  there = λ i d. there-named (slice_get b.statements i) (with_name [] (statement_at a.statements i)) (alike-get a b e i ∙ ap (option_map (with_name [])) (o.there i (needed d)));
+}
+  where
+    needed : {i : ℕ} → NeededIn b i → NeededIn a i
+    needed d = alike-needed b a (sym e) d
 
 -- ---- an item without its names
 
@@ -156,26 +154,9 @@ pub nameless-at : (a : Item) (i : ℕ) (s : PlainStatement) → slice_get a.stat
 nameless-at a i s e = without-get a.statements i ∙ ap (option_map (with_name [])) e
 
 pub nameless-ordered : (a : Item) → Ordered a → Ordered (nameless a)
-nameless-ordered a o = record {
-  below = λ i u d h. o.below i u (needed d) (subst (λ (z : List ℕ). Has z u) (used-without a.statements i) h);
-  there = λ i d. some-stood (slice_get (nameless a).statements i) (with_name [] (statement_at a.statements i)) (nameless-at a i (statement_at a.statements i) (o.there i (needed d)));
-}
-  where
-    needed : {i : ℕ} → NeededIn (nameless a) i → NeededIn a i
-    needed d = alike-needed (nameless a) a (sym (nameless-alike a)) d
+nameless-ordered a o = alike-ordered a (nameless a) (nameless-alike a) o
 
-there-named : (o : Option PlainStatement) (t : PlainStatement) → option_map (with_name []) o ≡ Some t → o ≡ Some (stood o)
-there-named None t e = absurd (cc)
-there-named (Some s) t e = refl
-
-ordered-nameless : (a : Item) → Ordered (nameless a) → Ordered a
-ordered-nameless a o = record {
-  below = λ i u d h. o.below i u (needed d) (subst (λ (z : List ℕ). Has z u) (sym (used-without a.statements i)) h);
-  there = λ i d. there-named (slice_get a.statements i) (statement_at (nameless a).statements i) (sym (without-get a.statements i) ∙ o.there i (needed d));
-}
-  where
-    needed : {i : ℕ} → NeededIn a i → NeededIn (nameless a) i
-    needed d = alike-needed a (nameless a) (nameless-alike a) d
-
-pub alike-ordered : (a b : Item) → Alike a b → Ordered a → Ordered b
-alike-ordered a b e o = ordered-nameless b (subst (λ (x : Item). Ordered x) (sym e) (nameless-ordered a o))
+pub named-order : (a b : Item) → Ordered a → Ordered b → (s : SameUpToNames a b) → printed_order b ≡ map s.to (printed_order a)
+named-order a b oa ob s =
+    sym (alike-order b (nameless b) (nameless-alike b)) ∙ order-carried (nameless a) (nameless b) (nameless-ordered a oa) (nameless-ordered b ob) s
+    ∙ ap (map s.to) (alike-order a (nameless a) (nameless-alike a))

@@ -1,6 +1,6 @@
 -- What `renamed` returns, from the order by which its statements are named.
 use Rattle.std.proofs.Common.{◌≡◌, ℕ, ◌<◌, ◌^◌, length, List, sym, ap, ◌∙◌, subst, arith}
-use Rattle.std.specs.Prelude.{Result, Ok, Err, IfOk, OnOk}
+use Rattle.std.specs.Prelude.{Result, Ok, Err, IfOk}
 use Rattle.souper_graph.specs.Values.{PlainStatement, Item}
 use Rattle.souper_graph.specs.Uses.{UsesBelow}
 use Rattle.souper_graph.specs.Order.{Distinct}
@@ -34,9 +34,3 @@ pub ok-renamed : {X E : Type 0} (a : Item) (seen : X → List PlainStatement) (i
     (Distinct xs → IfOk r (λ copy. seen copy ≡ named_from name_of_index xs 0 a.statements)) → IfOk r (λ copy. IsRenamed a (with_statements a (seen copy)))
 ok-renamed a seen ids xs lead turns (Ok copy) o same few named = is-renamed a (seen copy) ids xs lead turns o same few named
 ok-renamed a seen ids xs lead turns (Err e) o same few named = tt
-
--- the same, where the statements themselves were named
-pub ok-named : {T E : Type 0} (a : Item) (statements : List PlainStatement) (ids xs : List ℕ) (lead turns : ℕ) (r : Result T E) → IsPrintOrder a ids lead turns → xs ≡ ids → length xs < 2 ^ 64 →
-    (Distinct xs → OnOk r (statements ≡ named_from name_of_index xs 0 a.statements)) → OnOk r (IsRenamed a (with_statements a statements))
-ok-named a statements ids xs lead turns (Ok done) o same few named = is-renamed a statements ids xs lead turns o same few named
-ok-named a statements ids xs lead turns (Err e) o same few named = tt

@@ -12,12 +12,39 @@ ghost use Rattle.souper_graph.specs.Building.{BeginsWithPercent, chosen_name, ad
 
 use crate::ast::arenas::Arena;
 use crate::ast::attributes::{Attribute, RootAttribute};
-use crate::ast::ids::{BlockId, ValueId};
-use crate::ast::items::{Cand, Infer, LeftHandSide, Replacement};
+use crate::ast::ids::{BlockId, Id, ValueId};
+use crate::ast::items::{Cand, Infer, LeftHandSide, Replacement, RightHandSide};
+use crate::ast::lookup::known_assignment;
 use crate::ast::operands::{Operand, Type};
 use crate::ast::statements::{Assignment, AssignmentRhs, Block, BlockPc, Pc, Statement};
 use std::alloc::{AllocError, Global};
-use std::marker::Model;
+use std::marker::{Model, PhantomData};
+
+/// A builder of a `K`: its arena, which grows statement by statement.
+#[derive(Drop)]
+#[derive_where(Debug)]
+pub struct Builder<K> {
+    statements: Arena<Statement>,
+    of: PhantomData<K>,
+}
+
+/// A builder of a [`Replacement`].
+pub type ReplacementBuilder = Builder<Replacement>;
+
+/// A builder of a [`LeftHandSide`].
+pub type LeftHandSideBuilder = Builder<LeftHandSide>;
+
+/// A builder of a [`RightHandSide`].
+pub type RightHandSideBuilder = Builder<RightHandSide>;
+
+impl<K> Model for Builder<K> {
+    ghost use Rattle.std.specs.Prelude.{List};
+    ghost use Rattle.souper_graph.specs.declared.ast.statements.Statement.{Statement};
+
+    ghost Value = { List Statement };
+
+    ghost view = { λ builder. builder.statements };
+}
 
 // The name that is given, or `%` and the count.
 fn name_or_count(alloc: Global, name: Option<String>, count: usize) -> Result<String, AllocError>
@@ -29,104 +56,12 @@ fn name_or_count(alloc: Global, name: Option<String>, count: usize) -> Result<St
     }
 }
 
-pub(super) fn put_assignment(
-    statements: &mut Arena<Statement>,
-    name: Option<String>,
-    ty: Option<Type>,
-    value: AssignmentRhs,
-    attributes: Vec<Attribute>,
-) -> Result<ValueId, AllocError>
-    ensures position { IfOk result (λ id. id ≡ length statements.old) }
-    ensures grows { OnOk result (Appends statements.old statements.new (added_assignment name (length statements.old) ty (view_rhs value) (map view_attribute attributes.items))) }
-    ensures err { OnErr result (statements.new ≡ statements.old) }
-{
-    let name = name_or_count(statements.allocator(), name, statements.len())?;
-    let assignment = Assignment {
-        name,
-        ty,
-        value,
-        attributes,
-    };
-    let id = statements.alloc(assignment.into())?;
-    Ok(id.into())
-}
-
-pub(super) fn put_block(
-    statements: &mut Arena<Statement>,
-    name: Option<String>,
-    predecessors: u32,
-) -> Result<BlockId, AllocError>
-    ensures position { IfOk result (λ id. id ≡ length statements.old) }
-    ensures grows { OnOk result (Appends statements.old statements.new (added_assignment name (length statements.old) None (block (record { predecessors = predecessors })) [])) }
-    ensures err { OnErr result (statements.new ≡ statements.old) }
-{
-    let name = name_or_count(statements.allocator(), name, statements.len())?;
-    let assignment = Assignment {
-        name,
-        ty: None,
-        value: Block { predecessors }.into(),
-        attributes: Vec::new(statements.allocator()),
-    };
-    let block = statements.alloc(assignment.into())?;
-    Ok(block.into())
-}
-
-pub(super) fn put_pc(
-    statements: &mut Arena<Statement>,
-    x: Operand,
-    y: Operand,
-) -> Result<(), AllocError>
-    ensures grows { OnOk result (Appends statements.old statements.new (condition (record { x = x; y = y }))) }
-    ensures err { OnErr result (statements.new ≡ statements.old) }
-{
-    statements.alloc(Pc { x, y }.into())?;
-    Ok(())
-}
-
-pub(super) fn put_block_pc(
-    statements: &mut Arena<Statement>,
-    block_pc: BlockPc,
-) -> Result<(), AllocError>
-    ensures grows { OnOk result (Appends statements.old statements.new (block_condition block_pc)) }
-    ensures err { OnErr result (statements.new ≡ statements.old) }
-{
-    statements.alloc(block_pc.into())?;
-    Ok(())
-}
-
-fn assignment_at(statements: &Arena<Statement>, id: ValueId) -> &Assignment
-    requires { IsAssigned (slice_get (map view_statement statements.now) id) }
-    ensures { slice_get statements.now id ≡ Some (assignment_variant result.now) }
-{
-    match statements.get(id.into()) {
-        Some(Statement::Assignment(assignment)) => assignment,
-        _ => unreachable!(),
-    }
-}
-
-/// A builder of a [`Replacement`]: its arena, which grows statement by statement.
-#[derive(Debug, Drop)]
-pub struct ReplacementBuilder {
-    statements: Arena<Statement>,
-}
-
-impl Model for ReplacementBuilder {
-    ghost use Rattle.std.specs.Prelude.{List};
-    ghost use Rattle.souper_graph.specs.declared.ast.statements.Statement.{Statement};
-
-    ghost Value = { List Statement };
-
-    ghost view = { λ builder. builder.statements };
-}
-
-impl ReplacementBuilder {
+impl<K> Builder<K> {
     /// An empty builder. It does not allocate.
     pub fn new(alloc: Global) -> Self
         ensures { result ≡ [] }
     {
-        ReplacementBuilder {
-            statements: Arena::new(alloc),
-        }
+        Arena::new(alloc).into()
     }
 
     /// Appends an assignment and returns the id of its value.
@@ -145,7 +80,15 @@ impl ReplacementBuilder {
         ensures grows { OnOk result (Appends self.old self.new (added_assignment name (length self.old) ty (view_rhs value) (map view_attribute attributes.items))) }
         ensures err { OnErr result (self.new ≡ self.old) }
     {
-        put_assignment(&mut self.statements, name, ty, value, attributes)
+        let name = name_or_count(self.statements.allocator(), name, self.statements.len())?;
+        let assignment = Assignment {
+            name,
+            ty,
+            value,
+            attributes,
+        };
+        let id = self.statements.alloc(assignment.into())?;
+        Ok(id.into())
     }
 
     /// Appends the assignment of a block and returns the block's id.
@@ -158,7 +101,10 @@ impl ReplacementBuilder {
         ensures grows { OnOk result (Appends self.old self.new (added_assignment name (length self.old) None (block (record { predecessors = predecessors })) [])) }
         ensures err { OnErr result (self.new ≡ self.old) }
     {
-        put_block(&mut self.statements, name, predecessors)
+        let value = Block { predecessors }.into();
+        let attributes = Vec::new(self.statements.allocator());
+        let id: Id<Statement> = self.assignment(name, None, value, attributes)?.into();
+        Ok(id.into())
     }
 
     /// Appends the path condition that `x` equals `y`.
@@ -168,7 +114,8 @@ impl ReplacementBuilder {
         ensures grows { OnOk result (Appends self.old self.new (condition (record { x = x; y = y }))) }
         ensures err { OnErr result (self.new ≡ self.old) }
     {
-        put_pc(&mut self.statements, x, y)
+        self.statements.alloc(Pc { x, y }.into())?;
+        Ok(())
     }
 
     /// Appends the path condition that `x` equals `y` if control comes from one predecessor of the block.
@@ -193,16 +140,26 @@ impl ReplacementBuilder {
             x,
             y,
         };
-        put_block_pc(&mut self.statements, block_pc)
+        self.statements.alloc(block_pc.into())?;
+        Ok(())
     }
 
+    /// A copy with all statements. The error is out of memory.
+    pub fn clone(&self) -> Result<Self, AllocError>
+        ensures { IfOk result (λ copy. map view_statement copy ≡ map view_statement self.now) }
+    {
+        Ok(self.statements.clone()?.into())
+    }
+}
+
+impl ReplacementBuilder {
     /// The replacement of the value `lhs` by `rhs`, over all the statements.
     ///
     /// The attributes are the known facts about the value `lhs`.
     pub fn finish(self, lhs: ValueId, rhs: Operand, attributes: Vec<RootAttribute>) -> Replacement
         ensures { result ≡ LhsRhs self (record { value = lhs; attributes = attributes }) rhs }
     {
-        let ReplacementBuilder { statements } = self;
+        let ReplacementBuilder { statements, of: _ } = self;
         let lhs = Infer {
             value: lhs,
             attributes,
@@ -225,7 +182,7 @@ impl ReplacementBuilder {
     ) -> Replacement
         ensures { result ≡ cand_variant self (record { lhs = lhs; rhs = rhs; attributes = attributes }) }
     {
-        let Self { statements } = self;
+        let Self { statements, of: _ } = self;
         let cand = Cand {
             lhs,
             rhs,
@@ -233,157 +190,16 @@ impl ReplacementBuilder {
         };
         Replacement::Cand { statements, cand }
     }
-
-    /// A copy with all statements. The error is out of memory.
-    pub fn clone(&self) -> Result<Self, AllocError>
-        ensures { IfOk result (λ copy. map view_statement copy ≡ map view_statement self.now) }
-    {
-        Ok(ReplacementBuilder {
-            statements: self.statements.clone()?,
-        })
-    }
-}
-
-/// A builder that goes on where the statements end. Each keeps its id.
-impl From<Arena<Statement>> for ReplacementBuilder {
-    ghost from_gives = { λ statements builder. builder ≡ statements };
-
-    fn from(statements: Arena<Statement>) -> Self {
-        ReplacementBuilder { statements }
-    }
-}
-
-/// A builder that goes on where the statements of the item end. Each keeps its id; the last line is dropped.
-impl From<LeftHandSide> for ReplacementBuilder {
-    ghost from_gives = { λ item builder. builder ≡ item.statements };
-
-    fn from(item: LeftHandSide) -> Self {
-        let LeftHandSide {
-            statements,
-            infer: _,
-        } = item;
-        ReplacementBuilder { statements }
-    }
-}
-
-/// A builder that goes on where the statements of the item end. Each keeps its id; the last lines are dropped.
-impl From<Replacement> for ReplacementBuilder {
-    ghost from_gives = { λ item builder. builder ≡ statements_of item };
-
-    fn from(item: Replacement) -> Self {
-        match item {
-            Replacement::LhsRhs {
-                statements,
-                lhs: _,
-                rhs: _,
-            } => ReplacementBuilder { statements },
-            Replacement::Cand {
-                statements,
-                cand: _,
-            } => ReplacementBuilder { statements },
-        }
-    }
-}
-
-/// A builder of a [`LeftHandSide`]: its arena, which grows statement by statement.
-#[derive(Debug, Drop)]
-pub struct LeftHandSideBuilder {
-    statements: Arena<Statement>,
-}
-
-impl Model for LeftHandSideBuilder {
-    ghost use Rattle.std.specs.Prelude.{List};
-    ghost use Rattle.souper_graph.specs.declared.ast.statements.Statement.{Statement};
-
-    ghost Value = { List Statement };
-
-    ghost view = { λ builder. builder.statements };
 }
 
 impl LeftHandSideBuilder {
-    /// An empty builder. It does not allocate.
-    pub fn new(alloc: Global) -> Self
-        ensures { result ≡ [] }
-    {
-        LeftHandSideBuilder {
-            statements: Arena::new(alloc),
-        }
-    }
-
-    /// Appends an assignment and returns the id of its value.
-    ///
-    /// A given name has to begin with `%`. Without one, the name is `%` and the number of statements before it. If
-    /// memory runs out, the builder is unchanged.
-    pub fn assignment(
-        &mut self,
-        name: Option<String>,
-        ty: Option<Type>,
-        value: AssignmentRhs,
-        attributes: Vec<Attribute>,
-    ) -> Result<ValueId, AllocError>
-        requires { BeginsWithPercent name }
-        ensures position { IfOk result (λ id. id ≡ length self.old) }
-        ensures grows { OnOk result (Appends self.old self.new (added_assignment name (length self.old) ty (view_rhs value) (map view_attribute attributes.items))) }
-        ensures err { OnErr result (self.new ≡ self.old) }
-    {
-        put_assignment(&mut self.statements, name, ty, value, attributes)
-    }
-
-    /// Appends the assignment of a block and returns the block's id.
-    ///
-    /// `predecessors` is the block's number of predecessors. A given name has to begin with `%`. Without one, the name
-    /// is `%` and the number of statements before it. If memory runs out, the builder is unchanged.
-    pub fn block(&mut self, name: Option<String>, predecessors: u32) -> Result<BlockId, AllocError>
-        requires { BeginsWithPercent name }
-        ensures position { IfOk result (λ id. id ≡ length self.old) }
-        ensures grows { OnOk result (Appends self.old self.new (added_assignment name (length self.old) None (block (record { predecessors = predecessors })) [])) }
-        ensures err { OnErr result (self.new ≡ self.old) }
-    {
-        put_block(&mut self.statements, name, predecessors)
-    }
-
-    /// Appends the path condition that `x` equals `y`.
-    ///
-    /// If memory runs out, the builder is unchanged.
-    pub fn pc(&mut self, x: Operand, y: Operand) -> Result<(), AllocError>
-        ensures grows { OnOk result (Appends self.old self.new (condition (record { x = x; y = y }))) }
-        ensures err { OnErr result (self.new ≡ self.old) }
-    {
-        put_pc(&mut self.statements, x, y)
-    }
-
-    /// Appends the path condition that `x` equals `y` if control comes from one predecessor of the block.
-    ///
-    /// The id must name a block's assignment in this arena, and `predecessor`, which counts from 0, must be less than
-    /// the block's number of predecessors. If memory runs out, the builder is unchanged.
-    pub fn block_pc(
-        &mut self,
-        block: BlockId,
-        predecessor: u32,
-        x: Operand,
-        y: Operand,
-    ) -> Result<(), AllocError>
-        requires is_block { IsBlock (slice_get (map view_statement self.old) block) }
-        requires is_way { predecessor < predecessors_at (map view_statement self.old) block }
-        ensures grows { OnOk result (Appends self.old self.new (block_condition (record { block = block; predecessor = predecessor; x = x; y = y }))) }
-        ensures err { OnErr result (self.new ≡ self.old) }
-    {
-        let block_pc = BlockPc {
-            block,
-            predecessor,
-            x,
-            y,
-        };
-        put_block_pc(&mut self.statements, block_pc)
-    }
-
     /// The left-hand side whose root is the value `lhs`, with all the statements.
     ///
     /// The attributes are the known facts about that value.
     pub fn finish(self, lhs: ValueId, attributes: Vec<RootAttribute>) -> LeftHandSide
         ensures { result ≡ record { statements = self; infer = record { value = lhs; attributes = attributes } } }
     {
-        let LeftHandSideBuilder { statements } = self;
+        let LeftHandSideBuilder { statements, of: _ } = self;
         let infer = Infer {
             value: lhs,
             attributes,
@@ -398,25 +214,41 @@ impl LeftHandSideBuilder {
         requires { IsAssigned (slice_get (map view_statement self.now) id) }
         ensures { slice_get self.now id ≡ Some (assignment_variant result.now) }
     {
-        assignment_at(&self.statements, id)
+        known_assignment(&self.statements, id)
     }
+}
 
-    /// A copy with all statements. The error is out of memory.
-    pub fn clone(&self) -> Result<Self, AllocError>
-        ensures { IfOk result (λ copy. map view_statement copy ≡ map view_statement self.now) }
+impl RightHandSideBuilder {
+    /// The right-hand side whose root is the operand `root`, with all the statements.
+    pub fn finish(self, root: Operand) -> RightHandSide
+        ensures { result ≡ record { statements = self; result = root } }
     {
-        Ok(LeftHandSideBuilder {
-            statements: self.statements.clone()?,
-        })
+        let RightHandSideBuilder { statements, of: _ } = self;
+        RightHandSide {
+            statements,
+            result: root,
+        }
     }
 }
 
 /// A builder that goes on where the statements end. Each keeps its id.
-impl From<Arena<Statement>> for LeftHandSideBuilder {
+impl<K> From<Arena<Statement>> for Builder<K> {
     ghost from_gives = { λ statements builder. builder ≡ statements };
 
     fn from(statements: Arena<Statement>) -> Self {
-        LeftHandSideBuilder { statements }
+        Builder {
+            statements,
+            of: PhantomData,
+        }
+    }
+}
+
+/// A builder that goes on where the statements of the item end. Each keeps its id; the last line is dropped.
+impl From<LeftHandSide> for ReplacementBuilder {
+    ghost from_gives = { λ item builder. builder ≡ item.statements };
+
+    fn from(item: LeftHandSide) -> Self {
+        item.statements.into()
     }
 }
 
@@ -425,25 +257,27 @@ impl From<LeftHandSide> for LeftHandSideBuilder {
     ghost from_gives = { λ item builder. builder ≡ item.statements };
 
     fn from(item: LeftHandSide) -> Self {
-        let LeftHandSide {
-            statements,
-            infer: _,
-        } = item;
-        LeftHandSideBuilder { statements }
+        item.statements.into()
     }
 }
 
-impl Replacement {
-    /// The assignment that defines the value.
-    ///
-    /// The id must name an assignment in this item's arena, which [`Arena::get`] shows.
-    pub fn assignment(&self, id: ValueId) -> &Assignment
-        requires { IsAssigned (slice_get (map view_statement (statements_of self.now)) id) }
-        ensures { slice_get (statements_of self.now) id ≡ Some (assignment_variant result.now) }
-    {
-        match self {
-            Replacement::LhsRhs { statements, .. } => assignment_at(statements, id),
-            Replacement::Cand { statements, .. } => assignment_at(statements, id),
+/// A builder that goes on where the statements of the item end. Each keeps its id; the last line is dropped.
+impl From<RightHandSide> for RightHandSideBuilder {
+    ghost from_gives = { λ item builder. builder ≡ item.statements };
+
+    fn from(item: RightHandSide) -> Self {
+        item.statements.into()
+    }
+}
+
+/// A builder that goes on where the statements of the item end. Each keeps its id; the last lines are dropped.
+impl From<Replacement> for ReplacementBuilder {
+    ghost from_gives = { λ item builder. builder ≡ statements_of item };
+
+    fn from(item: Replacement) -> Self {
+        match item {
+            Replacement::LhsRhs { statements, .. } => statements.into(),
+            Replacement::Cand { statements, .. } => statements.into(),
         }
     }
 }
