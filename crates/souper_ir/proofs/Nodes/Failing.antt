@@ -1,16 +1,11 @@
 -- How a parser fails.
-use Rattle.std.proofs.Common.{◌≡◌, ◌≢◌, ℕ, ◌≤◌, true, List, [], Option, Some, None, sym, ◌∙◌, ap, subst, arith}
-use Rattle.std.specs.Prelude.{IsSomeAnd, Result, Ok, Err, IfErr}
+use Rattle.std.proofs.Common.{◌≡◌, ℕ, ◌≤◌, true, [], Option, Some, None, sym, ◌∙◌, ap, subst, arith}
+use Rattle.std.specs.Prelude.{IsSomeAnd}
 use Rattle.souper_ir.specs.declared.parse.error.ParseError.{ParseError}
-use Rattle.souper_ir.specs.declared.parse.error.ParseErrorKind.{ParseErrorKind}
-use Rattle.souper_ir.specs.declared.parse.error.ParseErrorKind.TheVariants.{Io}
-use Rattle.souper_graph.specs.Syntax.Tokens.{Lexeme}
-use Rattle.souper_graph.specs.Syntax.Spelling.{Scope}
 use Rattle.souper_ir.specs.Places.{IsDirectRefusalText}
-use Rattle.souper_ir.specs.Errors.{kind_of, offset_of, at_end_of, shown_error}
+use Rattle.souper_ir.specs.Errors.{at_end_of, shown_error}
 use Rattle.souper_ir.specs.Parsing.{Cause, refused, no_memory, Parsing}
-use Rattle.souper_ir.specs.Reading.{cause_by, cause_of, Fails, IfRefused}
-use Rattle.souper_ir.specs.Grammar.{Refusal}
+use Rattle.souper_ir.specs.Reading.{cause_of, Fails, IfRefused}
 
 pub refused_fails : (e : ParseError) (p q : Parsing) (o : ℕ) → cause_of e ≡ Some (refused o) → IsSomeAnd (shown_error e) (IsDirectRefusalText o)
     → o ≤ p.len → ((c : Cause) → p.failed ≡ Some c → c ≡ refused o) → q.failed ≡ Some (refused o) → (at_end_of e ≡ true → q.tokens ≡ []) → q.len ≡ p.len → Fails e p q
@@ -24,12 +19,6 @@ refused_fails e p q o cause shown bound before after ended l = record {
   ended = ended;
   len = l;
 }
-
--- a parser that refuses has met no I/O error
-pub not_io : {X V : Type 0} (spells : Scope → V → List Lexeme → Type 0) (continues : V → Lexeme → Type 0) (r : Result X ParseError) (p q : Parsing)
-    → IfErr r (λ e. Refusal spells continues e p q) → IfErr r (λ e. kind_of e ≢ Io)
-not_io spells continues (Ok x) p q h = tt
-not_io spells continues (Err e) p q h = λ io. h.failed.caused (ap (λ (k : ParseErrorKind). cause_by k (offset_of e)) io)
 
 -- a refusal whose cause was set first
 pub fails_first : (e : ParseError) (p q r : Parsing) → p.failed ≡ None → q.len ≡ p.len → Fails e q r → Fails e p r

@@ -1,5 +1,5 @@
 //! The error of a parse.
-ghost use Rattle.std.specs.Prelude.{◌≡◌, ◌≢◌, ◌≤◌, ◌+◌, ◌⊎◌, ◌↔◌, length, string_bytes, option_copied, option_map, IfOk, IfErr, IfSome, IsSome, Some};
+ghost use Rattle.std.specs.Prelude.{◌≡◌, ◌≤◌, ◌+◌, ◌⊎◌, ◌↔◌, length, string_bytes, option_copied, option_map, IfOk, IfSome, IsSome, Some};
 ghost use Rattle.std.specs.Fmt.{DisplaysOnOk, DisplaysStyledOnOk, WritesOnOk};
 ghost use Rattle.souper_ir.specs.declared.parse.place.Places.{Places};
 ghost use Rattle.souper_ir.specs.Places.{direct_text};
@@ -103,21 +103,6 @@ pub(crate) fn widen<T>(read: Result<T, ReadError>) -> Result<T, ParseError>
     match read {
         Ok(value) => Ok(value),
         Err(error) => Err(error.into()),
-    }
-}
-
-/// What a parser returned, with the error of a reader. It is no I/O error.
-pub(crate) fn narrow<T>(parsed: Result<T, ParseError>) -> Result<T, ReadError>
-    requires { IfErr parsed (λ error. kind_of error ≢ ParseErrorKind.Io) }
-    ensures { widened result ≡ parsed }
-{
-    match parsed {
-        Ok(value) => Ok(value),
-        Err(error) => match error.cause {
-            Cause::Parse(refusal) => Err(ReadError::Refused(refusal)),
-            Cause::Memory => Err(ReadError::Memory),
-            Cause::Io(_) => unreachable!(),
-        },
     }
 }
 

@@ -4,14 +4,14 @@ ghost use Rattle.std.specs.Prelude.{codes, refl, IfOk, IfErr};
 ghost use Rattle.souper_graph.specs.Values.{PlainInfer, PlainCand};
 ghost use Rattle.souper_graph.specs.View.{view_infer, view_cand};
 ghost use Rattle.souper_graph.specs.Syntax.Spelling.{infer_spells, cand_spells};
-ghost use Rattle.souper_ir.specs.Errors.{error_of, widened};
+ghost use Rattle.souper_ir.specs.Errors.{widened};
 ghost use Rattle.souper_ir.specs.Continuation.{infer_continues, cand_continues};
 ghost use Rattle.souper_ir.specs.Reading.{Gives};
 ghost use Rattle.souper_ir.specs.Grammar.{Took, Refusal};
 ghost use Rattle.souper_ir.specs.NodeReadings.{is_word, root_at, optional_comma_at, pair_at, result_at};
 ghost use Rattle.souper_ir.specs.Laws.Statements.{infer_alone, infer_first, cand_alone};
 
-use crate::parse::error::{narrow, widen};
+use crate::parse::error::widen;
 use crate::parse::message::Message;
 use crate::parse::operands::operand;
 use crate::parse::parser::{Parser, Read, Result};
@@ -32,12 +32,12 @@ fn root(parser: &mut Parser<'_>) -> Read<ValueId>
     }
 }
 
-pub(crate) fn infer(parser: &mut Parser<'_>) -> Read<Infer>
+pub(crate) fn infer(parser: &mut Parser<'_>) -> Result<Infer>
     ensures ok { IfOk result (λ i. Took infer_spells infer_continues (λ s. s) (view_infer i) parser.old parser.new) }
-    ensures err { IfErr result (λ e. Refusal infer_spells infer_continues (error_of e) parser.old parser.new) }
+    ensures err { IfErr result (λ e. Refusal infer_spells infer_continues e parser.old parser.new) }
 {
     let value = root(parser)?;
-    let attributes = narrow(Vec::<RootAttribute>::parse(parser))?;
+    let attributes = Vec::<RootAttribute>::parse(parser)?;
     Ok(Infer { value, attributes })
 }
 
@@ -63,12 +63,12 @@ fn pair(parser: &mut Parser<'_>) -> Read<(Operand, Operand)>
     Ok((lhs, rhs))
 }
 
-pub(crate) fn cand(parser: &mut Parser<'_>) -> Read<Cand>
+pub(crate) fn cand(parser: &mut Parser<'_>) -> Result<Cand>
     ensures ok { IfOk result (λ c. Took cand_spells cand_continues (λ s. s) (view_cand c) parser.old parser.new) }
-    ensures err { IfErr result (λ e. Refusal cand_spells cand_continues (error_of e) parser.old parser.new) }
+    ensures err { IfErr result (λ e. Refusal cand_spells cand_continues e parser.old parser.new) }
 {
     let (lhs, rhs) = pair(parser)?;
-    let attributes = narrow(Vec::<RootAttribute>::parse(parser))?;
+    let attributes = Vec::<RootAttribute>::parse(parser)?;
     Ok(Cand {
         lhs,
         rhs,
@@ -97,7 +97,7 @@ impl Parse for Infer {
     ghost alone = { infer_alone };
 
     fn parse<'a>(parser: &mut Parser<'a>) -> Result<Self> {
-        widen(infer(parser))
+        infer(parser)
     }
 }
 
@@ -126,6 +126,6 @@ impl Parse for Cand {
     ghost alone = { cand_alone };
 
     fn parse<'a>(parser: &mut Parser<'a>) -> Result<Self> {
-        widen(cand(parser))
+        cand(parser)
     }
 }

@@ -14,13 +14,15 @@ ghost use Rattle.souper_ir.specs.NodeReadings.{is_name, is_word, type_and_equals
 ghost use Rattle.souper_ir.specs.Laws.Attributed.{Row, OneMore};
 ghost use Rattle.souper_ir.specs.Laws.Statements.{assignment_alone, assignment_first, pc_alone, pc_first, block_pc_alone, block_pc_first, statement_alone, statement_first};
 
-use crate::parse::error::{narrow, widen};
+use crate::parse::attributes::attribute;
+use crate::parse::error::widen;
 use crate::parse::message::Message;
 use crate::parse::operands::{operand, optional_type};
 use crate::parse::parser::{Parser, Read, Result};
 use crate::parse::rhs::{block_name, rhs};
 use crate::parse::tokens::{
-    Mark, keyword, predecessor_number, punctuation, value_name, value_name_comes, word_comes,
+    Mark, keyword, mark_comes, predecessor_number, punctuation, value_name, value_name_comes,
+    word_comes,
 };
 use crate::parse::traits::{Parse, Peek};
 use souper_graph::ast::{Assignment, AssignmentRhs, Attribute, BlockPc, Pc, Statement, Type};
@@ -70,10 +72,19 @@ pub(crate) fn attributes(parser: &mut Parser<'_>) -> Read<Vec<Attribute>>
     ensures ok { IfOk result (λ xs. Took (Row attribute_spells) OneMore (λ s. s) (map view_attribute xs.items) parser.old parser.new) }
     ensures err { IfErr result (λ e. Refusal (Row attribute_spells) OneMore (error_of e) parser.old parser.new) }
 {
+    let mut attributes = Vec::new(parser.alloc());
     if parser.name_on_next_line() {
-        return Ok(Vec::new(parser.alloc()));
+        return Ok(attributes);
     }
-    narrow(Vec::<Attribute>::parse(parser))
+    // `Vec::<Attribute>::parse` would return a large error.
+    while mark_comes(parser, Mark::OpenParen)? {
+        let value = attribute(parser)?;
+        match attributes.push(value) {
+            Ok(()) => {}
+            Err(_) => return Err(parser.want_memory()),
+        }
+    }
+    Ok(attributes)
 }
 
 /// An assignment, which is not entered into the scope.

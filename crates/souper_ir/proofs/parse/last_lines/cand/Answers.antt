@@ -1,4 +1,3 @@
-use Rattle.std.proofs.Common.{sym}
 use Rattle.std.specs.Prelude.{map}
 use Rattle.std.proofs.lemmas.Result.{err_from_is_err_and}
 use Rattle.souper_graph.specs.declared.ast.operands.Operand.{Operand}
@@ -6,7 +5,6 @@ use Rattle.souper_graph.specs.View.{view_root_attribute}
 use Rattle.souper_ir.specs.Laws.FromReadings.{is_taken, is_refused}
 use Rattle.souper_ir.specs.Laws.Statements.{pair_line_rule, cand_laws}
 use Rattle.souper_ir.specs.Errors.{error_of}
-use Rattle.souper_ir.proofs.Nodes.Failing.{not_io}
 use Rattle.souper_ir.proofs.parse.last_lines.cand.Goals as goal
 
 pub returns-in_err-lhs-clause-err : goal.returns-in_err-lhs-clause-err
@@ -18,13 +16,10 @@ returns-in_err-lhs-clause-err c =
 pub returns-in_err-attributes-clause-err : goal.returns-in_err-attributes-clause-err
 returns-in_err-attributes-clause-err c =
     let r = err_from_is_err_and c.from_residual-in_err-attributes.result c.from_residual-in_err-attributes.ensures.1 in
-    rw (r.1, r.2) (cand_laws.refused_behind (c.in_ok-lhs.lhs, c.in_ok-lhs.rhs) (error_of c.in_err-attributes.field-0.0) c.args.parser.now c.pair.new.parser c.parse.new.parser
-    (is_taken pair_line_rule (λ (x : Operand × Operand). x) (c.in_ok-lhs.lhs, c.in_ok-lhs.rhs) c.args.parser.now c.pair.new.parser c.in_ok-lhs.ensures) (rw (sym c.in_err-attributes.ensures) at c.parse.ensures.err))
+    rw (r.1, r.2) (cand_laws.refused_behind (c.in_ok-lhs.lhs, c.in_ok-lhs.rhs) c.in_err-attributes.field-0.0 c.args.parser.now c.pair.new.parser c.parse.new.parser
+    (is_taken pair_line_rule (λ (x : Operand × Operand). x) (c.in_ok-lhs.lhs, c.in_ok-lhs.rhs) c.args.parser.now c.pair.new.parser c.in_ok-lhs.ensures) c.in_err-attributes.ensures.err)
 
 pub returns-clause-ok : goal.returns-clause-ok
 returns-clause-ok c =
     cand_laws.taken (record { lhs = c.in_ok-lhs.lhs; rhs = c.in_ok-lhs.rhs; attributes = map view_root_attribute c.in_ok-attributes.attributes.items }) c.args.parser.now c.pair.new.parser c.parse.new.parser
-    (is_taken pair_line_rule (λ (x : Operand × Operand). x) (c.in_ok-lhs.lhs, c.in_ok-lhs.rhs) c.args.parser.now c.pair.new.parser c.in_ok-lhs.ensures) (rw (sym c.in_ok-attributes.ensures) at c.parse.ensures.ok)
-
-pub narrow-requires : goal.narrow-requires
-narrow-requires c = not_io _ _ c.parse.result c.pair.new.parser c.parse.new.parser c.parse.ensures.err
+    (is_taken pair_line_rule (λ (x : Operand × Operand). x) (c.in_ok-lhs.lhs, c.in_ok-lhs.rhs) c.args.parser.now c.pair.new.parser c.in_ok-lhs.ensures) c.in_ok-attributes.ensures.ok

@@ -1,11 +1,10 @@
-use Rattle.std.proofs.Common.{sym, ℕ}
+use Rattle.std.proofs.Common.{ℕ}
 use Rattle.std.specs.Prelude.{map}
 use Rattle.std.proofs.lemmas.Result.{err_from_is_err_and}
 use Rattle.souper_graph.specs.View.{view_root_attribute}
 use Rattle.souper_ir.specs.Laws.FromReadings.{is_taken, is_refused}
 use Rattle.souper_ir.specs.Laws.Statements.{root_rule, infer_laws}
 use Rattle.souper_ir.specs.Errors.{error_of}
-use Rattle.souper_ir.proofs.Nodes.Failing.{not_io}
 use Rattle.souper_ir.proofs.parse.last_lines.infer.Goals as goal
 
 pub returns-in_err-value-clause-err : goal.returns-in_err-value-clause-err
@@ -17,13 +16,10 @@ returns-in_err-value-clause-err c =
 pub returns-in_err-attributes-clause-err : goal.returns-in_err-attributes-clause-err
 returns-in_err-attributes-clause-err c =
     let r = err_from_is_err_and c.from_residual-in_err-attributes.result c.from_residual-in_err-attributes.ensures.1 in
-    rw (r.1, r.2) (infer_laws.refused_behind c.in_ok-value.value (error_of c.in_err-attributes.field-0.0) c.args.parser.now c.root.new.parser c.parse.new.parser
-    (is_taken root_rule (λ (x : ℕ). x) c.in_ok-value.value c.args.parser.now c.root.new.parser c.in_ok-value.ensures) (rw (sym c.in_err-attributes.ensures) at c.parse.ensures.err))
+    rw (r.1, r.2) (infer_laws.refused_behind c.in_ok-value.value c.in_err-attributes.field-0.0 c.args.parser.now c.root.new.parser c.parse.new.parser
+    (is_taken root_rule (λ (x : ℕ). x) c.in_ok-value.value c.args.parser.now c.root.new.parser c.in_ok-value.ensures) c.in_err-attributes.ensures.err)
 
 pub returns-clause-ok : goal.returns-clause-ok
 returns-clause-ok c =
     infer_laws.taken (record { value = c.in_ok-value.value; attributes = map view_root_attribute c.in_ok-attributes.attributes.items }) c.args.parser.now c.root.new.parser c.parse.new.parser
-    (is_taken root_rule (λ (x : ℕ). x) c.in_ok-value.value c.args.parser.now c.root.new.parser c.in_ok-value.ensures) (rw (sym c.in_ok-attributes.ensures) at c.parse.ensures.ok)
-
-pub narrow-requires : goal.narrow-requires
-narrow-requires c = not_io _ _ c.parse.result c.root.new.parser c.parse.new.parser c.parse.ensures.err
+    (is_taken root_rule (λ (x : ℕ). x) c.in_ok-value.value c.args.parser.now c.root.new.parser c.in_ok-value.ensures) c.in_ok-attributes.ensures.ok

@@ -16,8 +16,8 @@ pub returns-in_err-infer-clause-err : goal.returns-in_err-infer-clause-err
 returns-in_err-infer-clause-err c =
     let p = err_from_is_err_and c.from_residual-in_err-infer.result c.from_residual-in_err-infer.ensures.1 in
     rw (p.1, p.2)
-    (tail_refused left_hand_side c.in_ok-statements.ensures.ok.0 (error_of c.in_err-infer.field-0.0) c.args.parser.now c.statements.new.parser c.infer.new.parser c.in_ok-statements.ensures.ok.1
-    (infer_tail_refused (error_of c.in_err-infer.field-0.0) c.statements.new.parser c.infer.new.parser c.in_err-infer.ensures.err))
+    (tail_refused left_hand_side c.in_ok-statements.ensures.ok.0 c.in_err-infer.field-0.0 c.args.parser.now c.statements.new.parser c.infer.new.parser c.in_ok-statements.ensures.ok.1
+    (infer_tail_refused c.in_err-infer.field-0.0 c.statements.new.parser c.infer.new.parser c.in_err-infer.ensures.err))
 
 pub returns-clause-ok : goal.returns-clause-ok
 returns-clause-ok c =

@@ -25,8 +25,8 @@ pub returns-in_err-lhs-clause-err : goal.returns-in_err-lhs-clause-err
 returns-in_err-lhs-clause-err c =
     let p = err_from_is_err_and c.from_residual-in_err-lhs.result c.from_residual-in_err-lhs.ensures.1 in
     rw (p.1, p.2)
-    (tail_refused replacement c.in_ok-statements.ensures.ok.0 (error_of c.in_err-lhs.field-0.0) c.args.parser.now c.statements.new.parser c.infer.new.parser c.in_ok-statements.ensures.ok.1
-    (root_refused (error_of c.in_err-lhs.field-0.0) c.statements.new.parser c.word_comes.new.parser c.infer.new.parser (rw c.if-branch.true at c.in_ok-word_comes.ensures) c.in_err-lhs.ensures.err))
+    (tail_refused replacement c.in_ok-statements.ensures.ok.0 c.in_err-lhs.field-0.0 c.args.parser.now c.statements.new.parser c.infer.new.parser c.in_ok-statements.ensures.ok.1
+    (root_refused c.in_err-lhs.field-0.0 c.statements.new.parser c.word_comes.new.parser c.infer.new.parser (rw c.if-branch.true at c.in_ok-word_comes.ensures) c.in_err-lhs.ensures.err))
 
 pub returns-in_err-statements-2-clause-err : goal.returns-in_err-statements-2-clause-err
 returns-in_err-statements-2-clause-err c =
@@ -49,8 +49,8 @@ pub returns-in_err-cand-clause-err : goal.returns-in_err-cand-clause-err
 returns-in_err-cand-clause-err c =
     let p = err_from_is_err_and c.from_residual-in_err-cand.result c.from_residual-in_err-cand.ensures.1 in
     rw (p.1, p.2)
-    (tail_refused replacement c.in_ok-statements.ensures.ok.0 (error_of c.in_err-cand.field-0.0) c.args.parser.now c.statements.new.parser c.cand.new.parser c.in_ok-statements.ensures.ok.1
-    (cand_tail_refused (error_of c.in_err-cand.field-0.0) c.statements.new.parser c.word_comes.new.parser c.cand.new.parser (rw c.if-branch.false at c.in_ok-word_comes.ensures) c.in_err-cand.ensures.err))
+    (tail_refused replacement c.in_ok-statements.ensures.ok.0 c.in_err-cand.field-0.0 c.args.parser.now c.statements.new.parser c.cand.new.parser c.in_ok-statements.ensures.ok.1
+    (cand_tail_refused c.in_err-cand.field-0.0 c.statements.new.parser c.word_comes.new.parser c.cand.new.parser (rw c.if-branch.false at c.in_ok-word_comes.ensures) c.in_err-cand.ensures.err))
 
 pub returns-in_ok-rhs-clause-ok : goal.returns-in_ok-rhs-clause-ok
 returns-in_ok-rhs-clause-ok c =
