@@ -28,8 +28,8 @@ abbrev pub few_bytes : List ℕ → ℕ
 few_bytes n = if nat_lt (length n) 2 then 0 else joined (slice_index n 1) (slice_index n (length n - 1))
 
 -- the number of a name, by its first 16 bytes and its last 32
-abbrev pub number_of_ends : List ℕ → ℕ
-number_of_ends n =
+abbrev pub number_by_ends : List ℕ → ℕ
+number_by_ends n =
     if nat_lt (length n) 4 then few_bytes n else
     if nat_lt (length n) 8 then joined (half_at n 0) (half_at n (length n - 4)) else
     if nat_le (length n) 16 then joined (eight_bytes_at n 0) (eight_bytes_at n (length n - 8)) else
@@ -39,7 +39,7 @@ number_of_ends n =
 
 -- the hash of a name
 unfoldable pub name_hash : List ℕ → ℕ
-name_hash n = number_of_ends n * factor % 2 ^ 64
+name_hash n = number_by_ends n * factor % 2 ^ 64
 
 -- the slot of a hash in a table with this number of slots
 abbrev pub slot : ℕ → ℕ → ℕ

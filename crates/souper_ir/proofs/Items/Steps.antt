@@ -11,7 +11,7 @@ use Rattle.souper_ir.specs.Continuation.{statement_continues, infer_continues, c
 use Rattle.souper_ir.specs.Parsing.{Parsing}
 use Rattle.souper_ir.specs.Reading.{cause_of, IfRefused, if_refused, IsRead, Fails, fails_later}
 use Rattle.souper_ir.specs.Grammar.{Free, Starts, Took, NoFront, Refusal, peek_at}
-use Rattle.souper_ir.specs.Laws.Unique.{Free-from_Stops, clash}
+use Rattle.souper_ir.specs.Laws.Unique.{Free-from_NextStops, clash}
 use Rattle.souper_ir.specs.NodeReadings.{is_word}
 use Rattle.souper_ir.specs.Laws.Peeks.{peeked, peeked_yes, peeked_no, none_if_unread}
 use Rattle.souper_ir.specs.Laws.Steps.{kinds-append}
@@ -121,7 +121,7 @@ cand_tail c p h q seen took =
 pub cand_tail_refused : (e : ParseError) (p h q : Parsing) → SeesInfer false p h → Refusal cand_spells cand_continues e h q → TailRefusal replacement e p q
 cand_tail_refused e p h q seen bad =
     let look = peeked (is_word (codes "infer")) p h false seen.0 in
-    let no_infer = Free-from_Stops (λ t. is_word (codes "infer") t ≡ true) p.faulty (kinds p.tokens) (peeked_no (is_word (codes "infer")) p.faulty p.tokens look.2) in
+    let no_infer = Free-from_NextStops (λ t. is_word (codes "infer") t ≡ true) p.faulty (kinds p.tokens) (peeked_no (is_word (codes "infer")) p.faulty p.tokens look.2) in
     let here : Refusal cand_spells cand_continues e p q = subst (λ (x : Parsing). Refusal cand_spells cand_continues e x q) look.0 bad in
     record { failed = here.failed; nothing = if_refused (cause_of e) (λ x live. none no_infer (x live)) here.nothing }
   where
@@ -167,7 +167,7 @@ none_behind p q j took stuck = none
     none (new, resulting r) front rest eq sp st = sp
     none (new, replaced i r) front rest eq sp st =
         let whole : kinds took.used ++ kinds q.tokens ≡ sp.infer ++ ((sp.middle ++ sp.result) ++ rest) = sym parts ∙ eq ∙ split front sp.infer (sp.middle ++ sp.result) rest sp.whole in
-        let free = Free-from_Stops (infer_continues i) p.faulty ((sp.middle ++ sp.result) ++ rest) (infer_over p.faulty p.scope (p.scope ++ new) i r new sp.middle sp.result rest sp.middle_spelled sp.result_spelled) in
+        let free = Free-from_NextStops (infer_continues i) p.faulty ((sp.middle ++ sp.result) ++ rest) (infer_over p.faulty p.scope (p.scope ++ new) i r new sp.middle sp.result rest sp.middle_spelled sp.result_spelled) in
         let root = infer_alone p.scope j i (kinds took.used) sp.infer (kinds q.tokens) ((sp.middle ++ sp.result) ++ rest) whole took.spelled sp.infer_spelled took.free free in
         let behind : kinds q.tokens ≡ (sp.middle ++ sp.result) ++ rest = append_cancel_left sp.infer (kinds q.tokens) ((sp.middle ++ sp.result) ++ rest) (ap (λ (x : List Lexeme). x ++ kinds q.tokens) (sym root.0) ∙ whole) in
         no_item result_spells result_continues result_opens p.faulty p.scope here.members new here.front here.rest sp.middle sp.result rest r

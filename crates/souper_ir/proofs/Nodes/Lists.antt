@@ -93,7 +93,7 @@ module _ {V : Type 0} (spells : Scope → V → List Lexeme → Type 0) (continu
       → Took list_spells list_goes_on (λ s. s) vs p r
   ends vs p q r so h =
       let seen = peeked starts q r false h.0 in
-      let quiet = unique.Free-from_Stops (λ t. starts t ≡ true) q.faulty (kinds q.tokens) (peeked_no starts q.faulty q.tokens seen.2) in
+      let quiet = unique.Free-from_NextStops (λ t. starts t ≡ true) q.faulty (kinds q.tokens) (peeked_no starts q.faulty q.tokens seen.2) in
       let done : Took list_spells list_goes_on (λ s. s) vs p q = record {
         used = so.used;
         parts = so.parts;
@@ -127,21 +127,21 @@ module _ {V : Type 0} (spells : Scope → V → List Lexeme → Type 0) (continu
   no_list s faulty [] (w ∷ ws) a c b d e m f (inr k) n st =
       k.1 w n.prefix (n.suffix ++ d) (ap (λ (x : List Lexeme). x ++ c) (sym m) ∙ e ∙ ap (λ (x : List Lexeme). x ++ d) n.whole ∙ append_assoc n.prefix n.suffix d) n.first
       (unique.stops_over (spells s) continues starts (alone s) (first s) faulty w ws n.suffix d n.free n.second
-      (unique.Stops-weaker (λ t. ListGoesOn continues starts (w ∷ ws) t) (λ t. LastGoesOn continues (w ∷ ws) t) faulty d (λ t h. inr h) st))
+      (unique.NextStops-weaker (λ t. ListGoesOn continues starts (w ∷ ws) t) (λ t. LastGoesOn continues (w ∷ ws) t) faulty d (λ t h. inr h) st))
   no_list s faulty (v ∷ vs) [] a c b d e m f k n st =
       unique.clash_at starts faulty m.prefix d (m.suffix ++ c) (first s v m.prefix m.first)
       (ap (λ (x : List Lexeme). x ++ d) (sym n) ∙ sym e ∙ ap (λ (x : List Lexeme). x ++ c) m.whole ∙ append_assoc m.prefix m.suffix c)
-      (unique.Stops-weaker (λ t. ListGoesOn continues starts [] t) (λ t. starts t ≡ true) faulty d (λ t h. inl h) st)
+      (unique.NextStops-weaker (λ t. ListGoesOn continues starts [] t) (λ t. starts t ≡ true) faulty d (λ t h. inl h) st)
   no_list s faulty (v ∷ vs) (w ∷ ws) a c b d e m f k n st =
       let whole = unique.parts_equal (spells s) continues starts (alone s) (first s) a b m.prefix m.suffix n.prefix n.suffix c d m.whole n.whole e in
       let here = alone s v w m.prefix n.prefix (m.suffix ++ c) (n.suffix ++ d) whole m.first n.first
       (unique.free_over (spells s) continues starts (alone s) (first s) v vs m.suffix c m.free m.second f)
       (unique.free_over (spells s) continues starts (alone s) (first s) w ws n.suffix d n.free n.second
-      (unique.Free-from_Stops (λ t. LastGoesOn continues (w ∷ ws) t) faulty d (unique.Stops-weaker (λ t. ListGoesOn continues starts (w ∷ ws) t) (λ t. LastGoesOn continues (w ∷ ws) t) faulty d (λ t h. inr h) st))) in
+      (unique.Free-from_NextStops (λ t. LastGoesOn continues (w ∷ ws) t) faulty d (unique.NextStops-weaker (λ t. ListGoesOn continues starts (w ∷ ws) t) (λ t. LastGoesOn continues (w ∷ ws) t) faulty d (λ t h. inr h) st))) in
       no_list s faulty vs ws m.suffix c n.suffix d (unique.rest_equal (spells s) continues starts (alone s) (first s) m.prefix m.suffix n.prefix n.suffix c d here.0 whole) m.second
       (unique.Free-weaker (λ t. LastGoesOn continues (v ∷ vs) t) (λ t. LastGoesOn continues vs t) c (unique.last_later (spells s) continues starts (alone s) (first s) v vs) f)
       k n.second
-      (unique.Stops-weaker (λ t. ListGoesOn continues starts (w ∷ ws) t) (λ t. ListGoesOn continues starts ws t) faulty d (unique.list_later (spells s) continues starts (alone s) (first s) w ws) st)
+      (unique.NextStops-weaker (λ t. ListGoesOn continues starts (w ∷ ws) t) (λ t. ListGoesOn continues starts ws t) faulty d (unique.list_later (spells s) continues starts (alone s) (first s) w ws) st)
 
   pub none_if_stuck : (p : Parsing) → Stuck (spells p.scope) continues starts p.faulty (kinds p.tokens)
       → NoFront list_spells list_goes_on p

@@ -7,7 +7,7 @@ use Rattle.souper_graph.specs.Syntax.Tokens.{Lexeme}
 use Rattle.souper_graph.specs.Syntax.Spelling.{kinds, Scope}
 use Rattle.souper_ir.specs.Reading.{cause_of, IfRefused, if_refused, Fails, IsRead}
 use Rattle.souper_ir.specs.Grammar.{Starts, Took, NoFront, Refusal, peek_at, OptionSpells, OptionGoesOn}
-use Rattle.souper_ir.specs.Laws.Unique.{clash_at, Free-from_Stops}
+use Rattle.souper_ir.specs.Laws.Unique.{clash_at, Free-from_NextStops}
 use Rattle.std.proofs.lemmas.List.{append-nil}
 use Rattle.souper_ir.specs.Laws.Peeks.{peeked, peeked_yes, peeked_no, none_if_unread}
 
@@ -61,7 +61,7 @@ module _ {V : Type 0} (spells : Scope → V → List Lexeme → Type 0) (continu
         used = [];
         parts = refl;
         spelled = refl;
-        free = Free-from_Stops (λ t. starts t ≡ true) p.faulty (kinds p.tokens) (peeked_no starts p.faulty p.tokens seen.2);
+        free = Free-from_NextStops (λ t. starts t ≡ true) p.faulty (kinds p.tokens) (peeked_no starts p.faulty p.tokens seen.2);
         live = h.1;
         state = refl;
       })

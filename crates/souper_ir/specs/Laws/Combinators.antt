@@ -9,7 +9,7 @@ use Rattle.souper_ir.specs.Parsing.{Cause, Parsing}
 use Rattle.souper_ir.specs.Reading.{take_in, take_at}
 use Rattle.souper_ir.specs.Grammar.{Free, NextStops, Starts, peek_at}
 use Rattle.souper_ir.specs.NodeReadings.{accept, as_name, as_mark, as_word, int_by, ident_by}
-use Rattle.souper_ir.specs.Laws.Unique.{Free-from_Stops}
+use Rattle.souper_ir.specs.Laws.Unique.{Free-from_NextStops}
 use Rattle.souper_ir.specs.Laws.Peeks.{some_is, Answers, peeked, answered, peeked_yes, peeked_no}
 use Rattle.souper_ir.specs.Laws.Steps.{TakesTokens, Takes-then, Takes-none, state_then, taken_ahead, At, bind_some, holds_of_same}
 use Rattle.souper_ir.specs.Laws.Tokens.{name_means, mark_means, word_means, word_of_is, int_means, ident_means}
@@ -280,7 +280,7 @@ pub record Choice {V : Type 0} (starts : Lexeme → Bool) (G : Bool → Form V) 
 
 seen_after : (starts : Lexeme → Bool) (b : Bool) (p : Parsing) → Answers starts b p.faulty p.tokens → Seen Free starts b (kinds p.tokens)
 seen_after starts true p h = peeked_yes starts p.faulty p.tokens h
-seen_after starts false p h = Free-from_Stops (λ t. starts t ≡ true) p.faulty (kinds p.tokens) (peeked_no starts p.faulty p.tokens h)
+seen_after starts false p h = Free-from_NextStops (λ t. starts t ≡ true) p.faulty (kinds p.tokens) (peeked_no starts p.faulty p.tokens h)
 
 if_not : (b : Bool) → ¬ (b ≡ true) → b ≡ false
 if_not true h = absurd (h refl)

@@ -11,7 +11,7 @@ use Rattle.souper_ir.specs.Continuation.{statement_continues, infer_continues, r
 use Rattle.souper_ir.specs.Parsing.{Parsing}
 use Rattle.souper_ir.specs.Reading.{cause_of, IfRefused, if_refused, IsRead, Fails, fails_later}
 use Rattle.souper_ir.specs.Grammar.{Free, NextStops, Starts, NoFront, LastGoesOn, Refusal, peek_at}
-use Rattle.souper_ir.specs.Laws.Unique.{Alone, never, Free-weaker, Free-from_Stops, clash as starts_clash}
+use Rattle.souper_ir.specs.Laws.Unique.{Alone, never, Free-weaker, Free-from_NextStops, clash as starts_clash}
 use Rattle.souper_ir.specs.NodeReadings.{starts_statement, is_word}
 use Rattle.souper_ir.specs.Laws.Peeks.{peeked, peeked_yes, peeked_no, unread}
 use Rattle.souper_ir.specs.Laws.Steps.{kinds-append}
@@ -213,7 +213,7 @@ module _ {Y : Type 0} (tail : Scope → Y → List Lexeme → Type 0) (continues
   no_item faulty s (v ∷ vs) (w ∷ ws) a c b e d y eq m f k n sp st =
       let whole : m.prefix ++ (m.suffix ++ c) ≡ n.prefix ++ (n.suffix ++ (e ++ d)) = sym (split a m.prefix m.suffix c m.whole) ∙ eq ∙ split b n.prefix n.suffix (e ++ d) n.whole in
       let o : Opens e = opens (s ++ (w ∷ ws)) y e sp in
-      let free_w : Free (statement_continues w) (n.suffix ++ (e ++ d)) = Free-from_Stops (statement_continues w) faulty (n.suffix ++ (e ++ d)) (stops_over faulty (s ++ w ∷ []) w ws n.suffix (e ++ d) n.second (opens_over e d o)) in
+      let free_w : Free (statement_continues w) (n.suffix ++ (e ++ d)) = Free-from_NextStops (statement_continues w) faulty (n.suffix ++ (e ++ d)) (stops_over faulty (s ++ w ∷ []) w ws n.suffix (e ++ d) n.second (opens_over e d o)) in
       let here = statement_alone s v w m.prefix n.prefix (m.suffix ++ c) (n.suffix ++ (e ++ d)) whole m.first n.first (free_over (s ++ v ∷ []) v vs m.suffix c m.second f) free_w in
       let rest : m.suffix ++ c ≡ n.suffix ++ (e ++ d) = append_cancel_left n.prefix (m.suffix ++ c) (n.suffix ++ (e ++ d)) (ap (λ (x : List Lexeme). x ++ (m.suffix ++ c)) (sym here.0) ∙ whole) in
       let more : Statements (s ++ v ∷ []) ws n.suffix = subst (λ (x : PlainStatement). Statements (s ++ x ∷ []) ws n.suffix) (sym here.1) n.second in
@@ -229,7 +229,7 @@ module _ {Y : Type 0} (tail : Scope → Y → List Lexeme → Type 0) (continues
   -- the tail is refused after statements
   pub stuck_tail : (new : List PlainStatement) (p q : Parsing) → AllStated new p q → NoFront tail continues q → StuckAt (NoMore tail continues) p.scope p.faulty (kinds p.tokens)
   stuck_tail new p q so none =
-      stuck_at (NoMore tail continues) new p q so.stated (inr (Free-from_Stops (λ t. starts_statement t ≡ true) q.faulty (kinds q.tokens) so.quiet, none))
+      stuck_at (NoMore tail continues) new p q so.stated (inr (Free-from_NextStops (λ t. starts_statement t ≡ true) q.faulty (kinds q.tokens) so.quiet, none))
 
 -- statements before an opening are alone
 statements_alone : (s : Scope) (vs ws : List PlainStatement) (a b c d : List Lexeme) → a ++ c ≡ b ++ d → Statements s vs a → Statements s ws b → Opens c → Opens d → (a ≡ b) × (vs ≡ ws)
@@ -240,8 +240,8 @@ statements_alone s (v ∷ vs) [] a b c d e m n o r =
     absurd (clash m.prefix (m.suffix ++ c) d [] (statement_first s v m.prefix m.first) r (sym (split a m.prefix m.suffix c m.whole) ∙ e ∙ ap (λ (x : List Lexeme). x ++ d) n ∙ sym (append-nil d)))
 statements_alone s (v ∷ vs) (w ∷ ws) a b c d e m n o r =
     let whole : m.prefix ++ (m.suffix ++ c) ≡ n.prefix ++ (n.suffix ++ d) = sym (split a m.prefix m.suffix c m.whole) ∙ e ∙ split b n.prefix n.suffix d n.whole in
-    let free_v = Free-from_Stops (statement_continues v) false (m.suffix ++ c) (stops_over false (s ++ v ∷ []) v vs m.suffix c m.second o) in
-    let free_w = Free-from_Stops (statement_continues w) false (n.suffix ++ d) (stops_over false (s ++ w ∷ []) w ws n.suffix d n.second r) in
+    let free_v = Free-from_NextStops (statement_continues v) false (m.suffix ++ c) (stops_over false (s ++ v ∷ []) v vs m.suffix c m.second o) in
+    let free_w = Free-from_NextStops (statement_continues w) false (n.suffix ++ d) (stops_over false (s ++ w ∷ []) w ws n.suffix d n.second r) in
     let here = statement_alone s v w m.prefix n.prefix (m.suffix ++ c) (n.suffix ++ d) whole m.first n.first free_v free_w in
     let rest : m.suffix ++ c ≡ n.suffix ++ d = append_cancel_left n.prefix (m.suffix ++ c) (n.suffix ++ d) (ap (λ (x : List Lexeme). x ++ (m.suffix ++ c)) (sym here.0) ∙ whole) in
     let more : Statements (s ++ v ∷ []) ws n.suffix = subst (λ (x : PlainStatement). Statements (s ++ x ∷ []) ws n.suffix) (sym here.1) n.second in
@@ -299,8 +299,8 @@ replaced_alone : (s : Scope) (new more : List PlainStatement) (i j : PlainInfer)
     → Free (result_continues r) c → Free (result_continues q) d → (a ≡ b) × (◌≡◌ {A = Tail} (new, replaced i r) (more, replaced j q))
 replaced_alone s new more i j r q a b c d e m n f g =
     let whole : m.infer ++ ((m.middle ++ m.result) ++ c) ≡ n.infer ++ ((n.middle ++ n.result) ++ d) = sym (split a m.infer (m.middle ++ m.result) c m.whole) ∙ e ∙ split b n.infer (n.middle ++ n.result) d n.whole in
-    let free_i = Free-from_Stops (infer_continues i) false ((m.middle ++ m.result) ++ c) (infer_over false s (s ++ new) i r new m.middle m.result c m.middle_spelled m.result_spelled) in
-    let free_j = Free-from_Stops (infer_continues j) false ((n.middle ++ n.result) ++ d) (infer_over false s (s ++ more) j q more n.middle n.result d n.middle_spelled n.result_spelled) in
+    let free_i = Free-from_NextStops (infer_continues i) false ((m.middle ++ m.result) ++ c) (infer_over false s (s ++ new) i r new m.middle m.result c m.middle_spelled m.result_spelled) in
+    let free_j = Free-from_NextStops (infer_continues j) false ((n.middle ++ n.result) ++ d) (infer_over false s (s ++ more) j q more n.middle n.result d n.middle_spelled n.result_spelled) in
     let root = infer_alone s i j m.infer n.infer ((m.middle ++ m.result) ++ c) ((n.middle ++ n.result) ++ d) whole m.infer_spelled n.infer_spelled free_i free_j in
     let behind : (m.middle ++ m.result) ++ c ≡ (n.middle ++ n.result) ++ d = append_cancel_left n.infer ((m.middle ++ m.result) ++ c) ((n.middle ++ n.result) ++ d) (ap (λ (x : List Lexeme). x ++ ((m.middle ++ m.result) ++ c)) (sym root.0) ∙ whole) in
     let regrouped : m.middle ++ (m.result ++ c) ≡ n.middle ++ (n.result ++ d) = sym (append_assoc m.middle m.result c) ∙ behind ∙ append_assoc n.middle n.result d in

@@ -11,7 +11,7 @@ use Rattle.souper_graph.specs.Syntax.Optional.{◌>>=◌}
 use Rattle.souper_ir.specs.Continuation.{optional_type_continues, constant_continues, operand_continues, operands_continue}
 use Rattle.souper_ir.specs.Grammar.{Free, NextStops, Starts}
 use Rattle.souper_ir.specs.NodeReadings.{is_name, is_mark, is_int, ident_by, type_of_word, type_at, optional_type_by, optional_type_at, constant_at, operand_by, operand_at, further_at, operands_at}
-use Rattle.souper_ir.specs.Laws.Unique.{never, Free-weaker, Stops-weaker}
+use Rattle.souper_ir.specs.Laws.Unique.{never, Free-weaker, NextStops-weaker}
 use Rattle.souper_ir.specs.Laws.Peeks.{some_is}
 use Rattle.souper_ir.specs.Laws.Steps.{bind_some}
 use Rattle.souper_ir.specs.Laws.Tokens.{is_mark_means, ident_means}
@@ -57,7 +57,7 @@ optional_type_to true s o ts rest seen h = rw h.after.is ((h.more, h.whole, h.af
 
 optional_type_from : From (Node (λ s. optional_type_spells) optional_type_continues) (Choice (is_mark colon) (λ b. (optional_type_by_rule b).form))
 optional_type_from faulty s None ts rest h =
-    record { branch = false; seen = rw h.0 (Stops-weaker (λ t. t ≡ colon) (λ t. is_mark colon t ≡ true) faulty rest (is_mark_means colon) h.1); chosen = (refl, h.0) }
+    record { branch = false; seen = rw h.0 (NextStops-weaker (λ t. t ≡ colon) (λ t. is_mark colon t ≡ true) faulty rest (is_mark_means colon) h.1); chosen = (refl, h.0) }
 optional_type_from faulty s (Some t) ts rest h =
     record { branch = true; seen = rw h.0.1 refl; chosen = rw h.0.1 (next (made t (h.0.2, h.1))) }
 
@@ -163,7 +163,7 @@ row_from : (n : ℕ) → From (Counted operands_spells (suc n)) (Then (Node oper
 row_from n faulty s [] ts rest h = absurd (omega arith)
 row_from n faulty s (x ∷ xs) ts rest h =
     let k = h.1.0 in
-    let later = Stops-weaker (operands_continue (x ∷ xs)) (operands_continue xs) faulty rest (later_continues x xs) h.1.1 in
+    let later = NextStops-weaker (operands_continue (x ∷ xs)) (operands_continue xs) faulty rest (later_continues x xs) h.1.1 in
     rw k.whole (both x k.prefix k.suffix (k.first, further_over s x xs faulty k.suffix rest k.second h.1.1) (made xs (omega (arith, h.0), (k.second, later))))
 
 -- an operand, and then further ones

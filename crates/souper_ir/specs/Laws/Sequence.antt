@@ -8,7 +8,7 @@ use Rattle.souper_graph.specs.Syntax.Tokens.{Lexeme}
 use Rattle.souper_graph.specs.Syntax.Spelling.{kinds, Scope}
 use Rattle.souper_ir.specs.Reading.{cause_of, IfRefused, if_refused, fails_later}
 use Rattle.souper_ir.specs.Grammar.{Free, NextStops, Followed, Took, NoFront, Refusal}
-use Rattle.souper_ir.specs.Laws.Unique.{Alone, Free-from_Stops, Free-front}
+use Rattle.souper_ir.specs.Laws.Unique.{Alone, Free-from_NextStops, Free-front}
 use Rattle.souper_ir.specs.Laws.Steps.{kinds-append}
 
 -- the tokens are a spelling of a, and then one of b, which does not continue a
@@ -71,7 +71,7 @@ module _ {A B C : Type 0} (spells_a : Scope → A → List Lexeme → Type 0) (g
       let ahead : kinds p.tokens ≡ kinds took.used ++ kinds q.tokens = ap kinds took.parts ∙ kinds-append took.used q.tokens in
       let whole : kinds took.used ++ kinds q.tokens ≡ sp.prefix ++ (sp.suffix ++ rest) = sym ahead ∙ e ∙ regroup front sp.prefix sp.suffix rest sp.whole in
       let here = alone_a p.scope a (a_of c) (kinds took.used) sp.prefix (kinds q.tokens) (sp.suffix ++ rest) whole took.spelled sp.first took.free
-      (Free-from_Stops (goes_on_a (a_of c)) p.faulty (sp.suffix ++ rest) (stops_over p.faulty p.scope c sp.suffix rest sp.second sp.free st)) in
+      (Free-from_NextStops (goes_on_a (a_of c)) p.faulty (sp.suffix ++ rest) (stops_over p.faulty p.scope c sp.suffix rest sp.second sp.free st)) in
       let tail : kinds q.tokens ≡ sp.suffix ++ rest = append_cancel_left sp.prefix (kinds q.tokens) (sp.suffix ++ rest) (ap (λ (x : List Lexeme). x ++ kinds q.tokens) (sym here.0) ∙ whole) in
       let at_q : spells_b q.scope (b_of c) sp.suffix = subst (λ (x : Parsing). spells_b x.scope (b_of c) sp.suffix) (sym took.state) sp.second in
       none (b_of c) sp.suffix rest tail at_q (subst (λ (x : Parsing). NextStops (goes_on_b (b_of c)) x.faulty rest) (sym took.state) (stops_last p.faulty c rest st))

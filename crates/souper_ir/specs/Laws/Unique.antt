@@ -21,13 +21,13 @@ pub Free-weaker : (P Q : Lexeme → Type 0) (ts : List Lexeme) → ((t : Lexeme)
 Free-weaker P Q [] f h = tt
 Free-weaker P Q (t ∷ ts) f h = λ q. h (f t q)
 
-pub Stops-weaker : (P Q : Lexeme → Type 0) (faulty : Bool) (ts : List Lexeme) → ((t : Lexeme) → Q t → P t) → NextStops P faulty ts → NextStops Q faulty ts
-Stops-weaker P Q faulty [] f h = h
-Stops-weaker P Q faulty (t ∷ ts) f h = λ q. h (f t q)
+pub NextStops-weaker : (P Q : Lexeme → Type 0) (faulty : Bool) (ts : List Lexeme) → ((t : Lexeme) → Q t → P t) → NextStops P faulty ts → NextStops Q faulty ts
+NextStops-weaker P Q faulty [] f h = h
+NextStops-weaker P Q faulty (t ∷ ts) f h = λ q. h (f t q)
 
-pub Free-from_Stops : (P : Lexeme → Type 0) (faulty : Bool) (ts : List Lexeme) → NextStops P faulty ts → Free P ts
-Free-from_Stops P faulty [] h = tt
-Free-from_Stops P faulty (t ∷ ts) h = h
+pub Free-from_NextStops : (P : Lexeme → Type 0) (faulty : Bool) (ts : List Lexeme) → NextStops P faulty ts → Free P ts
+Free-from_NextStops P faulty [] h = tt
+Free-from_NextStops P faulty (t ∷ ts) h = h
 
 pub Free-front : (P : Lexeme → Type 0) (a b : List Lexeme) → Free P (a ++ b) → Free P a
 Free-front P [] b h = tt
@@ -39,7 +39,7 @@ clash starts [] c d st e f = st
 clash starts (t ∷ b) c d st e f = (subst (Free (λ t. starts t ≡ true)) e f) st
 
 pub clash_at : (starts : Lexeme → Bool) (faulty : Bool) (b c d : List Lexeme) → Starts starts b → c ≡ b ++ d → NextStops (λ t. starts t ≡ true) faulty c → ⊥
-clash_at starts faulty b c d st e f = clash starts b c d st e (Free-from_Stops (λ t. starts t ≡ true) faulty c f)
+clash_at starts faulty b c d st e f = clash starts b c d st e (Free-from_NextStops (λ t. starts t ≡ true) faulty c f)
 
 module _ {V : Type 0} (spells : V → List Lexeme → Type 0) (continues : V → Lexeme → Type 0) (starts : Lexeme → Bool)
     (alone : (v w : V) (a b c d : List Lexeme) → a ++ c ≡ b ++ d → spells v a → spells w b → Free (continues v) c → Free (continues w) d → (a ≡ b) × (v ≡ w))

@@ -1,6 +1,6 @@
 //! A hash of names.
 ghost use Rattle.std.specs.Prelude.{◌≡◌, ◌≤◌, ◌<◌, ◌+◌, length};
-ghost use Rattle.souper_ir.specs.HashView.{half_at, eight_bytes_at, joined, few_bytes, number_of_ends, name_hash, slot};
+ghost use Rattle.souper_ir.specs.HashView.{half_at, eight_bytes_at, joined, few_bytes, number_by_ends, name_hash, slot};
 
 // 2 to the 64th over the golden ratio: the highest bits of a product with it depend on all bits of a number (Knuth's multiplicative
 // hashing).
@@ -58,8 +58,8 @@ fn few_bytes(bytes: &[u8]) -> u64
 
 // The number of a name: of its first 16 bytes and its last 32, so of all of them if there are 48 at most. A longer name takes no longer.
 #[inline(always)]
-fn number_of_ends(bytes: &[u8]) -> u64
-    ensures { result ≡ number_of_ends bytes.now }
+fn number_by_ends(bytes: &[u8]) -> u64
+    ensures { result ≡ number_by_ends bytes.now }
 {
     let len = bytes.len();
     if len < 4 {
@@ -92,7 +92,7 @@ fn number_of_ends(bytes: &[u8]) -> u64
 pub(crate) fn hash_of(name: &str) -> u64
     ensures { result ≡ name_hash name.now }
 {
-    number_of_ends(name.as_bytes()).wrapping_mul(FACTOR)
+    number_by_ends(name.as_bytes()).wrapping_mul(FACTOR)
 }
 
 /// The slot of a hash: the hash over 2 to the 64th, times the number of slots.
