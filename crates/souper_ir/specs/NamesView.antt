@@ -1,5 +1,5 @@
 -- Definitions. The names of an item, as a parser keeps them.
-use Rattle.std.specs.Prelude.{◌≡◌, ℕ, Bool, false, List, Option, Some, None, bytes_eq, slice_get, if◌then◌else◌}
+use Rattle.std.specs.Prelude.{◌≡◌, ℕ, Bool, false, List, [], ◌∷◌, ◌++◌, length, Option, Some, None, bytes_eq, slice_get, if◌then◌else◌}
 use Rattle.std.specs.Borrow.{Bor}
 use Rattle.std.specs.BTreeMap.{BTreeMap, get_by}
 use Rattle.std.specs.Cmp.Lexicographic.{slice_cmp}
@@ -8,7 +8,7 @@ use Rattle.souper_graph.specs.Syntax.Optional.{◌>>=◌}
 use Rattle.souper_ir.specs.declared.parse.names.Names.{Names}
 use Rattle.souper_ir.specs.TableView.{NameEntry, or_else, last_entry}
 use Rattle.souper_graph.specs.Values.{PlainAssignment, PlainStatement, assigned}
-use Rattle.souper_graph.specs.Syntax.Spelling.{Scope, predecessors_if_block}
+use Rattle.souper_graph.specs.Syntax.Spelling.{Scope, predecessors_if_block, entry_of, position_of}
 
 abbrev pub NameMap : Type 0
 NameMap = BTreeMap (Bor (List ℕ)) NameEntry
@@ -28,19 +28,6 @@ AddsToMap old new n e = (m : List ℕ) → entry_in_map new m ≡ (if bytes_eq n
 abbrev pub Adds : Names → Names → List ℕ → NameEntry → Type 0
 Adds old new n e = (m : List ℕ) → entry_in new m ≡ (if bytes_eq n m then Some e else entry_in old m)
 
--- the name that was entered last has this entry
-abbrev pub IsLast : Option (Bor (List ℕ) × ℕ × Option ℕ) → Names → Type 0
-IsLast None names = Unit {0}
-IsLast (Some x) names = entry_in names x.0.now ≡ Some (x.1, x.2)
-
--- each assignment is entered under its name, with its position; so no two have one name
-abbrev pub AreEntered : Names → Scope → Type 0
-AreEntered names s = (i : ℕ) (a : PlainAssignment) → slice_get s i ≡ Some (assigned a) → entry_in names a.name ≡ Some (i, predecessors_if_block a.value)
-
-pub record AreNames (names : Names) (s : Scope) : Type 0 where
-  pub entered : AreEntered names s
-  pub last : IsLast names.last names
-
 abbrev pub defines_name : Option PlainStatement → List ℕ → Bool
 defines_name (Some (assigned a)) n = bytes_eq a.name n
 defines_name _ n = false
@@ -49,6 +36,29 @@ defines_name _ n = false
 abbrev pub is_named : Scope → ℕ → List ℕ → Bool
 is_named s i n = defines_name (slice_get s i) n
 
--- the entry, if the statement at its position is an assignment of the name
+-- the entry in the map, if the statement at its position is an assignment of the name
 abbrev pub entry_in_scope : Scope → Option NameEntry → List ℕ → Option NameEntry
 entry_in_scope s o n = o >>= λ e. if is_named s e.0 n then Some e else None
+
+-- the entry that a look-up finds
+abbrev pub entry_found : Names → Scope → List ℕ → Option NameEntry
+entry_found names s n = or_else (last_entry names.table n) (entry_in_scope s (entry_in_map names.entries n) n)
+
+-- each name resolves to the position of its assignment, so that no two have one name
+abbrev pub Named : Scope → Type 0
+Named s = (p : ℕ) (a : PlainAssignment) → slice_get s p ≡ Some (assigned a) → position_of s a.name ≡ Some p
+
+-- the name that was entered last has this entry
+abbrev pub IsLast : Option (Bor (List ℕ) × ℕ × Option ℕ) → NameMap → Type 0
+IsLast None entries = Unit {0}
+IsLast (Some x) entries = entry_in_map entries x.0.now ≡ Some (x.1, x.2)
+
+-- the names of a scope
+pub record AreNames (names : Names) (s : Scope) : Type 0 where
+  pub entries : (n : List ℕ) → entry_found names s n ≡ entry_of s n
+  pub named : Named s
+  pub last : IsLast names.last names.entries
+
+-- the names, after one more definition
+abbrev pub Defines : Names → Names → List ℕ → ℕ → Option ℕ → Type 0
+Defines old new n v predecessors = (s : Scope) (a : PlainAssignment) → AreNames old s → position_of s a.name ≡ None → n ≡ a.name → v ≡ length s → predecessors ≡ predecessors_if_block a.value → AreNames new (s ++ assigned a ∷ [])

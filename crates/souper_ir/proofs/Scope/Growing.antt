@@ -9,6 +9,7 @@ use Rattle.souper_graph.specs.WellFormed.{predecessors_of_rhs, predecessors_of, 
 use Rattle.souper_graph.specs.Syntax.Spelling.{Scope, predecessors_if_block, entry_from, entry_of, position_of}
 use Rattle.souper_ir.specs.Laws.Peeks.{some_is}
 use Rattle.souper_ir.specs.TableView.{NameEntry, or_else}
+use Rattle.souper_ir.specs.NamesView.{Named}
 use Rattle.souper_ir.proofs.Scope.Names.{entry_push, entry_pass, no_entry}
 
 -- ---- names
@@ -52,10 +53,6 @@ position_stands : (s : Scope) (n : List ℕ) (i : ℕ) → position_of s n ≡ S
 position_stands s n i h =
     let e = entry_at (entry_of s n) i h in
     (e.0, entry_stands s n i e.0 e.1)
-
--- each name resolves to the position of its assignment
-abbrev pub Named : Scope → Type 0
-Named s = (p : ℕ) (a : PlainAssignment) → slice_get s p ≡ Some (assigned a) → position_of s a.name ≡ Some p
 
 pub nothing_named : Named []
 nothing_named p v e = absurd cc

@@ -89,7 +89,7 @@ fn enter_assignment(parser: &mut Parser<'_>) -> Read<()>
     ensures ok { OnOk result (Enters parser.old parser.new) }
     ensures err { IfErr result (λ e. Refusal statement_spells statement_continues (error_of e) parser.old parser.new) }
 {
-    let (name, ty) = entered_heading(parser)?;
+    let (name, slot, ty) = entered_heading(parser)?;
     // `let value = rhs(parser)?` would copy the value twice more.
     match rhs(parser) {
         Ok(value) => {
@@ -103,7 +103,7 @@ fn enter_assignment(parser: &mut Parser<'_>) -> Read<()>
                 value,
                 attributes,
             };
-            parser.define(name, assignment)
+            parser.define(slot, name, assignment)
         }
         Err(error) => Err(error),
     }

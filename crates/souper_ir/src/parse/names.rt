@@ -16,13 +16,11 @@ fn most(entries: usize) -> usize {
     (entries / 16).min(8) + 3
 }
 
-/// What a search of the table for a name found.
+/// Where a name is to be entered.
 #[derive(Clone, Copy)]
-pub(crate) struct Found {
-    /// The entry of the name in the table. If the names are in the map, there is none.
-    pub(crate) entry: Option<Entry>,
-    hash: u64,
-    /// Whether the name is to be entered into the map: the entries are there, or too many have its slot.
+pub(crate) struct Slot {
+    pub(crate) hash: u64,
+    /// Into the map: the entries are there, or too many have its slot of the table.
     pub(crate) is_for_map: bool,
 }
 
@@ -33,15 +31,17 @@ pub(crate) struct Names<'a> {
     table: NameTable<'a>,
     // All entries from then on. Otherwise it is empty.
     entries: BTreeMap<&'a str, Entry>,
-    // The name that was entered last, with its entry.
+    // The name that was entered last into the map, with its entry.
     last: Option<(&'a str, ValueId, Option<u32>)>,
+    // The name for the table whose definition began last, with the position of its statement.
+    begun: Option<(&'a str, ValueId)>,
 }
 
 impl<'a> Names<'a> {
     ghost use Rattle.std.specs.Prelude.{◌≡◌, ℕ, List, [], Some, false, IfOk, OnOk};
     ghost use Rattle.souper_ir.specs.HashView.{name_hash};
     ghost use Rattle.souper_ir.specs.TableView.{last_entry};
-    ghost use Rattle.souper_ir.specs.NamesView.{AreNames, IsLast, entry_in, entry_in_map, Adds, AddsToMap};
+    ghost use Rattle.souper_ir.specs.NamesView.{AreNames, IsLast, entry_in, entry_in_map, Adds, AddsToMap, Defines};
 
     pub(crate) fn new(alloc: Global) -> Self
         ensures { AreNames result [] }
@@ -50,51 +50,48 @@ impl<'a> Names<'a> {
             table: NameTable::new(alloc),
             entries: BTreeMap::new(alloc),
             last: None,
+            begun: None,
         }
     }
 
-    /// Searches the table for a name.
+    /// The entry of a name in the table, and where one is to be entered.
     #[inline(always)]
-    pub(crate) fn find(&self, name: &str) -> Found
-        ensures entry { result.entry ≡ last_entry self.now.table name.now }
-        ensures hash { result.hash ≡ name_hash name.now }
-        ensures table { result.is_for_map ≡ false → self.now.entries.entries ≡ [] }
+    pub(crate) fn find(&self, name: &str) -> (Option<Entry>, Slot)
+        ensures entry { result.0 ≡ last_entry self.now.table name.now }
+        ensures hash { result.1.hash ≡ name_hash name.now }
+        ensures table { result.1.is_for_map ≡ false → self.now.entries.entries ≡ [] }
     {
         let hash = hash_of(name);
         let (entry, compared) = self.table.find(hash, name);
-        Found {
-            entry,
+        let slot = Slot {
             hash,
             is_for_map: compared > most(self.table.len()) || !self.entries.is_empty(),
-        }
+        };
+        (entry, slot)
     }
 
-    /// The entry of a name.
-    pub(crate) fn get(&self, name: &str) -> Option<Entry>
-        ensures { result ≡ entry_in self.now name.now }
+    /// The entry of a name in the table.
+    pub(crate) fn in_table(&self, name: &str) -> Option<Entry>
+        ensures { result ≡ last_entry self.now.table name.now }
     {
-        match self.table.get(hash_of(name), name) {
-            Some(entry) => Some(entry),
-            None => self.entries.get(name).copied(),
-        }
+        self.table.get(hash_of(name), name)
     }
 
-    /// Enters a name, for which this was found, into the table.
+    /// The entry of a name in the map.
+    pub(crate) fn in_map(&self, name: &str) -> Option<Entry>
+        ensures { result ≡ entry_in_map self.now.entries name.now }
+    {
+        self.entries.get(name).copied()
+    }
+
+    /// Notes that the definition of a name for the table begins.
     #[inline(always)]
-    pub(crate) fn put_into_table(
-        &mut self,
-        found: Found,
-        name: &'a str,
-        value: ValueId,
-        predecessors: Option<u32>,
-    ) -> Result<(), AllocError>
-        requires { found.hash ≡ name_hash name.now }
-        ensures entered { OnOk result (Adds self.old self.new name.now (value, predecessors)) }
-        ensures last { OnOk result (IsLast self.new.last self.new) }
+    pub(crate) fn begin(&mut self, name: &'a str, value: ValueId)
+        ensures table { self.new.table ≡ self.old.table }
+        ensures entries { self.new.entries ≡ self.old.entries }
+        ensures last { self.new.last ≡ self.old.last }
     {
-        self.table.put(found.hash, name, (value, predecessors))?;
-        self.last = Some((name, value, predecessors));
-        Ok(())
+        self.begun = Some((name, value));
     }
 
     /// Enters a name into the map, to which all entries go, and returns the entry that it had.
@@ -106,8 +103,9 @@ impl<'a> Names<'a> {
         predecessors: Option<u32>,
     ) -> Result<Option<Entry>, AllocError>
         ensures replaced { IfOk result (λ replaced. replaced ≡ entry_in self.old name.now) }
+        ensures table { OnOk result (self.new.table ≡ []) }
         ensures entered { OnOk result (Adds self.old self.new name.now (value, predecessors)) }
-        ensures last { OnOk result (IsLast self.new.last self.new) }
+        ensures last { OnOk result (IsLast self.new.last self.new.entries) }
     {
         self.move_names()?;
         let replaced = self.insert(name, (value, predecessors))?;
@@ -140,43 +138,41 @@ impl<'a> Names<'a> {
         }
     }
 
-    /// Enters a name. The names are not searched if this is what was entered last.
+    /// Enters a name whose statement was added.
     #[inline(always)]
     pub(crate) fn enter(
+        &mut self,
+        slot: Slot,
+        name: &'a str,
+        value: ValueId,
+        predecessors: Option<u32>,
+    ) -> Result<(), AllocError>
+        requires { slot.hash ≡ name_hash name.now }
+        ensures { OnOk result (Defines self.old self.new name.now value predecessors) }
+    {
+        if slot.is_for_map {
+            return self.enter_into_map(name, value, predecessors);
+        }
+        self.table.put(slot.hash, name, (value, predecessors))
+    }
+
+    // The same, into the map, which is not searched if this is what was entered last.
+    #[inline(never)]
+    fn enter_into_map(
         &mut self,
         name: &'a str,
         value: ValueId,
         predecessors: Option<u32>,
     ) -> Result<(), AllocError>
-        requires { IsLast self.old.last self.old }
-        ensures entered { OnOk result (Adds self.old self.new name.now (value, predecessors)) }
-        ensures last { OnOk result (IsLast self.new.last self.new) }
+        ensures { OnOk result (Defines self.old self.new name.now value predecessors) }
     {
         if let Some((last, of, count)) = self.last {
             if of == value && count == predecessors && last == name {
                 return Ok(());
             }
         }
-        self.enter_again(name, value, predecessors)
-    }
-
-    // Enters a name that may have an entry.
-    #[inline(never)]
-    fn enter_again(
-        &mut self,
-        name: &'a str,
-        value: ValueId,
-        predecessors: Option<u32>,
-    ) -> Result<(), AllocError>
-        ensures entered { OnOk result (Adds self.old self.new name.now (value, predecessors)) }
-        ensures last { OnOk result (IsLast self.new.last self.new) }
-    {
-        let found = self.find(name);
-        if found.is_for_map {
-            self.put_into_map(name, value, predecessors)?;
-            return Ok(());
-        }
-        self.put_into_table(found, name, value, predecessors)
+        self.put_into_map(name, value, predecessors)?;
+        Ok(())
     }
 
     /// Takes all names out.
@@ -186,10 +182,25 @@ impl<'a> Names<'a> {
         self.table.clear();
         self.entries.clear();
         self.last = None;
+        self.begun = None;
+    }
+
+    // The name whose definition began last, with its entry, which a table has only once its statement was added.
+    fn last_begun(&self) -> Option<(&'a str, ValueId, Option<u32>)> {
+        if let Some((name, value, predecessors)) = self.last {
+            return Some((name, value, predecessors));
+        }
+        match self.begun {
+            Some((name, value)) => match self.in_table(name) {
+                Some((_, predecessors)) => Some((name, value, predecessors)),
+                None => Some((name, value, None)),
+            },
+            None => None,
+        }
     }
 }
 
-// The names, each with its last entry, in the order of these entries.
+// The names, each with its entry. A name whose definition began is among them.
 #[derive(Clone, Copy)]
 struct Listed<'a, 'b>(&'b Names<'a>);
 
@@ -199,15 +210,18 @@ impl fmt::Debug for Listed<'_, '_> {
         let mut map = f.debug_map();
         for index in 0..names.table.len() {
             let (name, entry) = names.table.nth(index);
-            // A block has two entries, and the first has no count.
-            if names.table.get(hash_of(name), name) == Some(entry) {
-                map.entry(&name, &entry);
-            }
+            map.entry(&name, &entry);
         }
         for (name, entry) in &names.entries {
             // Only if the entries could not be moved, both have some.
-            if names.table.get(hash_of(name), name).is_none() {
+            if names.in_table(name).is_none() {
                 map.entry(name, entry);
+            }
+        }
+        if let Some((name, value, predecessors)) = names.last_begun() {
+            if names.in_table(name).is_none() && names.in_map(name).is_none() {
+                let entry: Entry = (value, predecessors);
+                map.entry(&name, &entry);
             }
         }
         map.finish()
@@ -219,7 +233,7 @@ impl fmt::Debug for Names<'_> {
     fn fmt<W: fmt::Write>(&self, f: &mut fmt::Formatter<W>) -> fmt::Result {
         f.debug_struct("Names")
             .field("entries", &Listed(self))
-            .field("last", &self.last)
+            .field("last", &self.last_begun())
             .finish()
     }
 }

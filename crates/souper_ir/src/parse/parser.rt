@@ -8,6 +8,7 @@ ghost use Rattle.souper_lexer.specs.TokenView.{lexeme_of};
 ghost use Rattle.souper_graph.specs.Uses.{is_condition};
 ghost use Rattle.souper_graph.specs.Syntax.Spelling.{entry_of, position_of, predecessors_if_block};
 ghost use Rattle.souper_ir.specs.NodeReadings.{accept, block_entry, is_any, is_mark, is_name, as_mark, as_name, new_name_at};
+ghost use Rattle.souper_ir.specs.HashView.{name_hash};
 ghost use Rattle.souper_ir.specs.NamesView.{is_named, entry_in_scope};
 ghost use Rattle.souper_ir.specs.Grammar.{Comes, peek_at};
 ghost use Rattle.souper_ir.specs.MarkView.{lexeme_of_mark};
@@ -20,7 +21,7 @@ ghost use Rattle.souper_ir.specs.Reading.{Fails, FailsForMemory, Gives, IfRefuse
 use crate::parse::error::{ParseError, ReadError};
 use crate::parse::memory::{Kept, Memory};
 use crate::parse::message::Message;
-use crate::parse::names::{Entry, Names};
+use crate::parse::names::{Entry, Names, Slot};
 use crate::parse::recent::Recent;
 use crate::parse::spare::Spare;
 use crate::parse::tokens::{Mark, byte_of};
@@ -460,7 +461,10 @@ impl<'a> Parser<'a> {
         requires { self.now.failed ≡ None }
         ensures { result ≡ entry_of self.now.scope name.now }
     {
-        in_scope(&self.statements, self.names.get(name), name)
+        match self.names.in_table(name) {
+            Some(entry) => Some(entry),
+            None => in_scope(&self.statements, self.names.in_map(name), name),
+        }
     }
 
     /// The value of a name.
@@ -489,32 +493,27 @@ impl<'a> Parser<'a> {
         Some((Id::from(value).into(), predecessors?))
     }
 
-    /// Begins the definition of a name, which has to be new: enters it with the position of the next statement.
-    #[inline(never)]
+    /// Begins the definition of a name, which has to be new: returns where it is to be entered.
+    #[inline(always)]
     #[tactic(auto, unfolding(crate::specs::NodeReadings::new_name_at))]
-    pub(crate) fn begin(&mut self, name: &'a str) -> Read<()>
+    pub(crate) fn begin(&mut self, name: &'a str) -> Read<Slot>
         requires { self.old.failed ≡ None }
-        ensures { Gives (λ u. u) (widened result) (new_name_at name.now self.old) self.old self.new }
+        ensures begun { Gives (λ u. tt) (widened result) (new_name_at name.now self.old) self.old self.new }
+        ensures hash { IfOk result (λ slot. slot.hash ≡ name_hash name.now) }
     {
-        let found = self.names.find(name);
-        if in_scope(&self.statements, found.entry, name).is_some() {
+        let (entry, slot) = self.names.find(name);
+        if entry.is_some() {
             return Err(self.refuse(Message::CannotRedefine(name)));
         }
-        if found.is_for_map {
-            return self.begin_in_map(name);
+        if slot.is_for_map {
+            self.begin_in_map(name)?;
+            return Ok(slot);
         }
-        let next = self.statements.next_id().into();
-        match self.names.put_into_table(found, name, next, None) {
-            Ok(()) => Ok(()),
-            // The names may lack some entry now, so the cause is set first.
-            Err(_) => {
-                self.failed = Some(Failure::Memory);
-                Err(ReadError::Memory)
-            }
-        }
+        self.names.begin(name, self.statements.next_id().into());
+        Ok(slot)
     }
 
-    // The same, where the name goes to the map.
+    // The same, where the name goes to the map: it is entered with the position of the next statement.
     #[cold]
     #[inline(never)]
     #[tactic(auto, unfolding(crate::specs::NodeReadings::new_name_at))]
@@ -544,8 +543,9 @@ impl<'a> Parser<'a> {
 
     /// Adds the definition of a name to the statements.
     #[inline(always)]
-    pub(crate) fn define(&mut self, name: &'a str, assignment: Assignment) -> Read<()>
+    pub(crate) fn define(&mut self, slot: Slot, name: &'a str, assignment: Assignment) -> Read<()>
         requires live { self.old.failed ≡ None }
+        requires hash { slot.hash ≡ name_hash name.now }
         requires named { string_bytes assignment.name ≡ name.now }
         requires fresh { position_of self.old.scope name.now ≡ None }
         ensures ok { OnOk result (self.new ≡ record self.old { scope = self.old.scope ++ assigned (view_assignment assignment) ∷ [] }) }
@@ -556,7 +556,7 @@ impl<'a> Parser<'a> {
             Ok(id) => id.into(),
             Err(_) => return Err(self.want_memory()),
         };
-        match self.names.enter(name, value, predecessors) {
+        match self.names.enter(slot, name, value, predecessors) {
             Ok(_) => {
                 self.recent.put(name, value);
                 Ok(())

@@ -1,6 +1,6 @@
 //! Statements: assignments and path conditions.
 
-ghost use Rattle.std.specs.Prelude.{codes, map, refl, IfOk, IfErr};
+ghost use Rattle.std.specs.Prelude.{◌≡◌, codes, map, refl, IfOk, IfErr};
 ghost use Rattle.souper_graph.specs.declared.ast.statements.Pc.{Pc as pc_value};
 ghost use Rattle.souper_graph.specs.declared.ast.statements.BlockPc.{BlockPc as block_pc_value};
 ghost use Rattle.souper_graph.specs.Values.{PlainAssignment, PlainStatement};
@@ -10,6 +10,7 @@ ghost use Rattle.souper_ir.specs.Errors.{error_of, widened};
 ghost use Rattle.souper_ir.specs.Continuation.{assignment_continues, pc_continues, block_pc_continues, statement_continues};
 ghost use Rattle.souper_ir.specs.Reading.{Gives};
 ghost use Rattle.souper_ir.specs.Grammar.{Took, Refusal, peek_at};
+ghost use Rattle.souper_ir.specs.HashView.{name_hash};
 ghost use Rattle.souper_ir.specs.NodeReadings.{is_name, is_word, type_and_equals_at, heading_at, pc_at, block_pc_at, starts_statement};
 ghost use Rattle.souper_ir.specs.Laws.Attributed.{Row, OneMore};
 ghost use Rattle.souper_ir.specs.Laws.Statements.{assignment_alone, assignment_first, pc_alone, pc_first, block_pc_alone, block_pc_first, statement_alone, statement_first};
@@ -17,6 +18,7 @@ ghost use Rattle.souper_ir.specs.Laws.Statements.{assignment_alone, assignment_f
 use crate::parse::attributes::attribute;
 use crate::parse::error::widen;
 use crate::parse::message::Message;
+use crate::parse::names::Slot;
 use crate::parse::operands::{operand, optional_type};
 use crate::parse::parser::{Parser, Read, Result};
 use crate::parse::rhs::{block_name, rhs};
@@ -55,15 +57,16 @@ fn heading<'a>(parser: &mut Parser<'a>) -> Read<(&'a str, Option<Type>)>
     Ok((name, ty))
 }
 
-/// The same, of an assignment that is entered: its definition begins.
+/// The same, of an assignment that is entered, and where its name is to be entered: its definition begins.
 #[tactic(auto, unfolding(crate::specs::NodeReadings::heading_at, crate::specs::NodeReadings::new_name_at))]
-pub(crate) fn entered_heading<'a>(parser: &mut Parser<'a>) -> Read<(&'a str, Option<Type>)>
-    ensures { Gives (λ r. (r.0.now, r.1)) (widened result) (heading_at parser.old) parser.old parser.new }
+pub(crate) fn entered_heading<'a>(parser: &mut Parser<'a>) -> Read<(&'a str, Slot, Option<Type>)>
+    ensures heading { Gives (λ r. (r.0.now, r.2)) (widened result) (heading_at parser.old) parser.old parser.new }
+    ensures hash { IfOk result (λ r. r.1.hash ≡ name_hash r.0.now) }
 {
     let name = value_name(parser)?;
-    parser.begin(name)?;
+    let slot = parser.begin(name)?;
     let ty = type_and_equals(parser)?;
-    Ok((name, ty))
+    Ok((name, slot, ty))
 }
 
 /// The attributes of an assignment.

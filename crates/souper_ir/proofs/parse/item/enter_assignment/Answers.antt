@@ -17,14 +17,14 @@ returns-in_err-name-clause-err c =
     let here = c.args.parser.now in
     let e = error_of c.in_err-name.field-0.0 in
     rw (p.1, p.2) (assignment_refused e here here here c.entered_heading.new.parser (no_pc_seen here here c.requires) (no_block_pc_seen here here c.requires)
-    (heading_refused e here c.entered_heading.new.parser c.in_err-name.ensures))
+    (heading_refused e here c.entered_heading.new.parser c.in_err-name.ensures.heading))
 
 pub returns-in-Err-clause-err : goal.returns-in-Err-clause-err
 returns-in-Err-clause-err c =
     let here = c.args.parser.now in
     let e = error_of c.in-Err.error in
     assignment_refused e here here here c.rhs.new.parser (no_pc_seen here here c.requires) (no_block_pc_seen here here c.requires)
-    (value_refused e (c.in_ok-name.name.now, c.in_ok-name.ty) here c.entered_heading.new.parser c.rhs.new.parser c.in_ok-name.ensures c.in-Err.ensures)
+    (value_refused e (c.in_ok-name.name.now, c.in_ok-name.ty) here c.entered_heading.new.parser c.rhs.new.parser c.in_ok-name.ensures.heading c.in-Err.ensures)
 
 pub returns-in_err-attributes-in-Ok-clause-err : goal.returns-in_err-attributes-in-Ok-clause-err
 returns-in_err-attributes-in-Ok-clause-err c =
@@ -33,19 +33,19 @@ returns-in_err-attributes-in-Ok-clause-err c =
     let e = error_of c.in_err-attributes-in-Ok.field-0.0 in
     rw (p.1, p.2) (assignment_refused e here here here c.attributes.new.parser (no_pc_seen here here c.requires) (no_block_pc_seen here here c.requires)
     (attributes_refused e (record { name = c.in_ok-name.name.now; ty = c.in_ok-name.ty; value = view_rhs c.in-Ok.value }) here c.entered_heading.new.parser c.rhs.new.parser c.attributes.new.parser
-    c.in_ok-name.ensures c.in-Ok.ensures c.in_err-attributes-in-Ok.ensures.err))
+    c.in_ok-name.ensures.heading c.in-Ok.ensures c.in_err-attributes-in-Ok.ensures.err))
 
 pub define-requires-clause-fresh : goal.define-requires-clause-fresh
 define-requires-clause-fresh c =
     let a : PlainAssignment = record { name = c.in_ok-name.name.now; ty = c.in_ok-name.ty; value = view_rhs c.in-Ok.value; attributes = map view_attribute c.in_ok-attributes-in-Ok.attributes.items } in
-    let t = parts_taken a c.args.parser.now c.entered_heading.new.parser c.rhs.new.parser c.attributes.new.parser c.in_ok-name.ensures c.in-Ok.ensures c.in_ok-attributes-in-Ok.ensures.ok in
+    let t = parts_taken a c.args.parser.now c.entered_heading.new.parser c.rhs.new.parser c.attributes.new.parser c.in_ok-name.ensures.heading c.in-Ok.ensures c.in_ok-attributes-in-Ok.ensures.ok in
     subst (λ (p : Parsing). position_of p.scope c.in_ok-name.name.now ≡ None) (sym t.state ∙ sym c.in-Ok-copy_name.ensures.kept) t.spelled.name_is_new
 
 pub returns-in-Ok-copy_name-clause-ok : goal.returns-in-Ok-copy_name-clause-ok
 returns-in-Ok-copy_name-clause-ok c =
     let here = c.args.parser.now in
     let a : PlainAssignment = record { name = c.in_ok-name.name.now; ty = c.in_ok-name.ty; value = view_rhs c.in-Ok.value; attributes = map view_attribute c.in_ok-attributes-in-Ok.attributes.items } in
-    let t = parts_taken a here c.entered_heading.new.parser c.rhs.new.parser c.attributes.new.parser c.in_ok-name.ensures c.in-Ok.ensures c.in_ok-attributes-in-Ok.ensures.ok in
+    let t = parts_taken a here c.entered_heading.new.parser c.rhs.new.parser c.attributes.new.parser c.in_ok-name.ensures.heading c.in-Ok.ensures c.in_ok-attributes-in-Ok.ensures.ok in
     on_ok_weaker c.define.result
     (entered (assigned a) here c.attributes.new.parser c.define.new.self
     (assignment_taken a here here here c.attributes.new.parser (no_pc_seen here here c.requires) (no_block_pc_seen here here c.requires) t))

@@ -8,8 +8,5 @@ pub invariant_of-self : goal.invariant_of-self
 invariant_of-self c = record {
   offset = c.self.invariant.offset;
   failed = c.self.invariant.failed;
-  names = λ live. let are = c.self.invariant.names live in record {
-    entered = rw (c.in-Ok.ensures.grows, map-append) (names_pass c.self.inside.names (map view_statement c.self.inside.statements) (view_statement c.args.condition) are.entered c.requires.unnamed);
-    last = are.last;
-  };
+  names = λ live. rw (c.in-Ok.ensures.grows, map-append) (names_pass c.self.inside.names (map view_statement c.self.inside.statements) (view_statement c.args.condition) (c.self.invariant.names live) c.requires.unnamed);
 }

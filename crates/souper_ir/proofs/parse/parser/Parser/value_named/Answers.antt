@@ -10,4 +10,4 @@ pub returns-then-is_named : goal.returns-then-is_named
 returns-then-is_named c =
     let are = c.self.invariant.names (live_inside c.self.inside.failed (subst (λ (p : Parsing). p.failed ≡ None) (sym c.self.view_is) c.requires)) in
     subst (λ (p : Parsing). Some c.in-Some.value ≡ position_of p.scope c.args.name.now) c.self.view_is
-    (position_is c.self.inside.names (map view_statement c.self.inside.statements) c.in-Some.value c.args.name.now are.entered (sym c.if-is_named.ensures))
+    (position_is (map view_statement c.self.inside.statements) c.in-Some.value c.args.name.now are.named (sym c.if-is_named.ensures))
