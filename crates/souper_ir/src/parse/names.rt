@@ -65,7 +65,7 @@ impl<'a> Names<'a> {
         let (entry, compared) = self.table.find(hash, name);
         let slot = Slot {
             hash,
-            is_for_map: compared > most(self.table.len()) || !self.entries.is_empty(),
+            is_for_map: compared > most(self.table.counted()) || !self.entries.is_empty(),
         };
         (entry, slot)
     }

@@ -26,6 +26,8 @@ pub(crate) struct NameTable<'a> {
     alloc: Global,
     known: Vec<Known<'a>>,
     heads: Heads,
+    // How many entries are of blocks.
+    blocks: usize,
 }
 
 impl<'a> Model for NameTable<'a> {
@@ -54,6 +56,7 @@ impl<'a> NameTable<'a> {
             alloc,
             known: Vec::new(alloc),
             heads: Heads::new(alloc),
+            blocks: 0,
         }
     }
 
@@ -63,6 +66,12 @@ impl<'a> NameTable<'a> {
         ensures { result ≡ length self.now }
     {
         self.known.len()
+    }
+
+    /// The number of entries, where each of a block counts twice: when a block had two, the same items had their names in the map.
+    #[inline(always)]
+    pub(crate) fn counted(&self) -> usize {
+        self.known.len().saturating_add(self.blocks)
     }
 
     /// The name and the entry at the index.
@@ -84,7 +93,8 @@ impl<'a> NameTable<'a> {
         self.find(hash, name).0
     }
 
-    /// The last entry of a name, whose hash this is, and the number of entries of other names that it was compared with first.
+    /// The last entry of a name, whose hash this is, and the number of entries of other names that it was compared with first, as `counted`
+    /// counts them.
     #[inline(always)]
     pub(crate) fn find(&self, hash: u64, name: &str) -> (Option<Entry>, usize)
         requires { hash ≡ name_hash name.now }
@@ -97,7 +107,7 @@ impl<'a> NameTable<'a> {
             if known.name == name {
                 return (Some(known.entry), compared);
             }
-            compared = compared.saturating_add(1);
+            compared = compared.saturating_add(if known.entry.1.is_some() { 2 } else { 1 });
             count = known.before;
         }
         (None, compared)
@@ -110,7 +120,12 @@ impl<'a> NameTable<'a> {
         ensures { OnOk result (self.new ≡ self.old ++ (name.now, entry) ∷ []) }
     {
         self.make_room()?;
-        self.push(hash, name, entry)
+        self.push(hash, name, entry)?;
+        if entry.1.is_some() {
+            self.make_room()?;
+            self.blocks = self.blocks.saturating_add(1);
+        }
+        Ok(())
     }
 
     // Makes room for one more entry, and for as many slots as there are entries.
@@ -118,7 +133,7 @@ impl<'a> NameTable<'a> {
     fn make_room(&mut self) -> Result<(), AllocError>
         ensures { self.new ≡ self.old }
     {
-        match self.known.len() {
+        match self.counted() {
             0 => self.known.reserve(ROOM),
             entries if entries >= self.heads.len() => self.grow(),
             _ => Ok(()),
@@ -133,6 +148,7 @@ impl<'a> NameTable<'a> {
             alloc,
             known: Vec::with_capacity(alloc, entries)?,
             heads: Heads::with_slots(alloc, entries.saturating_mul(2))?,
+            blocks: 0,
         })
     }
 
@@ -142,7 +158,8 @@ impl<'a> NameTable<'a> {
     fn grow(&mut self) -> Result<(), AllocError>
         ensures { self.new ≡ self.old }
     {
-        let mut table = NameTable::with_room(self.alloc, self.len().saturating_mul(2))?;
+        let mut table = NameTable::with_room(self.alloc, self.counted().saturating_mul(2))?;
+        table.blocks = self.blocks;
         for index in 0..self.len() {
             let (name, entry) = self.nth(index);
             table.push(hash_of(name), name, entry)?;
@@ -176,11 +193,12 @@ impl<'a> NameTable<'a> {
     pub(crate) fn clear(&mut self)
         ensures { self.new ≡ [] }
     {
-        if self.known.len() > KEPT {
+        if self.counted() > KEPT {
             *self = NameTable::new(self.alloc);
         } else if !self.known.is_empty() {
             self.known.clear();
             self.heads = Heads::new(self.alloc);
+            self.blocks = 0;
         }
     }
 }

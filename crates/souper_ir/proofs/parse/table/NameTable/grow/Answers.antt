@@ -5,7 +5,7 @@ use Rattle.souper_ir.proofs.Scope.Tables.{take_at}
 use Rattle.souper_ir.proofs.parse.table.NameTable.grow.Goals as goal
 
 pub loop-index-init : goal.loop-index-init
-loop-index-init c = c.in_ok-table.ensures
+loop-index-init c = c.table.view_is ∙ c.in_ok-table.ensures
 
 pub loop-index-preserved : goal.loop-index-preserved
 loop-index-preserved c =
