@@ -80,7 +80,7 @@
 //! stream that comes in parts), [`ast::Constant::from_bits`], and [`refusal`](parse::ParseError::refusal), [`location`](parse::ParseError::location) and
 //! [`is_at_end`](parse::ParseError::is_at_end) of [`parse::ParseError`]. Passes have [`ast::Statement::uses`], [`map_operands`](ast::Statement::map_operands),
 //! [`replace_uses`](code::Item::replace_uses) of statements and items, [`ast::RightHandSideBuilder`], [`finish_cand`](ast::ReplacementBuilder::finish_cand),
-//! and builders that go on where an item ends.
+//! and builders that continue after an item.
 //!
 //! There is no state; calls may run on any threads at once.
 //!

@@ -1,4 +1,4 @@
-//! What statements use, operands that are replaced, and builders that go on where an item ends.
+//! What statements use, operands that are replaced, and builders that continue after an item.
 use souper_ir::ast::{
     Arena, AssignmentRhs, Constant, Id, Instruction, LeftHandSide, LeftHandSideBuilder, Operand,
     Replacement, ReplacementBuilder, RightHandSide, RightHandSideBuilder, RootAttribute, Statement,

@@ -231,7 +231,7 @@ impl RightHandSideBuilder {
     }
 }
 
-/// A builder that goes on where the statements end. Each keeps its id.
+/// A builder that continues after the statements. Each keeps its id.
 impl<K> From<Arena<Statement>> for Builder<K> {
     ghost from_gives = { λ statements builder. builder ≡ statements };
 
@@ -243,7 +243,7 @@ impl<K> From<Arena<Statement>> for Builder<K> {
     }
 }
 
-/// A builder that goes on where the statements of the item end. Each keeps its id; the last line is dropped.
+/// A builder that continues after the statements of the item. Each keeps its id; the last line is dropped.
 impl From<LeftHandSide> for ReplacementBuilder {
     ghost from_gives = { λ item builder. builder ≡ item.statements };
 
@@ -252,7 +252,7 @@ impl From<LeftHandSide> for ReplacementBuilder {
     }
 }
 
-/// A builder that goes on where the statements of the item end. Each keeps its id; the last line is dropped.
+/// A builder that continues after the statements of the item. Each keeps its id; the last line is dropped.
 impl From<LeftHandSide> for LeftHandSideBuilder {
     ghost from_gives = { λ item builder. builder ≡ item.statements };
 
@@ -261,7 +261,7 @@ impl From<LeftHandSide> for LeftHandSideBuilder {
     }
 }
 
-/// A builder that goes on where the statements of the item end. Each keeps its id; the last line is dropped.
+/// A builder that continues after the statements of the item. Each keeps its id; the last line is dropped.
 impl From<RightHandSide> for RightHandSideBuilder {
     ghost from_gives = { λ item builder. builder ≡ item.statements };
 
@@ -270,7 +270,7 @@ impl From<RightHandSide> for RightHandSideBuilder {
     }
 }
 
-/// A builder that goes on where the statements of the item end. Each keeps its id; the last lines are dropped.
+/// A builder that continues after the statements of the item. Each keeps its id; the last lines are dropped.
 impl From<Replacement> for ReplacementBuilder {
     ghost from_gives = { λ item builder. builder ≡ statements_of item };
 

@@ -50,7 +50,7 @@ impl Arena<Statement> {
     }
 }
 
-// Where the caller knows that it is there.
+// The assignment with the id, where the caller knows that it is there.
 pub(super) fn known_assignment(statements: &Arena<Statement>, id: ValueId) -> &Assignment
     requires { IsAssigned (slice_get (map view_statement statements.now) id) }
     ensures { slice_get statements.now id ≡ Some (assignment_variant result.now) }

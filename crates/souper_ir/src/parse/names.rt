@@ -10,8 +10,8 @@ use std::fmt;
 /// A value and, if it is a block, its number of predecessors.
 pub(crate) type Entry = (ValueId, Option<u32>);
 
-// The most entries in a slot before a new name, in a table with this number of entries. They are few, so that no text makes a look-up
-// compare many names, and names that were not made for it have fewer.
+// The most entries in a slot before a new name, in a table with this number of entries, where each of a block counts twice. They
+// are few, so that no text makes a look-up compare many names, and names that were not made for it have fewer.
 fn most(entries: usize) -> usize {
     (entries / 16).min(8) + 3
 }
@@ -19,6 +19,7 @@ fn most(entries: usize) -> usize {
 /// Where a name is to be entered.
 #[derive(Clone, Copy)]
 pub(crate) struct Slot {
+    /// The hash of the name.
     pub(crate) hash: u64,
     /// Into the map: the entries are there, or too many have its slot of the table.
     pub(crate) is_for_map: bool,

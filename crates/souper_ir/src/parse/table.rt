@@ -68,7 +68,7 @@ impl<'a> NameTable<'a> {
         self.known.len()
     }
 
-    /// The number of entries, where each of a block counts twice: when a block had two, the same items had their names in the map.
+    /// The number of entries, where each of a block counts twice. The names of one slot are bounded by it.
     #[inline(always)]
     pub(crate) fn counted(&self) -> usize {
         self.known.len().saturating_add(self.blocks)

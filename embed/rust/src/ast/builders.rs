@@ -215,10 +215,10 @@ impl RightHandSideBuilder {
     }
 }
 
-// A builder that goes on where statements end.
+// A builder that continues after statements.
 macro_rules! goes_on {
     ($builder:ident) => {
-        /// A builder that goes on where the statements end. Each keeps its id, and names that are made are none of theirs.
+        /// A builder that continues after the statements. Each keeps its id, and names that are made are none of theirs.
         impl From<Arena<Statement>> for $builder {
             fn from(statements: Arena<Statement>) -> Self {
                 let names = Numbers::of(&statements);
@@ -232,28 +232,28 @@ goes_on!(LeftHandSideBuilder);
 goes_on!(RightHandSideBuilder);
 goes_on!(ReplacementBuilder);
 
-/// A builder that goes on where the statements of the item end. Each keeps its id; the last line is dropped.
+/// A builder that continues after the statements of the item. Each keeps its id; the last line is dropped.
 impl From<LeftHandSide> for LeftHandSideBuilder {
     fn from(item: LeftHandSide) -> Self {
         item.statements.into()
     }
 }
 
-/// A builder that goes on where the statements of the item end. Each keeps its id; the last line is dropped.
+/// A builder that continues after the statements of the item. Each keeps its id; the last line is dropped.
 impl From<RightHandSide> for RightHandSideBuilder {
     fn from(item: RightHandSide) -> Self {
         item.statements.into()
     }
 }
 
-/// A builder that goes on where the statements of the item end. Each keeps its id; the last line is dropped.
+/// A builder that continues after the statements of the item. Each keeps its id; the last line is dropped.
 impl From<LeftHandSide> for ReplacementBuilder {
     fn from(item: LeftHandSide) -> Self {
         item.statements.into()
     }
 }
 
-/// A builder that goes on where the statements of the item end. Each keeps its id; the last lines are dropped.
+/// A builder that continues after the statements of the item. Each keeps its id; the last lines are dropped.
 impl From<Replacement> for ReplacementBuilder {
     fn from(item: Replacement) -> Self {
         let (Replacement::LhsRhs { statements, .. } | Replacement::Cand { statements, .. }) = item;
