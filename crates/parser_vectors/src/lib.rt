@@ -12,6 +12,8 @@ pub mod pairs;
 #[cfg(test)]
 mod parsers;
 #[cfg(test)]
+mod places;
+#[cfg(test)]
 mod shown;
 pub mod sinks;
 #[cfg(test)]

@@ -7,6 +7,4 @@ pub mod answers;
 pub mod keyed;
 pub mod run;
 pub mod search;
-#[cfg(test)]
-mod tests;
 mod texts;

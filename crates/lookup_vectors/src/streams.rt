@@ -1,7 +1,7 @@
 //! What is written for a stream of left-hand sides.
 
-use crate::run::{fill_run, find_run};
-use crate::search::{Choice, Output, Search};
+use souper_find::run::{fill_run, find_run};
+use souper_find::search::{Choice, Output, Search};
 use souper_format::watched::Watched;
 use souper_lookup::store::Store;
 use souper_records::layout::{Delimiter, Layout, PLAIN};

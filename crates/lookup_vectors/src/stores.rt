@@ -1,9 +1,9 @@
 //! What is found, as texts.
 
-use crate::find::find;
-use crate::store::{Added, Store};
 use souper_graph::ast::LeftHandSide;
 use souper_ir::parse::{parse_left_hand_sides_str, parse_replacements_str};
+use souper_lookup::find::find;
+use souper_lookup::store::{Added, Store};
 use std::alloc::Global;
 use std::process::Abort;
 
