@@ -1,4 +1,4 @@
-//! Tests from text to text: items that are read and printed, refusals, streams, and the runs of both programs.
+//! Tests from text to text: items that are read and printed, refusals, streams, look-up, and the runs of both programs.
 //!
 //! The values of the tests were worked out by hand from the rules of the language.
 #![tactic(auto)]
@@ -13,6 +13,8 @@ mod comparison;
 mod differences;
 #[cfg(test)]
 mod faulty;
+#[cfg(test)]
+mod lookup;
 #[cfg(test)]
 mod program;
 #[cfg(test)]
