@@ -12,8 +12,6 @@ pub mod pairs;
 #[cfg(test)]
 mod parsers;
 #[cfg(test)]
-mod places;
-#[cfg(test)]
 mod shown;
 pub mod sinks;
 #[cfg(test)]

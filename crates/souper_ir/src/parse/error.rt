@@ -451,3 +451,24 @@ impl<T: Drop> From<AllocFailed<T>> for ParseError {
         }
     }
 }
+
+#[cfg(test)]
+mod tests {
+    use super::*;
+    use std::test::Fail;
+
+    // The test of the ported crate.
+    #[test]
+    fn refusal_shows_its_line(rt: HostRuntime) -> Result<(), Fail> {
+        let alloc = rt.alloc();
+        let source = "hello, how are you?\n> I am good, thanks\nthats good\n";
+        let message = String::from_str(alloc, "missing apostrophe")?;
+        let refusal = ReadError::refused(alloc, 45, false, message)?;
+        let error = ParseError::from(refusal).locate(alloc, source, Some("path/to/foo.txt"));
+        let shown = error.to_string(alloc)?;
+        let wanted =
+            "path/to/foo.txt:3:5: missing apostrophe\n     |\n   3 | thats good\n     |     ^";
+        assert_eq!(rt; shown.as_str(), wanted);
+        Ok(())
+    }
+}
