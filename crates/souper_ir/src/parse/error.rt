@@ -355,18 +355,39 @@ impl Refusal {
     }
 }
 
+// A refusal as it is shown at its location.
+#[derive(Clone, Copy)]
+struct AtLocation<'a> {
+    refusal: &'a Refusal,
+}
+
+impl fmt::Display for AtLocation<'_> {
+    ghost output = { λ shown. Some (located_refusal_of shown.refusal.now) };
+
+    fn fmt<W: fmt::Write>(&self, f: &mut fmt::Formatter<W>) -> fmt::Result {
+        self.refusal.show_location(f)
+    }
+}
+
 /// An error that is shown with its location ([`ParseError::with_location`]).
 #[derive(Clone, Copy)]
 pub struct WithLocation<'a> {
     error: &'a ParseError,
 }
 
+/// Width, fill, precision and sign are ignored.
 impl fmt::Display for WithLocation<'_> {
     ghost output = { λ shown. located_error shown.error.now };
 
-    fn fmt<W: fmt::Write>(&self, f: &mut fmt::Formatter<W>) -> fmt::Result {
+    ghost styled_output = { λ shown _. located_error shown.error.now };
+
+    fn fmt<W: fmt::Write>(&self, f: &mut fmt::Formatter<W>) -> fmt::Result
+        ensures writes { DisplaysOnOk W.write_str_gives f.old result (located_error self.now.error.now) f.new }
+        ensures styled { DisplaysStyledOnOk W.write_str_gives f.old result (located_error self.now.error.now) f.new }
+        ensures fault { kind_of self.now.error.now ≡ ParseErrorKind.Io → ShowsFault W.write_str_gives f.old result f.new }
+    {
         match &self.error.cause {
-            Cause::Parse(refusal) => refusal.show_location(f),
+            Cause::Parse(refusal) => write_unstyled(f, AtLocation { refusal }),
             _ => fmt::Display::fmt(self.error, f),
         }
     }
