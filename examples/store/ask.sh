@@ -10,7 +10,8 @@
 # So an OPTION is one of `find`, such as --first; a value follows it after `=`. Nothing of the store is held in memory but the
 # candidates. A left-hand side whose key the store has not gets no answer. Files are read twice, so none is a pipe.
 #
-# $SOUPER_ITEMS is the program (souper_items). The status is that of `find`, or 2 if the store could not be read: then nothing is written.
+# $SOUPER_ITEMS is the program (souper_items). The status is that of `find`, or 2 if the store could not be read or the disk of $TMPDIR is
+# full: then nothing is written.
 set -o pipefail
 usage() { sed -n 's/^#     \(ask.sh.*\)/usage: \1/p' "$0" >&2 && exit 2; }
 kind=$1 store='' options=() going=()

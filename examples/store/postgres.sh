@@ -4,7 +4,8 @@
 #     postgres.sh [--lhs-key] [--rename] KIND FOLDER
 #
 # Each file is added whole, and once, as by sqlite.sh; but each process adds its own. The environment says which database, as to psql, and
-# which hosts, as to records.sh. These have psql and this folder. A password is in ~/.pgpass, or in the file that $PGPASSFILE names, on each host; $PGPASSWORD is for this host alone.
+# which hosts, as to records.sh. These have psql and this folder. A password is in ~/.pgpass on each host, or in the file that $PGPASSFILE
+# names; $PGPASSWORD reaches this host alone.
 set -o pipefail
 [ $# -ge 2 ] || { echo "usage: postgres.sh [--lhs-key] [--rename] KIND FOLDER" >&2; exit 2; }
 here=$(cd "$(dirname "$0")" && pwd) kind=${*: -2:1} folder=${*: -1} database=()
@@ -17,5 +18,6 @@ find . -type f -name "*.$kind" -print0 | LC_ALL=C sort -z |
     parallel --null --no-run-if-empty --max-args 8 --quote "${where[@]}" \
         env "${database[@]}" SOUPER_ITEMS="${SOUPER_ITEMS:-souper_items}" STORE_FOLDER="$(pwd -P)" "$here/add_files.sh" "${@:1:$#-1}"
 status=$?
+# Without statistics a query of few keys may read all of a table.
 psql -qXw -c 'ANALYZE item, lhs' || exit 2
 exit $status
