@@ -4,9 +4,10 @@
     dask_find.py SCHEDULER STORE [OPTION...] FOLDER
 
 SCHEDULER is host:port. The workers, on any hosts, have STORE, a file of replacements, FOLDER and `souper_items` (or what their
-$SOUPER_ITEMS names) in the same places. Each task is a part of the files, and reads STORE once. The answers are in the order of the
-files, as `souper_items find --in STORE OPTION... FILES` writes them. An OPTION is one of `find`, such as --first. A file that is refused
-is reported, and the answers before its bad item are written; the status is then 1. It is 2 if the store or a file was not read.
+$SOUPER_ITEMS names) in the same places. Each thread of a worker gets one part of the files and reads STORE once, or once for each megabyte
+of names of files. The answers are in the order of the files, as `souper_items find --in STORE OPTION... FILES` writes them. An OPTION is
+one of `find`, such as --first. A file that is refused is reported, and the answers before its bad item are written; the status is then 1.
+It is 2 if the store or a file was not read: that is reported with its name, and the answers of its part and of later ones are not written.
 """
 import os
 import pathlib
@@ -16,33 +17,43 @@ import sys
 from distributed import Client
 
 
-# The most files of a task: their names are words of one command.
-MOST = 256
+# The most bytes of names in one command.
+MOST = 1 << 20
 
 
-def answers_of(paths, words):
+def answers_of(paths, store, options):
     """What `find` writes for some files, and why one is refused, if one is."""
-    command = [os.environ.get("SOUPER_ITEMS", "souper_items"), "find", *words, *paths]
+    command = [os.environ.get("SOUPER_ITEMS", "souper_items"), "find", "--in", store, *options, *paths]
     found = subprocess.run(command, stdin=subprocess.DEVNULL, stdout=subprocess.PIPE, stderr=subprocess.PIPE, check=False)
-    if found.returncode not in (0, 1):
-        raise OSError(found.stderr.decode(errors="replace"))
+    if found.returncode not in (0, 1) or found.stderr.startswith(os.fsencode(store) + b":"):
+        raise OSError(found.stderr.decode(errors="replace").strip())
     return found.stdout, found.stderr
 
 
+def parts_of(paths, count):
+    """The paths in order, in `count` parts of about the same size, and in more where the names are long."""
+    sizes = [os.path.getsize(path) + 1 for path in paths]
+    most, parts, size, names = sum(sizes) / count, [[]], 0, 0
+    for path, own in zip(paths, sizes):
+        if parts[-1] and (size + own / 2 > most * len(parts) or names + len(os.fsencode(path)) > MOST):
+            parts.append([])
+            names = 0
+        parts[-1].append(path)
+        size += own
+        names += len(os.fsencode(path)) + 1
+    return parts
+
+
 def main(scheduler, store, options, folder):
-    words = ["--in", str(pathlib.Path(store).resolve(strict=True)), *options]
-    paths = sorted(str(path) for path in pathlib.Path(folder).resolve(strict=True).rglob("*.lhs"))
+    store = str(pathlib.Path(store).resolve(strict=True))
+    paths = sorted(str(path) for path in pathlib.Path(folder).resolve(strict=True).rglob("*.lhs") if path.is_file())
     faults = b""
     with Client(scheduler) as client:
-        # The store is read alone first, so that its error is reported once.
-        _, fault = client.submit(answers_of, [os.devnull], words, pure=False).result()
-        if fault:
-            raise OSError(fault.decode(errors="replace"))
-        # A few tasks for each process, so that the store is read seldom and no process waits long for the others.
-        count = max(1, 4 * sum(client.ncores().values()))
-        size = min(MOST, max(1, -(-len(paths) // count)))
-        parts = [paths[start : start + size] for start in range(0, len(paths), size)]
-        for future in client.map(answers_of, parts, words=words, pure=False):
+        threads = [worker for worker, count in client.ncores().items() for _ in range(count)]
+        parts = parts_of(paths, max(1, len(threads)))
+        found = [client.submit(answers_of, part, store, options, pure=False, workers=threads[i % len(threads)], allow_other_workers=True)
+                 for i, part in enumerate(parts)]
+        for future in found:
             text, fault = future.result()
             sys.stdout.buffer.write(text)
             faults += fault

@@ -5,7 +5,7 @@
 
 SCHEDULER is host:port. The workers, on any hosts, have FOLDER and `souper_items` (or what their $SOUPER_ITEMS names) in the same
 places. Records are written in the order of their keys, each after its count, as `uniq -zc` writes them. A file that is refused is
-reported, and the items before its bad one count; the status is then 1.
+reported, and the items before its bad one count; the status is then 1. It is 2 if a file was not read, which is named; then nothing is written.
 """
 import os
 import pathlib
@@ -22,7 +22,7 @@ def counts_of(path, words):
     command = [os.environ.get("SOUPER_ITEMS", "souper_items"), "format", "-z", "--key", *words, str(path)]
     found = subprocess.run(command, stdout=subprocess.PIPE, stderr=subprocess.PIPE, check=False)
     if found.returncode not in (0, 1):
-        raise OSError(found.stderr.decode(errors="replace"))
+        raise OSError(found.stderr.decode(errors="replace").strip())
     counts = {digit: {} for digit in DIGITS}
     for record in found.stdout.split(b"\0")[:-1]:
         own = counts[chr(record[2])]
@@ -48,14 +48,14 @@ def total(parts):
 
 
 def main(scheduler, words, folder):
-    paths = sorted(str(path) for path in pathlib.Path(folder).resolve().rglob(f"*.{words[-1]}"))
+    paths = sorted(str(path) for path in pathlib.Path(folder).resolve().rglob(f"*.{words[-1]}") if path.is_file())
     with Client(scheduler) as client:
         counted = client.map(counts_of, paths, words=words, pure=False)
         parts = [client.map(part_of, counted, digit=digit) for digit in DIGITS]
         errors = client.map(error_of, counted)
+        faults = b"".join(client.gather(errors))
         for future in [client.submit(total, part) for part in parts]:
             sys.stdout.buffer.write(future.result())
-        faults = b"".join(client.gather(errors))
     sys.stdout.buffer.flush()
     sys.stderr.write(faults.decode(errors="replace"))
     return 1 if faults else 0
@@ -64,4 +64,8 @@ def main(scheduler, words, folder):
 if __name__ == "__main__":
     if not 4 <= len(sys.argv) <= 5:
         sys.exit(__doc__)
-    sys.exit(main(sys.argv[1], sys.argv[2:-1], sys.argv[-1]))
+    try:
+        sys.exit(main(sys.argv[1], sys.argv[2:-1], sys.argv[-1]))
+    except OSError as fault:
+        print(f"dask_unique.py: {fault}", file=sys.stderr)
+        sys.exit(2)

@@ -3,15 +3,21 @@
 #
 #     postgres.sh [--lhs-key] [--rename] KIND FOLDER
 #
-# Each file is a transaction of its own, which also adds its whole name to the table file(name): a file is counted once, whatever was
-# killed, and however often this is run. A file that is refused adds nothing. The environment says which database, as to psql, and which hosts, as to records.sh.
+# Each file is added whole, and once, as by sqlite.sh; but each process adds its own. The environment says which database, as to psql, and
+# which hosts, as to records.sh. These have psql and this folder. A password is in ~/.pgpass on each host, or in the file that $PGPASSFILE
+# names; $PGPASSWORD reaches this host alone.
 set -o pipefail
 [ $# -ge 2 ] || { echo "usage: postgres.sh [--lhs-key] [--rename] KIND FOLDER" >&2; exit 2; }
-here=$(cd "$(dirname "$0")" && pwd) kind=${*: -2:1} folder=${*: -1}
+here=$(cd "$(dirname "$0")" && pwd) kind=${*: -2:1} folder=${*: -1} database=()
 cd "$folder" || exit 2
-PGOPTIONS="$PGOPTIONS --client-min-messages=warning" psql -qX -v ON_ERROR_STOP=1 -f "$here/table.sql" || exit 2
+PGOPTIONS="$PGOPTIONS --client-min-messages=warning" psql -qXw -v ON_ERROR_STOP=1 -f "$here/table.sql" || exit 2
 . "$here/hosts.sh"
-mapfile -t database < <(env | grep '^PG[A-Z]*=')
+# A command line can be read by all users of a host, so the password is on none.
+for name in $(compgen -e PG); do [ "$name" = PGPASSWORD ] || database+=("$name=${!name}"); done
 find . -type f -name "*.$kind" -print0 | LC_ALL=C sort -z |
     parallel --null --no-run-if-empty --max-args 8 --quote "${where[@]}" \
-        env "${database[@]}" SOUPER_ITEMS="${SOUPER_ITEMS:-souper_items}" "$here/add_files.sh" "${@:1:$#-1}" "$PWD"
+        env "${database[@]}" SOUPER_ITEMS="${SOUPER_ITEMS:-souper_items}" STORE_FOLDER="$(pwd -P)" "$here/add_files.sh" "${@:1:$#-1}"
+status=$?
+# Without statistics a query of few keys may read all of a table.
+psql -qXw -c 'ANALYZE item, lhs' || exit 2
+exit $status

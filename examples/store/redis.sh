@@ -3,8 +3,9 @@
 #
 #     redis.sh PORT [--lhs-key] [--rename] KIND FOLDER
 #
-# Records are added as they come, without a sort. Arguments, environment and status are those of records.sh.
+# Each file is added whole, and once, as by sqlite.sh. Arguments, environment and status are those of records.sh.
 set -o pipefail
+[ $# -ge 3 ] || { echo "usage: redis.sh PORT [--lhs-key] [--rename] KIND FOLDER" >&2; exit 2; }
 here=$(dirname "$0")
 kind=${*: -2:1}
-"$here/records.sh" "${@:2}" | "$here/load.py" redis "$kind" | redis-cli -p "$1" --pipe >&2
+"$here/records.sh" --files "${@:2}" | "$here/load.py" redis "$kind" | redis-cli -p "$1" --pipe --pipe-timeout 600 >&2

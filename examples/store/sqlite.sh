@@ -3,8 +3,9 @@
 #
 #     sqlite.sh STORE [--lhs-key] [--rename] KIND FOLDER
 #
-# All of the harvest is added, or nothing. Arguments, environment and status are those of records.sh; if a file is refused, the
-# items before its bad one are added. The records are counted before they are added, so that each graph is one row to add.
+# Each file is added whole, in a transaction that also notes its whole name and its SHA-256. So it counts once, whatever was killed and
+# however often this is run. A file that is refused adds nothing. Arguments, environment and status are those of records.sh.
 set -o pipefail
+[ $# -ge 3 ] || { echo "usage: sqlite.sh STORE [--lhs-key] [--rename] KIND FOLDER" >&2; exit 2; }
 here=$(dirname "$0")
-"$here/records.sh" "${@:2}" | LC_ALL=C sort -z | LC_ALL=C uniq -zc | "$here/load.py" sqlite | sqlite3 -bail "$1"
+"$here/records.sh" --files "${@:2}" | "$here/load.py" sqlite | sqlite3 -bail "$1"
