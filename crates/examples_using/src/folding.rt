@@ -1,14 +1,33 @@
 //! A pass over an item: the uses of a sum of two constants become that constant.
-ghost use Rattle.std.specs.Prelude.{◌≡◌, true, false, IfSome};
+ghost use Rattle.std.specs.Prelude.{◌≡◌, true, false, length, IfSome, IfNone};
+ghost use Rattle.souper_graph.specs.declared.ast.operands.Constant.{Constant as ConstantNode};
 ghost use Rattle.souper_graph.specs.View.{view_rhs};
-ghost use Rattle.examples_using.specs.Folding.{IsSum, IsFolded, FoldsTo};
+ghost use Rattle.examples_using.specs.Folding.{IsWrappedSum, IsSum, IsFolded, IsKept, FoldsUpTo};
 
 use souper_ir::ast::{AssignmentRhs, Constant, Id, Instruction, Item, Operand, ValueId};
 
-// The sum, if this is an `add` of two constants of one type. `add` wraps around: a sum that is negative or does not fit the
-// type is none.
+// The sum of constants of one type, which wraps around at the width: a number from 0 on. None without types, for two types, and for a width
+// above 126, since an `i128` is to have the sum of two such numbers.
+fn wrapped_sum(a: Constant, b: Constant) -> Option<Constant>
+    ensures some { IfSome result (IsWrappedSum a b) }
+    ensures none { IfNone result ((c : ConstantNode) → IsWrappedSum a b c → ⊥) }
+{
+    let ty = a.ty?;
+    if b.ty != Some(ty) || ty.width > 126 {
+        return None;
+    }
+    let modulus = 2_i128.pow(u32::from(ty.width));
+    let sum = a.value.rem_euclid(modulus) + b.value.rem_euclid(modulus);
+    Some(Constant {
+        value: sum.rem_euclid(modulus),
+        ty: Some(ty),
+    })
+}
+
+// The sum, if this is an `add` of two constants.
 fn sum(rhs: &AssignmentRhs) -> Option<Constant>
-    ensures { IfSome result (IsSum (view_rhs rhs.now)) }
+    ensures some { IfSome result (IsSum (view_rhs rhs.now)) }
+    ensures none { IfNone result ((c : ConstantNode) → IsSum (view_rhs rhs.now) c → ⊥) }
 {
     let AssignmentRhs::Instruction(
         Instruction::Add {
@@ -19,18 +38,13 @@ fn sum(rhs: &AssignmentRhs) -> Option<Constant>
     else {
         return None;
     };
-    let width = a.ty?.width;
-    let value = a.value.checked_add(b.value)?;
-    if a.ty != b.ty || width > 126 || value < 0 || value >> width > 0 {
-        return None;
-    }
-    Some(Constant { value, ty: a.ty })
+    wrapped_sum(*a, *b)
 }
 
-/// Puts the sum in the place of each use of the value, if it is an `add` of two constants; returns whether it is.
+/// Puts the sum in the place of each use of the value, if it is an `add` of two constants of one type; returns whether it is.
 pub fn fold_add<T: Item>(item: &mut T, value: ValueId) -> bool
     ensures folded { result ≡ true → IsFolded value (T.view item.old) (T.view item.new) }
-    ensures kept { result ≡ false → T.view item.new ≡ T.view item.old }
+    ensures kept { result ≡ false → IsKept value (T.view item.old) (T.view item.new) }
 {
     let Some(assignment) = item.statements().assignment(value) else {
         return false;
@@ -42,9 +56,9 @@ pub fn fold_add<T: Item>(item: &mut T, value: ValueId) -> bool
     true
 }
 
-/// Does so for each value of the item, in order. That every such `add` is folded is only tested.
+/// Does so for each value of the item, in order.
 pub fn fold_adds<T: Item>(item: &mut T)
-    ensures { FoldsTo (T.view item.old) (T.view item.new) }
+    ensures { FoldsUpTo (length (T.view item.old).statements) (T.view item.old) (T.view item.new) }
 {
     for index in 0..item.statements().len() {
         fold_add(item, ValueId::from(Id::at(index)));
@@ -71,8 +85,21 @@ mod tests {
     }
 
     #[test]
+    fn sums_wrap_around(rt: HostRuntime) -> Result<(), Fail> {
+        let source =
+            "%x:i8 = var\n%1 = add 200:i8, 100:i8\n%2 = add -3:i8, 1:i8\n%3 = select %x, %1, %2\ninfer %3";
+        let mut item = read_one(rt.alloc(), source)?.ok_or("not one")?;
+        fold_adds(&mut item);
+        assert_eq!(rt;
+            item.to_text()?.as_str(),
+            "%x:i8 = var\n%3 = select %x, 44:i8, 254:i8\ninfer %3\n"
+        );
+        Ok(())
+    }
+
+    #[test]
     fn other_sums_stay(rt: HostRuntime) -> Result<(), Fail> {
-        let source = "%0 = add 1:i8, 2:i16\n%1 = add 255:i8, 1:i8\n%2 = mul %0, %1\ninfer %2\n";
+        let source = "%0 = add 1:i8, 2:i16\n%1 = add 255, 1\n%2 = mul %0, %1\ninfer %2\n";
         let mut item = read_one(rt.alloc(), source)?.ok_or("not one")?;
         fold_adds(&mut item);
         assert_eq!(rt; item.to_text()?.as_str(), source);

@@ -11,3 +11,4 @@ pub mod Texts
 pub mod Lookups
 pub mod FlawSearch
 pub mod Replacing
+pub mod TakenNames

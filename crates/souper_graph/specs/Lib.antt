@@ -25,6 +25,7 @@ pub mod CanonicalText
 pub mod ItemText
 pub mod Endings
 pub mod Building
+pub mod TakenNames
 pub mod Judging
 pub mod Marks
 pub mod Walks

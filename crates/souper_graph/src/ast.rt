@@ -15,6 +15,7 @@ mod operands;
 mod parts;
 mod replacing;
 mod statements;
+mod taken_names;
 mod uses;
 mod well_formed;
 

@@ -19,3 +19,4 @@ mod texts;
 pub use context::DisplayWithContext;
 pub use errors::TextError;
 pub use order::Order;
+pub(crate) use renamed::write_names;

@@ -16,7 +16,7 @@ use Rattle.souper_graph.proofs.Sameness.PrintedOrder.{is-condition, printed-once
 use Rattle.souper_graph.proofs.Sameness.Renumbered.{ordered, order-carried, inside, needs, unneeded-graph, unneeded-same, renumbered-same, same-renumbered}
 use Rattle.souper_graph.proofs.Sameness.Renaming.{renamed-graph, renamed-there}
 use Rattle.souper_graph.specs.LeftSides.{infer_of, with_infer}
-use Rattle.souper_lookup.specs.Instance.{IsFresh, SameLeft, IsInstance}
+use Rattle.souper_lookup.specs.Instance.{names_of_all, IsFresh, SameLeft, IsInstance}
 use Rattle.souper_lookup.specs.Stored.{Storable}
 use Rattle.std.proofs.lemmas.Option.{same_Some}
 use Rattle.souper_graph.proofs.Lefts.{left-well, law-begins, own-left-same, own-renamed-well}
@@ -55,7 +55,8 @@ mapped-twice : (g : ℕ → ℕ) (f : ℕ → List ℕ) (xs : List ℕ) → map 
 mapped-twice g f [] = refl
 mapped-twice g f (x ∷ xs) = ap (λ (z : List (List ℕ)). f (g x) ∷ z) (mapped-twice g f xs)
 
-module _ (q a : Item) (wq : WellFormed q) (rq : WellFormed (renamed q)) (s : Storable a) (h : SameLeft q a) where
+module _ (q a : Item) (wq : WellFormed q) (rq : WellFormed (renamed q)) (s : Storable a) (h : SameLeft q a)
+    (others : (n : ℕ) → length (printed_order (renamed q)) ≤ n → n < length (printed_order a) → Has (names_of_all (renamed q).statements) (name_of_index n) → ⊥) where
   abbrev i : PlainInfer
   i = s.infer
 
@@ -156,7 +157,7 @@ module _ (q a : Item) (wq : WellFormed q) (rq : WellFormed (renamed q)) (s : Sto
       let place-same = ap (place P) same in
       omega arith
 
-  fresh : (k : ℕ) → length Q ≤ k → k < length names → IsFresh (length Q) names k
+  fresh : (k : ℕ) → length Q ≤ k → k < length names → IsFresh (length Q) (names_of_all (renamed q).statements) names k
   fresh k le lt =
       let m = long in
       let kp : k < length P = omega arith in
@@ -168,7 +169,8 @@ module _ (q a : Item) (wq : WellFormed q) (rq : WellFormed (renamed q)) (s : Sto
         numbered = n;
         is_name = subst (λ (z : List ℕ). IsName z) (sym n) (fits-name (name_of_index k) u (plain k le kp) (s.well_formed.closed (pos k) (with_name (name_of_index k) u) (needed k kp) (numbered-there k kp)).fits);
         new = λ j jk e. apart j k jk le kp e;
-        least = λ j from less. subst (λ (z : List ℕ). Has (take k names) z) (number-is j from (omega arith)) (Has-taken names k j less (omega arith));
+        apart = λ h. others k le kp (subst (λ (z : List ℕ). Has (names_of_all (renamed q).statements) z) n h);
+        least = λ j from less. inr (subst (λ (z : List ℕ). Has (take k names) z) (number-is j from (omega arith)) (Has-taken names k j less (omega arith)));
       }
 
   pub own-instance : IsInstance (renamed q) a a
@@ -178,6 +180,6 @@ module _ (q a : Item) (wq : WellFormed q) (rq : WellFormed (renamed q)) (s : Sto
     left = graph;
     same = unneeded-graph (nameless a) (nameless a) (record { same_ending = refl; same_conditions = refl; same_statements = λ p d. refl });
     ending = refl;
-    names = record { first = ap (λ (z : ℕ). take z names) lead ∙ first-names; long = long; fresh = λ k le lt. let m = lead in subst (λ (z : ℕ). IsFresh z names k) (sym lead) (fresh k (omega arith) lt) };
+    names = record { first = ap (λ (z : ℕ). take z names) lead ∙ first-names; long = long; fresh = λ k le lt. let m = lead in subst (λ (z : ℕ). IsFresh z (names_of_all (renamed q).statements) names k) (sym lead) (fresh k (omega arith) lt) };
     well_formed = s.well_formed;
   }

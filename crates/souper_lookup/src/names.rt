@@ -1,18 +1,19 @@
 //! The names that an answer has: the names of a left-hand side, and then free numbers.
 
-ghost use Rattle.std.specs.Prelude.{◌≡◌, ◌≤◌, map, length, IfOk, OnOk};
+ghost use Rattle.std.specs.Prelude.{◌≡◌, ◌≤◌, ℕ, List, map, length, IfOk, OnOk};
 ghost use Rattle.std.specs.String.{string_bytes};
 ghost use Rattle.souper_graph.specs.Text.{name_at};
 ghost use Rattle.souper_graph.specs.View.{view_statement};
 ghost use Rattle.souper_graph.specs.Order.{Distinct};
 ghost use Rattle.souper_graph.specs.Renaming.{with_name, name_in, named_from};
-ghost use Rattle.souper_lookup.specs.Instance.{AreNamesThenFresh, AreExtended, HasSameElements};
+ghost use Rattle.souper_lookup.specs.Instance.{names_of_all, AreNamesThenFresh, AreExtended, HasSameElements, HasNumbersOf};
 
 use indexmap::IndexSet;
 use souper_graph::ast::{Arena, Id, Statement};
 use std::alloc::{AllocError, Global};
 
-// The names of the statements at these positions, and then the first free numbers from the number of positions on: `count` names in all.
+// The names of the statements at these positions, and then the first numbers, from the number of positions on, that name no statement:
+// `count` names in all.
 pub(crate) fn names_for(
     alloc: Global,
     statements: &Arena<Statement>,
@@ -23,7 +24,7 @@ pub(crate) fn names_for(
     ensures names { length ids.now ≤ count → IfOk result (λ names. AreNamesThenFresh (map view_statement statements.now) ids.now count (map string_bytes names.items)) }
 {
     let names = names_of(alloc, statements, ids)?;
-    let taken = set_of(alloc, &names)?;
+    let taken = all_names(alloc, statements)?;
     let all = add_numbers(alloc, names, &taken, count)?;
     Ok(all)
 }
@@ -60,20 +61,13 @@ fn name_of(
     }
 }
 
-// A copy of the name.
-pub(crate) fn copied(name: &String) -> Result<String, AllocError>
-    ensures { IfOk result (λ copy. string_bytes copy ≡ string_bytes name.now) }
-{
-    name.clone()
-}
-
-// The set of these names.
-fn set_of(alloc: Global, names: &[String]) -> Result<IndexSet<String>, AllocError>
-    ensures { IfOk result (λ taken. HasSameElements (map string_bytes names.now) (map string_bytes taken.keys)) }
+// The names of all statements, with an empty one for path conditions.
+fn all_names(alloc: Global, statements: &Arena<Statement>) -> Result<IndexSet<String>, AllocError>
+    ensures { IfOk result (λ taken. HasSameElements (names_of_all (map view_statement statements.now)) (map string_bytes taken.keys)) }
 {
     let mut taken = IndexSet::new(alloc);
-    for name in names {
-        taken.insert(copied(name)?)?;
+    for index in 0..statements.len() {
+        taken.insert(name_of(alloc, statements, Id::at(index))?)?;
     }
     Ok(taken)
 }
@@ -86,8 +80,8 @@ fn add_numbers(
     count: usize,
 ) -> Result<Vec<String>, AllocError>
     ensures long { IfOk result (λ all. count ≤ length all.items) }
-    ensures numbered { HasSameElements (map string_bytes names.items) (map string_bytes taken.now.keys) → length names.items ≤ count
-        → IfOk result (λ all. AreExtended (map string_bytes names.items) count (map string_bytes all.items)) }
+    ensures numbered { (used : List (List ℕ)) → HasSameElements used (map string_bytes taken.now.keys) → HasNumbersOf (map string_bytes names.items) used → length names.items ≤ count
+        → IfOk result (λ all. AreExtended (map string_bytes names.items) used count (map string_bytes all.items)) }
 {
     let first = names.len() as u64;
     for number in first..u64::MAX {

@@ -54,10 +54,9 @@ pub fn append_last_text<T: Item + Drop>(
     ensures well_formed { OnOk result (WellFormed (chosen rename (T.view item.old))) }
 {
     if rename {
-        // The item is dropped then, so it is renamed in place, if that can be.
+        // The item is dropped then, so it is renamed in place.
         return match item.rename() {
-            Ok(true) => append_canonical(item, out),
-            Ok(false) => append_text(true, item, out),
+            Ok(()) => append_canonical(item, out),
             Err(_) => Err(AllocError),
         };
     }

@@ -1,14 +1,16 @@
 //! Builders of items, statement by statement.
 
-ghost use Rattle.std.specs.Prelude.{◌≡◌, ◌<◌, [], Some, None, map, length, slice_get, IfOk, OnOk, OnErr};
+ghost use Rattle.std.specs.Prelude.{◌≡◌, ◌<◌, ◌++◌, ◌∷◌, [], Some, None, map, length, slice_get, IfOk, OnOk, OnErr};
 ghost use Rattle.std.specs.String.{string_bytes};
 ghost use Rattle.souper_graph.specs.declared.ast.items.Replacement.TheVariants.{LhsRhs, Cand as cand_variant};
 ghost use Rattle.souper_graph.specs.declared.ast.statements.Statement.TheVariants.{Assignment as assignment_variant};
+ghost use Rattle.souper_graph.specs.declared.ast.taken_names.TakenNames.{TakenNames as Taken};
 ghost use Rattle.souper_graph.specs.Values.{block, condition, block_condition};
 ghost use Rattle.souper_graph.specs.View.{view_attribute, view_rhs, view_statement};
 ghost use Rattle.souper_graph.specs.Faults.{IsAssigned, IsBlock};
 ghost use Rattle.souper_graph.specs.WellFormed.{predecessors_at};
-ghost use Rattle.souper_graph.specs.Building.{BeginsWithPercent, chosen_name, added_assignment, Appends, statements_of};
+ghost use Rattle.souper_graph.specs.Building.{BeginsWithPercent, IsChosenName, Appends, AppendsAssignment, statements_of};
+ghost use Rattle.souper_graph.specs.TakenNames.{Knows};
 
 use crate::ast::arenas::Arena;
 use crate::ast::attributes::{Attribute, RootAttribute};
@@ -17,6 +19,7 @@ use crate::ast::items::{Cand, Infer, LeftHandSide, Replacement, RightHandSide};
 use crate::ast::lookup::known_assignment;
 use crate::ast::operands::{Operand, Type};
 use crate::ast::statements::{Assignment, AssignmentRhs, Block, BlockPc, Pc, Statement};
+use crate::ast::taken_names::TakenNames;
 use std::alloc::{AllocError, Global};
 use std::marker::{Model, PhantomData};
 
@@ -25,6 +28,7 @@ use std::marker::{Model, PhantomData};
 #[derive_where(Debug)]
 pub struct Builder<K> {
     statements: Arena<Statement>,
+    taken: TakenNames,
     of: PhantomData<K>,
 }
 
@@ -38,22 +42,44 @@ pub type LeftHandSideBuilder = Builder<LeftHandSide>;
 pub type RightHandSideBuilder = Builder<RightHandSide>;
 
 impl<K> Model for Builder<K> {
-    ghost use Rattle.std.specs.Prelude.{List};
+    ghost use Rattle.std.specs.Prelude.{List, map};
     ghost use Rattle.souper_graph.specs.declared.ast.statements.Statement.{Statement};
+    ghost use Rattle.souper_graph.specs.View.{view_statement};
+    ghost use Rattle.souper_graph.specs.TakenNames.{Knows};
 
     ghost Value = { List Statement };
 
     ghost view = { λ builder. builder.statements };
+
+    ghost invariant = { λ builder. Knows (map view_statement builder.statements) builder.taken };
 }
 
-// The name that is given, or `%` and the count.
-fn name_or_count(alloc: Global, name: Option<String>, count: usize) -> Result<String, AllocError>
-    ensures { IfOk result (λ chosen. string_bytes chosen ≡ chosen_name name count) }
+// The name that is given, or one that no statement has.
+fn name_or_free(
+    name: Option<String>,
+    statements: &Arena<Statement>,
+    taken: &mut TakenNames,
+) -> Result<String, AllocError>
+    ensures kept { Knows (map view_statement statements.now) taken.old → Knows (map view_statement statements.now) taken.new }
+    ensures chosen { Knows (map view_statement statements.now) taken.old → IfOk result (λ chosen. IsChosenName name (map view_statement statements.now) (string_bytes chosen)) }
 {
     match name {
         Some(name) => Ok(name),
-        None => format!(in alloc; "%{count}"),
+        None => taken.make(statements),
     }
+}
+
+// Appends the statement. What is known of the names stays true.
+fn append(
+    statements: &mut Arena<Statement>,
+    statement: Statement,
+) -> Result<Id<Statement>, AllocError>
+    ensures position { IfOk result (λ id. id ≡ length statements.old) }
+    ensures grows { OnOk result (statements.new ≡ statements.old ++ statement ∷ []) }
+    ensures err { OnErr result (statements.new ≡ statements.old) }
+    ensures known { (taken : Taken) → Knows (map view_statement statements.old) taken → Knows (map view_statement statements.new) taken }
+{
+    statements.alloc(statement)
 }
 
 impl<K> Builder<K> {
@@ -66,8 +92,8 @@ impl<K> Builder<K> {
 
     /// Appends an assignment and returns the id of its value.
     ///
-    /// A given name has to begin with `%`. Without one, the name is `%` and the number of statements before it. If
-    /// memory runs out, the builder is unchanged.
+    /// A given name has to begin with `%`. Without one, the name is `%` and the number of statements before it, or the next number that
+    /// names none of them. If memory runs out, the statements are unchanged.
     pub fn assignment(
         &mut self,
         name: Option<String>,
@@ -77,28 +103,28 @@ impl<K> Builder<K> {
     ) -> Result<ValueId, AllocError>
         requires { BeginsWithPercent name }
         ensures position { IfOk result (λ id. id ≡ length self.old) }
-        ensures grows { OnOk result (Appends self.old self.new (added_assignment name (length self.old) ty (view_rhs value) (map view_attribute attributes.items))) }
+        ensures grows { OnOk result (AppendsAssignment self.old self.new name ty (view_rhs value) (map view_attribute attributes.items)) }
         ensures err { OnErr result (self.new ≡ self.old) }
     {
-        let name = name_or_count(self.statements.allocator(), name, self.statements.len())?;
+        let name = name_or_free(name, &self.statements, &mut self.taken)?;
         let assignment = Assignment {
             name,
             ty,
             value,
             attributes,
         };
-        let id = self.statements.alloc(assignment.into())?;
+        let id = append(&mut self.statements, assignment.into())?;
         Ok(id.into())
     }
 
     /// Appends the assignment of a block and returns the block's id.
     ///
-    /// `predecessors` is the block's number of predecessors. A given name has to begin with `%`. Without one, the name
-    /// is `%` and the number of statements before it. If memory runs out, the builder is unchanged.
+    /// `predecessors` is the block's number of predecessors. A given name has to begin with `%`. Without one, the name is chosen as
+    /// [`assignment`](Self::assignment) says. If memory runs out, the statements are unchanged.
     pub fn block(&mut self, name: Option<String>, predecessors: u32) -> Result<BlockId, AllocError>
         requires { BeginsWithPercent name }
         ensures position { IfOk result (λ id. id ≡ length self.old) }
-        ensures grows { OnOk result (Appends self.old self.new (added_assignment name (length self.old) None (block (record { predecessors = predecessors })) [])) }
+        ensures grows { OnOk result (AppendsAssignment self.old self.new name None (block (record { predecessors = predecessors })) []) }
         ensures err { OnErr result (self.new ≡ self.old) }
     {
         let value = Block { predecessors }.into();
@@ -114,7 +140,7 @@ impl<K> Builder<K> {
         ensures grows { OnOk result (Appends self.old self.new (condition (record { x = x; y = y }))) }
         ensures err { OnErr result (self.new ≡ self.old) }
     {
-        self.statements.alloc(Pc { x, y }.into())?;
+        append(&mut self.statements, Pc { x, y }.into())?;
         Ok(())
     }
 
@@ -140,7 +166,7 @@ impl<K> Builder<K> {
             x,
             y,
         };
-        self.statements.alloc(block_pc.into())?;
+        append(&mut self.statements, block_pc.into())?;
         Ok(())
     }
 
@@ -159,7 +185,7 @@ impl ReplacementBuilder {
     pub fn finish(self, lhs: ValueId, rhs: Operand, attributes: Vec<RootAttribute>) -> Replacement
         ensures { result ≡ LhsRhs self (record { value = lhs; attributes = attributes }) rhs }
     {
-        let ReplacementBuilder { statements, of: _ } = self;
+        let ReplacementBuilder { statements, .. } = self;
         let lhs = Infer {
             value: lhs,
             attributes,
@@ -182,7 +208,7 @@ impl ReplacementBuilder {
     ) -> Replacement
         ensures { result ≡ cand_variant self (record { lhs = lhs; rhs = rhs; attributes = attributes }) }
     {
-        let Self { statements, of: _ } = self;
+        let Self { statements, .. } = self;
         let cand = Cand {
             lhs,
             rhs,
@@ -199,7 +225,7 @@ impl LeftHandSideBuilder {
     pub fn finish(self, lhs: ValueId, attributes: Vec<RootAttribute>) -> LeftHandSide
         ensures { result ≡ record { statements = self; infer = record { value = lhs; attributes = attributes } } }
     {
-        let LeftHandSideBuilder { statements, of: _ } = self;
+        let LeftHandSideBuilder { statements, .. } = self;
         let infer = Infer {
             value: lhs,
             attributes,
@@ -223,7 +249,7 @@ impl RightHandSideBuilder {
     pub fn finish(self, root: Operand) -> RightHandSide
         ensures { result ≡ record { statements = self; result = root } }
     {
-        let RightHandSideBuilder { statements, of: _ } = self;
+        let RightHandSideBuilder { statements, .. } = self;
         RightHandSide {
             statements,
             result: root,
@@ -236,8 +262,10 @@ impl<K> From<Arena<Statement>> for Builder<K> {
     ghost from_gives = { λ statements builder. builder ≡ statements };
 
     fn from(statements: Arena<Statement>) -> Self {
+        let taken = TakenNames::new(statements.allocator());
         Builder {
             statements,
+            taken,
             of: PhantomData,
         }
     }

@@ -28,7 +28,7 @@ use crate::ast::items::{LeftHandSide, Replacement, RightHandSide};
 use crate::ast::operands::Operand;
 use crate::ast::parts::Parts;
 use crate::ast::statements::Statement;
-use crate::stringify::{Order, TextError};
+use crate::stringify::{Order, TextError, write_names};
 use arrayvec::ArrayVec;
 use std::alloc::AllocError;
 
@@ -61,7 +61,7 @@ pub trait Item {
         ensures* writes_back { sem 𝓛 (LendsStatements Self.row put_statements self.entry result) }
         ensures value { map view_statement result.now ≡ (view self.old).statements };
 
-    /// Puts `by` in the place of each use of the value `of`, as [`Replacement::replace_uses`] does.
+    /// Puts `by` in the place of each operand that is the value `of`, as [`Replacement::replace_uses`] does.
     fn replace_uses(&mut self, of: ValueId, by: Operand)
         ensures { view self.new ≡ with_uses_replaced of by (view self.old) };
 
@@ -125,14 +125,15 @@ pub trait Item {
         ensures refused { IfErr result (λ error. IsFaultOf (view self.now) error) }
         ensures named { IfOk result (λ copy. IsRenamed (view self.now) (view copy)) };
 
-    /// Names the statements of the text as `renamed` names those of its copy, and returns true; or returns false, and changes nothing.
-    /// After an error some names may be others. The buffers of the names stay.
-    fn rename(&mut self) -> Result<bool, TextError>
+    /// Names the statements of the text as `renamed` names those of its copy. The buffers of the names stay.
+    ///
+    /// Fails like `print_order`. After an error some names may be others.
+    fn rename(&mut self) -> Result<(), TextError>
         ensures refused { IfErr result (λ error. IsFaultOf (view self.old) error) }
-        ensures named { IfOk result (λ is_named. is_named ≡ true → IsRenamed (view self.old) (view self.new)) }
-        ensures kept { IfOk result (λ is_named. is_named ≡ false → self.new ≡ self.old) }
+        ensures named { OnOk result (IsRenamed (view self.old) (view self.new)) }
     {
-        Ok(false)
+        let order = self.print_order()?;
+        write_names(self.statements_mut(), &order.ids)
     }
 
     /// Whether the item is well formed, by the conditions of [`Replacement::is_well_formed`].
@@ -183,11 +184,6 @@ impl Item for LeftHandSide {
     fn renamed(&self) -> Result<Self, TextError> {
         LeftHandSide::renamed(self)
     }
-
-    fn rename(&mut self) -> Result<bool, TextError> {
-        LeftHandSide::rename(self)?;
-        Ok(true)
-    }
 }
 
 impl Item for RightHandSide {
@@ -215,11 +211,6 @@ impl Item for RightHandSide {
 
     fn renamed(&self) -> Result<Self, TextError> {
         RightHandSide::renamed(self)
-    }
-
-    fn rename(&mut self) -> Result<bool, TextError> {
-        RightHandSide::rename(self)?;
-        Ok(true)
     }
 }
 
@@ -251,10 +242,5 @@ impl Item for Replacement {
 
     fn renamed(&self) -> Result<Self, TextError> {
         Replacement::renamed(self)
-    }
-
-    fn rename(&mut self) -> Result<bool, TextError> {
-        Replacement::rename(self)?;
-        Ok(true)
     }
 }

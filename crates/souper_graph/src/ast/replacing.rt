@@ -187,6 +187,8 @@ fn replace_in(statements: &mut Arena<Statement>, of: ValueId, by: &Operand)
 
 impl Arena<Statement> {
     /// Puts `by` in the place of each operand of the statements that is the value `of`. Nothing else changes.
+    ///
+    /// If `by` is a value whose own statement has the operand `of`, that statement is changed too, and then uses itself.
     pub fn replace_uses(&mut self, of: ValueId, by: Operand)
         ensures { map view_statement self.new ≡ map (replaced_in of by) (map view_statement self.old) }
     {
@@ -205,8 +207,10 @@ fn replaced_value(value: ValueId, of: ValueId, by: &Operand) -> ValueId
 }
 
 impl LeftHandSide {
-    /// Puts `by` in the place of each use of the value `of`. Nothing else changes: the infer line keeps its value if `by` is a
-    /// constant.
+    /// Puts `by` in the place of each operand that is the value `of`, in the last line too. Nothing else changes: the infer line keeps
+    /// its value if `by` is a constant.
+    ///
+    /// If `by` is a value whose own statement has the operand `of`, that statement is changed too, and then uses itself.
     pub fn replace_uses(&mut self, of: ValueId, by: Operand)
         ensures { view_left_hand_side self.new ≡ with_uses_replaced of by (view_left_hand_side self.old) }
     {
@@ -216,7 +220,9 @@ impl LeftHandSide {
 }
 
 impl RightHandSide {
-    /// Puts `by` in the place of each use of the value `of`. Nothing else changes.
+    /// Puts `by` in the place of each operand that is the value `of`, in the last line too. Nothing else changes.
+    ///
+    /// If `by` is a value whose own statement has the operand `of`, that statement is changed too, and then uses itself.
     pub fn replace_uses(&mut self, of: ValueId, by: Operand)
         ensures { view_right_hand_side self.new ≡ with_uses_replaced of by (view_right_hand_side self.old) }
     {
@@ -226,7 +232,10 @@ impl RightHandSide {
 }
 
 impl Replacement {
-    /// Puts `by` in the place of each use of the value `of`. Nothing else changes: an infer line keeps its value if `by` is a constant.
+    /// Puts `by` in the place of each operand that is the value `of`, in the last lines too. Nothing else changes: an infer line keeps
+    /// its value if `by` is a constant.
+    ///
+    /// If `by` is a value whose own statement has the operand `of`, that statement is changed too, and then uses itself.
     pub fn replace_uses(&mut self, of: ValueId, by: Operand)
         ensures { view_replacement self.new ≡ with_uses_replaced of by (view_replacement self.old) }
     {

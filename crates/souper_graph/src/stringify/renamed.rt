@@ -145,7 +145,10 @@ fn set_name(statement: &mut Statement, name: String)
 }
 
 // Names each statement in the list by its index there, in place. The buffers of the names stay.
-fn write_names(statements: &mut Arena<Statement>, ids: &[Id<Statement>]) -> Result<(), TextError>
+pub(crate) fn write_names(
+    statements: &mut Arena<Statement>,
+    ids: &[Id<Statement>],
+) -> Result<(), TextError>
     ensures named { Distinct ids.now → OnOk result (map view_statement statements.new ≡ named_from name_of_index ids.now 0 (map view_statement statements.old)) }
     ensures memory { IfErr result (λ error. error ≡ OutOfMemory) }
 {

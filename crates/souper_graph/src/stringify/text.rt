@@ -25,8 +25,8 @@ impl Parts<'_> {
         ensures ok { OnOk result (string_bytes out.new ≡ string_bytes out.old ++ text_in_order (view_parts self.now).statements (view_parts self.now).ending order.now.ids.items order.now.lead) }
         ensures refused { IfErr result (λ error. IsFaultAmong (view_parts self.now).statements (roots_of (view_parts self.now).ending ++ flat_map (uses_at (view_parts self.now).statements) order.now.ids.items) error) }
     {
-        // A line has about thirty bytes: 32 a line are reserved, and the text grows from there.
-        out.reserve(order.ids.len().saturating_mul(32))?;
+        // A line has about thirty bytes. Without this room the text grows as it is written.
+        let _ = out.reserve(order.ids.len().saturating_mul(32));
         self.append_in_order(&order.ids, order.lead, out)?;
         Ok(())
     }

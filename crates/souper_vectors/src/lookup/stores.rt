@@ -66,6 +66,25 @@ infer %b
 %2 = shl %a, 1
 result %2
 
+=== names of statements that nothing needs are taken
+%x:i32 = var
+%1 = mul %x, 2
+infer %1
+%2 = shl %x, 1
+result %2
+---
+%a:i32 = var
+%2 = add %a, 1
+%b = mul %a, 2
+infer %b
+---
+; count 1
+%a:i32 = var
+%b = mul %a, 2
+infer %b
+%3 = shl %a, 1
+result %3
+
 === path conditions in another order
 %x:i8 = var
 %y:i8 = var

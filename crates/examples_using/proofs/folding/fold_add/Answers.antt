@@ -9,10 +9,12 @@ use Rattle.examples_using.proofs.folding.fold_add.Goals as goal
 
 pub returns-clause-folded : goal.returns-clause-folded
 returns-clause-folded g c = λ _. record {
-  assignment = view_assignment c.in-Some.assignment.now;
   constant = c.in-Some-sum.constant;
-  there = ap (λ (ss : List PlainStatement). slice_get ss c.args.value) (sym c.statements.ensures)
-      ∙ assigned-there c.statements.result.now c.args.value c.in-Some.assignment.now c.in-Some.ensures;
-  is_sum = c.in-Some-sum.ensures;
+  sum = record {
+    assignment = view_assignment c.in-Some.assignment.now;
+    there = ap (λ (ss : List PlainStatement). slice_get ss c.args.value) (sym c.statements.ensures)
+        ∙ assigned-there c.statements.result.now c.args.value c.in-Some.assignment.now c.in-Some.ensures;
+    is_sum = c.in-Some-sum.ensures.some;
+  };
   replaced = c.replace_uses.ensures ∙ ap (λ (by : Operand). with_uses_replaced c.args.value by (g.T.Item.view c.args.item.now)) c.into.ensures;
 }

@@ -25,14 +25,14 @@ loop-number-preserved c =
           let longer = ap (λ (z : List (String Global)). length z) is ∙ length_push old name in
           let all : map string_bytes c.if-not-contains.names.items ≡ map string_bytes old ++ string_bytes name ∷ [] = ap (map string_bytes) is ∙ map-append string_bytes old (name ∷ []) in
           record {
-            so_far = λ same. subst (λ (z : List (List ℕ)). AreSoFar start (k + 1) z) (sym (all ∙ ap (λ (z : List ℕ). map string_bytes old ++ z ∷ []) named))
-                (so-far-pushed start (map string_bytes old) k (omega arith) (omega arith) (omega arith) (inv.so_far same) (sym (tested start taken name k same named) ∙ sym c.contains.ensures ∙ w.if-not-contains.true));
+            so_far = λ used same covers. subst (λ (z : List (List ℕ)). AreSoFar start used (k + 1) z) (sym (all ∙ ap (λ (z : List ℕ). map string_bytes old ++ z ∷ []) named))
+                (so-far-pushed start used (map string_bytes old) k covers (omega arith) (omega arith) (omega arith) (inv.so_far used same covers) (sym (tested used taken name k same named) ∙ sym c.contains.ensures ∙ w.if-not-contains.true));
             within = λ fits. let l = inv.within fits in omega arith;
             longer = omega (arith, inv.longer);
             from = omega (arith, inv.from);
           })
       | else-not-contains w ↦ rw (w.names-is) (record {
-        so_far = λ same. so-far-taken start (map string_bytes old) k (inv.so_far same) (sym (tested start taken name k same named) ∙ sym c.contains.ensures ∙ w.if-not-contains.false);
+        so_far = λ used same covers. so-far-taken start used (map string_bytes old) k (inv.so_far used same covers) (sym (tested used taken name k same named) ∙ sym c.contains.ensures ∙ w.if-not-contains.false);
         within = inv.within;
         longer = inv.longer;
         from = omega (arith, inv.from);

@@ -1,0 +1,23 @@
+use Rattle.std.proofs.Common.{List, map, take, sym, ap, ◌∙◌, arith}
+use Rattle.std.specs.Prelude.{bytes_eq}
+use Rattle.std.specs.List.{list_any}
+use Rattle.std.proofs.lemmas.List.{length-map}
+use Rattle.std.specs.String.{string_bytes}
+use Rattle.souper_graph.specs.Text.{name_at}
+use Rattle.souper_graph.specs.View.{view_statement}
+use Rattle.souper_lookup.specs.Instance.{names_of_all}
+use Rattle.souper_lookup.proofs.Fresh.{taken-more, all-more}
+use Rattle.souper_lookup.proofs.names.all_names.Goals as goal
+
+pub loop-index-preserved : goal.loop-index-preserved
+loop-index-preserved c = λ t.
+    let ss = map view_statement c.args.statements.now in
+    let i = c.loop-index.index in
+    let long = length-map c.args.statements.now view_statement in
+    let test = c.loop-index-test.true in
+    let len = c.len-index-end.ensures in
+    taken-more (take i (names_of_all ss)) c.loop-index.taken.keys c.insert.new.self.keys c.in_ok-name_of.field-0 (name_at ss i) c.loop-index.invariant c.in_ok-insert.ensures.keys c.in_ok-name_of.ensures t
+    ∙ ap (λ (z : List _). list_any (bytes_eq t) z) (sym (all-more ss i (omega arith)))
+
+pub returns : goal.returns
+returns c = ?
