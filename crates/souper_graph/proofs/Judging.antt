@@ -1,6 +1,5 @@
 -- What the checks of well-formedness return.
 pub mod Closed
 pub mod Names
-pub mod Orders
 pub mod Needed
 pub mod Lower

@@ -1,10 +1,10 @@
--- Definitions. What the checks of single statements, of endings and of names return.
-use Rattle.std.specs.Prelude.{ℕ, ◌<◌, length, List, Option, Some, None, slice_get}
+-- Definitions. What the checks of single statements and of names return.
+use Rattle.std.specs.Prelude.{ℕ, ◌<◌, List, Option, Some, None, slice_get}
 use Rattle.std.specs.List.{AllByRecursion}
-use Rattle.souper_graph.specs.Values.{PlainStatement, assigned, condition, block_condition, Ending}
-use Rattle.souper_graph.specs.Uses.{Has, Use, position_of, uses_of, roots_of}
+use Rattle.souper_graph.specs.Values.{PlainStatement, assigned, condition, block_condition}
+use Rattle.souper_graph.specs.Uses.{Has, Use, position_of, uses_of}
 use Rattle.souper_graph.specs.Faults.{IsMet}
-use Rattle.souper_graph.specs.WellFormed.{FitsStatement, AgreesWithBlock, FitsEnding, AreNamedApart}
+use Rattle.souper_graph.specs.WellFormed.{FitsStatement, AgreesWithBlock, AreNamedApart}
 
 -- the use is of a position below the limit, and what it asks for is there
 abbrev pub IsMetBelow : List PlainStatement → ℕ → Use → Type 0
@@ -20,10 +20,6 @@ MayStand ss p (Some s) = FitsStatement s × AreMetBelow ss p (uses_of s) × Agre
 
 abbrev pub MayStandAt : List PlainStatement → ℕ → Type 0
 MayStandAt ss p = MayStand ss p (slice_get ss p)
-
--- the ending is valid by itself, and what its roots ask for is in the arena
-abbrev pub StandsEnding : List PlainStatement → Ending → Type 0
-StandsEnding ss e = AreMetBelow ss (length ss) (roots_of e) × FitsEnding e
 
 abbrev pub assigned_name : Option PlainStatement → Option (List ℕ)
 assigned_name None = None

@@ -3,14 +3,13 @@ use Rattle.std.proofs.Common.{◌≡◌, ℕ, zero, suc, ◌<◌, ◌≤◌, inl
 use Rattle.std.specs.Prelude.{slice_get}
 use Rattle.std.proofs.lemmas.List.{take_all}
 use Rattle.std.specs.List.{AllByRecursion}
-use Rattle.souper_graph.specs.declared.ast.operands.Operand.{Operand}
 use Rattle.souper_graph.specs.declared.stringify.errors.TextError.{TextError}
 use Rattle.souper_graph.specs.declared.stringify.errors.TextError.TheVariants.{OutOfRange, NotAnAssignment, NotABlock, OutOfMemory}
 use Rattle.souper_graph.specs.Values.{PlainStatement, Item}
-use Rattle.souper_graph.specs.Uses.{Has, Use, value_use, block_use, uses_of, uses_of_optional, uses_of_operand, uses_of_operands, roots_of, NeededIn}
+use Rattle.souper_graph.specs.Uses.{Has, Use, value_use, block_use, uses_of, uses_of_optional, NeededIn}
 use Rattle.souper_graph.specs.Faults.{IsAssigned, IsBlock, IsMet, AreMet, NamedIn, IsFaultOf}
 use Rattle.souper_graph.specs.WellFormed.{Closed, WellFormed}
-use Rattle.souper_graph.specs.Judging.{IsMetBelow, AreMetBelow, MayStand, MayStandAt, StandsEnding, AllStand}
+use Rattle.souper_graph.specs.Judging.{IsMetBelow, AreMetBelow, MayStand, MayStandAt}
 
 -- a property of each image holds of the image of the element at i
 pub All-map_at : {A B : Type 0} (P : B → Type 0) (f : A → B) (xs : List A) (i : ℕ) (x : A) → i < length xs → x ≡ get_or xs i x → AllByRecursion P (map f xs) → P (f x)
@@ -47,15 +46,6 @@ All-has P [] x h k = absurd k
 All-has P (y ∷ ys) x h (inl e) = subst P e h.0
 All-has P (y ∷ ys) x h (inr k) = All-has P ys x h.1 k
 
--- the uses of each operand resolve
-pub met_of_operands : (ss : List PlainStatement) (limit : ℕ) (xs : List Operand) → AllByRecursion (λ x. AreMetBelow ss limit (uses_of_operand x)) xs → AreMetBelow ss limit (uses_of_operands xs)
-met_of_operands ss limit [] h = h
-met_of_operands ss limit (x ∷ xs) h = All-both (IsMetBelow ss limit) (uses_of_operand x) (uses_of_operands xs) h.0 (met_of_operands ss limit xs h.1)
-
-pub operands_of_met : (ss : List PlainStatement) (limit : ℕ) (xs : List Operand) → AreMetBelow ss limit (uses_of_operands xs) → AllByRecursion (λ x. AreMetBelow ss limit (uses_of_operand x)) xs
-operands_of_met ss limit [] h = h
-operands_of_met ss limit (x ∷ xs) h = (All-first (IsMetBelow ss limit) (uses_of_operand x) (uses_of_operands xs) h, operands_of_met ss limit xs (All-second (IsMetBelow ss limit) (uses_of_operand x) (uses_of_operands xs) h))
-
 assigned_below : (ss : List PlainStatement) (i : ℕ) → IsAssigned (slice_get ss i) → i < length ss
 assigned_below [] i h = absurd h
 assigned_below (s ∷ ss) zero h = omega arith
@@ -65,14 +55,6 @@ block_below : (ss : List PlainStatement) (i : ℕ) → IsBlock (slice_get ss i) 
 block_below [] i h = absurd h
 block_below (s ∷ ss) zero h = omega arith
 block_below (s ∷ ss) (suc i) h = let below = block_below ss i h in omega arith
-
--- what resolves is in the arena
-met_below : (ss : List PlainStatement) (u : Use) → IsMet ss u → IsMetBelow ss (length ss) u
-met_below ss (value_use i) h = (assigned_below ss i h, h)
-met_below ss (block_use i) h = (block_below ss i h, h)
-
-pub AreMet-below : (ss : List PlainStatement) (us : List Use) → AreMet ss us → AreMetBelow ss (length ss) us
-AreMet-below ss us h = All-from_has (IsMetBelow ss (length ss)) us (λ u k. met_below ss u (h u k))
 
 pub AreMet-from_below : (ss : List PlainStatement) (limit : ℕ) (us : List Use) → AreMetBelow ss limit us → AreMet ss us
 AreMet-from_below ss limit us h = λ u k. (All-has (IsMetBelow ss limit) us u h k).1
@@ -96,24 +78,6 @@ stands_any ss p (Some s) h =
 
 pub stands_of_closed : (ss : List PlainStatement) (p : ℕ) → ((s : PlainStatement) → slice_get ss p ≡ Some s → Closed ss p s) → MayStandAt ss p
 stands_of_closed ss p h = stands_any ss p (slice_get ss p) h
-
-pub ending_of_well_formed : (a : Item) → WellFormed a → StandsEnding a.statements a.ending
-ending_of_well_formed a w = (AreMet-below a.statements (roots_of a.ending) w.roots_met, w.ending_fits)
-
--- the statements at the needed positions are valid, and their names are distinct
-pub stand_of_well_formed : (a : Item) (ids : List ℕ) → ((i : ℕ) → Has ids i ↔ NeededIn a i) → WellFormed a → AllStand a.statements ids
-stand_of_well_formed a ids exact w = (
-  All-from_has (MayStandAt a.statements) ids (λ p h. stands_of_closed a.statements p (λ s e. w.closed p s ((exact p).0 h) e)),
-  (λ p q v x hp hq. w.named_apart p q v x ((exact p).0 hp) ((exact q).0 hq)),
-)
-
-pub well_formed_of_stand : (a : Item) (ids : List ℕ) → ((i : ℕ) → Has ids i ↔ NeededIn a i) → StandsEnding a.statements a.ending → AllStand a.statements ids → WellFormed a
-well_formed_of_stand a ids exact ending stand = record {
-  roots_met = AreMet-from_below a.statements (length a.statements) (roots_of a.ending) ending.0;
-  ending_fits = ending.1;
-  closed = λ p s needed e. closed_of_stands a.statements p s e (All-has (MayStandAt a.statements) ids p stand.0 ((exact p).1 needed));
-  named_apart = λ p q v x np nq. stand.1 p q v x ((exact p).1 np) ((exact q).1 nq);
-}
 
 -- the statement at a use of a well formed item is of the kind that the use asks for
 met_of_optional : (a : Item) (p : ℕ) (o : Option PlainStatement) (u : Use) → WellFormed a → NeededIn a p → slice_get a.statements p ≡ o → Has (uses_of_optional o) u → IsMet a.statements u

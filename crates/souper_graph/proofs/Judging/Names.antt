@@ -138,13 +138,6 @@ Distinct-at (x ∷ xs) zero d u lt h = h
 Distinct-at (x ∷ xs) (suc i) d u lt (inl e) = u.0 (subst (λ (z : ℕ). Has xs z) (sym e) (Has-at xs i d (omega arith)))
 Distinct-at (x ∷ xs) (suc i) d u lt (inr h) = Distinct-at xs i d u.1 (omega arith) h
 
--- two positions have one name
-pub not_apart : (ss : List PlainStatement) (ids : List ℕ) (i d : ℕ) (n : List ℕ) → Distinct ids → i < length ids → assigned_name_at ss (get_or ids i d) ≡ Some n → has_name ss (take i ids) n ≡ true → Apart ss ids → ⊥
-not_apart ss ids i d n once lt named found apart =
-    let w = has_name_true ss (take i ids) n found in
-    let same = apart w.0 (get_or ids i d) n (Has-taken ids i w.0 w.1) (Has-at ids i d lt) w.2 named in
-    Distinct-at ids i d once lt (subst (λ (z : ℕ). Has (take i ids) z) same w.1)
-
 pub name_source : (o : Option PlainStatement) (n : List ℕ) → assigned_name o ≡ Some n → (v : PlainAssignment) × (o ≡ Some (assigned v)) × (v.name ≡ n)
 name_source None n e = absurd (cc)
 name_source (Some (assigned v)) n e = (v, refl, cc)

@@ -18,7 +18,8 @@ pub trait DisplayWithContext {
     // The uses of the node itself.
     ghost uses: { Self → List Use };
 
-    /// Appends the node's text to `out`, as `display` does. On an error a part of the text may be left in `out`.
+    /// Appends the node's text to `out`, as `display` does, but in place: on an error `out` keeps the text that it had, and the
+    /// beginning of the node's text may be left after it.
     fn append(&self, statements: &Arena<Statement>, out: &mut String) -> Result<(), TextError>
         ensures ok { OnOk result (string_bytes out.new ≡ string_bytes out.old ++ text (map view_statement statements.now) self.now) }
         ensures met { OnOk result (AreMet (map view_statement statements.now) (uses self.now)) }

@@ -1,6 +1,6 @@
 //! The first flaw of an item.
 
-ghost use Rattle.std.specs.Prelude.{◌≡◌, ◌↔◌, map, IfOk, IfSome, IsNone, MatchOption};
+ghost use Rattle.std.specs.Prelude.{◌≡◌, ◌↔◌, map, IfOk, IfSome, IsNone, IsTrue, MatchOption};
 ghost use Rattle.souper_graph.specs.View.{view_statement, view_left_hand_side, view_right_hand_side, view_replacement};
 ghost use Rattle.souper_graph.specs.PartsView.{view_parts};
 ghost use Rattle.souper_graph.specs.WellFormed.{WellFormed};
@@ -83,6 +83,16 @@ impl Parts<'_> {
         match flaw_among(self.statements, &ids)? {
             Some(flaw) => Ok(Some(flaw)),
             None => Ok(self.line_flaw()),
+        }
+    }
+
+    pub(crate) fn is_well_formed(&self) -> Result<bool, AllocError>
+        ensures { IfOk result (λ answer. IsTrue answer ↔ WellFormed (view_parts self.now)) }
+    {
+        match self.flaw() {
+            Ok(Some(_)) => Ok(false),
+            Ok(None) => Ok(true),
+            Err(error) => Err(error),
         }
     }
 }

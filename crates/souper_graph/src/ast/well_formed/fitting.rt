@@ -3,12 +3,12 @@
 ghost use Rattle.std.specs.Prelude.{◌≡◌, ◌↔◌, map, true, IsTrue};
 ghost use Rattle.std.specs.List.{AllByRecursion};
 ghost use Rattle.souper_graph.specs.Names.{is_name_char, IsName};
-ghost use Rattle.souper_graph.specs.View.{view_attribute, view_root_attribute, view_rhs, view_assignment, view_statement};
-ghost use Rattle.souper_graph.specs.WellFormed.{FitsOptionalType, FitsOperand, FitsAttribute, FitsRootAttribute, FitsRhs, FitsAssignment, FitsStatement};
+ghost use Rattle.souper_graph.specs.View.{view_attribute, view_root_attribute, view_rhs};
+ghost use Rattle.souper_graph.specs.WellFormed.{FitsOptionalType, FitsOperand, FitsAttribute, FitsRootAttribute, FitsRhs};
 
 use crate::ast::attributes::{Attribute, RootAttribute};
 use crate::ast::operands::{Operand, Type};
-use crate::ast::statements::{Assignment, AssignmentRhs, Statement};
+use crate::ast::statements::AssignmentRhs;
 
 pub(crate) fn optional_type_fits(ty: Option<Type>) -> bool
     ensures { IsTrue result ↔ FitsOptionalType ty }
@@ -132,28 +132,5 @@ pub(crate) fn is_name(name: &str) -> bool
     match name.as_bytes().split_first() {
         Some((first, rest)) => *first == b'%' && !rest.is_empty() && are_name_bytes(rest),
         None => false,
-    }
-}
-
-fn assignment_fits(assignment: &Assignment) -> bool
-    ensures { IsTrue result ↔ FitsAssignment (view_assignment assignment.now) }
-{
-    is_name(&assignment.name)
-        && optional_type_fits(assignment.ty)
-        && rhs_fits(&assignment.value)
-        && attributes_fit(&assignment.attributes)
-}
-
-pub(crate) fn statement_fits(statement: &Statement) -> bool
-    ensures { IsTrue result ↔ FitsStatement (view_statement statement.now) }
-{
-    match statement {
-        Statement::Assignment(assignment) => assignment_fits(assignment),
-        Statement::Pc(pc) => operand_fits(pc.x) && operand_fits(pc.y),
-        // Any predecessor is valid by itself. The read shows the proof that it is a number of its type.
-        Statement::BlockPc(block_pc) => {
-            let _predecessor = block_pc.predecessor;
-            operand_fits(block_pc.x) && operand_fits(block_pc.y)
-        }
     }
 }
