@@ -6,11 +6,11 @@ ghost use Rattle.souper_graph.specs.Text.{name_at};
 ghost use Rattle.souper_graph.specs.View.{view_statement};
 ghost use Rattle.souper_graph.specs.Order.{Distinct};
 ghost use Rattle.souper_graph.specs.Renaming.{with_name, name_in, named_from};
-ghost use Rattle.souper_lookup.specs.Instance.{AreNamesThenFresh, AreExtended, HasSameElements};
+ghost use Rattle.souper_lookup.specs.Instance.{AreNamesThenFresh, AreExtended, IsSetOf};
 
-use indexmap::IndexSet;
 use souper_graph::ast::{Arena, Id, Statement};
 use std::alloc::{AllocError, Global};
+use std::collections::BTreeSet;
 
 // The names of the statements at these positions, and then the first free numbers from the number of positions on: `count` names in all.
 pub(crate) fn names_for(
@@ -68,10 +68,10 @@ pub(crate) fn copied(name: &String) -> Result<String, AllocError>
 }
 
 // The set of these names.
-fn set_of(alloc: Global, names: &[String]) -> Result<IndexSet<String>, AllocError>
-    ensures { IfOk result (λ taken. HasSameElements (map string_bytes names.now) (map string_bytes taken.keys)) }
+fn set_of(alloc: Global, names: &[String]) -> Result<BTreeSet<String>, AllocError>
+    ensures { IfOk result (λ taken. IsSetOf (map string_bytes names.now) taken) }
 {
-    let mut taken = IndexSet::new(alloc);
+    let mut taken = BTreeSet::new(alloc);
     for name in names {
         taken.insert(copied(name)?)?;
     }
@@ -82,11 +82,11 @@ fn set_of(alloc: Global, names: &[String]) -> Result<IndexSet<String>, AllocErro
 fn add_numbers(
     alloc: Global,
     mut names: Vec<String>,
-    taken: &IndexSet<String>,
+    taken: &BTreeSet<String>,
     count: usize,
 ) -> Result<Vec<String>, AllocError>
     ensures long { IfOk result (λ all. count ≤ length all.items) }
-    ensures numbered { HasSameElements (map string_bytes names.items) (map string_bytes taken.now.keys) → length names.items ≤ count
+    ensures numbered { IsSetOf (map string_bytes names.items) taken.now → length names.items ≤ count
         → IfOk result (λ all. AreExtended (map string_bytes names.items) count (map string_bytes all.items)) }
 {
     let first = names.len() as u64;

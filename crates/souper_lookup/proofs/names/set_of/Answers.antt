@@ -14,5 +14,5 @@ loop-name-preserved c = λ t.
     let front : map string_bytes (take (i + 1) names) ≡ map string_bytes (take i names) ++ string_bytes name ∷ [] =
     ap (map string_bytes) (take_more names i name (omega (arith, c.loop-name-test.true))) ∙ map-append string_bytes (take i names) (_ ∷ [])
     ∙ ap (λ (z : String Global). map string_bytes (take i names) ++ string_bytes z ∷ []) (sym c.name-item.is) in
-    taken-more (map string_bytes (take i names)) c.loop-name.taken.keys c.insert.new.self.keys c.in_ok-copied.field-0 (string_bytes name) c.loop-name.invariant c.in_ok-insert.ensures.keys c.in_ok-copied.ensures t
+    taken-more (map string_bytes (take i names)) c.loop-name.taken c.insert.new.self c.in_ok-copied.field-0 (string_bytes name) c.loop-name.invariant c.in_ok-insert.ensures.updates c.in_ok-copied.ensures t
     ∙ ap (λ (z : List _). list_any (bytes_eq t) z) (sym front)
