@@ -1,17 +1,20 @@
 -- Definitions. What each status of a run says of the store, of the stream and of the writers.
-use Rattle.std.specs.Prelude.{◌≡◌, ◌⊎◌, ℕ, ◌+◌, ◌^◌, ◌<◌, ◌≤◌, List, ◌++◌, length, Option, Some}
+use Rattle.std.specs.Prelude.{◌≡◌, ◌⊎◌, ℕ, ◌+◌, ◌^◌, ◌<◌, ◌≤◌, Bool, List, ◌++◌, length, Option, Some}
 use Rattle.std.specs.Io.KnownBytes.{Consumes}
 use Rattle.souper_graph.specs.Values.{Item}
 use Rattle.souper_graph.specs.Syntax.Spelling.{replacement, TextSpells}
 use Rattle.souper_ir.specs.declared.parse.error.ParseError.{ParseError}
 use Rattle.souper_ir.specs.Errors.{HasLocation, IsRefusalAt}
+use Rattle.souper_stream.specs.Parts.{EndsAfter}
 use Rattle.souper_stream.specs.Reading.{AreAll, NeverSpells}
+use Rattle.souper_format.specs.Reporting.{Reported}
 use Rattle.souper_format.specs.Streams.{Stream, IsGivenNothing}
 use Rattle.souper_lookup.specs.declared.store.Store.{Store}
 use Rattle.souper_lookup.specs.Stored.{Entry, AreAdded, Stores}
 use Rattle.souper_records.specs.Canonical.{IsWhole}
 use Rattle.souper_records.specs.Outcomes.{InputStream}
-use Rattle.souper_records.specs.Reports.{ReportedLine, ReportedFault, ReportedMemory}
+use Rattle.souper_records.specs.declared.stop.ReadFault.{ReadFault}
+use Rattle.souper_records.specs.Reports.{IsRefusalLine, ReportedReadFault, ReportedMemory}
 use Rattle.souper_records.specs.Runs.{OnStatus, IsRun}
 use Rattle.souper_find.specs.declared.search.Choice.{Choice}
 use Rattle.souper_find.specs.declared.search.Output.{Output}
@@ -29,7 +32,7 @@ pub record IsFilled (entries : List Entry) (before after : Option (List ℕ)) (s
   pub stores : Stores now store
 
 -- Whatever follows the text read, the stream of this name spells no replacements. The refusal has and shows its place in that text, says
--- where it is at fault, and was reported.
+-- where it is at fault, and was reported, given whether the stream ends with the text up to the end of the refused segment.
 pub record IsUnfilled (name : List ℕ) (before after : Option (List ℕ)) (err : Stream) : Type 0 where
   pub read : List ℕ
   pub consumed : Consumes before after read
@@ -37,7 +40,10 @@ pub record IsUnfilled (name : List ℕ) (before after : Option (List ℕ)) (err 
   pub error : ParseError
   pub placed : length read + 1 < 2 ^ 64 → (offset : ℕ) × (offset ≤ length read) × IsRefusalAt (Some name) read offset error
   pub located : length read + 1 < 2 ^ 64 → (front : List ℕ) × (rest : List ℕ) × (read ≡ front ++ rest) × HasLocation front error
-  pub reported : ReportedLine err error
+  pub text : List ℕ
+  pub last : Bool
+  pub ends : EndsAfter before after text last
+  pub reported : Reported err (IsRefusalLine last name error)
 
 -- What the status of adding the replacements of a stream to a store says: 0, they were added, and nothing was reported; 1, the stream is
 -- refused, and that was reported; 2, a read failed or memory ran out, and that was reported.
@@ -45,7 +51,7 @@ abbrev pub IsFillRun : List Entry → List ℕ → Option (List ℕ) → Option 
 IsFillRun entries name before after store err status = OnStatus status
     (IsFilled entries before after store × IsGivenNothing err)
     (IsUnfilled name before after err)
-    (ReportedFault name err ⊎ ReportedMemory err)
+    (((fault : ReadFault) × ReportedReadFault name err fault) ⊎ ReportedMemory err)
     ⊥
 
 -- writing the answers for the left-hand sides of a stream

@@ -1,15 +1,13 @@
 //! The answers of a store to the left-hand sides of a stream.
 
-ghost use Rattle.std.specs.Prelude.{◌≡◌, ◌++◌, true, List, map, flat_map, IfOk, IfErr, OnOk, Option, option_copied};
+ghost use Rattle.std.specs.Prelude.{◌≡◌, ◌++◌, true, List, map, flat_map, IfOk, OnOk, Option, option_copied};
 ghost use Rattle.std.specs.List.{zip};
 ghost use Rattle.std.specs.Io.KnownBytes.{Appends};
 ghost use Rattle.std.specs.String.{string_bytes};
 ghost use Rattle.souper_graph.specs.Syntax.Spelling.{left_hand_side};
-ghost use Rattle.souper_ir.specs.Errors.{kind_of};
 ghost use Rattle.souper_format.specs.Streams.{stream};
 ghost use Rattle.souper_format.specs.Watching.{has_failed};
 ghost use Rattle.souper_lookup.specs.Stored.{Entry, Stores};
-ghost use Rattle.souper_records.specs.Stops.{IfInput};
 ghost use Rattle.souper_records.specs.Outcomes.{input_stream, IsPartsResult};
 ghost use Rattle.souper_records.specs.Records.{record_of_text};
 ghost use Rattle.souper_find.specs.Answers.{AreAllTexts, group_records, group_lines, part_text, AppendsAnswers, WritesAnswers};
@@ -19,7 +17,7 @@ use crate::search::{Output, Search};
 use crate::texts::texts_for;
 use souper_format::watched::Watched;
 use souper_ir::ast::{Arena, LeftHandSide, Statement};
-use souper_ir::parse::{ParseError, ParseErrorKind, Sink, WholeItem};
+use souper_ir::parse::{ParseError, Sink, WholeItem};
 use souper_records::layout::Layout;
 use souper_records::objects::{append_item, append_refusal};
 use souper_records::options::ReadOptions;
@@ -187,7 +185,6 @@ pub fn write_answers<R: BufRead, W: Write, E: Write>(
     ensures returned { (entries : List Entry) → Stores entries search.entry.store.now
         → (let answers = WritesAnswers search.entry.choice search.entry.output entries options.entry.name.now (stream W.contents out.old out.new) in
         IsPartsResult (input_stream left_hand_side options.entry (R.remaining reader.old)) (R.remaining reader.new) answers answers (has_failed out.new) (stream E.contents err.old err.new) result) }
-    ensures input { IfErr result (λ stop. IfInput stop (λ e. kind_of e ≡ ParseErrorKind.Io)) }
     ensures stays { has_failed err.old ≡ true → has_failed err.new ≡ true }
 {
     let mut answers = Answers {

@@ -14,11 +14,14 @@ use souper_format::watched::Watched;
 use souper_ir::ast::Replacement;
 use souper_lookup::store::Store;
 use souper_records::options::ReadOptions;
-use souper_records::report::report_error;
+use souper_records::report::report_input;
 use souper_records::run::end_parts;
-use souper_stream::read_into;
+use souper_stream::{ItemReader, read_with};
 use std::alloc::Global;
 use std::io::{BufRead, Write};
+
+// Bytes to read before looking for a cut point.
+const CHUNK: usize = 65536;
 
 /// Adds the replacements of the stream to the store, and returns the status of the program.
 ///
@@ -37,9 +40,10 @@ pub fn fill_run<R: BufRead, E: Write>(
     ensures { (entries : List Entry) → Stores entries store.old
         → IsFillRun entries name.now (R.remaining reader.old) (R.remaining reader.new) store.new (stream E.contents err.old err.new) result }
 {
-    match read_into::<Replacement, R, Store>(alloc, reader, Some(name), store) {
+    let mut parts = ItemReader::new(alloc, CHUNK);
+    match read_with::<Replacement, R, Store>(alloc, &mut parts, reader, Some(name), store) {
         Ok(()) => 0,
-        Err(error) => report_error(alloc, name, &error, err),
+        Err(error) => report_input(alloc, name, &error, &parts, err),
     }
 }
 

@@ -20,6 +20,7 @@ use souper_find::run::{fill_run, find_run, keyed_run};
 use souper_find::search::{Output, Search};
 use souper_format::command::Kind;
 use souper_format::watched::Watched;
+use souper_hash::Seed;
 use souper_ir::ast::{LeftHandSide, Replacement, RightHandSide};
 use souper_lookup::store::Store;
 use souper_records::check::check_run;
@@ -35,6 +36,7 @@ use std::alloc::Global;
 use std::cell::Cell;
 use std::env::{Env, FillError};
 use std::fs::File;
+use std::hash::RandomState;
 use std::io::{BufRead, BufReader, ErrorKind, IsTerminal, Write};
 use std::process::ExitCode;
 use std::{env, fs, io};
@@ -270,6 +272,11 @@ fn style(rt: &HostRuntime, color: Color) -> Style {
     }
 }
 
+// A seed of random bytes, or a fixed one if the system has none to give.
+fn seed(rt: &HostRuntime) -> Seed {
+    RandomState::new(rt).map_or(Seed::fixed(), Seed::new)
+}
+
 // Does what the matches ask for, and returns the status.
 fn run_matches(rt: &HostRuntime, matches: &ArgMatches<'_>) -> u8 {
     let Some(task) = read_task(matches) else {
@@ -286,11 +293,12 @@ fn run_matches(rt: &HostRuntime, matches: &ArgMatches<'_>) -> u8 {
         let _ = writeln!(err, "error: {fault}");
         return 2;
     }
+    let seed = seed(rt);
     Session {
         rt,
         task: &task,
-        seen: Seen::new(rt.alloc()),
-        store: Store::new(rt.alloc()),
+        seen: Seen::with_seed(rt.alloc(), seed),
+        store: Store::with_seed(rt.alloc(), seed),
         out: Watched::new(rt.stdout()),
         err,
         is_refused: &is_refused,

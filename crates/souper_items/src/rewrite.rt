@@ -6,7 +6,7 @@ use souper_format::watched::Watched;
 use souper_ir::parse::{Before, WholeItem};
 use souper_records::layout::{Layout, PLAIN};
 use souper_records::records::records_of_text;
-use souper_records::report::report_error;
+use souper_records::report::{report_error, report_not_utf8};
 use souper_stream::not_utf8;
 use std::alloc::{AllocError, Global};
 use std::fs::{File, Metadata, OpenOptions};
@@ -137,7 +137,8 @@ pub(crate) fn rewrite<T: WholeItem + Drop, E: Write>(
     };
     let Ok(source) = str::from_utf8(&target.bytes) else {
         let before = Before { bytes: 0, lines: 0 };
-        return failed(alloc, name, &not_utf8(before, &target.bytes), err);
+        report_not_utf8(alloc, name, not_utf8(before, &target.bytes), err);
+        return 2;
     };
     let layout = Layout { rename, ..PLAIN };
     match records_of_text::<T>(alloc, layout, source, Some(name)) {

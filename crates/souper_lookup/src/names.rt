@@ -6,11 +6,11 @@ ghost use Rattle.souper_graph.specs.Text.{name_at};
 ghost use Rattle.souper_graph.specs.View.{view_statement};
 ghost use Rattle.souper_graph.specs.Order.{Distinct};
 ghost use Rattle.souper_graph.specs.Renaming.{with_name, name_in, named_from};
-ghost use Rattle.souper_lookup.specs.Instance.{names_of_all, AreNamesThenFresh, AreExtended, HasSameElements, HasNumbersOf};
+ghost use Rattle.souper_lookup.specs.Instance.{names_of_all, AreNamesThenFresh, AreExtended, IsSetOf, HasNumbersOf};
 
-use indexmap::IndexSet;
 use souper_graph::ast::{Arena, Id, Statement};
 use std::alloc::{AllocError, Global};
+use std::collections::BTreeSet;
 
 // The names of the statements at these positions, and then the first numbers, from the number of positions on, that name no statement:
 // `count` names in all.
@@ -62,10 +62,10 @@ fn name_of(
 }
 
 // The names of all statements, with an empty one for path conditions.
-fn all_names(alloc: Global, statements: &Arena<Statement>) -> Result<IndexSet<String>, AllocError>
-    ensures { IfOk result (λ taken. HasSameElements (names_of_all (map view_statement statements.now)) (map string_bytes taken.keys)) }
+fn all_names(alloc: Global, statements: &Arena<Statement>) -> Result<BTreeSet<String>, AllocError>
+    ensures { IfOk result (λ taken. IsSetOf (names_of_all (map view_statement statements.now)) taken) }
 {
-    let mut taken = IndexSet::new(alloc);
+    let mut taken = BTreeSet::new(alloc);
     for index in 0..statements.len() {
         taken.insert(name_of(alloc, statements, Id::at(index))?)?;
     }
@@ -76,11 +76,11 @@ fn all_names(alloc: Global, statements: &Arena<Statement>) -> Result<IndexSet<St
 fn add_numbers(
     alloc: Global,
     mut names: Vec<String>,
-    taken: &IndexSet<String>,
+    taken: &BTreeSet<String>,
     count: usize,
 ) -> Result<Vec<String>, AllocError>
     ensures long { IfOk result (λ all. count ≤ length all.items) }
-    ensures numbered { (used : List (List ℕ)) → HasSameElements used (map string_bytes taken.now.keys) → HasNumbersOf (map string_bytes names.items) used → length names.items ≤ count
+    ensures numbered { (used : List (List ℕ)) → IsSetOf used taken.now → HasNumbersOf (map string_bytes names.items) used → length names.items ≤ count
         → IfOk result (λ all. AreExtended (map string_bytes names.items) used count (map string_bytes all.items)) }
 {
     let first = names.len() as u64;

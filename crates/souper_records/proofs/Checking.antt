@@ -1,16 +1,16 @@
 -- Canonical texts. A text has one list of items, so it is canonical or not.
 use Rattle.std.proofs.Common.{◌≡◌, inl, inr, ℕ, Bool, false, List, [], Option, Some, refl, sym, ap, ◌∙◌, subst, None, IsNone, IfNone, IfSome}
-use Rattle.std.specs.declared.io.Error.{Error}
+use Rattle.souper_records.specs.declared.stop.ReadFault.{ReadFault}
 use Rattle.std.proofs.KnownBytes.{Appends-nil, Appends-trans, Appends-kept}
-use Rattle.souper_records.proofs.Prelude.{Item, ItemType, TextSpells, texts_of, ParseError, Io, Parse, kind_of, concat, all_lines, Watched, Stream, stream, IsGiven, IsGivenNothing}
+use Rattle.souper_records.proofs.Prelude.{Item, ItemType, TextSpells, texts_of, concat, all_lines, Watched, Stream, stream, IsGiven, IsGivenNothing}
 use Rattle.souper_ir.proofs.Items.Lists.{text_alone}
 use Rattle.souper_diff.specs.declared.comparison.Comparison.{Comparison}
 use Rattle.souper_diff.specs.Comparisons.{DifferOnLine, DifferFrom, IsCompared}
 use Rattle.souper_records.specs.Canonical.{IsCanonical, IsOtherLine, other_line, ReportedOtherLine, IsWhole, IsCheckRun}
 use Rattle.souper_records.specs.Outcomes.{parts_of, items_of, WritesParts, WroteParts}
 use Rattle.souper_format.specs.Reporting.{Reported}
-use Rattle.souper_records.specs.Reports.{IsMemoryLine, IsFaultLine, ReportedFaultOf, ReportedError}
-use Rattle.souper_records.proofs.Outcomes.{none_reported, some_fault}
+use Rattle.souper_records.specs.Reports.{IsMemoryLine, IsReadFaultLine, ReportedReadFault}
+use Rattle.souper_records.proofs.Outcomes.{none_reported}
 
 -- ---- canonical texts
 
@@ -67,10 +67,5 @@ module _ {E : Type 0} (err_of : E → Option (List ℕ)) (x y z : Watched E) (qu
     pub check_memory : Reported (stream err_of y z) IsMemoryLine → run 2
     check_memory r = inr (reported_after IsMemoryLine r)
 
-    pub check_fault : (fault : Error) → ReportedFaultOf fault name (stream err_of y z) → run 2
-    check_fault fault r = inl (reported_after (IsFaultLine name) (some_fault fault name (stream err_of y z) r))
-
-    pub check_stopped : (e : ParseError) (status : ℕ) → kind_of e ≡ Io → ReportedError name (stream err_of y z) status e → run status
-    check_stopped e status io (inl (one, kind, line)) = absurd (let bad : Io ≡ Parse = sym io ∙ kind in cc)
-    check_stopped e status io (inr (inl (two, kind, (fault, is, line)))) = rw two (check_fault fault line)
-    check_stopped e status io (inr (inr (two, line))) = rw two (check_memory line)
+    pub check_fault : (fault : ReadFault) → ReportedReadFault name (stream err_of y z) fault → run 2
+    check_fault fault r = inl (fault, reported_after (IsReadFaultLine fault name) r)

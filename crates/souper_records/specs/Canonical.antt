@@ -6,7 +6,8 @@ use Rattle.souper_graph.specs.Text.{texts_of}
 use Rattle.souper_format.specs.Formatted.{IsFormatted}
 use Rattle.souper_diff.specs.Comparisons.{DifferOnLine}
 use Rattle.souper_records.specs.Outcomes.{WritesParts}
-use Rattle.souper_records.specs.Reports.{ReportedMemory, ReportedFault}
+use Rattle.souper_records.specs.declared.stop.ReadFault.{ReadFault}
+use Rattle.souper_records.specs.Reports.{ReportedMemory, ReportedReadFault}
 use Rattle.souper_records.specs.Runs.{OnStatus}
 
 -- the text is what the formatter writes of it: the canonical texts of the items that it spells, a newline after each
@@ -44,5 +45,5 @@ abbrev pub IsCheckRun : ItemType → List ℕ → Option (List ℕ) → Option (
 IsCheckRun k name before after err status = OnStatus status
     ((read : List ℕ) × IsWhole before after read × IsCanonical k read × IsGivenNothing err)
     (((read : List ℕ) × IsWhole before after read × (IsCanonical k read → ⊥) × ReportedOther k name read err) ⊎ ReportedRefusal k name before after err)
-    (ReportedFault name err ⊎ ReportedMemory err)
+    (((fault : ReadFault) × ReportedReadFault name err fault) ⊎ ReportedMemory err)
     ⊥

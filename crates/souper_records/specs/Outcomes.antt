@@ -1,23 +1,23 @@
 -- Definitions. The outcomes of the parts of a stream: their output and reports.
-use Rattle.std.specs.Prelude.{◌≡◌, ◌⊎◌, ℕ, Bool, true, false, List, [], ◌∷◌, ◌++◌, map, flat_map, filter_map, is_some, Option, None, Some, Result, Ok, Err}
+use Rattle.std.specs.Prelude.{◌≡◌, ◌⊎◌, ℕ, Bool, true, false, List, [], ◌∷◌, ◌++◌, map, flat_map, filter_map, is_some, option_map, Option, None, Some, Result, Ok, Err}
 use Rattle.std.specs.List.{list_any}
 use Rattle.std.specs.Io.KnownBytes.{Consumes}
 use Rattle.souper_records.specs.Prelude.{Item, ParseError, kind_of, Start, Stream, IsGiven, IsGivenNothing}
 use Rattle.souper_graph.specs.Syntax.Spelling.{ItemType, TextSpells, SpellsNone}
-use Rattle.souper_ir.specs.declared.parse.error.ParseErrorKind.TheVariants.{Io, Parse}
+use Rattle.souper_ir.specs.declared.parse.error.ParseErrorKind.TheVariants.{Parse}
 use Rattle.souper_ir.specs.Sinks.{PrefixSpells}
 use Rattle.souper_stream.specs.Segments.{Line, concat, all_lines, HasNoCut, AreParts, PartsSpell}
 use Rattle.souper_stream.specs.declared.reader.ItemReader.{ItemReader}
-use Rattle.souper_records.specs.Reports.{IsErrorLine}
+use Rattle.souper_records.specs.Reports.{IsRefusalLine}
 use Rattle.souper_ir.specs.Starts.{PrefixSpellsFrom, TextSpellsFrom}
 use Rattle.souper_stream.specs.Starts.{ItemsStartAt}
-use Rattle.souper_stream.specs.Parts.{IsLocatedIn, IsPlacedIn, HasParts, keeps_starts}
+use Rattle.souper_stream.specs.Parts.{IsLocatedIn, IsPlacedIn, EndsAfter, HasParts, keeps_starts}
 use Rattle.souper_stream.specs.Reading.{AreAll, NeverSpells}
 use Rattle.souper_records.specs.declared.layout.Layout.{Layout}
 use Rattle.souper_records.specs.declared.options.ReadOptions.{ReadOptions}
 use Rattle.souper_records.specs.declared.parts.Source.{Source}
 use Rattle.souper_records.specs.declared.stop.Stop.{Stop}
-use Rattle.souper_records.specs.Stops.{IfInput, UnlessOutput}
+use Rattle.souper_records.specs.Stops.{UnlessOutput}
 use Rattle.souper_records.specs.Records.{records_of}
 
 -- a stream that is read: the type of its items, its name, whether reading resumes after a refusal, and the bytes that are left before
@@ -32,16 +32,18 @@ pub record InputStream : Type 0 where
 abbrev pub input_stream : ItemType → ReadOptions → Option (List ℕ) → InputStream
 input_stream k options before = record { kind = k; name = options.name.now; recover = options.recover; before = before }
 
--- the outcome of a part: its items, or the ones that it begins with, where they begin, if that was asked for, and its refusal, if it is refused
+-- the outcome of a part: whether the stream ends with it, its items, or the ones that it begins with, where they begin, if that was asked
+-- for, and its refusal, if it is refused
 pub record Outcome : Type 0 where
   pub part : List Line
+  pub last : Bool
   pub starts : List Start
   pub items : List Item
   pub refusal : Option ParseError
 
 -- A refused part, after the parsed text `done`. It is one segment. The refusal has its place in the text read of the stream, and says where
 -- that is at fault.
-pub record IsRefusedPart (r : InputStream) (done : List ℕ) (part : List Line) (items : List Item) (e : ParseError) : Type 0 where
+pub record IsRefusedPart (r : InputStream) (done : List ℕ) (last : Bool) (part : List Line) (items : List Item) (e : ParseError) : Type 0 where
   pub kind : kind_of e ≡ Parse
   pub segment : HasNoCut r.kind part
   pub none : SpellsNone r.kind (concat part)
@@ -49,17 +51,18 @@ pub record IsRefusedPart (r : InputStream) (done : List ℕ) (part : List Line) 
   pub now : Option (List ℕ)
   pub read : List ℕ
   pub consumed : Consumes r.before now read
+  pub ends : EndsAfter r.before now (done ++ concat part) last
   pub placed : IsPlacedIn (Some r.name) read done (concat part) e
   pub located : IsLocatedIn done (concat part) e
 
 -- the part spells the items, or it was refused
-abbrev pub IsOutcome : InputStream → List ℕ → List Line → List Item → Option ParseError → Type 0
-IsOutcome r done part items None = TextSpells r.kind (concat part) items
-IsOutcome r done part items (Some e) = IsRefusedPart r done part items e
+abbrev pub IsOutcome : InputStream → List ℕ → Bool → List Line → List Item → Option ParseError → Type 0
+IsOutcome r done last part items None = TextSpells r.kind (concat part) items
+IsOutcome r done last part items (Some e) = IsRefusedPart r done last part items e
 
 -- the outcome of a part, given the parsed text `done` before it
 abbrev pub IsOutcomeAfter : InputStream → List ℕ → Outcome → Type 0
-IsOutcomeAfter r done o = IsOutcome r done o.part o.items o.refusal
+IsOutcomeAfter r done o = IsOutcome r done o.last o.part o.items o.refusal
 
 -- the offsets of items that the part spells, or begins with
 abbrev pub SpellsAtOffsets : ItemType → List ℕ → Option ParseError → List Item → List ℕ → Type 0
@@ -89,25 +92,26 @@ parts_of os = map (λ (o : Outcome). o.part) os
 abbrev pub items_of : List Outcome → List Item
 items_of os = flat_map (λ (o : Outcome). o.items) os
 
-abbrev pub refusals_of : List Outcome → List ParseError
-refusals_of os = filter_map (λ (o : Outcome). o.refusal) os
+-- the refusals, and whether the stream ends with the refused part
+abbrev pub refusals_of : List Outcome → List (Bool × ParseError)
+refusals_of os = filter_map (λ (o : Outcome). option_map (λ (e : ParseError). (o.last, e)) o.refusal) os
 
 abbrev pub any_refused : List Outcome → Bool
 any_refused os = list_any (λ (o : Outcome). is_some o.refusal) os
 
--- the text is the lines of the errors
-abbrev pub AreErrorLines : List ParseError → List ℕ → Type 0
-AreErrorLines [] text = text ≡ []
-AreErrorLines (e ∷ es) text = (line : List ℕ) × (rest : List ℕ) × (text ≡ line ++ rest) × IsErrorLine e line × AreErrorLines es rest
+-- the text is the lines of these refusals of the stream of this name
+abbrev pub AreErrorLines : List ℕ → List (Bool × ParseError) → List ℕ → Type 0
+AreErrorLines name [] text = text ≡ []
+AreErrorLines name (e ∷ es) text = (line : List ℕ) × (rest : List ℕ) × (text ≡ line ++ rest) × IsRefusalLine e.0 name e.1 line × AreErrorLines name es rest
 
--- unless the writer has failed, the lines of the errors were written to it; without errors, nothing was
-abbrev pub AreReported : Stream → List ParseError → Type 0
-AreReported err [] = IsGivenNothing err
-AreReported err (e ∷ es) = err.failed ≡ false → (text : List ℕ) × AreErrorLines (e ∷ es) text × IsGiven err text
+-- unless the writer has failed, the lines of the refusals were written to it; without refusals, nothing was
+abbrev pub AreReported : List ℕ → Stream → List (Bool × ParseError) → Type 0
+AreReported name err [] = IsGivenNothing err
+AreReported name err (e ∷ es) = err.failed ≡ false → (text : List ℕ) × AreErrorLines name (e ∷ es) text × IsGiven err text
 
--- unless the writer has failed, the lines of the errors were written to it, and then a line with the property P
-abbrev pub AreReportedThen : Stream → List ParseError → (List ℕ → Type 0) → Type 0
-AreReportedThen err es P = err.failed ≡ false → (text : List ℕ) × (line : List ℕ) × AreErrorLines es text × P line × IsGiven err (text ++ line)
+-- unless the writer has failed, the lines of the refusals were written to it, and then a line with the property P
+abbrev pub AreReportedThen : List ℕ → Stream → List (Bool × ParseError) → (List ℕ → Type 0) → Type 0
+AreReportedThen name err es P = err.failed ≡ false → (text : List ℕ) × (line : List ℕ) × AreErrorLines name es text × P line × IsGiven err (text ++ line)
 
 -- the stream is read from its beginning
 abbrev pub IsAtStart : Source → Type 0
@@ -132,7 +136,7 @@ pub record WritesPart (r : InputStream) (now : Option (List ℕ)) (ps : List (Li
   pub any : refused ≡ any_refused (outcome ∷ [])
   pub after : refused ≡ true → IsRefusedAfter r now ps outcome
   pub are_written : written outcome
-  pub reported : AreReported err (refusals_of (outcome ∷ []))
+  pub reported : AreReported r.name err (refusals_of (outcome ∷ []))
 
 -- The stream begins with parts that have these outcomes. If none of them is refused, it begins with their items.
 pub record ReadsParts (r : InputStream) (now : Option (List ℕ)) (outcomes : List Outcome) : Type 0 where
@@ -162,7 +166,7 @@ pub record WritesParts (r : InputStream) (after : Option (List ℕ)) (written : 
   pub never : refused ≡ true → NeverSpells r.kind (AreAll r.before reads.read) reads.read
   pub stopped : r.recover ≡ false → refused ≡ true → EndsRefused r.kind reads.read outcomes
   pub are_written : written outcomes
-  pub reported : AreReported err (refusals_of outcomes)
+  pub reported : AreReported r.name err (refusals_of outcomes)
 
 -- the stream begins with parts that have these outcomes; without recovery none of them is refused, or the last alone
 abbrev pub IsBegun : InputStream → List Outcome → Type 0
@@ -171,13 +175,13 @@ IsBegun r os = (now : Option (List ℕ)) × (begun : ReadsParts r now os) × (r.
 -- Reading or writing stopped after these parts: without recovery none of them is refused, their refusals were reported, and unless the
 -- output is the cause their outcomes were written; if it is, it has failed.
 abbrev pub StopsAfter : InputStream → (List Outcome → Type 0) → Bool → Stream → Stop → Type 0
-StopsAfter r written failed err stop = (os : List Outcome) × IsBegun r os × (r.recover ≡ false → any_refused os ≡ false) × AreReported err (refusals_of os) × UnlessOutput stop failed (written os)
+StopsAfter r written failed err stop = (os : List Outcome) × IsBegun r os × (r.recover ≡ false → any_refused os ≡ false) × AreReported r.name err (refusals_of os) × UnlessOutput stop failed (written os)
 
 -- What writing the output of the parts returned: whether a part was refused, and then the outcomes were written; or why it stopped, and then
--- `known` holds of them unless the output is the cause. If the input is the cause, a read failed, or bytes are not UTF-8.
+-- `known` holds of them unless the output is the cause.
 abbrev pub IsPartsResult : InputStream → Option (List ℕ) → (List Outcome → Type 0) → (List Outcome → Type 0) → Bool → Stream → Result Bool Stop → Type 0
 IsPartsResult r after written known failed err (Ok refused) = WritesParts r after written err refused
-IsPartsResult r after written known failed err (Err stop) = StopsAfter r known failed err stop × IfInput stop (λ e. kind_of e ≡ Io)
+IsPartsResult r after written known failed err (Err stop) = StopsAfter r known failed err stop
 
 -- the outcomes were written; and if it was asked where items begin, they begin there
 abbrev pub WroteParts : ItemType → Bool → (List Outcome → Type 0) → List Outcome → Type 0

@@ -1,13 +1,17 @@
 -- Definitions. The lines that the program reports an error with.
-use Rattle.std.specs.Prelude.{◌≡◌, ◌⊎◌, ℕ, List, ◌++◌, codes, Some}
-use Rattle.std.specs.declared.io.Error.{Error}
-use Rattle.std.specs.IoError.{error_kind}
-use Rattle.souper_records.specs.Prelude.{Stream}
+use Rattle.std.specs.Prelude.{◌≡◌, ◌⊎◌, ℕ, ◌-◌, ◌<◌, Bool, true, false, not, ◌&&◌, List, ◌++◌, length, replicate, codes, decimal, bytes_eq, Option, None, Some, IfSome, string_bytes}
+use Rattle.souper_records.specs.Prelude.{ItemType, Stream, Line, concat, all_lines}
 use Rattle.souper_format.specs.Reporting.{IsLineOf, Reported}
-use Rattle.std.specs.declared.io.ErrorKind.TheVariants.{InvalidData}
-use Rattle.souper_ir.specs.Errors.{fault_of, kind_of, located_error}
+use Rattle.souper_ir.specs.Errors.{kind_of, located_error, message_of, location_of}
+use Rattle.souper_ir.specs.Places.{right_aligned}
+use Rattle.souper_ir.specs.declared.parse.place.Location.{Location}
 use Rattle.souper_ir.specs.declared.parse.ParseError.{ParseError}
-use Rattle.souper_ir.specs.declared.parse.ParseErrorKind.TheVariants.{Io, Parse}
+use Rattle.souper_ir.specs.declared.parse.ParseErrorKind.TheVariants.{Io as IoError, Parse}
+use Rattle.souper_stream.specs.declared.faults.NotUtf8.{NotUtf8}
+use Rattle.souper_stream.specs.declared.reader.ItemReader.{ItemReader}
+use Rattle.souper_stream.specs.Parts.{HasParts, EndsAfter}
+use Rattle.souper_records.specs.declared.stop.ReadFault.{ReadFault}
+use Rattle.souper_records.specs.declared.stop.ReadFault.TheVariants.{Utf8, Io}
 
 -- the program's name, and what it says
 abbrev pub program_line : List ℕ → List ℕ
@@ -21,22 +25,52 @@ named_line name says = codes "souper_items: " ++ (name ++ (codes ": " ++ (says +
 abbrev pub IsMemoryLine : List ℕ → Type 0
 IsMemoryLine line = line ≡ program_line (codes "out of memory")
 
--- the line of bytes of a stream that are not UTF-8: its name, and on which line and at which byte
-abbrev pub text_fault_line : List ℕ → List ℕ → List ℕ
-text_fault_line name says = name ++ (codes ":" ++ (says ++ codes "\n"))
+-- the line of bytes of a stream that are not UTF-8: its name, and on which line and at which byte they are
+abbrev pub not_utf8_line : List ℕ → NotUtf8 → List ℕ
+not_utf8_line name bytes = name ++ (codes ":" ++ (decimal bytes.line ++ (codes ": not UTF-8 at byte " ++ (decimal bytes.offset ++ codes "\n"))))
 
--- The line of this fault of the stream: it names the program, unless the stream has bytes that are not UTF-8. If memory ran out for it, the
--- line for that.
-abbrev pub IsFaultLineOf : Error → List ℕ → List ℕ → Type 0
-IsFaultLineOf fault name line = ((shown : List ℕ) × ((line ≡ named_line name shown) ⊎ ((error_kind fault ≡ InvalidData) × (line ≡ text_fault_line name shown)))) ⊎ IsMemoryLine line
+-- the line of these bytes of the stream; if memory ran out for it, the line for that
+abbrev pub IsNotUtf8Line : NotUtf8 → List ℕ → List ℕ → Type 0
+IsNotUtf8Line bytes name line = (line ≡ not_utf8_line name bytes) ⊎ IsMemoryLine line
 
--- the line of a fault of the stream
+-- the line with the text of an error, this one if it is known; if memory ran out for it, the line for that
+abbrev pub IsShownLine : Option (List ℕ) → List ℕ → List ℕ → Type 0
+IsShownLine known name line = ((shown : List ℕ) × IfSome known (λ text. shown ≡ text) × (line ≡ named_line name shown)) ⊎ IsMemoryLine line
+
+-- the line of an I/O error of the stream, whose text the library does not specify
 abbrev pub IsFaultLine : List ℕ → List ℕ → Type 0
-IsFaultLine name line = (fault : Error) × IsFaultLineOf fault name line
+IsFaultLine name line = IsShownLine None name line
+
+-- the line of this fault of reading the stream
+abbrev pub IsReadFaultLine : ReadFault → List ℕ → List ℕ → Type 0
+IsReadFaultLine (Utf8 bytes) name line = IsNotUtf8Line bytes name line
+IsReadFaultLine (Io fault) name line = IsFaultLine name line
 
 -- the line of the text that the error shows with its location
 abbrev pub IsErrorLine : ParseError → List ℕ → Type 0
 IsErrorLine e line = IsLineOf (located_error e) line
+
+-- The lines of a refusal that says that an item ends too early: its place in the stream of this name, and the line of the stream.
+abbrev pub item_end_lines : List ℕ → Location → List ℕ
+item_end_lines name l =
+    name ++ (codes ":" ++ (decimal l.line ++ (codes ":" ++ (decimal l.column ++ (codes ": unexpected end of item\n     |\n"
+    ++ (right_aligned 4 (decimal l.line) ++ (codes " | " ++ (string_bytes l.text ++ (codes "\n     | " ++ (replicate (l.column - 1) 32 ++ codes "^\n"))))))))))
+
+-- the line of a refusal of the stream of this name, given whether its item ends too early, and its location
+abbrev pub IsRefusalAtLine : Bool → List ℕ → ParseError → Option Location → List ℕ → Type 0
+IsRefusalAtLine true name e (Some location) line = line ≡ item_end_lines name location
+IsRefusalAtLine true name e None line = IsErrorLine e line
+IsRefusalAtLine false name e location line = IsErrorLine e line
+
+-- whether a message speaks of the end of the input
+abbrev pub says_end : Option (List ℕ) → Bool
+says_end None = false
+says_end (Some message) = bytes_eq message (codes "unexpected EOF")
+
+-- The line of a refusal of the stream of this name, given whether the stream ends with the refused part: if it does not, a message that
+-- speaks of the end of the input says that the item ends too early.
+abbrev pub IsRefusalLine : Bool → List ℕ → ParseError → List ℕ → Type 0
+IsRefusalLine last name e line = IsRefusalAtLine (not last && says_end (message_of e)) name e (location_of e) line
 
 -- the line of the error was reported
 abbrev pub ReportedLine : Stream → ParseError → Type 0
@@ -46,16 +80,26 @@ ReportedLine err e = Reported err (IsErrorLine e)
 abbrev pub ReportedMemory : Stream → Type 0
 ReportedMemory err = Reported err IsMemoryLine
 
--- this fault of the stream was reported
-abbrev pub ReportedFaultOf : Error → List ℕ → Stream → Type 0
-ReportedFaultOf fault name err = Reported err (IsFaultLineOf fault name)
-
--- a fault of the stream was reported
+-- an I/O error of the stream was reported
 abbrev pub ReportedFault : List ℕ → Stream → Type 0
 ReportedFault name err = Reported err (IsFaultLine name)
+
+-- this fault of reading the stream was reported
+abbrev pub ReportedReadFault : List ℕ → Stream → ReadFault → Type 0
+ReportedReadFault name err fault = Reported err (IsReadFaultLine fault name)
 
 -- The status is 1 if the text was refused, and the line of the refusal was written. It is 2 if a read failed, and its fault was reported,
 -- or if memory ran out, for the items or for the line of a refusal, and that was reported.
 abbrev pub ReportedError : List ℕ → Stream → ℕ → ParseError → Type 0
 ReportedError name err status e = ((status ≡ 1) × (kind_of e ≡ Parse) × ReportedLine err e)
-    ⊎ (((status ≡ 2) × (kind_of e ≡ Io) × ((fault : Error) × (fault_of e ≡ Some fault) × ReportedFaultOf fault name err)) ⊎ ((status ≡ 2) × ReportedMemory err))
+    ⊎ (((status ≡ 2) × (kind_of e ≡ IoError) × ReportedFault name err) ⊎ ((status ≡ 2) × ReportedMemory err))
+
+-- whether the stream ends after the parts of this reader, as it says of any of them
+abbrev pub EndsReading : ItemReader → Bool → Type 0
+EndsReading r last = (k : ItemType) (start : Option (List ℕ)) (now : Option (List ℕ)) (ps : List (List Line)) → 0 < length ps → HasParts k start now ps r → EndsAfter start now (concat (all_lines ps)) last
+
+-- The status of the error of reading a stream by parts: 1, a part was refused, and its line was reported; 2, reading failed or memory ran
+-- out, and that was reported.
+abbrev pub ReportedInput : List ℕ → ItemReader → Stream → ℕ → ParseError → Type 0
+ReportedInput name r err status e = ((status ≡ 1) × (kind_of e ≡ Parse) × ((last : Bool) × EndsReading r last × Reported err (IsRefusalLine last name e)))
+    ⊎ ((status ≡ 2) × (((fault : ReadFault) × ReportedReadFault name err fault) ⊎ ReportedMemory err))

@@ -11,7 +11,7 @@ use crate::layout::PLAIN;
 use crate::options::ReadOptions;
 use crate::parts::{Part, PartSink, Source, write_parts};
 use crate::records::records_of_text;
-use crate::report::{report_error, report_fault, report_line, report_memory};
+use crate::report::{report_line, report_memory, report_read_fault};
 use crate::stop::Stop;
 use souper_diff::comparison::{Comparison, differing_line};
 use souper_format::watched::Watched;
@@ -135,7 +135,10 @@ pub fn check_run<T: StreamItem + Drop, R: BufRead, E: Write>(
             None => 0,
             Some(line) => report_other_line(alloc, name, line, err),
         },
-        Err(Stop::Input(error)) => report_error(alloc, name, &error, err),
+        Err(Stop::Input(fault)) => {
+            report_read_fault(alloc, name, &fault, err);
+            2
+        }
         // Nothing is written to `out`, so memory ran out.
         Err(_) => {
             report_memory(err);

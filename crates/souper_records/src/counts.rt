@@ -1,7 +1,7 @@
 //! The records of the distinct items, after all were read.
 ghost use Rattle.std.specs.Prelude.{◌≡◌, ◌⊎◌, ◌++◌, List, OnOk, IfErr, string_bytes};
 ghost use Rattle.souper_records.specs.Prelude.{ItemType, Item, stream, IsGiven, has_failed};
-ghost use Rattle.souper_records.specs.Stops.{IfInput, UnlessOutput};
+ghost use Rattle.souper_records.specs.Stops.{IsNoInput, UnlessOutput};
 ghost use Rattle.souper_records.specs.Uniques.{HasSeen, summary_of_text, summary_of, WritesSummaryBegun};
 
 use crate::layout::{Layout, Summary};
@@ -50,7 +50,7 @@ pub fn write_counts<W: Write>(
 ) -> Result<(), Stop>
     ensures written { OnOk result ((k : ItemType) (items : List Item) → HasSeen k layout.rename items seen.now
         → IsGiven (stream W.contents out.old out.new) (summary_of layout summary items)) }
-    ensures input { IfErr result (λ stop. IfInput stop (λ e. ⊥)) }
+    ensures input { IfErr result (λ stop. IsNoInput stop) }
     ensures stopped { IfErr result (λ stop. UnlessOutput stop (has_failed out.new) ((k : ItemType) (items : List Item) → HasSeen k layout.rename items seen.now
         → WritesSummaryBegun layout summary items (stream W.contents out.old out.new))) }
 {

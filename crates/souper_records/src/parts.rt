@@ -1,14 +1,14 @@
 //! The parts of a stream, whose output is written one after the other.
 ghost use Rattle.std.specs.Prelude.{◌≡◌, ◌++◌, ◌∷◌, ℕ, [], List, true, Option, Some, IfOk, IfErr, IfSome, IfNone, OnOk, option_copied};
-ghost use Rattle.souper_records.specs.Prelude.{kind_of, Line, concat, stream};
+ghost use Rattle.souper_records.specs.Prelude.{Line, concat, stream};
 ghost use Rattle.souper_stream.specs.Parts.{HasParts, HasAll, keeps_starts};
 ghost use Rattle.souper_format.specs.Watching.{watched_inner, has_failed};
-ghost use Rattle.souper_records.specs.Stops.{IfInput, UnlessOutput};
+ghost use Rattle.souper_records.specs.Stops.{IsNoInput, UnlessOutput};
 ghost use Rattle.souper_records.specs.Outcomes.{Outcome, IsAtStart, WritesPart, IsPartsResult, WroteParts, input_stream};
 
 use crate::options::ReadOptions;
-use crate::report::{line_of_error, report_line};
-use crate::stop::Stop;
+use crate::report::{line_of_refusal, report_line};
+use crate::stop::{ReadFault, Stop, stop_of};
 use souper_format::watched::Watched;
 use souper_ir::parse::{ParseError, ParseErrorKind};
 use souper_stream::{ChunkSink, ItemReader, Start, StreamItem};
@@ -49,7 +49,7 @@ pub trait PartSink<T: StreamItem + Drop>: ChunkSink<T> {
             → Self.holds before before [] → Self.holds before self.old o.items → o.starts ≡ part.entry.starts.now → concat o.part ≡ part.entry.text.now → o.refusal ≡ option_copied refusal.entry
             → wrote part.entry.name.now first start self.new (W.contents (watched_inner out.new)) (os ++ o ∷ [])) }
         ensures none { OnOk result (Self.holds self.new self.new []) }
-        ensures input { IfErr result (λ stop. IfInput stop (λ e. ⊥)) }
+        ensures input { IfErr result (λ stop. IsNoInput stop) }
         ensures unwritten { IfErr result (λ stop. UnlessOutput stop (has_failed out.new) (out.new ≡ out.old)) };
 }
 
@@ -124,7 +124,6 @@ fn write_next<T: StreamItem + Drop, S: PartSink<T>, R: BufRead, W: Write, E: Wri
     ensures stays { has_failed err.old ≡ true → has_failed err.new ≡ true }
     ensures stopped { IfErr result (λ stop. err.new ≡ err.old) }
     ensures unwritten { IfErr result (λ stop. UnlessOutput stop (has_failed out.new) (out.new ≡ out.old)) }
-    ensures input { IfErr result (λ stop. IfInput stop (λ e. kind_of e ≡ ParseErrorKind.Io)) }
 {
     let name = source.options.name;
     match source
@@ -138,14 +137,14 @@ fn write_next<T: StreamItem + Drop, S: PartSink<T>, R: BufRead, W: Write, E: Wri
         }
         Ok(false) => Ok(None),
         Err(error) if error.kind() == ParseErrorKind::Parse => {
-            let shown = line_of_error(alloc, &error)?;
+            let shown = line_of_refusal(alloc, name, source.parts.is_at_end(), &error)?;
             let (starts, text) = (source.parts.starts(), source.parts.part());
             let part = Part { name, starts, text };
             sink.write_part(alloc, part, Some(&error), out)?;
             report_line(&shown, err);
             Ok(Some(true))
         }
-        Err(error) => Err(Stop::from(error)),
+        Err(error) => Err(stop_of(&error, source.parts.not_utf8())),
     }
 }
 
@@ -183,5 +182,5 @@ pub fn write_parts<T: StreamItem + Drop, S: PartSink<T>, R: BufRead, W: Write, E
         }
     }
     let fault = io::Error::from(ErrorKind::Other);
-    Err(Stop::Input(ParseError::from(fault)))
+    Err(Stop::Input(ReadFault::Io(fault)))
 }

@@ -10,7 +10,7 @@ use crate::each::write_records;
 use crate::layout::{Layout, Summary};
 use crate::objects::write_objects;
 use crate::options::ReadOptions;
-use crate::report::{report_error, report_fault, report_memory};
+use crate::report::{report_fault, report_memory, report_read_fault};
 use crate::seen::Seen;
 use crate::stop::Stop;
 use crate::uniq::write_distinct;
@@ -60,7 +60,10 @@ pub fn end_parts<W: Write, E: Write>(
             Ok(()) => u8::from(refused),
             Err(fault) => report_output(alloc, &fault, err),
         },
-        Err(Stop::Input(error)) => report_error(alloc, name, &error, err),
+        Err(Stop::Input(fault)) => {
+            report_read_fault(alloc, name, &fault, err);
+            2
+        }
         Err(Stop::Output(fault)) => report_output(alloc, &fault, err),
         Err(Stop::Memory) => {
             report_memory(err);

@@ -1,8 +1,7 @@
 //! The record of the first item of each graph in streams.
-ghost use Rattle.std.specs.Prelude.{◌≡◌, ◌++◌, ◌∷◌, List, map, true, OnOk, IfErr, string_bytes};
+ghost use Rattle.std.specs.Prelude.{◌≡◌, ◌++◌, ◌∷◌, List, map, true, OnOk, string_bytes};
 ghost use Rattle.std.specs.List.{AllByRecursion};
-ghost use Rattle.souper_records.specs.Prelude.{Item, kind_of, stream, has_failed};
-ghost use Rattle.souper_records.specs.Stops.{IfInput};
+ghost use Rattle.souper_records.specs.Prelude.{Item, stream, has_failed};
 ghost use Rattle.souper_records.specs.Outcomes.{input_stream, IsPartsResult, OfItems, items_of};
 ghost use Rattle.souper_records.specs.Counts.{tally_all};
 ghost use Rattle.souper_records.specs.Uniques.{text_by, HasText, HasSeen, text_count, WritesDistinct, WritesSeenDistinct, WritesNewDistinct};
@@ -15,7 +14,7 @@ use crate::seen::{Seen, count};
 use crate::stop::{Stop, write_text};
 use souper_format::watched::Watched;
 use souper_ir::ast::{Arena, Statement};
-use souper_ir::parse::{ParseError, ParseErrorKind, Sink, WholeItem};
+use souper_ir::parse::{ParseError, Sink, WholeItem};
 use souper_stream::{ChunkSink, StreamItem};
 use std::alloc::{AllocError, Global};
 use std::io::{BufRead, Write};
@@ -108,7 +107,6 @@ pub fn write_distinct<T: StreamItem + Drop, R: BufRead, W: Write, E: Write>(
         → IsPartsResult (input_stream T.item_type options.entry (R.remaining reader.old)) (R.remaining reader.new)
         (OfItems (WritesSeenDistinct T.item_type layout earlier (stream W.contents out.old out.new) seen.new))
         (OfItems (WritesDistinct layout earlier (stream W.contents out.old out.new))) (has_failed out.new) (stream E.contents err.old err.new) result }
-    ensures input { IfErr result (λ stop. IfInput stop (λ e. kind_of e ≡ ParseErrorKind.Io)) }
     ensures stays { has_failed err.old ≡ true → has_failed err.new ≡ true }
 {
     let alloc = seen.alloc;

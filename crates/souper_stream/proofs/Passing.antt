@@ -1,5 +1,5 @@
 -- The reader of a stream: more is read, and parts are parsed.
-use Rattle.std.proofs.Common.{◌≡◌, ◌⊎◌, inl, inr, ℕ, ◌+◌, ◌-◌, ◌<◌, ◌≤◌, Bool, true, false, is_some, List, [], ◌∷◌, ◌++◌, length, take, drop, Option, None, refl, sym, ap, ◌∙◌, subst, arith, append_assoc, append-nil, length-append, take_at, drop_at, length-drop, length-take}
+use Rattle.std.proofs.Common.{◌≡◌, ◌⊎◌, inl, inr, ℕ, zero, suc, ◌+◌, ◌-◌, ◌<◌, ◌≤◌, Bool, true, false, is_some, List, [], ◌∷◌, ◌++◌, length, take, drop, Option, None, refl, sym, ap, ◌∙◌, subst, arith, append_assoc, append-nil, length-append, take_at, drop_at, length-drop, length-take}
 use Rattle.std.specs.Io.KnownBytes.{Consumes}
 use Rattle.std.proofs.lemmas.List.{nil_from_length}
 use Rattle.std.proofs.KnownBytes.{Consumes-nil, Consumes-trans}
@@ -10,7 +10,7 @@ use Rattle.souper_stream.specs.Buffering.{window, unparsed, Buffers}
 use Rattle.souper_stream.specs.Lines.{LastEnds}
 use Rattle.souper_stream.specs.Segments.{Line, concat, IsWholeLine, AreLines, tokens_of_lines, EndsItem, FirstStarts, HasNoCut, IsCut, AreCut, all_lines, AreParts, CutsAt, IsFirstSegment}
 use Rattle.souper_stream.specs.Starts.{ItemsStartAt}
-use Rattle.souper_stream.specs.Parts.{IsChunk, and_next, HasLines, HasRead, HasParts, HasAll, Advances, AreNextStarts, Holds, keeps_starts, TakesPart, RefusesPart}
+use Rattle.souper_stream.specs.Parts.{IsChunk, and_next, HasLines, HasRead, HasParts, HasAll, Advances, AreNextStarts, Holds, EndsAfter, keeps_starts, TakesPart, RefusesPart}
 use Rattle.souper_stream.specs.Reading.{AreAll, NeverSpells}
 use Rattle.souper_stream.proofs.Buffers.{all_after, buffers_more, buffers_located, buffers_placed, each_spells, kept_now}
 use Rattle.souper_stream.proofs.LineLists.{starts_not_none, starts_with_more, concat-append, tokens-append, lines-append, are_front, lines_front, lines_back, lines_of, no_bytes, lines_whole, lines_exist}
@@ -125,6 +125,29 @@ next_end k start now ps r len (ls, h) ended len_is =
         let same : all_lines ps ++ ls ≡ all_lines ps = ap (λ (x : List Line). all_lines ps ++ x) nil ∙ append-nil (all_lines ps) in
         let parts : AreParts k (concat (all_lines ps ++ ls)) ps = record { whole = ap concat same; lines = are_front (all_lines ps) ls h.lines.are; cut = subst (λ (x : List Line). AreCut k (and_next ps x)) nil h.cut } in
         (concat (all_lines ps ++ ls), (all_consumed start now (all_lines ps ++ ls) r.ended (is_some r.fault) h.lines (h.lines.not_failed ended)).1, h.lines.all_read ended, parts)
+
+-- ---- whether the stream ends after the parts
+
+pub ends_after : (k : ItemType) (start now : Option (List ℕ)) (ps : List (List Line)) (r : ItemReader) → 0 < length ps → HasParts k start now ps r → (b : Bool) → (b ≡ true → (r.ended ≡ true) × (length (unparsed r.buffer) ≡ 0)) → (b ≡ false → (r.ended ≡ false) ⊎ (0 < length (unparsed r.buffer))) → EndsAfter start now (concat (all_lines ps)) b
+ends_after k start now ps r some (ls, h) true last more =
+    let (ended, none) = last refl in
+    let nil = no_bytes ls (lines_back (all_lines ps) ls h.lines.are) (omega (arith, ap length h.buffers.rest_is)) in
+    let same : concat (all_lines ps ++ ls) ≡ concat (all_lines ps) = ap (λ (x : List Line). concat (all_lines ps ++ x)) nil ∙ ap concat (append-nil (all_lines ps)) in (
+      subst (λ (x : List ℕ). Consumes start now x) same (all_consumed start now (all_lines ps ++ ls) r.ended (is_some r.fault) h.lines (h.lines.not_failed ended)).1,
+      subst (λ (x : List ℕ). AreAll start x) same (h.lines.all_read ended),
+    )
+ends_after k start now ps r some (ls, h) false last more =
+    let rest = concat ls ++ h.lines.lost in
+    let long = length-append (concat ls) h.lines.lost in
+    (rest, left (more refl) long, subst (λ (x : List ℕ). Consumes start now x) (ap (λ (x : List ℕ). x ++ h.lines.lost) (concat-append (all_lines ps) ls) ∙ append_assoc (concat (all_lines ps)) (concat ls) h.lines.lost) h.lines.consumed)
+  where
+    left : (r.ended ≡ false) ⊎ (0 < length (unparsed r.buffer)) → length (concat ls ++ h.lines.lost) ≡ length (concat ls) + length h.lines.lost → 0 < length (concat ls ++ h.lines.lost)
+    left (inr held) long = omega (arith, ap length h.buffers.rest_is)
+    left (inl going) long = positive (length (concat ls)) refl
+      where
+        positive : (n : ℕ) → length (concat ls) ≡ n → 0 < length (concat ls ++ h.lines.lost)
+        positive zero none = (let bad = ap length (h.some going (no_bytes ls (lines_back (all_lines ps) ls h.lines.are) none)) in absurd (omega arith))
+        positive (suc n) some_bytes = omega arith
 
 -- ---- a refused part
 

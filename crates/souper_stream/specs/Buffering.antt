@@ -2,6 +2,7 @@
 use Rattle.std.specs.Prelude.{◌≡◌, ◌⊎◌, ℕ, ◌+◌, ◌-◌, ◌^◌, ◌<◌, ◌≤◌, List, [], ◌++◌, length, take, drop}
 use Rattle.souper_stream.specs.Prelude.{IsOneLine, Before, IsSizeOf, newlines, IsLines}
 use Rattle.souper_stream.specs.declared.buffer.Buffer.{Buffer}
+use Rattle.souper_stream.specs.declared.faults.NotUtf8.{NotUtf8}
 
 -- the last parsed line, if there is one, and the bytes after it
 abbrev pub window : Buffer → List ℕ
@@ -18,6 +19,10 @@ last_part b = take b.last (drop (b.start + b.parsed - b.last) b.bytes.items)
 -- the numbers of bytes and of lines of a text
 abbrev pub Counts : Before → List ℕ → Type 0
 Counts before text = (before.bytes ≡ length text) × (before.lines ≡ newlines text)
+
+-- bytes that are not UTF-8 come after this text of a stream
+abbrev pub IsFaultAfter : List ℕ → NotUtf8 → Type 0
+IsFaultAfter text fault = (fault.line ≡ newlines text + 1) × (fault.offset ≡ length text)
 
 -- The parsed text of a buffer, whole lines that were counted and then at most one line, which is in the buffer; and the bytes after it.
 pub record Buffers (done rest : List ℕ) (b : Buffer) : Type 0 where

@@ -50,6 +50,11 @@ HasParts k start now ps r = (ls : List Line) × HasRead k start now ps ls r.buff
 abbrev pub HasAll : ItemType → Option (List ℕ) → Option (List ℕ) → List (List Line) → Type 0
 HasAll k start now ps = (read : List ℕ) × Consumes start now read × AreAll start read × AreParts k read ps
 
+-- whether the stream ends after this text
+abbrev pub EndsAfter : Option (List ℕ) → Option (List ℕ) → List ℕ → Bool → Type 0
+EndsAfter start now text true = Consumes start now text × AreAll start text
+EndsAfter start now text false = (rest : List ℕ) × (0 < length rest) × Consumes start now (text ++ rest)
+
 -- the same parts were parsed
 abbrev pub KeepsParts : ItemType → Option (List ℕ) → Option (List ℕ) → ItemReader → ItemReader → Type 0
 KeepsParts k before after old new = (start : Option (List ℕ)) (ps : List (List Line)) → HasParts k start before ps old → HasParts k start after ps new

@@ -19,10 +19,10 @@ mod sink;
 mod starts;
 
 pub use cuts::{last_cut, segment_len};
-pub use faults::not_utf8;
+pub use faults::{NotUtf8, not_utf8};
 pub use item::StreamItem;
 pub use lines::lines_len;
-pub use read::{read_chunks_into, read_into};
+pub use read::{read_chunks_into, read_into, read_with};
 pub use reader::ItemReader;
 pub use sink::ChunkSink;
 pub use starts::Start;

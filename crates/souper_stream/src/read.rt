@@ -1,7 +1,9 @@
 //! Reading items from a stream.
-ghost use Rattle.std.specs.Prelude.{◌≡◌, [], IfErr, OnOk, map, option_copied};
+ghost use Rattle.std.specs.Prelude.{◌≡◌, ℕ, List, [], ◌∷◌, ◌++◌, Option, IfErr, OnOk, map, option_copied};
 ghost use Rattle.std.specs.List.{AllByRecursion};
 ghost use Rattle.souper_stream.specs.Prelude.{WellFormed, kind_of, TakesOver};
+ghost use Rattle.souper_stream.specs.Segments.{Line};
+ghost use Rattle.souper_stream.specs.Parts.{HasParts};
 ghost use Rattle.souper_stream.specs.Reading.{IsStreamTaken, IsStreamRefused};
 
 use crate::item::StreamItem;
@@ -80,18 +82,19 @@ fn pass_on<T: WholeItem + Drop, S: Sink<T>>(
     Ok(())
 }
 
-/// [`read_into`] with an [`ItemReader`] of the chunk size `min_chunk`, in bytes.
-pub fn read_chunks_into<T: StreamItem + Drop, R: BufRead, S: Sink<T>>(
+/// [`read_into`] with an [`ItemReader`] at the start of the stream.
+pub fn read_with<T: StreamItem + Drop, R: BufRead, S: Sink<T>>(
     alloc: Global,
-    min_chunk: usize,
+    parts: &mut ItemReader,
     reader: &mut R,
     filename: Option<&str>,
     sink: &mut S,
 ) -> Result<()>
+    requires begins { (start : Option (List ℕ)) → HasParts T.item_type start start [] parts.old }
     ensures taken { OnOk result (IsStreamTaken T.item_type (R.remaining reader.old) (R.remaining reader.new) S.holds sink.old sink.new) }
     ensures refused { IfErr result (λ e. kind_of e ≡ ParseErrorKind.Parse → IsStreamRefused T.item_type (option_copied filename.entry) (R.remaining reader.old) (R.remaining reader.new) S.holds sink.old sink.new e) }
+    ensures had { IfErr result (λ e. kind_of e ≡ ParseErrorKind.Parse → (ps : List (List Line)) × (part : List Line) × HasParts T.item_type (R.remaining reader.old) (R.remaining reader.new) (ps ++ part ∷ []) parts.new) }
 {
-    let mut parts = ItemReader::new(alloc, min_chunk);
     let mut pending = Pending {
         items: Vec::new(alloc),
     };
@@ -109,4 +112,19 @@ pub fn read_chunks_into<T: StreamItem + Drop, R: BufRead, S: Sink<T>>(
         }
     }
     Err(ParseError::from(io::Error::from(ErrorKind::Other)))
+}
+
+/// [`read_into`] with an [`ItemReader`] of the chunk size `min_chunk`, in bytes.
+pub fn read_chunks_into<T: StreamItem + Drop, R: BufRead, S: Sink<T>>(
+    alloc: Global,
+    min_chunk: usize,
+    reader: &mut R,
+    filename: Option<&str>,
+    sink: &mut S,
+) -> Result<()>
+    ensures taken { OnOk result (IsStreamTaken T.item_type (R.remaining reader.old) (R.remaining reader.new) S.holds sink.old sink.new) }
+    ensures refused { IfErr result (λ e. kind_of e ≡ ParseErrorKind.Parse → IsStreamRefused T.item_type (option_copied filename.entry) (R.remaining reader.old) (R.remaining reader.new) S.holds sink.old sink.new e) }
+{
+    let mut parts = ItemReader::new(alloc, min_chunk);
+    read_with::<T, R, S>(alloc, &mut parts, reader, filename, sink)
 }

@@ -5,13 +5,13 @@ ghost use Rattle.std.specs.IoError.{error_kind};
 ghost use Rattle.souper_stream.specs.Prelude.{ItemType, Item, IsStrError, kind_of, offset_of, HasLocationAfter, IsLocatedAfter, EndsIn, TakesOver, TakesFrom, TextSpellsFrom, PrefixSpellsFrom, HasStarts, starts_of};
 ghost use Rattle.souper_stream.specs.Starts.{Ascend};
 ghost use Rattle.souper_stream.specs.Buffering.{window, unparsed, KeepsWindow};
-ghost use Rattle.souper_stream.specs.Segments.{Line};
+ghost use Rattle.souper_stream.specs.Segments.{Line, concat, all_lines};
 ghost use Rattle.souper_stream.specs.Reading.{ReadsBytes};
-ghost use Rattle.souper_stream.specs.Parts.{Advances, KeepsParts, HasParts, HasAll, Holds, part_of, keeps_starts, starts_of_part, ReadsOn, TakesPart, RefusesPart};
+ghost use Rattle.souper_stream.specs.Parts.{Advances, KeepsParts, HasParts, HasAll, Holds, EndsAfter, part_of, keeps_starts, starts_of_part, ReadsOn, TakesPart, RefusesPart};
 
 use crate::buffer::Buffer;
 use crate::cuts::{last_cut, segment_len};
-use crate::faults::not_utf8;
+use crate::faults::{NotUtf8, not_utf8};
 use crate::item::StreamItem;
 use crate::lines::{lines_len, utf8};
 use crate::sink::ChunkSink;
@@ -86,12 +86,12 @@ fn fill_lines<R: BufRead>(reader: &mut R, bytes: &mut Vec<u8>, goal: usize) -> i
     read_line(reader, bytes)
 }
 
-// The fault of the first `len` unparsed bytes, which are not UTF-8.
+// The error of the first `len` unparsed bytes, which are not UTF-8.
 fn not_text(buffer: &Buffer, len: usize) -> io::Error
     requires { buffer.now.start + buffer.now.parsed + len ≤ vec_len buffer.now.bytes }
     ensures { error_kind result ≡ ErrorKind.InvalidData }
 {
-    not_utf8(buffer.passed(), &buffer.unparsed()[..len])
+    not_utf8(buffer.passed(), &buffer.unparsed()[..len]).to_error()
 }
 
 /// Reads a stream part by part.
@@ -189,6 +189,28 @@ impl ItemReader {
     {
         let end = self.buffer.start + self.buffer.parsed;
         &self.buffer.bytes[end - self.buffer.last..end]
+    }
+
+    /// Whether the stream has ended after the last part.
+    #[tactic(auto, using(crate::proofs::Passing::ends_after))]
+    pub fn is_at_end(&self) -> bool
+        requires { (k : ItemType) × (start : Option (List ℕ)) × (now : Option (List ℕ)) × (ps : List (List Line)) × HasParts k start now ps self.now }
+        ensures { (k : ItemType) (start : Option (List ℕ)) (now : Option (List ℕ)) (ps : List (List Line)) → 0 < length ps → HasParts k start now ps self.now → EndsAfter start now (concat (all_lines ps)) result }
+    {
+        self.ended && self.buffer.unparsed().is_empty()
+    }
+
+    /// Where the bytes that were read are not UTF-8, after [`read_part`](ItemReader::read_part) has returned `Io`; none if a read failed.
+    pub fn not_utf8(&self) -> Option<NotUtf8> {
+        let start = self.buffer.start.saturating_add(self.buffer.parsed);
+        let bytes = self
+            .buffer
+            .bytes
+            .get(start..start.saturating_add(self.rejected))?;
+        match utf8(bytes) {
+            Ok(_) => None,
+            Err(_) => Some(not_utf8(self.buffer.passed(), bytes)),
+        }
     }
 
     // Reads until `goal` bytes are buffered, if the stream has not ended. The error of a read that fails is returned by the next call, after

@@ -65,7 +65,7 @@ a.opt:17:7: no value named '%d' in scope
      |
   17 | infer %d
      |       ^
-a.opt:19:6: unexpected EOF
+a.opt:19:6: unexpected end of item
      |
   19 | infer
      |      ^

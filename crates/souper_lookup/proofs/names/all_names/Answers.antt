@@ -1,11 +1,11 @@
-use Rattle.std.proofs.Common.{List, map, take, sym, ap, ◌∙◌, arith}
-use Rattle.std.specs.Prelude.{bytes_eq}
+use Rattle.std.proofs.Common.{ℕ, ◌≤◌, List, length, map, take, sym, ap, subst, ◌∙◌, arith}
+use Rattle.std.specs.Prelude.{bytes_eq, Some}
 use Rattle.std.specs.List.{list_any}
-use Rattle.std.proofs.lemmas.List.{length-map}
-use Rattle.std.specs.String.{string_bytes}
-use Rattle.souper_graph.specs.Text.{name_at}
+use Rattle.std.proofs.lemmas.List.{length-map, take_all}
+use Rattle.souper_graph.specs.Text.{name_of, name_at}
+use Rattle.souper_graph.specs.Values.{PlainStatement}
 use Rattle.souper_graph.specs.View.{view_statement}
-use Rattle.souper_lookup.specs.Instance.{names_of_all}
+use Rattle.souper_lookup.specs.Instance.{names_of_all, IsSetOf}
 use Rattle.souper_lookup.proofs.Fresh.{taken-more, all-more}
 use Rattle.souper_lookup.proofs.names.all_names.Goals as goal
 
@@ -16,8 +16,16 @@ loop-index-preserved c = λ t.
     let long = length-map c.args.statements.now view_statement in
     let test = c.loop-index-test.true in
     let len = c.len-index-end.ensures in
-    taken-more (take i (names_of_all ss)) c.loop-index.taken.keys c.insert.new.self.keys c.in_ok-name_of.field-0 (name_at ss i) c.loop-index.invariant c.in_ok-insert.ensures.keys c.in_ok-name_of.ensures t
+    taken-more (take i (names_of_all ss)) c.loop-index.taken c.insert.new.self c.in_ok-name_of.field-0 (name_at ss i) c.loop-index.invariant c.in_ok-insert.ensures.updates c.in_ok-name_of.ensures t
     ∙ ap (λ (z : List _). list_any (bytes_eq t) z) (sym (all-more ss i (omega arith)))
 
 pub returns : goal.returns
-returns c = ?
+returns c =
+    let ss = map view_statement c.args.statements.now in
+    let i = c.loop-index.index in
+    let long = length-map c.args.statements.now view_statement in
+    let named = length-map ss (λ (s : PlainStatement). name_of (Some s)) in
+    let test = c.loop-index-test.false in
+    let len = c.len-index-end.ensures in
+    let all : length (names_of_all ss) ≤ i = omega arith in
+    subst (λ (z : List (List ℕ)). IsSetOf z c.loop-index.taken) (take_all (names_of_all ss) i all) c.loop-index.invariant

@@ -1,7 +1,7 @@
 use Rattle.std.proofs.Common.{inr, refl}
 use Rattle.souper_records.proofs.Prelude.{stream, texts_of}
 use Rattle.souper_records.proofs.Outcomes.{parts_mapped, none_reported}
-use Rattle.souper_records.proofs.Checking.{checked_parts, check_other, check_memory, check_stopped}
+use Rattle.souper_records.proofs.Checking.{checked_parts, check_other, check_memory, check_fault}
 use Rattle.souper_records.proofs.check.check_run.Goals as goal
 
 pub returns-in-Ok-true : goal.returns-in-Ok-true
@@ -23,11 +23,11 @@ returns-in-Ok-false g c =
 pub returns-in-Err-Input : goal.returns-in-Err-Input
 returns-in-Err-Input g c =
     let e = rw (c.new-source.ensures.options, c.in-Err-Input.field-0-is) at c.in-Err-Input.ensures.returned in
-    let quiet = none_reported _ (stream g.E.Write.contents c.args.err.now c.write_parts.new.err) e.0.0 e.0.1.1.are (e.0.2 refl) e.0.3 in
-    check_stopped g.E.Write.contents c.args.err.now c.write_parts.new.err c.report_error.new.err quiet g.T.Item.item_type c.args.name.now (g.R.Read.remaining c.args.reader.now) (g.R.Read.remaining c.write_parts.new.reader) c.in-Err-Input.error c.report_error.result e.1 c.report_error.ensures.reported
+    let quiet = none_reported _ (stream g.E.Write.contents c.args.err.now c.write_parts.new.err) e.0 e.1.1.are (e.2 refl) e.3 in
+    check_fault g.E.Write.contents c.args.err.now c.write_parts.new.err c.report_read_fault.new.err quiet g.T.Item.item_type c.args.name.now (g.R.Read.remaining c.args.reader.now) (g.R.Read.remaining c.write_parts.new.reader) c.in-Err-Input.fault c.report_read_fault.ensures.reported
 
 pub returns : goal.returns
 returns g c =
     let e = rw (c.new-source.ensures.options) at c.in-Err.ensures.returned in
-    let quiet = none_reported _ (stream g.E.Write.contents c.args.err.now c.write_parts.new.err) e.0.0 e.0.1.1.are (e.0.2 refl) e.0.3 in
+    let quiet = none_reported _ (stream g.E.Write.contents c.args.err.now c.write_parts.new.err) e.0 e.1.1.are (e.2 refl) e.3 in
     check_memory g.E.Write.contents c.args.err.now c.write_parts.new.err c.report_memory.new.err quiet g.T.Item.item_type c.args.name.now (g.R.Read.remaining c.args.reader.now) (g.R.Read.remaining c.write_parts.new.reader) c.report_memory.ensures.reported

@@ -1,7 +1,8 @@
-use Rattle.std.proofs.Common.{◌≡◌, ◌||◌, false, List, [], refl, sym, ap, ◌∙◌, rules}
+use Rattle.std.proofs.Common.{◌≡◌, ◌||◌, false, List, [], refl, sym, ap, ◌∙◌}
 use Rattle.std.proofs.KnownBytes.{Keeps-refl}
 use Rattle.souper_records.proofs.Prelude.{keeps_starts, watched_inner, has_failed}
 use Rattle.souper_records.specs.declared.stop.Stop.TheVariants.{Input}
+use Rattle.souper_records.specs.declared.stop.ReadFault.TheVariants.{Io}
 use Rattle.souper_records.specs.Outcomes.{Outcome, WroteParts}
 use Rattle.souper_records.specs.declared.options.ReadOptions.{ReadOptions}
 use Rattle.souper_records.proofs.Outcomes.{reached_more, reached_refusal, reached_end, stopped_after, known_mapped}
@@ -37,7 +38,7 @@ returns-in-Err-clause-returned g c =
     let i = c.loop-turn.invariant in
     let e = c.in-Err.ensures in
     let known : List Outcome → Type 0 = λ os. (s : _) × WroteParts g.T.Item.item_type (keeps_starts c.args.source.parts) (g.S.PartSink.wrote c.args.source.options.name.now c.args.sink.now (g.W.Write.contents (watched_inner c.args.out.now)) s (g.W.Write.contents (watched_inner c.write_next.new.out))) os in
-    rw e.stopped (stopped_after i.reached i.quiet known _ c.in-Err.stop (known_mapped c.in-Err.stop _ _ _ (λ same. (c.loop-turn.sink, (rw same i.reached.written, i.reached.started))) e.unwritten), e.input)
+    rw e.stopped (stopped_after i.reached i.quiet known _ c.in-Err.stop (known_mapped c.in-Err.stop _ _ _ (λ same. (c.loop-turn.sink, (rw same i.reached.written, i.reached.started))) e.unwritten))
 
 pub loop-turn-preserved : goal.loop-turn-preserved
 loop-turn-preserved g c =
@@ -61,4 +62,4 @@ pub returns-clause-returned : goal.returns-clause-returned
 returns-clause-returned g c =
     let i = c.loop-turn.invariant in
     let known : List Outcome → Type 0 = λ os. (s : _) × WroteParts g.T.Item.item_type (keeps_starts c.args.source.parts) (g.S.PartSink.wrote c.args.source.options.name.now c.args.sink.now (g.W.Write.contents (watched_inner c.args.out.now)) s (g.W.Write.contents (watched_inner c.loop-turn.out))) os in
-    (stopped_after i.reached i.quiet known (has_failed c.loop-turn.out) (Input c.from.result) (c.loop-turn.sink, (i.reached.written, i.reached.started)), search rules)
+    stopped_after i.reached i.quiet known (has_failed c.loop-turn.out) (Input (Io c.from-fault.result)) (c.loop-turn.sink, (i.reached.written, i.reached.started))

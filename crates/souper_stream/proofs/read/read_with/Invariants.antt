@@ -1,7 +1,7 @@
 -- The parts read so far: their items were passed to the sink.
 use Rattle.std.proofs.Common.{◌≡◌, []}
 use Rattle.souper_stream.proofs.Reached.{Reached}
-use Rattle.souper_stream.proofs.read.read_chunks_into.Given as goal
+use Rattle.souper_stream.proofs.read.read_with.Given as goal
 
 abbrev pub invariant-loop-turn : goal.invariant-loop-turn
 invariant-loop-turn g l = record {

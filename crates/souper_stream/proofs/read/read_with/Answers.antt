@@ -1,9 +1,9 @@
 use Rattle.std.proofs.Common.{sym, ap, map}
 use Rattle.souper_stream.proofs.Reached.{reached_none, reached_more, reached_end, reached_refusal}
-use Rattle.souper_stream.proofs.read.read_chunks_into.Goals as goal
+use Rattle.souper_stream.proofs.read.read_with.Goals as goal
 
 pub loop-turn-init : goal.loop-turn-init
-loop-turn-init g c = record { reached = reached_none _ _ _ _ _ (c.new-parts.ensures.begins _ _); none = c.new.ensures.items }
+loop-turn-init g c = record { reached = reached_none _ _ _ _ _ (c.requires.begins _); none = c.new.ensures.items }
 
 pub pass_on-requires : goal.pass_on-requires
 pass_on-requires g c =
@@ -34,3 +34,9 @@ pub returns-in-Parse-clause-refused : goal.returns-in-Parse-clause-refused
 returns-in-Parse-clause-refused g c = λ kind.
     let r = c.loop-turn.invariant.reached in
     reached_refusal _ _ _ _ _ _ _ _ _ _ _ _ _ _ _ _ r (c.in-Err.ensures.refused kind _ r.parts r.had) (λ h. h.0) (ap (map g.T.Item.view) c.loop-turn.invariant.none, tt) c.in_ok-pass_on-in-Parse.ensures.taken
+
+pub returns-in-Parse-clause-had : goal.returns-in-Parse-clause-had
+returns-in-Parse-clause-had g c = λ kind.
+    let r = c.loop-turn.invariant.reached in
+    let t = c.in-Err.ensures.refused kind _ r.parts r.had in
+    (r.parts, t.part, t.goes_on)
