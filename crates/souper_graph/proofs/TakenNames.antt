@@ -1,17 +1,17 @@
 -- What a builder knows of the names of its statements, as names are looked at and statements appended.
 use Rattle.std.proofs.Common.{◌≡◌, ℕ, zero, suc, ◌+◌, ◌<◌, ◌≤◌, ◌^◌, ◌++◌, ◌⊎◌, inl, inr, length, map, List, [], ◌∷◌, Bool, true, false, Global, Result, Ok, Err, refl, sym, ap, ◌∙◌, subst, arith}
-use Rattle.std.specs.Prelude.{String, bytes_eq, cond, IfOk, OnErr, OnOk, slice_get, Some}
+use Rattle.std.specs.Prelude.{String, bytes_eq, cond, IfOk, OnErr}
 use Rattle.std.specs.BTreeSet.{BTreeSet, contains_text, Updates, IsEmpty}
 use Rattle.std.specs.String.{string_bytes, string_cmp}
 use Rattle.std.proofs.lemmas.Bool.{cases_lt, both_ways}
-use Rattle.std.proofs.lemmas.List.{length-map, map-append, length_push}
+use Rattle.std.proofs.lemmas.List.{map-append, length_push}
 use Rattle.std.proofs.lemmas.Map.Text.{btree_set_updates_text}
 use Rattle.std.proofs.lemmas.Slice.Eq.{bytes_eq-Decides}
 use Rattle.souper_graph.specs.declared.ast.statements.Statement.{Statement}
 use Rattle.souper_graph.specs.declared.ast.taken_names.TakenNames.{TakenNames}
 use Rattle.souper_graph.specs.Values.{PlainStatement}
 use Rattle.souper_graph.specs.View.{view_statement}
-use Rattle.souper_graph.specs.Text.{name_of, name_at}
+use Rattle.souper_graph.specs.Text.{name_at}
 use Rattle.souper_graph.specs.Renaming.{name_of_index}
 use Rattle.souper_graph.specs.Building.{IsNameAmong, IsFirstFree}
 use Rattle.souper_graph.specs.TakenNames.{Knows}

@@ -1,6 +1,5 @@
-use Rattle.std.proofs.Common.{◌≡◌, List, ℕ, true, ◌⊎◌, inl, inr, sym, ap, ◌∙◌, subst}
+use Rattle.std.proofs.Common.{◌≡◌, List, ℕ, true, ◌⊎◌, inl, subst}
 use Rattle.std.specs.BTreeSet.{contains_text}
-use Rattle.std.specs.String.{string_bytes}
 use Rattle.souper_graph.proofs.TakenNames.{inserted-kept, inserted-only, inserted-has}
 use Rattle.souper_graph.proofs.ast.taken_names.enter.Goals as goal
 

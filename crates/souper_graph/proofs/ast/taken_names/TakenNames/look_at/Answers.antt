@@ -1,4 +1,4 @@
-use Rattle.std.proofs.Common.{map, length, arith, rules}
+use Rattle.std.proofs.Common.{map, arith, rules}
 use Rattle.std.proofs.lemmas.List.{length-map}
 use Rattle.std.specs.String.{string_bytes}
 use Rattle.souper_graph.specs.View.{view_statement}

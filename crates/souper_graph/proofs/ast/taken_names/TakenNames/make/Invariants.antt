@@ -1,4 +1,4 @@
-use Rattle.std.proofs.Common.{◌≡◌, ℕ, ◌<◌, ◌≤◌, map, length}
+use Rattle.std.proofs.Common.{ℕ, ◌<◌, ◌≤◌, map, length}
 use Rattle.souper_graph.specs.View.{view_statement}
 use Rattle.souper_graph.specs.Renaming.{name_of_index}
 use Rattle.souper_graph.specs.Building.{IsNameAmong}
