@@ -1,5 +1,4 @@
-use Rattle.std.proofs.Common.{◌≡◌, refl, ℕ, ◌≤◌, ◌^◌, pos, ap, sym, ◌∙◌, arith, rules}
-use Rattle.std.specs.Int.{int_rem_euclid}
+use Rattle.std.proofs.Common.{arith, rules}
 use Rattle.std.proofs.lemmas.Int.{ints, to_z-of_z}
 use Rattle.examples_using.proofs.Wrapping.{power-fits, not-below, below}
 use Rattle.examples_using.proofs.folding.wrapped.Goals as goal
