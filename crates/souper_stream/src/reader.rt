@@ -192,7 +192,6 @@ impl ItemReader {
     }
 
     /// Whether the stream has ended after the last part.
-    #[tactic(auto, using(crate::proofs::Passing::ends_after))]
     pub fn is_at_end(&self) -> bool
         requires { (k : ItemType) × (start : Option (List ℕ)) × (now : Option (List ℕ)) × (ps : List (List Line)) × HasParts k start now ps self.now }
         ensures { (k : ItemType) (start : Option (List ℕ)) (now : Option (List ℕ)) (ps : List (List Line)) → 0 < length ps → HasParts k start now ps self.now → EndsAfter start now (concat (all_lines ps)) result }

@@ -16,7 +16,7 @@ loop-index-preserved c = λ t.
     let long = length-map c.args.statements.now view_statement in
     let test = c.loop-index-test.true in
     let len = c.len-index-end.ensures in
-    taken-more (take i (names_of_all ss)) c.loop-index.taken c.insert.new.self c.in_ok-name_of.field-0 (name_at ss i) c.loop-index.invariant c.in_ok-insert.ensures.updates c.in_ok-name_of.ensures t
+    taken-more (take i (names_of_all ss)) c.loop-index.taken c.insert.new.self c.in_ok-name_of.field-0 (name_at ss i) c.loop-index.invariant c.in_ok-insert.ensures.updates (c.in_ok-name_of.ensures ∙ ap (name_at ss) c.at.ensures) t
     ∙ ap (λ (z : List _). list_any (bytes_eq t) z) (sym (all-more ss i (omega arith)))
 
 pub returns : goal.returns
@@ -28,4 +28,4 @@ returns c =
     let test = c.loop-index-test.false in
     let len = c.len-index-end.ensures in
     let all : length (names_of_all ss) ≤ i = omega arith in
-    subst (λ (z : List (List ℕ)). IsSetOf z c.loop-index.taken) (take_all (names_of_all ss) i all) c.loop-index.invariant
+    subst (λ (z : List (List ℕ)). IsSetOf z c.loop-index.taken) (take_all i (names_of_all ss) all) c.loop-index.invariant
