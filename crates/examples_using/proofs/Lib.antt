@@ -5,3 +5,4 @@ mod Reports
 pub mod RoundTrips
 mod Sums
 mod Terms
+mod Wrapping

@@ -1,13 +1,22 @@
 //! A pass over an item: the uses of a sum of two constants become that constant.
-ghost use Rattle.std.specs.Prelude.{◌≡◌, true, false, length, IfSome, IfNone};
+ghost use Rattle.std.specs.Prelude.{◌≡◌, ◌≤◌, ◌^◌, ◌≤ℤ◌, ◌<ℤ◌, pos, true, false, length, IfSome, IfNone};
 ghost use Rattle.souper_graph.specs.declared.ast.operands.Constant.{Constant as ConstantNode};
 ghost use Rattle.souper_graph.specs.View.{view_rhs};
-ghost use Rattle.examples_using.specs.Folding.{IsWrappedSum, IsSum, IsFolded, IsKept, FoldsUpTo};
+ghost use Rattle.examples_using.specs.Folding.{wrapped, IsWrappedSum, IsSum, IsFolded, IsKept, FoldsUpTo};
 
 use souper_ir::ast::{AssignmentRhs, Constant, Id, Instruction, Item, Operand, ValueId};
 
-// The sum of constants of one type, which wraps around at the width: a number from 0 on. None without types, for two types, and for a width
-// above 126, since an `i128` is to have the sum of two such numbers.
+// The number modulo 2 to the width, from 0 on. An `i128` has the sum of two such numbers.
+fn wrapped(value: i128, width: u16) -> i128
+    requires { width ≤ 126 }
+    ensures value { result ≡ wrapped width value }
+    ensures low { pos 0 ≤ℤ result }
+    ensures high { result <ℤ pos (2 ^ 126) }
+{
+    value.rem_euclid(2_i128.pow(u32::from(width)))
+}
+
+// The sum of constants of one type, which wraps around at the width. None without types, for two types, and for a width above 126.
 fn wrapped_sum(a: Constant, b: Constant) -> Option<Constant>
     ensures some { IfSome result (IsWrappedSum a b) }
     ensures none { IfNone result ((c : ConstantNode) → IsWrappedSum a b c → ⊥) }
@@ -16,10 +25,9 @@ fn wrapped_sum(a: Constant, b: Constant) -> Option<Constant>
     if b.ty != Some(ty) || ty.width > 126 {
         return None;
     }
-    let modulus = 2_i128.pow(u32::from(ty.width));
-    let sum = a.value.rem_euclid(modulus) + b.value.rem_euclid(modulus);
+    let sum = wrapped(a.value, ty.width) + wrapped(b.value, ty.width);
     Some(Constant {
-        value: sum.rem_euclid(modulus),
+        value: wrapped(sum, ty.width),
         ty: Some(ty),
     })
 }

@@ -18,10 +18,10 @@ returns c =
     let y-attributes = map view_attribute c.new-2.result.items in
     let is-x : x.0 ≡ codes "%x" = x.1 ∙ c.in_ok-name.ensures.ok in
     let first : map view_statement c.assignment.new.self ≡ named i32 var x-attributes (codes "%x") ∷ [] =
-        rw (x.2, c.new-builder.ensures, is-x) refl in
+    rw (x.2, c.new-builder.ensures, is-x) refl in
     let is-y : y.0 ≡ name_of_index 1 = second-name i32 var x-attributes y.0 (subst (λ (ss : List PlainStatement). IsFirstFree ss y.0) first y.1) in
     let second : map view_statement c.assignment-2.new.self ≡ named i32 var x-attributes (codes "%x") ∷ named None y-value y-attributes (name_of_index 1) ∷ [] =
-        rw (y.2, first, is-y) refl in
+    rw (y.2, first, is-y) refl in
     let is-z : z.0 ≡ name_of_index 2 = third-name i32 var x-attributes None y-value y-attributes z.0 (subst (λ (ss : List PlainStatement). IsFirstFree ss z.0) second z.1) in
     let one : length c.assignment.new.self ≡ 1 = how-many c.assignment.new.self (named i32 var x-attributes (codes "%x") ∷ []) first in
     let two : length c.assignment-2.new.self ≡ 2 = how-many c.assignment-2.new.self (named i32 var x-attributes (codes "%x") ∷ named None y-value y-attributes (name_of_index 1) ∷ []) second in
