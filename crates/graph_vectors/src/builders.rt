@@ -120,6 +120,29 @@ fn unnamed_value_may_take_a_name_that_is_there(rt: HostRuntime) {
     item_is(&rt, alloc, item, text, false);
 }
 
+#[test]
+fn free_name_is_the_first_that_no_statement_has(rt: HostRuntime) {
+    let alloc = rt.alloc();
+    let item = unnamed_root(&rt, alloc, false);
+    let mut builder = LeftHandSideBuilder::from(item);
+    let free = builder.free_name().expect(&rt, "memory");
+    assert_eq!(&rt; free.as_str(), "%2");
+    let var = AssignmentRhs::Var;
+    builder
+        .assignment(name(&rt, alloc, "%4"), None, var, Vec::new(alloc))
+        .expect(&rt, "memory");
+    let free = builder.free_name().expect(&rt, "memory");
+    assert_eq!(&rt; free.as_str(), "%3");
+    let var = AssignmentRhs::Var;
+    let root = builder
+        .assignment(Some(free), None, var, Vec::new(alloc))
+        .expect(&rt, "memory");
+    let free = builder.free_name().expect(&rt, "memory");
+    assert_eq!(&rt; free.as_str(), "%5");
+    let item = builder.finish(root, Vec::new(alloc));
+    item_is(&rt, alloc, item, "%3 = var\ninfer %3\n", true);
+}
+
 // A builder of an unnamed variable, an unnamed block, a path condition and a named block, with the variable and the blocks.
 fn grown(rt: &impl Abort, alloc: Global) -> (ReplacementBuilder, ValueId, [BlockId; 2]) {
     let mut builder = ReplacementBuilder::new(alloc);

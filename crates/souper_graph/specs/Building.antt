@@ -1,5 +1,5 @@
 -- Definitions. What the builders append to their arenas, and what they require.
-use Rattle.std.specs.Prelude.{◌≡◌, ℕ, ◌<◌, ◌≤◌, List, [], ◌∷◌, ◌++◌, map, length, Option, Some, None, slice_get}
+use Rattle.std.specs.Prelude.{◌≡◌, ℕ, ◌<◌, ◌≤◌, List, [], ◌∷◌, ◌++◌, map, length, codes, decimal, Option, Some, None, slice_get}
 use Rattle.std.specs.declared.alloc.Global.{Global}
 use Rattle.std.specs.declared.string.String.{String}
 use Rattle.std.specs.String.{string_bytes}
@@ -29,19 +29,18 @@ pub record IsFirstFree (ss : List PlainStatement) (t : List ℕ) : Type 0 where
   pub free : IsNameAmong ss t → ⊥
   pub least : (j : ℕ) → length ss ≤ j → j < number → IsNameAmong ss (name_of_index j)
 
--- the given name; without one, the first that is free
-abbrev pub IsChosenName : Option (String Global) → List PlainStatement → List ℕ → Type 0
-IsChosenName None ss t = IsFirstFree ss t
-IsChosenName (Some name) ss t = t ≡ string_bytes name
+-- the given name, or `%` and the number in decimal
+abbrev pub chosen_name : Option (String Global) → ℕ → List ℕ
+chosen_name None n = codes "%" ++ decimal n
+chosen_name (Some name) n = string_bytes name
+
+-- the assignment that is appended to n statements
+abbrev pub added_assignment : Option (String Global) → ℕ → Option Ty → PlainRhs → List PlainAttribute → PlainStatement
+added_assignment name n ty value attributes = assigned (record { name = chosen_name name n; ty = ty; value = value; attributes = attributes })
 
 -- the new statements are the old ones with this one after them
 abbrev pub Appends : List Statement → List Statement → PlainStatement → Type 0
 Appends old new s = map view_statement new ≡ map view_statement old ++ s ∷ []
-
--- the new statements are the old ones with this assignment after them
-abbrev pub AppendsAssignment : List Statement → List Statement → Option (String Global) → Option Ty → PlainRhs → List PlainAttribute → Type 0
-AppendsAssignment old new name ty value attributes = (t : List ℕ) × IsChosenName name (map view_statement old) t
-    × Appends old new (assigned (record { name = t; ty = ty; value = value; attributes = attributes }))
 
 abbrev pub statements_of : Replacement → List Statement
 statements_of (LhsRhs ss l r) = ss

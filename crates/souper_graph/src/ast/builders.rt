@@ -9,7 +9,7 @@ ghost use Rattle.souper_graph.specs.Values.{block, condition, block_condition};
 ghost use Rattle.souper_graph.specs.View.{view_attribute, view_rhs, view_statement};
 ghost use Rattle.souper_graph.specs.Faults.{IsAssigned, IsBlock};
 ghost use Rattle.souper_graph.specs.WellFormed.{predecessors_at};
-ghost use Rattle.souper_graph.specs.Building.{BeginsWithPercent, IsChosenName, Appends, AppendsAssignment, statements_of};
+ghost use Rattle.souper_graph.specs.Building.{BeginsWithPercent, IsFirstFree, chosen_name, added_assignment, Appends, statements_of};
 ghost use Rattle.souper_graph.specs.TakenNames.{Knows};
 
 use crate::ast::arenas::Arena;
@@ -54,18 +54,13 @@ impl<K> Model for Builder<K> {
     ghost invariant = { λ builder. Knows (map view_statement builder.statements) builder.taken };
 }
 
-// The name that is given, or one that no statement has.
-fn name_or_free(
-    name: Option<String>,
-    statements: &Arena<Statement>,
-    taken: &mut TakenNames,
-) -> Result<String, AllocError>
-    ensures kept { Knows (map view_statement statements.now) taken.old → Knows (map view_statement statements.now) taken.new }
-    ensures chosen { Knows (map view_statement statements.now) taken.old → IfOk result (λ chosen. IsChosenName name (map view_statement statements.now) (string_bytes chosen)) }
+// The name that is given, or `%` and the count.
+fn name_or_count(alloc: Global, name: Option<String>, count: usize) -> Result<String, AllocError>
+    ensures { IfOk result (λ chosen. string_bytes chosen ≡ chosen_name name count) }
 {
     match name {
         Some(name) => Ok(name),
-        None => taken.make(statements),
+        None => format!(in alloc; "%{count}"),
     }
 }
 
@@ -90,10 +85,22 @@ impl<K> Builder<K> {
         Arena::new(alloc).into()
     }
 
+    /// A name that no statement has: `%` and the first number, from the number of statements on, that names none of them.
+    ///
+    /// It stays free until a statement has it. The calls for the statements of a builder take time in proportion to their number. If
+    /// memory runs out, the statements are unchanged.
+    pub fn free_name(&mut self) -> Result<String, AllocError>
+        ensures free { IfOk result (λ name. IsFirstFree (map view_statement self.old) (string_bytes name)) }
+        ensures same { self.new ≡ self.old }
+    {
+        self.taken.make(&self.statements)
+    }
+
     /// Appends an assignment and returns the id of its value.
     ///
-    /// A given name has to begin with `%`. Without one, the name is `%` and the number of statements before it, or the next number that
-    /// names none of them. If memory runs out, the statements are unchanged.
+    /// A given name has to begin with `%`. Without one, the name is `%` and the number of statements before it, whether or not it is
+    /// taken: among statements with names of other numbers, or after an item, give it a [`free_name`](Self::free_name). If memory runs
+    /// out, the builder is unchanged.
     pub fn assignment(
         &mut self,
         name: Option<String>,
@@ -103,10 +110,10 @@ impl<K> Builder<K> {
     ) -> Result<ValueId, AllocError>
         requires { BeginsWithPercent name }
         ensures position { IfOk result (λ id. id ≡ length self.old) }
-        ensures grows { OnOk result (AppendsAssignment self.old self.new name ty (view_rhs value) (map view_attribute attributes.items)) }
+        ensures grows { OnOk result (Appends self.old self.new (added_assignment name (length self.old) ty (view_rhs value) (map view_attribute attributes.items))) }
         ensures err { OnErr result (self.new ≡ self.old) }
     {
-        let name = name_or_free(name, &self.statements, &mut self.taken)?;
+        let name = name_or_count(self.statements.allocator(), name, self.statements.len())?;
         let assignment = Assignment {
             name,
             ty,
@@ -119,12 +126,12 @@ impl<K> Builder<K> {
 
     /// Appends the assignment of a block and returns the block's id.
     ///
-    /// `predecessors` is the block's number of predecessors. A given name has to begin with `%`. Without one, the name is chosen as
-    /// [`assignment`](Self::assignment) says. If memory runs out, the statements are unchanged.
+    /// `predecessors` is the block's number of predecessors. A given name has to begin with `%`. Without one, the name is `%` and the
+    /// number of statements before it, as [`assignment`](Self::assignment) says. If memory runs out, the builder is unchanged.
     pub fn block(&mut self, name: Option<String>, predecessors: u32) -> Result<BlockId, AllocError>
         requires { BeginsWithPercent name }
         ensures position { IfOk result (λ id. id ≡ length self.old) }
-        ensures grows { OnOk result (AppendsAssignment self.old self.new name None (block (record { predecessors = predecessors })) []) }
+        ensures grows { OnOk result (Appends self.old self.new (added_assignment name (length self.old) None (block (record { predecessors = predecessors })) [])) }
         ensures err { OnErr result (self.new ≡ self.old) }
     {
         let value = Block { predecessors }.into();

@@ -1,35 +1,29 @@
-use Rattle.std.proofs.Common.{◌≡◌, ℕ, List, [], ◌∷◌, ◌++◌, map, length, Some, None, refl, ◌∙◌, subst}
-use Rattle.std.specs.Prelude.{codes}
-use Rattle.souper_graph.specs.Building.{IsFirstFree}
+use Rattle.std.proofs.Common.{◌≡◌, length, [], ◌∷◌, ◌++◌, map, Some, None, refl, ap}
+use Rattle.souper_graph.specs.Building.{added_assignment}
 use Rattle.souper_graph.specs.View.{view_statement, view_rhs, view_attribute}
-use Rattle.souper_graph.specs.Values.{PlainStatement, var}
-use Rattle.souper_graph.specs.Renaming.{name_of_index}
-use Rattle.examples_using.proofs.Doubling.{named, how-many, second-name, third-name}
+use Rattle.souper_graph.specs.Values.{var}
+use Rattle.examples_using.proofs.Doubling.{grown}
 use Rattle.examples_using.proofs.building.doubled.Goals as goal
 
 pub returns : goal.returns
 returns c =
-    let x = c.in_ok-x.ensures.grows in
-    let y = c.in_ok-twice.ensures.grows in
-    let z = c.in_ok-shifted.ensures.grows in
-    let i32 = Some (record { width = 32 }) in
-    let x-attributes = map view_attribute c.new.result.items in
-    let y-value = view_rhs c.into-2.result in
-    let y-attributes = map view_attribute c.new-2.result.items in
-    let is-x : x.0 ≡ codes "%x" = x.1 ∙ c.in_ok-name.ensures.ok in
-    let first : map view_statement c.assignment.new.self ≡ named i32 var x-attributes (codes "%x") ∷ [] =
-    rw (x.2, c.new-builder.ensures, is-x) refl in
-    let is-y : y.0 ≡ name_of_index 1 = second-name i32 var x-attributes y.0 (subst (λ (ss : List PlainStatement). IsFirstFree ss y.0) first y.1) in
-    let second : map view_statement c.assignment-2.new.self ≡ named i32 var x-attributes (codes "%x") ∷ named None y-value y-attributes (name_of_index 1) ∷ [] =
-    rw (y.2, first, is-y) refl in
-    let is-z : z.0 ≡ name_of_index 2 = third-name i32 var x-attributes None y-value y-attributes z.0 (subst (λ (ss : List PlainStatement). IsFirstFree ss z.0) second z.1) in
-    let one : length c.assignment.new.self ≡ 1 = how-many c.assignment.new.self (named i32 var x-attributes (codes "%x") ∷ []) first in
-    let two : length c.assignment-2.new.self ≡ 2 = how-many c.assignment-2.new.self (named i32 var x-attributes (codes "%x") ∷ named None y-value y-attributes (name_of_index 1) ∷ []) second in
+    let first : map view_statement c.assignment.new.self ≡ map view_statement c.new-builder.result
+    ++ added_assignment (Some c.in_ok-name.name) (length c.new-builder.result) (Some (record { width = 32 })) var (map view_attribute c.new.result.items) ∷ []
+    = c.in_ok-x.ensures.grows in
+    let second : map view_statement c.assignment-2.new.self ≡ map view_statement c.assignment.new.self
+    ++ added_assignment None (length c.assignment.new.self) None (view_rhs c.into-2.result) (map view_attribute c.new-2.result.items) ∷ []
+    = c.in_ok-twice.ensures.grows in
+    let third : map view_statement c.assignment-3.new.self ≡ map view_statement c.assignment-2.new.self
+    ++ added_assignment None (length c.assignment-2.new.self) None (view_rhs c.into-4.result) (map view_attribute c.new-3.result.items) ∷ []
+    = c.in_ok-shifted.ensures.grows in
+    let none : length c.new-builder.result ≡ 0 = ap length c.new-builder.ensures in
+    let one : length c.assignment.new.self ≡ 1 = grown c.new-builder.result c.assignment.new.self _ 0 none first in
+    let two : length c.assignment-2.new.self ≡ 2 = grown c.assignment.new.self c.assignment-2.new.self _ 1 one second in
     rw (
       c.finish.ensures,
-      z.2,
+      third,
       second,
-      is-z,
+      first,
       c.into-5.ensures,
       c.into-4.ensures,
       c.into-3.ensures,
@@ -43,6 +37,7 @@ returns c =
       c.new-builder.ensures,
       one,
       two,
+      c.in_ok-name.ensures.ok,
       c.new.ensures.items,
       c.new-2.ensures.items,
       c.new-3.ensures.items,
