@@ -80,5 +80,5 @@ returns-in_ok-write_part-in-Err-clause-part g c = λ start ps had.
         begun = refusal_begun k _ start now ps g.S.Sink.holds c.args.sink.now c.read_part.new.sink c.read_part.new.self c.in-Err.error t;
       };
       are_written = λ first before os h. c.in_ok-write_part-in-Err.ensures.written first before os c.args.sink.now o h c.requires.none (t.taken c.args.sink.now c.requires.none) (sym c.starts-starts-in-Err.ensures) (sym (c.part-text-in-Err.ensures ∙ t.text)) refl;
-      reported = λ works. (let line = string_bytes c.in_ok-shown.shown in (line, (line, [], sym (append-nil line), c.in_ok-shown.ensures, refl), c.report_line.ensures.given works));
+      reported = λ works. (let line = string_bytes c.in_ok-shown-in-Err.shown in (line, (line, [], sym (append-nil line), c.in_ok-shown-in-Err.ensures, refl), c.report_line.ensures.given works));
     }
