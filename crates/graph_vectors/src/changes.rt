@@ -1,7 +1,7 @@
 //! What statements use, and items whose operands change.
 use crate::fixtures::{Graph, equal, has_counts, is_text, item_is, number};
 use souper_graph::ast::{
-    Arena, AssignmentRhs, Id, Instruction, Item, LeftHandSideBuilder, Operand, ReplacementBuilder,
+    Arena, AssignmentRhs, Id, Item, LeftHandSideBuilder, Operand, ReplacementBuilder,
     RightHandSideBuilder, Statement, Use, ValueId,
 };
 use souper_graph::stringify::{Order, TextError};
@@ -115,39 +115,6 @@ fn builder_goes_on_where_an_item_ends(rt: HostRuntime) {
     let item = LeftHandSideBuilder::new(alloc).finish(x, Vec::new(alloc));
     let builder = LeftHandSideBuilder::from(item);
     equal(&rt, builder.finish(x, Vec::new(alloc)).statements.len(), 0);
-}
-
-// Appends a value without a name.
-fn unnamed(
-    rt: &impl Abort,
-    alloc: Global,
-    builder: &mut ReplacementBuilder,
-    value: AssignmentRhs,
-) -> ValueId {
-    builder
-        .assignment(None, None, value, Vec::new(alloc))
-        .expect(rt, "memory")
-}
-
-#[test]
-fn names_that_are_taken_are_skipped(rt: HostRuntime) {
-    let alloc = rt.alloc();
-    let mut builder = ReplacementBuilder::new(alloc);
-    let name = String::from_str(alloc, "%1").expect(&rt, "memory");
-    let x = builder
-        .assignment(Some(name), None, AssignmentRhs::Var, Vec::new(alloc))
-        .expect(&rt, "memory");
-    let y = unnamed(&rt, alloc, &mut builder, AssignmentRhs::Var);
-    let item = builder.finish_cand(x.into(), y.into(), Vec::new(alloc));
-    let mut builder = ReplacementBuilder::from(item);
-    let sum = Instruction::Add {
-        a: x.into(),
-        b: y.into(),
-    };
-    let z = unnamed(&rt, alloc, &mut builder, sum.into());
-    let item = builder.finish_cand(z.into(), x.into(), Vec::new(alloc));
-    let want = "%1 = var\n%2 = var\n%3 = add %1, %2\ncand %3 %1\n";
-    item_is(&rt, alloc, item, want, true);
 }
 
 #[test]
