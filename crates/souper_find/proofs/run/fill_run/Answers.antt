@@ -7,7 +7,7 @@ use Rattle.souper_find.proofs.Filling.{filled, fill_ends}
 use Rattle.souper_find.proofs.run.fill_run.Goals as goal
 
 pub read_with-requires : goal.read_with-requires
-read_with-requires g c = λ start. c.new-parts.ensures.begins replacement start
+read_with-requires g c = record { begins = λ start. c.new-parts.ensures.begins replacement start }
 
 pub report_input-requires : goal.report_input-requires
 report_input-requires g c = λ kind.
@@ -17,6 +17,6 @@ report_input-requires g c = λ kind.
 pub returns-in-Ok : goal.returns-in-Ok
 returns-in-Ok g c = λ entries h. (filled entries (g.R.Read.remaining c.args.reader.now) (g.R.Read.remaining c.read_with.new.reader) c.args.store.now c.read_with.new.sink h c.in-Ok.ensures.taken, Keeps-refl _)
 
-pub returns-in-Err : goal.returns-in-Err
-returns-in-Err g c = λ entries h. fill_ends entries c.args.name.now (g.R.Read.remaining c.args.reader.now) (g.R.Read.remaining c.read_with.new.reader) c.args.store.now c.read_with.new.sink (stream g.E.Write.contents c.args.err.now c.report_input.new.err) c.in-Err.error
+pub returns : goal.returns
+returns g c = λ entries h. fill_ends entries c.args.name.now (g.R.Read.remaining c.args.reader.now) (g.R.Read.remaining c.read_with.new.reader) c.args.store.now c.read_with.new.sink (stream g.E.Write.contents c.args.err.now c.report_input.new.err) c.in-Err.error
     c.report_input.result c.read_with.new.parts c.in-Err.ensures.refused c.in-Err.ensures.had c.report_input.ensures.reported
