@@ -5,7 +5,8 @@ ghost use Rattle.souper_stream.specs.Parts.{HasParts};
 
 use crate::generator::{Generated, Generator};
 use crate::law::{Broken, law};
-use crate::recovered::recovered;
+use crate::recovered::{Recovery, recovered};
+use crate::segments::by_segments;
 use crate::texts::{formatted, joined, streamed};
 use souper_ir::parse::parse_into;
 use souper_stream::ItemReader;
@@ -48,13 +49,13 @@ fn is_placed<T: Generated>(alloc: Global, text: &str) -> Result<(), Broken> {
     }
 }
 
-// The items and errors of a text that is read with reads of a random size.
+// What a text has that is read with reads of a random size.
 fn recover<T: Generated>(
     alloc: Global,
     generator: &mut Generator,
     parts: ItemReader,
     text: &str,
-) -> Result<String, Broken>
+) -> Result<Recovery, Broken>
     requires { (k : ItemType) (start : Option (List ℕ)) → HasParts k start start [] parts }
 {
     let capacity = 1 + generator.below(60);
@@ -64,27 +65,34 @@ fn recover<T: Generated>(
     }
 }
 
-// Reading by chunks of any size gives the same items and errors, and of a valid text the items of the whole.
+// Reading by chunks of any size gives the items, starts and errors of the segments, and of a valid text the items of the whole.
 fn recovers<T: Generated>(
     alloc: Global,
     generator: &mut Generator,
     text: &str,
     whole: Option<&str>,
 ) -> Result<(), Broken> {
-    let min_chunk = generator.below(300);
-    let chunks = recover::<T>(alloc, generator, ItemReader::new(alloc, min_chunk), text)?;
-    let min_chunk = generator.below(300);
-    let reader = ItemReader::with_starts(alloc, min_chunk).eager(true);
-    let others = recover::<T>(alloc, generator, reader, text)?;
+    let segments = by_segments::<T>(alloc, text)?;
+    for is_eager in [false, true] {
+        let min_chunk = generator.below(300);
+        let reader = ItemReader::with_starts(alloc, min_chunk).eager(is_eager);
+        let chunks = recover::<T>(alloc, generator, reader, text)?;
+        law(
+            alloc,
+            chunks.texts == segments.texts,
+            "a stream has the items and errors of its segments",
+            text,
+        )?;
+        law(
+            alloc,
+            chunks.starts == segments.starts,
+            "the items of a stream begin where those of its segments do",
+            text,
+        )?;
+    }
     law(
         alloc,
-        chunks == others,
-        "chunks of another size have the same items and errors",
-        text,
-    )?;
-    law(
-        alloc,
-        whole.is_none_or(|whole| whole == chunks.as_str()),
+        whole.is_none_or(|whole| whole == segments.texts.as_str()),
         "the segments of a valid text have its items",
         text,
     )

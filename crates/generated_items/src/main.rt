@@ -9,6 +9,7 @@ mod generator;
 mod items;
 mod law;
 mod recovered;
+mod segments;
 mod texts;
 
 use generator::{Generated, Generator};

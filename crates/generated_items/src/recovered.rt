@@ -4,16 +4,49 @@ ghost use Rattle.souper_graph.specs.Syntax.Spelling.{ItemType};
 ghost use Rattle.souper_stream.specs.Parts.{HasParts};
 
 use crate::law::Broken;
-use souper_ir::parse::{ParseErrorKind, Sink, WholeItem};
+use souper_ir::parse::{ParseError, ParseErrorKind, Sink, WholeItem};
 use souper_ir::stringify::TextError;
-use souper_stream::{ChunkSink, ItemReader, StreamItem};
+use souper_stream::{ChunkSink, ItemReader, Start, StreamItem};
 use std::alloc::{AllocError, Global};
+use std::fmt::Write;
 use std::io::BufRead;
+
+/// What a stream has.
+#[derive(Drop)]
+pub(crate) struct Recovery {
+    /// The texts of the items of each valid segment and of those that an invalid one begins with, and the errors, in order.
+    pub(crate) texts: String,
+
+    /// The offset and the line of each of these items.
+    pub(crate) starts: String,
+}
+
+impl Recovery {
+    pub(crate) fn new(alloc: Global) -> Recovery {
+        Recovery {
+            texts: String::new(alloc),
+            starts: String::new(alloc),
+        }
+    }
+
+    pub(crate) fn add_start(&mut self, offset: usize, line: usize) -> Result<(), Broken> {
+        match write!(self.starts, "{offset}:{line} ") {
+            Ok(()) => Ok(()),
+            Err(_) => Err(Broken::Memory),
+        }
+    }
+
+    pub(crate) fn add_error(&mut self, alloc: Global, error: &ParseError) -> Result<(), Broken> {
+        self.texts.push_str(error.to_string(alloc)?.as_str())?;
+        self.texts.push_str("\n")?;
+        Ok(())
+    }
+}
 
 // The texts of the items of a part, with a newline after each.
 #[derive(Drop)]
-struct Texts {
-    out: String,
+pub(crate) struct Texts {
+    pub(crate) out: String,
 }
 
 impl<T: WholeItem + Drop> Sink<T> for Texts {
@@ -34,32 +67,40 @@ impl<T: WholeItem + Drop> ChunkSink<T> for Texts {
     }
 }
 
-/// The texts of the items of each valid segment and of those that an invalid one begins with, and the errors, in order.
+// Adds the texts and starts of a part.
+fn add_part(found: &mut Recovery, texts: &str, starts: &[Start]) -> Result<(), Broken> {
+    found.texts.push_str(texts)?;
+    for start in starts {
+        found.add_start(start.offset, start.line)?;
+    }
+    Ok(())
+}
+
+/// Reads a stream to its end.
 pub(crate) fn recovered<T: StreamItem + Drop, R: BufRead>(
     alloc: Global,
     mut parts: ItemReader,
     reader: &mut R,
-) -> Result<String, Broken>
+) -> Result<Recovery, Broken>
     requires { (k : ItemType) (start : Option (List ℕ)) → HasParts k start start [] parts }
 {
     let mut texts = Texts {
         out: String::new(alloc),
     };
-    let mut all = String::new(alloc);
+    let mut found = Recovery::new(alloc);
     for _turn in 0..u64::MAX {
         texts.out.clear();
         match parts.read_part::<T, R, Texts>(alloc, reader, None, &mut texts) {
-            Ok(true) => all.push_str(texts.out.as_str())?,
-            Ok(false) => return Ok(all),
+            Ok(true) => add_part(&mut found, texts.out.as_str(), parts.starts())?,
+            Ok(false) => return Ok(found),
             Err(error) => match error.kind() {
                 ParseErrorKind::Parse => {
-                    all.push_str(texts.out.as_str())?;
-                    all.push_str(error.to_string(alloc)?.as_str())?;
-                    all.push_str("\n")?;
+                    add_part(&mut found, texts.out.as_str(), parts.starts())?;
+                    found.add_error(alloc, &error)?;
                 }
                 _ => return Err(Broken::Memory),
             },
         }
     }
-    Ok(all)
+    Ok(found)
 }

@@ -7,3 +7,4 @@ pub mod OneText
 pub mod Joining
 pub mod Parting
 pub mod Starts
+pub mod Stopping

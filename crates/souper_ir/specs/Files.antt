@@ -8,8 +8,10 @@ use Rattle.std.specs.declared.io.ErrorKind.TheVariants.{OutOfMemory}
 use Rattle.souper_graph.specs.Values.{Item}
 use Rattle.souper_graph.specs.WellFormed.{WellFormed, EachClosed}
 use Rattle.souper_ir.specs.declared.parse.error.ParseError.{ParseError}
+use Rattle.souper_ir.specs.declared.parse.error.ParseErrorKind.TheVariants.{Parse}
 use Rattle.souper_ir.specs.Answers.{IsStrError}
-use Rattle.souper_ir.specs.Errors.{kind_of, fault_of, OnKind}
+use Rattle.souper_ir.specs.Stopping.{TextStops}
+use Rattle.souper_ir.specs.Errors.{kind_of, fault_of, at_end_of, OnKind}
 use Rattle.souper_graph.specs.Syntax.Spelling.{ItemType, TextSpells}
 use Rattle.souper_graph.specs.Syntax.Tokens.{IsLastGap}
 
@@ -20,6 +22,7 @@ pub record AnswersText {T : Type 0} (k : ItemType) (view : T → Item) (path sou
   pub well_formed : IfOk answer (λ v. AllByRecursion WellFormed (map view v.items))
   pub each_closed : IfOk answer (λ v. AllByRecursion EachClosed (map view v.items))
   pub refused : IfErr answer (IsStrError k (Some path) source)
+  pub stops : IfErr answer (λ e. kind_of e ≡ Parse → TextStops k source (at_end_of e))
   pub gaps : IsLastGap source → IsOkAnd answer (λ v. v.items ≡ [])
 
 -- the error for a fault: the fault itself, or out of memory if the fault was that

@@ -1,11 +1,10 @@
 -- Definitions. What it is to parse a value, whatever the value is.
-use Rattle.std.specs.Prelude.{◌≡◌, ℕ, Bool, true, false, List, [], ◌∷◌, ◌++◌, Option, Some, None, ◌⊎◌}
+use Rattle.std.specs.Prelude.{◌≡◌, ℕ, Bool, true, false, List, [], ◌∷◌, ◌++◌, Option, Some, None, Ok, ◌⊎◌}
 use Rattle.souper_ir.specs.declared.parse.error.ParseError.{ParseError}
 use Rattle.souper_ir.specs.Parsing.{Parsing}
 use Rattle.souper_graph.specs.Syntax.Tokens.{Lexeme}
 use Rattle.souper_graph.specs.Syntax.Spelling.{kinds, Scope}
-use Rattle.souper_graph.specs.Syntax.Optional.{◌>>=◌}
-use Rattle.souper_ir.specs.Reading.{cause_of, IfRefused, Fails, IsRead, look_at}
+use Rattle.souper_ir.specs.Reading.{Reads, ◌>>=◌, cause_of, IfRefused, Fails, IsRead, look_at}
 
 -- the next token does not go on, if there is one
 abbrev pub Free : (Lexeme → Type 0) → List Lexeme → Type 0
@@ -49,8 +48,8 @@ abbrev pub starts_next : (Lexeme → Bool) → Option Lexeme → Bool
 starts_next starts None = false
 starts_next starts (Some t) = starts t
 
-unfoldable pub peek_at : (Lexeme → Bool) → Parsing → Option (Bool × Parsing)
-peek_at starts p = look_at p >>= λ t. Some (starts_next starts t.0, t.1)
+unfoldable pub peek_at : (Lexeme → Bool) → Parsing → Reads Bool
+peek_at starts p = look_at p >>= λ t. Ok (starts_next starts t.0, t.1)
 
 -- the next token is one of these
 abbrev pub Comes : (Lexeme → Type 0) → Parsing → Type 0

@@ -1,11 +1,10 @@
 -- Definitions. Which statement the next token begins.
-use Rattle.std.specs.Prelude.{Bool, Option, Some, if◌then◌else◌, codes}
+use Rattle.std.specs.Prelude.{Bool, Option, Some, Ok, if◌then◌else◌, codes}
 use Rattle.souper_graph.specs.Syntax.Tokens.{Lexeme}
-use Rattle.souper_graph.specs.Syntax.Optional.{◌>>=◌}
 use Rattle.souper_ir.specs.declared.parse.item.Next.{Next}
 use Rattle.souper_ir.specs.declared.parse.item.Next.TheVariants.{Assignment, Pc, BlockPc, Other}
 use Rattle.souper_ir.specs.Parsing.{Parsing}
-use Rattle.souper_ir.specs.Reading.{look_at, IsRead}
+use Rattle.souper_ir.specs.Reading.{Reads, ◌>>=◌, look_at, IsRead}
 use Rattle.souper_ir.specs.Grammar.{starts_next}
 use Rattle.souper_ir.specs.NodeReadings.{is_name, is_word}
 
@@ -16,10 +15,10 @@ next_statement_by pc block_pc name = if pc then Pc else (if block_pc then BlockP
 abbrev pub next_statement_of : Option Lexeme → Next
 next_statement_of t = next_statement_by (starts_next (is_word (codes "pc")) t) (starts_next (is_word (codes "blockpc")) t) (starts_next is_name t)
 
-unfoldable pub next_at : Parsing → Option (Next × Parsing)
+unfoldable pub next_at : Parsing → Reads Next
 next_at p = do
   t ← look_at p
-  Some (next_statement_of t.0, t.1)
+  Ok (next_statement_of t.0, t.1)
 
 -- a parser that has not failed, and whose next token begins this
 abbrev pub NextIs : Next → Parsing → Type 0

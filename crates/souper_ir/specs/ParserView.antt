@@ -23,6 +23,7 @@ abbrev pub parsing_of : Inside → Parsing
 parsing_of p = record {
   tokens = with_ahead p.ahead p.lexer.tokens;
   faulty = p.lexer.fault;
+  cut = p.lexer.cut;
   len = p.lexer.len;
   scope = map view_statement p.statements;
   failed = option_map cause_of_failure p.failed;

@@ -13,6 +13,8 @@ pub record Parsing : Type 0 where
   pub tokens : List (ℕ × Lexeme)
   -- whether a lexical fault follows them
   pub faulty : Bool
+  -- whether the text ends after them, or in the word `knownBits`
+  pub cut : Bool
   -- the length of the text in bytes
   pub len : ℕ
   -- the statements so far

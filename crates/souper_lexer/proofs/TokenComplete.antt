@@ -11,7 +11,8 @@ use Rattle.std.proofs.lemmas.Bool.{false≢true}
 use Rattle.std.proofs.lemmas.Bool.Decides.{nat_tests}
 use Rattle.souper_graph.specs.Names.{is_name_char}
 use Rattle.souper_graph.specs.Syntax.Tokens.{Lexeme, ident, val_name, known_bits, int, comma, colon, equals, open_paren, close_paren, open_bracket, AllAre, Stops, IsLexeme, continues, spelling, known_bits_word, is_bit, begins_int, Piece, space, comment, piece_text, IsPiece, IsOneLine, IsGap, IsLastComment, IsLastGap, Stands}
-use Rattle.souper_lexer.specs.TokenReading.{ends, found, run_of, after_run, bits_at, name_at, word_at, mark_of, longer_at, front_of, token_at, remark, first_space, space_len, after_from, after_gap, gap_len, next_of}
+use Rattle.souper_lexer.specs.TokenReading.{ends, faulty, found, run_of, after_run, bits_at, name_at, word_at, mark_of, longer_at, front_of, token_at, remark, first_space, space_len, after_from, after_gap, gap_len, next_of}
+use Rattle.souper_lexer.specs.TokenView.{EndsInWord}
 use Rattle.souper_lexer.proofs.TokenGap.{gap_past_space, gap_past_remark, gap_stops_above, remark_cons, remark_newline}
 
 -- the longest prefix of s and rest that passes, if all of s does and rest does not go on
@@ -196,3 +197,14 @@ next_gap gap t rest bs h = let e = ap length h.text ∙ length-append gap (spell
 
 pub next_ends : (bs : List ℕ) → IsLastGap bs → next_of bs ≡ ends
 next_ends bs h = ap token_at (ap after_gap h.text ∙ past_gap h.gap h.last h.is_gap ∙ last_comment_ends h.last h.is_last)
+
+no_bits : bits_at [] ≡ faulty true
+unfolding bits_at
+no_bits = refl
+
+-- the word at the end of a text is found to be cut
+pub next_cut : (bs : List ℕ) → EndsInWord bs → next_of bs ≡ faulty true
+next_cut bs h =
+    let more : List ℕ = 110 ∷ 111 ∷ 119 ∷ 110 ∷ 66 ∷ 105 ∷ 116 ∷ 115 ∷ [] in
+    ap token_at (ap after_gap h.2 ∙ past_gap h.0 known_bits_word h.1 ∙ solid_from 107 more (omega arith) (omega arith) (omega arith) (omega arith))
+    ∙ letter_at 107 more [] refl (search rules) tt ∙ word_bits [] ∙ no_bits

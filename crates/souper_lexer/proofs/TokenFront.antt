@@ -46,10 +46,11 @@ stops_front : (p : ℕ → Bool) (bs : List ℕ) → Stops p (drop (prefix_len p
 stops_front p [] = tt
 stops_front p (x ∷ xs) = stops_front_cons p x xs (p x) refl (stops_front p xs)
 
--- what was found is a token at the beginning of bs
+-- what was found is a token at the beginning of bs; a text that is cut is the word alone
 abbrev pub IsFront : List ℕ → Front → Type 0
 IsFront bs ends = ⊥
-IsFront bs faulty = Unit {0}
+IsFront bs (faulty true) = bs ≡ known_bits_word
+IsFront bs (faulty false) = Unit {0}
 IsFront bs (found t rest) = Leads t rest bs
 
 front_some : (p : ℕ → Bool) (bs : List ℕ) → eqb (prefix_len p bs) 0 ≡ false → 0 < length (take (prefix_len p bs) bs)
@@ -60,7 +61,7 @@ not_alone c s h = let l = ne_of _ _ h in omega arith
 
 bits_front : (bs : List ℕ) → IsFront (known_bits_word ++ bs) (bits_at bs)
 unfolding bits_at
-bits_front [] = tt
+bits_front [] = refl
 bits_front (c ∷ bs) = if_both (IsFront (known_bits_word ++ c ∷ bs)) (eqb c 61) _ _
     (λ is. if_both (IsFront (known_bits_word ++ c ∷ bs)) (eqb (prefix_len is_bit bs) 0) _ _ (λ _. tt)
     (λ some. record {
@@ -126,6 +127,10 @@ front_sound c bs =
 pub token_sound : (bs : List ℕ) (t : Lexeme) (rest : List ℕ) → token_at bs ≡ found t rest → Leads t rest bs
 token_sound [] t rest e = cc
 token_sound (c ∷ bs) t rest e = subst (IsFront (c ∷ bs)) e (front_sound c bs)
+
+pub token_cut : (bs : List ℕ) → token_at bs ≡ faulty true → bs ≡ known_bits_word
+token_cut [] e = cc
+token_cut (c ∷ bs) e = subst (IsFront (c ∷ bs)) e (front_sound c bs)
 
 -- a token is not empty
 pub spelled_some : (t : Lexeme) → IsLexeme t → 0 < length (spelling t)

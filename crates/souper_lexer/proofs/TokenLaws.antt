@@ -6,8 +6,9 @@ use Rattle.std.proofs.lemmas.Bool.{false≢true}
 use Rattle.souper_graph.specs.Syntax.Tokens.{StandsAt, Lexeme, spelling, Begins, IsLastGap, IsTextOf, AreTokensOf, OneReading}
 use Rattle.souper_lexer.specs.TokenReading.{Front, ends, faulty, found, next_of, gap_len, Lexed, before, lexed_within, lexed_of}
 use Rattle.souper_lexer.proofs.TokenSteps.{found_shorter, within_ends, within_faulty, within_found, lexed_ends, lexed_found}
-use Rattle.souper_lexer.proofs.TokenComplete.{next_found, next_gap, next_ends}
-use Rattle.souper_lexer.proofs.TokenSound.{next_stands, ends_stands}
+use Rattle.souper_lexer.proofs.TokenComplete.{next_found, next_gap, next_ends, next_cut}
+use Rattle.souper_lexer.proofs.TokenSound.{next_stands, ends_stands, cut_stands}
+use Rattle.souper_lexer.specs.TokenView.{EndsInWord, IsCut}
 
 -- tokens before others
 abbrev onto : List (ℕ × Lexeme) → Lexed → Lexed
@@ -30,7 +31,7 @@ begins_lexed (t ∷ ts) n bs rest h =
     let more = begins_lexed ts (t.0 + length (spelling t.1)) h.after rest h.more in
     (more.0, lexed_found n bs t.1 h.after (next_found h.gap t.1 h.after bs h.stands) ∙ (λ i. before (at i) t.1 (lexed_of (at i + length (spelling t.1)) h.after)) ∙ ap (before t.0 t.1) more.1)
 
-text_lexed : (bs : List ℕ) (ts : List (ℕ × Lexeme)) → IsTextOf bs ts → (m : ℕ) × (lexed_of 0 bs ≡ onto ts (record { tokens = []; fault = false; len = m }))
+text_lexed : (bs : List ℕ) (ts : List (ℕ × Lexeme)) → IsTextOf bs ts → (m : ℕ) × (lexed_of 0 bs ≡ onto ts (record { tokens = []; fault = false; cut = true; len = m }))
 text_lexed bs ts h =
     let b = begins_lexed ts 0 bs h.0 h.1 in
     (b.0 + length h.0, b.1 ∙ ap (onto ts) (lexed_ends b.0 h.0 (next_ends h.0 h.2)))
@@ -38,28 +39,33 @@ text_lexed bs ts h =
 pub text_tokens : (bs : List ℕ) (ts : List (ℕ × Lexeme)) → IsTextOf bs ts → ((lexed_of 0 bs).tokens ≡ ts) × ((lexed_of 0 bs).fault ≡ false)
 text_tokens bs ts h =
     let e = text_lexed bs ts h in
-    let end : Lexed = record { tokens = []; fault = false; len = e.0 } in
+    let end : Lexed = record { tokens = []; fault = false; cut = true; len = e.0 } in
     (ap (λ (x : Lexed). x.tokens) e.1 ∙ onto_tokens ts end ∙ append-nil ts, ap (λ (x : Lexed). x.fault) e.1 ∙ onto_fault ts end)
 
 pub one_reading : OneReading
 one_reading bs ts us h g = sym (text_tokens bs ts h).0 ∙ (text_tokens bs us g).0
 
+-- no token comes: the text ends, or is at fault
+abbrev pub Outcome : List ℕ → Bool → Bool → Type 0
+Outcome rest fault cut = ((fault ≡ false) × (cut ≡ true) × IsLastGap rest) ⊎ ((fault ≡ true) × (next_of rest ≡ faulty cut))
+
 -- the tokens that are read, as a prefix of the text, and the rest after them
 pub record Reading (n : ℕ) (bs : List ℕ) (x : Lexed) : Type 0 where
   pub rest : List ℕ
   pub front : Begins n bs x.tokens rest
-  pub outcome : ((x.fault ≡ false) × IsLastGap rest) ⊎ ((x.fault ≡ true) × (next_of rest ≡ faulty))
+  pub utf8 : IsUtf8 rest
+  pub outcome : Outcome rest x.fault x.cut
 
 read_by : (k n : ℕ) (bs : List ℕ) (f : Front) → next_of bs ≡ f → IsUtf8 bs
     → ((m : ℕ) (rest : List ℕ) → length rest < length bs → IsUtf8 rest → Reading m rest (lexed_within k m rest))
     → Reading n bs (lexed_within (suc k) n bs)
-read_by k n bs ends e utf8 ih = subst (Reading n bs) (sym (within_ends k n bs e)) (record { rest = bs; front = refl; outcome = inl (refl, ends_stands bs utf8 e) })
-read_by k n bs faulty e utf8 ih = subst (Reading n bs) (sym (within_faulty k n bs e)) (record { rest = bs; front = refl; outcome = inr (refl, e) })
+read_by k n bs ends e utf8 ih = subst (Reading n bs) (sym (within_ends k n bs e)) (record { rest = bs; front = refl; utf8 = utf8; outcome = inl (refl, refl, ends_stands bs utf8 e) })
+read_by k n bs (faulty cut) e utf8 ih = subst (Reading n bs) (sym (within_faulty k n bs cut e)) (record { rest = bs; front = refl; utf8 = utf8; outcome = inr (refl, e) })
 read_by k n bs (found t rest) e utf8 ih =
     let h = next_stands bs t rest utf8 e in
     let more = ih (n + gap_len bs + length (spelling t)) rest (found_shorter bs t rest e) h.utf8 in
     subst (Reading n bs) (sym (within_found k n bs t rest e))
-    (record { rest = more.rest; front = record { gap = h.gap; after = rest; stands = h.stands; offset_is = ap (λ g. n + g) h.gap_len; more = more.front }; outcome = more.outcome })
+    (record { rest = more.rest; front = record { gap = h.gap; after = rest; stands = h.stands; offset_is = ap (λ g. n + g) h.gap_len; more = more.front }; utf8 = more.utf8; outcome = more.outcome })
 
 read_within : (k n : ℕ) (bs : List ℕ) → length bs < k → IsUtf8 bs → Reading n bs (lexed_within k n bs)
 read_within zero n bs l utf8 = absurd (omega arith)
@@ -72,13 +78,13 @@ reading n bs utf8 = read_within (suc (length bs)) n bs (omega arith) utf8
 both : {P : Type 0} (b : Bool) → b ≡ true → b ≡ false → P
 both b h g = absurd (false≢true (sym g ∙ h))
 
-when_ended : (rest : List ℕ) (fault : Bool) → ((fault ≡ false) × IsLastGap rest) ⊎ ((fault ≡ true) × (next_of rest ≡ faulty)) → fault ≡ false → IsLastGap rest
-when_ended rest fault (inl h) e = h.1
-when_ended rest fault (inr h) e = both fault h.0 e
+when_ended : (rest : List ℕ) (fault cut : Bool) → Outcome rest fault cut → fault ≡ false → IsLastGap rest
+when_ended rest fault cut (inl h) e = h.2
+when_ended rest fault cut (inr h) e = both fault h.0 e
 
-when_faulty : (rest : List ℕ) (fault : Bool) → ((fault ≡ false) × IsLastGap rest) ⊎ ((fault ≡ true) × (next_of rest ≡ faulty)) → fault ≡ true → IsLastGap rest → ⊥
-when_faulty rest fault (inl h) e g = both fault e h.0
-when_faulty rest fault (inr h) e g = let c : faulty ≡ ends = sym h.1 ∙ next_ends rest g in cc
+when_faulty : (rest : List ℕ) (fault cut : Bool) → Outcome rest fault cut → fault ≡ true → IsLastGap rest → ⊥
+when_faulty rest fault cut (inl h) e g = both fault e h.0
+when_faulty rest fault cut (inr h) e g = let c : faulty cut ≡ ends = sym h.1 ∙ next_ends rest g in cc
 
 pub tokens_law : (bs : List ℕ) → IsUtf8 bs → AreTokensOf bs (lexed_of 0 bs).tokens (lexed_of 0 bs).fault
 tokens_law bs utf8 =
@@ -87,8 +93,8 @@ tokens_law bs utf8 =
       rest = r.rest;
       front = r.front;
       longest = λ us other h. let b = begins_lexed us 0 bs other h in ((lexed_of b.0 other).tokens, sym (ap (λ (x : Lexed). x.tokens) b.1 ∙ onto_tokens us (lexed_of b.0 other)));
-      ended = when_ended r.rest (lexed_of 0 bs).fault r.outcome;
-      faulty = when_faulty r.rest (lexed_of 0 bs).fault r.outcome;
+      ended = when_ended r.rest (lexed_of 0 bs).fault (lexed_of 0 bs).cut r.outcome;
+      faulty = when_faulty r.rest (lexed_of 0 bs).fault (lexed_of 0 bs).cut r.outcome;
     }
 
 pub begins_length : (ts : List (ℕ × Lexeme)) (n : ℕ) (bs rest : List ℕ) → Begins n bs ts rest → length rest ≤ length bs
@@ -122,3 +128,20 @@ in_place (t ∷ ts) text xs bs rest e h =
 -- a token's content is the slice at its place
 pub in_text : (bs : List ℕ) (ts : List (ℕ × Lexeme)) (rest : List ℕ) → Begins 0 bs ts rest → AllByRecursion (StandsAt bs) ts
 in_text bs ts rest h = in_place ts bs [] bs rest refl h
+
+when_cut : (rest : List ℕ) (fault cut : Bool) → IsUtf8 rest → Outcome rest fault cut → cut ≡ true → IsLastGap rest ⊎ EndsInWord rest
+when_cut rest fault cut utf8 (inl h) e = inl h.2
+when_cut rest fault cut utf8 (inr h) e = inr (cut_stands rest utf8 (h.1 ∙ ap faulty e))
+
+when_sound : (rest : List ℕ) (fault cut : Bool) → Outcome rest fault cut → fault ≡ false → cut ≡ true
+when_sound rest fault cut (inl h) e = h.1
+when_sound rest fault cut (inr h) e = both fault h.0 e
+
+when_word : (rest : List ℕ) (fault cut : Bool) → Outcome rest fault cut → EndsInWord rest → cut ≡ true
+when_word rest fault cut (inl h) w = h.1
+when_word rest fault cut (inr h) w = let same : faulty cut ≡ faulty true = sym h.1 ∙ next_cut rest w in cc
+
+pub cut_law : (bs : List ℕ) → IsUtf8 bs → IsCut bs (lexed_of 0 bs).tokens (lexed_of 0 bs).fault (lexed_of 0 bs).cut
+cut_law bs utf8 =
+    let r = reading 0 bs utf8 in
+    record { rest = r.rest; front = r.front; ended = when_cut r.rest (lexed_of 0 bs).fault (lexed_of 0 bs).cut r.utf8 r.outcome; sound = when_sound r.rest (lexed_of 0 bs).fault (lexed_of 0 bs).cut r.outcome; in_word = when_word r.rest (lexed_of 0 bs).fault (lexed_of 0 bs).cut r.outcome }

@@ -9,9 +9,10 @@ use Rattle.std.proofs.lemmas.Str.{IsUtf8-drop, IsUtf8-nil, IsCharBoundary-after_
 use Rattle.std.proofs.lemmas.Bool.Decides.{nat_tests}
 use Rattle.souper_graph.specs.Names.{is_name_char}
 use Rattle.souper_graph.specs.Syntax.Tokens.{Lexeme, ident, val_name, known_bits, int, comma, colon, equals, open_paren, close_paren, open_bracket, AllAre, IsLexeme, spelling, is_bit, begins_int, Piece, space, comment, piece_text, IsPiece, IsOneLine, IsGap, IsLastComment, IsLastGap, Stands}
-use Rattle.souper_lexer.specs.TokenReading.{ends, found, front_of, token_at, remark, space_len, after_from, after_gap, gap_len, next_of}
+use Rattle.souper_lexer.specs.TokenReading.{ends, faulty, found, front_of, token_at, remark, space_len, after_from, after_gap, gap_len, next_of}
 use Rattle.souper_lexer.proofs.TokenGap.{gap_other, gap_past_remark, gap_nil, remark_cons, remark_newline, space_nil}
-use Rattle.souper_lexer.proofs.TokenFront.{IsFront, front_sound, token_sound, spelled_some}
+use Rattle.souper_lexer.proofs.TokenFront.{IsFront, front_sound, token_sound, token_cut, spelled_some}
+use Rattle.souper_lexer.specs.TokenView.{EndsInWord}
 use Rattle.souper_lexer.proofs.TokenComplete.{space_len_first, past_white}
 
 -- what follows an ASCII character in a text is text
@@ -232,3 +233,11 @@ ends_stands bs utf8 e =
       is_last = p.is_last;
       text = p.text ∙ ap (λ l. p.gap ++ (p.last ++ l)) (no_token (after_gap bs) e) ∙ ap (λ l. p.gap ++ l) (append-nil p.last);
     }
+
+-- a text that is cut ends in the word
+pub cut_stands : (bs : List ℕ) → IsUtf8 bs → next_of bs ≡ faulty true → EndsInWord bs
+cut_stands bs utf8 e =
+    let p = gap_parted bs utf8 in
+    let word = token_cut (after_gap bs) e in
+    let none = no_last p.last (after_gap bs) p.ended (subst (λ (x : List ℕ). 0 < length x) (sym word) (omega arith)) in
+    (p.gap, p.is_gap, p.text ∙ (λ i. p.gap ++ (none i ++ word i)))

@@ -1,5 +1,5 @@
 -- The tokens of a text, in sequence.
-use Rattle.std.proofs.Common.{◌≡◌, ℕ, zero, suc, ◌+◌, ◌-◌, ◌<◌, ◌≤◌, true, false, List, [], ◌∷◌, length, get_or, drop, sym, refl, ap, ◌∙◌, arith, length-append}
+use Rattle.std.proofs.Common.{◌≡◌, ℕ, zero, suc, ◌+◌, ◌-◌, ◌<◌, ◌≤◌, Bool, true, false, List, [], ◌∷◌, length, get_or, drop, sym, refl, ap, ◌∙◌, arith, length-append}
 use Rattle.souper_graph.specs.Syntax.Tokens.{Lexeme, spelling}
 use Rattle.souper_lexer.specs.TokenReading.{Front, ends, faulty, found, inside, remark, Place, after_from, after_gap, gap_len, front_of, token_at, next_of, Lexed, before, lexed_within, lexed_of, space_len}
 use Rattle.std.proofs.lemmas.List.{nil_from_length}
@@ -31,13 +31,13 @@ found_shorter bs t rest e =
     omega (arith, found_length bs t rest e, spelled_some t h.is_token, gap_le bs)
 
 -- one step
-pub within_ends : (k n : ℕ) (bs : List ℕ) → next_of bs ≡ ends → lexed_within (suc k) n bs ≡ record { tokens = []; fault = false; len = n + length bs }
+pub within_ends : (k n : ℕ) (bs : List ℕ) → next_of bs ≡ ends → lexed_within (suc k) n bs ≡ record { tokens = []; fault = false; cut = true; len = n + length bs }
 unfolding lexed_within
 within_ends k n bs e = rw (e, lexed_within) refl
 
-pub within_faulty : (k n : ℕ) (bs : List ℕ) → next_of bs ≡ faulty → lexed_within (suc k) n bs ≡ record { tokens = []; fault = true; len = n + length bs }
+pub within_faulty : (k n : ℕ) (bs : List ℕ) (cut : Bool) → next_of bs ≡ faulty cut → lexed_within (suc k) n bs ≡ record { tokens = []; fault = true; cut = cut; len = n + length bs }
 unfolding lexed_within
-within_faulty k n bs e = rw (e, lexed_within) refl
+within_faulty k n bs cut e = rw (e, lexed_within) refl
 
 pub within_found : (k n : ℕ) (bs : List ℕ) (t : Lexeme) (rest : List ℕ) → next_of bs ≡ found t rest → lexed_within (suc k) n bs ≡ before (n + gap_len bs) t (lexed_within k (n + gap_len bs + length (spelling t)) rest)
 unfolding lexed_within
@@ -48,7 +48,7 @@ same_by : (k j n : ℕ) (bs : List ℕ) (f : Front) → next_of bs ≡ f
     → ((m : ℕ) (rest : List ℕ) → length rest < length bs → lexed_within k m rest ≡ lexed_within j m rest)
     → lexed_within (suc k) n bs ≡ lexed_within (suc j) n bs
 same_by k j n bs ends e ih = within_ends k n bs e ∙ sym (within_ends j n bs e)
-same_by k j n bs faulty e ih = within_faulty k n bs e ∙ sym (within_faulty j n bs e)
+same_by k j n bs (faulty cut) e ih = within_faulty k n bs cut e ∙ sym (within_faulty j n bs cut e)
 same_by k j n bs (found t rest) e ih =
     within_found k n bs t rest e
     ∙ ap (before (n + gap_len bs) t) (ih (n + gap_len bs + length (spelling t)) rest (found_shorter bs t rest e))
@@ -59,13 +59,13 @@ same_within zero j n bs lk lj = absurd (omega arith)
 same_within (suc k) zero n bs lk lj = absurd (omega arith)
 same_within (suc k) (suc j) n bs lk lj = same_by k j n bs (next_of bs) refl (λ m rest l. same_within k j m rest (omega arith) (omega arith))
 
-pub lexed_ends : (n : ℕ) (bs : List ℕ) → next_of bs ≡ ends → lexed_of n bs ≡ record { tokens = []; fault = false; len = n + length bs }
+pub lexed_ends : (n : ℕ) (bs : List ℕ) → next_of bs ≡ ends → lexed_of n bs ≡ record { tokens = []; fault = false; cut = true; len = n + length bs }
 unfolding lexed_of
 lexed_ends n bs e = within_ends (length bs) n bs e
 
-lexed_faulty : (n : ℕ) (bs : List ℕ) → next_of bs ≡ faulty → lexed_of n bs ≡ record { tokens = []; fault = true; len = n + length bs }
+lexed_faulty : (n : ℕ) (bs : List ℕ) (cut : Bool) → next_of bs ≡ faulty cut → lexed_of n bs ≡ record { tokens = []; fault = true; cut = cut; len = n + length bs }
 unfolding lexed_of
-lexed_faulty n bs e = within_faulty (length bs) n bs e
+lexed_faulty n bs cut e = within_faulty (length bs) n bs cut e
 
 pub lexed_found : (n : ℕ) (bs : List ℕ) (t : Lexeme) (rest : List ℕ) → next_of bs ≡ found t rest → lexed_of n bs ≡ before (n + gap_len bs) t (lexed_of (n + gap_len bs + length (spelling t)) rest)
 unfolding lexed_of
@@ -76,7 +76,7 @@ lexed_found n bs t rest e =
 -- the offset of the end
 len_by : (k n : ℕ) (bs : List ℕ) (f : Front) → next_of bs ≡ f → ((m : ℕ) (rest : List ℕ) → length rest < length bs → (lexed_within k m rest).len ≡ m + length rest) → (lexed_within (suc k) n bs).len ≡ n + length bs
 len_by k n bs ends e ih = ap (λ (x : Lexed). x.len) (within_ends k n bs e)
-len_by k n bs faulty e ih = ap (λ (x : Lexed). x.len) (within_faulty k n bs e)
+len_by k n bs (faulty cut) e ih = ap (λ (x : Lexed). x.len) (within_faulty k n bs cut e)
 len_by k n bs (found t rest) e ih =
     ap (λ (x : Lexed). x.len) (within_found k n bs t rest e)
     ∙ ih (n + gap_len bs + length (spelling t)) rest (found_shorter bs t rest e)
@@ -96,15 +96,15 @@ next_by bs [] e l = absurd (omega arith)
 next_by bs (c ∷ text) e l = ap token_at e
 
 module _ (n : ℕ) (bs text : List ℕ) (v : Lexed) (is : lexed_of n bs ≡ v) (e : text ≡ after_gap bs) where
-  pub yields_none : length text ≡ 0 → (v.tokens ≡ []) × (v.fault ≡ false) × (v ≡ v)
+  pub yields_none : length text ≡ 0 → (v.tokens ≡ []) × (v.fault ≡ false) × (v.cut ≡ true) × (v ≡ v)
   yields_none l =
       let h = lexed_ends n bs (sym (ap token_at e) ∙ ap token_at (nil_from_length text l)) in
-      (ap (λ (x : Lexed). x.tokens) (sym is ∙ h), ap (λ (x : Lexed). x.fault) (sym is ∙ h), refl)
+      (ap (λ (x : Lexed). x.tokens) (sym is ∙ h), ap (λ (x : Lexed). x.fault) (sym is ∙ h), ap (λ (x : Lexed). x.cut) (sym is ∙ h), refl)
 
-  pub yields_fault : 0 < length text → front_of (get_or text 0 0) (drop 1 text) ≡ faulty → (v.tokens ≡ []) × (v.fault ≡ true) × (v ≡ v)
-  yields_fault l f =
-      let h = lexed_faulty n bs (sym (next_by bs text e l) ∙ f) in
-      (ap (λ (x : Lexed). x.tokens) (sym is ∙ h), ap (λ (x : Lexed). x.fault) (sym is ∙ h), refl)
+  pub yields_fault : (cut : Bool) → 0 < length text → front_of (get_or text 0 0) (drop 1 text) ≡ faulty cut → (v.tokens ≡ []) × (v.fault ≡ true) × (v.cut ≡ cut) × (v ≡ v)
+  yields_fault cut l f =
+      let h = lexed_faulty n bs cut (sym (next_by bs text e l) ∙ f) in
+      (ap (λ (x : Lexed). x.tokens) (sym is ∙ h), ap (λ (x : Lexed). x.fault) (sym is ∙ h), ap (λ (x : Lexed). x.cut) (sym is ∙ h), refl)
 
   -- how far the rest is
   pub yields_rest : (t : Lexeme) (rest : List ℕ) → 0 < length text → front_of (get_or text 0 0) (drop 1 text) ≡ found t rest → length (spelling t) + length rest ≡ length text
@@ -112,7 +112,7 @@ module _ (n : ℕ) (bs text : List ℕ) (v : Lexed) (is : lexed_of n bs ≡ v) (
 
   pub yields_token : (t : Lexeme) (rest : List ℕ) (at next : ℕ) → 0 < length text → front_of (get_or text 0 0) (drop 1 text) ≡ found t rest
       → at ≡ n + (length bs - length text) → next ≡ at + (length text - length rest)
-      → (v.tokens ≡ (at, t) ∷ (lexed_of next rest).tokens) × (v.fault ≡ (lexed_of next rest).fault) × (v.len ≡ (lexed_of next rest).len) × (at < v.len)
+      → (v.tokens ≡ (at, t) ∷ (lexed_of next rest).tokens) × (v.fault ≡ (lexed_of next rest).fault) × (v.cut ≡ (lexed_of next rest).cut) × (v.len ≡ (lexed_of next rest).len) × (at < v.len)
   yields_token t rest at next l f is_at is_next =
       let k : n + gap_len bs ≡ at = ap (λ l. n + (length bs - length l)) (sym e) ∙ sym is_at in
       let m : n + gap_len bs + length (spelling t) ≡ next = omega (arith, k, is_next, yields_rest t rest l f) in
@@ -121,4 +121,4 @@ module _ (n : ℕ) (bs text : List ℕ) (v : Lexed) (is : lexed_of n bs ≡ v) (
       let size = ap length e in
       let inside : at < v.len = omega arith in
       let h = sym is ∙ lexed_found n bs t rest (sym (next_by bs text e l) ∙ f) ∙ (λ i. before (k i) t (lexed_of (m i) rest)) in
-      (ap (λ (x : Lexed). x.tokens) h, ap (λ (x : Lexed). x.fault) h, ap (λ (x : Lexed). x.len) h, inside)
+      (ap (λ (x : Lexed). x.tokens) h, ap (λ (x : Lexed). x.fault) h, ap (λ (x : Lexed). x.cut) h, ap (λ (x : Lexed). x.len) h, inside)

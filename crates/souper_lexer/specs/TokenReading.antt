@@ -29,18 +29,18 @@ after_from remark (b ∷ bs) = if b == 10 then after_from (inside zero) bs else 
 abbrev pub after_gap : List ℕ → List ℕ
 after_gap bs = after_from (inside 0) bs
 
--- what a text begins with: nothing, a token with the bytes after it, or neither
+-- what a text begins with: nothing, a token with the bytes after it, or neither: then whether the text ends in the word `knownBits`
 pub data Front : Type 0 where
   ends : Front
-  faulty : Front
+  faulty : Bool → Front
   found : Lexeme → List ℕ → Front
 
 -- a `KnownBits` from the `=` on
 unfoldable pub bits_at : List ℕ → Front
-bits_at [] = faulty
+bits_at [] = faulty true
 bits_at (c ∷ bs) =
     let n = prefix_len is_bit bs in
-    if c == 61 then (if n == 0 then faulty else found (known_bits (take n bs)) (drop n bs)) else faulty
+    if c == 61 then (if n == 0 then faulty false else found (known_bits (take n bs)) (drop n bs)) else faulty false
 
 -- a letter and name characters, s, and then rest
 unfoldable pub word_at : List ℕ → List ℕ → Front
@@ -48,7 +48,7 @@ word_at s rest = if bytes_eq s known_bits_word then bits_at rest else found (ide
 
 -- `%` and name characters, s, and then rest
 unfoldable pub name_at : List ℕ → List ℕ → Front
-name_at s rest = if length s == 1 then faulty else found (val_name s) rest
+name_at s rest = if length s == 1 then faulty false else found (val_name s) rest
 
 -- the first byte of a token and the bytes after it that pass; the rest after them
 abbrev pub run_of : (ℕ → Bool) → ℕ → List ℕ → List ℕ
@@ -74,7 +74,7 @@ longer_at c bs =
     if c == 37 then name_at (run_of is_name_char c bs) (after_run is_name_char bs)
     else (if is_ascii_alphabetic c then word_at (run_of is_name_char c bs) (after_run is_name_char bs)
     else (if begins_int c then found (int (run_of is_ascii_digit c bs)) (after_run is_ascii_digit bs)
-    else faulty))
+    else faulty false))
 
 unfoldable pub front_of : ℕ → List ℕ → Front
 front_of c bs = elim (mark_of c) [ Some t ↦ found t bs | None ↦ longer_at c bs ]
@@ -87,10 +87,12 @@ token_at (c ∷ bs) = front_of c bs
 abbrev pub next_of : List ℕ → Front
 next_of bs = token_at (after_gap bs)
 
--- a text by its tokens with their offsets, whether a fault follows them, and the offset of its end
+-- A text by its tokens with their offsets, whether a fault follows them, and the offset of its end. It is cut if it ends after
+-- them, or in the word `knownBits`.
 pub record Lexed : Type 0 where
   pub tokens : List (ℕ × Lexeme)
   pub fault : Bool
+  pub cut : Bool
   pub len : ℕ
 
 -- the length of a gap in bytes
@@ -99,15 +101,15 @@ gap_len bs = length bs - length (after_gap bs)
 
 -- what follows a token at the given offset
 abbrev pub before : ℕ → Lexeme → Lexed → Lexed
-before at t more = record { tokens = (at, t) ∷ more.tokens; fault = more.fault; len = more.len }
+before at t more = record { tokens = (at, t) ∷ more.tokens; fault = more.fault; cut = more.cut; len = more.len }
 
 -- of at most this number of tokens: a text bs that begins at offset n
 unfoldable pub lexed_within : ℕ → ℕ → List ℕ → Lexed
-lexed_within zero n bs = record { tokens = []; fault = true; len = n + length bs }
+lexed_within zero n bs = record { tokens = []; fault = true; cut = false; len = n + length bs }
 lexed_within (suc k) n bs =
     elim (next_of bs) [
-      | ends ↦ record { tokens = []; fault = false; len = n + length bs }
-      | faulty ↦ record { tokens = []; fault = true; len = n + length bs }
+      | ends ↦ record { tokens = []; fault = false; cut = true; len = n + length bs }
+      | faulty cut ↦ record { tokens = []; fault = true; cut = cut; len = n + length bs }
       | found t rest ↦ before (n + gap_len bs) t (lexed_within k (n + gap_len bs + length (spelling t)) rest)
     ]
 

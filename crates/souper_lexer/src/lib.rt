@@ -11,7 +11,7 @@ ghost use Rattle.std.specs.Char.{is_ascii_alphabetic};
 ghost use Rattle.souper_graph.specs.Names.{is_name_char};
 ghost use Rattle.souper_graph.specs.Syntax.Tokens.{Lexeme, ident, val_name, int, comma, begins_int, IsTextOf, AreTokensOf};
 ghost use Rattle.souper_lexer.specs.TokenReading.{remark, space_len, after_from, after_gap, run_of, after_run, found, lexed_of, Lexed, bits_at, word_at, name_at, mark_of, longer_at, front_of};
-ghost use Rattle.souper_lexer.specs.TokenView.{lexeme_of, is_in, Reads, Takes, BeginsWith, Yields, Lexes};
+ghost use Rattle.souper_lexer.specs.TokenView.{lexeme_of, is_in, IsCut, Reads, Takes, BeginsWith, Yields, Lexes};
 
 use memchr::memchr;
 use std::fmt;
@@ -382,6 +382,7 @@ impl<'a> Lexer<'a> {
         ensures value { result ≡ lexed_of 0 source.now }
         ensures len { result.len ≡ length source.now }
         ensures tokens { AreTokensOf source.now result.tokens result.fault }
+        ensures cut { IsCut source.now result.tokens result.fault result.cut }
         ensures only { (ts : List (ℕ × Lexeme)) → IsTextOf source.now ts → (result.tokens ≡ ts) × (result.fault ≡ false) }
     {
         Lexer {

@@ -75,8 +75,8 @@ pub struct Source<'a> {
 impl<'a> Source<'a> {
     /// A stream that is to be read with these options.
     ///
-    /// With recovery a cut point is looked for in what the reader shows, and on to the end of a line; then whenever the buffer has doubled,
-    /// or for lines whenever the reader has shown more.
+    /// With recovery a cut point is looked for in what the reader shows, and on to the end of a line; then whenever the buffer has doubled.
+    /// For lines the parts are read as the reader shows them, and it is not asked for more while one is whole.
     pub fn new(alloc: Global, options: ReadOptions<'a>) -> Source<'a>
         ensures options { result.options ≡ options.entry }
         ensures begins { IsAtStart result }

@@ -116,7 +116,7 @@ pub fn each_going_on_run<T: StreamItem + Drop, R: BufRead, W: Write, E: Write>(
 ///
 /// - 0: done, no part was refused, and nothing was written to `err`.
 /// - 1: a part was refused. Each refusal was written to `err`, in order, with a newline, and shows the name: with recovery all of the
-///   stream, else the first one, and nothing after it was read.
+///   stream, else the first one, and nothing after it was parsed.
 /// - 2: a read or `out` failed, the input is not UTF-8, or memory ran out, and a line that says so was written to `err`, after the
 ///   refusals so far. Unless `out` failed, the records of the parts so far were written, and nothing else.
 /// - 141 ([`BROKEN_PIPE`]): `out` failed, since it is a pipe that nobody reads. Only the refusals so far were written to `err`.

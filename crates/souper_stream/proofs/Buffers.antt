@@ -1,10 +1,10 @@
 -- The bytes of a reader, the buffer of a stream, the parsed text, and where items begin in it.
-use Rattle.std.proofs.Common.{◌≡◌, ◌⊎◌, inl, inr, ℕ, ◌+◌, ◌-◌, ◌<◌, Bool, true, false, length, take, drop, get_or, get_or-append-add, eqb-true, length-append, append_assoc, subst, arith, List, [], ◌∷◌, ◌++◌, Option, Some, None, refl, sym, ap, ◌∙◌, ◌^◌, ◌≤◌, append-nil, min, is_some, Ok, Err, Result, IfSome, ◌==◌, slice_index_or, if◌then◌else◌, option_map, vec_len, IfErr, take_all, length-drop, length-take, take-add}
+use Rattle.std.proofs.Common.{◌≡◌, ◌⊎◌, inl, inr, ℕ, ◌+◌, ◌-◌, ◌<◌, Bool, true, false, length, take, drop, get_or, get_or-append-add, eqb-true, length-append, append_assoc, subst, arith, List, [], ◌∷◌, ◌++◌, Option, Some, None, refl, sym, ap, ◌∙◌, ◌^◌, ◌≤◌, append-nil, min, is_some, Ok, Err, Result, IfSome, ◌==◌, slice_index_or, if◌then◌else◌, option_map, vec_len, IfErr, take_all, length-drop, length-take, take-add, drop-drop, take-append-drop}
 use Rattle.std.specs.Io.{StartsWith, appended_bytes}
 use Rattle.std.specs.Io.BufRead.{take_through}
 use Rattle.std.specs.Io.KnownBytes.{Consumes}
 use Rattle.std.proofs.KnownBytes.{starts_with_rest, Consumes-more}
-use Rattle.std.proofs.Transfers.{starts_with_trans, starts_with_length}
+use Rattle.std.proofs.Transfers.{starts_with_trans, starts_with_length, starts_with_of_append}
 use Rattle.std.proofs.lemmas.Bool.{eqb-false}
 use Rattle.std.proofs.lemmas.List.{same_from_push, take_more, drop-append-le, take-append-le, drop_more, drop_all}
 use Rattle.std.proofs.Math.Seq.{drop-append_seam, take-append-add}
@@ -34,6 +34,37 @@ through_ends (x ∷ xs) = under (x == 10) refl (through_ends xs)
 -- what two reads appended
 appended_both : (old mid new : List ℕ) → StartsWith mid old → StartsWith new mid → appended_bytes old new ≡ appended_bytes old mid ++ appended_bytes mid new
 appended_both old mid new p q = ap (drop (length old)) (starts_with_rest new mid q) ∙ drop-append-le (length old) mid (appended_bytes mid new) (starts_with_length mid old p)
+
+-- an open line was appended, and more
+pub appended_after : (old open_line mid new : List ℕ) → mid ≡ old ++ open_line → StartsWith new mid → StartsWith new old × (appended_bytes old new ≡ open_line ++ appended_bytes mid new)
+appended_after old open_line mid new e q =
+    let p = starts_with_of_append mid old open_line e in
+    (starts_with_trans new mid old q p, appended_both old mid new p q ∙ ap (λ (x : List ℕ). x ++ appended_bytes mid new) (ap (drop (length old)) e ∙ drop-append_seam old open_line))
+
+-- an open line and what ends it are lines
+pub ends_open : (open_line line : List ℕ) → EndsIn line 10 → IsLines (open_line ++ line)
+ends_open open_line line end = inr (open_line ++ end.0, ap (λ (x : List ℕ). open_line ++ x) end.1 ∙ sym (append_assoc open_line end.0 (10 ∷ [])))
+
+-- lines after others
+ends_in_lines : (a b : List ℕ) → 0 < length b → IsLines b → IsLines (a ++ b)
+ends_in_lines a b some (inl e) = let n = ap length e in absurd (omega arith)
+ends_in_lines a b some (inr end) = inr (a ++ end.0, ap (λ (x : List ℕ). a ++ x) end.1 ∙ sym (append_assoc a end.0 (10 ∷ [])))
+
+-- whole lines after bytes without a newline
+pub closed_after : (bytes : List ℕ) (start n : ℕ) → 0 < n → n ≤ length (drop start bytes) → start ≤ length bytes → IsLines (take n (drop start bytes)) → IsLines (take (start + n) bytes)
+closed_after bytes start n some within fits lines =
+    subst (λ (x : List ℕ). IsLines x) (sym (take-add start n bytes)) (ends_in_lines (take start bytes) (take n (drop start bytes)) (omega (arith, length-take n (drop start bytes))) lines)
+
+pub open_after : (bytes : List ℕ) (start n : ℕ) → IsOneLine (drop n (drop start bytes)) → IsOneLine (drop (start + n) bytes)
+open_after bytes start n h = subst (λ (x : List ℕ). IsOneLine x) (drop-drop n start bytes) h
+
+both_open : (a b : List ℕ) → IsOneLine a → IsOneLine b → IsOneLine (a ++ b)
+both_open [] b h k = k
+both_open (x ∷ a) b h k = (h.0, both_open a b h.1 k)
+
+-- or no line is whole
+pub none_open : (bytes : List ℕ) (start : ℕ) → IsOneLine (take start bytes) → IsOneLine (drop 0 (drop start bytes)) → IsOneLine (drop 0 bytes)
+none_open bytes start h k = subst (λ (x : List ℕ). IsOneLine x) (take-append-drop start bytes) (both_open (take start bytes) (drop start bytes) h k)
 
 pub reads_both : {E F : Type 0} (a b c : Option (List ℕ)) (old mid new : List ℕ) (r : Result Bool E) (s : Result Bool F) → ReadsBytes a b old mid r → ReadsBytes b c mid new s → ReadsBytes a c old new s
 reads_both a b c old mid new r s f g = record {
@@ -162,11 +193,6 @@ refusal_more file source more offset e some within lines h =
         shown_is = s.shown_is;
       },
     )
-
--- lines after others
-ends_in_lines : (a b : List ℕ) → 0 < length b → IsLines b → IsLines (a ++ b)
-ends_in_lines a b some (inl e) = let n = ap length e in absurd (omega arith)
-ends_in_lines a b some (inr end) = inr (a ++ end.0, ap (λ (x : List ℕ). a ++ x) end.1 ∙ sym (append_assoc a end.0 (10 ∷ [])))
 
 -- a refusal of the first `len` unparsed bytes, which are lines or the last bytes, was given its location
 module _ (file : Option (List ℕ)) (done rest after : List ℕ) (b : Buffer) (len offset : ℕ) (shown : ParseError) (p : Buffers done rest b) (some : 0 < len) (fits : len ≤ length rest) (within : offset ≤ len) where

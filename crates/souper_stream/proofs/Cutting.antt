@@ -1,5 +1,5 @@
 -- Where a text is cut: its lines are scanned one after the other or passed over, up to the first cut point; the last cut point.
-use Rattle.std.proofs.Common.{length, arith, length-append, ◌≡◌, ◌⊎◌, inl, inr, Bool, true, false, List, [], ◌∷◌, ◌++◌, refl, sym, ap, ◌∙◌, subst, append_assoc, append-nil, ℕ, ◌+◌, ◌-◌, ◌<◌, take, drop, length-take, take-append-drop, get_or, IsUtf8, ◌≤◌, ◌↔◌, codes, IsCharBoundary, drop_at, drop-drop, take-take}
+use Rattle.std.proofs.Common.{length, arith, length-append, ◌≡◌, ◌⊎◌, inl, inr, Bool, true, false, List, [], ◌∷◌, ◌++◌, refl, sym, ap, ◌∙◌, subst, append_assoc, append-nil, ℕ, ◌+◌, ◌-◌, ◌<◌, take, drop, length-take, take-append-drop, get_or, IsUtf8, ◌≤◌, ◌↔◌, codes, IsCharBoundary, drop_at, drop-drop, take-take, zero, suc}
 use Rattle.std.specs.Io.BufRead.{take_through}
 use Rattle.std.specs.List.{AllByRecursion}
 use Rattle.std.specs.Io.{StartsWith}
@@ -15,6 +15,8 @@ use Rattle.memchr.proofs.lemmas.MatchLemmas.{OccursAt-from_part}
 use Rattle.souper_stream.specs.declared.lines.ScanState.{ScanState}
 use Rattle.souper_stream.specs.Lines.{line_word, token_begins_terminator, defines, shows_line, NoStart, LastEnds, first_state, state_after, scanned, starts_line, begins_terminator, IsAbsent, NoTerminatorWord, IsWithoutEnd, PassesOver}
 use Rattle.souper_stream.specs.Segments.{Line, concat, AreLines, tokens_of, tokens_of_lines, EndsItem, FirstStarts, HasNoCut, IsCut, IsFirstSegment, IsWholeLine, CutsAt, HasNoCutAfter, HasBadLine}
+use Rattle.souper_stream.specs.declared.cuts.Scan.{Scan}
+use Rattle.souper_stream.specs.Scanning.{IsStateAfter, first_scan, IsScan, HasScan, HasNoneDue}
 use Rattle.souper_stream.proofs.Parting.{end_is_line, NoEnd, no_end_ends, ends_within, starts_longer}
 use Rattle.souper_stream.proofs.LineLists.{starts_not_none, concat-append, tokens_snoc, lines_back, lines_split, no_bytes, line_first, are_front, lines_whole, tokens-append, lines_exist}
 
@@ -80,10 +82,6 @@ state_tells k s [] = (λ e. inr (e, (tt, λ e. refl)), λ h. elim h [ inl l ↦ 
 state_tells k s (t ∷ ts) = let more = state_tells k (state_after k s t) ts in (λ e. ends_back k s t ts (more.0 e), λ h. more.1 (ends_step k s t ts h))
 
 -- ---- the state after tokens
-
--- the state tells, for any tokens that follow, whether an item ends with them
-abbrev pub IsStateAfter : ItemType → List Lexeme → ScanState → Type 0
-IsStateAfter k ts s = (us : List Lexeme) → ((scanned k s us).ends_item ≡ true) ↔ LastEnds k (ts ++ us)
 
 pub state_first : (k : ItemType) → IsStateAfter k [] first_state
 state_first k us = grind (arith, state_tells k first_state us)
@@ -172,9 +170,55 @@ module _ (k : ItemType) (ls : List Line) (rest : List ℕ) (s : ScanState) (line
       let (back, back_is, rest_is) = line_first h.back rest n h.rest_is lines_left some first in
       first_segment text e (inr ((state_ends k (tokens_of_lines h.front) s h.after).0 ends, subst (λ (x : List Line). FirstStarts x) (sym back_is) starts))
 
+  -- the lines that were scanned
+  pub scan_to : (text : List ℕ) → text ≡ concat ls → IsScan k ls (record { len = length text - length rest; state = s })
+  scan_to text e =
+      let all = ap length (e ∙ ap concat h.whole ∙ concat-append h.front h.back) ∙ length-append (concat h.front) (concat h.back) in
+      let left = ap length h.rest_is in
+      record { front = h.front; back = h.back; whole = h.whole; len_is = omega arith; after = h.after; uncut = h.uncut }
+
   -- or with the text
   pub first_end : (text : List ℕ) → text ≡ concat ls → length rest ≡ 0 → IsFirstSegment k ls (length text - length rest)
   first_end text e none = first_segment text e (inl (no_bytes h.back lines_left (sym (ap length h.rest_is) ∙ none)))
+
+-- ---- scans that are kept
+
+pub scan_none : (k : ItemType) (text : List ℕ) → HasScan k text first_scan
+scan_none k text ls e lines = record { front = []; back = ls; whole = refl; len_is = refl; after = state_first k; uncut = no_cut_none k }
+
+-- it is where the scan goes on
+pub scan_on : (k : ItemType) (ls : List Line) (text : List ℕ) (scan : Scan) → text ≡ concat ls → IsScan k ls scan → Scanned k ls (drop scan.len text) scan.state
+scan_on k ls text scan e s =
+    let rest_is = ap (drop scan.len) (e ∙ ap concat s.whole ∙ concat-append s.front s.back) ∙ drop_at (concat s.front) (concat s.back) scan.len s.len_is in
+    record { front = s.front; back = s.back; whole = s.whole; rest_is = rest_is; after = s.after; uncut = s.uncut }
+
+-- where an item ends, lines were scanned
+pub scan_begun : (k : ItemType) (text : List ℕ) (scan : Scan) → HasScan k text scan → scan.state.ends_item ≡ true → 0 < scan.len
+scan_begun k text scan h ends = under scan.len refl
+  where
+    under : (n : ℕ) → scan.len ≡ n → 0 < scan.len
+    under zero none =
+        let (ls, lines, e) = lines_exist text in
+        let s = h ls e lines in
+        let empty : s.front ≡ [] = no_bytes s.front (are_front s.front s.back (subst (λ (x : List Line). AreLines x) s.whole lines)) (s.len_is ∙ none) in
+        absurd (no_tokens k (subst (λ (x : List Line). EndsItem k x) empty ((state_ends k (tokens_of_lines s.front) scan.state s.after).0 ends)))
+    under (suc n) some = omega (arith, some)
+
+pub scan_within : (k : ItemType) (text : List ℕ) (scan : Scan) → HasScan k text scan → scan.len ≤ length text
+scan_within k text scan h =
+    let (ls, lines, e) = lines_exist text in
+    let s = h ls e lines in
+    omega (arith, s.len_is, ap length (e ∙ ap concat s.whole ∙ concat-append s.front s.back), length-append (concat s.front) (concat s.back))
+
+pub none_due_nil : (k : ItemType) (text : List ℕ) → length text ≡ 0 → HasNoneDue k text
+none_due_nil k text none ls e lines = inl (rw (no_bytes ls lines (sym (ap length e) ∙ none)) (no_cut_none k))
+
+-- whole lines have more after them
+pub scan_more : (k : ItemType) (text more : List ℕ) (scan : Scan) → IsLines text → HasScan k text scan → HasScan k (text ++ more) scan
+scan_more k text more scan whole h ls e lines =
+    let (xs, ys, parts, front_is) = lines_split ls text more lines (sym e) whole in
+    let s = h xs (sym front_is) (are_front xs ys (subst (λ (x : List Line). AreLines x) parts lines)) in
+    record { front = s.front; back = s.back ++ ys; whole = parts ∙ ap (λ (x : List Line). x ++ ys) s.whole ∙ append_assoc s.front s.back ys; len_is = s.len_is; after = s.after; uncut = s.uncut }
 
 -- ---- words that are nowhere in bytes
 
@@ -404,5 +448,5 @@ module _ (k : ItemType) (ls : List Line) (text : List ℕ) (start place : ℕ) (
             let found : ls ≡ (p.front ++ b.front) ++ b.line ∷ b.back = p.whole ∙ ap (λ (x : List Line). p.front ++ x) b.whole ∙ sym (append_assoc p.front b.front (b.line ∷ b.back)) in
             absurd (b.fault (utf8_line (p.front ++ b.front) b.back b.line (subst (λ (x : List Line). AreLines x) found lines) (subst (λ (x : List Line). IsUtf8 (concat x)) found (subst (λ (x : List ℕ). IsUtf8 x) e utf8))))
       ] in
-      let first : (p.front ≡ []) ⊎ FirstStarts p.back = elim at [ inl zero ↦ inl (no_bytes p.front (are_front p.front p.back (subst (λ (x : List Line). AreLines x) p.whole lines)) (p.len_is ∙ zero)) | inr some ↦ inr (is_cut some).1 ] in
+      let first : (p.front ≡ []) ⊎ FirstStarts p.back = elim at [ inl none ↦ inl (no_bytes p.front (are_front p.front p.back (subst (λ (x : List Line). AreLines x) p.whole lines)) (p.len_is ∙ none)) | inr some ↦ inr (is_cut some).1 ] in
       subst (λ (m : ℕ). HasNoCutAfter k ls m) p.len_is (subst (λ (x : List Line). HasNoCutAfter k x (length (concat p.front))) (sym p.whole) (uncut_after k p.front p.back first uncut))

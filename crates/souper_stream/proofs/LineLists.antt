@@ -88,6 +88,10 @@ pub are_front : (xs ys : List Line) → AreLines (xs ++ ys) → AreLines xs
 are_front xs [] h = subst (λ (x : List Line). AreLines x) (append-nil xs) h
 are_front xs (y ∷ ys) h = all_are_lines xs (lines_front xs (y ∷ ys) (λ e. cc) h)
 
+pub whole_back : (xs ys : List Line) → AllByRecursion IsWholeLine (xs ++ ys) → AllByRecursion IsWholeLine ys
+whole_back [] ys h = h
+whole_back (x ∷ xs) ys h = whole_back xs ys h.1
+
 pub no_bytes : (ls : List Line) → AreLines ls → length (concat ls) ≡ 0 → ls ≡ []
 no_bytes [] h e = refl
 no_bytes (l ∷ ls) h e = absurd (omega (arith, first_some l ls h, length-append l (concat ls)))

@@ -1,20 +1,23 @@
 -- The reader of a stream: more is read, and parts are parsed.
-use Rattle.std.proofs.Common.{◌≡◌, ◌⊎◌, inl, inr, ℕ, zero, suc, ◌+◌, ◌-◌, ◌<◌, ◌≤◌, Bool, true, false, is_some, List, [], ◌∷◌, ◌++◌, length, take, drop, Option, None, refl, sym, ap, ◌∙◌, subst, arith, append_assoc, append-nil, length-append, take_at, drop_at, length-drop, length-take}
+use Rattle.std.proofs.Common.{◌≡◌, ◌⊎◌, inl, inr, ℕ, zero, suc, ◌+◌, ◌-◌, ◌<◌, ◌≤◌, Bool, true, false, is_some, List, [], ◌∷◌, ◌++◌, length, take, drop, Option, None, refl, sym, ap, ◌∙◌, subst, arith, append_assoc, append-nil, length-append, take_at, drop_at, length-drop, length-take, drop-drop, take-append-drop}
 use Rattle.std.specs.Io.KnownBytes.{Consumes}
-use Rattle.std.proofs.lemmas.List.{nil_from_length}
+use Rattle.std.proofs.lemmas.List.{nil_from_length, drop-append-le}
 use Rattle.std.proofs.KnownBytes.{Consumes-nil, Consumes-trans}
-use Rattle.souper_stream.proofs.Prelude.{Item, Lexeme, ItemType, SpellsNone, ParseError, Parse, Memory, IsStrError, kind_of, HasLocation, HasLocationAfter, IsLocatedAfter, IsRefusalAt, IsLines, TextSpellsFrom, PrefixSpellsFrom, TakesFrom, HasStarts, All-both}
+use Rattle.souper_stream.proofs.Prelude.{IsOneLine, Item, Lexeme, ItemType, SpellsNone, ParseError, Parse, Memory, IsStrError, kind_of, HasLocation, HasLocationAfter, IsLocatedAfter, IsRefusalAt, IsLines, TextSpellsFrom, PrefixSpellsFrom, TakesFrom, HasStarts, All-both}
 use Rattle.souper_stream.specs.declared.buffer.Buffer.{Buffer}
 use Rattle.souper_stream.specs.declared.reader.ItemReader.{ItemReader}
 use Rattle.souper_stream.specs.Buffering.{window, unparsed, Buffers}
 use Rattle.souper_stream.specs.Lines.{LastEnds}
 use Rattle.souper_stream.specs.Segments.{Line, concat, IsWholeLine, AreLines, tokens_of_lines, EndsItem, FirstStarts, HasNoCut, IsCut, AreCut, all_lines, AreParts, CutsAt, IsFirstSegment}
 use Rattle.souper_stream.specs.Starts.{ItemsStartAt}
-use Rattle.souper_stream.specs.Parts.{IsChunk, and_next, HasLines, HasRead, HasParts, HasAll, Advances, AreNextStarts, Holds, EndsAfter, keeps_starts, TakesPart, RefusesPart}
+use Rattle.souper_stream.specs.Parts.{part_of, buffered, ReadsLast, IsChunk, and_next, HasLines, HasRead, HasParts, HasAll, Advances, AreNextStarts, Holds, EndsAfter, keeps_starts, TakesPart, RefusesPart}
 use Rattle.souper_stream.specs.Reading.{AreAll, NeverSpells}
 use Rattle.souper_stream.proofs.Buffers.{all_after, buffers_more, buffers_located, buffers_placed, each_spells, kept_now}
-use Rattle.souper_stream.proofs.LineLists.{starts_not_none, starts_with_more, concat-append, tokens-append, lines-append, are_front, lines_front, lines_back, lines_of, no_bytes, lines_whole, lines_exist}
+use Rattle.souper_stream.proofs.LineLists.{starts_not_none, starts_with_more, concat-append, tokens-append, lines-append, are_front, lines_front, lines_back, lines_of, no_bytes, lines_whole, lines_exist, whole_back}
 use Rattle.souper_stream.proofs.SegmentLaws.{lines_start, none_with}
+use Rattle.souper_stream.specs.declared.cuts.Scan.{Scan}
+use Rattle.souper_stream.specs.Scanning.{first_scan, HasScan}
+use Rattle.souper_stream.proofs.Cutting.{scan_none, scan_more}
 use Rattle.souper_stream.proofs.Parting.{ends_within}
 
 -- ---- lists of lines and of parts
@@ -46,85 +49,107 @@ part_cut k ended ps (l ∷ front) (m ∷ back) some h (inr none) = let bad : m �
 
 -- ---- nothing was read
 
-pub read_none : (k : ItemType) (start : Option (List ℕ)) (b : Buffer) → Buffers [] [] b → (ls : List Line) × HasRead k start start [] ls b false false 0
-read_none k start b empty = (
+pub read_none : (k : ItemType) (start : Option (List ℕ)) (b : Buffer) (open_line : List ℕ) (scan : Scan) → Buffers [] [] b → open_line ≡ [] → scan ≡ first_scan → (ls : List Line) × HasRead k start start [] ls b open_line false false 0 scan
+read_none k start b open_line scan empty none scan_is = (
   [],
   record {
-    lines = record { lost = []; consumed = Consumes-nil start; none_lost = λ e. refl; not_failed = λ e. refl; all_read = λ e. absurd cc; are = tt; whole = λ e. tt };
+    lines = record { after = []; consumed = Consumes-nil start; after_is = λ e. sym none; not_failed = λ e. refl; none_open = λ e. none; all_read = λ e. absurd cc; are = tt; whole = λ e. tt; one_line = rw none tt };
     buffers = empty;
     cut = tt;
     some = λ e f. refl;
     chunk = λ some. absurd (omega arith);
+    scanned = rw scan_is (scan_none k []);
   },
 )
 
 -- ---- more was read
 
--- no read has failed
-all_consumed : (start now : Option (List ℕ)) (ls : List Line) (ended failed : Bool) (h : HasLines start now ls ended failed) → failed ≡ false → (concat ls ++ h.lost ≡ concat ls) × Consumes start now (concat ls)
-all_consumed start now ls ended failed h well =
-    let same : concat ls ++ h.lost ≡ concat ls = ap (λ (x : List ℕ). concat ls ++ x) (h.none_lost well) ∙ append-nil (concat ls) in
+-- all that was read is lines
+all_consumed : (start now : Option (List ℕ)) (ls : List Line) (open_line : List ℕ) (ended failed : Bool) (h : HasLines start now ls open_line ended failed) → ended ≡ true → (concat ls ++ h.after ≡ concat ls) × Consumes start now (concat ls)
+all_consumed start now ls open_line ended failed h all =
+    let same : concat ls ++ h.after ≡ concat ls = ap (λ (x : List ℕ). concat ls ++ x) (h.after_is (h.not_failed all) ∙ h.none_open all) ∙ append-nil (concat ls) in
     (same, subst (λ (x : List ℕ). Consumes start now x) same h.consumed)
 
-module _ (k : ItemType) (start mid after : Option (List ℕ)) (ps : List (List Line)) (p : ItemReader) (had : HasParts k start mid ps p) (going : p.ended ≡ false) (well : is_some p.fault ≡ false) (none : p.rejected ≡ 0) (c : Buffer) (more lost : List ℕ) (held_is : c.bytes.items ≡ p.buffer.bytes.items ++ more) where
-  pub read_more : (ended failed : Bool) (read : List ℕ) → Consumes mid after read → more ++ lost ≡ read → (failed ≡ false → lost ≡ []) → (ended ≡ true → failed ≡ false) → (ended ≡ false → IsLines more) → (ended ≡ true → AreAll mid more)
-      → (ls : List Line) × HasRead k start after ps ls (record p.buffer { bytes = c.bytes }) ended failed p.rejected
-  read_more ended failed read consumed read_is none_lost not_failed whole all_read =
+module _ (k : ItemType) (start mid after : Option (List ℕ)) (ps : List (List Line)) (p : ItemReader) (had : HasParts k start mid ps p) (going : p.ended ≡ false) (well : is_some p.fault ≡ false) (none : p.pending ≡ 0) (c : Buffer) (more left : List ℕ) (held_is : c.bytes.items ≡ p.buffer.bytes.items ++ more) where
+  pub read_more : (open_line : List ℕ) (ended failed : Bool) (read : List ℕ) → Consumes mid after read → more ++ left ≡ p.open_line.items ++ read → (failed ≡ false → left ≡ open_line) → (ended ≡ true → failed ≡ false) → (ended ≡ true → open_line ≡ []) → (ended ≡ false → IsLines more) → IsOneLine open_line → (ended ≡ true → AreAll mid read)
+      → (ls : List Line) × HasRead k start after ps ls (record p.buffer { bytes = c.bytes }) open_line ended failed p.pending p.scan
+  read_more open_line ended failed read consumed read_is after_is not_failed none_open whole one_line all_read =
       let (ls, h) = had in
       let (ms, ms_are, more_is) = lines_exist more in
       let all = all_lines ps ++ ls in
       let each = h.lines.whole going in
-      let before = (all_consumed start mid all p.ended (is_some p.fault) h.lines well).1 in
       let text : concat (all ++ ms) ≡ concat all ++ more = concat-append all ms ∙ ap (λ (x : List ℕ). concat all ++ x) (sym more_is) in
-      let rest : concat ls ++ more ≡ concat (ls ++ ms) = ap (λ (x : List ℕ). concat ls ++ x) more_is ∙ sym (concat-append ls ms) in (
+      let rest : concat ls ++ more ≡ concat (ls ++ ms) = ap (λ (x : List ℕ). concat ls ++ x) more_is ∙ sym (concat-append ls ms) in
+      let before = h.lines.consumed in
+      let bytes : concat (all ++ ms) ++ left ≡ (concat all ++ h.lines.after) ++ read =
+      ap (λ (x : List ℕ). x ++ left) text ∙ append_assoc (concat all) more left ∙ ap (λ (x : List ℕ). concat all ++ x) (read_is ∙ ap (λ (x : List ℕ). x ++ read) (sym (h.lines.after_is well))) ∙ sym (append_assoc (concat all) h.lines.after read) in
+      let lines_left : IsLines (concat ls) = lines_of ls (whole_back (all_lines ps) ls each) in (
         ls ++ ms,
         record {
-          lines = subst (λ (x : List Line). HasLines start after x ended failed) (append_assoc (all_lines ps) ls ms) (record {
-            lost = lost;
-            consumed = subst (λ (x : List ℕ). Consumes start after x) (sym (ap (λ (x : List ℕ). x ++ lost) text ∙ append_assoc (concat all) more lost ∙ ap (λ (x : List ℕ). concat all ++ x) read_is)) (Consumes-trans start mid after (concat all) read before consumed);
-            none_lost = none_lost;
+          lines = subst (λ (x : List Line). HasLines start after x open_line ended failed) (append_assoc (all_lines ps) ls ms) (record {
+            after = left;
+            consumed = subst (λ (x : List ℕ). Consumes start after x) (sym bytes) (Consumes-trans start mid after (concat all ++ h.lines.after) read before consumed);
+            after_is = after_is;
             not_failed = not_failed;
-            all_read = λ e. subst (λ (x : List ℕ). AreAll start x) (sym text) (all_after start mid (concat all) more before (all_read e));
+            none_open = none_open;
+            all_read = λ e.
+                let nothing : concat (all ++ ms) ++ left ≡ concat (all ++ ms) = ap (λ (x : List ℕ). concat (all ++ ms) ++ x) (after_is (not_failed e) ∙ none_open e) ∙ append-nil (concat (all ++ ms)) in
+                subst (λ (x : List ℕ). AreAll start x) (sym bytes ∙ nothing) (all_after start mid (concat all ++ h.lines.after) read before (all_read e));
             are = lines-append all ms each ms_are;
             whole = λ e. All-both IsWholeLine all ms each (lines_whole ms ms_are (subst (λ (x : List ℕ). IsLines x) more_is (whole e)));
+            one_line = one_line;
           });
           buffers = subst (λ (x : List ℕ). Buffers (concat (all_lines ps)) x (record p.buffer { bytes = c.bytes })) rest (buffers_more (concat (all_lines ps)) (concat ls) more p.buffer c held_is h.buffers);
           cut = next_longer k ps ls ms (h.some going) h.cut;
           some = λ e f. h.some going (nil_from_length ls (omega (arith, ap length f, length-append ls ms)));
           chunk = λ some. absurd (omega arith);
+          scanned = rw (none, ← rest) (scan_more k (concat ls) more p.scan lines_left (rw none at h.scanned));
         },
       )
 
+-- the bytes that are buffered then
+pub buffered_more : (b c : Buffer) (open_line shown block : List ℕ) (n : ℕ) → b.start + b.parsed ≤ length b.bytes.items → c.bytes.items ≡ b.bytes.items ++ take n shown → shown ≡ open_line ++ block → drop b.parsed (drop b.start c.bytes.items) ++ drop n shown ≡ (unparsed b ++ open_line) ++ block
+buffered_more b c open_line shown block n within e parts =
+    let lines : List ℕ = take n shown in
+    let short : b.parsed ≤ length (window b) = omega (arith, length-drop b.start b.bytes.items) in
+    let text : drop b.parsed (drop b.start c.bytes.items) ≡ unparsed b ++ lines =
+    ap (λ (x : List ℕ). drop b.parsed (drop b.start x)) e ∙ ap (drop b.parsed) (drop-append-le b.start b.bytes.items lines (omega arith)) ∙ drop-append-le b.parsed (window b) lines short in
+    ap (λ (x : List ℕ). x ++ drop n shown) text ∙ append_assoc (unparsed b) lines (drop n shown) ∙ ap (λ (x : List ℕ). unparsed b ++ x) (take-append-drop n shown ∙ parts) ∙ sym (append_assoc (unparsed b) open_line block)
+
 -- the buffer has the same text
-pub same_read : (k : ItemType) (start now : Option (List ℕ)) (ps : List (List Line)) (ls : List Line) (b c : Buffer) (ended failed : Bool) (rejected next : ℕ) → ((done rest : List ℕ) → Buffers done rest b → Buffers done rest c) → HasRead k start now ps ls b ended failed rejected → (0 < next → IsChunk k ended ls next)
-    → HasRead k start now ps ls c ended failed next
-same_read k start now ps ls b c ended failed rejected next same h chunk = record { lines = h.lines; buffers = same (concat (all_lines ps)) (concat ls) h.buffers; cut = h.cut; some = h.some; chunk = chunk }
+pub same_read : (k : ItemType) (start now : Option (List ℕ)) (ps : List (List Line)) (ls : List Line) (b c : Buffer) (open_line : List ℕ) (ended failed : Bool) (pending next : ℕ) (scan to : Scan) → ((done rest : List ℕ) → Buffers done rest b → Buffers done rest c) → HasRead k start now ps ls b open_line ended failed pending scan → (0 < next → IsChunk k ended ls next) → HasScan k (drop next (concat ls)) to
+    → HasRead k start now ps ls c open_line ended failed next to
+same_read k start now ps ls b c open_line ended failed pending next scan to same h chunk scanned = record { lines = h.lines; buffers = same (concat (all_lines ps)) (concat ls) h.buffers; cut = h.cut; some = h.some; chunk = chunk; scanned = scanned }
 
 -- a chunk is next: it ends at a cut point
-pub next_cut : (k : ItemType) (start now : Option (List ℕ)) (ps : List (List Line)) (r : ItemReader) (cut : ℕ) → HasParts k start now ps r → (0 < cut → (ls : List Line) → unparsed r.buffer ≡ concat ls → AreLines ls → CutsAt k ls cut) → HasParts k start now ps (record r { rejected = cut })
-next_cut k start now ps r cut (ls, h) cuts = (
+pub next_cut : (k : ItemType) (start now : Option (List ℕ)) (ps : List (List Line)) (r : ItemReader) (cut : ℕ) (scan : Scan) → HasParts k start now ps r → (0 < cut → (ls : List Line) → unparsed r.buffer ≡ concat ls → AreLines ls → CutsAt k ls cut) → HasScan k (drop cut (unparsed r.buffer)) scan → HasParts k start now ps (record r { pending = cut; scan = scan })
+next_cut k start now ps r cut scan (ls, h) cuts scanned = (
   ls,
-  same_read k start now ps ls r.buffer r.buffer r.ended (is_some r.fault) r.rejected cut (λ done rest b. b) h (λ some. let c = cuts some ls h.buffers.rest_is (lines_back (all_lines ps) ls h.lines.are) in record {
+  same_read k start now ps ls r.buffer r.buffer r.open_line.items r.ended (is_some r.fault) r.pending cut r.scan scan (λ done rest b. b) h (λ some. let c = cuts some ls h.buffers.rest_is (lines_back (all_lines ps) ls h.lines.are) in record {
     front = c.front;
     back = c.back;
     whole = c.whole;
     len_is = c.len_is;
     cut = inl c.cut;
-  }),
+  }) (rw (← h.buffers.rest_is) scanned),
 )
 
 -- or with the stream, which has nothing left if the chunk is empty
-pub next_end : (k : ItemType) (start now : Option (List ℕ)) (ps : List (List Line)) (r : ItemReader) (len : ℕ) → HasParts k start now ps r → r.ended ≡ true → len ≡ length (unparsed r.buffer) → HasParts k start now ps (record r { rejected = len }) × (len ≡ 0 → HasAll k start now ps)
+pub next_end : (k : ItemType) (start now : Option (List ℕ)) (ps : List (List Line)) (r : ItemReader) (len : ℕ) → HasParts k start now ps r → r.ended ≡ true → len ≡ length (unparsed r.buffer) → HasParts k start now ps (record r { pending = len; scan = first_scan }) × (len ≡ 0 → HasAll k start now ps)
 next_end k start now ps r len (ls, h) ended len_is =
     let long = ap length h.buffers.rest_is in
-    let chunk = same_read k start now ps ls r.buffer r.buffer r.ended (is_some r.fault) r.rejected len (λ done rest b. b) h (λ some. record { front = ls; back = []; whole = sym (append-nil ls); len_is = omega arith; cut = inr (refl, ended) }) in
+    let chunk = same_read k start now ps ls r.buffer r.buffer r.open_line.items r.ended (is_some r.fault) r.pending len r.scan first_scan (λ done rest b. b) h (λ some. record { front = ls; back = []; whole = sym (append-nil ls); len_is = omega arith; cut = inr (refl, ended) }) (scan_none k (drop len (concat ls))) in
     ((ls, chunk), λ none. all (no_bytes ls (lines_back (all_lines ps) ls h.lines.are) (omega arith)))
   where
     all : ls ≡ [] → HasAll k start now ps
     all nil =
         let same : all_lines ps ++ ls ≡ all_lines ps = ap (λ (x : List Line). all_lines ps ++ x) nil ∙ append-nil (all_lines ps) in
         let parts : AreParts k (concat (all_lines ps ++ ls)) ps = record { whole = ap concat same; lines = are_front (all_lines ps) ls h.lines.are; cut = subst (λ (x : List Line). AreCut k (and_next ps x)) nil h.cut } in
-        (concat (all_lines ps ++ ls), (all_consumed start now (all_lines ps ++ ls) r.ended (is_some r.fault) h.lines (h.lines.not_failed ended)).1, h.lines.all_read ended, parts)
+        (concat (all_lines ps ++ ls), (all_consumed start now (all_lines ps ++ ls) r.open_line.items r.ended (is_some r.fault) h.lines ended).1, h.lines.all_read ended, parts)
+
+-- how far the unparsed lines were scanned, if nothing is pending
+pub scan_left : (k : ItemType) (start now : Option (List ℕ)) (ps : List (List Line)) (r : ItemReader) → HasParts k start now ps r → r.pending ≡ 0 → HasScan k (unparsed r.buffer) r.scan
+scan_left k start now ps r (ls, h) none = subst (λ (x : List ℕ). HasScan k x r.scan) (ap (λ (n : ℕ). drop n (concat ls)) none ∙ sym h.buffers.rest_is) h.scanned
 
 -- ---- whether the stream ends after the parts
 
@@ -133,28 +158,28 @@ ends_after k start now ps r some (ls, h) true last more =
     let (ended, none) = last refl in
     let nil = no_bytes ls (lines_back (all_lines ps) ls h.lines.are) (omega (arith, ap length h.buffers.rest_is)) in
     let same : concat (all_lines ps ++ ls) ≡ concat (all_lines ps) = ap (λ (x : List Line). concat (all_lines ps ++ x)) nil ∙ ap concat (append-nil (all_lines ps)) in (
-      subst (λ (x : List ℕ). Consumes start now x) same (all_consumed start now (all_lines ps ++ ls) r.ended (is_some r.fault) h.lines (h.lines.not_failed ended)).1,
+      subst (λ (x : List ℕ). Consumes start now x) same (all_consumed start now (all_lines ps ++ ls) r.open_line.items r.ended (is_some r.fault) h.lines ended).1,
       subst (λ (x : List ℕ). AreAll start x) same (h.lines.all_read ended),
     )
 ends_after k start now ps r some (ls, h) false last more =
-    let rest = concat ls ++ h.lines.lost in
-    let long = length-append (concat ls) h.lines.lost in
-    (rest, left (more refl) long, subst (λ (x : List ℕ). Consumes start now x) (ap (λ (x : List ℕ). x ++ h.lines.lost) (concat-append (all_lines ps) ls) ∙ append_assoc (concat (all_lines ps)) (concat ls) h.lines.lost) h.lines.consumed)
+    let rest = concat ls ++ h.lines.after in
+    let long = length-append (concat ls) h.lines.after in
+    (rest, left (more refl) long, subst (λ (x : List ℕ). Consumes start now x) (ap (λ (x : List ℕ). x ++ h.lines.after) (concat-append (all_lines ps) ls) ∙ append_assoc (concat (all_lines ps)) (concat ls) h.lines.after) h.lines.consumed)
   where
-    left : (r.ended ≡ false) ⊎ (0 < length (unparsed r.buffer)) → length (concat ls ++ h.lines.lost) ≡ length (concat ls) + length h.lines.lost → 0 < length (concat ls ++ h.lines.lost)
+    left : (r.ended ≡ false) ⊎ (0 < length (unparsed r.buffer)) → length (concat ls ++ h.lines.after) ≡ length (concat ls) + length h.lines.after → 0 < length (concat ls ++ h.lines.after)
     left (inr held) long = omega (arith, ap length h.buffers.rest_is)
     left (inl going) long = positive (length (concat ls)) refl
       where
-        positive : (n : ℕ) → length (concat ls) ≡ n → 0 < length (concat ls ++ h.lines.lost)
+        positive : (n : ℕ) → length (concat ls) ≡ n → 0 < length (concat ls ++ h.lines.after)
         positive zero none = (let bad = ap length (h.some going (no_bytes ls (lines_back (all_lines ps) ls h.lines.are) none)) in absurd (omega arith))
         positive (suc n) some_bytes = omega arith
 
 -- ---- a refused part
 
 -- whatever follows the lines read, the whole stream spells no items
-never_after : (k : ItemType) (start now : Option (List ℕ)) (ps : List (List Line)) (part back : List Line) (b : Buffer) (ended failed : Bool) (rejected : ℕ) (h : HasRead k start now (ps ++ part ∷ []) back b ended failed rejected) → SpellsNone k (concat part)
-    → NeverSpells k (AreAll start (concat (all_lines (ps ++ part ∷ []) ++ back) ++ h.lines.lost)) (concat (all_lines (ps ++ part ∷ []) ++ back) ++ h.lines.lost)
-never_after k start now ps part back b ended failed rejected h none = under ended refl
+never_after : (k : ItemType) (start now : Option (List ℕ)) (ps : List (List Line)) (part back : List Line) (b : Buffer) (open_line : List ℕ) (ended failed : Bool) (pending : ℕ) (scan : Scan) (h : HasRead k start now (ps ++ part ∷ []) back b open_line ended failed pending scan) → SpellsNone k (concat part)
+    → NeverSpells k (AreAll start (concat (all_lines (ps ++ part ∷ []) ++ back) ++ h.lines.after)) (concat (all_lines (ps ++ part ∷ []) ++ back) ++ h.lines.after)
+never_after k start now ps part back b open_line ended failed pending scan h none = under ended refl
   where
     done : List Line
     done = all_lines (ps ++ part ∷ [])
@@ -170,27 +195,36 @@ never_after k start now ps part back b ended failed rejected h none = under ende
         with_next [] a = none_with k (concat (done ++ [])) ps [] part a none
         with_next (x ∷ xs) a = none_with k (concat (done ++ x ∷ xs)) ps ((x ∷ xs) ∷ []) part (subst (λ (y : List (List Line)). AreParts k (concat (done ++ x ∷ xs)) y) (append_assoc ps (part ∷ []) ((x ∷ xs) ∷ [])) a) none
 
-    under : (x : Bool) → ended ≡ x → NeverSpells k (AreAll start (concat (done ++ back) ++ h.lines.lost)) (concat (done ++ back) ++ h.lines.lost)
+    under : (x : Bool) → ended ≡ x → NeverSpells k (AreAll start (concat (done ++ back) ++ h.lines.after)) (concat (done ++ back) ++ h.lines.after)
     under true e =
-        subst (λ (x : List ℕ). NeverSpells k (AreAll start x) x) (sym (all_consumed start now (done ++ back) ended failed h.lines (h.lines.not_failed e)).0) (inr (h.lines.all_read e, parts back h.lines.are h.cut))
+        subst (λ (x : List ℕ). NeverSpells k (AreAll start x) x) (sym (all_consumed start now (done ++ back) open_line ended failed h.lines e).0) (inr (h.lines.all_read e, parts back h.lines.are h.cut))
     under false e = inl (λ more.
-        let (ms, ms_are, more_is) = lines_exist (h.lines.lost ++ more) in
+        let (ms, ms_are, more_is) = lines_exist (h.lines.after ++ more) in
         let as_list = append_assoc done back ms in
-        let text : concat (done ++ (back ++ ms)) ≡ (concat (done ++ back) ++ h.lines.lost) ++ more =
-        ap concat (sym as_list) ∙ concat-append (done ++ back) ms ∙ ap (λ (x : List ℕ). concat (done ++ back) ++ x) (sym more_is) ∙ sym (append_assoc (concat (done ++ back)) h.lines.lost more) in
+        let text : concat (done ++ (back ++ ms)) ≡ (concat (done ++ back) ++ h.lines.after) ++ more =
+        ap concat (sym as_list) ∙ concat-append (done ++ back) ms ∙ ap (λ (x : List ℕ). concat (done ++ back) ++ x) (sym more_is) ∙ sym (append_assoc (concat (done ++ back)) h.lines.after more) in
         subst (λ (x : List ℕ). SpellsNone k x) text (parts (back ++ ms) (subst (λ (x : List Line). AreLines x) as_list (lines-append (done ++ back) ms (h.lines.whole e) ms_are)) (next_longer k (ps ++ part ∷ []) back ms (h.some e) h.cut)))
 
 -- ---- what a call did
 
+-- the next part and the bytes that are buffered after it were buffered before
+pub passed_buffered : (r q : ItemReader) (len : ℕ) → Advances r len q → part_of q ++ buffered q ≡ buffered r
+passed_buffered r q len a =
+    let text = unparsed r.buffer in
+    (λ i. a.passes.part i ++ (a.passes.left i ++ (a.same i).open_line.items)) ∙ sym (append_assoc (take len text) (drop len text) r.open_line.items) ∙ ap (λ (x : List ℕ). x ++ r.open_line.items) (take-append-drop len text)
+
+pub due_passed : {P : Type 0} (k : ItemType) (bytes before : List ℕ) → bytes ≡ before → P ⊎ ReadsLast k before → P ⊎ ReadsLast k bytes
+due_passed {P} k bytes before e h = subst (λ (x : List ℕ). P ⊎ ReadsLast k x) (sym e) h
+
 chunk_within : (k : ItemType) (ended : Bool) (ls : List Line) (len : ℕ) → IsChunk k ended ls len → len ≤ length (concat ls)
 chunk_within k ended ls len c = grind (arith, concat-append, length-append {A = ℕ})
 
-pub rejected_fits : (k : ItemType) (start now : Option (List ℕ)) (ps : List (List Line)) (r : ItemReader) → HasParts k start now ps r → 0 < r.rejected → r.buffer.start + r.buffer.parsed + r.rejected ≤ length r.buffer.bytes.items
-rejected_fits k start now ps r (ls, h) some =
-    omega (arith, chunk_within k r.ended ls r.rejected (h.chunk some), h.buffers.within, ap length h.buffers.rest_is, length-drop r.buffer.start r.buffer.bytes.items, length-drop r.buffer.parsed (window r.buffer))
+pub pending_fits : (k : ItemType) (start now : Option (List ℕ)) (ps : List (List Line)) (r : ItemReader) → HasParts k start now ps r → 0 < r.pending → r.buffer.start + r.buffer.parsed + r.pending ≤ length r.buffer.bytes.items
+pending_fits k start now ps r (ls, h) some =
+    omega (arith, chunk_within k r.ended ls r.pending (h.chunk some), h.buffers.within, ap length h.buffers.rest_is, length-drop r.buffer.start r.buffer.bytes.items, length-drop r.buffer.parsed (window r.buffer))
 
 -- the next part was parsed
-module _ (k : ItemType) (start now : Option (List ℕ)) (ps : List (List Line)) (r q : ItemReader) (len : ℕ) (had : HasParts k start now ps r) (c : IsChunk k r.ended had.0 len) (left : 0 < r.rejected - len → IsChunk k r.ended c.back (r.rejected - len)) (some : 0 < len) (a : Advances r len q) where
+module _ (k : ItemType) (start now : Option (List ℕ)) (ps : List (List Line)) (r q : ItemReader) (len : ℕ) (had : HasParts k start now ps r) (c : IsChunk k r.ended had.0 len) (left : 0 < r.pending - len → IsChunk k r.ended c.back (r.pending - len)) (some : 0 < len) (below : len ≤ r.pending) (a : Advances r len q) where
   text : concat had.0 ≡ concat c.front ++ concat c.back
   text = ap concat c.whole ∙ concat-append c.front c.back
 
@@ -200,7 +234,7 @@ module _ (k : ItemType) (start now : Option (List ℕ)) (ps : List (List Line)) 
   text_there : take len (unparsed r.buffer) ≡ concat c.front
   text_there = ap (take len) had.1.buffers.rest_is ∙ part_text
 
-  passed : HasRead k start now (ps ++ c.front ∷ []) c.back q.buffer r.ended (is_some r.fault) (r.rejected - len)
+  passed : HasRead k start now (ps ++ c.front ∷ []) c.back q.buffer r.open_line.items r.ended (is_some r.fault) (r.pending - len) r.scan
   passed =
       let h = had.1 in
       let lines_are : all_lines ps ++ had.0 ≡ all_lines (ps ++ c.front ∷ []) ++ c.back =
@@ -208,11 +242,14 @@ module _ (k : ItemType) (start now : Option (List ℕ)) (ps : List (List Line)) 
       let done_is : concat (all_lines ps) ++ take len (concat had.0) ≡ concat (all_lines (ps ++ c.front ∷ [])) = ap (λ (y : List ℕ). concat (all_lines ps) ++ y) part_text ∙ sym (done_more ps c.front) in
       let rest_is : drop len (concat had.0) ≡ concat c.back = ap (drop len) text ∙ drop_at (concat c.front) (concat c.back) len c.len_is in
       record {
-        lines = subst (λ (y : List Line). HasLines start now y r.ended (is_some r.fault)) lines_are h.lines;
+        lines = subst (λ (y : List Line). HasLines start now y r.open_line.items r.ended (is_some r.fault)) lines_are h.lines;
         buffers = rw (done_is, rest_is) at (a.passes.buffers (concat (all_lines ps)) (concat had.0) h.buffers);
         cut = part_cut k r.ended ps c.front c.back (let n = c.len_is in omega arith) (subst (λ (y : List Line). AreCut k (and_next ps y)) c.whole h.cut) c.cut;
         some = λ going none. elim c.cut [ inl cut ↦ absurd (starts_not_none c.back cut.1 none) | inr end ↦ (let no = end.1 in absurd cc) ];
         chunk = left;
+        scanned =
+            let left_is : drop r.pending (concat had.0) ≡ drop (r.pending - len) (concat c.back) = ap (λ (n : ℕ). drop n (concat had.0)) (let n : r.pending ≡ len + (r.pending - len) = omega arith in n) ∙ sym (drop-drop (r.pending - len) len (concat had.0)) ∙ ap (drop (r.pending - len)) rest_is in
+            subst (λ (y : List ℕ). HasScan k y r.scan) left_is h.scanned;
       }
 
   goes_on : HasParts k start now (ps ++ c.front ∷ []) q
@@ -244,7 +281,7 @@ module _ (k : ItemType) (start now : Option (List ℕ)) (ps : List (List Line)) 
       let placed = (let l = rw kind at located in rw s.1 at l) in
       let none : SpellsNone k (concat c.front) = subst (λ (y : List ℕ). SpellsNone k y) text_there s.3 in
       let done = concat (all_lines ps) in
-      let lost = passed.lines.lost in
+      let lost = passed.lines.after in
       let after = concat c.back ++ lost in
       let read = concat (all_lines (ps ++ c.front ∷ []) ++ c.back) ++ lost in
       let whole : read ≡ concat (all_lines (ps ++ c.front ∷ [])) ++ after = ap (λ (y : List ℕ). y ++ lost) (concat-append (all_lines (ps ++ c.front ∷ [])) c.back) ∙ append_assoc (concat (all_lines (ps ++ c.front ∷ []))) (concat c.back) lost in
@@ -266,7 +303,7 @@ module _ (k : ItemType) (start now : Option (List ℕ)) (ps : List (List Line)) 
         consumed = passed.lines.consumed;
         whole = whole;
         ends = ends c.cut;
-        never = never_after k start now ps c.front c.back q.buffer r.ended (is_some r.fault) (r.rejected - len) passed none;
+        never = never_after k start now ps c.front c.back q.buffer r.open_line.items r.ended (is_some r.fault) (r.pending - len) r.scan passed none;
         placed = λ small. (
           length done + s.0,
           omega arith,
@@ -279,21 +316,21 @@ module _ (k : ItemType) (start now : Option (List ℕ)) (ps : List (List Line)) 
             subst (λ (y : List ℕ). HasLocation y shown) part_there (buffers_located file done (concat had.0) after r.buffer len s.0 shown h.buffers some fits within location (omega (arith, small, ap length part_there)));
       }
     where
-      ends : IsCut k c.front c.back ⊎ ((c.back ≡ []) × (r.ended ≡ true)) → IsLines (concat c.front) ⊎ (concat c.back ++ passed.lines.lost ≡ [])
+      ends : IsCut k c.front c.back ⊎ ((c.back ≡ []) × (r.ended ≡ true)) → IsLines (concat c.front) ⊎ (concat c.back ++ passed.lines.after ≡ [])
       ends (inl cut) =
           let lines = lines_back (all_lines ps) (c.front ++ c.back) (subst (λ (y : List Line). AreLines y) (ap (λ (y : List Line). all_lines ps ++ y) c.whole) had.1.lines.are) in
           inl (lines_of c.front (lines_front c.front c.back (starts_not_none c.back cut.1) lines))
-      ends (inr end) = inr (λ i. concat (end.0 i) ++ passed.lines.none_lost (had.1.lines.not_failed end.1) i)
+      ends (inr end) = inr (λ i. concat (end.0 i) ++ (passed.lines.after_is (had.1.lines.not_failed end.1) ∙ had.1.lines.none_open end.1) i)
 
 -- the first segment of a chunk, and what is left
-module _ (k : ItemType) (start now : Option (List ℕ)) (ps : List (List Line)) (r : ItemReader) (len : ℕ) (begun : 0 < r.rejected) (segment : (ls : List Line) → take r.rejected (unparsed r.buffer) ≡ concat ls → AreLines ls → IsFirstSegment k ls len) (had : HasParts k start now ps r) where
-  abbrev chunk : IsChunk k r.ended had.0 r.rejected
+module _ (k : ItemType) (start now : Option (List ℕ)) (ps : List (List Line)) (r : ItemReader) (len : ℕ) (begun : 0 < r.pending) (segment : (ls : List Line) → take r.pending (unparsed r.buffer) ≡ concat ls → AreLines ls → IsFirstSegment k ls len) (had : HasParts k start now ps r) where
+  abbrev chunk : IsChunk k r.ended had.0 r.pending
   chunk = had.1.chunk begun
 
   abbrev pub first : IsFirstSegment k (had.1.chunk begun).front len
   first =
       let text : unparsed r.buffer ≡ concat chunk.front ++ concat chunk.back = had.1.buffers.rest_is ∙ ap concat chunk.whole ∙ concat-append chunk.front chunk.back in
-      segment chunk.front (ap (take r.rejected) text ∙ take_at (concat chunk.front) (concat chunk.back) r.rejected chunk.len_is)
+      segment chunk.front (ap (take r.pending) text ∙ take_at (concat chunk.front) (concat chunk.back) r.pending chunk.len_is)
       (are_front chunk.front chunk.back (subst (λ (x : List Line). AreLines x) chunk.whole (lines_back (all_lines ps) had.0 had.1.lines.are)))
 
   abbrev pub first_chunk : IsChunk k r.ended had.0 len
@@ -306,13 +343,13 @@ module _ (k : ItemType) (start now : Option (List ℕ)) (ps : List (List Line)) 
       under (inl none) (inr end) = inr ((λ i. none i ++ end.0 i), end.1)
       under (inr cut) u = inl (cut.0, starts_with_more first.back chunk.back cut.1)
 
-  pub first_left : 0 < r.rejected - len → IsChunk k r.ended (first.back ++ chunk.back) (r.rejected - len)
+  pub first_left : 0 < r.pending - len → IsChunk k r.ended (first.back ++ chunk.back) (r.pending - len)
   first_left left =
       let parts = ap (λ (x : List Line). length (concat x)) first.whole ∙ ap length (concat-append first.front first.back) ∙ length-append (concat first.front) (concat first.back) in
-      let len_is : length (concat first.back) ≡ r.rejected - len = omega (arith, chunk.len_is, first.len_is, parts) in
+      let len_is : length (concat first.back) ≡ r.pending - len = omega (arith, chunk.len_is, first.len_is, parts) in
       record { front = first.back; back = chunk.back; whole = refl; len_is = len_is; cut = under first.cut chunk.cut len_is }
     where
-      under : (first.back ≡ []) ⊎ IsCut k first.front first.back → IsCut k chunk.front chunk.back ⊎ ((chunk.back ≡ []) × (r.ended ≡ true)) → length (concat first.back) ≡ r.rejected - len → IsCut k first.back chunk.back ⊎ ((chunk.back ≡ []) × (r.ended ≡ true))
+      under : (first.back ≡ []) ⊎ IsCut k first.front first.back → IsCut k chunk.front chunk.back ⊎ ((chunk.back ≡ []) × (r.ended ≡ true)) → length (concat first.back) ≡ r.pending - len → IsCut k first.back chunk.back ⊎ ((chunk.back ≡ []) × (r.ended ≡ true))
       under (inl none) u n = let z = ap (λ (x : List Line). length (concat x)) none in absurd (omega arith)
       under (inr cut) (inl end) n =
           inl (ends_within k (tokens_of_lines first.front) (tokens_of_lines first.back) (lines_start first.back cut.1) (subst (λ (ts : List Lexeme). LastEnds k ts) (ap tokens_of_lines first.whole ∙ tokens-append first.front first.back) end.0), end.1)

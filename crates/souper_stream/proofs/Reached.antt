@@ -92,20 +92,20 @@ begun_longer k part after items (inr none) h = subst (λ (x : List ℕ). PrefixS
 pub parts_begin : (k : ItemType) (start now : Option (List ℕ)) (ps : List (List Line)) (r : ItemReader) → HasParts k start now ps r → (read : List ℕ) × (rest : List ℕ) × Consumes start now read × (read ≡ concat (all_lines ps) ++ rest) × ((items : List Item) → PartsSpell k ps items → PrefixSpells k read items)
 parts_begin k start now ps r (ls, h) =
     let done = concat (all_lines ps) in
-    let rest = concat ls ++ h.lines.lost in
-    let whole : concat (all_lines ps ++ ls) ++ h.lines.lost ≡ done ++ rest = ap (λ (x : List ℕ). x ++ h.lines.lost) (concat-append (all_lines ps) ls) ∙ append_assoc done (concat ls) h.lines.lost in (
-      concat (all_lines ps ++ ls) ++ h.lines.lost,
+    let rest = concat ls ++ h.lines.after in
+    let whole : concat (all_lines ps ++ ls) ++ h.lines.after ≡ done ++ rest = ap (λ (x : List ℕ). x ++ h.lines.after) (concat-append (all_lines ps) ls) ∙ append_assoc done (concat ls) h.lines.after in (
+      concat (all_lines ps ++ ls) ++ h.lines.after,
       rest,
       h.lines.consumed,
       whole,
       λ items spelled. subst (λ (x : List ℕ). PrefixSpells k x items) (sym whole) (begun_longer k done rest items (ends ls refl) (prefix_of k done items (parts_spell k ps ls items h.lines.are (next_front k ps ls h.cut) spelled))),
     )
   where
-    nothing_left : (b : Bool) → r.ended ≡ b → ls ≡ [] → IsLines (concat (all_lines ps)) ⊎ (concat ls ++ h.lines.lost ≡ [])
-    nothing_left true e none = inr (λ i. concat (none i) ++ h.lines.none_lost (h.lines.not_failed e) i)
+    nothing_left : (b : Bool) → r.ended ≡ b → ls ≡ [] → IsLines (concat (all_lines ps)) ⊎ (concat ls ++ h.lines.after ≡ [])
+    nothing_left true e none = inr (λ i. concat (none i) ++ (h.lines.after_is (h.lines.not_failed e) ∙ h.lines.none_open e) i)
     nothing_left false e none = inl (inl (ap (λ (x : List (List Line)). concat (all_lines x)) (h.some e none)))
 
-    ends : (xs : List Line) → ls ≡ xs → IsLines (concat (all_lines ps)) ⊎ (concat ls ++ h.lines.lost ≡ [])
+    ends : (xs : List Line) → ls ≡ xs → IsLines (concat (all_lines ps)) ⊎ (concat ls ++ h.lines.after ≡ [])
     ends [] e = nothing_left r.ended refl e
     ends (x ∷ xs) e = inl (lines_of (all_lines ps) (lines_front (all_lines ps) ls (λ none. (let both = sym e ∙ none in cc)) h.lines.are))
 

@@ -40,6 +40,7 @@ pub record Buffers (done rest : List ℕ) (b : Buffer) : Type 0 where
 pub record Passes (old : Buffer) (len : ℕ) (new : Buffer) : Type 0 where
   pub bytes_are : new.bytes.items ≡ old.bytes.items
   pub part : last_part new ≡ take len (unparsed old)
+  pub left : unparsed new ≡ drop len (unparsed old)
   pub buffers : (done rest : List ℕ) → Buffers done rest old → Buffers (done ++ take len rest) (drop len rest) new
 
 -- the parsed lines but the last were dropped, and bytes were read

@@ -1,11 +1,13 @@
 -- Definitions. The reading of a stream by parts: each is some of its segments, and a part that spells no items is one segment.
-use Rattle.std.specs.Prelude.{◌≡◌, ◌⊎◌, ℕ, ◌+◌, ◌-◌, ◌^◌, ◌<◌, ◌≤◌, Bool, true, false, is_some, List, [], ◌∷◌, ◌++◌, length, take, Option, IfSome}
+use Rattle.std.specs.Prelude.{◌≡◌, ◌⊎◌, ℕ, ◌+◌, ◌-◌, ◌^◌, ◌<◌, ◌≤◌, Bool, true, false, is_some, List, [], ◌∷◌, ◌++◌, length, take, drop, Option, IfSome}
 use Rattle.std.specs.List.{AllByRecursion}
 use Rattle.std.specs.Io.KnownBytes.{Consumes}
-use Rattle.souper_stream.specs.Prelude.{ItemType, TextSpells, SpellsNone, Item, ParseError, HasLocation, IsRefusalAt, IsLines, PrefixSpells, PrefixSpellsFrom, TextSpellsFrom, starts_of}
+use Rattle.souper_stream.specs.Prelude.{IsOneLine, ItemType, TextSpells, SpellsNone, Item, ParseError, HasLocation, IsRefusalAt, IsLines, PrefixSpells, PrefixSpellsFrom, TextSpellsFrom, starts_of}
 use Rattle.souper_stream.specs.declared.buffer.Buffer.{Buffer}
 use Rattle.souper_stream.specs.declared.reader.ItemReader.{ItemReader}
-use Rattle.souper_stream.specs.Buffering.{last_part, Buffers, Passes, KeepsWindow}
+use Rattle.souper_stream.specs.Buffering.{unparsed, last_part, Buffers, Passes, KeepsWindow}
+use Rattle.souper_stream.specs.declared.cuts.Scan.{Scan}
+use Rattle.souper_stream.specs.Scanning.{HasScan, HasNoneDue}
 use Rattle.souper_stream.specs.declared.starts.Start.{Start}
 use Rattle.souper_stream.specs.Starts.{AreStarts, ItemsStartAt}
 use Rattle.souper_stream.specs.Segments.{Line, concat, IsWholeLine, AreLines, HasNoCut, IsCut, AreCut, all_lines, AreParts}
@@ -24,27 +26,30 @@ abbrev pub and_next : List (List Line) → List Line → List (List Line)
 and_next ps [] = ps
 and_next ps (l ∷ ls) = ps ++ (l ∷ ls) ∷ []
 
--- These lines of a stream were read. What was read after the last whole line before a read that failed is lost.
-pub record HasLines (start now : Option (List ℕ)) (ls : List Line) (ended failed : Bool) : Type 0 where
-  pub lost : List ℕ
-  pub consumed : Consumes start now (concat ls ++ lost)
-  pub none_lost : failed ≡ false → lost ≡ []
+-- These lines of a stream were read, and bytes after them: an open line, which is kept unless a read failed.
+pub record HasLines (start now : Option (List ℕ)) (ls : List Line) (open_line : List ℕ) (ended failed : Bool) : Type 0 where
+  pub after : List ℕ
+  pub consumed : Consumes start now (concat ls ++ after)
+  pub after_is : failed ≡ false → after ≡ open_line
   pub not_failed : ended ≡ true → failed ≡ false
+  pub none_open : ended ≡ true → open_line ≡ []
   pub all_read : ended ≡ true → AreAll start (concat ls)
   pub are : AreLines ls
   pub whole : ended ≡ false → AllByRecursion IsWholeLine ls
+  pub one_line : IsOneLine open_line
 
 -- these parts of a stream were read and parsed, and these lines are buffered after them
-pub record HasRead (k : ItemType) (start now : Option (List ℕ)) (ps : List (List Line)) (ls : List Line) (b : Buffer) (ended failed : Bool) (rejected : ℕ) : Type 0 where
-  pub lines : HasLines start now (all_lines ps ++ ls) ended failed
+pub record HasRead (k : ItemType) (start now : Option (List ℕ)) (ps : List (List Line)) (ls : List Line) (b : Buffer) (open_line : List ℕ) (ended failed : Bool) (pending : ℕ) (scan : Scan) : Type 0 where
+  pub lines : HasLines start now (all_lines ps ++ ls) open_line ended failed
   pub buffers : Buffers (concat (all_lines ps)) (concat ls) b
   pub cut : AreCut k (and_next ps ls)
   pub some : ended ≡ false → ls ≡ [] → ps ≡ []
-  pub chunk : 0 < rejected → IsChunk k ended ls rejected
+  pub chunk : 0 < pending → IsChunk k ended ls pending
+  pub scanned : HasScan k (drop pending (concat ls)) scan
 
 -- these parts of a stream were read and parsed
 abbrev pub HasParts : ItemType → Option (List ℕ) → Option (List ℕ) → List (List Line) → ItemReader → Type 0
-HasParts k start now ps r = (ls : List Line) × HasRead k start now ps ls r.buffer r.ended (is_some r.fault) r.rejected
+HasParts k start now ps r = (ls : List Line) × HasRead k start now ps ls r.buffer r.open_line.items r.ended (is_some r.fault) r.pending r.scan
 
 -- the stream has ended, and these are its parts
 abbrev pub HasAll : ItemType → Option (List ℕ) → Option (List ℕ) → List (List Line) → Type 0
@@ -69,8 +74,23 @@ starts_of_part r = r.starts.items
 
 -- If a chunk was read, the parsed text but for its last line was dropped before; else the buffer is the old one.
 pub record ReadsOn (old new : ItemReader) : Type 0 where
-  pub chunk : old.rejected ≡ 0 → KeepsWindow old.buffer new.buffer
-  pub segment : 0 < old.rejected → new.buffer.bytes.items ≡ old.buffer.bytes.items
+  pub chunk : old.pending ≡ 0 → KeepsWindow old.buffer new.buffer
+  pub segment : 0 < old.pending → new.buffer.bytes.items ≡ old.buffer.bytes.items
+
+-- the bytes that were read and not parsed
+abbrev pub buffered : ItemReader → List ℕ
+buffered r = unparsed r.buffer ++ r.open_line.items
+
+-- These bytes were read, the last of them by one read of at most 64 KiB. The whole lines that were there before it had no cut point, or none
+-- before a line that is not UTF-8.
+pub record ReadsLast (k : ItemType) (bytes : List ℕ) : Type 0 where
+  pub lines : List ℕ
+  pub open_line : List ℕ
+  pub block : List ℕ
+  pub bytes_are : bytes ≡ (lines ++ open_line) ++ block
+  pub none_due : HasNoneDue k lines
+  pub one_line : IsOneLine open_line
+  pub short : length block ≤ 65536
 
 -- `r.part()`
 abbrev pub part_of : ItemReader → List ℕ
@@ -90,7 +110,7 @@ AreNextStarts b len offsets starts = (done rest : List ℕ) → Buffers done res
 
 -- the first `len` unparsed bytes were parsed, and the reader has the starts of their items, if it keeps starts
 pub record Advances (old : ItemReader) (len : ℕ) (new : ItemReader) : Type 0 where
-  pub same : new ≡ record old { buffer = new.buffer; starts = new.starts; rejected = old.rejected - len }
+  pub same : new ≡ record old { buffer = new.buffer; starts = new.starts; pending = old.pending - len }
   pub passes : Passes old.buffer len new.buffer
   pub begin : IfSome (starts_of old.memory) (λ offsets. AreNextStarts old.buffer len offsets new.starts.items)
 

@@ -119,6 +119,7 @@ impl Buffer {
     pub(crate) fn drain(&mut self, alloc: Global) -> Result<(), AllocError>
         requires { self.old.start + self.old.parsed ≤ vec_len self.old.bytes }
         ensures bytes { OnOk result (self.new.bytes.items ≡ window self.old) }
+        ensures last { OnOk result (self.new.last ≡ 0) }
         ensures within { OnOk result (self.new.start + self.new.parsed ≤ vec_len self.new.bytes) }
         ensures buffers { OnOk result ((done rest : List ℕ) → Buffers done rest self.old → Buffers done rest self.new) }
     {

@@ -1,16 +1,16 @@
 //! The reader of a stream: chunks of whole segments, and the segments of a chunk that spells no items.
-ghost use Rattle.std.specs.Prelude.{◌≡◌, ◌+◌, ◌++◌, ◌<◌, ◌≤◌, ℕ, List, [], length, take, true, false, Option, None, is_some, Ok, IfOk, IfErr, IfSome, OnOk, vec_len, option_copied};
+ghost use Rattle.std.specs.Prelude.{◌≡◌, ◌+◌, ◌++◌, ◌<◌, ◌≤◌, ◌⊎◌, ℕ, List, [], length, take, drop, true, false, Option, None, is_some, Ok, IfOk, IfErr, IfSome, OnOk, vec_len, option_copied};
 ghost use Rattle.std.specs.Io.{StopsAt, appended_bytes};
 ghost use Rattle.std.specs.IoError.{error_kind};
-ghost use Rattle.souper_stream.specs.Prelude.{ItemType, Item, IsStrError, kind_of, offset_of, HasLocationAfter, IsLocatedAfter, EndsIn, TakesOver, TakesFrom, TextSpellsFrom, PrefixSpellsFrom, HasStarts, starts_of};
+ghost use Rattle.souper_stream.specs.Prelude.{IsOneLine, IsLines, ItemType, Item, IsStrError, kind_of, offset_of, HasLocationAfter, IsLocatedAfter, EndsIn, TakesOver, TakesFrom, TextSpellsFrom, PrefixSpellsFrom, HasStarts, starts_of};
 ghost use Rattle.souper_stream.specs.Starts.{Ascend};
 ghost use Rattle.souper_stream.specs.Buffering.{window, unparsed, KeepsWindow};
 ghost use Rattle.souper_stream.specs.Segments.{Line, concat, all_lines};
 ghost use Rattle.souper_stream.specs.Reading.{ReadsBytes};
-ghost use Rattle.souper_stream.specs.Parts.{Advances, KeepsParts, HasParts, HasAll, Holds, EndsAfter, part_of, keeps_starts, starts_of_part, ReadsOn, TakesPart, RefusesPart};
+ghost use Rattle.souper_stream.specs.Parts.{Advances, KeepsParts, HasParts, HasAll, Holds, EndsAfter, part_of, keeps_starts, starts_of_part, ReadsOn, buffered, ReadsLast, TakesPart, RefusesPart};
 
 use crate::buffer::Buffer;
-use crate::cuts::{last_cut, segment_len};
+use crate::cuts::{Scan, last_cut, scan_to_last_cut, segment_len};
 use crate::faults::{NotUtf8, not_utf8};
 use crate::item::StreamItem;
 use crate::lines::{lines_len, utf8};
@@ -26,7 +26,8 @@ const BLOCK: usize = 65536;
 
 // Takes bytes of what the reader has buffered, and returns whether the input has ended.
 fn read_block<R: BufRead>(reader: &mut R, bytes: &mut Vec<u8>) -> io::Result<bool>
-    ensures { ReadsBytes (R.remaining reader.old) (R.remaining reader.new) bytes.old.items bytes.new.items result }
+    ensures read { ReadsBytes (R.remaining reader.old) (R.remaining reader.new) bytes.old.items bytes.new.items result }
+    ensures short { length (appended_bytes bytes.old.items bytes.new.items) ≤ 65536 }
 {
     let shown = match reader.fill_buf() {
         Ok(shown) => shown,
@@ -86,6 +87,24 @@ fn fill_lines<R: BufRead>(reader: &mut R, bytes: &mut Vec<u8>, goal: usize) -> i
     read_line(reader, bytes)
 }
 
+// The length of the whole lines that the bytes begin with, if no newline is in the first `start` bytes; or of all, if the input has ended.
+fn closed_len(bytes: &[u8], start: usize, has_ended: bool) -> usize
+    requires { start ≤ length bytes.now }
+    ensures bound { result ≤ length bytes.now }
+    ensures lines { has_ended ≡ false → IsLines (take result bytes.now) }
+    ensures rest { IsOneLine (take start bytes.now) → IsOneLine (drop result bytes.now) }
+    ensures all { has_ended ≡ true → result ≡ length bytes.now }
+{
+    if has_ended {
+        return bytes.len();
+    }
+    let lines = lines_len(&bytes[start..]);
+    if lines == 0 {
+        return 0;
+    }
+    start + lines
+}
+
 // The error of the first `len` unparsed bytes, which are not UTF-8.
 fn not_text(buffer: &Buffer, len: usize) -> io::Error
     requires { buffer.now.start + buffer.now.parsed + len ≤ vec_len buffer.now.bytes }
@@ -112,14 +131,20 @@ pub struct ItemReader {
     // Whether a cut point is looked for whenever something was read, and not only when the buffer has doubled.
     is_eager: bool,
 
+    // The bytes that an eager reader has read after the last newline.
+    open_line: Vec<u8>,
+
+    // How far an eager reader has scanned the lines after the pending bytes.
+    scan: Scan,
+
     // Whether the input has ended.
     ended: bool,
 
     // The error of a read that failed, until the segments before it are parsed.
     fault: Option<io::Error>,
 
-    // The number of unparsed bytes that are read segment by segment: the rest of a chunk.
-    rejected: usize,
+    // The number of unparsed bytes of the current chunk.
+    pending: usize,
 
     // Where the items of the last part begin, if that is asked for.
     starts: Vec<Start>,
@@ -157,25 +182,29 @@ impl ItemReader {
             buffer: Buffer::new(alloc),
             min_chunk,
             is_eager: false,
+            open_line: Vec::new(alloc),
+            scan: Scan::new(),
             ended: false,
             fault: None,
-            rejected: 0,
+            pending: 0,
             starts: Vec::new(alloc),
             memory,
         }
     }
 
     /// Where the items of the last part begin in the stream, one for each item, in order; of a refused part, the items that it begins
-    /// with. There are none if they were not asked for ([`with_starts`](ItemReader::with_starts)).
+    /// with. There are none if they were not asked for ([`with_starts`](ItemReader::with_starts)), and none after the end.
     pub fn starts(&self) -> &[Start]
         ensures { result.now ≡ starts_of_part self.now }
     {
         self.starts.as_slice()
     }
 
-    /// The same reader, which, if it is eager, looks for a cut point each time that it has read something, up to the end of a line. With a
-    /// chunk size of 1 the items of a segment are passed to the sink as soon as the line after it can be read. Long segments take longer.
+    /// The same reader, which, if it is eager, looks for a cut point each time that the input has shown something. So it reads no more while
+    /// whole lines that were shown have a cut point, whatever the chunk size is: the items of a segment are passed to the sink as soon as
+    /// the line after it is there. Each line is then scanned once more than it is parsed.
     pub fn eager(self, is_eager: bool) -> ItemReader
+        ensures eager { result.is_eager ≡ is_eager }
         ensures same { keeps_starts result ≡ keeps_starts self }
         ensures parts { (k : ItemType) (start : Option (List ℕ)) (now : Option (List ℕ)) (ps : List (List Line)) → HasParts k start now ps self → HasParts k start now ps result }
     {
@@ -205,7 +234,7 @@ impl ItemReader {
         let bytes = self
             .buffer
             .bytes
-            .get(start..start.saturating_add(self.rejected))?;
+            .get(start..start.saturating_add(self.pending))?;
         match utf8(bytes) {
             Ok(_) => None,
             Err(_) => Some(not_utf8(self.buffer.passed(), bytes)),
@@ -216,10 +245,11 @@ impl ItemReader {
     // the segments before it: whole lines that were read stay in the buffer, and no part of a line.
     fn read_more<R: BufRead>(&mut self, reader: &mut R, goal: usize) -> io::Result<()>
         requires parsed { self.old.buffer.start + self.old.buffer.parsed ≤ vec_len self.old.buffer.bytes }
-        requires none { self.old.rejected ≡ 0 }
+        requires none { self.old.pending ≡ 0 }
         ensures same { keeps_starts self.new ≡ keeps_starts self.old }
         ensures parsed { self.new.buffer.start + self.new.buffer.parsed ≤ vec_len self.new.buffer.bytes }
-        ensures none { self.new.rejected ≡ 0 }
+        ensures none { self.new.pending ≡ 0 }
+        ensures buffer { self.new.buffer ≡ record self.old.buffer { bytes = self.new.buffer.bytes } }
         ensures kept { OnOk result ((more : List ℕ) × (self.new.buffer.bytes.items ≡ self.old.buffer.bytes.items ++ more)) }
         ensures read { OnOk result ((k : ItemType) → KeepsParts k (R.remaining reader.old) (R.remaining reader.new) self.old self.new) }
     {
@@ -230,6 +260,7 @@ impl ItemReader {
             return Err(fault);
         }
         let start = self.buffer.bytes.len();
+        self.buffer.bytes.append(&mut self.open_line)?;
         match fill_lines(reader, &mut self.buffer.bytes, goal) {
             Ok(ended) => self.ended = ended,
             Err(fault) => {
@@ -241,39 +272,103 @@ impl ItemReader {
         Ok(())
     }
 
-    // Drops what is not needed any more, and reads up to the end of the next chunk. All its bytes count as rejected then: they are none if
-    // the stream has ended.
+    // Reads what the input shows, and waits for no more. Of a line whose end is not there, the bytes stay apart.
+    fn read_shown<R: BufRead>(&mut self, reader: &mut R) -> io::Result<()>
+        requires parsed { self.old.buffer.start + self.old.buffer.parsed ≤ vec_len self.old.buffer.bytes }
+        requires going { self.old.ended ≡ false }
+        requires none { self.old.pending ≡ 0 }
+        ensures same { keeps_starts self.new ≡ keeps_starts self.old }
+        ensures parsed { self.new.buffer.start + self.new.buffer.parsed ≤ vec_len self.new.buffer.bytes }
+        ensures none { self.new.pending ≡ 0 }
+        ensures buffer { self.new.buffer ≡ record self.old.buffer { bytes = self.new.buffer.bytes } }
+        ensures kept { OnOk result ((more : List ℕ) × (self.new.buffer.bytes.items ≡ self.old.buffer.bytes.items ++ more)) }
+        ensures shown { OnOk result ((block : List ℕ) × (length block ≤ 65536) × (buffered self.new ≡ buffered self.old ++ block)) }
+        ensures read { OnOk result ((k : ItemType) → KeepsParts k (R.remaining reader.old) (R.remaining reader.new) self.old self.new) }
+    {
+        if let Some(fault) = self.fault.take() {
+            return Err(fault);
+        }
+        let start = self.open_line.len();
+        self.ended = read_block(reader, &mut self.open_line)?;
+        let len = closed_len(&self.open_line, start, self.ended);
+        if len == 0 {
+            return Ok(());
+        }
+        let mut after = self.open_line.split_off(len)?;
+        self.buffer.bytes.append(&mut self.open_line)?;
+        self.open_line.append(&mut after)?;
+        Ok(())
+    }
+
+    // Reads up to the end of the next chunk, as an eager reader does: it looks for a cut point before each read.
+    fn next_shown<T: StreamItem, R: BufRead>(&mut self, reader: &mut R) -> io::Result<()>
+        requires parsed { self.old.buffer.start + self.old.buffer.parsed ≤ vec_len self.old.buffer.bytes }
+        requires none { self.old.pending ≡ 0 }
+        requires had { (start : Option (List ℕ)) × (ps : List (List Line)) × HasParts T.item_type start (R.remaining reader.old) ps self.old }
+        ensures same { keeps_starts self.new ≡ keeps_starts self.old }
+        ensures next { OnOk result ((start : Option (List ℕ)) (ps : List (List Line)) → HasParts T.item_type start (R.remaining reader.old) ps self.old
+            → HasParts T.item_type start (R.remaining reader.new) ps self.new × (self.new.pending ≡ 0 → HasAll T.item_type start (R.remaining reader.new) ps)) }
+        ensures within { OnOk result (self.new.buffer.start + self.new.buffer.parsed + self.new.pending ≤ vec_len self.new.buffer.bytes) }
+        ensures buffer { self.new.buffer ≡ record self.old.buffer { bytes = self.new.buffer.bytes } }
+        ensures kept { OnOk result ((more : List ℕ) × (self.new.buffer.bytes.items ≡ self.old.buffer.bytes.items ++ more)) }
+        ensures due { OnOk result ((R.remaining reader.new ≡ R.remaining reader.old) ⊎ ReadsLast T.item_type (buffered self.new)) }
+    {
+        for _turn in 0..u64::MAX {
+            let text = self.buffer.unparsed();
+            if self.ended {
+                (self.pending, self.scan) = (text.len(), Scan::new());
+                return Ok(());
+            }
+            (self.pending, self.scan) = match scan_to_last_cut::<T>(text, self.scan) {
+                Ok(found) => found,
+                Err(_) => {
+                    self.pending = text.len();
+                    return Err(not_text(&self.buffer, self.pending));
+                }
+            };
+            if self.pending > 0 {
+                return Ok(());
+            }
+            self.read_shown::<R>(reader)?;
+        }
+        Err(io::Error::from(ErrorKind::Other))
+    }
+
+    // Drops what is not needed any more, and reads up to the end of the next chunk. Its length is pending then: 0 if the stream has ended.
     fn next_chunk<T: StreamItem, R: BufRead>(
         &mut self,
         alloc: Global,
         reader: &mut R,
     ) -> io::Result<()>
         requires parsed { self.old.buffer.start + self.old.buffer.parsed ≤ vec_len self.old.buffer.bytes }
-        requires none { self.old.rejected ≡ 0 }
+        requires none { self.old.pending ≡ 0 }
+        requires had { (start : Option (List ℕ)) × (ps : List (List Line)) × HasParts T.item_type start (R.remaining reader.old) ps self.old }
         ensures same { keeps_starts self.new ≡ keeps_starts self.old }
         ensures next { OnOk result ((start : Option (List ℕ)) (ps : List (List Line)) → HasParts T.item_type start (R.remaining reader.old) ps self.old
-            → HasParts T.item_type start (R.remaining reader.new) ps self.new × (self.new.rejected ≡ 0 → HasAll T.item_type start (R.remaining reader.new) ps)) }
-        ensures within { OnOk result (self.new.buffer.start + self.new.buffer.parsed + self.new.rejected ≤ vec_len self.new.buffer.bytes) }
+            → HasParts T.item_type start (R.remaining reader.new) ps self.new × (self.new.pending ≡ 0 → HasAll T.item_type start (R.remaining reader.new) ps)) }
+        ensures within { OnOk result (self.new.buffer.start + self.new.buffer.parsed + self.new.pending ≤ vec_len self.new.buffer.bytes) }
         ensures kept { OnOk result (KeepsWindow self.old.buffer self.new.buffer) }
+        ensures last { OnOk result (self.new.buffer.last ≡ 0) }
+        ensures due { self.old.is_eager ≡ true → OnOk result ((R.remaining reader.new ≡ R.remaining reader.old) ⊎ ReadsLast T.item_type (buffered self.new)) }
     {
         self.buffer.drain(alloc)?;
+        if self.is_eager {
+            return self.next_shown::<T, R>(reader);
+        }
         let mut goal = self.buffer.bytes.len().saturating_add(self.min_chunk);
         for _turn in 0..u64::MAX {
             self.read_more::<R>(reader, goal)?;
+            let text = self.buffer.unparsed();
+            self.scan = Scan::new();
             if self.ended {
-                self.rejected = self.buffer.unparsed().len();
+                self.pending = text.len();
                 return Ok(());
             }
-            self.rejected = last_cut::<T>(self.buffer.unparsed());
-            if self.rejected > 0 {
+            self.pending = last_cut::<T>(text);
+            if self.pending > 0 {
                 return Ok(());
             }
-            let len = self.buffer.bytes.len();
-            goal = if self.is_eager {
-                len.saturating_add(1)
-            } else {
-                len.saturating_mul(2)
-            };
+            goal = self.buffer.bytes.len().saturating_mul(2);
         }
         Err(io::Error::from(ErrorKind::Other))
     }
@@ -303,32 +398,38 @@ impl ItemReader {
     }
 
     // The first `len` unparsed bytes were parsed. Keeps where their items begin.
-    fn pass(&mut self, alloc: Global, len: usize) -> std::result::Result<(), AllocError>
+    fn pass(&mut self, len: usize) -> std::result::Result<(), AllocError>
         requires some { 0 < len }
         requires within { self.old.buffer.start + self.old.buffer.parsed + len ≤ vec_len self.old.buffer.bytes }
-        requires rejected { len ≤ self.old.rejected }
+        requires pending { len ≤ self.old.pending }
         requires ascend { IfSome (starts_of self.old.memory) (λ offsets. Ascend 0 offsets len) }
         ensures advanced { OnOk result (Advances self.old len self.new) }
         ensures same { keeps_starts self.new ≡ keeps_starts self.old }
     {
         let part = &self.buffer.unparsed()[..len];
-        self.starts = starts_in(alloc, self.buffer.passed(), part, self.memory.starts())?;
+        starts_in(
+            self.buffer.passed(),
+            part,
+            self.memory.starts(),
+            &mut self.starts,
+        )?;
         self.buffer.pass(len);
-        self.rejected -= len;
+        self.pending -= len;
         Ok(())
     }
 
-    // Passes the items of the first segment of the rejected bytes to the sink, and returns true.
+    // Passes the items of the first segment of the pending bytes to the sink.
     fn read_segment<T: StreamItem + Drop, S: Sink<T>>(
         &mut self,
         alloc: Global,
         filename: Option<&str>,
         sink: &mut S,
-    ) -> Result<bool>
-        requires some { 0 < self.old.rejected }
-        requires within { self.old.buffer.start + self.old.buffer.parsed + self.old.rejected ≤ vec_len self.old.buffer.bytes }
-        ensures more { IfOk result (λ more. more ≡ true) }
+    ) -> Result<()>
+        requires some { 0 < self.old.pending }
+        requires within { self.old.buffer.start + self.old.buffer.parsed + self.old.pending ≤ vec_len self.old.buffer.bytes }
         ensures bytes { OnOk result (self.new.buffer.bytes.items ≡ self.old.buffer.bytes.items) }
+        ensures left { OnOk result (part_of self.new ++ buffered self.new ≡ buffered self.old) }
+        ensures refused_left { IfErr result (λ e. kind_of e ≡ ParseErrorKind.Parse → part_of self.new ++ buffered self.new ≡ buffered self.old) }
         ensures refused_bytes { IfErr result (λ e. kind_of e ≡ ParseErrorKind.Parse → self.new.buffer.bytes.items ≡ self.old.buffer.bytes.items) }
         ensures same { keeps_starts self.new ≡ keeps_starts self.old }
         ensures taken { OnOk result ((start now : Option (List ℕ)) (ps : List (List Line)) (first : S) → HasParts T.item_type start now ps self.old → Holds S.holds [] first sink.old
@@ -336,15 +437,15 @@ impl ItemReader {
         ensures refused { IfErr result (λ e. kind_of e ≡ ParseErrorKind.Parse → (start now : Option (List ℕ)) (ps : List (List Line)) (first : S) → HasParts T.item_type start now ps self.old → Holds S.holds [] first sink.old
             → RefusesPart T.item_type (option_copied filename.entry) start now ps S.holds first sink.new self.new e) }
     {
-        let rejected = self.rejected;
-        let len = match segment_len::<T>(&self.buffer.unparsed()[..rejected]) {
+        let pending = self.pending;
+        let len = match segment_len::<T>(&self.buffer.unparsed()[..pending]) {
             Ok(len) => len,
-            Err(_) => return Err(ParseError::from(not_text(&self.buffer, rejected))),
+            Err(_) => return Err(ParseError::from(not_text(&self.buffer, pending))),
         };
         match self.read_text::<T, S>(alloc, len, sink) {
             Ok(()) => {
-                self.pass(alloc, len)?;
-                Ok(true)
+                self.pass(len)?;
+                Ok(())
             }
             Err(error) if error.kind() == ParseErrorKind::Parse => {
                 let error = match utf8(self.buffer.window(len)) {
@@ -357,7 +458,7 @@ impl ItemReader {
                     ),
                     Err(fault) => ParseError::from(fault),
                 };
-                self.pass(alloc, len)?;
+                self.pass(len)?;
                 Err(error)
             }
             Err(error) => Err(error),
@@ -391,14 +492,19 @@ impl ItemReader {
             → TakesPart T.item_type start (R.remaining reader.new) ps S.holds sink.old sink.new self.new) }
         ensures ended { IfOk result (λ more. more ≡ false → (start : Option (List ℕ)) (ps : List (List Line)) → HasParts T.item_type start (R.remaining reader.old) ps self.old
             → HasAll T.item_type start (R.remaining reader.new) ps × (sink.new ≡ sink.old)) }
+        ensures left_none { IfOk result (λ more. more ≡ false → (part_of self.new ≡ []) × (starts_of_part self.new ≡ [])) }
+        ensures unread { 0 < self.old.pending → R.remaining reader.new ≡ R.remaining reader.old }
         ensures refused { IfErr result (λ e. kind_of e ≡ ParseErrorKind.Parse → (start : Option (List ℕ)) (ps : List (List Line)) → HasParts T.item_type start (R.remaining reader.old) ps self.old
             → RefusesPart T.item_type (option_copied filename.entry) start (R.remaining reader.new) ps S.holds sink.old sink.new self.new e) }
+        ensures due { self.old.is_eager ≡ true → self.old.pending ≡ 0 → OnOk result ((R.remaining reader.new ≡ R.remaining reader.old) ⊎ ReadsLast T.item_type (part_of self.new ++ buffered self.new)) }
+        ensures refused_due { self.old.is_eager ≡ true → self.old.pending ≡ 0 → IfErr result (λ e. kind_of e ≡ ParseErrorKind.Parse → (R.remaining reader.new ≡ R.remaining reader.old) ⊎ ReadsLast T.item_type (part_of self.new ++ buffered self.new)) }
         ensures kept { OnOk result (ReadsOn self.old self.new) }
         ensures refused_kept { IfErr result (λ e. kind_of e ≡ ParseErrorKind.Parse → ReadsOn self.old self.new) }
         ensures same { keeps_starts self.new ≡ keeps_starts self.old }
     {
-        if self.rejected > 0 {
-            return self.read_segment::<T, S>(alloc, filename, sink);
+        if self.pending > 0 {
+            self.read_segment::<T, S>(alloc, filename, sink)?;
+            return Ok(true);
         }
         match self.next_chunk::<T, R>(alloc, reader) {
             Ok(()) => {}
@@ -407,19 +513,21 @@ impl ItemReader {
             )),
             Err(fault) => return Err(ParseError::from(fault)),
         }
-        let len = self.rejected;
+        let len = self.pending;
         if len == 0 {
+            self.starts.clear();
             return Ok(false);
         }
         match self.read_text::<T, S>(alloc, len, sink) {
             Ok(()) => {
-                self.pass(alloc, len)?;
+                self.pass(len)?;
                 Ok(true)
             }
             Err(error) if error.kind() == ParseErrorKind::Memory => Err(error),
             Err(_) => {
                 sink.rollback();
-                self.read_segment::<T, S>(alloc, filename, sink)
+                self.read_segment::<T, S>(alloc, filename, sink)?;
+                Ok(true)
             }
         }
     }

@@ -1,11 +1,11 @@
 //! Where the items of a stream begin.
-ghost use Rattle.std.specs.Prelude.{◌≡◌, ◌<◌, ◌+◌, ◌^◌, ◌++◌, List, ℕ, IfOk, length};
+ghost use Rattle.std.specs.Prelude.{◌≡◌, ◌<◌, ◌+◌, ◌^◌, ◌++◌, List, ℕ, OnOk, length};
 ghost use Rattle.souper_stream.specs.Starts.{Ascend, AreStarts};
 ghost use Rattle.souper_stream.specs.Buffering.{Counts};
 
 use crate::buffer::newline_count;
 use souper_ir::parse::Before;
-use std::alloc::{AllocError, Global};
+use std::alloc::AllocError;
 
 /// Where an item of a stream begins: where its first token is.
 #[derive(Clone, Copy, Debug)]
@@ -17,18 +17,18 @@ pub struct Start {
     pub line: usize,
 }
 
-/// Where the bytes at these offsets of a part are in the stream, given the numbers of bytes and lines before the part.
+/// Writes where the bytes at these offsets of a part are in the stream, given the numbers of bytes and lines before the part.
 #[tactic(auto, using(crate::proofs::Buffers::none_told))]
 pub(crate) fn starts_in(
-    alloc: Global,
     before: Before,
     part: &[u8],
     offsets: &[usize],
-) -> Result<Vec<Start>, AllocError>
+    starts: &mut Vec<Start>,
+) -> Result<(), AllocError>
     requires { Ascend 0 offsets.now (length part.now) }
-    ensures { IfOk result (λ starts. (done : List ℕ) → Counts before done → length (done ++ part.now) + 1 < 2 ^ 64 → AreStarts done part.now offsets.now starts.items) }
+    ensures { OnOk result ((done : List ℕ) → Counts before done → length (done ++ part.now) + 1 < 2 ^ 64 → AreStarts done part.now offsets.now starts.new.items) }
 {
-    let mut starts = Vec::new(alloc);
+    starts.clear();
     let (mut passed, mut lines) = (0, before.lines);
     for offset in offsets {
         lines = lines.saturating_add(newline_count(&part[passed..*offset]));
@@ -38,5 +38,5 @@ pub(crate) fn starts_in(
             line: lines.saturating_add(1),
         })?;
     }
-    Ok(starts)
+    Ok(())
 }

@@ -7,6 +7,7 @@ mod going_on;
 mod layouts;
 mod lines;
 mod objects;
+mod pauses;
 mod streams;
 mod support;
 mod uniques;

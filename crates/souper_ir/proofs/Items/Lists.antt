@@ -1,5 +1,5 @@
 -- Items in sequence: at most one list of them is spelled, and none if the parser refuses.
-use Rattle.std.proofs.Common.{◌≡◌, ℕ, ◌<◌, Bool, true, false, List, [], ◌∷◌, ◌++◌, length, Option, None, refl, sym, ◌∙◌, ap, subst, append_assoc, arith}
+use Rattle.std.proofs.Common.{◌≡◌, ℕ, ◌<◌, Bool, true, false, List, [], ◌∷◌, ◌++◌, length, Option, None, Err, refl, sym, ◌∙◌, ap, subst, append_assoc, arith}
 use Rattle.std.proofs.lemmas.List.{append-nil, append_cancel_left, length-append}
 use Rattle.std.specs.List.{AllByRecursion}
 use Rattle.souper_graph.specs.WellFormed.{WellFormed}
@@ -8,6 +8,7 @@ use Rattle.souper_ir.specs.declared.parse.error.ParseError.{ParseError}
 use Rattle.souper_graph.specs.Syntax.Tokens.{Lexeme, IsLexeme}
 use Rattle.souper_graph.specs.Syntax.Spelling.{kinds, Scope, infer_spells, Statements, ItemType, left_hand_side, right_hand_side, replacement, Tail, tail_spells, item_spells, item_spells_after, list_spells, TextSpells}
 use Rattle.souper_ir.specs.Continuation.{ending_continues, item_continues}
+use Rattle.souper_ir.specs.Errors.{at_end_of}
 use Rattle.souper_ir.specs.Parsing.{Cause, Parsing}
 use Rattle.souper_ir.specs.Reading.{cause_of, IfRefused, if_refused, IsRead, Fails, fails_later}
 use Rattle.souper_ir.specs.Grammar.{Free, NextStops, Starts, Took, NoFrontOf, LastGoesOn, Refusal, peek_at}
@@ -184,11 +185,11 @@ failed_same k vs p q so = ap (λ (x : Parsing). x.failed) so.state
 len_same : (k : ItemType) (vs : List Item) (p q : Parsing) → ItemsTaken k vs p q → q.len ≡ p.len
 len_same k vs p q so = ap (λ (x : Parsing). x.len) so.state
 
-pub look_refused : (k : ItemType) (vs : List Item) (e : ParseError) (p q r : Parsing) → ItemsTaken k vs p q → IfRefused (cause_of e) (peek_at is_any q ≡ None) × Fails e q r → ListRefusal k e p r
+pub look_refused : (k : ItemType) (vs : List Item) (e : ParseError) (p q r : Parsing) → ItemsTaken k vs p q → IfRefused (cause_of e) (peek_at is_any q ≡ Err (at_end_of e)) × Fails e q r → ListRefusal k e p r
 look_refused k vs e p q r so h = record {
   failed = fails_later e p q r (failed_same k vs p q so) (len_same k vs p q so) h.1;
   nothing = if_refused (cause_of e) (λ unseen live items sound spelled.
-      let fault = unread is_any q unseen (failed_same k vs p q so ∙ live) in
+      let fault = unread is_any q (at_end_of e) unseen (failed_same k vs p q so ∙ live) in
       let clash : true ≡ false = sym fault.1 ∙ ap (λ (x : Parsing). x.faulty) so.state ∙ sound in absurd cc) h.0;
 }
 

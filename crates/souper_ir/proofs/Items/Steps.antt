@@ -109,8 +109,8 @@ abbrev pub SeesInfer : Bool → Parsing → Parsing → Type 0
 SeesInfer b p h = IsRead (peek_at (is_word (codes "infer")) p) b p h
 
 -- a parser at a fault
-pub look_refused : (e : ParseError) (p q : Parsing) → IfRefused (cause_of e) (peek_at (is_word (codes "infer")) p ≡ None) × Fails e p q → TailRefusal replacement e p q
-look_refused e p q h = record { failed = h.1; nothing = none_if_unread (tail_spells replacement) tail_continues (is_word (codes "infer")) p (cause_of e) h.0 }
+pub look_refused : (e : ParseError) (p q : Parsing) → IfRefused (cause_of e) (peek_at (is_word (codes "infer")) p ≡ Err (at_end_of e)) × Fails e p q → TailRefusal replacement e p q
+look_refused e p q h = record { failed = h.1; nothing = none_if_unread (tail_spells replacement) tail_continues (is_word (codes "infer")) p (at_end_of e) (cause_of e) h.0 }
 
 pub cand_tail : (c : PlainCand) (p h q : Parsing) → SeesInfer false p h → Took cand_spells cand_continues (λ s. s) c h q → TookTail replacement ([], candidate c) p q
 cand_tail c p h q seen took =

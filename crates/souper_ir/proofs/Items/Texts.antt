@@ -91,7 +91,7 @@ prefix_taken holds k kept bs p old new h t =
       record { items = t.items; starts = t.starts; spelled = (t.used, b.0, b.1, t.each); taken = t.taken; has = t.has },
     )
 
-parse_cause : (e : ParseError) → kind_of e ≡ Parse → (o : ℕ) × (cause_of e ≡ Some (refused o))
+pub parse_cause : (e : ParseError) → kind_of e ≡ Parse → (o : ℕ) × (cause_of e ≡ Some (refused o))
 parse_cause e kind = under e.cause refl
   where
     under : (c : ErrorCause) → e.cause ≡ c → (o : ℕ) × (cause_of e ≡ Some (refused o))
@@ -99,7 +99,7 @@ parse_cause e kind = under e.cause refl
     under (ParseCause r) at = (r.value.offset, offset_cause e r.value.offset (ap offset_of_cause at))
     under MemoryCause at = let bad : Memory ≡ Parse = sym (ap kind_of_cause at) ∙ kind in absurd cc
 
-located_kind : (file : Option (List ℕ)) (bs : List ℕ) (e new : ParseError) → IsLocated file bs e new → kind_of new ≡ Parse → kind_of e ≡ Parse
+pub located_kind : (file : Option (List ℕ)) (bs : List ℕ) (e new : ParseError) → IsLocated file bs e new → kind_of new ≡ Parse → kind_of e ≡ Parse
 located_kind file bs e new l kind = under (kind_of e) refl l
   where
     under : (x : ParseErrorKind) → kind_of e ≡ x → OnKind x (new ≡ e) (IfSome (offset_of e) (λ offset. (kind_of new ≡ Memory) ⊎ IsRefusalAt file bs offset new)) (new ≡ e) → kind_of e ≡ Parse

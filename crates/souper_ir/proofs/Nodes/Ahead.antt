@@ -1,5 +1,5 @@
 -- Facts about a parser whose next token comes, though it was not lexed.
-use Rattle.std.proofs.Common.{◌≡◌, ◌⊎◌, ℕ, Bool, true, false, List, [], ◌∷◌, Some, None, refl, sym, ◌∙◌, ap, subst, inl, inr}
+use Rattle.std.proofs.Common.{◌≡◌, ◌⊎◌, ℕ, Bool, true, false, List, [], ◌∷◌, Some, None, Ok, refl, sym, ◌∙◌, ap, subst, inl, inr}
 use Rattle.std.specs.Prelude.{Result}
 use Rattle.souper_graph.specs.declared.ast.operands.Operand.{Operand}
 use Rattle.souper_ir.specs.declared.parse.error.ParseError.{ParseError}
@@ -23,7 +23,7 @@ no_colon : (faulty : Bool) (ts : List (ℕ × Lexeme)) → Answers (is_mark equa
 no_colon faulty [] h = absurd (let e : true ≡ false = h.0 in cc)
 no_colon faulty (t ∷ ts) h = ap (is_mark colon) (is_mark_means equals t.1 h)
 
-equals_for_type : (p : Parsing) → peek_at (is_mark equals) p ≡ Some (true, p) → optional_type_at p ≡ Some (None, p)
+equals_for_type : (p : Parsing) → peek_at (is_mark equals) p ≡ Ok (true, p) → optional_type_at p ≡ Ok (None, p)
 unfolding optional_type_at
 equals_for_type p h =
     let s = peeked (is_mark equals) p p true h in
@@ -33,7 +33,7 @@ pub equals_read : (p q : Parsing) → IsRead (accept (as_mark equals) p) tt p q 
 unfolding type_and_equals_at
 equals_read p q h seen = (rw (equals_for_type p seen.0, h.0) refl, h.1, h.2, h.3)
 
-comma_for_type : (p : Parsing) → Comes (λ t. t ≡ comma) p → optional_type_at p ≡ Some (None, p)
+comma_for_type : (p : Parsing) → Comes (λ t. t ≡ comma) p → optional_type_at p ≡ Ok (None, p)
 unfolding optional_type_at
 comma_for_type p c =
     let untyped : is_mark colon c.0 ≡ false = ap (is_mark colon) c.2 in
@@ -49,10 +49,10 @@ comma_read p q same c =
 abbrev IsInt : Lexeme → Type 0
 IsInt t = (w : List ℕ) × (t ≡ int w)
 
-int_for_name : (p : Parsing) → Comes IsInt p → peek_at is_name p ≡ Some (false, p)
+int_for_name : (p : Parsing) → Comes IsInt p → peek_at is_name p ≡ Ok (false, p)
 int_for_name p c =
     let unnamed : is_name c.0 ≡ false = ap is_name c.2.1 in
-    (tested is_name c.0 p c.1).0 ∙ ap (λ (b : Bool). Some (b, p)) unnamed
+    (tested is_name c.0 p c.1).0 ∙ ap (λ (b : Bool). Ok (b, p)) unnamed
 
 pub int_operand : (r : Result Operand ParseError) (p q : Parsing) → Comes IsInt p → Gives (λ x. x) r (operand_by false p) p q → Gives (λ x. x) r (operand_at p) p q
 unfolding operand_at
@@ -74,7 +74,7 @@ no_paren faulty (t ∷ ts) h = refuted
 pub no_attributes : (xs : List PlainAttribute) (p : Parsing) → xs ≡ [] → Comes IsName p → Took (Row attribute_spells) OneMore (λ s. s) xs p p
 no_attributes xs p none c =
     let other : is_mark open_paren c.0 ≡ false = ap (is_mark open_paren) c.2.1 in
-    let s = peeked (is_mark open_paren) p p false ((tested (is_mark open_paren) c.0 p c.1).0 ∙ ap (λ (b : Bool). Some (b, p)) other) in
+    let s = peeked (is_mark open_paren) p p false ((tested (is_mark open_paren) c.0 p c.1).0 ∙ ap (λ (b : Bool). Ok (b, p)) other) in
     subst (λ (ys : List PlainAttribute). Took (Row attribute_spells) OneMore (λ s. s) ys p p) (sym none)
     (record { used = []; parts = refl; spelled = refl; free = no_paren p.faulty p.tokens s.2; live = s.1; state = refl })
 

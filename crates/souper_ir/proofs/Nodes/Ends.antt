@@ -1,5 +1,5 @@
 -- What there is at the end of a text.
-use Rattle.std.proofs.Common.{◌≡◌, ℕ, Bool, true, false, List, [], ◌∷◌, Some, refl, sym, subst}
+use Rattle.std.proofs.Common.{◌≡◌, ℕ, Bool, true, false, List, [], ◌∷◌, Ok, refl, sym, subst}
 use Rattle.souper_graph.specs.Syntax.Tokens.{Lexeme}
 use Rattle.souper_ir.specs.Parsing.{Parsing}
 use Rattle.souper_ir.specs.Grammar.{peek_at}
@@ -11,5 +11,5 @@ no_token faulty [] h = refl
 no_token faulty (t ∷ ts) h = absurd (let bad : true ≡ false = h in cc)
 
 -- no token comes
-pub at_end : (p q : Parsing) → peek_at is_any p ≡ Some (false, q) → q.tokens ≡ []
+pub at_end : (p q : Parsing) → peek_at is_any p ≡ Ok (false, q) → q.tokens ≡ []
 at_end p q e = let k = peeked is_any p q false e in subst (λ (x : Parsing). x.tokens ≡ []) (sym k.0) (no_token p.faulty p.tokens k.2)

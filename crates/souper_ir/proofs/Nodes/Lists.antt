@@ -1,8 +1,9 @@
 -- Values in sequence, while a peek returns that one more comes.
 use Rattle.souper_ir.specs.Laws.FromReadings.{of_memory, memory_refused}
-use Rattle.std.proofs.Common.{◌≡◌, ◌⊎◌, ℕ, ◌<◌, Bool, true, false, List, [], ◌∷◌, ◌++◌, length, map, Option, Some, None, refl, sym, ◌∙◌, ap, subst, inl, inr, append_assoc, arith}
+use Rattle.std.proofs.Common.{◌≡◌, ◌⊎◌, ℕ, ◌<◌, Bool, true, false, List, [], ◌∷◌, ◌++◌, length, map, Option, Some, None, Err, refl, sym, ◌∙◌, ap, subst, inl, inr, append_assoc, arith}
 use Rattle.std.proofs.lemmas.List.{append-nil, map-append, length-append}
 use Rattle.souper_ir.specs.declared.parse.error.ParseError.{ParseError}
+use Rattle.souper_ir.specs.Errors.{at_end_of}
 use Rattle.souper_ir.specs.Parsing.{Cause, Parsing}
 use Rattle.souper_graph.specs.Syntax.Tokens.{Lexeme}
 use Rattle.souper_graph.specs.Syntax.Spelling.{kinds, Scope}
@@ -165,8 +166,8 @@ module _ {V : Type 0} (spells : Scope → V → List Lexeme → Type 0) (continu
   later : (vs : List V) (e : ParseError) (p q r : Parsing) → SoFar spells continues vs p q → Fails e q r → Fails e p r
   later vs e p q r so h = fails_later e p q r (ap (λ (y : Parsing). y.failed) so.state) (ap (λ (y : Parsing). y.len) so.state) h
 
-  peek_stuck : (f : Option Cause) (vs : List V) (p q : Parsing) → SoFar spells continues vs p q → IfRefused f (peek_at starts q ≡ None) → IfRefused f (p.failed ≡ None → Stuck (spells p.scope) continues starts p.faulty (kinds p.tokens))
-  peek_stuck f vs p q so = if_refused f (λ h live. stuck_at vs p q so (inl (unread starts q h (ap (λ (y : Parsing). y.failed) so.state ∙ live))))
+  peek_stuck : (ended : Bool) (f : Option Cause) (vs : List V) (p q : Parsing) → SoFar spells continues vs p q → IfRefused f (peek_at starts q ≡ Err ended) → IfRefused f (p.failed ≡ None → Stuck (spells p.scope) continues starts p.faulty (kinds p.tokens))
+  peek_stuck ended f vs p q so = if_refused f (λ h live. stuck_at vs p q so (inl (unread starts q ended h (ap (λ (y : Parsing). y.failed) so.state ∙ live))))
 
   member_stuck : (f : Option Cause) (vs : List V) (p q : Parsing) → SoFar spells continues vs p q → Starts starts (kinds q.tokens) → IfRefused f (q.failed ≡ None → NoFront spells continues q)
       → IfRefused f (p.failed ≡ None → Stuck (spells p.scope) continues starts p.faulty (kinds p.tokens))
@@ -180,9 +181,9 @@ module _ {V : Type 0} (spells : Scope → V → List Lexeme → Type 0) (continu
   ListRefusal e p r = Refusal list_spells list_goes_on e p r
       × IfRefused (cause_of e) (p.failed ≡ None → Stuck (spells p.scope) continues starts p.faulty (kinds p.tokens))
 
-  pub peek_refused : (vs : List V) (e : ParseError) (p q r : Parsing) → SoFar spells continues vs p q → IfRefused (cause_of e) (peek_at starts q ≡ None) × Fails e q r → ListRefusal e p r
+  pub peek_refused : (vs : List V) (e : ParseError) (p q r : Parsing) → SoFar spells continues vs p q → IfRefused (cause_of e) (peek_at starts q ≡ Err (at_end_of e)) × Fails e q r → ListRefusal e p r
   peek_refused vs e p q r so h =
-      let k = peek_stuck (cause_of e) vs p q so h.0 in
+      let k = peek_stuck (at_end_of e) (cause_of e) vs p q so h.0 in
       (record { failed = later vs e p q r so h.1; nothing = nothing_if (cause_of e) p k }, k)
 
   pub member_refused : (vs : List V) (e : ParseError) (p q m r : Parsing) → SoFar spells continues vs p q → IsRead (peek_at starts q) true q m

@@ -1,17 +1,16 @@
 -- Facts about the next token, by the statement that it begins.
-use Rattle.std.proofs.Common.{◌≡◌, Bool, true, false, Option, Some, None, refl, ◌∙◌, ap, subst}
+use Rattle.std.proofs.Common.{◌≡◌, Bool, true, false, Option, Some, None, Ok, Err, refl, ◌∙◌, ap, subst}
 use Rattle.std.specs.Prelude.{codes, if◌then◌else◌}
 use Rattle.souper_graph.specs.Syntax.Tokens.{Lexeme, ident, val_name, known_bits, int, comma, colon, equals, open_paren, close_paren, open_bracket}
-use Rattle.souper_graph.specs.Syntax.Optional.{◌>>=◌}
 use Rattle.souper_ir.specs.declared.parse.item.Next.{Next}
 use Rattle.souper_ir.specs.declared.parse.item.Next.TheVariants.{Assignment, Pc, BlockPc, Other}
 use Rattle.souper_ir.specs.Parsing.{Parsing}
-use Rattle.souper_ir.specs.Reading.{look_in, look_at, IsRead}
+use Rattle.souper_ir.specs.Reading.{Reads, ◌>>=◌, look_in, look_at, IsRead}
 use Rattle.souper_ir.specs.Grammar.{starts_next, peek_at}
 use Rattle.souper_ir.specs.NodeReadings.{is_name, is_word, starts_statement}
 use Rattle.souper_ir.specs.NextStatement.{next_statement_by, next_statement_of, next_at, NextIs}
-use Rattle.souper_ir.specs.Laws.Peeks.{some_is}
-use Rattle.souper_ir.specs.Laws.Steps.{bind_some}
+use Rattle.souper_ir.specs.Laws.Peeks.{ok_is}
+use Rattle.souper_ir.specs.Laws.Steps.{bind_ok}
 
 abbrev any_of : Bool → Bool → Bool → Bool
 any_of a b c = if a then true else (if b then true else c)
@@ -67,25 +66,25 @@ starts_are (Some open_bracket) = refl
 seen : (starts : Lexeme → Bool) (b : Bool) (n : Next) (p q : Parsing) → ((t : Option Lexeme) → next_statement_of t ≡ n → starts_next starts t ≡ b) → IsRead (next_at p) n p q → IsRead (peek_at starts p) b p q
 unfolding next_at peek_at
 seen starts b n p q is h =
-    let s = bind_some (look_at p) (λ t. Some (next_statement_of t.0, t.1)) (n, q) h.0 in
-    let same : ◌≡◌ {A = Next × Parsing} (next_statement_of s.0.0, s.0.1) (n, q) = some_is s.2 in
+    let s = bind_ok (look_at p) (λ t. Ok (next_statement_of t.0, t.1)) (n, q) h.0 in
+    let same : ◌≡◌ {A = Next × Parsing} (next_statement_of s.0.0, s.0.1) (n, q) = ok_is s.2 in
     let told : starts_next starts s.0.0 ≡ b = is s.0.0 (ap (λ (x : Next × Parsing). x.0) same) in
     let behind : s.0.1 ≡ q = ap (λ (x : Next × Parsing). x.1) same in
     (rw (s.1, told, behind) refl, h.1, h.2, h.3)
 
-abbrev nexts : Option (Option Lexeme × Parsing) → Option (Next × Parsing)
-nexts o = o >>= λ t. Some (next_statement_of t.0, t.1)
+abbrev nexts : Reads (Option Lexeme) → Reads Next
+nexts o = o >>= λ t. Ok (next_statement_of t.0, t.1)
 
-abbrev peeks : (Lexeme → Bool) → Option (Option Lexeme × Parsing) → Option (Bool × Parsing)
-peeks starts o = o >>= λ t. Some (starts_next starts t.0, t.1)
+abbrev peeks : (Lexeme → Bool) → Reads (Option Lexeme) → Reads Bool
+peeks starts o = o >>= λ t. Ok (starts_next starts t.0, t.1)
 
-unseen_in : (starts : Lexeme → Bool) (o : Option (Option Lexeme × Parsing)) → nexts o ≡ None → peeks starts o ≡ None
-unseen_in starts None e = refl
-unseen_in starts (Some t) e = absurd cc
+unseen_in : (starts : Lexeme → Bool) (ended : Bool) (o : Reads (Option Lexeme)) → nexts o ≡ Err ended → peeks starts o ≡ Err ended
+unseen_in starts ended (Err b) e = let same : b ≡ ended = cc in ap (λ (x : Bool). Err x) same
+unseen_in starts ended (Ok t) e = absurd cc
 
-pub unseen : (starts : Lexeme → Bool) (p : Parsing) → next_at p ≡ None → peek_at starts p ≡ None
+pub unseen : (starts : Lexeme → Bool) (p : Parsing) (ended : Bool) → next_at p ≡ Err ended → peek_at starts p ≡ Err ended
 unfolding next_at peek_at
-unseen starts p e = unseen_in starts (look_at p) e
+unseen starts p ended e = unseen_in starts ended (look_at p) e
 
 pub pc_seen : (p q : Parsing) → IsRead (next_at p) Pc p q → IsRead (peek_at (is_word (codes "pc")) p) true p q
 pc_seen p q h = seen (is_word (codes "pc")) true Pc p q (λ t e. (is_pc _ _ _ e).0) h
@@ -120,13 +119,13 @@ unfolding one_of
 no_statement_seen p q h = seen starts_statement false Other p q (λ t e. starts_are t ∙ is_other _ _ _ e) h
 
 -- a look takes no token
-next_stays : (p q : Parsing) (n : Next) → next_at p ≡ Some (n, q) → p ≡ q
+pub next_stays : (p q : Parsing) (n : Next) → next_at p ≡ Ok (n, q) → p ≡ q
 unfolding next_at look_at
 next_stays p q n e =
-    let s = bind_some (look_in p.failed p.faulty p.tokens >>= λ t. Some (t, p)) (λ t. Some (next_statement_of t.0, t.1)) (n, q) e in
-    let l = bind_some (look_in p.failed p.faulty p.tokens) (λ t. Some (t, p)) s.0 s.1 in
-    let looked : ◌≡◌ {A = Option Lexeme × Parsing} (l.0, p) s.0 = some_is l.2 in
-    let same : ◌≡◌ {A = Next × Parsing} (next_statement_of s.0.0, s.0.1) (n, q) = some_is s.2 in
+    let s = bind_ok (look_in p.failed p.faulty p.cut p.tokens >>= λ t. Ok (t, p)) (λ t. Ok (next_statement_of t.0, t.1)) (n, q) e in
+    let l = bind_ok (look_in p.failed p.faulty p.cut p.tokens) (λ t. Ok (t, p)) s.0 s.1 in
+    let looked : ◌≡◌ {A = Option Lexeme × Parsing} (l.0, p) s.0 = ok_is l.2 in
+    let same : ◌≡◌ {A = Next × Parsing} (next_statement_of s.0.0, s.0.1) (n, q) = ok_is s.2 in
     ap (λ (x : Option Lexeme × Parsing). x.1) looked ∙ ap (λ (x : Next × Parsing). x.1) same
 
 pub begins_here : (n : Next) (p q : Parsing) → IsRead (next_at p) n p q → NextIs n q

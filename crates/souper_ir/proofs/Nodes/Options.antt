@@ -1,7 +1,8 @@
 -- A value or none, by what a peek returns.
-use Rattle.std.proofs.Common.{◌≡◌, Bool, true, false, List, [], ◌++◌, Option, Some, None, refl, sym, ◌∙◌, ap, subst}
+use Rattle.std.proofs.Common.{◌≡◌, Bool, true, false, List, [], ◌++◌, Option, Some, None, Err, refl, sym, ◌∙◌, ap, subst}
 use Rattle.std.specs.Option.{is_some}
 use Rattle.souper_ir.specs.declared.parse.error.ParseError.{ParseError}
+use Rattle.souper_ir.specs.Errors.{at_end_of}
 use Rattle.souper_ir.specs.Parsing.{Cause, Parsing}
 use Rattle.souper_graph.specs.Syntax.Tokens.{Lexeme}
 use Rattle.souper_graph.specs.Syntax.Spelling.{kinds, Scope}
@@ -31,8 +32,8 @@ module _ {V : Type 0} (spells : Scope → V → List Lexeme → Type 0) (continu
   none_if : (p : Parsing) (f : Option Cause) → Starts starts (kinds p.tokens) → IfRefused f (p.failed ≡ None → NoFront spells continues p) → IfRefused f (p.failed ≡ None → NoFront some_spells some_goes_on p)
   none_if p f st = if_refused f (λ h live. no_option p st (h live))
 
-  pub peek_refused : (e : ParseError) (p q : Parsing) → IfRefused (cause_of e) (peek_at starts p ≡ None) × Fails e p q → Refusal some_spells some_goes_on e p q
-  peek_refused e p q h = record { failed = h.1; nothing = none_if_unread some_spells some_goes_on starts p (cause_of e) h.0 }
+  pub peek_refused : (e : ParseError) (p q : Parsing) → IfRefused (cause_of e) (peek_at starts p ≡ Err (at_end_of e)) × Fails e p q → Refusal some_spells some_goes_on e p q
+  peek_refused e p q h = record { failed = h.1; nothing = none_if_unread some_spells some_goes_on starts p (at_end_of e) (cause_of e) h.0 }
 
   pub member_refused : (e : ParseError) (p q r : Parsing) → IsRead (peek_at starts p) true p q → Refusal spells continues e q r → Refusal some_spells some_goes_on e p r
   member_refused e p q r h k =

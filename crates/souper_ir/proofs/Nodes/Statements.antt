@@ -1,5 +1,5 @@
 -- Statements, by their first token.
-use Rattle.std.proofs.Common.{◌≡◌, ℕ, Bool, true, false, List, [], Option, Some, None, refl, sym, ◌∙◌, subst}
+use Rattle.std.proofs.Common.{◌≡◌, ℕ, Bool, true, false, List, [], Option, Some, None, Ok, Err, refl, sym, ◌∙◌, subst}
 use Rattle.std.specs.Prelude.{codes}
 use Rattle.std.proofs.lemmas.List.{append-nil}
 use Rattle.souper_graph.specs.declared.ast.operands.«Type».{«Type» as Ty}
@@ -7,6 +7,7 @@ use Rattle.souper_graph.specs.declared.ast.statements.Pc.{Pc}
 use Rattle.souper_graph.specs.declared.ast.statements.BlockPc.{BlockPc}
 use Rattle.souper_graph.specs.Values.{PlainAttribute, PlainAssignment, PlainStatement, assigned, condition, block_condition}
 use Rattle.souper_ir.specs.declared.parse.error.ParseError.{ParseError}
+use Rattle.souper_ir.specs.Errors.{at_end_of}
 use Rattle.souper_ir.specs.Parsing.{Parsing}
 use Rattle.souper_graph.specs.Syntax.Tokens.{Lexeme}
 use Rattle.souper_graph.specs.Syntax.Spelling.{kinds, attribute_spells, assignment_spells, pc_spells, block_pc_spells, statement_spells}
@@ -27,8 +28,8 @@ abbrev pub Takes_it : PlainStatement → Parsing → Parsing → Type 0
 Takes_it v p q = Took statement_spells statement_continues (λ s. s) v p q
 
 -- a parser at a fault, or that had failed
-pub peek_refused : (starts : Lexeme → Bool) (e : ParseError) (p q : Parsing) → IfRefused (cause_of e) (peek_at starts p ≡ None) × Fails e p q → Refuses e p q
-peek_refused starts e p q h = record { failed = h.1; nothing = none_if_unread statement_spells statement_continues starts p (cause_of e) h.0 }
+pub peek_refused : (starts : Lexeme → Bool) (e : ParseError) (p q : Parsing) → IfRefused (cause_of e) (peek_at starts p ≡ Err (at_end_of e)) × Fails e p q → Refuses e p q
+peek_refused starts e p q h = record { failed = h.1; nothing = none_if_unread statement_spells statement_continues starts p (at_end_of e) (cause_of e) h.0 }
 
 -- ---- the word of a path condition comes
 
@@ -45,10 +46,10 @@ pc_taken v p q r h k =
     let t = is_taken pc_rule (λ x. x) v p r (subst (λ (x : Parsing). IsRead (pc_at x) v x r) seen.0 k) in
     record { used = t.used; parts = t.parts; spelled = t.spelled; free = t.free; live = t.live; state = t.state }
 
-pub pc_refused : (e : ParseError) (p q r : Parsing) → IsRead (peek_at (is_word (codes "pc")) p) true p q → IfRefused (cause_of e) (pc_at q ≡ None) × Fails e q r → Refuses e p r
+pub pc_refused : (e : ParseError) (p q r : Parsing) → IsRead (peek_at (is_word (codes "pc")) p) true p q → IfRefused (cause_of e) (pc_at q ≡ Err (at_end_of e)) × Fails e q r → Refuses e p r
 pc_refused e p q r h k =
     let seen = peeked (is_word (codes "pc")) p q true h.0 in
-    let f = is_refused pc_rule e p r (subst (λ (x : Parsing). IfRefused (cause_of e) (pc_at x ≡ None) × Fails e x r) seen.0 k) in
+    let f = is_refused pc_rule e p r (subst (λ (x : Parsing). IfRefused (cause_of e) (pc_at x ≡ Err (at_end_of e)) × Fails e x r) seen.0 k) in
     record { failed = f.failed; nothing = if_refused (cause_of e) (λ none live. pc_none p (peeked_yes (is_word (codes "pc")) p.faulty p.tokens seen.2) (none live)) f.nothing }
 
 -- ---- the word of a condition on a predecessor comes
@@ -66,10 +67,10 @@ block_pc_taken v p q r h k =
     let t = is_taken block_pc_rule (λ x. x) v p r (subst (λ (x : Parsing). IsRead (block_pc_at x) v x r) seen.0 k) in
     record { used = t.used; parts = t.parts; spelled = t.spelled; free = t.free; live = t.live; state = t.state }
 
-pub block_pc_refused : (e : ParseError) (p q r : Parsing) → IsRead (peek_at (is_word (codes "blockpc")) p) true p q → IfRefused (cause_of e) (block_pc_at q ≡ None) × Fails e q r → Refuses e p r
+pub block_pc_refused : (e : ParseError) (p q r : Parsing) → IsRead (peek_at (is_word (codes "blockpc")) p) true p q → IfRefused (cause_of e) (block_pc_at q ≡ Err (at_end_of e)) × Fails e q r → Refuses e p r
 block_pc_refused e p q r h k =
     let seen = peeked (is_word (codes "blockpc")) p q true h.0 in
-    let f = is_refused block_pc_rule e p r (subst (λ (x : Parsing). IfRefused (cause_of e) (block_pc_at x ≡ None) × Fails e x r) seen.0 k) in
+    let f = is_refused block_pc_rule e p r (subst (λ (x : Parsing). IfRefused (cause_of e) (block_pc_at x ≡ Err (at_end_of e)) × Fails e x r) seen.0 k) in
     record { failed = f.failed; nothing = if_refused (cause_of e) (λ none live. block_pc_none p (peeked_yes (is_word (codes "blockpc")) p.faulty p.tokens seen.2) (none live)) f.nothing }
 
 -- ---- an assignment from its parts
@@ -77,17 +78,17 @@ block_pc_refused e p q r h k =
 abbrev Attributes : List PlainAttribute → Parsing → Parsing → Type 0
 Attributes xs q r = Took (Row attribute_spells) OneMore (λ s. s) xs q r
 
-definition_read : (p k q : Parsing) (d : Definition) → IsRead (heading_at p) (d.name, d.ty) p k → IsRead (rhs_at k) d.value k q → IsRead (definition_at p) d p q
+pub definition_read : (p k q : Parsing) (d : Definition) → IsRead (heading_at p) (d.name, d.ty) p k → IsRead (rhs_at k) d.value k q → IsRead (definition_at p) d p q
 unfolding definition_at
 definition_read p k q d h v = (rw (h.0, v.0) refl, h.1, v.2, v.3 ∙ h.3)
 
-unread_heading : (p : Parsing) → heading_at p ≡ None → definition_at p ≡ None
+pub unread_heading : (b : Bool) (p : Parsing) → heading_at p ≡ Err b → definition_at p ≡ Err b
 unfolding definition_at
-unread_heading p e = rw e refl
+unread_heading b p e = rw e refl
 
-unread_value : (p k : Parsing) (h : List ℕ × Option Ty) → heading_at p ≡ Some (h, k) → rhs_at k ≡ None → definition_at p ≡ None
+pub unread_value : (b : Bool) (p k : Parsing) (h : List ℕ × Option Ty) → heading_at p ≡ Ok (h, k) → rhs_at k ≡ Err b → definition_at p ≡ Err b
 unfolding definition_at
-unread_value p k h e f = rw (e, f) refl
+unread_value b p k h e f = rw (e, f) refl
 
 pub parts_taken : (a : PlainAssignment) (p k q r : Parsing) → IsRead (heading_at p) (a.name, a.ty) p k → IsRead (rhs_at k) a.value k q → Attributes a.attributes q r
     → Took assignment_spells assignment_continues (λ s. s) a p r
@@ -95,14 +96,14 @@ parts_taken a p k q r h v xs =
     let d : Definition = record { name = a.name; ty = a.ty; value = a.value } in
     assignment_laws.taken a p q r (is_taken definition_rule (λ (x : Definition). x) d p q (definition_read p k q d h v)) xs
 
-refused_definition : (e : ParseError) (p q : Parsing) → IfRefused (cause_of e) (definition_at p ≡ None) → Fails e p q → Refusal assignment_spells assignment_continues e p q
+refused_definition : (e : ParseError) (p q : Parsing) → IfRefused (cause_of e) (definition_at p ≡ Err (at_end_of e)) → Fails e p q → Refusal assignment_spells assignment_continues e p q
 refused_definition e p q h f = assignment_laws.refused_before e p q (is_refused definition_rule e p q (h, f))
 
-pub heading_refused : (e : ParseError) (p q : Parsing) → IfRefused (cause_of e) (heading_at p ≡ None) × Fails e p q → Refusal assignment_spells assignment_continues e p q
-heading_refused e p q h = refused_definition e p q (if_refused (cause_of e) (unread_heading p) h.0) h.1
+pub heading_refused : (e : ParseError) (p q : Parsing) → IfRefused (cause_of e) (heading_at p ≡ Err (at_end_of e)) × Fails e p q → Refusal assignment_spells assignment_continues e p q
+heading_refused e p q h = refused_definition e p q (if_refused (cause_of e) (unread_heading (at_end_of e) p) h.0) h.1
 
-pub value_refused : (e : ParseError) (x : List ℕ × Option Ty) (p k q : Parsing) → IsRead (heading_at p) x p k → IfRefused (cause_of e) (rhs_at k ≡ None) × Fails e k q → Refusal assignment_spells assignment_continues e p q
-value_refused e x p k q h f = refused_definition e p q (if_refused (cause_of e) (unread_value p k x h.0) f.0) (fails_later e p k q (h.2 ∙ sym h.1) h.3 f.1)
+pub value_refused : (e : ParseError) (x : List ℕ × Option Ty) (p k q : Parsing) → IsRead (heading_at p) x p k → IfRefused (cause_of e) (rhs_at k ≡ Err (at_end_of e)) × Fails e k q → Refusal assignment_spells assignment_continues e p q
+value_refused e x p k q h f = refused_definition e p q (if_refused (cause_of e) (unread_value (at_end_of e) p k x h.0) f.0) (fails_later e p k q (h.2 ∙ sym h.1) h.3 f.1)
 
 pub attributes_refused : (e : ParseError) (d : Definition) (p k q r : Parsing) → IsRead (heading_at p) (d.name, d.ty) p k → IsRead (rhs_at k) d.value k q → Refusal (Row attribute_spells) OneMore e q r
     → Refusal assignment_spells assignment_continues e p r

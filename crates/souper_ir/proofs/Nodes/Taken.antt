@@ -1,5 +1,5 @@
 -- A token that the lexer took: what the readings say of the parser before and after it.
-use Rattle.std.proofs.Common.{◌≡◌, ℕ, Bool, false, List, ◌∷◌, map, Option, Some, None, refl, sym, ◌∙◌, ap, subst}
+use Rattle.std.proofs.Common.{◌≡◌, ℕ, Bool, false, List, ◌∷◌, map, Option, Some, None, Ok, refl, sym, ◌∙◌, ap, subst}
 use Rattle.std.specs.Prelude.{is_some, option_map}
 use Rattle.souper_graph.specs.Syntax.Spelling.{Scope}
 use Rattle.souper_graph.specs.View.{view_statement}
@@ -12,9 +12,8 @@ use Rattle.souper_ir.specs.ParserView.{parsing_of, with_ahead}
 use Rattle.souper_graph.specs.Syntax.Tokens.{Lexeme}
 use Rattle.souper_ir.specs.declared.parse.tokens.Mark.{Mark}
 use Rattle.souper_ir.specs.declared.parse.tokens.Mark.TheVariants.{Comma, Colon, Equals, OpenParen, CloseParen, OpenBracket}
-use Rattle.souper_graph.specs.Syntax.Optional.{◌>>=◌}
 use Rattle.souper_ir.specs.Parsing.{Parsing}
-use Rattle.souper_ir.specs.Reading.{IsRead, look_at, take_at}
+use Rattle.souper_ir.specs.Reading.{Reads, ◌>>=◌, looked_up, IsRead, look_at, take_at}
 use Rattle.souper_ir.specs.Grammar.{Comes, peek_at}
 use Rattle.souper_ir.specs.MarkView.{lexeme_of_mark}
 use Rattle.souper_ir.specs.NodeReadings.{accept, as_mark}
@@ -28,16 +27,16 @@ mark_itself OpenParen = refl
 mark_itself CloseParen = refl
 mark_itself OpenBracket = refl
 
-module _ (o : ℕ) (t : Lexeme) (rest : List (ℕ × Lexeme)) (faulty : Bool) (len : ℕ) (scope : Scope) where
+module _ (o : ℕ) (t : Lexeme) (rest : List (ℕ × Lexeme)) (faulty cut : Bool) (len : ℕ) (scope : Scope) where
   abbrev before : Parsing
-  before = record { tokens = (o, t) ∷ rest; faulty = faulty; len = len; scope = scope; failed = None }
+  before = record { tokens = (o, t) ∷ rest; faulty = faulty; cut = cut; len = len; scope = scope; failed = None }
 
   abbrev after : Parsing
-  after = record { tokens = rest; faulty = faulty; len = len; scope = scope; failed = None }
+  after = record { tokens = rest; faulty = faulty; cut = cut; len = len; scope = scope; failed = None }
 
   pub token_accepted : {A : Type 0} (meaning : Lexeme → Option A) (a : A) → meaning t ≡ Some a → IsRead (accept meaning before) a before after
   unfolding accept take_at
-  token_accepted {A} meaning a is = (ap (λ (x : Option A). x >>= (λ y. Some (y, after))) is, refl, refl, refl)
+  token_accepted {A} meaning a is = (ap (λ (x : Option A). looked_up x >>= (λ y. Ok (y, after))) is, refl, refl, refl)
 
   pub token_taken : IsRead (take_at before) t before after
   unfolding take_at
@@ -45,7 +44,7 @@ module _ (o : ℕ) (t : Lexeme) (rest : List (ℕ × Lexeme)) (faulty : Bool) (l
 
   pub token_seen : (starts : Lexeme → Bool) (b : Bool) → starts t ≡ b → IsRead (peek_at starts before) b before before
   unfolding peek_at look_at
-  token_seen starts b is = (ap (λ (x : Bool). Some (x, before)) is, refl, refl, refl)
+  token_seen starts b is = (ap (λ (x : Bool). Ok (x, before)) is, refl, refl, refl)
 
 -- a parser that has not failed, and has looked at no token, before its lexer took a token
 pub comes : (Is : Lexeme → Type 0) (p : Inside) (v : Parsing) → parsing_of p ≡ v → false ≡ is_some p.failed → false ≡ is_some p.ahead → BeginsWith Is p.lexer → Comes Is v
@@ -64,17 +63,18 @@ tested starts t p h = (rw (h.0) refl, h.1, h.2, h.3)
 module _ (p q : Inside) (o : ℕ) (t : Lexeme) (v : Parsing) (is : parsing_of p ≡ v) (live : false ≡ is_some p.failed) (none : false ≡ is_some p.ahead)
     (takes : Takes p.lexer o t q.lexer) (same : (q.ahead ≡ p.ahead) × (q.failed ≡ p.failed) × (q.statements ≡ p.statements)) where
   abbrev start : Parsing
-  start = before o t q.lexer.tokens q.lexer.fault q.lexer.len (map view_statement p.statements)
+  start = before o t q.lexer.tokens q.lexer.fault q.lexer.cut q.lexer.len (map view_statement p.statements)
 
   abbrev end : Parsing
-  end = after o t q.lexer.tokens q.lexer.fault q.lexer.len (map view_statement p.statements)
+  end = after o t q.lexer.tokens q.lexer.fault q.lexer.cut q.lexer.len (map view_statement p.statements)
 
   is_before : start ≡ v
   is_before = sym (
       (λ i. record {
         tokens = with_ahead (none_is p.ahead (sym none) i) (takes.0 i);
         faulty = takes.1 i;
-        len = takes.2 i;
+        cut = takes.2 i;
+        len = takes.3 i;
         scope = map view_statement p.statements;
         failed = option_map cause_of_failure (none_is p.failed (sym live) i);
       })) ∙ is
@@ -83,23 +83,24 @@ module _ (p q : Inside) (o : ℕ) (t : Lexeme) (v : Parsing) (is : parsing_of p 
   is_after = sym (λ i. record {
     tokens = with_ahead ((same.0 ∙ none_is p.ahead (sym none)) i) q.lexer.tokens;
     faulty = q.lexer.fault;
+    cut = q.lexer.cut;
     len = q.lexer.len;
     scope = map view_statement (same.2 i);
     failed = option_map cause_of_failure ((same.1 ∙ none_is p.failed (sym live)) i);
   })
 
   -- a reading from the one to the other
-  between : {Y : Type 0} (read : Parsing → Option (Y × Parsing)) (y : Y) → IsRead (read start) y start end → IsRead (read v) y v (parsing_of q)
+  between : {Y : Type 0} (read : Parsing → Reads Y) (y : Y) → IsRead (read start) y start end → IsRead (read v) y v (parsing_of q)
   between {Y} read y h =
       subst (λ (x : Parsing). IsRead (read x) y x (parsing_of q)) is_before
       (subst (λ (z : Parsing). IsRead (read start) y start z) is_after h)
 
   pub taken : {A : Type 0} (meaning : Lexeme → Option A) (a : A) → meaning t ≡ Some a → IsRead (accept meaning v) a v (parsing_of q)
-  taken meaning a means = between (accept meaning) a (token_accepted o t q.lexer.tokens q.lexer.fault q.lexer.len (map view_statement p.statements) meaning a means)
+  taken meaning a means = between (accept meaning) a (token_accepted o t q.lexer.tokens q.lexer.fault q.lexer.cut q.lexer.len (map view_statement p.statements) meaning a means)
 
   pub taken_itself : IsRead (take_at v) t v (parsing_of q)
-  taken_itself = between take_at t (token_taken o t q.lexer.tokens q.lexer.fault q.lexer.len (map view_statement p.statements))
+  taken_itself = between take_at t (token_taken o t q.lexer.tokens q.lexer.fault q.lexer.cut q.lexer.len (map view_statement p.statements))
 
   pub seen : (starts : Lexeme → Bool) (b : Bool) → starts t ≡ b → IsRead (peek_at starts v) b v v
   seen starts b e = subst (λ (x : Parsing). IsRead (peek_at starts x) b x x) is_before
-      (token_seen o t q.lexer.tokens q.lexer.fault q.lexer.len (map view_statement p.statements) starts b e)
+      (token_seen o t q.lexer.tokens q.lexer.fault q.lexer.cut q.lexer.len (map view_statement p.statements) starts b e)

@@ -1,5 +1,5 @@
 -- The names of a scope, as it grows.
-use Rattle.std.proofs.Common.{◌≡◌, ℕ, zero, suc, ◌+◌, Bool, true, false, List, [], ◌∷◌, ◌++◌, length, Option, Some, None, refl, sym, ◌∙◌, ap, subst, arith}
+use Rattle.std.proofs.Common.{◌≡◌, ℕ, zero, suc, ◌+◌, Bool, true, false, List, [], ◌∷◌, ◌++◌, length, Option, Some, None, Ok, Err, refl, sym, ◌∙◌, ap, subst, arith}
 use Rattle.std.specs.Prelude.{bytes_eq, is_some, option_map, slice_get, if◌then◌else◌}
 use Rattle.std.specs.Borrow.{Bor}
 use Rattle.std.specs.BTreeMap.{UpdatesBy}
@@ -118,13 +118,13 @@ is_new_in_table names s n None are empty is h =
     ap (λ (o : Option NameEntry). option_map (λ (x : NameEntry). x.0) o) (sym (found_in_map names s n are is)
     ∙ ap (λ (o : Option NameEntry). entry_in_scope s o n) (let none : entry_in_map names.entries n ≡ None = rw empty refl in none))
 
-pub begun : (n : List ℕ) (p : Parsing) → position_of p.scope n ≡ None → new_name_at n p ≡ Some (tt, p)
+pub begun : (n : List ℕ) (p : Parsing) → position_of p.scope n ≡ None → new_name_at n p ≡ Ok (tt, p)
 unfolding new_name_at
 begun n p h = rw h refl
 
-pub not_begun : (n : List ℕ) (p : Parsing) (i : ℕ) → position_of p.scope n ≡ Some i → new_name_at n p ≡ None
+pub not_begun : (n : List ℕ) (p : Parsing) (i : ℕ) (ended : Bool) → position_of p.scope n ≡ Some i → ended ≡ false → new_name_at n p ≡ Err ended
 unfolding new_name_at
-not_begun n p i h = rw h refl
+not_begun n p i ended h e = rw (h, e) refl
 
 -- ---- one more statement
 

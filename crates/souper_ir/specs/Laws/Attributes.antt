@@ -1,12 +1,13 @@
 -- Lemmas. The rules of attributes: a value is read if and only if the tokens spell it.
-use Rattle.std.proofs.Common.{◌≡◌, ℕ, ◌^◌, ◌<◌, ◌==◌, Bool, true, false, List, [], ◌∷◌, ◌++◌, map, length, Option, Some, None, refl, sym, ◌∙◌, ap, subst, inl, inr, arith, eqb-true}
+use Rattle.std.proofs.Common.{◌≡◌, ℕ, ◌^◌, ◌<◌, ◌==◌, Bool, true, false, List, [], ◌∷◌, ◌++◌, map, length, Option, Some, None, Ok, refl, sym, ◌∙◌, ap, subst, inl, inr, arith, eqb-true}
 use Rattle.std.specs.Prelude.{codes, if◌then◌else◌}
 use Rattle.souper_graph.specs.Leaves.{text_of_known_bit, text_of_bit}
 use Rattle.souper_graph.specs.Values.{PlainAttribute, known_bits as known_bits_attribute, power_of_two, negative, non_negative, non_zero, has_external_uses, sign_bits, range, PlainRootAttribute, demanded_bits, harvested_from_use}
 use Rattle.souper_graph.specs.Syntax.Tokens.{Lexeme, ident, known_bits, int, comma, equals, open_paren, close_paren, open_bracket}
 use Rattle.souper_graph.specs.Syntax.Numbers.{number_of, count_of, bit_of, known_bit_of, all_of, listed, bits_of, known_bits_of}
 use Rattle.souper_graph.specs.Syntax.Spelling.{Scope, Joined, attribute_spells, root_attribute_spells, attributes_spell, root_attributes_spell}
-use Rattle.souper_graph.specs.Syntax.Optional.{◌>>=◌}
+use Rattle.souper_graph.specs.Syntax.Optional.{◌>>=◌ as ◌>>?◌}
+use Rattle.souper_ir.specs.Reading.{◌>>=◌}
 use Rattle.souper_ir.specs.declared.parse.attributes.RootKind.{RootKind}
 use Rattle.souper_ir.specs.declared.parse.attributes.RootKind.TheVariants.{DemandedBits, HarvestedFromUse}
 use Rattle.souper_ir.specs.Grammar.{Free, Starts, Followed, Members, LastGoesOn, ListGoesOn}
@@ -28,7 +29,7 @@ module _ {A : Type 0} (one : ℕ → Option A) (text : A → ℕ) (one_is : (b :
   all_means : (s : List ℕ) (bs : List A) → all_of one s ≡ Some bs → s ≡ map text bs
   all_means [] bs e = let same : ◌≡◌ {A = List A} [] bs = some_is e in ap (map text) same
   all_means (c ∷ cs) bs e =
-      let b = bind_some (one c) (λ b. all_of one cs >>= λ ds. Some (b ∷ ds)) bs e in
+      let b = bind_some (one c) (λ b. all_of one cs >>? λ ds. Some (b ∷ ds)) bs e in
       let more = bind_some (all_of one cs) (λ ds. Some (b.0 ∷ ds)) bs b.2 in
       let same : ◌≡◌ {A = List A} (b.0 ∷ more.0) bs = some_is more.2 in
       ap (λ (x : ℕ). x ∷ cs) (one_means c b.0 b.1) ∙ ap (λ (x : List ℕ). text b.0 ∷ x) (all_means cs more.0 more.1) ∙ ap (map text) same
@@ -44,10 +45,10 @@ module _ {A : Type 0} (one : ℕ → Option A) (text : A → ℕ) (one_is : (b :
       let long : 0 < length (b ∷ bs) = omega arith in
       (same, subst (λ (x : List A). 0 < length x) same long)
 
-  pub entries_is : (bs : List A) → 0 < length bs → (all_of one (map text bs) >>= listed) ≡ Some bs
+  pub entries_is : (bs : List A) → 0 < length bs → (all_of one (map text bs) >>? listed) ≡ Some bs
   entries_is bs h = rw (all_is bs) (listed_is bs h)
 
-  pub entries_means : (s : List ℕ) (bs : List A) → (all_of one s >>= listed) ≡ Some bs → (s ≡ map text bs) × (0 < length bs)
+  pub entries_means : (s : List ℕ) (bs : List A) → (all_of one s >>? listed) ≡ Some bs → (s ≡ map text bs) × (0 < length bs)
   entries_means s bs e =
       let all = bind_some (all_of one s) listed bs e in
       let some = listed_means all.0 bs all.2 in
@@ -74,7 +75,7 @@ as_known : (b : Bool) → text_of_bit b ≡ text_of_known_bit (Some b)
 as_known false = refl
 as_known true = refl
 
-known_bit_by : (x : Bool) (c : ℕ) (b : Option Bool) → (x ≡ true → c ≡ 120) → (if x then Some None else (bit_of c >>= λ k. Some (Some k))) ≡ Some b → c ≡ text_of_known_bit b
+known_bit_by : (x : Bool) (c : ℕ) (b : Option Bool) → (x ≡ true → c ≡ 120) → (if x then Some None else (bit_of c >>? λ k. Some (Some k))) ≡ Some b → c ≡ text_of_known_bit b
 known_bit_by true c b f e = let same : ◌≡◌ {A = Option Bool} None b = some_is e in f refl ∙ ap text_of_known_bit same
 known_bit_by false c b f e =
     let k = bind_some (bit_of c) (λ k. Some (Some k)) b e in
@@ -133,7 +134,7 @@ pub record Enclosed {K V : Type 0} (kind_of : Lexeme → Option K) (G : K → Fo
   pub inner : G kind ends s v body (close_paren ∷ rest)
 
 enclosed : {K V : Type 0} {G : K → Form V} {f : K → ReadingOf V} (kind_of : Lexeme → Option K) → ((k : K) → Rule (G k) (f k))
-    → Rule (Enclosed kind_of G) (λ p. accept (as_mark open_paren) p >>= λ o. (accept kind_of o.1 >>= λ k. (f k.0 k.1 >>= λ a. (accept (as_mark close_paren) a.1 >>= λ c. Some (a.0, c.1)))))
+    → Rule (Enclosed kind_of G) (λ p. accept (as_mark open_paren) p >>= λ o. (accept kind_of o.1 >>= λ k. (f k.0 k.1 >>= λ a. (accept (as_mark close_paren) a.1 >>= λ c. Ok (a.0, c.1)))))
 enclosed {G = G} kind_of n = respelled (after (mark open_paren refl) (and_then (one kind_of) (λ k. and_then (n k) (λ a. after (mark close_paren refl) (done a)))))
     (λ s v ts rest h.
     let k = h.after in

@@ -1,17 +1,16 @@
 -- Lemmas. Rules of the grammar by how readings are combined: what a combination reads, from what its parts read. Beside
 -- each form is what builds it: `both`, `found`, `made`, `next`, `next_word`, `next_name`.
-use Rattle.std.proofs.Common.{◌≡◌, ℕ, Bool, true, false, List, [], ◌∷◌, ◌++◌, Option, Some, None, refl, sym, ◌∙◌, ap, subst, append_assoc}
+use Rattle.std.proofs.Common.{◌≡◌, ℕ, Bool, true, false, List, [], ◌∷◌, ◌++◌, Option, Some, None, Result, Ok, Err, refl, sym, ◌∙◌, ap, subst, append_assoc}
 use Rattle.std.proofs.lemmas.List.{append-nil}
-use Rattle.souper_graph.specs.Syntax.Optional.{◌>>=◌}
 use Rattle.souper_graph.specs.Syntax.Tokens.{Lexeme, ident, val_name, int}
 use Rattle.souper_graph.specs.Syntax.Spelling.{kinds, Scope}
 use Rattle.souper_ir.specs.Parsing.{Cause, Parsing}
-use Rattle.souper_ir.specs.Reading.{take_in, take_at}
+use Rattle.souper_ir.specs.Reading.{Reads, ◌>>=◌, looked_up, take_in, take_at}
 use Rattle.souper_ir.specs.Grammar.{Free, NextStops, Starts, peek_at}
 use Rattle.souper_ir.specs.NodeReadings.{accept, as_name, as_mark, as_word, int_by, ident_by}
 use Rattle.souper_ir.specs.Laws.Unique.{Free-from_NextStops}
-use Rattle.souper_ir.specs.Laws.Peeks.{some_is, Answers, peeked, answered, peeked_yes, peeked_no}
-use Rattle.souper_ir.specs.Laws.Steps.{TakesTokens, Takes-then, Takes-none, state_then, taken_ahead, At, bind_some, holds_of_same}
+use Rattle.souper_ir.specs.Laws.Peeks.{ok_is, Answers, peeked, answered, peeked_yes, peeked_no}
+use Rattle.souper_ir.specs.Laws.Steps.{TakesTokens, Takes-then, Takes-none, state_then, taken_ahead, At, bind_ok, up_ok, holds_of_same}
 use Rattle.souper_ir.specs.Laws.Tokens.{name_means, mark_means, word_means, word_of_is, int_means, ident_means}
 
 -- ---- rules
@@ -25,18 +24,18 @@ abbrev pub Form : Type 0 → Type 1
 Form V = Ends → Scope → V → List Lexeme → List Lexeme → Type 0
 
 abbrev pub ReadingOf : Type 0 → Type 0
-ReadingOf V = Parsing → Option (V × Parsing)
+ReadingOf V = Parsing → Reads V
 
 -- the value is read, and these tokens remain
 pub record ReadsValue {V : Type 0} (read : ReadingOf V) (v : V) (p : Parsing) (rest : List Lexeme) : Type 0 where
   pub next : Parsing
-  pub is_read : read p ≡ Some (v, next)
+  pub is_read : read p ≡ Ok (v, next)
   pub ahead : At next rest
   pub state : next ≡ record p { tokens = next.tokens }
 
 -- a value is read if and only if it has the form
 pub record Rule {V : Type 0} (form : Form V) (read : ReadingOf V) : Type 0 where
-  pub sound : (p q : Parsing) (v : V) → p.failed ≡ None → read p ≡ Some (v, q) → (used : List Lexeme) × TakesTokens p q used × form Free p.scope v used (kinds q.tokens)
+  pub sound : (p q : Parsing) (v : V) → p.failed ≡ None → read p ≡ Ok (v, q) → (used : List Lexeme) × TakesTokens p q used × form Free p.scope v used (kinds q.tokens)
   pub complete : (p : Parsing) (v : V) (front rest : List Lexeme) → At p (front ++ rest) → form (λ goes_on. NextStops goes_on p.faulty) p.scope v front rest → ReadsValue read v p rest
 
 -- a reading with its form and rule
@@ -84,7 +83,7 @@ both a x y f g = record { value = a; prefix = x; suffix = y; whole = refl; first
 pub and_then : {A B : Type 0} {F : Form A} {G : A → Form B} {r : ReadingOf A} {f : A → ReadingOf B} → Rule F r → ((a : A) → Rule (G a) (f a)) → Rule (Then F G) (λ p. r p >>= λ x. f x.0 x.1)
 and_then {F = F} {G = G} {r = r} {f = f} m n = record {
   sound = λ p q v live e.
-      let x = bind_some (r p) (λ x. f x.0 x.1) (v, q) e in
+      let x = bind_ok (r p) (λ x. f x.0 x.1) (v, q) e in
       let j = m.sound p x.0.1 x.0.0 live x.1 in
       let k = (n x.0.0).sound x.0.1 q v (ap (λ (y : Parsing). y.failed) j.1.state ∙ live) x.2 in (
         j.0 ++ k.0,
@@ -102,7 +101,7 @@ and_then {F = F} {G = G} {r = r} {f = f} m n = record {
       let ahead : At p (h.prefix ++ (h.suffix ++ rest)) = subst (At p) (ap (λ (x : List Lexeme). x ++ rest) h.whole ∙ append_assoc h.prefix h.suffix rest) at in
       let j = m.complete p h.value h.prefix (h.suffix ++ rest) ahead h.first in
       let k = (n h.value).complete j.next v h.suffix rest j.ahead (subst (λ (x : Parsing). G h.value (λ goes_on. NextStops goes_on x.faulty) x.scope v h.suffix rest) (sym j.state) h.second) in
-      record { next = k.next; is_read = rw (j.is_read, k.is_read) (refl {a = Some (v, k.next)}); ahead = k.ahead; state = state_then p j.next k.next j.state k.state };
+      record { next = k.next; is_read = rw (j.is_read, k.is_read) (refl {a = Ok (v, k.next)}); ahead = k.ahead; state = state_then p j.next k.next j.state k.state };
 }
 
 -- ---- ends
@@ -111,15 +110,15 @@ and_then {F = F} {G = G} {r = r} {f = f} m n = record {
 abbrev pub Done : {V : Type 0} → V → Form V
 Done w = λ ends s v ts rest. (v ≡ w) × (ts ≡ [])
 
-pub done : {V : Type 0} (w : V) → Rule (Done w) (λ p. Some (w, p))
+pub done : {V : Type 0} (w : V) → Rule (Done w) (λ p. Ok (w, p))
 done {V} w = record {
   sound = λ p q v live e. holds_of_same (λ (x : V × Parsing). (used : List Lexeme) × TakesTokens p x.1 used × ((x.0 ≡ w) × (used ≡ []))) (w, p) (v, q) e ([], Takes-none p, (refl, refl));
-  complete = λ p v front rest at h. record { next = p; is_read = ap (λ (x : V). Some (x, p)) (sym h.0); ahead = subst (λ (x : List Lexeme). At p (x ++ rest)) h.1 at; state = refl };
+  complete = λ p v front rest at h. record { next = p; is_read = ap (λ (x : V). Ok (x, p)) (sym h.0); ahead = subst (λ (x : List Lexeme). At p (x ++ rest)) h.1 at; state = refl };
 }
 
 -- nothing has the form
-pub fail : {V : Type 0} → Rule {V = V} (λ ends s v ts rest. ⊥) (λ p. None)
-fail = record { sound = λ p q v live e. absurd cc; complete = λ p v front rest at h. absurd h }
+pub fail : {V : Type 0} (ended : Bool) → Rule {V = V} (λ ends s v ts rest. ⊥) (λ p. Err ended)
+fail ended = record { sound = λ p q v live e. absurd cc; complete = λ p v front rest at h. absurd h }
 
 -- a value that the scope must give
 pub record Given {A B : Type 0} (o : Scope → Option A) (G : A → Form B) (ends : Ends) (s : Scope) (v : B) (ts rest : List Lexeme) : Type 0 where
@@ -130,10 +129,10 @@ pub record Given {A B : Type 0} (o : Scope → Option A) (G : A → Form B) (end
 pub found : {A B : Type 0} {o : Scope → Option A} {G : A → Form B} {ends : Ends} {s : Scope} {a : A} {v : B} {ts rest : List Lexeme} → o s ≡ Some a → G a ends s v ts rest → Given o G ends s v ts rest
 found {a = a} e h = record { value = a; is = e; after = h }
 
-pub given : {A B : Type 0} {G : A → Form B} {f : A → ReadingOf B} (o : Scope → Option A) → ((a : A) → Rule (G a) (f a)) → Rule (Given o G) (λ p. o p.scope >>= λ x. f x p)
+pub given : {A B : Type 0} {G : A → Form B} {f : A → ReadingOf B} (o : Scope → Option A) → ((a : A) → Rule (G a) (f a)) → Rule (Given o G) (λ p. looked_up (o p.scope) >>= λ x. f x p)
 given {f = f} o n = record {
   sound = λ p q v live e.
-      let x = bind_some (o p.scope) (λ x. f x p) (v, q) e in
+      let x = up_ok (o p.scope) (λ x. f x p) (v, q) e in
       let k = (n x.0).sound p q v live x.2 in
       (k.0, k.1, record { value = x.0; is = x.1; after = k.2 });
   complete = λ p v front rest at h.
@@ -150,7 +149,7 @@ pub record Last {A B : Type 0} (F : Form A) (g : A → B) (ends : Ends) (s : Sco
 pub made : {A B : Type 0} {F : Form A} {g : A → B} {ends : Ends} {s : Scope} {ts rest : List Lexeme} (a : A) → F ends s a ts rest → Last F g ends s (g a) ts rest
 made a h = record { value = a; is = refl; last = h }
 
-pub last : {A B : Type 0} {F : Form A} {r : ReadingOf A} → Rule F r → (g : A → B) → Rule (Last F g) (λ p. r p >>= λ x. Some (g x.0, x.1))
+pub last : {A B : Type 0} {F : Form A} {r : ReadingOf A} → Rule F r → (g : A → B) → Rule (Last F g) (λ p. r p >>= λ x. Ok (g x.0, x.1))
 last {F = F} m g = respelled (and_then m (λ a. done (g a)))
     (λ s v ts rest h. record {
       value = h.value;
@@ -162,30 +161,30 @@ last {F = F} m g = respelled (and_then m (λ a. done (g a)))
 
 -- ---- tokens
 
-take_some : (failed : Option Cause) (ts : List (ℕ × Lexeme)) (t : Lexeme) (rest : List (ℕ × Lexeme)) → take_in failed ts ≡ Some (t, rest) → (o : ℕ) × (ts ≡ (o, t) ∷ rest)
-take_some (Some c) ts t rest e = absurd cc
-take_some None [] t rest e = absurd cc
-take_some None (u ∷ ts) t rest e =
-    let same : ◌≡◌ {A = Lexeme × List (ℕ × Lexeme)} (u.1, ts) (t, rest) = some_is e in
+take_some : (failed : Option Cause) (cut : Bool) (ts : List (ℕ × Lexeme)) (t : Lexeme) (rest : List (ℕ × Lexeme)) → take_in failed cut ts ≡ Ok (t, rest) → (o : ℕ) × (ts ≡ (o, t) ∷ rest)
+take_some (Some c) cut ts t rest e = absurd cc
+take_some None cut [] t rest e = absurd cc
+take_some None cut (u ∷ ts) t rest e =
+    let same : ◌≡◌ {A = Lexeme × List (ℕ × Lexeme)} (u.1, ts) (t, rest) = ok_is e in
     (u.0, ap (λ (x : Lexeme × List (ℕ × Lexeme)). (u.0, x.0) ∷ x.1) same)
 
-take_is : (failed : Option Cause) (ts : List (ℕ × Lexeme)) (t : Lexeme) (rest : List Lexeme) → failed ≡ None → kinds ts ≡ t ∷ rest → (more : List (ℕ × Lexeme)) × (take_in failed ts ≡ Some (t, more)) × (kinds more ≡ rest)
-take_is (Some c) ts t rest live e = absurd cc
-take_is None [] t rest live e = absurd cc
-take_is None (u ∷ ts) t rest live e =
+take_is : (failed : Option Cause) (cut : Bool) (ts : List (ℕ × Lexeme)) (t : Lexeme) (rest : List Lexeme) → failed ≡ None → kinds ts ≡ t ∷ rest → (more : List (ℕ × Lexeme)) × (take_in failed cut ts ≡ Ok (t, more)) × (kinds more ≡ rest)
+take_is (Some c) cut ts t rest live e = absurd cc
+take_is None cut [] t rest live e = absurd cc
+take_is None cut (u ∷ ts) t rest live e =
     let same : u.1 ≡ t = cc in
-    (ts, ap (λ (x : Lexeme). Some (x, ts)) same, cc)
+    (ts, ap (λ (x : Lexeme). Ok (x, ts)) same, cc)
 
 take : Rule (λ ends s t ts rest. ts ≡ t ∷ []) take_at
 unfolding take_at
 take = record {
   sound = λ p q t live e.
-      let b = bind_some (take_in p.failed p.tokens) (λ x. Some (x.0, record p { tokens = x.1 })) (t, q) e in
-      let k = take_some p.failed p.tokens b.0.0 b.0.1 b.1 in
+      let b = bind_ok (take_in p.failed p.cut p.tokens) (λ x. Ok (x.0, record p { tokens = x.1 })) (t, q) e in
+      let k = take_some p.failed p.cut p.tokens b.0.0 b.0.1 b.1 in
       holds_of_same (λ (x : Lexeme × Parsing). (used : List Lexeme) × TakesTokens p x.1 used × (used ≡ x.0 ∷ [])) (b.0.0, record p { tokens = b.0.1 }) (t, q) b.2
       (b.0.0 ∷ [], record { places = (k.0, b.0.0) ∷ []; parts = k.1; kinds_are = refl; state = refl }, refl);
   complete = λ p t front rest at h.
-      let k = take_is p.failed p.tokens t rest at.live (at.kinds_are ∙ ap (λ (x : List Lexeme). x ++ rest) h) in
+      let k = take_is p.failed p.cut p.tokens t rest at.live (at.kinds_are ∙ ap (λ (x : List Lexeme). x ++ rest) h) in
       record { next = record p { tokens = k.0 }; is_read = rw k.1 refl; ahead = record { kinds_are = k.2; live = at.live }; state = refl };
 }
 
@@ -295,9 +294,9 @@ answers starts false faulty (t ∷ ts) h = if_not (starts t.1) h
 pub choice : {V : Type 0} {f : Bool → ReadingOf V} (starts : Lexeme → Bool) (n : (b : Bool) → Ruled (f b)) → Rule (Choice starts (λ b. (n b).form)) (λ p. peek_at starts p >>= λ b. f b.0 b.1)
 choice {f = f} starts n = record {
   sound = λ p q v live e.
-      let b = bind_some (peek_at starts p) (λ b. f b.0 b.1) (v, q) e in
+      let b = bind_ok (peek_at starts p) (λ b. f b.0 b.1) (v, q) e in
       let look = peeked starts p b.0.1 b.0.0 b.1 in
-      let k = (n b.0.0).rule.sound p q v live (subst (λ (x : Parsing). f b.0.0 x ≡ Some (v, q)) look.0 b.2) in
+      let k = (n b.0.0).rule.sound p q v live (subst (λ (x : Parsing). f b.0.0 x ≡ Ok (v, q)) look.0 b.2) in
       (k.0, k.1, record { branch = b.0.0; seen = subst (Seen Free starts b.0.0) (taken_ahead p q k.0 k.1) (seen_after starts b.0.0 p look.2); chosen = k.2 });
   complete = λ p v front rest at h.
       let k = (n h.branch).rule.complete p v front rest at h.chosen in

@@ -1,14 +1,15 @@
 -- Lemmas. From a reading that is sound and complete to what the traits ask.
-use Rattle.std.proofs.Common.{◌≡◌, false, List, [], ◌∷◌, ◌++◌, map, Option, Some, None, Result, Ok, Err, refl, sym, ◌∙◌, ap, subst}
+use Rattle.std.proofs.Common.{◌≡◌, Bool, true, false, List, [], ◌∷◌, ◌++◌, map, Option, Some, None, Result, Ok, Err, refl, sym, ◌∙◌, ap, subst}
 use Rattle.std.proofs.lemmas.List.{append_cancel_right}
 use Rattle.std.specs.Prelude.{IfOk, IfErr}
 use Rattle.souper_ir.specs.declared.parse.error.ParseError.{ParseError}
+use Rattle.souper_ir.specs.Errors.{at_end_of}
 use Rattle.souper_ir.specs.Parsing.{Cause, no_memory, Parsing}
 use Rattle.souper_graph.specs.Syntax.Tokens.{Lexeme}
 use Rattle.souper_graph.specs.Syntax.Spelling.{kinds, Scope}
 use Rattle.souper_ir.specs.Reading.{Gives, cause_of, IfRefused, if_refused, Fails, FailsForMemory, fails_later, IsRead}
 use Rattle.souper_ir.specs.Grammar.{Free, NextStops, Took, NoFront, Refusal}
-use Rattle.souper_ir.specs.Laws.Peeks.{some_is}
+use Rattle.souper_ir.specs.Laws.Peeks.{ok_is}
 use Rattle.souper_ir.specs.Laws.Steps.{At}
 use Rattle.souper_ir.specs.Laws.Unique.{Alone}
 use Rattle.souper_ir.specs.Laws.Combinators.{ReadingOf, ReadsValue, Rule, Node}
@@ -18,14 +19,14 @@ module _ {Y : Type 0} (spells : Scope → Y → List Lexeme → Type 0) (continu
   abbrev pub Complete : Type 0
   Complete = (p : Parsing) (y : Y) (front rest : List Lexeme) → At p (front ++ rest) → spells p.scope y front × NextStops (continues y) p.faulty rest → ReadsValue read y p rest
 
-  none_read : Complete → (p : Parsing) → read p ≡ None → p.failed ≡ None → NoFront spells continues p
-  none_read complete p unread live y front rest e s st =
+  none_read : Complete → (p : Parsing) → (ended : Bool) → read p ≡ Err ended → p.failed ≡ None → NoFront spells continues p
+  none_read complete p ended unread live y front rest e s st =
       let k = complete p y front rest (record { kinds_are = e; live = live }) (s, st) in
-      let read : read p ≡ Some (y, k.next) = k.is_read in
+      let read : read p ≡ Ok (y, k.next) = k.is_read in
       cc
 
-  none_if : Complete → (p : Parsing) (f : Option Cause) → IfRefused f (read p ≡ None) → IfRefused f (p.failed ≡ None → NoFront spells continues p)
-  none_if complete p f = if_refused f (λ h live. none_read complete p h live)
+  none_if : Complete → (p : Parsing) (ended : Bool) (f : Option Cause) → IfRefused f (read p ≡ Err ended) → IfRefused f (p.failed ≡ None → NoFront spells continues p)
+  none_if complete p ended f = if_refused f (λ h live. none_read complete p ended h live)
 
   -- a parser of these tokens
   kinds_of_places : (ts : List Lexeme) → kinds (map (λ t. (0, t)) ts) ≡ ts
@@ -38,10 +39,10 @@ module _ {Y : Type 0} (spells : Scope → Y → List Lexeme → Type 0) (continu
 
   pub one_alone : Complete → Alone spells continues
   one_alone complete s v w a b c d e m n f g =
-      let p : Parsing = record { tokens = map (λ t. (0, t)) (a ++ c); faulty = false; len = 0; scope = s; failed = None } in
+      let p : Parsing = record { tokens = map (λ t. (0, t)) (a ++ c); faulty = false; cut = true; len = 0; scope = s; failed = None } in
       let j = complete p v a c (record { kinds_are = kinds_of_places (a ++ c); live = refl }) (m, stops (continues v) c f) in
       let k = complete p w b d (record { kinds_are = kinds_of_places (a ++ c) ∙ e; live = refl }) (n, stops (continues w) d g) in
-      let same : ◌≡◌ {A = Y × Parsing} (v, j.next) (w, k.next) = some_is (sym j.is_read ∙ k.is_read) in
+      let same : ◌≡◌ {A = Y × Parsing} (v, j.next) (w, k.next) = ok_is (sym j.is_read ∙ k.is_read) in
       let rest : c ≡ d = sym j.ahead.kinds_are ∙ ap (λ (x : Y × Parsing). kinds x.1.tokens) same ∙ k.ahead.kinds_are in
       (append_cancel_right a b c (e ∙ ap (λ (x : List Lexeme). b ++ x) (sym rest)), ap (λ (x : Y × Parsing). x.0) same)
 
@@ -49,8 +50,8 @@ module _ {Y : Type 0} {spells : Scope → Y → List Lexeme → Type 0} {continu
   pub alone : Alone spells continues
   alone = one_alone spells continues read rule.complete
 
-  pub is_refused : (e : ParseError) (p q : Parsing) → IfRefused (cause_of e) (read p ≡ None) × Fails e p q → Refusal spells continues e p q
-  is_refused e p q h = record { failed = h.1; nothing = none_if spells continues read rule.complete p (cause_of e) h.0 }
+  pub is_refused : (e : ParseError) (p q : Parsing) → IfRefused (cause_of e) (read p ≡ Err (at_end_of e)) × Fails e p q → Refusal spells continues e p q
+  is_refused e p q h = record { failed = h.1; nothing = none_if spells continues read rule.complete p (at_end_of e) (cause_of e) h.0 }
 
   module _ {X : Type 0} (view : X → Y) where
     pub is_taken : (x : X) (p q : Parsing) → IsRead (read p) (view x) p q → Took spells continues (λ s. s) (view x) p q

@@ -1,5 +1,5 @@
 -- Lemmas. Items: what the statements' loop keeps, and that nothing is spelled if it is stuck.
-use Rattle.std.proofs.Common.{◌≡◌, ℕ, ◌<◌, Bool, true, false, List, [], ◌∷◌, ◌++◌, length, None, refl, sym, ◌∙◌, ap, subst, inl, inr, append_assoc, arith}
+use Rattle.std.proofs.Common.{◌≡◌, ℕ, ◌<◌, Bool, true, false, List, [], ◌∷◌, ◌++◌, length, None, Err, refl, sym, ◌∙◌, ap, subst, inl, inr, append_assoc, arith}
 use Rattle.std.specs.Prelude.{codes}
 use Rattle.std.proofs.lemmas.List.{append-nil, append_cancel_left, length-append}
 use Rattle.souper_graph.specs.declared.ast.operands.Operand.{Operand}
@@ -8,6 +8,7 @@ use Rattle.souper_ir.specs.declared.parse.error.ParseError.{ParseError}
 use Rattle.souper_graph.specs.Syntax.Tokens.{Lexeme, ident}
 use Rattle.souper_graph.specs.Syntax.Spelling.{kinds, Scope, Joined, statement_spells, infer_spells, cand_spells, result_spells, Statements, ItemType, left_hand_side, right_hand_side, replacement, Tail, tail_spells, item_spells_after}
 use Rattle.souper_ir.specs.Continuation.{statement_continues, infer_continues, result_continues, item_continues}
+use Rattle.souper_ir.specs.Errors.{at_end_of}
 use Rattle.souper_ir.specs.Parsing.{Parsing}
 use Rattle.souper_ir.specs.Reading.{cause_of, IfRefused, if_refused, IsRead, Fails, fails_later}
 use Rattle.souper_ir.specs.Grammar.{Free, NextStops, Starts, NoFront, LastGoesOn, Refusal, peek_at}
@@ -136,10 +137,10 @@ stuck_at next vs p q so k = record {
   stuck = subst (λ (x : Parsing). next x.scope x.faulty (kinds q.tokens)) so.state k;
 }
 
-pub peek_refused : (vs : List PlainStatement) (e : ParseError) (p q r : Parsing) → Stated vs p q → IfRefused (cause_of e) (peek_at starts_statement q ≡ None) × Fails e q r → StatedRefusal e p r
+pub peek_refused : (vs : List PlainStatement) (e : ParseError) (p q r : Parsing) → Stated vs p q → IfRefused (cause_of e) (peek_at starts_statement q ≡ Err (at_end_of e)) × Fails e q r → StatedRefusal e p r
 peek_refused vs e p q r so h = record {
   failed = fails_later e p q r (failed_same vs p q so) (len_same vs p q so) h.1;
-  stuck = if_refused (cause_of e) (λ k live. stuck_at NoStatement vs p q so (inl (unread starts_statement q k (failed_same vs p q so ∙ live)))) h.0;
+  stuck = if_refused (cause_of e) (λ k live. stuck_at NoStatement vs p q so (inl (unread starts_statement q (at_end_of e) k (failed_same vs p q so ∙ live)))) h.0;
 }
 
 pub member_refused : (vs : List PlainStatement) (e : ParseError) (p q m r : Parsing) → Stated vs p q → IsRead (peek_at starts_statement q) true q m → Refusal statement_spells statement_continues e m r → StatedRefusal e p r

@@ -1,5 +1,5 @@
 -- Lemmas. The rules of types, constants and operands: a value is read if and only if the tokens spell it.
-use Rattle.std.proofs.Common.{◌≡◌, ℕ, suc, zero, Bool, true, false, List, [], ◌∷◌, ◌++◌, length, Option, Some, None, refl, ◌∙◌, ap, subst, arith}
+use Rattle.std.proofs.Common.{◌≡◌, ℕ, suc, zero, Bool, true, false, List, [], ◌∷◌, ◌++◌, length, Option, Some, None, Ok, refl, ◌∙◌, ap, subst, arith}
 use Rattle.souper_graph.specs.declared.ast.operands.«Type».{«Type» as Ty}
 use Rattle.souper_graph.specs.declared.ast.operands.Constant.{Constant}
 use Rattle.souper_graph.specs.declared.ast.operands.Operand.{Operand}
@@ -7,7 +7,7 @@ use Rattle.souper_graph.specs.declared.ast.operands.Operand.TheVariants.{Value, 
 use Rattle.souper_graph.specs.Syntax.Tokens.{Lexeme, ident, val_name, int, comma, colon}
 use Rattle.souper_graph.specs.Syntax.Numbers.{number_of, width_of}
 use Rattle.souper_graph.specs.Syntax.Spelling.{Scope, position_of, type_spells, optional_type_spells, constant_spells, operand_spells, further_spells, operands_spells, pair_spells}
-use Rattle.souper_graph.specs.Syntax.Optional.{◌>>=◌}
+use Rattle.souper_ir.specs.Reading.{◌>>=◌}
 use Rattle.souper_ir.specs.Continuation.{optional_type_continues, constant_continues, operand_continues, operands_continue}
 use Rattle.souper_ir.specs.Grammar.{Free, NextStops, Starts}
 use Rattle.souper_ir.specs.NodeReadings.{is_name, is_mark, is_int, ident_by, type_of_word, type_at, optional_type_by, optional_type_at, constant_at, operand_by, operand_at, further_at, operands_at}
@@ -119,7 +119,7 @@ pub record Pair {V : Type 0} (g : Operand → Operand → V) (ends : Ends) (s : 
   pub spelled : pair_spells s x y ts
   pub free : ends (operand_continues y) rest
 
-pub pair : {V : Type 0} (g : Operand → Operand → V) → Rule (Pair g) (λ p. operand_at p >>= λ x. (operand_at x.1 >>= λ y. Some (g x.0 y.0, y.1)))
+pub pair : {V : Type 0} (g : Operand → Operand → V) → Rule (Pair g) (λ p. operand_at p >>= λ x. (operand_at x.1 >>= λ y. Ok (g x.0 y.0, y.1)))
 pair g = respelled (and_then operand_rule (λ x. last operand_rule (λ y. g x y)))
     (λ s v ts rest h. record {
       x = h.value;
@@ -141,7 +141,7 @@ no_operand : (xs : List Operand) → length xs ≡ zero → xs ≡ []
 no_operand [] e = refl
 no_operand (x ∷ xs) e = absurd (omega arith)
 
-none : (spells : Scope → List Operand → List Lexeme → Type 0) → ((s : Scope) (ts : List Lexeme) → (spells s [] ts → ts ≡ []) × (ts ≡ [] → spells s [] ts)) → Rule (Counted spells zero) (λ p. Some ([], p))
+none : (spells : Scope → List Operand → List Lexeme → Type 0) → ((s : Scope) (ts : List Lexeme) → (spells s [] ts → ts ≡ []) × (ts ≡ [] → spells s [] ts)) → Rule (Counted spells zero) (λ p. Ok ([], p))
 none spells is = respelled (done [])
     (λ s xs ts rest h. rw h.0 (refl, ((is s ts).1 h.1, never rest)))
     (λ faulty s xs ts rest h. let e = no_operand xs h.0 in (e, (is s ts).0 (subst (λ (x : List Operand). spells s x ts) e h.1.0)))

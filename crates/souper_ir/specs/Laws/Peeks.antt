@@ -1,10 +1,9 @@
 -- Lemmas. What a peek returns.
-use Rattle.std.proofs.Common.{◌≡◌, ℕ, Bool, true, false, List, [], ◌∷◌, ◌++◌, Option, Some, None, refl, sym, ◌∙◌, ap}
+use Rattle.std.proofs.Common.{◌≡◌, ℕ, Bool, true, false, List, [], ◌∷◌, ◌++◌, Option, Some, None, Result, Ok, Err, refl, sym, ◌∙◌, ap}
 use Rattle.souper_ir.specs.Parsing.{Cause, Parsing}
 use Rattle.souper_graph.specs.Syntax.Tokens.{Lexeme}
 use Rattle.souper_graph.specs.Syntax.Spelling.{kinds, Scope}
-use Rattle.souper_graph.specs.Syntax.Optional.{◌>>=◌}
-use Rattle.souper_ir.specs.Reading.{IfRefused, if_refused, look_in, look_at}
+use Rattle.souper_ir.specs.Reading.{Reads, ◌>>=◌, IfRefused, if_refused, look_in, look_at}
 use Rattle.souper_ir.specs.Grammar.{NextStops, Starts, NoFront, starts_next, peek_at}
 
 -- the first token decides, and at the end there is no fault
@@ -15,36 +14,39 @@ Answers starts b faulty (t ∷ ts) = starts t.1 ≡ b
 pub some_is : {A : Type 0} {x y : A} → Some x ≡ Some y → x ≡ y
 some_is e = cc
 
-abbrev answer : (Lexeme → Bool) → Parsing → Option (Option Lexeme) → Option (Bool × Parsing)
-answer starts p seen =
-    let look : Option (Option Lexeme × Parsing) = seen >>= λ t. Some (t, p) in
-    look >>= λ t. Some (starts_next starts t.0, t.1)
+pub ok_is : {A : Type 0} {x y : A} → ◌≡◌ {A = Result A Bool} (Ok x) (Ok y) → x ≡ y
+ok_is e = cc
 
-peeked_in : (starts : Lexeme → Bool) (p q : Parsing) (b : Bool) (failed : Option Cause) (faulty : Bool) (ts : List (ℕ × Lexeme))
-    → answer starts p (look_in failed faulty ts) ≡ Some (b, q)
+abbrev pub answer : (Lexeme → Bool) → Parsing → Result (Option Lexeme) Bool → Reads Bool
+answer starts p seen =
+    let look : Reads (Option Lexeme) = seen >>= λ t. Ok (t, p) in
+    look >>= λ t. Ok (starts_next starts t.0, t.1)
+
+peeked_in : (starts : Lexeme → Bool) (p q : Parsing) (b : Bool) (failed : Option Cause) (faulty cut : Bool) (ts : List (ℕ × Lexeme))
+    → answer starts p (look_in failed faulty cut ts) ≡ Ok (b, q)
     → (q ≡ p) × (failed ≡ None) × Answers starts b faulty ts
-peeked_in starts p q b (Some c) faulty ts e = absurd cc
-peeked_in starts p q b None faulty (t ∷ ts) e =
-    let same : ◌≡◌ {A = Bool × Parsing} (starts t.1, p) (b, q) = some_is e in
+peeked_in starts p q b (Some c) faulty cut ts e = absurd cc
+peeked_in starts p q b None faulty cut (t ∷ ts) e =
+    let same : ◌≡◌ {A = Bool × Parsing} (starts t.1, p) (b, q) = ok_is e in
     (ap (λ (x : Bool × Parsing). x.1) (sym same), refl, ap (λ (x : Bool × Parsing). x.0) same)
-peeked_in starts p q b None true [] e = absurd cc
-peeked_in starts p q b None false [] e =
-    let same : ◌≡◌ {A = Bool × Parsing} (false, p) (b, q) = some_is e in
+peeked_in starts p q b None true cut [] e = absurd cc
+peeked_in starts p q b None false cut [] e =
+    let same : ◌≡◌ {A = Bool × Parsing} (false, p) (b, q) = ok_is e in
     (ap (λ (x : Bool × Parsing). x.1) (sym same), refl, (ap (λ (x : Bool × Parsing). x.0) (sym same), refl))
 
-pub peeked : (starts : Lexeme → Bool) (p q : Parsing) (b : Bool) → peek_at starts p ≡ Some (b, q) → (q ≡ p) × (p.failed ≡ None) × Answers starts b p.faulty p.tokens
+pub peeked : (starts : Lexeme → Bool) (p q : Parsing) (b : Bool) → peek_at starts p ≡ Ok (b, q) → (q ≡ p) × (p.failed ≡ None) × Answers starts b p.faulty p.tokens
 unfolding peek_at look_at
-peeked starts p q b e = peeked_in starts p q b p.failed p.faulty p.tokens e
+peeked starts p q b e = peeked_in starts p q b p.failed p.faulty p.cut p.tokens e
 
-answered_in : (starts : Lexeme → Bool) (p : Parsing) (b : Bool) (failed : Option Cause) (faulty : Bool) (ts : List (ℕ × Lexeme)) → failed ≡ None → Answers starts b faulty ts → answer starts p (look_in failed faulty ts) ≡ Some (b, p)
-answered_in starts p b (Some c) faulty ts live h = absurd cc
-answered_in starts p b None faulty (t ∷ ts) live h = ap (λ (x : Bool). Some (x, p)) h
-answered_in starts p b None true [] live h = absurd (let e : true ≡ false = h.1 in cc)
-answered_in starts p b None false [] live h = ap (λ (x : Bool). Some (x, p)) (sym h.0)
+answered_in : (starts : Lexeme → Bool) (p : Parsing) (b : Bool) (failed : Option Cause) (faulty cut : Bool) (ts : List (ℕ × Lexeme)) → failed ≡ None → Answers starts b faulty ts → answer starts p (look_in failed faulty cut ts) ≡ Ok (b, p)
+answered_in starts p b (Some c) faulty cut ts live h = absurd cc
+answered_in starts p b None faulty cut (t ∷ ts) live h = ap (λ (x : Bool). Ok (x, p)) h
+answered_in starts p b None true cut [] live h = absurd (let e : true ≡ false = h.1 in cc)
+answered_in starts p b None false cut [] live h = ap (λ (x : Bool). Ok (x, p)) (sym h.0)
 
-pub answered : (starts : Lexeme → Bool) (p : Parsing) (b : Bool) → p.failed ≡ None → Answers starts b p.faulty p.tokens → peek_at starts p ≡ Some (b, p)
+pub answered : (starts : Lexeme → Bool) (p : Parsing) (b : Bool) → p.failed ≡ None → Answers starts b p.faulty p.tokens → peek_at starts p ≡ Ok (b, p)
 unfolding peek_at look_at
-answered starts p b live h = answered_in starts p b p.failed p.faulty p.tokens live h
+answered starts p b live h = answered_in starts p b p.failed p.faulty p.cut p.tokens live h
 
 pub peeked_yes : (starts : Lexeme → Bool) (faulty : Bool) (ts : List (ℕ × Lexeme)) → Answers starts true faulty ts → Starts starts (kinds ts)
 peeked_yes starts faulty [] h = absurd (let e : true ≡ false = h.0 in cc)
@@ -54,18 +56,18 @@ pub peeked_no : (starts : Lexeme → Bool) (faulty : Bool) (ts : List (ℕ × Le
 peeked_no starts faulty [] h = h.1
 peeked_no starts faulty (t ∷ ts) h = λ y. let e : true ≡ false = sym y ∙ h in absurd cc
 
-unread_in : (starts : Lexeme → Bool) (p : Parsing) (failed : Option Cause) (faulty : Bool) (ts : List (ℕ × Lexeme))
-    → answer starts p (look_in failed faulty ts) ≡ None
+unread_in : (starts : Lexeme → Bool) (p : Parsing) (failed : Option Cause) (faulty cut ended : Bool) (ts : List (ℕ × Lexeme))
+    → answer starts p (look_in failed faulty cut ts) ≡ Err ended
     → failed ≡ None → (kinds ts ≡ []) × (faulty ≡ true)
-unread_in starts p (Some c) faulty ts e live = absurd cc
-unread_in starts p None faulty (t ∷ ts) e live = absurd cc
-unread_in starts p None true [] e live = (refl, refl)
-unread_in starts p None false [] e live = absurd cc
+unread_in starts p (Some c) faulty cut ended ts e live = absurd cc
+unread_in starts p None faulty cut ended (t ∷ ts) e live = absurd cc
+unread_in starts p None true cut ended [] e live = (refl, refl)
+unread_in starts p None false cut ended [] e live = absurd cc
 
 -- a peek is refused at a fault alone
-pub unread : (starts : Lexeme → Bool) (p : Parsing) → peek_at starts p ≡ None → p.failed ≡ None → (kinds p.tokens ≡ []) × (p.faulty ≡ true)
+pub unread : (starts : Lexeme → Bool) (p : Parsing) (ended : Bool) → peek_at starts p ≡ Err ended → p.failed ≡ None → (kinds p.tokens ≡ []) × (p.faulty ≡ true)
 unfolding peek_at look_at
-unread starts p e live = unread_in starts p p.failed p.faulty p.tokens e live
+unread starts p ended e live = unread_in starts p p.failed p.faulty p.cut ended p.tokens e live
 
 -- at a fault nothing is spelled
 fault_after : (goes_on : Lexeme → Type 0) (faulty : Bool) (front rest : List Lexeme) → [] ≡ front ++ rest → faulty ≡ true → NextStops goes_on faulty rest → ⊥
@@ -76,6 +78,6 @@ fault_after goes_on faulty [] [] e f h = absurd cc
 pub none_at_fault : {V : Type 0} (spells : Scope → V → List Lexeme → Type 0) (continues : V → Lexeme → Type 0) (p : Parsing) → (kinds p.tokens ≡ []) × (p.faulty ≡ true) → NoFront spells continues p
 none_at_fault spells continues p h v front rest e s st = fault_after (continues v) p.faulty front rest (sym h.0 ∙ e) h.1 st
 
-pub none_if_unread : {V : Type 0} (spells : Scope → V → List Lexeme → Type 0) (continues : V → Lexeme → Type 0) (starts : Lexeme → Bool) (p : Parsing) (f : Option Cause)
-    → IfRefused f (peek_at starts p ≡ None) → IfRefused f (p.failed ≡ None → NoFront spells continues p)
-none_if_unread spells continues starts p f = if_refused f (λ h live. none_at_fault spells continues p (unread starts p h live))
+pub none_if_unread : {V : Type 0} (spells : Scope → V → List Lexeme → Type 0) (continues : V → Lexeme → Type 0) (starts : Lexeme → Bool) (p : Parsing) (ended : Bool) (f : Option Cause)
+    → IfRefused f (peek_at starts p ≡ Err ended) → IfRefused f (p.failed ≡ None → NoFront spells continues p)
+none_if_unread spells continues starts p ended f = if_refused f (λ h live. none_at_fault spells continues p (unread starts p ended h live))

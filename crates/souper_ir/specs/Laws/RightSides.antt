@@ -10,7 +10,8 @@ use Rattle.souper_graph.specs.Values.{PlainPhi, PlainRhs, var, block, phi, reser
 use Rattle.souper_graph.specs.Syntax.Tokens.{Lexeme, ident, val_name, int}
 use Rattle.souper_graph.specs.Syntax.Numbers.{count_of}
 use Rattle.souper_graph.specs.Syntax.Spelling.{Scope, entry_of, operands_spells, block_spells, phi_spells, instruction_spells, rhs_spells}
-use Rattle.souper_graph.specs.Syntax.Optional.{◌>>=◌}
+use Rattle.souper_graph.specs.Syntax.Optional.{◌>>=◌ as ◌>>?◌}
+use Rattle.souper_ir.specs.Reading.{◌>>=◌}
 use Rattle.souper_ir.specs.declared.parse.words.Opcode.{Opcode}
 use Rattle.souper_ir.specs.declared.parse.words.RhsWord.{RhsWord}
 use Rattle.souper_ir.specs.declared.parse.words.RhsWord.TheVariants.{Var as begins_var, Block as begins_block, Phi as begins_phi, ReservedInst as begins_reserved_inst, ReservedConst as begins_reserved_const, Instruction as begins_instruction}
@@ -57,7 +58,7 @@ block_first s b ts h = rw h.1 (word_is (codes "block"))
 
 -- ---- names of blocks
 
-predecessors_mean : (i : ℕ) (o : Option ℕ) (b : ℕ × ℕ) → (o >>= λ n. Some (i, n)) ≡ Some b → ◌≡◌ {A = ℕ × Option ℕ} (i, o) (b.0, Some b.1)
+predecessors_mean : (i : ℕ) (o : Option ℕ) (b : ℕ × ℕ) → (o >>? λ n. Some (i, n)) ≡ Some b → ◌≡◌ {A = ℕ × Option ℕ} (i, o) (b.0, Some b.1)
 predecessors_mean i None b e = absurd cc
 predecessors_mean i (Some n) b e = let same : ◌≡◌ {A = ℕ × ℕ} (i, n) b = some_is e in ap (λ (x : ℕ × ℕ). (x.0, Some x.1)) same
 
@@ -207,7 +208,7 @@ begins w k e = begins_either (opcode_of w) w k refl e
 -- ---- right sides
 
 abbrev rhs_word_by_rule : (b : Bool) → Ruled (rhs_word_by b)
-rhs_word_by_rule false = ruled fail
+rhs_word_by_rule false = ruled (fail true)
 rhs_word_by_rule true = ruled (one (ident_by rhs_word_of))
 
 -- the word alone

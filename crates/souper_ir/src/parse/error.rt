@@ -121,6 +121,7 @@ impl ParseError {
         requires { IfSome (offset_of self) (λ offset. offset ≤ length source.now) }
         ensures located { IsLocated (option_copied file.entry) source.now self result }
         ensures location { kind_of result ≡ ParseErrorKind.Parse → HasLocation source.now result }
+        ensures at_end { kind_of result ≡ ParseErrorKind.Parse → at_end_of result ≡ at_end_of self }
     {
         match self.cause {
             Cause::Parse(refusal) => locate(refusal, alloc, source, file),
@@ -146,6 +147,7 @@ impl ParseError {
         ensures located { IsLocatedAfter (option_copied file.entry) before source.now skipped self result }
         ensures location { kind_of result ≡ ParseErrorKind.Parse → HasLocationAfter before source.now result }
         ensures message { kind_of result ≡ ParseErrorKind.Parse → message_of result ≡ message_of self }
+        ensures at_end { kind_of result ≡ ParseErrorKind.Parse → at_end_of result ≡ at_end_of self }
     {
         match self.cause {
             Cause::Parse(refusal) => locate_after(refusal, alloc, before, source, skipped, file),
@@ -224,7 +226,11 @@ impl ParseError {
         WithLocation { error: self }
     }
 
-    /// Whether the text ended where more is wanted, so that a longer text might not be refused.
+    /// Whether the text ended where a token is wanted, after tokens that fit, or in the word `knownBits`; so a longer text might not
+    /// be refused.
+    ///
+    /// A token that the text ends in is read as it stands. So this is false of a text that ends in `%` or `knownBits=`, which are no
+    /// tokens, or in the word `inf`, which does not fit, though a longer text could continue each.
     pub fn is_at_end(&self) -> bool
         ensures { result ≡ at_end_of self.now }
     {
@@ -261,6 +267,7 @@ fn locate(mut refusal: Box<Refusal>, alloc: Global, source: &str, file: Option<&
     requires { refusal.value.offset ≤ length source.now }
     ensures placed { (kind_of result ≡ ParseErrorKind.Memory) ⊎ IsRefusalAt (option_copied file.entry) source.now refusal.value.offset result }
     ensures location { kind_of result ≡ ParseErrorKind.Parse → HasLocation source.now result }
+    ensures at_end { kind_of result ≡ ParseErrorKind.Parse → at_end_of result ≡ refusal.value.at_end }
 {
     match Places::new(alloc, source, refusal.offset, refusal.at_end, file) {
         Ok(places) => {
@@ -286,6 +293,7 @@ fn locate_after(
     ensures placed { IsPlacedAfter (option_copied file.entry) before source.now (skipped + refusal.value.offset) result }
     ensures location { kind_of result ≡ ParseErrorKind.Parse → HasLocationAfter before source.now result }
     ensures message { kind_of result ≡ ParseErrorKind.Parse → message_of result ≡ Some (string_bytes refusal.value.message) }
+    ensures at_end { kind_of result ≡ ParseErrorKind.Parse → at_end_of result ≡ refusal.value.at_end }
 {
     let offset = skipped + refusal.offset;
     match Places::new(alloc, source, offset, refusal.at_end, file) {

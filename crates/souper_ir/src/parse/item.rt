@@ -7,7 +7,8 @@ ghost use Rattle.souper_graph.specs.WellFormed.{WellFormed, EachClosed};
 ghost use Rattle.souper_graph.specs.Values.{Item as PlainItem};
 ghost use Rattle.souper_graph.specs.Syntax.Tokens.{Lexeme, AreTokensOf, IsTextOf, IsLastGap, IsLexeme};
 ghost use Rattle.souper_graph.specs.Syntax.Spelling.{kinds, ItemType, left_hand_side, right_hand_side, replacement, statement_spells, item_spells_after, TextSpells};
-ghost use Rattle.souper_ir.specs.Errors.{error_of, widened, kind_of};
+ghost use Rattle.souper_lexer.specs.TokenView.{IsCut};
+ghost use Rattle.souper_ir.specs.Errors.{error_of, widened, kind_of, at_end_of};
 ghost use Rattle.souper_ir.specs.Continuation.{statement_continues, item_continues};
 ghost use Rattle.souper_ir.specs.Grammar.{Took, Refusal};
 ghost use Rattle.souper_ir.specs.declared.parse.item.Next.{Next};
@@ -16,6 +17,7 @@ ghost use Rattle.souper_ir.specs.Reading.{Gives, IfRefused, cause_of};
 ghost use Rattle.souper_ir.specs.Items.{Enters, TakesStatements, StatedRefusal};
 ghost use Rattle.souper_ir.specs.Laws.Items.{item_alone};
 ghost use Rattle.souper_ir.specs.ItemRuns.{SpellsAll, ListRefusal};
+ghost use Rattle.souper_ir.specs.Stopping.{StatementStops, StatementsStop, ItemStops, ItemsStop, TextStops, Stops};
 ghost use Rattle.souper_ir.specs.Answers.{IsStrError};
 ghost use Rattle.souper_ir.specs.Sinks.{TakesOver, TakesText, TakesPrefix};
 ghost use Rattle.souper_ir.specs.Starts.{HasStarts, TakesFirst, Keeps, SpellEachFrom, PrefixSpellsFrom, TextSpellsFrom, TakesFrom, starts_kept, starts_of};
@@ -66,6 +68,7 @@ fn enter_pc(parser: &mut Parser<'_>) -> Read<()>
     requires { NextIs Next.Pc parser.old }
     ensures ok { OnOk result (Enters parser.old parser.new) }
     ensures err { IfErr result (λ e. Refusal statement_spells statement_continues (error_of e) parser.old parser.new) }
+    ensures stops { IfErr result (λ e. Stops StatementStops (error_of e) parser.old) }
 {
     let condition = pc(parser)?;
     parser.add(condition.into())
@@ -77,6 +80,7 @@ fn enter_block_pc(parser: &mut Parser<'_>) -> Read<()>
     requires { NextIs Next.BlockPc parser.old }
     ensures ok { OnOk result (Enters parser.old parser.new) }
     ensures err { IfErr result (λ e. Refusal statement_spells statement_continues (error_of e) parser.old parser.new) }
+    ensures stops { IfErr result (λ e. Stops StatementStops (error_of e) parser.old) }
 {
     let condition = block_pc(parser)?;
     parser.add(condition.into())
@@ -88,6 +92,7 @@ fn enter_assignment(parser: &mut Parser<'_>) -> Read<()>
     requires { NextIs Next.Assignment parser.old }
     ensures ok { OnOk result (Enters parser.old parser.new) }
     ensures err { IfErr result (λ e. Refusal statement_spells statement_continues (error_of e) parser.old parser.new) }
+    ensures stops { IfErr result (λ e. Stops StatementStops (error_of e) parser.old) }
 {
     let (name, slot, ty) = entered_heading(parser)?;
     // `let value = rhs(parser)?` would copy the value twice more.
@@ -113,6 +118,7 @@ fn enter_assignment(parser: &mut Parser<'_>) -> Read<()>
 fn statements(parser: &mut Parser<'_>) -> Read<()>
     ensures ok { OnOk result (TakesStatements parser.old parser.new) }
     ensures err { IfErr result (λ e. StatedRefusal (error_of e) parser.old parser.new) }
+    ensures stops { IfErr result (λ e. Stops StatementsStop (error_of e) parser.old) }
 {
     loop {
         match next_kind(parser)? {
@@ -135,7 +141,8 @@ pub trait WholeItem: Item + Sized {
     /// Takes the tokens of an item. The scope is empty after it.
     fn item(parser: &mut Parser<'_>) -> Result<Self>
         ensures ok { IfOk result (λ v. Took (item_spells_after Self.item_type) item_continues (λ s. []) (Self.view v) parser.old parser.new) }
-        ensures err { IfErr result (λ e. Refusal (item_spells_after Self.item_type) item_continues e parser.old parser.new) };
+        ensures err { IfErr result (λ e. Refusal (item_spells_after Self.item_type) item_continues e parser.old parser.new) }
+        ensures stops { IfErr result (λ e. Stops (ItemStops Self.item_type) e parser.old) };
 
     /// Takes the statements out of an item that is to be dropped, if its type allows it. No clause says what is left.
     fn take_statements(&mut self) -> Option<Arena<Statement>> {
@@ -262,6 +269,7 @@ fn next_item<T: WholeItem>(parser: &mut Parser<'_>, dropped: Option<Arena<Statem
     requires { parser.old.scope ≡ [] }
     ensures ok { IfOk result (λ v. Took (item_spells_after T.item_type) item_continues (λ s. []) (T.view v) parser.old parser.new) }
     ensures err { IfErr result (λ e. Refusal (item_spells_after T.item_type) item_continues e parser.old parser.new) }
+    ensures stops { IfErr result (λ e. Stops (ItemStops T.item_type) e parser.old) }
 {
     parser.reuse(dropped);
     T::item(parser)
@@ -279,6 +287,7 @@ fn items<T: WholeItem, S: Sink<T>>(
     ensures ok { OnOk result ((items : List PlainItem) × (starts : List ℕ) × SpellsAll T.item_type items parser.old × SpellEachFrom T.item_type items starts parser.old.tokens
         × TakesOver S.holds items sink.old sink.new × Keeps kept.old kept.new starts) }
     ensures err { IfErr result (λ e. ListRefusal T.item_type e parser.old parser.new) }
+    ensures stops { IfErr result (λ e. Stops (ItemsStop T.item_type) e parser.old) }
     ensures first { IfErr result (λ e. IfRefused (cause_of e) (TakesFirst S.holds T.item_type (Keeps kept.old kept.new) parser.old sink.old sink.new)) }
     ensures asked { is_some (starts_kept kept.new) ≡ is_some (starts_kept kept.old) }
     // The end of the text needs no memory.
@@ -310,12 +319,14 @@ fn whole_text<T: WholeItem, S: Sink<T>>(
 ) -> Result<()>
     requires tokens { AreTokensOf source.now parser.old.tokens parser.old.faulty }
     requires only { (ts : List (ℕ × Lexeme)) → IsTextOf source.now ts → (parser.old.tokens ≡ ts) × (parser.old.faulty ≡ false) }
+    requires cut { IsCut source.now parser.old.tokens parser.old.faulty parser.old.cut }
     requires len { parser.old.len ≡ length source.now }
     requires scope { parser.old.scope ≡ [] }
     requires live { parser.old.failed ≡ None }
     ensures taken { OnOk result (TakesText S.holds T.item_type source.now sink.old sink.new) }
     ensures starts { OnOk result (TakesFrom S.holds (TextSpellsFrom T.item_type source.now) (Keeps kept.old kept.new) sink.old sink.new) }
     ensures refused { IfErr result (λ e. IsStrError T.item_type (option_copied filename.entry) source.now e) }
+    ensures stops { IfErr result (λ e. kind_of e ≡ ParseErrorKind.Parse → TextStops T.item_type source.now (at_end_of e)) }
     ensures before { IfErr result (λ e. kind_of e ≡ ParseErrorKind.Parse → TakesPrefix S.holds T.item_type source.now sink.old sink.new) }
     ensures starts_before { IfErr result (λ e. kind_of e ≡ ParseErrorKind.Parse → TakesFrom S.holds (PrefixSpellsFrom T.item_type source.now) (Keeps kept.old kept.new) sink.old sink.new) }
     ensures asked { is_some (starts_kept kept.new) ≡ is_some (starts_kept kept.old) }
@@ -341,6 +352,7 @@ pub fn parse_into<T: WholeItem, S: Sink<T>>(
 ) -> Result<()>
     ensures taken { OnOk result (TakesText S.holds T.item_type source.now sink.old sink.new) }
     ensures refused { IfErr result (λ e. IsStrError T.item_type (option_copied filename.entry) source.now e) }
+    ensures stops { IfErr result (λ e. kind_of e ≡ ParseErrorKind.Parse → TextStops T.item_type source.now (at_end_of e)) }
     ensures before { IfErr result (λ e. kind_of e ≡ ParseErrorKind.Parse → TakesPrefix S.holds T.item_type source.now sink.old sink.new) }
     ensures gaps { IsLastGap source.now → IsOkAnd result (λ _. sink.new ≡ sink.old) }
 {
@@ -367,6 +379,7 @@ pub fn parse_with_memory<T: WholeItem, S: Sink<T>>(
 ) -> Result<()>
     ensures taken { OnOk result (TakesText S.holds T.item_type source.now sink.old sink.new) }
     ensures refused { IfErr result (λ e. IsStrError T.item_type (option_copied filename.entry) source.now e) }
+    ensures stops { IfErr result (λ e. kind_of e ≡ ParseErrorKind.Parse → TextStops T.item_type source.now (at_end_of e)) }
     ensures before { IfErr result (λ e. kind_of e ≡ ParseErrorKind.Parse → TakesPrefix S.holds T.item_type source.now sink.old sink.new) }
     ensures starts { OnOk result (TakesFrom S.holds (TextSpellsFrom T.item_type source.now) (HasStarts memory.old memory.new) sink.old sink.new) }
     ensures starts_before { IfErr result (λ e. kind_of e ≡ ParseErrorKind.Parse → TakesFrom S.holds (PrefixSpellsFrom T.item_type source.now) (HasStarts memory.old memory.new) sink.old sink.new) }
@@ -395,6 +408,7 @@ pub fn parse_items<T: WholeItem + Drop>(
     ensures well_formed { IfOk result (λ v. AllByRecursion WellFormed (map T.view v.items)) }
     ensures each_closed { IfOk result (λ v. AllByRecursion EachClosed (map T.view v.items)) }
     ensures refused { IfErr result (λ e. IsStrError T.item_type (option_copied filename.entry) source.now e) }
+    ensures stops { IfErr result (λ e. kind_of e ≡ ParseErrorKind.Parse → TextStops T.item_type source.now (at_end_of e)) }
     ensures gaps { IsLastGap source.now → IsOkAnd result (λ v. v.items ≡ []) }
 {
     let mut items = Vec::new(alloc);
@@ -416,6 +430,7 @@ pub fn parse_left_hand_sides_str(
     ensures well_formed { IfOk result (λ v. AllByRecursion WellFormed (map view_left_hand_side v.items)) }
     ensures each_closed { IfOk result (λ v. AllByRecursion EachClosed (map view_left_hand_side v.items)) }
     ensures refused { IfErr result (λ e. IsStrError left_hand_side (option_copied filename.entry) source.now e) }
+    ensures stops { IfErr result (λ e. kind_of e ≡ ParseErrorKind.Parse → TextStops left_hand_side source.now (at_end_of e)) }
     ensures gaps { IsLastGap source.now → IsOkAnd result (λ v. v.items ≡ []) }
 {
     parse_items(alloc, source, filename)
@@ -435,6 +450,7 @@ pub fn parse_right_hand_sides_str(
     ensures well_formed { IfOk result (λ v. AllByRecursion WellFormed (map view_right_hand_side v.items)) }
     ensures each_closed { IfOk result (λ v. AllByRecursion EachClosed (map view_right_hand_side v.items)) }
     ensures refused { IfErr result (λ e. IsStrError right_hand_side (option_copied filename.entry) source.now e) }
+    ensures stops { IfErr result (λ e. kind_of e ≡ ParseErrorKind.Parse → TextStops right_hand_side source.now (at_end_of e)) }
     ensures gaps { IsLastGap source.now → IsOkAnd result (λ v. v.items ≡ []) }
 {
     parse_items(alloc, source, filename)
@@ -454,6 +470,7 @@ pub fn parse_replacements_str(
     ensures well_formed { IfOk result (λ v. AllByRecursion WellFormed (map view_replacement v.items)) }
     ensures each_closed { IfOk result (λ v. AllByRecursion EachClosed (map view_replacement v.items)) }
     ensures refused { IfErr result (λ e. IsStrError replacement (option_copied filename.entry) source.now e) }
+    ensures stops { IfErr result (λ e. kind_of e ≡ ParseErrorKind.Parse → TextStops replacement source.now (at_end_of e)) }
     ensures gaps { IsLastGap source.now → IsOkAnd result (λ v. v.items ≡ []) }
 {
     parse_items(alloc, source, filename)

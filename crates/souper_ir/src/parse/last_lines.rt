@@ -1,16 +1,19 @@
 //! The last lines of items: `infer`, `cand` and `result`.
 
-ghost use Rattle.std.specs.Prelude.{codes, refl, IfOk, IfErr};
+ghost use Rattle.std.specs.Prelude.{codes, map, refl, IfOk, IfErr};
 ghost use Rattle.souper_graph.specs.Values.{PlainInfer, PlainCand};
-ghost use Rattle.souper_graph.specs.View.{view_infer, view_cand};
-ghost use Rattle.souper_graph.specs.Syntax.Spelling.{infer_spells, cand_spells};
-ghost use Rattle.souper_ir.specs.Errors.{widened};
+ghost use Rattle.souper_graph.specs.View.{view_infer, view_cand, view_root_attribute};
+ghost use Rattle.souper_graph.specs.Syntax.Spelling.{infer_spells, cand_spells, root_attribute_spells};
+ghost use Rattle.souper_ir.specs.Errors.{error_of, widened};
 ghost use Rattle.souper_ir.specs.Continuation.{infer_continues, cand_continues};
 ghost use Rattle.souper_ir.specs.Reading.{Gives};
 ghost use Rattle.souper_ir.specs.Grammar.{Took, Refusal};
-ghost use Rattle.souper_ir.specs.NodeReadings.{is_word, root_at, optional_comma_at, pair_at, result_at};
+ghost use Rattle.souper_ir.specs.NodeReadings.{is_word, root_attribute_at, root_at, optional_comma_at, pair_at, result_at};
+ghost use Rattle.souper_ir.specs.Stopping.{RowStops, InferStops, CandStops, Stops};
+ghost use Rattle.souper_ir.specs.Laws.Attributed.{Row, OneMore};
 ghost use Rattle.souper_ir.specs.Laws.Statements.{infer_alone, infer_first, cand_alone};
 
+use crate::parse::attributes::root_attribute;
 use crate::parse::error::widen;
 use crate::parse::message::Message;
 use crate::parse::operands::operand;
@@ -32,12 +35,30 @@ fn root(parser: &mut Parser<'_>) -> Read<ValueId>
     }
 }
 
+// The attributes of a last line.
+fn root_attributes(parser: &mut Parser<'_>) -> Read<Vec<RootAttribute>>
+    ensures ok { IfOk result (λ xs. Took (Row root_attribute_spells) OneMore (λ s. s) (map view_root_attribute xs.items) parser.old parser.new) }
+    ensures err { IfErr result (λ e. Refusal (Row root_attribute_spells) OneMore (error_of e) parser.old parser.new) }
+    ensures stops { IfErr result (λ e. Stops (RowStops root_attribute_spells root_attribute_at) (error_of e) parser.old) }
+{
+    let mut attributes = Vec::new(parser.alloc());
+    while mark_comes(parser, Mark::OpenParen)? {
+        let value = root_attribute(parser)?;
+        match attributes.push(value) {
+            Ok(()) => {}
+            Err(_) => return Err(parser.want_memory()),
+        }
+    }
+    Ok(attributes)
+}
+
 pub(crate) fn infer(parser: &mut Parser<'_>) -> Result<Infer>
     ensures ok { IfOk result (λ i. Took infer_spells infer_continues (λ s. s) (view_infer i) parser.old parser.new) }
     ensures err { IfErr result (λ e. Refusal infer_spells infer_continues e parser.old parser.new) }
+    ensures stops { IfErr result (λ e. Stops InferStops e parser.old) }
 {
     let value = root(parser)?;
-    let attributes = Vec::<RootAttribute>::parse(parser)?;
+    let attributes = root_attributes(parser)?;
     Ok(Infer { value, attributes })
 }
 
@@ -66,9 +87,10 @@ fn pair(parser: &mut Parser<'_>) -> Read<(Operand, Operand)>
 pub(crate) fn cand(parser: &mut Parser<'_>) -> Result<Cand>
     ensures ok { IfOk result (λ c. Took cand_spells cand_continues (λ s. s) (view_cand c) parser.old parser.new) }
     ensures err { IfErr result (λ e. Refusal cand_spells cand_continues e parser.old parser.new) }
+    ensures stops { IfErr result (λ e. Stops CandStops e parser.old) }
 {
     let (lhs, rhs) = pair(parser)?;
-    let attributes = Vec::<RootAttribute>::parse(parser)?;
+    let attributes = root_attributes(parser)?;
     Ok(Cand {
         lhs,
         rhs,

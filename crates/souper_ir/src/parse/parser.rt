@@ -4,7 +4,7 @@ ghost use Rattle.std.specs.String.{string_bytes};
 ghost use Rattle.souper_graph.specs.View.{view_statement, view_assignment, view_rhs};
 ghost use Rattle.souper_graph.specs.Values.{assigned};
 ghost use Rattle.souper_graph.specs.Syntax.Tokens.{Lexeme, ident, val_name, int, comma, AreTokensOf, IsTextOf};
-ghost use Rattle.souper_lexer.specs.TokenView.{lexeme_of};
+ghost use Rattle.souper_lexer.specs.TokenView.{lexeme_of, is_end, IsCut};
 ghost use Rattle.souper_graph.specs.Uses.{is_condition};
 ghost use Rattle.souper_graph.specs.Syntax.Spelling.{entry_of, position_of, predecessors_if_block};
 ghost use Rattle.souper_ir.specs.NodeReadings.{accept, block_entry, is_any, is_mark, is_name, as_mark, as_name, new_name_at};
@@ -99,6 +99,7 @@ impl<'a> Parser<'a> {
     pub fn new(alloc: Global, source: &'a str) -> Self
         ensures tokens { AreTokensOf source.now result.tokens result.faulty }
         ensures only { (ts : List (ℕ × Lexeme)) → IsTextOf source.now ts → (result.tokens ≡ ts) × (result.faulty ≡ false) }
+        ensures cut { IsCut source.now result.tokens result.faulty result.cut }
         ensures len { result.len ≡ length source.now }
         ensures scope { result.scope ≡ [] }
         ensures live { result.failed ≡ None }
@@ -111,6 +112,7 @@ impl<'a> Parser<'a> {
     pub(crate) fn reusing(alloc: Global, source: &'a str, spare: Spare) -> Self
         ensures tokens { AreTokensOf source.now result.tokens result.faulty }
         ensures only { (ts : List (ℕ × Lexeme)) → IsTextOf source.now ts → (result.tokens ≡ ts) × (result.faulty ≡ false) }
+        ensures cut { IsCut source.now result.tokens result.faulty result.cut }
         ensures len { result.len ≡ length source.now }
         ensures scope { result.scope ≡ [] }
         ensures live { result.failed ≡ None }
@@ -156,6 +158,7 @@ impl<'a> Parser<'a> {
         requires at_end { at_end ≡ true → self.old.tokens ≡ [] }
         ensures fails { Fails (error_of result) self.old self.new }
         ensures at_end { IfRefused (cause_of (error_of result)) (at_end_of (error_of result) ≡ at_end) }
+        ensures not_at_end { at_end ≡ false → at_end_of (error_of result) ≡ false }
     {
         match self.refusal(offset, at_end, message) {
             Ok(error) => {
@@ -171,7 +174,8 @@ impl<'a> Parser<'a> {
     #[inline(never)]
     fn fail_again(&mut self) -> ReadError
         requires { self.old.failed ≢ None }
-        ensures { Fails (error_of result) self.old self.new }
+        ensures fails { Fails (error_of result) self.old self.new }
+        ensures at_end { at_end_of (error_of result) ≡ false }
     {
         match self.failed {
             Some(Failure::Refused(offset)) => self.fail_at(offset, false, Message::AlreadyFailed),
@@ -183,7 +187,8 @@ impl<'a> Parser<'a> {
     #[cold]
     #[inline(never)]
     pub(crate) fn refuse(&mut self, message: Message<'_>) -> ReadError
-        ensures { Fails (error_of result) self.old self.new }
+        ensures fails { Fails (error_of result) self.old self.new }
+        ensures at_end { at_end_of (error_of result) ≡ false }
     {
         match self.failed {
             None => self.fail_at(self.offset, false, message),
@@ -210,7 +215,8 @@ impl<'a> Parser<'a> {
         requires within { fault.offset ≤ self.old.len }
         requires live { self.old.failed ≡ None }
         requires none { self.old.tokens ≡ [] }
-        ensures { Fails (error_of result) self.old self.new }
+        ensures fails { Fails (error_of result) self.old self.new }
+        ensures at_end { IfRefused (cause_of (error_of result)) (at_end_of (error_of result) ≡ is_end fault.kind) }
     {
         let at_end = matches!(fault.kind, FaultKind::UnexpectedEnd);
         self.fail_at(fault.offset, at_end, Message::Lexical(fault.kind))

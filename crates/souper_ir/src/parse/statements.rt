@@ -11,7 +11,8 @@ ghost use Rattle.souper_ir.specs.Continuation.{assignment_continues, pc_continue
 ghost use Rattle.souper_ir.specs.Reading.{Gives};
 ghost use Rattle.souper_ir.specs.Grammar.{Took, Refusal, peek_at};
 ghost use Rattle.souper_ir.specs.HashView.{name_hash};
-ghost use Rattle.souper_ir.specs.NodeReadings.{is_name, is_word, type_and_equals_at, heading_at, pc_at, block_pc_at, starts_statement};
+ghost use Rattle.souper_ir.specs.NodeReadings.{is_name, is_word, attribute_at, type_and_equals_at, heading_at, pc_at, block_pc_at, starts_statement};
+ghost use Rattle.souper_ir.specs.Stopping.{RowStops, Stops};
 ghost use Rattle.souper_ir.specs.Laws.Attributed.{Row, OneMore};
 ghost use Rattle.souper_ir.specs.Laws.Statements.{assignment_alone, assignment_first, pc_alone, pc_first, block_pc_alone, block_pc_first, statement_alone, statement_first};
 
@@ -74,6 +75,7 @@ pub(crate) fn entered_heading<'a>(parser: &mut Parser<'a>) -> Read<(&'a str, Slo
 pub(crate) fn attributes(parser: &mut Parser<'_>) -> Read<Vec<Attribute>>
     ensures ok { IfOk result (λ xs. Took (Row attribute_spells) OneMore (λ s. s) (map view_attribute xs.items) parser.old parser.new) }
     ensures err { IfErr result (λ e. Refusal (Row attribute_spells) OneMore (error_of e) parser.old parser.new) }
+    ensures stops { IfErr result (λ e. Stops (RowStops attribute_spells attribute_at) (error_of e) parser.old) }
 {
     let mut attributes = Vec::new(parser.alloc());
     if parser.name_on_next_line() {

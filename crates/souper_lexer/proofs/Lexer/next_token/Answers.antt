@@ -1,7 +1,7 @@
 use Rattle.std.proofs.Common.{ap, refl, arith, rules}
 use Rattle.std.proofs.lemmas.Result.{err_from_is_err_and}
 use Rattle.souper_lexer.specs.TokenReading.{Lexed}
-use Rattle.souper_lexer.specs.TokenView.{lexeme_of}
+use Rattle.souper_lexer.specs.TokenView.{lexeme_of, is_end}
 use Rattle.souper_lexer.proofs.TokenSteps.{yields_none, yields_fault, yields_rest, yields_token, lexed_len}
 use Rattle.souper_lexer.proofs.Lexer.next_token.Goals as goal
 
@@ -11,7 +11,7 @@ returns-then-is_empty-clause-next c = yields_none c.self.inside.offset c.self.in
 pub returns-in_err-token-clause-next : goal.returns-in_err-token-clause-next
 returns-in_err-token-clause-next c =
     let p = err_from_is_err_and c.from_residual.result c.from_residual.ensures.1 in
-    rw p.1 (yields_fault c.self.inside.offset c.self.inside.rest.now c.after_gap-text.result.now c.args.self.now c.self.view_is c.after_gap-text.ensures.rest (search rules) c.in_err-token.ensures.reads)
+    rw (p.1, p.2) (yields_fault c.self.inside.offset c.self.inside.rest.now c.after_gap-text.result.now c.args.self.now c.self.view_is c.after_gap-text.ensures.rest (is_end c.in_err-token.field-0.0.kind) (search rules) c.in_err-token.ensures.reads)
 
 pub returns-in_err-token-clause-offset : goal.returns-in_err-token-clause-offset
 returns-in_err-token-clause-offset c =

@@ -1,6 +1,9 @@
 use Rattle.std.proofs.Common.{rules, arith}
-use Rattle.souper_stream.proofs.Buffers.{to_end, one_told, all_told}
+use Rattle.souper_stream.proofs.Buffers.{to_end, none_told, one_told, all_told}
 use Rattle.souper_stream.proofs.starts.starts_in.Goals as goal
+
+pub loop-offset-init : goal.loop-offset-init
+loop-offset-init c = rw c.clear.ensures.items (none_told _ _ _ c.requires)
 
 pub slice_bounds-newline_count-end : goal.slice_bounds-newline_count-end
 slice_bounds-newline_count-end c = omega (arith, to_end _ _ _ _ _ _ _ c.loop-offset.invariant (search rules))

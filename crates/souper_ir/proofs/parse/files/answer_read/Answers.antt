@@ -15,5 +15,6 @@ returns-in-Ok g c =
       well_formed = c.parse_items.ensures.well_formed;
       each_closed = c.parse_items.ensures.each_closed;
       refused = c.parse_items.ensures.refused;
+      stops = c.parse_items.ensures.stops;
       gaps = c.parse_items.ensures.gaps;
     }))

@@ -9,6 +9,7 @@ use Rattle.souper_ir.specs.Parsing.{Parsing}
 use Rattle.souper_ir.proofs.Nodes.Statements.{heading_refused, value_refused, attributes_refused, parts_taken, assignment_taken, assignment_refused}
 use Rattle.souper_ir.proofs.Nodes.NextStatements.{no_pc_seen, no_block_pc_seen}
 use Rattle.souper_ir.proofs.Items.Steps.{entered}
+use Rattle.souper_ir.proofs.Items.Stopping.{heading_stops, value_stops, attributes_stop}
 use Rattle.souper_ir.proofs.parse.item.enter_assignment.Goals as goal
 
 pub returns-in_err-name-clause-err : goal.returns-in_err-name-clause-err
@@ -50,3 +51,18 @@ returns-in-Ok-copy_name-clause-ok c =
     (entered (assigned a) here c.attributes.new.parser c.define.new.self
     (assignment_taken a here here here c.attributes.new.parser (no_pc_seen here here c.requires) (no_block_pc_seen here here c.requires) t))
     (rw (c.in-Ok-copy_name.ensures.copied, c.in-Ok-copy_name.ensures.kept) at c.define.ensures.ok)
+
+pub returns-in_err-name-clause-stops : goal.returns-in_err-name-clause-stops
+returns-in_err-name-clause-stops c =
+    let p = err_from_is_err_and c.from_residual.result c.from_residual.ensures.1 in
+    rw (p.1, p.2) (heading_stops (error_of c.in_err-name.field-0.0) c.args.parser.now c.entered_heading.new.parser c.requires c.in_err-name.ensures.heading)
+
+pub returns-in-Err-clause-stops : goal.returns-in-Err-clause-stops
+returns-in-Err-clause-stops c =
+    value_stops (error_of c.in-Err.error) (c.in_ok-name.name.now, c.in_ok-name.ty) c.args.parser.now c.entered_heading.new.parser c.rhs.new.parser c.requires c.in_ok-name.ensures.heading c.in-Err.ensures
+
+pub returns-in_err-attributes-in-Ok-clause-stops : goal.returns-in_err-attributes-in-Ok-clause-stops
+returns-in_err-attributes-in-Ok-clause-stops c =
+    let p = err_from_is_err_and c.from_residual-in_err-attributes-in-Ok.result c.from_residual-in_err-attributes-in-Ok.ensures.1 in
+    rw (p.1, p.2) (attributes_stop (error_of c.in_err-attributes-in-Ok.field-0.0) (record { name = c.in_ok-name.name.now; ty = c.in_ok-name.ty; value = view_rhs c.in-Ok.value }) c.args.parser.now c.entered_heading.new.parser c.rhs.new.parser
+    c.requires c.in_ok-name.ensures.heading c.in-Ok.ensures c.in_err-attributes-in-Ok.ensures.stops)

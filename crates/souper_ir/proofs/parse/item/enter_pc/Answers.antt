@@ -4,6 +4,7 @@ use Rattle.souper_ir.specs.Errors.{error_of}
 use Rattle.souper_ir.proofs.Nodes.Statements.{pc_taken, pc_refused}
 use Rattle.souper_ir.proofs.Nodes.NextStatements.{pc_seen}
 use Rattle.souper_ir.proofs.Items.Steps.{entered}
+use Rattle.souper_ir.proofs.Items.Stopping.{pc_stops}
 use Rattle.souper_ir.proofs.parse.item.enter_pc.Goals as goal
 
 pub returns-in_err-condition-clause-err : goal.returns-in_err-condition-clause-err
@@ -17,3 +18,8 @@ returns-clause-ok c =
     (entered (condition c.in_ok-condition.condition) c.args.parser.now c.pc.new.parser c.add.new.self
     (pc_taken c.in_ok-condition.condition c.args.parser.now c.args.parser.now c.pc.new.parser (pc_seen c.args.parser.now c.args.parser.now c.requires) c.in_ok-condition.ensures))
     (rw c.into.ensures at c.add.ensures.ok)
+
+pub returns-in_err-condition-clause-stops : goal.returns-in_err-condition-clause-stops
+returns-in_err-condition-clause-stops c =
+    let p = err_from_is_err_and c.from_residual.result c.from_residual.ensures.1 in
+    rw (p.1, p.2) (pc_stops (error_of c.in_err-condition.field-0.0) c.args.parser.now c.pc.new.parser c.requires c.in_err-condition.ensures)

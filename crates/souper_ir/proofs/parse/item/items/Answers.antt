@@ -1,6 +1,7 @@
 use Rattle.std.proofs.Common.{◌≡◌, [], ◌∷◌, ◌++◌, false, true, refl, sym, subst}
 use Rattle.std.proofs.lemmas.Result.{err_from_is_err_and}
 use Rattle.souper_ir.proofs.Items.Lists.{runs_on, item_shorter, all_taken, look_refused, item_refused, nothing_taken, nothing_seen, still_sound, still_empty, read_behind, read_well, takes_one, pushed_some, taken_first, none_taken, all_from}
+use Rattle.souper_ir.proofs.Items.Stopping.{items_look, item_stops}
 use Rattle.souper_ir.proofs.Items.Starts.{begun, keeps_none, keeps_both}
 use Rattle.std.proofs.lemmas.List.{append-nil}
 use Rattle.souper_ir.specs.Errors.{error_of}
@@ -101,3 +102,13 @@ loop-start-init g c = (
 pub returns-in-Err-add_start-clause-ended : goal.returns-in-Err-add_start-clause-ended
 returns-in-Err-add_start-clause-ended g c = λ e f l.
     absurd (nothing_seen g.T.Item.item_type _ c.args.parser.now c.loop-start.parser c.next_start.new.self c.loop-start.invariant.1 e (rw c.in-Some.is at c.in_ok-start.ensures.next))
+
+pub returns-in_err-start-clause-stops : goal.returns-in_err-start-clause-stops
+returns-in_err-start-clause-stops g c =
+    let p = err_from_is_err_and c.from_residual.result c.from_residual.ensures.1 in
+    rw (p.1, p.2) (items_look g.T.Item.item_type _ (error_of c.in_err-start.field-0.0) c.args.parser.now c.loop-start.parser c.next_start.new.self c.loop-start.invariant.1 c.in_err-start.ensures.next)
+
+pub returns-in_err-item-clause-stops : goal.returns-in_err-item-clause-stops
+returns-in_err-item-clause-stops g c =
+    let p = err_from_is_err_and c.from_residual-in_err-item.result c.from_residual-in_err-item.ensures.1 in
+    rw (p.1, p.2) (item_stops g.T.Item.item_type _ c.in_err-item.field-0.0 c.args.parser.now c.loop-start.parser c.next_start.new.self c.loop-start.invariant.1 (rw c.in-Some.is at c.in_ok-start.ensures.next) c.in_err-item.ensures.stops)

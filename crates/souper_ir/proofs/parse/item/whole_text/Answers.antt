@@ -1,6 +1,7 @@
 use Rattle.std.proofs.Common.{[]}
 use Rattle.std.specs.Prelude.{option_copied}
 use Rattle.souper_ir.proofs.Items.Texts.{all_spelled, is_text, gap_text, located_answer, taken_before}
+use Rattle.souper_ir.proofs.Items.Stopping.{text_stops}
 use Rattle.souper_ir.proofs.Items.WellFormed.{text_lexemes}
 use Rattle.souper_ir.proofs.parse.item.whole_text.Goals as goal
 
@@ -47,3 +48,8 @@ pub returns-in-Err-clause-starts_before : goal.returns-in-Err-clause-starts_befo
 returns-in-Err-clause-starts_before g c = λ kind.
     (taken_before g.S.Sink.holds g.T.Item.item_type _ (option_copied c.args.filename) c.args.source.now c.in-Err.error c.locate.result c.args.parser.now c.args.sink.now c.items.new.sink
     c.requires.tokens c.locate.ensures.located c.in-Err.ensures.first kind).1
+
+pub returns-in-Err-clause-stops : goal.returns-in-Err-clause-stops
+returns-in-Err-clause-stops g c = λ kind.
+    text_stops g.T.Item.item_type (option_copied c.args.filename) c.args.source.now c.in-Err.error c.locate.result c.args.parser.now c.requires.tokens c.requires.cut c.requires.scope c.requires.live
+    c.locate.ensures.located c.locate.ensures.at_end c.in-Err.ensures.stops kind

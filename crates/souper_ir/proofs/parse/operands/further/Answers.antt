@@ -1,4 +1,4 @@
-use Rattle.std.proofs.Common.{◌≡◌, ◌∙◌, sym, ℕ, Some, subst, arith}
+use Rattle.std.proofs.Common.{◌≡◌, ◌∙◌, sym, ℕ, Ok, subst, arith}
 use Rattle.std.proofs.lemmas.Result.{err_from_is_err_and}
 use Rattle.souper_ir.specs.Reading.{fails_later}
 use Rattle.souper_ir.specs.Laws.FromReadings.{of_memory}
@@ -30,4 +30,4 @@ returns-in-Err c = (
 pub returns : goal.returns
 returns c =
     let all : c.loop.counter ≡ c.args.count = omega arith in
-    (subst (λ (n : ℕ). further_at n c.args.parser.now ≡ Some (c.loop.operands.items, c.loop.parser)) all c.loop.invariant.0, c.requires, c.loop.invariant.1, c.loop.invariant.2)
+    (subst (λ (n : ℕ). further_at n c.args.parser.now ≡ Ok (c.loop.operands.items, c.loop.parser)) all c.loop.invariant.0, c.requires, c.loop.invariant.1, c.loop.invariant.2)

@@ -6,6 +6,9 @@ use Rattle.souper_ir.specs.Errors.{error_of}
 use Rattle.souper_ir.specs.Laws.Attributes.{attribute_rule, attribute_first}
 use Rattle.souper_ir.specs.Laws.FromReadings.{alone, is_taken, is_refused}
 use Rattle.souper_ir.proofs.Nodes.Ahead.{no_attributes}
+use Rattle.souper_graph.specs.Syntax.Spelling.{attribute_spells}
+use Rattle.souper_ir.specs.NodeReadings.{attribute_at}
+use Rattle.souper_ir.proofs.Items.Stopping.{attributes_look, member_stops}
 use Rattle.souper_ir.proofs.Nodes.Lists.{peek_refused, member_refused, one_more, behind_peek, shorter, ends}
 use Rattle.souper_ir.proofs.parse.statements.attributes.Goals as goal
 
@@ -40,3 +43,14 @@ loop-attributes-preserved c =
 pub returns-clause-ok : goal.returns-clause-ok
 returns-clause-ok c =
     ends _ _ _ (alone attribute_rule) attribute_first (map view_attribute c.loop-attributes.attributes.items) c.args.parser.now c.loop-attributes.parser c.mark_comes.new.parser c.loop-attributes.invariant (rw c.if-branch.false at c.in_ok-mark_comes.ensures)
+
+pub returns-in_err-mark_comes-clause-stops : goal.returns-in_err-mark_comes-clause-stops
+returns-in_err-mark_comes-clause-stops c =
+    let p = err_from_is_err_and c.from_residual.result c.from_residual.ensures.1 in
+    rw (p.1, p.2) (attributes_look (map view_attribute c.loop-attributes.attributes.items) (error_of c.in_err-mark_comes.field-0.0) c.args.parser.now c.loop-attributes.parser c.mark_comes.new.parser c.loop-attributes.invariant c.in_err-mark_comes.ensures)
+
+pub returns-in_err-value-clause-stops : goal.returns-in_err-value-clause-stops
+returns-in_err-value-clause-stops c =
+    let p = err_from_is_err_and c.from_residual-in_err-value.result c.from_residual-in_err-value.ensures.1 in
+    rw (p.1, p.2) (member_stops attribute_spells attribute_at (map view_attribute c.loop-attributes.attributes.items) (error_of c.in_err-value.field-0.0) c.args.parser.now c.loop-attributes.parser c.mark_comes.new.parser c.attribute.new.parser c.loop-attributes.invariant
+    (rw c.if-branch.true at c.in_ok-mark_comes.ensures) c.in_err-value.ensures)

@@ -2,7 +2,7 @@ use Rattle.std.proofs.Common.{◌≡◌, ◌+◌, ◌-◌, ◌<◌, ◌≤◌, i
 use Rattle.std.proofs.lemmas.List.{drop-take}
 use Rattle.std.proofs.lemmas.List.Sums.{count_by-le-length}
 use Rattle.souper_stream.proofs.Prelude.{newlines-append, IsOneLine, IsLines, newlines}
-use Rattle.souper_stream.specs.Buffering.{window}
+use Rattle.souper_stream.specs.Buffering.{window, unparsed}
 use Rattle.souper_stream.specs.Segments.{IsLastLineAt}
 use Rattle.souper_stream.proofs.LineLists.{lines_append}
 use Rattle.souper_stream.proofs.buffer.Buffer.pass.Goals as goal
@@ -28,8 +28,10 @@ returns c =
     let last : drop line (take (length (take end all) - 1) (take end all)) ≡ take (left - 1) (drop (old.start + line) bytes) =
     ap (drop line) (take-take (length (take end all) - 1) end all (omega arith) ∙ ap (λ (n : ℕ). take n all) (let n : length (take end all) - 1 ≡ line + (left - 1) = omega arith in n)) ∙ drop-take line (left - 1) all ∙ ap (take (left - 1)) (sym held_is) in
     let begin : old.start + line + left - len ≡ old.start + old.parsed = omega arith in
+    let left_is : drop left (drop (old.start + line) bytes) ≡ drop len (unparsed old) = ap (drop left) held_is ∙ drop-drop left line all ∙ ap (λ (n : ℕ). drop n all) (let n : line + left ≡ old.parsed + len = omega arith in n) ∙ sym (drop-drop len old.parsed all) in
     record {
       bytes_are = refl;
+      left = left_is;
       part = (λ i. take len (drop (begin i) bytes)) ∙ ap (take len) (sym (drop-drop old.parsed old.start bytes));
       buffers = λ done rest p.
           let gone = length-append p.gone front in
@@ -44,7 +46,7 @@ returns c =
             };
             done_is = ap (λ (x : List ℕ). x ++ take len rest) p.done_is ∙ append_assoc p.gone (take old.parsed all) (take len rest)
                 ∙ ap (λ (x : List ℕ). p.gone ++ x) (ap (λ (x : List ℕ). take old.parsed all ++ take len x) (sym p.rest_is) ∙ sym (take-add old.parsed len all) ∙ both) ∙ sym (append_assoc p.gone front (take left (drop (old.start + line) bytes)));
-            rest_is = ap (drop left) held_is ∙ drop-drop left line all ∙ ap (λ (n : ℕ). drop n all) (let n : line + left ≡ old.parsed + len = omega arith in n) ∙ sym (drop-drop len old.parsed all) ∙ ap (drop len) p.rest_is;
+            rest_is = left_is ∙ ap (drop len) p.rest_is;
             placed = inl (omega arith);
             one_line = subst (λ (x : List ℕ). IsOneLine x) last at.one_line;
             within = omega (arith, c.requires.within, old.bytes.ok);

@@ -8,7 +8,8 @@ abbrev pub invariant-loop-turn : goal.invariant-loop-turn
 invariant-loop-turn g l = record {
   same : keeps_starts l.self ≡ keeps_starts l.fn.self;
   parsed : l.self.buffer.start + l.self.buffer.parsed ≤ vec_len l.self.buffer.bytes;
-  none : l.self.rejected ≡ 0;
+  none : l.self.pending ≡ 0;
+  last : l.self.buffer.last ≡ 0;
   kept : KeepsWindow l.fn.self.buffer l.self.buffer;
   parts : KeepsParts g.T.Item.item_type (g.R.Read.remaining l.fn.reader) (g.R.Read.remaining l.reader) l.fn.self l.self;
 }

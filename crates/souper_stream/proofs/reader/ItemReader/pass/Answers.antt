@@ -11,6 +11,6 @@ returns-clause-advanced c =
     record {
       same = refl;
       passes = c.pass.ensures;
-      begin = kept_starts (starts_of r.memory) (λ offsets. AreNextStarts r.buffer len offsets c.in_ok-self.field-0.items) c.starts.result.now c.starts.ensures.asked
-          (λ done rest b small. (rw (c.unparsed.ensures, b.rest_is) at c.in_ok-self.ensures) done (c.passed.ensures done rest b (omega (arith, length-append done (take len rest), small))) small);
+      begin = kept_starts (starts_of r.memory) (λ offsets. AreNextStarts r.buffer len offsets c.starts_in.new.starts.items) c.starts.result.now c.starts.ensures.asked
+          (λ done rest b small. (rw (c.unparsed.ensures, b.rest_is) at c.in_ok-starts_in.ensures) done (c.passed.ensures done rest b (omega (arith, length-append done (take len rest), small))) small);
     }

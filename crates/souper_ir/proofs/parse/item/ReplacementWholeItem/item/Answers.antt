@@ -7,6 +7,8 @@ use Rattle.souper_ir.specs.Laws.Statements.{result_rule}
 use Rattle.souper_ir.specs.Laws.FromReadings.{is_taken, is_refused}
 use Rattle.souper_ir.proofs.Items.Steps.{item_taken, statements_refused, tail_refused, look_refused, cand_tail, cand_tail_refused, root_refused, root_behind, middle_refused, last_refused, replaced_tail}
 use Rattle.souper_ir.specs.Errors.{error_of}
+use Rattle.souper_ir.specs.Stopping.{ResultStops, TailStops}
+use Rattle.souper_ir.proofs.Items.Stopping.{first_stops, last_stops, result_stops, word_stops, infer_stops, middle_stops, cand_stops}
 use Rattle.souper_ir.proofs.parse.item.ReplacementWholeItem.item.Goals as goal
 
 pub returns-in_err-statements-clause-err : goal.returns-in_err-statements-clause-err
@@ -67,3 +69,45 @@ returns-in_ok-cand-clause-ok c =
     item_taken replacement item c.in_ok-statements.ensures.ok.0 [] c.args.parser.now c.statements.new.parser c.cand.new.parser c.finish-statements-else-branch.new.self c.in_ok-statements.ensures.ok.1
     (cand_tail (view_cand c.in_ok-cand.cand) c.statements.new.parser c.word_comes.new.parser c.cand.new.parser (rw c.if-branch.false at c.in_ok-word_comes.ensures) c.in_ok-cand.ensures.ok)
     c.finish-statements-else-branch.ensures.statements c.finish-statements-else-branch.ensures.empty
+
+pub returns-in_err-statements-clause-stops : goal.returns-in_err-statements-clause-stops
+returns-in_err-statements-clause-stops c =
+    let p = err_from_is_err_and c.from_residual.result c.from_residual.ensures.1 in
+    rw (p.1, p.2) (first_stops (TailStops replacement) (error_of c.in_err-statements.field-0.0) c.args.parser.now c.in_err-statements.ensures.stops)
+
+pub returns-in_err-word_comes-clause-stops : goal.returns-in_err-word_comes-clause-stops
+returns-in_err-word_comes-clause-stops c =
+    let p = err_from_is_err_and c.from_residual-in_err-word_comes.result c.from_residual-in_err-word_comes.ensures.1 in
+    let e = error_of c.in_err-word_comes.field-0.0 in
+    rw (p.1, p.2) (last_stops (TailStops replacement) c.in_ok-statements.ensures.ok.0 e c.args.parser.now c.statements.new.parser c.in_ok-statements.ensures.ok.1
+    (word_stops e c.statements.new.parser c.word_comes.new.parser c.in_err-word_comes.ensures))
+
+pub returns-in_err-lhs-clause-stops : goal.returns-in_err-lhs-clause-stops
+returns-in_err-lhs-clause-stops c =
+    let p = err_from_is_err_and c.from_residual-in_err-lhs.result c.from_residual-in_err-lhs.ensures.1 in
+    let e = c.in_err-lhs.field-0.0 in
+    rw (p.1, p.2) (last_stops (TailStops replacement) c.in_ok-statements.ensures.ok.0 e c.args.parser.now c.statements.new.parser c.in_ok-statements.ensures.ok.1
+    (infer_stops e c.statements.new.parser c.word_comes.new.parser (rw c.if-branch.true at c.in_ok-word_comes.ensures) c.in_err-lhs.ensures.stops))
+
+pub returns-in_err-statements-2-clause-stops : goal.returns-in_err-statements-2-clause-stops
+returns-in_err-statements-2-clause-stops c =
+    let p = err_from_is_err_and c.from_residual-in_err-statements-2.result c.from_residual-in_err-statements-2.ensures.1 in
+    let e = error_of c.in_err-statements-2.field-0.0 in
+    rw (p.1, p.2) (last_stops (TailStops replacement) c.in_ok-statements.ensures.ok.0 e c.args.parser.now c.statements.new.parser c.in_ok-statements.ensures.ok.1
+    (middle_stops (view_infer c.in_ok-lhs.lhs) e c.statements.new.parser c.word_comes.new.parser c.infer.new.parser (rw c.if-branch.true at c.in_ok-word_comes.ensures) c.in_ok-lhs.ensures.ok
+    (first_stops ResultStops e c.infer.new.parser c.in_err-statements-2.ensures.stops)))
+
+pub returns-in_err-rhs-clause-stops : goal.returns-in_err-rhs-clause-stops
+returns-in_err-rhs-clause-stops c =
+    let p = err_from_is_err_and c.from_residual-in_err-rhs.result c.from_residual-in_err-rhs.ensures.1 in
+    let e = error_of c.in_err-rhs.field-0.0 in
+    rw (p.1, p.2) (last_stops (TailStops replacement) c.in_ok-statements.ensures.ok.0 e c.args.parser.now c.statements.new.parser c.in_ok-statements.ensures.ok.1
+    (middle_stops (view_infer c.in_ok-lhs.lhs) e c.statements.new.parser c.word_comes.new.parser c.infer.new.parser (rw c.if-branch.true at c.in_ok-word_comes.ensures) c.in_ok-lhs.ensures.ok
+    (last_stops ResultStops c.in_ok-statements-2.ensures.ok.0 e c.infer.new.parser c.statements-then-branch.new.parser c.in_ok-statements-2.ensures.ok.1 (result_stops e c.statements-then-branch.new.parser c.result.new.parser c.in_err-rhs.ensures))))
+
+pub returns-in_err-cand-clause-stops : goal.returns-in_err-cand-clause-stops
+returns-in_err-cand-clause-stops c =
+    let p = err_from_is_err_and c.from_residual-in_err-cand.result c.from_residual-in_err-cand.ensures.1 in
+    let e = c.in_err-cand.field-0.0 in
+    rw (p.1, p.2) (last_stops (TailStops replacement) c.in_ok-statements.ensures.ok.0 e c.args.parser.now c.statements.new.parser c.in_ok-statements.ensures.ok.1
+    (cand_stops e c.statements.new.parser c.word_comes.new.parser (rw c.if-branch.false at c.in_ok-word_comes.ensures) c.in_err-cand.ensures.stops))

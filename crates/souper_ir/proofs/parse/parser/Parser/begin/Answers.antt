@@ -1,8 +1,8 @@
-use Rattle.std.proofs.Common.{◌≡◌, Some, None, sym, ap, subst}
+use Rattle.std.proofs.Common.{◌≡◌, Some, None, Ok, sym, ap, subst}
 use Rattle.std.specs.Prelude.{map}
 use Rattle.souper_graph.specs.View.{view_statement}
 use Rattle.souper_graph.specs.Syntax.Spelling.{position_of}
-use Rattle.souper_ir.specs.Errors.{error_of}
+use Rattle.souper_ir.specs.Errors.{error_of, at_end_of}
 use Rattle.souper_ir.specs.NodeReadings.{new_name_at}
 use Rattle.souper_ir.specs.Parsing.{Parsing}
 use Rattle.souper_ir.specs.Reading.{cause_of}
@@ -14,13 +14,13 @@ pub returns-then-is_some-clause-begun : goal.returns-then-is_some-clause-begun
 returns-then-is_some-clause-begun c =
     let are = c.self.invariant.names (live_inside c.self.inside.failed (subst (λ (p : Parsing). p.failed ≡ None) (sym c.self.view_is) c.requires)) in
     let old = is_old_in_table c.self.inside.names (map view_statement c.self.inside.statements) c.args.name.now c.find-entry.result.0 are c.find-entry.ensures.entry (sym c.if-is_some.ensures) in
-    (refused_for (cause_of (error_of c.refuse.result)) (not_begun c.args.name.now c.args.self.now old.0 (subst (λ (p : Parsing). position_of p.scope c.args.name.now ≡ Some old.0) c.self.view_is old.1)), c.refuse.ensures)
+    (refused_for (cause_of (error_of c.refuse.result)) (not_begun c.args.name.now c.args.self.now old.0 (at_end_of (error_of c.refuse.result)) (subst (λ (p : Parsing). position_of p.scope c.args.name.now ≡ Some old.0) c.self.view_is old.1) c.refuse.ensures.at_end), c.refuse.ensures.fails)
 
 pub returns-clause-begun : goal.returns-clause-begun
 returns-clause-begun c =
     let live = live_inside c.self.inside.failed (subst (λ (p : Parsing). p.failed ≡ None) (sym c.self.view_is) c.requires) in
     let new = is_new_in_table c.self.inside.names (map view_statement c.self.inside.statements) c.args.name.now c.find-entry.result.0 (c.self.invariant.names live) (c.find-entry.ensures.table c.if-slot.false) c.find-entry.ensures.entry (sym c.if-is_some.ensures) in (
-      subst (λ (q : Parsing). new_name_at c.args.name.now c.args.self.now ≡ Some (tt, q)) (sym c.self.view_is)
+      subst (λ (q : Parsing). new_name_at c.args.name.now c.args.self.now ≡ Ok (tt, q)) (sym c.self.view_is)
           (begun c.args.name.now c.args.self.now (subst (λ (p : Parsing). position_of p.scope c.args.name.now ≡ None) c.self.view_is new)),
       c.requires,
       subst (λ (p : Parsing). p.failed ≡ None) (sym c.self.view_is) c.requires,

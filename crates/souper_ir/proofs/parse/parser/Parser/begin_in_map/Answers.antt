@@ -1,9 +1,9 @@
-use Rattle.std.proofs.Common.{◌≡◌, Option, Some, None, refl, sym, ◌∙◌, ap, subst}
+use Rattle.std.proofs.Common.{◌≡◌, Option, Some, None, Ok, refl, sym, ◌∙◌, ap, subst}
 use Rattle.std.specs.Prelude.{is_some, map}
 use Rattle.std.proofs.lemmas.List.{length-map}
 use Rattle.souper_graph.specs.View.{view_statement}
 use Rattle.souper_graph.specs.Syntax.Spelling.{position_of}
-use Rattle.souper_ir.specs.Errors.{error_of}
+use Rattle.souper_ir.specs.Errors.{error_of, at_end_of}
 use Rattle.souper_ir.specs.TableView.{NameEntry}
 use Rattle.souper_ir.specs.NodeReadings.{new_name_at}
 use Rattle.souper_ir.specs.Parsing.{Parsing}
@@ -19,7 +19,7 @@ pub returns-then-is_some : goal.returns-then-is_some
 returns-then-is_some c =
     let are = c.self.invariant.names (live_inside c.self.inside.failed (subst (λ (p : Parsing). p.failed ≡ None) (sym c.self.view_is) c.requires)) in
     let old = is_old c.self.inside.names (map view_statement c.self.inside.statements) c.args.name.now c.in-Ok.replaced are (sym c.in-Ok.ensures.replaced) (sym (c.if-is_some.ensures ∙ ap (λ (o : Option NameEntry). is_some o) c.in_scope.ensures)) in (
-      refused_for (cause_of (error_of c.fail_at.result)) (not_begun c.args.name.now c.args.self.now old.0 (subst (λ (p : Parsing). position_of p.scope c.args.name.now ≡ Some old.0) c.self.view_is old.1)),
+      refused_for (cause_of (error_of c.fail_at.result)) (not_begun c.args.name.now c.args.self.now old.0 (at_end_of (error_of c.fail_at.result)) (subst (λ (p : Parsing). position_of p.scope c.args.name.now ≡ Some old.0) c.self.view_is old.1) (c.fail_at.ensures.not_at_end refl)),
       fails_first (error_of c.fail_at.result) c.args.self.now _ c.fail_at.new.self c.requires (ap (λ (p : Parsing). p.len) c.self.view_is) c.fail_at.ensures.fails,
     )
 
@@ -28,7 +28,7 @@ pub returns-in-Ok-None : goal.returns-in-Ok-None
 returns-in-Ok-None c =
     let live = live_inside c.self.inside.failed (subst (λ (p : Parsing). p.failed ≡ None) (sym c.self.view_is) c.requires) in
     let new = is_new c.self.inside.names (map view_statement c.self.inside.statements) c.args.name.now None (c.self.invariant.names live) (sym (sym c.in-Ok-None.field-0-is ∙ c.in-Ok-None.ensures.replaced)) refl in (
-      subst (λ (q : Parsing). new_name_at c.args.name.now c.args.self.now ≡ Some (tt, q)) (sym c.self.view_is)
+      subst (λ (q : Parsing). new_name_at c.args.name.now c.args.self.now ≡ Ok (tt, q)) (sym c.self.view_is)
           (begun c.args.name.now c.args.self.now (subst (λ (p : Parsing). position_of p.scope c.args.name.now ≡ None) c.self.view_is new)),
       c.requires,
       subst (λ (p : Parsing). p.failed ≡ None) (sym c.self.view_is) c.requires,
@@ -39,7 +39,7 @@ pub returns-else-is_some : goal.returns-else-is_some
 returns-else-is_some c =
     let live = live_inside c.self.inside.failed (subst (λ (p : Parsing). p.failed ≡ None) (sym c.self.view_is) c.requires) in
     let new = is_new c.self.inside.names (map view_statement c.self.inside.statements) c.args.name.now c.in-Ok.replaced (c.self.invariant.names live) (sym c.in-Ok.ensures.replaced) (sym (c.if-is_some.ensures ∙ ap (λ (o : Option NameEntry). is_some o) c.in_scope.ensures)) in (
-      subst (λ (q : Parsing). new_name_at c.args.name.now c.args.self.now ≡ Some (tt, q)) (sym c.self.view_is)
+      subst (λ (q : Parsing). new_name_at c.args.name.now c.args.self.now ≡ Ok (tt, q)) (sym c.self.view_is)
           (begun c.args.name.now c.args.self.now (subst (λ (p : Parsing). position_of p.scope c.args.name.now ≡ None) c.self.view_is new)),
       c.requires,
       subst (λ (p : Parsing). p.failed ≡ None) (sym c.self.view_is) c.requires,

@@ -10,4 +10,5 @@ returns-in-Ok c = record {
   fails = refused_fails (error_of c.in-Ok.error) c.args.self.now _ c.args.offset c.in-Ok.ensures.0 c.in-Ok.ensures.1 c.requires.within c.requires.again
       refl (λ e. ap (λ (p : Parsing). p.tokens) c.self.view_is ∙ c.requires.at_end (sym c.in-Ok.ensures.2 ∙ e)) (ap (λ (p : Parsing). p.len) c.self.view_is);
   at_end = refused_for (cause_of (error_of c.in-Ok.error)) c.in-Ok.ensures.2;
+  not_at_end = λ e. c.in-Ok.ensures.2 ∙ e;
 }
