@@ -1,5 +1,5 @@
 -- Definitions. Which statement the next token begins.
-use Rattle.std.specs.Prelude.{Bool, Option, Some, Ok, if◌then◌else◌, codes}
+use Rattle.std.specs.Prelude.{Bool, Option, Ok, if◌then◌else◌, codes}
 use Rattle.souper_graph.specs.Syntax.Tokens.{Lexeme}
 use Rattle.souper_ir.specs.declared.parse.item.Next.{Next}
 use Rattle.souper_ir.specs.declared.parse.item.Next.TheVariants.{Assignment, Pc, BlockPc, Other}

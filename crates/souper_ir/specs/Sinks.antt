@@ -1,9 +1,8 @@
 -- Definitions. What a sink holds of the items that were passed to it.
-use Rattle.std.specs.Prelude.{◌≡◌, ℕ, List, ◌++◌}
+use Rattle.std.specs.Prelude.{ℕ, List, ◌++◌}
 use Rattle.souper_graph.specs.Values.{Item}
 use Rattle.souper_graph.specs.Syntax.Tokens.{Lexeme, Begins}
 use Rattle.souper_graph.specs.Syntax.Spelling.{kinds, ItemType, list_spells, TextSpells}
-use Rattle.souper_ir.specs.Parsing.{Parsing}
 
 -- what a sink held before, it holds now with the items after it, whatever sink it is compared with
 abbrev pub TakesOver : {S : Type 0} → (S → S → List Item → Type 0) → List Item → S → S → Type 0

@@ -4,7 +4,7 @@ use Rattle.std.specs.Prelude.{codes, Option, Some}
 use Rattle.souper_graph.specs.Values.{PlainStatement, PlainInfer, PlainAttribute, PlainRootAttribute, Item}
 use Rattle.souper_graph.specs.declared.ast.operands.«Type».{«Type» as Ty}
 use Rattle.souper_graph.specs.Syntax.Tokens.{Lexeme, AreTokensOf, open_paren}
-use Rattle.souper_graph.specs.Syntax.Spelling.{kinds, infer_spells, attribute_spells, root_attribute_spells, ItemType}
+use Rattle.souper_graph.specs.Syntax.Spelling.{infer_spells, attribute_spells, root_attribute_spells, ItemType}
 use Rattle.souper_lexer.specs.TokenView.{IsCut}
 use Rattle.souper_ir.specs.declared.parse.error.ParseError.{ParseError}
 use Rattle.souper_ir.specs.declared.parse.item.Next.{Next}
@@ -15,11 +15,11 @@ use Rattle.souper_ir.specs.Errors.{kind_of, at_end_of, IsLocated}
 use Rattle.souper_ir.specs.Parsing.{Cause, Parsing}
 use Rattle.souper_ir.specs.Reading.{Reads, cause_of, IfRefused, if_refused, IsRead, Fails, take_at, look_in, look_at}
 use Rattle.souper_ir.specs.Grammar.{Took, peek_at}
-use Rattle.souper_ir.specs.NodeReadings.{accept, as_mark, is_any, is_mark, is_word, Definition, rhs_at, heading_at, definition_at, attribute_at, root_attribute_at, pc_at, block_pc_at, root_at, pair_at, result_at}
+use Rattle.souper_ir.specs.NodeReadings.{accept, as_mark, is_any, is_mark, is_word, Definition, rhs_at, heading_at, definition_at, attribute_at, root_attribute_at, pc_at, block_pc_at, result_at}
 use Rattle.souper_ir.specs.NextStatement.{next_at, NextIs}
 use Rattle.souper_ir.specs.Items.{Stated, AllStated}
 use Rattle.souper_ir.specs.ItemRuns.{ItemsTaken}
-use Rattle.souper_ir.specs.Stopping.{RowStops, LineStops, StatementStops, StatementsStop, LastLineStops, EitherStops, InferStops, CandStops, ResultStops, ReplacedStops, EndingStops, ItemStops, ItemsStop, TextStops, Stops}
+use Rattle.souper_ir.specs.Stopping.{RowStops, LineStops, StatementStops, StatementsStop, EitherStops, InferStops, CandStops, ResultStops, ReplacedStops, EndingStops, ItemStops, ItemsStop, TextStops, Stops}
 use Rattle.souper_ir.specs.Laws.Peeks.{peeked, answer}
 use Rattle.souper_ir.proofs.Nodes.Lists.{SoFar}
 use Rattle.souper_ir.proofs.Nodes.NextStatements.{next_stays}

@@ -1,5 +1,5 @@
 -- Statements, by their first token.
-use Rattle.std.proofs.Common.{◌≡◌, ℕ, Bool, true, false, List, [], Option, Some, None, Ok, Err, refl, sym, ◌∙◌, subst}
+use Rattle.std.proofs.Common.{◌≡◌, ℕ, Bool, true, false, List, [], Option, Ok, Err, refl, sym, ◌∙◌, subst}
 use Rattle.std.specs.Prelude.{codes}
 use Rattle.std.proofs.lemmas.List.{append-nil}
 use Rattle.souper_graph.specs.declared.ast.operands.«Type».{«Type» as Ty}

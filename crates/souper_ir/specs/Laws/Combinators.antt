@@ -1,6 +1,6 @@
 -- Lemmas. Rules of the grammar by how readings are combined: what a combination reads, from what its parts read. Beside
 -- each form is what builds it: `both`, `found`, `made`, `next`, `next_word`, `next_name`.
-use Rattle.std.proofs.Common.{◌≡◌, ℕ, Bool, true, false, List, [], ◌∷◌, ◌++◌, Option, Some, None, Result, Ok, Err, refl, sym, ◌∙◌, ap, subst, append_assoc}
+use Rattle.std.proofs.Common.{◌≡◌, ℕ, Bool, true, false, List, [], ◌∷◌, ◌++◌, Option, Some, None, Ok, Err, refl, sym, ◌∙◌, ap, subst, append_assoc}
 use Rattle.std.proofs.lemmas.List.{append-nil}
 use Rattle.souper_graph.specs.Syntax.Tokens.{Lexeme, ident, val_name, int}
 use Rattle.souper_graph.specs.Syntax.Spelling.{kinds, Scope}

@@ -1,4 +1,4 @@
-use Rattle.std.proofs.Common.{refl, rules, arith}
+use Rattle.std.proofs.Common.{refl, rules}
 use Rattle.souper_lexer.proofs.TokenTakes.{begins_comma}
 use Rattle.souper_lexer.proofs.Lexer.comma_comes.Goals as goal
 

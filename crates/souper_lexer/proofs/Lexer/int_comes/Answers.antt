@@ -1,4 +1,4 @@
-use Rattle.std.proofs.Common.{rules, sym, ◌∙◌}
+use Rattle.std.proofs.Common.{rules}
 use Rattle.souper_lexer.proofs.TokenTakes.{begins_int_with}
 use Rattle.souper_lexer.proofs.Lexer.int_comes.Goals as goal
 

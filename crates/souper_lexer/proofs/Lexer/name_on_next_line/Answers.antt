@@ -1,4 +1,4 @@
-use Rattle.std.proofs.Common.{rules, sym, ◌∙◌}
+use Rattle.std.proofs.Common.{rules}
 use Rattle.souper_lexer.proofs.TokenTakes.{begins_name}
 use Rattle.souper_lexer.proofs.Lexer.name_on_next_line.Goals as goal
 
