@@ -1,7 +1,7 @@
 //! The parts of a stream, whose output is written one after the other.
 ghost use Rattle.std.specs.Prelude.{◌≡◌, ◌++◌, ◌∷◌, ℕ, [], List, true, Option, Some, IfOk, IfErr, IfSome, IfNone, OnOk, option_copied};
 ghost use Rattle.souper_records.specs.Prelude.{Line, concat, stream};
-ghost use Rattle.souper_stream.specs.Parts.{HasParts, HasAll, keeps_starts};
+ghost use Rattle.souper_stream.specs.Parts.{HasParts, HasAll, keeps_starts, reads_eagerly};
 ghost use Rattle.souper_format.specs.Watching.{watched_inner, has_failed};
 ghost use Rattle.souper_records.specs.Stops.{IsNoInput, UnlessOutput};
 ghost use Rattle.souper_records.specs.Outcomes.{Outcome, IsAtStart, WritesPart, IsPartsResult, WroteParts, input_stream};
@@ -58,7 +58,7 @@ const CHUNK: usize = 65536;
 
 // The chunk size of the reader.
 fn min_chunk(options: ReadOptions<'_>) -> usize {
-    if options.recover || options.line_buffered {
+    if options.recover {
         1
     } else {
         CHUNK
@@ -75,10 +75,11 @@ pub struct Source<'a> {
 impl<'a> Source<'a> {
     /// A stream that is to be read with these options.
     ///
-    /// With recovery a cut point is looked for in what the reader shows, and on to the end of a line; then whenever the buffer has doubled.
-    /// For lines the parts are read as the reader shows them, and it is not asked for more while one is whole.
+    /// For lines the reader is asked for no more while a part is there whole. Else a cut point is looked for after 64 KiB, or with recovery
+    /// in what the reader shows, and on to the end of a line; then whenever the buffer has doubled.
     pub fn new(alloc: Global, options: ReadOptions<'a>) -> Source<'a>
         ensures options { result.options ≡ options.entry }
+        ensures eager { reads_eagerly result.parts ≡ options.entry.line_buffered }
         ensures begins { IsAtStart result }
     {
         Source {
@@ -90,6 +91,7 @@ impl<'a> Source<'a> {
     /// The same, and the reader is asked where the items begin.
     pub fn with_starts(alloc: Global, options: ReadOptions<'a>) -> Source<'a>
         ensures options { result.options ≡ options.entry }
+        ensures eager { reads_eagerly result.parts ≡ options.entry.line_buffered }
         ensures asked { keeps_starts result.parts ≡ true }
         ensures begins { IsAtStart result }
     {

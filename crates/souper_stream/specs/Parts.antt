@@ -68,6 +68,10 @@ KeepsParts k before after old new = (start : Option (List ℕ)) (ps : List (List
 abbrev pub keeps_starts : ItemReader → Bool
 keeps_starts r = is_some (starts_of r.memory)
 
+-- the reader looks for a cut point before each read
+abbrev pub reads_eagerly : ItemReader → Bool
+reads_eagerly r = r.is_eager
+
 -- `r.starts()`
 abbrev pub starts_of_part : ItemReader → List Start
 starts_of_part r = r.starts.items

@@ -57,7 +57,8 @@ pub(crate) fn newline_count(bytes: &[u8]) -> usize
 impl Buffer {
     #[tactic(auto, using(crate::proofs::Buffers::buffers_none))]
     pub(crate) fn new(alloc: Global) -> Buffer
-        ensures { Buffers [] [] result }
+        ensures none { result.last ≡ 0 }
+        ensures begins { Buffers [] [] result }
     {
         Buffer {
             bytes: Vec::new(alloc),

@@ -7,7 +7,7 @@ ghost use Rattle.souper_stream.specs.Starts.{Ascend};
 ghost use Rattle.souper_stream.specs.Buffering.{window, unparsed, KeepsWindow};
 ghost use Rattle.souper_stream.specs.Segments.{Line, concat, all_lines};
 ghost use Rattle.souper_stream.specs.Reading.{ReadsBytes};
-ghost use Rattle.souper_stream.specs.Parts.{Advances, KeepsParts, HasParts, HasAll, Holds, EndsAfter, part_of, keeps_starts, starts_of_part, ReadsOn, buffered, ReadsLast, TakesPart, RefusesPart};
+ghost use Rattle.souper_stream.specs.Parts.{Advances, KeepsParts, HasParts, HasAll, Holds, EndsAfter, part_of, keeps_starts, reads_eagerly, starts_of_part, ReadsOn, buffered, ReadsLast, TakesPart, RefusesPart};
 
 use crate::buffer::Buffer;
 use crate::cuts::{Scan, last_cut, scan_to_last_cut, segment_len};
@@ -160,6 +160,7 @@ impl ItemReader {
     /// time.
     pub fn new(alloc: Global, min_chunk: usize) -> ItemReader
         ensures not_asked { keeps_starts result ≡ false }
+        ensures none { (part_of result ≡ []) × (starts_of_part result ≡ []) }
         ensures begins { (k : ItemType) (start : Option (List ℕ)) → HasParts k start start [] result }
     {
         ItemReader::with_memory(alloc, min_chunk, Memory::new(alloc))
@@ -168,6 +169,7 @@ impl ItemReader {
     /// A reader that is asked where the items begin ([`starts`](ItemReader::starts)).
     pub fn with_starts(alloc: Global, min_chunk: usize) -> ItemReader
         ensures asked { keeps_starts result ≡ true }
+        ensures none { (part_of result ≡ []) × (starts_of_part result ≡ []) }
         ensures begins { (k : ItemType) (start : Option (List ℕ)) → HasParts k start start [] result }
     {
         ItemReader::with_memory(alloc, min_chunk, Memory::with_starts(alloc))
@@ -176,6 +178,7 @@ impl ItemReader {
     #[tactic(auto, using(crate::proofs::Passing::read_none))]
     fn with_memory(alloc: Global, min_chunk: usize, memory: Memory) -> ItemReader
         ensures memory { result.memory ≡ memory }
+        ensures none { (part_of result ≡ []) × (starts_of_part result ≡ []) }
         ensures begins { (k : ItemType) (start : Option (List ℕ)) → HasParts k start start [] result }
     {
         ItemReader {
@@ -204,7 +207,8 @@ impl ItemReader {
     /// whole lines that were shown have a cut point, whatever the chunk size is: the items of a segment are passed to the sink as soon as
     /// the line after it is there. Each line is then scanned once more than it is parsed.
     pub fn eager(self, is_eager: bool) -> ItemReader
-        ensures eager { result.is_eager ≡ is_eager }
+        ensures eager { reads_eagerly result ≡ is_eager }
+        ensures kept { (part_of result ≡ part_of self) × (starts_of_part result ≡ starts_of_part self) }
         ensures same { keeps_starts result ≡ keeps_starts self }
         ensures parts { (k : ItemType) (start : Option (List ℕ)) (now : Option (List ℕ)) (ps : List (List Line)) → HasParts k start now ps self → HasParts k start now ps result }
     {
@@ -247,6 +251,7 @@ impl ItemReader {
         requires parsed { self.old.buffer.start + self.old.buffer.parsed ≤ vec_len self.old.buffer.bytes }
         requires none { self.old.pending ≡ 0 }
         ensures same { keeps_starts self.new ≡ keeps_starts self.old }
+        ensures eager { self.new.is_eager ≡ self.old.is_eager }
         ensures parsed { self.new.buffer.start + self.new.buffer.parsed ≤ vec_len self.new.buffer.bytes }
         ensures none { self.new.pending ≡ 0 }
         ensures buffer { self.new.buffer ≡ record self.old.buffer { bytes = self.new.buffer.bytes } }
@@ -278,6 +283,7 @@ impl ItemReader {
         requires going { self.old.ended ≡ false }
         requires none { self.old.pending ≡ 0 }
         ensures same { keeps_starts self.new ≡ keeps_starts self.old }
+        ensures eager { self.new.is_eager ≡ self.old.is_eager }
         ensures parsed { self.new.buffer.start + self.new.buffer.parsed ≤ vec_len self.new.buffer.bytes }
         ensures none { self.new.pending ≡ 0 }
         ensures buffer { self.new.buffer ≡ record self.old.buffer { bytes = self.new.buffer.bytes } }
@@ -306,6 +312,7 @@ impl ItemReader {
         requires none { self.old.pending ≡ 0 }
         requires had { (start : Option (List ℕ)) × (ps : List (List Line)) × HasParts T.item_type start (R.remaining reader.old) ps self.old }
         ensures same { keeps_starts self.new ≡ keeps_starts self.old }
+        ensures eager { self.new.is_eager ≡ self.old.is_eager }
         ensures next { OnOk result ((start : Option (List ℕ)) (ps : List (List Line)) → HasParts T.item_type start (R.remaining reader.old) ps self.old
             → HasParts T.item_type start (R.remaining reader.new) ps self.new × (self.new.pending ≡ 0 → HasAll T.item_type start (R.remaining reader.new) ps)) }
         ensures within { OnOk result (self.new.buffer.start + self.new.buffer.parsed + self.new.pending ≤ vec_len self.new.buffer.bytes) }
@@ -344,6 +351,7 @@ impl ItemReader {
         requires none { self.old.pending ≡ 0 }
         requires had { (start : Option (List ℕ)) × (ps : List (List Line)) × HasParts T.item_type start (R.remaining reader.old) ps self.old }
         ensures same { keeps_starts self.new ≡ keeps_starts self.old }
+        ensures eager { self.new.is_eager ≡ self.old.is_eager }
         ensures next { OnOk result ((start : Option (List ℕ)) (ps : List (List Line)) → HasParts T.item_type start (R.remaining reader.old) ps self.old
             → HasParts T.item_type start (R.remaining reader.new) ps self.new × (self.new.pending ≡ 0 → HasAll T.item_type start (R.remaining reader.new) ps)) }
         ensures within { OnOk result (self.new.buffer.start + self.new.buffer.parsed + self.new.pending ≤ vec_len self.new.buffer.bytes) }
@@ -405,6 +413,7 @@ impl ItemReader {
         requires ascend { IfSome (starts_of self.old.memory) (λ offsets. Ascend 0 offsets len) }
         ensures advanced { OnOk result (Advances self.old len self.new) }
         ensures same { keeps_starts self.new ≡ keeps_starts self.old }
+        ensures eager { self.new.is_eager ≡ self.old.is_eager }
     {
         let part = &self.buffer.unparsed()[..len];
         starts_in(
@@ -432,6 +441,7 @@ impl ItemReader {
         ensures refused_left { IfErr result (λ e. kind_of e ≡ ParseErrorKind.Parse → part_of self.new ++ buffered self.new ≡ buffered self.old) }
         ensures refused_bytes { IfErr result (λ e. kind_of e ≡ ParseErrorKind.Parse → self.new.buffer.bytes.items ≡ self.old.buffer.bytes.items) }
         ensures same { keeps_starts self.new ≡ keeps_starts self.old }
+        ensures eager { self.new.is_eager ≡ self.old.is_eager }
         ensures taken { OnOk result ((start now : Option (List ℕ)) (ps : List (List Line)) (first : S) → HasParts T.item_type start now ps self.old → Holds S.holds [] first sink.old
             → TakesPart T.item_type start now ps S.holds first sink.new self.new) }
         ensures refused { IfErr result (λ e. kind_of e ≡ ParseErrorKind.Parse → (start now : Option (List ℕ)) (ps : List (List Line)) (first : S) → HasParts T.item_type start now ps self.old → Holds S.holds [] first sink.old
@@ -496,11 +506,12 @@ impl ItemReader {
         ensures unread { 0 < self.old.pending → R.remaining reader.new ≡ R.remaining reader.old }
         ensures refused { IfErr result (λ e. kind_of e ≡ ParseErrorKind.Parse → (start : Option (List ℕ)) (ps : List (List Line)) → HasParts T.item_type start (R.remaining reader.old) ps self.old
             → RefusesPart T.item_type (option_copied filename.entry) start (R.remaining reader.new) ps S.holds sink.old sink.new self.new e) }
-        ensures due { self.old.is_eager ≡ true → self.old.pending ≡ 0 → OnOk result ((R.remaining reader.new ≡ R.remaining reader.old) ⊎ ReadsLast T.item_type (part_of self.new ++ buffered self.new)) }
-        ensures refused_due { self.old.is_eager ≡ true → self.old.pending ≡ 0 → IfErr result (λ e. kind_of e ≡ ParseErrorKind.Parse → (R.remaining reader.new ≡ R.remaining reader.old) ⊎ ReadsLast T.item_type (part_of self.new ++ buffered self.new)) }
+        ensures due { reads_eagerly self.old ≡ true → OnOk result ((R.remaining reader.new ≡ R.remaining reader.old) ⊎ ReadsLast T.item_type (part_of self.new ++ buffered self.new)) }
+        ensures refused_due { reads_eagerly self.old ≡ true → IfErr result (λ e. kind_of e ≡ ParseErrorKind.Parse → (R.remaining reader.new ≡ R.remaining reader.old) ⊎ ReadsLast T.item_type (part_of self.new ++ buffered self.new)) }
         ensures kept { OnOk result (ReadsOn self.old self.new) }
         ensures refused_kept { IfErr result (λ e. kind_of e ≡ ParseErrorKind.Parse → ReadsOn self.old self.new) }
         ensures same { keeps_starts self.new ≡ keeps_starts self.old }
+        ensures eager { reads_eagerly self.new ≡ reads_eagerly self.old }
     {
         if self.pending > 0 {
             self.read_segment::<T, S>(alloc, filename, sink)?;

@@ -1,6 +1,5 @@
-use Rattle.std.proofs.Common.{◌≡◌, ◌⊎◌, ◌<◌, ℕ, zero, suc, inl, inr, true, false, length, ap, sym, ◌∙◌, ◌==◌, arith}
+use Rattle.std.proofs.Common.{◌≡◌, ◌<◌, ℕ, zero, suc, inl, inr, true, false, length, ap, sym, ◌∙◌, ◌==◌, arith}
 use Rattle.std.proofs.lemmas.Bool.Decides.{Decides-eqb}
-use Rattle.souper_stream.specs.Buffering.{unparsed}
 use Rattle.souper_stream.proofs.Passing.{ends_after}
 use Rattle.souper_stream.proofs.reader.ItemReader.is_at_end.Goals as goal
 

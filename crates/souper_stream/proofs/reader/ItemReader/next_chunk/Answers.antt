@@ -12,6 +12,7 @@ loop-turn-init g c =
     let d = c.in_ok-drain.ensures in
     record {
       same = refl;
+      eager = refl;
       parsed = d.within;
       none = c.requires.none;
       last = d.last;
@@ -32,6 +33,7 @@ returns-then-self-gt0-clause-next g c = λ start ps had. (
 pub loop-turn-preserved : goal.loop-turn-preserved
 loop-turn-preserved g c = record {
   same = c.read_more.ensures.same ∙ c.loop-turn.invariant.same;
+  eager = c.read_more.ensures.eager ∙ c.loop-turn.invariant.eager;
   parsed = c.read_more.ensures.parsed;
   none = omega arith;
   last = ap (λ (b : Buffer). b.last) c.read_more.ensures.buffer ∙ c.loop-turn.invariant.last;

@@ -7,6 +7,7 @@ use Rattle.souper_stream.proofs.reader.ItemReader.next_chunk.Given as goal
 abbrev pub invariant-loop-turn : goal.invariant-loop-turn
 invariant-loop-turn g l = record {
   same : keeps_starts l.self ≡ keeps_starts l.fn.self;
+  eager : l.self.is_eager ≡ l.fn.self.is_eager;
   parsed : l.self.buffer.start + l.self.buffer.parsed ≤ vec_len l.self.buffer.bytes;
   none : l.self.pending ≡ 0;
   last : l.self.buffer.last ≡ 0;

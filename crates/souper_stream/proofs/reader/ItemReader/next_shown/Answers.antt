@@ -9,6 +9,7 @@ use Rattle.souper_stream.proofs.reader.ItemReader.next_shown.Goals as goal
 pub loop-turn-init : goal.loop-turn-init
 loop-turn-init g c = record {
   same = refl;
+  eager = refl;
   buffer = refl;
   parsed = c.requires.parsed;
   none = c.requires.none;
@@ -48,6 +49,7 @@ loop-turn-preserved g c =
     let (start, ps, had) = c.requires.had in
     record {
       same = c.read_shown.ensures.same ∙ inv.same;
+      eager = c.read_shown.ensures.eager ∙ inv.eager;
       buffer = c.read_shown.ensures.buffer ∙ ap (λ (b : Buffer). record b { bytes = c.read_shown.new.self.buffer.bytes }) inv.buffer;
       parsed = c.read_shown.ensures.parsed;
       none = c.read_shown.ensures.none;

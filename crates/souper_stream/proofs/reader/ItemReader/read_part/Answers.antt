@@ -32,6 +32,6 @@ returns-in_err-read_segment-in-Err-2-read_text-clause-refused g c =
     rw (p.1, p.2) (λ kind start ps had. c.in_err-read_segment-in-Err-2-read_text.ensures.refused kind start (g.R.Read.remaining c.next_chunk.new.reader) ps c.args.sink.now (rw c.read_text.ensures.same (c.in-Ok.ensures.next start ps had).0) (λ s y. c.rollback.ensures s items (over s [] y)))
 
 pub returns-in_ok-pass-in-Ok-read_text-clause-due : goal.returns-in_ok-pass-in-Ok-read_text-clause-due
-returns-in_ok-pass-in-Ok-read_text-clause-due g c = λ eager none.
+returns-in_ok-pass-in-Ok-read_text-clause-due g c = λ eager.
     let r : ItemReader = record c.next_chunk.new.self { memory = c.read_text.new.self.memory } in
     due_passed g.T.Item.item_type _ _ (passed_buffered r c.pass.new.self r.pending (rw c.read_text.ensures.same at c.in_ok-pass-in-Ok-read_text.ensures.advanced)) (c.in-Ok.ensures.due eager)
