@@ -40,6 +40,7 @@ fill_ends entries name before after old new err e status parts refused had (inl 
       error = e;
       placed = r.placed;
       located = r.located;
+      stops = r.stops;
       text = concat (all_lines (ps ++ part ∷ []));
       last = last;
       ends = ends replacement before after (ps ++ part ∷ []) (some_parts ps part) h;

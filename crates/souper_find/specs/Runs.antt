@@ -4,7 +4,8 @@ use Rattle.std.specs.Io.KnownBytes.{Consumes}
 use Rattle.souper_graph.specs.Values.{Item}
 use Rattle.souper_graph.specs.Syntax.Spelling.{replacement, TextSpells}
 use Rattle.souper_ir.specs.declared.parse.error.ParseError.{ParseError}
-use Rattle.souper_ir.specs.Errors.{HasLocation, IsRefusalAt}
+use Rattle.souper_ir.specs.Errors.{HasLocation, IsRefusalAt, at_end_of}
+use Rattle.souper_ir.specs.Stopping.{TextStops}
 use Rattle.souper_stream.specs.Parts.{EndsAfter}
 use Rattle.souper_stream.specs.Reading.{AreAll, NeverSpells}
 use Rattle.souper_format.specs.Reporting.{Reported}
@@ -32,7 +33,7 @@ pub record IsFilled (entries : List Entry) (before after : Option (List ℕ)) (s
   pub stores : Stores now store
 
 -- Whatever follows the text read, the stream of this name spells no replacements. The refusal has and shows its place in that text, says
--- where it is at fault, and was reported, given whether the stream ends with the text up to the end of the refused segment.
+-- where it is at fault and whether the segment ended there, and was reported, given whether the stream ends with the text up to the end of the refused segment.
 pub record IsUnfilled (name : List ℕ) (before after : Option (List ℕ)) (err : Stream) : Type 0 where
   pub read : List ℕ
   pub consumed : Consumes before after read
@@ -40,6 +41,7 @@ pub record IsUnfilled (name : List ℕ) (before after : Option (List ℕ)) (err 
   pub error : ParseError
   pub placed : length read + 1 < 2 ^ 64 → (offset : ℕ) × (offset ≤ length read) × IsRefusalAt (Some name) read offset error
   pub located : length read + 1 < 2 ^ 64 → (front : List ℕ) × (rest : List ℕ) × (read ≡ front ++ rest) × HasLocation front error
+  pub stops : (done : List ℕ) × (segment : List ℕ) × (rest : List ℕ) × (read ≡ (done ++ segment) ++ rest) × TextStops replacement segment (at_end_of error)
   pub text : List ℕ
   pub last : Bool
   pub ends : EndsAfter before after text last

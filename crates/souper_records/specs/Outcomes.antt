@@ -2,10 +2,11 @@
 use Rattle.std.specs.Prelude.{◌≡◌, ◌⊎◌, ℕ, Bool, true, false, List, [], ◌∷◌, ◌++◌, map, flat_map, filter_map, is_some, option_map, Option, None, Some, Result, Ok, Err}
 use Rattle.std.specs.List.{list_any}
 use Rattle.std.specs.Io.KnownBytes.{Consumes}
-use Rattle.souper_records.specs.Prelude.{Item, ParseError, kind_of, Start, Stream, IsGiven, IsGivenNothing}
+use Rattle.souper_records.specs.Prelude.{Item, ParseError, kind_of, Start, Stream, IsGiven, IsGivenNothing, at_end_of}
 use Rattle.souper_graph.specs.Syntax.Spelling.{ItemType, TextSpells, SpellsNone}
 use Rattle.souper_ir.specs.declared.parse.error.ParseErrorKind.TheVariants.{Parse}
 use Rattle.souper_ir.specs.Sinks.{PrefixSpells}
+use Rattle.souper_ir.specs.Stopping.{TextStops}
 use Rattle.souper_stream.specs.Segments.{Line, concat, all_lines, HasNoCut, AreParts, PartsSpell}
 use Rattle.souper_stream.specs.declared.reader.ItemReader.{ItemReader}
 use Rattle.souper_records.specs.Reports.{IsRefusalLine}
@@ -42,7 +43,7 @@ pub record Outcome : Type 0 where
   pub refusal : Option ParseError
 
 -- A refused part, after the parsed text `done`. It is one segment. The refusal has its place in the text read of the stream, and says where
--- that is at fault.
+-- that is at fault, and whether the segment ended there.
 pub record IsRefusedPart (r : InputStream) (done : List ℕ) (last : Bool) (part : List Line) (items : List Item) (e : ParseError) : Type 0 where
   pub kind : kind_of e ≡ Parse
   pub segment : HasNoCut r.kind part
@@ -54,6 +55,7 @@ pub record IsRefusedPart (r : InputStream) (done : List ℕ) (last : Bool) (part
   pub ends : EndsAfter r.before now (done ++ concat part) last
   pub placed : IsPlacedIn (Some r.name) read done (concat part) e
   pub located : IsLocatedIn done (concat part) e
+  pub stops : TextStops r.kind (concat part) (at_end_of e)
 
 -- the part spells the items, or it was refused
 abbrev pub IsOutcome : InputStream → List ℕ → Bool → List Line → List Item → Option ParseError → Type 0

@@ -8,7 +8,7 @@ pub use Rattle.souper_graph.specs.Text.{text_of}
 pub use Rattle.souper_graph.specs.Values.{Item}
 pub use Rattle.souper_graph.specs.WellFormed.{WellFormed}
 pub use Rattle.souper_ir.specs.Answers.{IsStrError}
-pub use Rattle.souper_ir.specs.Errors.{kind_of}
+pub use Rattle.souper_ir.specs.Errors.{kind_of, at_end_of}
 pub use Rattle.souper_ir.specs.declared.parse.error.ParseError.{ParseError}
 pub use Rattle.souper_stream.specs.Reading.{AreAll}
 pub use Rattle.souper_stream.specs.Segments.{Line, concat, all_lines}

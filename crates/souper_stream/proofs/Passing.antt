@@ -3,7 +3,7 @@ use Rattle.std.proofs.Common.{◌≡◌, ◌⊎◌, inl, inr, ℕ, zero, suc, �
 use Rattle.std.specs.Io.KnownBytes.{Consumes}
 use Rattle.std.proofs.lemmas.List.{nil_from_length, drop-append-le}
 use Rattle.std.proofs.KnownBytes.{Consumes-nil, Consumes-trans}
-use Rattle.souper_stream.proofs.Prelude.{IsOneLine, Item, Lexeme, ItemType, SpellsNone, ParseError, Parse, Memory, IsStrError, kind_of, HasLocation, HasLocationAfter, IsLocatedAfter, IsRefusalAt, IsLines, TextSpellsFrom, PrefixSpellsFrom, TakesFrom, HasStarts, All-both}
+use Rattle.souper_stream.proofs.Prelude.{IsOneLine, Item, Lexeme, ItemType, SpellsNone, ParseError, Parse, Memory, IsStrError, kind_of, HasLocation, HasLocationAfter, IsLocatedAfter, IsRefusalAt, IsLines, TextSpellsFrom, PrefixSpellsFrom, TakesFrom, HasStarts, All-both, TextStops, at_end_of}
 use Rattle.souper_stream.specs.declared.buffer.Buffer.{Buffer}
 use Rattle.souper_stream.specs.declared.reader.ItemReader.{ItemReader}
 use Rattle.souper_stream.specs.Buffering.{window, unparsed, Buffers}
@@ -273,9 +273,10 @@ module _ (k : ItemType) (start now : Option (List ℕ)) (ps : List (List Line)) 
   }
 
   pub part_refused : {S : Type 0} (holds : S → S → List Item → Type 0) (first old new : S) (m : Memory) (file : Option (List ℕ)) (e shown : ParseError) → Holds holds [] first old → TakesFrom holds (PrefixSpellsFrom k (take len (unparsed r.buffer))) (HasStarts m r.memory) old new → HasNoCut k c.front → kind_of e ≡ Parse → kind_of shown ≡ Parse
-      → IsStrError k None (take len (unparsed r.buffer)) e → IsLocatedAfter file r.buffer.before (take (r.buffer.parsed + len) (window r.buffer)) r.buffer.parsed e shown → HasLocationAfter r.buffer.before (take (r.buffer.parsed + len) (window r.buffer)) shown → RefusesPart k file start now ps holds first new q shown
+      → IsStrError k None (take len (unparsed r.buffer)) e → IsLocatedAfter file r.buffer.before (take (r.buffer.parsed + len) (window r.buffer)) r.buffer.parsed e shown → HasLocationAfter r.buffer.before (take (r.buffer.parsed + len) (window r.buffer)) shown
+      → TextStops k (take len (unparsed r.buffer)) (at_end_of e) → at_end_of shown ≡ at_end_of e → RefusesPart k file start now ps holds first new q shown
   unfolding passed
-  part_refused holds first old new m file e shown held_none t uncut kind shown_kind error located location =
+  part_refused holds first old new m file e shown held_none t uncut kind shown_kind error located location stopped flag =
       let h = had.1 in
       let s = rw kind at error in
       let placed = (let l = rw kind at located in rw s.1 at l) in
@@ -314,6 +315,7 @@ module _ (k : ItemType) (start now : Option (List ℕ)) (ps : List (List Line)) 
         located = λ small.
             let part_there : done ++ take len (concat had.0) ≡ done ++ concat c.front = ap (λ (y : List ℕ). done ++ y) part_text in
             subst (λ (y : List ℕ). HasLocation y shown) part_there (buffers_located file done (concat had.0) after r.buffer len s.0 shown h.buffers some fits within location (omega (arith, small, ap length part_there)));
+        stops = rw flag (subst (λ (y : List ℕ). TextStops k y (at_end_of e)) text_there stopped);
       }
     where
       ends : IsCut k c.front c.back ⊎ ((c.back ≡ []) × (r.ended ≡ true)) → IsLines (concat c.front) ⊎ (concat c.back ++ passed.lines.after ≡ [])

@@ -137,4 +137,5 @@ reached_refusal k file before mid after holds keeps first old new empty full p q
       never = t.never;
       placed = λ small. let at = t.placed small in (at.0, omega (arith, at.2, ap length text, length-append front t.after), at.3);
       located = λ small. (front, t.after, text, t.located (omega (arith, small, ap length text, length-append front t.after)));
+      stops = (concat (all_lines r.parts), concat t.part, t.after, text, t.stops);
     }

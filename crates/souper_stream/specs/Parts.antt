@@ -2,7 +2,7 @@
 use Rattle.std.specs.Prelude.{◌≡◌, ◌⊎◌, ℕ, ◌+◌, ◌-◌, ◌^◌, ◌<◌, ◌≤◌, Bool, true, false, is_some, List, [], ◌∷◌, ◌++◌, length, take, drop, Option, IfSome}
 use Rattle.std.specs.List.{AllByRecursion}
 use Rattle.std.specs.Io.KnownBytes.{Consumes}
-use Rattle.souper_stream.specs.Prelude.{IsOneLine, ItemType, TextSpells, SpellsNone, Item, ParseError, HasLocation, IsRefusalAt, IsLines, PrefixSpells, PrefixSpellsFrom, TextSpellsFrom, starts_of}
+use Rattle.souper_stream.specs.Prelude.{IsOneLine, ItemType, TextSpells, SpellsNone, Item, ParseError, HasLocation, IsRefusalAt, IsLines, PrefixSpells, PrefixSpellsFrom, TextSpellsFrom, starts_of, TextStops, at_end_of}
 use Rattle.souper_stream.specs.declared.buffer.Buffer.{Buffer}
 use Rattle.souper_stream.specs.declared.reader.ItemReader.{ItemReader}
 use Rattle.souper_stream.specs.Buffering.{unparsed, last_part, Buffers, Passes, KeepsWindow}
@@ -133,7 +133,7 @@ pub record TakesPart {S : Type 0} (k : ItemType) (start now : Option (List ℕ))
   pub taken : Holds holds items old new
 
 -- The next segment spells no items: whatever follows the text read, the whole stream spells none. The sink took items that the segment
--- begins with. The refusal has and shows its place in the text read, and says where that is at fault.
+-- begins with. The refusal has and shows its place in the text read, and says where that is at fault, and whether the segment ended there.
 pub record RefusesPart {S : Type 0} (k : ItemType) (file start now : Option (List ℕ)) (ps : List (List Line)) (holds : S → S → List Item → Type 0) (old new : S) (r : ItemReader) (e : ParseError) : Type 0 where
   pub part : List Line
   pub goes_on : HasParts k start now (ps ++ part ∷ []) r
@@ -152,3 +152,4 @@ pub record RefusesPart {S : Type 0} (k : ItemType) (file start now : Option (Lis
   pub never : NeverSpells k (AreAll start read) read
   pub placed : IsPlacedIn file read (concat (all_lines ps)) (concat part) e
   pub located : IsLocatedIn (concat (all_lines ps)) (concat part) e
+  pub stops : TextStops k (concat part) (at_end_of e)

@@ -7,9 +7,10 @@ pub use Rattle.souper_lexer.specs.TokenReading.{lexed_of}
 pub use Rattle.souper_ir.specs.Answers.{IsStrError}
 pub use Rattle.souper_ir.specs.declared.parse.error.Before.{Before}
 pub use Rattle.souper_ir.specs.declared.parse.error.ParseError.{ParseError}
-pub use Rattle.souper_ir.specs.Errors.{kind_of, HasLocation, HasLocationAfter, IsPlacedAfter, IsRefusalAt, IsLocatedAfter, IsSizeOf, offset_of}
+pub use Rattle.souper_ir.specs.Errors.{kind_of, HasLocation, HasLocationAfter, IsPlacedAfter, IsRefusalAt, IsLocatedAfter, IsSizeOf, offset_of, at_end_of}
 pub use Rattle.souper_ir.specs.Joining.{IsLines, moved}
 pub use Rattle.souper_ir.specs.NodeReadings.{is_name}
 pub use Rattle.souper_ir.specs.Places.{EndsIn, newlines, IsLineText, IsPlace}
 pub use Rattle.souper_ir.specs.Sinks.{PrefixSpells, TakesOver, TakesPrefix, TakesText}
 pub use Rattle.souper_ir.specs.Starts.{StartsAt, SpellEachFrom, TextSpellsFrom, PrefixSpellsFrom, TakesFrom, HasStarts, starts_of}
+pub use Rattle.souper_ir.specs.Stopping.{TextStops}

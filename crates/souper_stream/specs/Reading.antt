@@ -2,7 +2,7 @@
 use Rattle.std.specs.Prelude.{◌≡◌, ◌⊎◌, ℕ, ◌+◌, ◌^◌, ◌<◌, ◌≤◌, Bool, true, List, ◌++◌, length, Option, IfSome, Result, Ok}
 use Rattle.std.specs.Io.{StartsWith, appended_bytes}
 use Rattle.std.specs.Io.KnownBytes.{Consumes}
-use Rattle.souper_stream.specs.Prelude.{Item, ItemType, SpellsNone, ParseError, HasLocation, IsRefusalAt, TakesOver, TakesText, PrefixSpells}
+use Rattle.souper_stream.specs.Prelude.{Item, ItemType, SpellsNone, ParseError, HasLocation, IsRefusalAt, TakesOver, TakesText, PrefixSpells, TextStops, at_end_of}
 
 -- if the bytes of a reader are known, they are these
 abbrev pub AreAll : Option (List ℕ) → List ℕ → Type 0
@@ -26,7 +26,8 @@ abbrev pub NeverSpells : ItemType → Type 0 → List ℕ → Type 0
 NeverSpells k all read = ((more : List ℕ) → SpellsNone k (read ++ more)) ⊎ (all × SpellsNone k read)
 
 -- The text read of a stream is refused: whatever follows, the whole spells no items. The sink took items that it begins with. The error
--- has and shows its place in the text read, and says where the text up to the end of the refused segment is at fault.
+-- has and shows its place in the text read, and says where the text up to the end of the refused segment is at fault, and whether the
+-- segment ended there.
 pub record IsStreamRefused {S : Type 0} (k : ItemType) (file : Option (List ℕ)) (before after : Option (List ℕ)) (holds : S → S → List Item → Type 0) (old new : S) (e : ParseError) : Type 0 where
   pub read : List ℕ
   pub consumed : Consumes before after read
@@ -36,3 +37,4 @@ pub record IsStreamRefused {S : Type 0} (k : ItemType) (file : Option (List ℕ)
   pub never : NeverSpells k (AreAll before read) read
   pub placed : length read + 1 < 2 ^ 64 → (offset : ℕ) × (offset ≤ length read) × IsRefusalAt file read offset e
   pub located : length read + 1 < 2 ^ 64 → (front : List ℕ) × (after : List ℕ) × (read ≡ front ++ after) × HasLocation front e
+  pub stops : (done : List ℕ) × (segment : List ℕ) × (after : List ℕ) × (read ≡ (done ++ segment) ++ after) × TextStops k segment (at_end_of e)

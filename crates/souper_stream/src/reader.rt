@@ -2,7 +2,7 @@
 ghost use Rattle.std.specs.Prelude.{◌≡◌, ◌+◌, ◌++◌, ◌<◌, ◌≤◌, ◌⊎◌, ℕ, List, [], length, take, drop, true, false, Option, None, is_some, Ok, IfOk, IfErr, IfSome, OnOk, vec_len, option_copied};
 ghost use Rattle.std.specs.Io.{StopsAt, appended_bytes};
 ghost use Rattle.std.specs.IoError.{error_kind};
-ghost use Rattle.souper_stream.specs.Prelude.{IsOneLine, IsLines, ItemType, Item, IsStrError, kind_of, offset_of, HasLocationAfter, IsLocatedAfter, EndsIn, TakesOver, TakesFrom, TextSpellsFrom, PrefixSpellsFrom, HasStarts, starts_of};
+ghost use Rattle.souper_stream.specs.Prelude.{IsOneLine, IsLines, ItemType, Item, IsStrError, kind_of, offset_of, HasLocationAfter, IsLocatedAfter, EndsIn, TakesOver, TakesFrom, TextSpellsFrom, PrefixSpellsFrom, HasStarts, starts_of, TextStops, at_end_of};
 ghost use Rattle.souper_stream.specs.Starts.{Ascend};
 ghost use Rattle.souper_stream.specs.Buffering.{window, unparsed, KeepsWindow};
 ghost use Rattle.souper_stream.specs.Segments.{Line, concat, all_lines};
@@ -393,6 +393,7 @@ impl ItemReader {
         ensures asked { keeps_starts self.new ≡ keeps_starts self.old }
         ensures taken { OnOk result (TakesFrom S.holds (TextSpellsFrom T.item_type (take len (unparsed self.old.buffer))) (HasStarts self.old.memory self.new.memory) sink.old sink.new) }
         ensures refused { IfErr result (λ e. kind_of e ≡ ParseErrorKind.Parse → IsStrError T.item_type None (take len (unparsed self.old.buffer)) e) }
+        ensures stops { IfErr result (λ e. kind_of e ≡ ParseErrorKind.Parse → TextStops T.item_type (take len (unparsed self.old.buffer)) (at_end_of e)) }
         ensures begun { IfErr result (λ e. kind_of e ≡ ParseErrorKind.Parse → TakesFrom S.holds (PrefixSpellsFrom T.item_type (take len (unparsed self.old.buffer))) (HasStarts self.old.memory self.new.memory) sink.old sink.new) }
         ensures ascend { OnOk result (IfSome (starts_of self.new.memory) (λ offsets. Ascend 0 offsets len)) }
         ensures ascend_before { IfErr result (λ e. kind_of e ≡ ParseErrorKind.Parse → IfSome (starts_of self.new.memory) (λ offsets. Ascend 0 offsets len)) }

@@ -68,7 +68,7 @@ returns-in_ok-write_part-in-Err-clause-part g c = λ start ps had.
     record {
       outcome = o;
       had = t.goes_on;
-      is = record { kind = kind; segment = t.segment; none = t.none; begun = t.begun; now = now; read = t.read; consumed = t.consumed; ends = ends; placed = t.placed; located = t.located };
+      is = record { kind = kind; segment = t.segment; none = t.none; begun = t.begun; now = now; read = t.read; consumed = t.consumed; ends = ends; placed = t.placed; located = t.located; stops = t.stops };
       begin = t.begin;
       any = refl;
       after = λ e. record {

@@ -35,7 +35,8 @@ returns-in_ok-pass-in-Err-read_text-clause-refused g c =
           (rw same at c.in_ok-pass-in-Err-read_text.ensures.advanced) g.S.Sink.holds before c.args.sink.now c.read_text.new.sink c.args.self.now.memory file e shown none
           (c.in-Err-read_text.ensures.begun kind) (first _ _ _ _ r len c.requires.some segment had).uncut kind shown_kind (c.in-Err-read_text.ensures.refused kind)
           (subst (λ (x : ItemReader). IsLocatedAfter file x.buffer.before (take (x.buffer.parsed + len) (window x.buffer)) x.buffer.parsed e shown) same (rw source at w.locate_after-error.ensures.located))
-          (subst (λ (x : ItemReader). HasLocationAfter x.buffer.before (take (x.buffer.parsed + len) (window x.buffer)) shown) same (rw source at (w.locate_after-error.ensures.location shown_kind)))))
+          (subst (λ (x : ItemReader). HasLocationAfter x.buffer.before (take (x.buffer.parsed + len) (window x.buffer)) shown) same (rw source at (w.locate_after-error.ensures.location shown_kind)))
+          (c.in-Err-read_text.ensures.stops kind) (w.locate_after-error.ensures.at_end shown_kind)))
       | in-Err-utf8 w ↦ rw w.error2-is (λ shown_kind start now ps before had none. (let io = w.from-error.ensures in absurd (search rules)))
     ]
 
