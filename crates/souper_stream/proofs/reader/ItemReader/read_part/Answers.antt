@@ -1,4 +1,4 @@
-use Rattle.std.proofs.Common.{rules, ◌<◌, [], refl, arith}
+use Rattle.std.proofs.Common.{rules, ◌<◌, [], refl, ◌∙◌, arith}
 use Rattle.std.proofs.lemmas.Result.{err_from_is_err_and}
 use Rattle.souper_stream.specs.declared.reader.ItemReader.{ItemReader}
 use Rattle.souper_stream.proofs.Passing.{pending_fits, part_taken, passed_buffered, due_passed}
@@ -35,3 +35,21 @@ pub returns-in_ok-pass-in-Ok-read_text-clause-due : goal.returns-in_ok-pass-in-O
 returns-in_ok-pass-in-Ok-read_text-clause-due g c = λ eager.
     let r : ItemReader = record c.next_chunk.new.self { memory = c.read_text.new.self.memory } in
     due_passed g.T.Item.item_type _ _ (passed_buffered r c.pass.new.self r.pending (rw c.read_text.ensures.same at c.in_ok-pass-in-Ok-read_text.ensures.advanced)) (c.in-Ok.ensures.due eager)
+
+pub returns-in_ok-read_segment-in-Err-2-read_text-clause-due : goal.returns-in_ok-read_segment-in-Err-2-read_text-clause-due
+returns-in_ok-read_segment-in-Err-2-read_text-clause-due g c = λ eager.
+    due_passed g.T.Item.item_type _ _ (rw c.read_text.ensures.same at c.in_ok-read_segment-in-Err-2-read_text.ensures.left) (c.in-Ok.ensures.due eager)
+
+pub returns-in_err-read_segment-in-Err-2-read_text-clause-refused_due : goal.returns-in_err-read_segment-in-Err-2-read_text-clause-refused_due
+returns-in_err-read_segment-in-Err-2-read_text-clause-refused_due g c = λ eager.
+    let p = err_from_is_err_and c.from_residual-in_err-read_segment-in-Err-2-read_text.result c.from_residual-in_err-read_segment-in-Err-2-read_text.ensures.1 in
+    rw (p.1, p.2) (λ kind. due_passed g.T.Item.item_type _ _ (rw c.read_text.ensures.same at (c.in_err-read_segment-in-Err-2-read_text.ensures.refused_left kind)) (c.in-Ok.ensures.due eager))
+
+pub returns-in_err-read_segment-in-Err-2-read_text-clause-refused_kept : goal.returns-in_err-read_segment-in-Err-2-read_text-clause-refused_kept
+returns-in_err-read_segment-in-Err-2-read_text-clause-refused_kept g c =
+    let p = err_from_is_err_and c.from_residual-in_err-read_segment-in-Err-2-read_text.result c.from_residual-in_err-read_segment-in-Err-2-read_text.ensures.1 in
+    let w = c.in-Ok.ensures.kept in
+    rw (p.1, p.2) (λ kind. record {
+      chunk = λ none. record { more = w.more; bytes_are = (rw c.read_text.ensures.same at (c.in_err-read_segment-in-Err-2-read_text.ensures.refused_bytes kind)) ∙ w.bytes_are };
+      segment = λ some. absurd (omega (arith, some, c.if-self-gt0.false));
+    })
