@@ -13,8 +13,8 @@ use Rattle.souper_ir.specs.declared.parse.ParseError.{ParseError}
 use Rattle.souper_ir.specs.declared.parse.ParseErrorKind.{ParseErrorKind}
 use Rattle.souper_ir.specs.declared.parse.ParseErrorKind.TheVariants.{Parse}
 use Rattle.souper_ir.specs.Answers.{IsStrError}
-use Rattle.souper_ir.specs.Errors.{kind_of, offset_of, shown_error, HasLocation, ShowsPlace, OnKind}
-use Rattle.souper_ir.specs.Places.{IsRefusalText, shown_refusal}
+use Rattle.souper_errors.specs.Errors.{kind_of, offset_of, shown_error, HasLocation, ShowsPlace, OnKind}
+use Rattle.souper_errors.specs.Places.{IsRefusalText, shown_refusal}
 use Rattle.examples_using.specs.Reports.{IsReport}
 
 pub of_count : {E : Type 0} (source : List ℕ) (items : List LeftHandSide) (n : ℕ) (r : Result (String Global) E)

@@ -4,14 +4,14 @@ use Rattle.std.specs.Prelude.{string_bytes, IsSomeAnd}
 use Rattle.souper_graph.specs.Syntax.Spelling.{ItemType, SpellsNone}
 use Rattle.souper_ir.specs.Laws.Peeks.{some_is}
 use Rattle.souper_ir.specs.Answers.{IsStrError}
-use Rattle.souper_ir.specs.Errors.{at_end_of, kind_of, kind_of_cause, location_of, location_of_cause, offset_of, HasLocation, ShowsPlace, OnKind}
-use Rattle.souper_ir.specs.Places.{IsEnd, AtFault, IsPlace}
-use Rattle.souper_ir.specs.declared.parse.error.Cause.{Cause}
-use Rattle.souper_ir.specs.declared.parse.error.Cause.TheVariants.{Io, Parse as ParseCause, Memory}
-use Rattle.souper_ir.specs.declared.parse.error.ParseError.{ParseError}
-use Rattle.souper_ir.specs.declared.parse.error.ParseErrorKind.{ParseErrorKind}
-use Rattle.souper_ir.specs.declared.parse.error.ParseErrorKind.TheVariants.{Parse}
-use Rattle.souper_ir.specs.declared.parse.place.Location.{Location}
+use Rattle.souper_errors.specs.Errors.{at_end_of, kind_of, kind_of_cause, location_of, location_of_cause, offset_of, HasLocation, ShowsPlace, OnKind}
+use Rattle.souper_errors.specs.Places.{IsEnd, AtFault, IsPlace}
+use Rattle.souper_errors.specs.declared.error.Cause.{Cause}
+use Rattle.souper_errors.specs.declared.error.Cause.TheVariants.{Io, Parse as ParseCause, Memory}
+use Rattle.souper_errors.specs.declared.error.ParseError.{ParseError}
+use Rattle.souper_errors.specs.declared.error.ParseErrorKind.{ParseErrorKind}
+use Rattle.souper_errors.specs.declared.error.ParseErrorKind.TheVariants.{Parse}
+use Rattle.souper_errors.specs.declared.place.Location.{Location}
 use Rattle.souper_c.specs.Kinds.{type_of_number}
 use Rattle.souper_c.specs.Locations.{IsLocation, IsLocationBy, LocatesFault}
 use Rattle.souper_c.specs.declared.location.SouperLocation.{SouperLocation}

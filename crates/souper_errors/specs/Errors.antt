@@ -4,20 +4,19 @@ use Rattle.std.specs.Fmt.{WritesOnOk, WritesStyledOnOk}
 use Rattle.std.specs.declared.fmt.Error.{Error as FormatError}
 use Rattle.std.specs.declared.fmt.Formatter.{Formatter}
 use Rattle.std.specs.declared.io.Error.{Error}
-use Rattle.souper_ir.specs.declared.parse.error.Cause.{Cause}
-use Rattle.souper_ir.specs.declared.parse.error.Cause.TheVariants.{Io as IoCause, Parse as ParseCause, Memory as MemoryCause}
-use Rattle.souper_ir.specs.declared.parse.error.ParseError.{ParseError}
-use Rattle.souper_ir.specs.declared.parse.error.ParseErrorKind.{ParseErrorKind}
-use Rattle.souper_ir.specs.declared.parse.error.ParseErrorKind.TheVariants.{Io, Parse, Memory}
-use Rattle.souper_ir.specs.declared.parse.error.ReadError.{ReadError}
-use Rattle.souper_ir.specs.declared.parse.error.ReadError.TheVariants.{Refused as RefusedRead, Memory as MemoryRead}
-use Rattle.souper_ir.specs.declared.parse.error.Refusal.{Refusal}
-use Rattle.souper_ir.specs.declared.parse.place.Location.{Location}
-use Rattle.souper_ir.specs.declared.parse.place.Place.{Place}
-use Rattle.souper_ir.specs.declared.parse.place.Places.{Places}
-use Rattle.souper_ir.specs.declared.parse.error.Before.{Before}
-use Rattle.souper_ir.specs.Joining.{IsLines}
-use Rattle.souper_ir.specs.Places.{newlines, IsPlace, AtFault, direct_text, file_or_unknown, shown_refusal}
+use Rattle.souper_errors.specs.declared.error.Cause.{Cause}
+use Rattle.souper_errors.specs.declared.error.Cause.TheVariants.{Io as IoCause, Parse as ParseCause, Memory as MemoryCause}
+use Rattle.souper_errors.specs.declared.error.ParseError.{ParseError}
+use Rattle.souper_errors.specs.declared.error.ParseErrorKind.{ParseErrorKind}
+use Rattle.souper_errors.specs.declared.error.ParseErrorKind.TheVariants.{Io, Parse, Memory}
+use Rattle.souper_errors.specs.declared.read.ReadError.{ReadError}
+use Rattle.souper_errors.specs.declared.read.ReadError.TheVariants.{Refused as RefusedRead, Memory as MemoryRead}
+use Rattle.souper_errors.specs.declared.error.Refusal.{Refusal}
+use Rattle.souper_errors.specs.declared.place.Location.{Location}
+use Rattle.souper_errors.specs.declared.place.Place.{Place}
+use Rattle.souper_errors.specs.declared.place.Places.{Places}
+use Rattle.souper_errors.specs.declared.error.Before.{Before}
+use Rattle.souper_errors.specs.Places.{IsLines, newlines, IsPlace, AtFault, direct_text, file_or_unknown, shown_refusal}
 
 -- one of three facts, by the kind: for `Io`, `Parse` and `Memory`
 abbrev pub OnKind : ParseErrorKind → Type 0 → Type 0 → Type 0 → Type 0

@@ -6,6 +6,10 @@ use Rattle.std.specs.Str.{IsAsciiWhitespaceFrom}
 abbrev pub EndsIn : List ℕ → ℕ → Type 0
 EndsIn xs b = (front : List ℕ) × (xs ≡ front ++ b ∷ [])
 
+-- the text is empty, or its last byte is a newline
+abbrev pub IsLines : List ℕ → Type 0
+IsLines bs = (bs ≡ []) ⊎ EndsIn bs 10
+
 -- the number of newlines in the text
 abbrev pub newlines : List ℕ → ℕ
 newlines xs = count_by (λ b. b == 10) xs

@@ -1,12 +1,12 @@
 //! The error of a parse.
 ghost use Rattle.std.specs.Prelude.{◌≡◌, ◌≤◌, ◌+◌, ◌⊎◌, ◌↔◌, length, string_bytes, option_copied, option_map, IfOk, IfSome, IsSome, Some};
 ghost use Rattle.std.specs.Fmt.{DisplaysOnOk, DisplaysStyledOnOk, WritesOnOk};
-ghost use Rattle.souper_ir.specs.declared.parse.place.Places.{Places};
-ghost use Rattle.souper_ir.specs.Places.{direct_text};
-ghost use Rattle.souper_ir.specs.Errors.{error_of, widened, kind_of, offset_of, at_end_of, place_of, line_of, column_of, location_of, message_of, fault_of, shown_error, shown_refusal_of, located_error, located_refusal_of, IsLocated, IsPlacedAfter, IsLocatedAfter, IsRefusalAt, HasLocation, HasLocationAfter, ShowsFault};
+ghost use Rattle.souper_errors.specs.declared.place.Places.{Places};
+ghost use Rattle.souper_errors.specs.Places.{direct_text};
+ghost use Rattle.souper_errors.specs.Errors.{error_of, widened, kind_of, offset_of, at_end_of, place_of, line_of, column_of, location_of, message_of, fault_of, shown_error, shown_refusal_of, located_error, located_refusal_of, IsLocated, IsPlacedAfter, IsLocatedAfter, IsRefusalAt, HasLocation, HasLocationAfter, ShowsFault};
 
-use crate::parse::place::{Location, Place, Places};
-use crate::parse::unstyled::write_unstyled;
+use crate::place::{Location, Place, Places};
+use crate::unstyled::write_unstyled;
 use arrayvec::ArrayString;
 use std::alloc::{AllocError, AllocFailed, Global};
 use std::error::Error;
@@ -27,7 +27,7 @@ pub enum ParseErrorKind {
 /// The error of a parse. It shows why the parse failed and, if a text was refused, where.
 #[derive(Drop)]
 pub struct ParseError {
-    cause: Cause,
+    pub(crate) cause: Cause,
 }
 
 /// How much comes before a text: whole lines, each with its newline.
@@ -38,97 +38,23 @@ pub struct Before {
 }
 
 #[derive(Drop)]
-enum Cause {
+pub(crate) enum Cause {
     Io(io::Error),
     Parse(Box<Refusal>),
     Memory,
 }
 
-// A refusal of a text. It has no place and no location until its source is known.
+/// A refusal of a text. It has no place and no location until its source is known.
 #[derive(Drop)]
-pub(crate) struct Refusal {
-    offset: usize,
+pub struct Refusal {
+    pub(crate) offset: usize,
     // Whether the text ended where more is wanted.
-    at_end: bool,
-    message: String,
-    places: Option<Places>,
-}
-
-/// Why a reader failed: a `ParseError` that is no I/O error, small enough for registers.
-#[derive(Drop)]
-pub(crate) enum ReadError {
-    Refused(Box<Refusal>),
-    Memory,
-}
-
-impl ReadError {
-    /// A refusal at an offset, in bytes.
-    pub(crate) fn refused(
-        alloc: Global,
-        offset: usize,
-        at_end: bool,
-        message: String,
-    ) -> Result<ReadError, AllocError>
-        ensures kind { IfOk result (λ error. kind_of (error_of error) ≡ ParseErrorKind.Parse) }
-        ensures offset { IfOk result (λ error. offset_of (error_of error) ≡ Some offset) }
-        ensures at_end { IfOk result (λ error. at_end_of (error_of error) ≡ at_end) }
-        ensures shown { IfOk result (λ error. shown_error (error_of error) ≡ Some (direct_text offset (string_bytes message))) }
-    {
-        let refusal = Refusal {
-            offset,
-            at_end,
-            message,
-            places: None,
-        };
-        Ok(ReadError::Refused(Box::new(alloc, refusal)?))
-    }
-}
-
-impl From<ReadError> for ParseError {
-    ghost from_gives = { λ read e. e ≡ error_of read };
-
-    fn from(read: ReadError) -> ParseError {
-        let cause = match read {
-            ReadError::Refused(refusal) => Cause::Parse(refusal),
-            ReadError::Memory => Cause::Memory,
-        };
-        ParseError { cause }
-    }
-}
-
-/// What a reader returned, with the error that callers of the parser get.
-pub(crate) fn widen<T>(read: Result<T, ReadError>) -> Result<T, ParseError>
-    ensures { result ≡ widened read }
-{
-    match read {
-        Ok(value) => Ok(value),
-        Err(error) => Err(error.into()),
-    }
+    pub(crate) at_end: bool,
+    pub(crate) message: String,
+    pub(crate) places: Option<Places>,
 }
 
 impl ParseError {
-    /// The error for out of memory.
-    pub(crate) fn memory() -> ParseError
-        ensures { kind_of result ≡ ParseErrorKind.Memory }
-    {
-        ParseError {
-            cause: Cause::Memory,
-        }
-    }
-
-    /// Gives a refusal its place and its location in the source.
-    pub(crate) fn locate(self, alloc: Global, source: &str, file: Option<&str>) -> ParseError
-        requires { IfSome (offset_of self) (λ offset. offset ≤ length source.now) }
-        ensures located { IsLocated (option_copied file.entry) source.now self result }
-        ensures location { kind_of result ≡ ParseErrorKind.Parse → HasLocation source.now result }
-        ensures at_end { kind_of result ≡ ParseErrorKind.Parse → at_end_of result ≡ at_end_of self }
-    {
-        match self.cause {
-            Cause::Parse(refusal) => locate(refusal, alloc, source, file),
-            cause => ParseError { cause },
-        }
-    }
-
     /// Gives a refusal of a part of a text its place and its location in the whole text.
     ///
     /// The part begins at the byte `skipped` of `source` and ends where `source` does, and `before` says what comes before
@@ -263,7 +189,12 @@ impl ParseError {
 }
 
 // Gives a refusal its place and its location in the source.
-fn locate(mut refusal: Box<Refusal>, alloc: Global, source: &str, file: Option<&str>) -> ParseError
+pub(crate) fn locate_refusal(
+    mut refusal: Box<Refusal>,
+    alloc: Global,
+    source: &str,
+    file: Option<&str>,
+) -> ParseError
     requires { refusal.value.offset ≤ length source.now }
     ensures placed { (kind_of result ≡ ParseErrorKind.Memory) ⊎ IsRefusalAt (option_copied file.entry) source.now refusal.value.offset result }
     ensures location { kind_of result ≡ ParseErrorKind.Parse → HasLocation source.now result }
@@ -446,7 +377,7 @@ impl fmt::Debug for ParseError {
 impl Error for ParseError {}
 
 impl From<io::Error> for ParseError {
-    ghost use Rattle.souper_ir.specs.declared.parse.error.ParseErrorKind.TheVariants.{Io};
+    ghost use Rattle.souper_errors.specs.declared.error.ParseErrorKind.TheVariants.{Io};
 
     ghost from_gives = { λ fault e. (kind_of e ≡ Io) × (fault_of e ≡ Some fault) };
 
@@ -458,7 +389,7 @@ impl From<io::Error> for ParseError {
 }
 
 impl From<AllocError> for ParseError {
-    ghost use Rattle.souper_ir.specs.declared.parse.error.ParseErrorKind.TheVariants.{Memory};
+    ghost use Rattle.souper_errors.specs.declared.error.ParseErrorKind.TheVariants.{Memory};
 
     ghost from_gives = { λ _ e. kind_of e ≡ Memory };
 
@@ -470,7 +401,7 @@ impl From<AllocError> for ParseError {
 }
 
 impl<T: Drop> From<AllocFailed<T>> for ParseError {
-    ghost use Rattle.souper_ir.specs.declared.parse.error.ParseErrorKind.TheVariants.{Memory};
+    ghost use Rattle.souper_errors.specs.declared.error.ParseErrorKind.TheVariants.{Memory};
 
     ghost from_gives = { λ _ e. kind_of e ≡ Memory };
 
@@ -484,6 +415,7 @@ impl<T: Drop> From<AllocFailed<T>> for ParseError {
 #[cfg(test)]
 mod tests {
     use super::*;
+    use crate::read::{ReadError, locate};
     use std::test::Fail;
 
     // The test of the ported crate.
@@ -493,7 +425,12 @@ mod tests {
         let source = "hello, how are you?\n> I am good, thanks\nthats good\n";
         let message = String::from_str(alloc, "missing apostrophe")?;
         let refusal = ReadError::refused(alloc, 45, false, message)?;
-        let error = ParseError::from(refusal).locate(alloc, source, Some("path/to/foo.txt"));
+        let error = locate(
+            ParseError::from(refusal),
+            alloc,
+            source,
+            Some("path/to/foo.txt"),
+        );
         let shown = error.to_string(alloc)?;
         let wanted =
             "path/to/foo.txt:3:5: missing apostrophe\n     |\n   3 | thats good\n     |     ^";

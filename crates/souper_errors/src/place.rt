@@ -1,8 +1,8 @@
 //! The place of a byte in a source, and the lines that show it.
 ghost use Rattle.std.specs.Prelude.{◌≡◌, ◌≤◌, ◌+◌, length, option_copied, option_map, string_bytes, IfOk};
 ghost use Rattle.std.specs.Fmt.{WritesOnOk};
-ghost use Rattle.souper_ir.specs.Places.{IsEnd, IsLineFrom, IsPlace, file_or_unknown, shown_refusal};
-ghost use Rattle.souper_ir.specs.Errors.{ArePlacesIn, IsLocationIn, IsPlaceOn, shown_at, shown_at_location};
+ghost use Rattle.souper_errors.specs.Places.{IsEnd, IsLineFrom, IsPlace, file_or_unknown, shown_refusal};
+ghost use Rattle.souper_errors.specs.Errors.{ArePlacesIn, IsLocationIn, IsPlaceOn, shown_at, shown_at_location};
 
 use std::alloc::{AllocError, Global};
 use std::fmt;
@@ -105,14 +105,14 @@ fn next_of<'a>(source: &'a str, offset: usize, before: LineOf<'a>) -> Located<'a
 
 /// Where a refusal of a source is: the place that it shows, and where the source is at fault.
 #[derive(Drop)]
-pub(super) struct Places {
-    pub(super) place: Place,
-    pub(super) location: Location,
+pub(crate) struct Places {
+    pub(crate) place: Place,
+    pub(crate) location: Location,
 }
 
 impl Places {
     /// Those of a refusal at the offset, or at the end of the source, which has that file name.
-    pub(super) fn new(
+    pub(crate) fn new(
         alloc: Global,
         source: &str,
         offset: usize,
@@ -131,10 +131,10 @@ impl Places {
 
 /// Where an offset is in a source, as an error shows it.
 #[derive(Drop)]
-pub(super) struct Place {
+pub(crate) struct Place {
     file: Option<String>,
-    pub(super) line: usize,
-    pub(super) column: usize,
+    pub(crate) line: usize,
+    pub(crate) column: usize,
     text: String,
 }
 
@@ -167,7 +167,7 @@ impl Place {
     }
 
     /// Writes a message, the line that it is about and a caret below the column.
-    pub(super) fn show<W: fmt::Write>(
+    pub(crate) fn show<W: fmt::Write>(
         &self,
         f: &mut fmt::Formatter<W>,
         message: &str,
@@ -183,7 +183,7 @@ impl Place {
     }
 
     /// The same, with the line and the column of a location.
-    pub(super) fn show_location<W: fmt::Write>(
+    pub(crate) fn show_location<W: fmt::Write>(
         &self,
         location: &Location,
         f: &mut fmt::Formatter<W>,

@@ -9,7 +9,7 @@ use Rattle.std.specs.declared.io.ErrorKind.TheVariants.{OutOfMemory}
 use Rattle.souper_graph.specs.Values.{Item}
 use Rattle.souper_graph.specs.Sameness.{SameGraph}
 use Rattle.souper_graph.specs.Syntax.Spelling.{ItemType}
-use Rattle.souper_ir.specs.Errors.{kind_of, fault_of, OnKind}
+use Rattle.souper_errors.specs.Errors.{kind_of, fault_of, OnKind}
 use Rattle.souper_ir.specs.Files.{AnswersRead}
 use Rattle.souper_ir.specs.declared.parse.ParseError.{ParseError}
 use Rattle.souper_ir.specs.declared.parse.ParseErrorKind.{ParseErrorKind}

@@ -7,13 +7,10 @@ use Rattle.std.proofs.lemmas.List.{map-append, take-take, take-append-le, length
 use Rattle.std.proofs.lemmas.Option.{slice_get_within, get_or_from_slice_get, slice_get_read}
 use Rattle.std.proofs.lemmas.Bool.{eq-eqb}
 use Rattle.std.proofs.lemmas.Slice.Eq.{bytes_eq-Decides}
-use Rattle.souper_ir.specs.declared.parse.table.Known.{Known}
-use Rattle.souper_ir.specs.declared.parse.table.NameTable.TheInside.{Inside}
-use Rattle.souper_ir.specs.HashView.{name_hash, slot}
-use Rattle.souper_ir.specs.TableView.{NameEntry, or_else, last_entry, plain, Leads, IsTable}
-use Rattle.souper_ir.specs.NamesView.{NameMap, entry_in_map, AddsToMap}
-use Rattle.souper_ir.specs.Laws.Peeks.{some_is}
-use Rattle.souper_ir.proofs.Scope.Growing.{get_push}
+use Rattle.souper_names.specs.declared.table.Known.{Known}
+use Rattle.souper_names.specs.declared.table.NameTable.TheInside.{Inside}
+use Rattle.souper_names.specs.HashView.{name_hash, slot}
+use Rattle.souper_names.specs.TableView.{NameEntry, or_else, last_entry, plain, Leads, IsTable}
 
 -- ---- the last entry of a name
 
@@ -38,26 +35,26 @@ adds few x in_map n = ap (λ (o : Option NameEntry). or_else o in_map) (last_pus
 
 drop_at : (few : List (List ℕ × NameEntry)) (i : ℕ) (x : List ℕ × NameEntry) → slice_get few i ≡ Some x → drop i few ≡ x ∷ drop (suc i) few
 drop_at [] i x h = absurd cc
-drop_at (y ∷ few) zero x h = ap (λ (z : List ℕ × NameEntry). z ∷ few) (some_is h)
+drop_at (y ∷ few) zero x h = ap (λ (z : List ℕ × NameEntry). z ∷ few) (let same : y ≡ x = cc in same)
 drop_at (y ∷ few) (suc i) x h = drop_at few i x h
 
 -- one more name is put into a larger table
 take_next : (few : List (List ℕ × NameEntry)) (i : ℕ) (x : List ℕ × NameEntry) → slice_get few i ≡ Some x → take (suc i) few ≡ take i few ++ x ∷ []
 take_next [] i x h = absurd cc
-take_next (y ∷ few) zero x h = ap (λ (z : List ℕ × NameEntry). z ∷ []) (some_is h)
+take_next (y ∷ few) zero x h = ap (λ (z : List ℕ × NameEntry). z ∷ []) (let same : y ≡ x = cc in same)
 take_next (y ∷ few) (suc i) x h = ap (λ (zs : List (List ℕ × NameEntry)). y ∷ zs) (take_next few i x h)
 
 pub take_at : (few : List (List ℕ × NameEntry)) (i : ℕ) (x : List ℕ × NameEntry) → slice_get few i ≡ Some x → take (i + 1) few ≡ take i few ++ x ∷ []
 take_at few i x h = ap (λ (j : ℕ). take j few) (let e : i + 1 ≡ suc i = omega arith in e) ∙ take_next few i x h
 
--- a name leaves the table for the map
-pub moves : (few : List (List ℕ × NameEntry)) (i : ℕ) (x : List ℕ × NameEntry) (old new : NameMap) → slice_get few i ≡ Some x → AddsToMap old new x.0 x.1
-    → (n : List ℕ) → or_else (last_entry (drop (i + 1) few) n) (entry_in_map new n) ≡ or_else (last_entry (drop i few) n) (entry_in_map old n)
-moves few i x old new h added n =
-    ap (λ (j : ℕ). or_else (last_entry (drop j few) n) (entry_in_map new n)) (let e : i + 1 ≡ suc i = omega arith in e)
-    ∙ ap (λ (o : Option NameEntry). or_else (last_entry (drop (suc i) few) n) o) (added n ∙ sym (or_if (bytes_eq x.0 n) x.1 None (entry_in_map old n)))
-    ∙ sym (ap (λ (xs : List (List ℕ × NameEntry)). or_else (last_entry xs n) (entry_in_map old n)) (drop_at few i x h)
-    ∙ or_assoc (last_entry (drop (suc i) few) n) (if bytes_eq x.0 n then Some x.1 else None) (entry_in_map old n))
+-- a name leaves the table for a map, which has the entry `old` of a name before, and `new` then
+pub moves : (few : List (List ℕ × NameEntry)) (i : ℕ) (x : List ℕ × NameEntry) (n : List ℕ) (old new : Option NameEntry) → slice_get few i ≡ Some x → new ≡ (if bytes_eq x.0 n then Some x.1 else old)
+    → or_else (last_entry (drop (i + 1) few) n) new ≡ or_else (last_entry (drop i few) n) old
+moves few i x n old new h is =
+    ap (λ (j : ℕ). or_else (last_entry (drop j few) n) new) (let e : i + 1 ≡ suc i = omega arith in e)
+    ∙ ap (λ (o : Option NameEntry). or_else (last_entry (drop (suc i) few) n) o) (is ∙ sym (or_if (bytes_eq x.0 n) x.1 None old))
+    ∙ sym (ap (λ (xs : List (List ℕ × NameEntry)). or_else (last_entry xs n) old) (drop_at few i x h)
+    ∙ or_assoc (last_entry (drop (suc i) few) n) (if bytes_eq x.0 n then Some x.1 else None) old)
 
 abbrev last_of : List Known → List ℕ → Option NameEntry
 last_of ks n = last_entry (map plain ks) n
@@ -118,6 +115,16 @@ further w ks count k n some leads at other before =
     }
 
 -- ---- one more name
+
+pub get_push : {A : Type 0} (ss : List A) (s t : A) (p : ℕ) → slice_get (ss ++ s ∷ []) p ≡ Some t → (slice_get ss p ≡ Some t) ⊎ ((p ≡ length ss) × (s ≡ t))
+get_push [] s t zero e = inr (refl, cc)
+get_push [] s t (suc p) e = absurd cc
+get_push (x ∷ ss) s t zero e = inl e
+get_push (x ∷ ss) s t (suc p) e = deeper (get_push ss s t p e)
+  where
+    deeper : (slice_get ss p ≡ Some t) ⊎ ((p ≡ length ss) × (s ≡ t)) → (slice_get (x ∷ ss) (suc p) ≡ Some t) ⊎ ((suc p ≡ length (x ∷ ss)) × (s ≡ t))
+    deeper (inl h) = inl h
+    deeper (inr h) = inr (ap suc h.0, h.1)
 
 -- all names lead to one that has the slot of the last
 leads_all : (w : ℕ) (ks : List Known) (k : Known) (n : List ℕ) → slot (name_hash k.name.now) w ≡ slot (name_hash n) w → Leads w (ks ++ k ∷ []) n (length (ks ++ k ∷ []))

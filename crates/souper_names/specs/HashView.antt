@@ -2,7 +2,7 @@
 use Rattle.std.specs.Prelude.{ℕ, ◌+◌, ◌*◌, ◌-◌, ◌/◌, ◌%◌, ◌^◌, List, [], ◌∷◌, length, nat_eq, nat_le, nat_lt, slice_index, if◌then◌else◌}
 use Rattle.std.specs.Vec.{vec_len}
 use Rattle.std.specs.Int.{w32, w64, from_le_bytes}
-use Rattle.souper_ir.specs.declared.parse.heads.Heads.TheInside.{Inside}
+use Rattle.souper_names.specs.declared.heads.Heads.TheInside.{Inside}
 
 -- the number that the 4 bytes from a position on spell, the lowest first
 unfoldable pub half_at : List ℕ → ℕ → ℕ

@@ -1,8 +1,8 @@
 -- Definitions. A table of names, and how its fields stand for them.
 use Rattle.std.specs.Prelude.{◌≡◌, ℕ, suc, ◌≤◌, List, [], ◌∷◌, length, map, take, Option, Some, None, bytes_eq, slice_get, slice_index, if◌then◌else◌}
-use Rattle.souper_ir.specs.declared.parse.table.Known.{Known}
-use Rattle.souper_ir.specs.declared.parse.table.NameTable.TheInside.{Inside}
-use Rattle.souper_ir.specs.HashView.{name_hash, slot}
+use Rattle.souper_names.specs.declared.table.Known.{Known}
+use Rattle.souper_names.specs.declared.table.NameTable.TheInside.{Inside}
+use Rattle.souper_names.specs.HashView.{name_hash, slot}
 
 -- a position, and the number of predecessors of the block there
 abbrev pub NameEntry : Type 0

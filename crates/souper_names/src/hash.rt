@@ -1,6 +1,6 @@
 //! A hash of names.
 ghost use Rattle.std.specs.Prelude.{◌≡◌, ◌≤◌, ◌<◌, ◌+◌, length};
-ghost use Rattle.souper_ir.specs.HashView.{half_at, eight_bytes_at, joined, few_bytes, number_by_ends, name_hash, slot};
+ghost use Rattle.souper_names.specs.HashView.{half_at, eight_bytes_at, joined, few_bytes, number_by_ends, name_hash, slot};
 
 // 2 to the 64th over the golden ratio: the highest bits of a product with it depend on all bits of a number (Knuth's multiplicative
 // hashing).
@@ -89,7 +89,7 @@ fn number_by_ends(bytes: &[u8]) -> u64
 /// The hash of a name.
 #[inline(always)]
 #[tactic(auto, unfolding(crate::specs::HashView::name_hash))]
-pub(crate) fn hash_of(name: &str) -> u64
+pub fn hash_of(name: &str) -> u64
     ensures { result ≡ name_hash name.now }
 {
     number_by_ends(name.as_bytes()).wrapping_mul(FACTOR)

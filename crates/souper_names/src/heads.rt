@@ -1,9 +1,9 @@
 //! The heads of the slots of a table of names.
 ghost use Rattle.std.specs.Prelude.{◌≡◌, ◌<◌, ◌≤◌, length, max, IfOk, slice_index, slice_set};
 ghost use Rattle.std.proofs.Math.ListN.{replicate};
-ghost use Rattle.souper_ir.specs.HashView.{slot};
+ghost use Rattle.souper_names.specs.HashView.{slot};
 
-use crate::parse::hash::slot_of;
+use crate::hash::slot_of;
 use std::alloc::{AllocError, Global};
 use std::marker::Model;
 
@@ -18,7 +18,7 @@ pub(crate) struct Heads {
 
 impl Model for Heads {
     ghost use Rattle.std.specs.Prelude.{◌≡◌, ℕ, List, length};
-    ghost use Rattle.souper_ir.specs.HashView.{heads_of};
+    ghost use Rattle.souper_names.specs.HashView.{heads_of};
 
     ghost Value = { List ℕ };
 

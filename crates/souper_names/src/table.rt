@@ -1,14 +1,17 @@
-//! A table of the names of an item.
+//! The table.
 ghost use Rattle.std.specs.Prelude.{◌≡◌, ◌<◌, ◌++◌, ◌∷◌, [], length, IfOk, OnOk};
 ghost use Rattle.std.specs.List.{slice_get};
-ghost use Rattle.souper_ir.specs.HashView.{name_hash};
-ghost use Rattle.souper_ir.specs.TableView.{last_entry};
+ghost use Rattle.souper_names.specs.HashView.{name_hash};
+ghost use Rattle.souper_names.specs.TableView.{last_entry};
 
-use crate::parse::hash::hash_of;
-use crate::parse::heads::Heads;
-use crate::parse::names::Entry;
+use crate::hash::hash_of;
+use crate::heads::Heads;
 use std::alloc::{AllocError, Global};
+use std::fmt;
 use std::marker::Model;
+
+/// A position and, if a block is there, its number of predecessors.
+pub type Entry = (usize, Option<u32>);
 
 // A name with its entry.
 #[derive(Clone, Copy)]
@@ -22,23 +25,32 @@ struct Known<'a> {
 /// The entries that were put, in order: a hash table with separate chaining, in which the entries of a slot are a chain from the last to the
 /// first. It grows with its entries.
 #[derive(Drop)]
-pub(crate) struct NameTable<'a> {
+pub struct NameTable<'a> {
     alloc: Global,
     known: Vec<Known<'a>>,
     heads: Heads,
-    // How many entries are of blocks.
-    blocks: usize,
 }
 
 impl<'a> Model for NameTable<'a> {
     ghost use Rattle.std.specs.Prelude.{ℕ, List, Option, map};
-    ghost use Rattle.souper_ir.specs.TableView.{plain, IsTable};
+    ghost use Rattle.souper_names.specs.TableView.{plain, IsTable};
 
     ghost Value = { List (List ℕ × (ℕ × Option ℕ)) };
 
     ghost view = { λ t. map plain t.known.items };
 
     ghost invariant = { IsTable };
+}
+
+/// Shows one map.
+impl fmt::Debug for NameTable<'_> {
+    fn fmt<W: fmt::Write>(&self, f: &mut fmt::Formatter<W>) -> fmt::Result {
+        let mut map = f.debug_map();
+        for known in &self.known {
+            map.entry(&known.name, &known.entry);
+        }
+        map.finish()
+    }
 }
 
 // The entries that there is room for after the first.
@@ -49,34 +61,27 @@ const KEPT: usize = 64;
 
 impl<'a> NameTable<'a> {
     /// An empty table. It takes no memory.
-    pub(crate) fn new(alloc: Global) -> Self
+    pub fn new(alloc: Global) -> Self
         ensures { result ≡ [] }
     {
         NameTable {
             alloc,
             known: Vec::new(alloc),
             heads: Heads::new(alloc),
-            blocks: 0,
         }
     }
 
     /// The number of entries.
     #[inline(always)]
-    pub(crate) fn len(&self) -> usize
+    pub fn len(&self) -> usize
         ensures { result ≡ length self.now }
     {
         self.known.len()
     }
 
-    /// The number of entries, where each of a block counts twice. The names of one slot are bounded by it.
-    #[inline(always)]
-    pub(crate) fn counted(&self) -> usize {
-        self.known.len().saturating_add(self.blocks)
-    }
-
     /// The name and the entry at the index.
     #[inline(always)]
-    pub(crate) fn nth(&self, index: usize) -> (&'a str, Entry)
+    pub fn nth(&self, index: usize) -> (&'a str, Entry)
         requires { index < length self.now }
         ensures { slice_get self.now index ≡ Some (result.0.now, result.1) }
     {
@@ -86,17 +91,16 @@ impl<'a> NameTable<'a> {
 
     /// The last entry of a name, whose hash this is.
     #[inline(always)]
-    pub(crate) fn get(&self, hash: u64, name: &str) -> Option<Entry>
+    pub fn get(&self, hash: u64, name: &str) -> Option<Entry>
         requires { hash ≡ name_hash name.now }
         ensures { result ≡ last_entry self.now name.now }
     {
         self.find(hash, name).0
     }
 
-    /// The last entry of a name, whose hash this is, and the number of entries of other names that it was compared with first, as `counted`
-    /// counts them.
+    /// The last entry of a name, whose hash this is, and the number of entries of other names that it was compared with first.
     #[inline(always)]
-    pub(crate) fn find(&self, hash: u64, name: &str) -> (Option<Entry>, usize)
+    pub fn find(&self, hash: u64, name: &str) -> (Option<Entry>, usize)
         requires { hash ≡ name_hash name.now }
         ensures { result.0 ≡ last_entry self.now name.now }
     {
@@ -107,7 +111,7 @@ impl<'a> NameTable<'a> {
             if known.name == name {
                 return (Some(known.entry), compared);
             }
-            compared = compared.saturating_add(if known.entry.1.is_some() { 2 } else { 1 });
+            compared = compared.saturating_add(1);
             count = known.before;
         }
         (None, compared)
@@ -115,17 +119,12 @@ impl<'a> NameTable<'a> {
 
     /// Puts an entry of a name, whose hash this is.
     #[inline(always)]
-    pub(crate) fn put(&mut self, hash: u64, name: &'a str, entry: Entry) -> Result<(), AllocError>
+    pub fn put(&mut self, hash: u64, name: &'a str, entry: Entry) -> Result<(), AllocError>
         requires { hash ≡ name_hash name.now }
         ensures { OnOk result (self.new ≡ self.old ++ (name.now, entry) ∷ []) }
     {
         self.make_room()?;
-        self.push(hash, name, entry)?;
-        if entry.1.is_some() {
-            self.make_room()?;
-            self.blocks = self.blocks.saturating_add(1);
-        }
-        Ok(())
+        self.push(hash, name, entry)
     }
 
     // Makes room for one more entry, and for as many slots as there are entries.
@@ -133,7 +132,7 @@ impl<'a> NameTable<'a> {
     fn make_room(&mut self) -> Result<(), AllocError>
         ensures { self.new ≡ self.old }
     {
-        match self.counted() {
+        match self.known.len() {
             0 => self.known.reserve(ROOM),
             entries if entries >= self.heads.len() => self.grow(),
             _ => Ok(()),
@@ -148,7 +147,6 @@ impl<'a> NameTable<'a> {
             alloc,
             known: Vec::with_capacity(alloc, entries)?,
             heads: Heads::with_slots(alloc, entries.saturating_mul(2))?,
-            blocks: 0,
         })
     }
 
@@ -158,8 +156,7 @@ impl<'a> NameTable<'a> {
     fn grow(&mut self) -> Result<(), AllocError>
         ensures { self.new ≡ self.old }
     {
-        let mut table = NameTable::with_room(self.alloc, self.counted().saturating_mul(2))?;
-        table.blocks = self.blocks;
+        let mut table = NameTable::with_room(self.alloc, self.known.len().saturating_mul(2))?;
         for index in 0..self.len() {
             let (name, entry) = self.nth(index);
             table.push(hash_of(name), name, entry)?;
@@ -190,15 +187,14 @@ impl<'a> NameTable<'a> {
 
     /// Takes all entries out. The memory of a large table is given back.
     #[inline(always)]
-    pub(crate) fn clear(&mut self)
+    pub fn clear(&mut self)
         ensures { self.new ≡ [] }
     {
-        if self.counted() > KEPT {
+        if self.known.len() > KEPT {
             *self = NameTable::new(self.alloc);
         } else if !self.known.is_empty() {
             self.known.clear();
             self.heads = Heads::new(self.alloc);
-            self.blocks = 0;
         }
     }
 }

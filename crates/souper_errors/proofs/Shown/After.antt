@@ -4,8 +4,7 @@ use Rattle.std.specs.Prelude.{◌==◌, Bool, true, false, ◌≤◌}
 use Rattle.std.specs.Char.{is_ascii_whitespace}
 use Rattle.std.proofs.lemmas.List.{get_or-append_right}
 use Rattle.std.proofs.lemmas.List.Sums.{sum_by-append, count_by-le-length}
-use Rattle.souper_ir.specs.Places.{EndsIn, newlines, AtFault, IsLineFrom, IsPlace}
-use Rattle.souper_ir.specs.Joining.{IsLines}
+use Rattle.souper_errors.specs.Places.{EndsIn, IsLines, newlines, AtFault, IsLineFrom, IsPlace}
 
 newlines-append : (xs ys : List ℕ) → newlines (xs ++ ys) ≡ newlines xs + newlines ys
 newlines-append xs ys = sum_by-append (λ b. cond (b == 10) 1 0) xs ys

@@ -10,7 +10,7 @@ use Rattle.std.proofs.lemmas.Bool.{ne_eqb}
 use Rattle.std.proofs.lemmas.Grind.{put_four}
 use Rattle.std.proofs.lemmas.List.Sums.{sum_by-append}
 use Rattle.std.proofs.lemmas.Str.Pattern.{strip_suffix_char}
-use Rattle.souper_ir.specs.Places.{EndsIn, newlines, IsWithoutReturn, IsLineFrom, IsPlace, right_aligned, shown_refusal, direct_text}
+use Rattle.souper_errors.specs.Places.{EndsIn, newlines, IsWithoutReturn, IsLineFrom, IsPlace, right_aligned, shown_refusal, direct_text}
 
 pub newlines-append : (xs ys : List ℕ) → newlines (xs ++ ys) ≡ newlines xs + newlines ys
 newlines-append xs ys = sum_by-append (λ b. cond (eqb b 10) 1 0) xs ys

@@ -1,7 +1,7 @@
 -- An offset has one place.
 use Rattle.std.proofs.Common.{◌≡◌, ◌⊎◌, ℕ, ◌+◌, ◌-◌, ◌<◌, ◌≤◌, List, [], ◌∷◌, ◌++◌, length, refl, sym, ◌∙◌, ap, subst, inl, inr, append_assoc, length-append, arith}
-use Rattle.souper_ir.specs.Places.{EndsIn, newlines, IsWithoutReturn, IsLineText, IsPlace, OnePlace}
-use Rattle.souper_ir.proofs.Shown.Lines.{newlines-append}
+use Rattle.souper_errors.specs.Places.{EndsIn, newlines, IsWithoutReturn, IsLineText, IsPlace, OnePlace}
+use Rattle.souper_errors.proofs.Shown.Lines.{newlines-append}
 
 -- ---- two ways to part a text
 

@@ -1,12 +1,12 @@
 use Rattle.std.proofs.Common.{◌≡◌, ℕ, ◌+◌, ◌++◌, length, length-append, Option, Some, string_bytes, inr, inl, refl, ap, sym, ◌∙◌, subst, arith}
-use Rattle.souper_ir.specs.declared.parse.error.Refusal.{Refusal}
-use Rattle.souper_ir.specs.declared.parse.place.Place.{Place}
-use Rattle.souper_ir.specs.declared.parse.place.Places.{Places}
-use Rattle.souper_ir.specs.Errors.{IsLocationIn, shown_by_place}
+use Rattle.souper_errors.specs.declared.error.Refusal.{Refusal}
+use Rattle.souper_errors.specs.declared.place.Place.{Place}
+use Rattle.souper_errors.specs.declared.place.Places.{Places}
+use Rattle.souper_errors.specs.Errors.{IsLocationIn, shown_by_place}
 use Rattle.std.specs.Prelude.{option_map}
-use Rattle.souper_ir.specs.Places.{newlines, AtFault, IsPlace, shown_refusal, file_or_unknown}
-use Rattle.souper_ir.proofs.Shown.After.{fault_after, fault_within, line_fits, place_after}
-use Rattle.souper_ir.proofs.parse.error.locate_after.Goals as goal
+use Rattle.souper_errors.specs.Places.{newlines, AtFault, IsPlace, shown_refusal, file_or_unknown}
+use Rattle.souper_errors.proofs.Shown.After.{fault_after, fault_within, line_fits, place_after}
+use Rattle.souper_errors.proofs.error.locate_after.Goals as goal
 
 pub returns-in-Ok-clause-placed : goal.returns-in-Ok-clause-placed
 returns-in-Ok-clause-placed c = inr (λ text b some fits.

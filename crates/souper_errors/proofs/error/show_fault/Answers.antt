@@ -1,11 +1,9 @@
 use Rattle.std.proofs.Common.{List, ℕ, ◌++◌, refl}
 use Rattle.std.specs.Prelude.{Some, codes}
 use Rattle.std.specs.Fmt.{WritesStyledOnOk}
-use Rattle.souper_graph.proofs.Texts.Styled.{styled_two}
-use Rattle.souper_ir.proofs.Shown.Unstyled.{plainly}
-use Rattle.souper_ir.proofs.parse.error.show_fault.Goals as goal
+use Rattle.souper_errors.proofs.Shown.Unstyled.{plainly, styled_two}
+use Rattle.souper_errors.proofs.error.show_fault.Goals as goal
 
--- src/parse/error.rt:161:1
 pub returns : goal.returns
 returns g c = λ ok.
     let took = g.W.Write.write_str_gives in

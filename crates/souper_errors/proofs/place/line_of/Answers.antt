@@ -1,7 +1,7 @@
 use Rattle.std.proofs.Common.{Some, None, rules, arith, lit<}
 use Rattle.std.proofs.lemmas.Str.Pattern.{split_parts}
-use Rattle.souper_ir.proofs.Shown.Lines.{BeginsWithLine, reached_more, line_from, place_within, place_last, without_return}
-use Rattle.souper_ir.proofs.parse.place.line_of.Goals as goal
+use Rattle.souper_errors.proofs.Shown.Lines.{BeginsWithLine, reached_more, line_from, place_within, place_last, without_return}
+use Rattle.souper_errors.proofs.place.line_of.Goals as goal
 
 pub returns-then-position-end : goal.returns-then-position-end
 returns-then-position-end c =

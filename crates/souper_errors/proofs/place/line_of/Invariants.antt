@@ -1,8 +1,8 @@
 use Rattle.std.proofs.Common.{length}
 use denote.Text.{Utf8}
 use denote.Shadow.{shadow}
-use Rattle.souper_ir.proofs.Shown.Lines.{IsReached}
-use Rattle.souper_ir.proofs.parse.place.line_of.Given as goal
+use Rattle.souper_errors.proofs.Shown.Lines.{IsReached}
+use Rattle.souper_errors.proofs.place.line_of.Given as goal
 
 abbrev pub invariant-loop-body : goal.invariant-loop-body
 invariant-loop-body l = record {

@@ -1,7 +1,7 @@
 use Rattle.std.proofs.Common.{◌∙◌, ap, decimal, refl, arith}
 use Rattle.std.specs.Fmt.{styled_decimal}
-use Rattle.souper_ir.proofs.Shown.Lines.{shown_by_writes, padded_right}
-use Rattle.souper_ir.proofs.parse.place.show.Goals as goal
+use Rattle.souper_errors.proofs.Shown.Lines.{shown_by_writes, padded_right}
+use Rattle.souper_errors.proofs.place.show.Goals as goal
 
 pub returns : goal.returns
 returns g c plain ok =

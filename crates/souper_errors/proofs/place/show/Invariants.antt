@@ -1,6 +1,6 @@
 use Rattle.std.proofs.Common.{◌-◌, ◌≤◌, replicate}
 use Rattle.std.specs.Fmt.{HasWritten, IsPlainFormatter}
-use Rattle.souper_ir.proofs.parse.place.show.Given as goal
+use Rattle.souper_errors.proofs.place.show.Given as goal
 
 -- Each turn has written a space.
 abbrev pub invariant-loop : goal.invariant-loop

@@ -1,6 +1,6 @@
 use Rattle.std.proofs.Common.{rules}
-use Rattle.souper_ir.proofs.Shown.Unstyled.{shows_styled, plainly}
-use Rattle.souper_ir.proofs.parse.unstyled.write_unstyled.Goals as goal
+use Rattle.souper_errors.proofs.Shown.Unstyled.{shows_styled, plainly}
+use Rattle.souper_errors.proofs.unstyled.write_unstyled.Goals as goal
 
 pub returns-clause-styled : goal.returns-clause-styled
 returns-clause-styled g c =

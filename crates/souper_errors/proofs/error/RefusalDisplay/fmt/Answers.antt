@@ -1,5 +1,5 @@
-use Rattle.souper_ir.proofs.Shown.Lines.{direct_is}
-use Rattle.souper_ir.proofs.parse.error.RefusalDisplay.fmt.Goals as goal
+use Rattle.souper_errors.proofs.Shown.Lines.{direct_is}
+use Rattle.souper_errors.proofs.error.RefusalDisplay.fmt.Goals as goal
 
 pub returns-in-None-clause-writes : goal.returns-in-None-clause-writes
 returns-in-None-clause-writes g c plain ok =

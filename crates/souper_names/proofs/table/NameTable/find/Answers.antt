@@ -1,9 +1,9 @@
 use Rattle.std.proofs.Common.{◌≡◌, length, List, ℕ, Some, sym, ◌∙◌, ap, subst}
 use Rattle.std.specs.Prelude.{slice_index}
-use Rattle.souper_ir.specs.HashView.{slot}
-use Rattle.souper_ir.specs.TableView.{NameEntry, Leads, last_entry}
-use Rattle.souper_ir.proofs.Scope.Tables.{here, further, shorter}
-use Rattle.souper_ir.proofs.parse.table.NameTable.find.Goals as goal
+use Rattle.souper_names.specs.HashView.{slot}
+use Rattle.souper_names.specs.TableView.{NameEntry, Leads, last_entry}
+use Rattle.souper_names.proofs.Tables.{here, further, shorter}
+use Rattle.souper_names.proofs.table.NameTable.find.Goals as goal
 
 pub loop-count-init : goal.loop-count-init
 loop-count-init c =

@@ -1,9 +1,9 @@
 use Rattle.std.proofs.Common.{ℕ, ◌<◌, List, length, refl, ◌∙◌, ap, subst, arith}
 use Rattle.std.specs.Prelude.{slice_index, slice_set}
-use Rattle.souper_ir.specs.HashView.{slot}
-use Rattle.souper_ir.specs.declared.parse.table.Known.{Known}
-use Rattle.souper_ir.proofs.Scope.Tables.{same_table, table_put}
-use Rattle.souper_ir.proofs.parse.table.NameTable.push.Goals as goal
+use Rattle.souper_names.specs.HashView.{slot}
+use Rattle.souper_names.specs.declared.table.Known.{Known}
+use Rattle.souper_names.proofs.Tables.{same_table, table_put}
+use Rattle.souper_names.proofs.table.NameTable.push.Goals as goal
 
 pub invariant_of-self : goal.invariant_of-self
 invariant_of-self c =

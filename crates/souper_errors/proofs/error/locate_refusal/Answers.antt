@@ -1,8 +1,8 @@
 use Rattle.std.proofs.Common.{ℕ, List, Option, Some, string_bytes, inr, refl, ap, sym, subst}
-use Rattle.souper_ir.specs.declared.parse.error.Refusal.{Refusal}
-use Rattle.souper_ir.specs.Errors.{IsLocationIn}
-use Rattle.souper_ir.specs.Places.{IsPlace, shown_refusal, file_or_unknown}
-use Rattle.souper_ir.proofs.parse.error.locate.Goals as goal
+use Rattle.souper_errors.specs.declared.error.Refusal.{Refusal}
+use Rattle.souper_errors.specs.Errors.{IsLocationIn}
+use Rattle.souper_errors.specs.Places.{IsPlace, shown_refusal, file_or_unknown}
+use Rattle.souper_errors.proofs.error.locate_refusal.Goals as goal
 
 pub returns-in-Ok-clause-placed : goal.returns-in-Ok-clause-placed
 returns-in-Ok-clause-placed c =
