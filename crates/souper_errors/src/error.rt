@@ -1,9 +1,8 @@
 //! The error of a parse.
-ghost use Rattle.std.specs.Prelude.{◌≡◌, ◌≤◌, ◌+◌, ◌⊎◌, ◌↔◌, length, string_bytes, option_copied, option_map, IfOk, IfSome, IsSome, Some};
+ghost use Rattle.std.specs.Prelude.{◌≡◌, ◌≤◌, ◌+◌, ◌⊎◌, ◌↔◌, length, string_bytes, option_copied, option_map, IfSome, IsSome, Some};
 ghost use Rattle.std.specs.Fmt.{DisplaysOnOk, DisplaysStyledOnOk, WritesOnOk};
 ghost use Rattle.souper_errors.specs.declared.place.Places.{Places};
-ghost use Rattle.souper_errors.specs.Places.{direct_text};
-ghost use Rattle.souper_errors.specs.Errors.{error_of, widened, kind_of, offset_of, at_end_of, place_of, line_of, column_of, location_of, message_of, fault_of, shown_error, shown_refusal_of, located_error, located_refusal_of, IsLocated, IsPlacedAfter, IsLocatedAfter, IsRefusalAt, HasLocation, HasLocationAfter, ShowsFault};
+ghost use Rattle.souper_errors.specs.Errors.{kind_of, offset_of, at_end_of, place_of, line_of, column_of, location_of, message_of, fault_of, shown_error, shown_refusal_of, located_error, located_refusal_of, IsPlacedAfter, IsLocatedAfter, IsRefusalAt, HasLocation, HasLocationAfter, ShowsFault};
 
 use crate::place::{Location, Place, Places};
 use crate::unstyled::write_unstyled;
@@ -37,6 +36,7 @@ pub struct Before {
     pub lines: usize,
 }
 
+/// Why a parse failed, with what is known of it.
 #[derive(Drop)]
 pub(crate) enum Cause {
     Io(io::Error),
@@ -188,7 +188,7 @@ impl ParseError {
     }
 }
 
-// Gives a refusal its place and its location in the source.
+/// Gives a refusal its place and its location in the source.
 pub(crate) fn locate_refusal(
     mut refusal: Box<Refusal>,
     alloc: Global,

@@ -9,7 +9,9 @@ use std::alloc::{AllocError, Global};
 /// Why a reader failed: a `ParseError` that is no I/O error, small enough for registers.
 #[derive(Drop)]
 pub enum ReadError {
+    /// The text was refused.
     Refused(Box<Refusal>),
+    /// Memory ran out, for the result or for the error.
     Memory,
 }
 

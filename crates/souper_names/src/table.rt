@@ -1,4 +1,4 @@
-//! The table.
+//! A table of names with their entries.
 ghost use Rattle.std.specs.Prelude.{◌≡◌, ◌<◌, ◌++◌, ◌∷◌, [], length, IfOk, OnOk};
 ghost use Rattle.std.specs.List.{slice_get};
 ghost use Rattle.souper_names.specs.HashView.{name_hash};
