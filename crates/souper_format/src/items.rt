@@ -6,6 +6,9 @@ ghost use Rattle.souper_graph.specs.WellFormed.{WellFormed, EachClosed};
 ghost use Rattle.souper_graph.specs.Syntax.Spelling.{TextSpells};
 ghost use Rattle.souper_graph.specs.Syntax.Tokens.{IsLastGap};
 ghost use Rattle.souper_ir.specs.Answers.{IsStrError};
+ghost use Rattle.souper_errors.specs.Errors.{kind_of, at_end_of};
+ghost use Rattle.souper_ir.specs.Stopping.{TextStops};
+ghost use Rattle.souper_errors.specs.declared.error.ParseErrorKind.TheVariants.{Parse};
 ghost use Rattle.souper_format.specs.Kinds.{item_type_of, kind_of_items, view_items};
 ghost use Rattle.souper_format.specs.Formatted.{IsFormatted, SpellsRenumbered};
 
@@ -46,6 +49,7 @@ pub fn read_items(
     ensures well_formed { IfOk result (λ items. AllByRecursion WellFormed (view_items items)) }
     ensures each_closed { IfOk result (λ items. AllByRecursion EachClosed (view_items items)) }
     ensures refused { IfErr result (λ e. IsStrError (item_type_of kind) (option_copied filename.entry) source.now e) }
+    ensures stops { IfErr result (λ e. kind_of e ≡ Parse → TextStops (item_type_of kind) source.now (at_end_of e)) }
     ensures gaps { IsLastGap source.now → IsOkAnd result (λ items. view_items items ≡ []) }
 {
     match kind {

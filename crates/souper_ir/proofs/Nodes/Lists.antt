@@ -1,6 +1,6 @@
 -- Values in sequence, while a peek returns that one more comes.
 use Rattle.souper_ir.specs.Laws.FromReadings.{of_memory, memory_refused}
-use Rattle.std.proofs.Common.{◌≡◌, ◌⊎◌, ℕ, ◌<◌, Bool, true, false, List, [], ◌∷◌, ◌++◌, length, map, Option, Some, None, Err, refl, sym, ◌∙◌, ap, subst, inl, inr, append_assoc, arith}
+use Rattle.std.proofs.Common.{◌≡◌, ◌⊎◌, ℕ, ◌<◌, Bool, true, false, List, [], ◌∷◌, ◌++◌, length, map, Option, Some, None, Ok, Err, refl, sym, ◌∙◌, ap, subst, inl, inr, append_assoc, arith}
 use Rattle.std.proofs.lemmas.List.{append-nil, map-append, length-append}
 use Rattle.souper_errors.specs.declared.error.ParseError.{ParseError}
 use Rattle.souper_errors.specs.Errors.{at_end_of}
@@ -74,7 +74,7 @@ module _ {V : Type 0} (spells : Scope → V → List Lexeme → Type 0) (continu
       → SoFar spells continues (map view (xs ++ x ∷ [])) p r
   one_more view leaves xs x p q r stays so took = rw (map-append view xs (x ∷ [])) (goes_on leaves (map view xs) (view x) p q r stays so took)
 
-  pub behind_peek : (leaves : Scope → Scope) (v : V) (b : Bool) (q m r : Parsing) → peek_at starts q ≡ Some (b, m) → Took spells continues leaves v m r → Took spells continues leaves v q r
+  pub behind_peek : (leaves : Scope → Scope) (v : V) (b : Bool) (q m r : Parsing) → peek_at starts q ≡ Ok (b, m) → Took spells continues leaves v m r → Took spells continues leaves v q r
   behind_peek leaves v b q m r h took = subst (λ (x : Parsing). Took spells continues leaves v x r) (peeked starts q m b h).0 took
 
   shorter_by : (s : Scope) (v : V) (used before after : List (ℕ × Lexeme)) → before ≡ used ++ after → spells s v (kinds used) → length after < length before
