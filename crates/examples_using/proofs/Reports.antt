@@ -9,12 +9,12 @@ use Rattle.std.specs.declared.string.String.{String}
 use Rattle.souper_graph.specs.declared.ast.items.LeftHandSide.{LeftHandSide}
 use Rattle.souper_graph.specs.View.{view_left_hand_side}
 use Rattle.souper_graph.specs.Syntax.Spelling.{TextSpells, SpellsNone, left_hand_side}
-use Rattle.souper_ir.specs.declared.parse.ParseError.{ParseError}
-use Rattle.souper_ir.specs.declared.parse.ParseErrorKind.{ParseErrorKind}
-use Rattle.souper_ir.specs.declared.parse.ParseErrorKind.TheVariants.{Parse}
+use Rattle.souper_errors.specs.declared.error.ParseError.{ParseError}
+use Rattle.souper_errors.specs.declared.error.ParseErrorKind.{ParseErrorKind}
+use Rattle.souper_errors.specs.declared.error.ParseErrorKind.TheVariants.{Parse}
 use Rattle.souper_ir.specs.Answers.{IsStrError}
-use Rattle.souper_ir.specs.Errors.{kind_of, offset_of, shown_error, HasLocation, ShowsPlace, OnKind}
-use Rattle.souper_ir.specs.Places.{IsRefusalText, shown_refusal}
+use Rattle.souper_errors.specs.Errors.{kind_of, offset_of, shown_error, HasLocation, ShowsPlace, OnKind}
+use Rattle.souper_errors.specs.Places.{IsRefusalText, shown_refusal}
 use Rattle.examples_using.specs.Reports.{IsReport}
 
 pub of_count : {E : Type 0} (source : List ℕ) (items : List LeftHandSide) (n : ℕ) (r : Result (String Global) E)

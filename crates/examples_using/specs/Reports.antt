@@ -2,7 +2,7 @@
 use Rattle.std.specs.Prelude.{◌≡◌, ◌⊎◌, ℕ, List, ◌∷◌, ◌++◌, length, codes, decimal, Some}
 use Rattle.souper_graph.specs.Values.{Item}
 use Rattle.souper_graph.specs.Syntax.Spelling.{TextSpells, SpellsNone, left_hand_side}
-use Rattle.souper_ir.specs.Places.{IsRefusalText}
+use Rattle.souper_errors.specs.Places.{IsRefusalText}
 
 -- the number of items that the source spells
 abbrev pub ReportsCount : List ℕ → List ℕ → Type 0

@@ -4,7 +4,7 @@ use Rattle.std.specs.Prelude.{◌≢◌, string_bytes}
 use Rattle.std.specs.Str.{IsUtf8}
 use Rattle.std.proofs.lemmas.Bool.{cases_lt}
 use Rattle.souper_graph.specs.Syntax.Spelling.{left_hand_side, replacement}
-use Rattle.souper_ir.specs.Places.{IsRefusalTextAt}
+use Rattle.souper_errors.specs.Places.{IsRefusalTextAt}
 use Rattle.souper_c.specs.Kinds.{type_of_number, IsKind}
 use Rattle.souper_c.specs.Outcomes.{HasNoPlace, FillsStart, WritesRefusal, SpellsSome}
 use Rattle.souper_c.specs.Answers.{ShowRefusal}

@@ -5,9 +5,9 @@ use Rattle.std.proofs.lemmas.Bool.{cases_lt}
 use Rattle.souper_graph.specs.Syntax.Spelling.{ItemType, SpellsNone}
 use Rattle.souper_ir.specs.Laws.Peeks.{some_is}
 use Rattle.souper_ir.specs.Answers.{IsStrError}
-use Rattle.souper_ir.specs.Errors.{offset_of, line_of, column_of, shown_error, HasLocation, ShowsPlace, OnKind}
-use Rattle.souper_ir.specs.Places.{IsRefusalTextAt}
-use Rattle.souper_ir.specs.declared.parse.ParseError.{ParseError}
+use Rattle.souper_errors.specs.Errors.{offset_of, line_of, column_of, shown_error, HasLocation, ShowsPlace, OnKind}
+use Rattle.souper_errors.specs.Places.{IsRefusalTextAt}
+use Rattle.souper_errors.specs.declared.error.ParseError.{ParseError}
 use Rattle.souper_c.specs.Kinds.{type_of_number}
 use Rattle.souper_c.specs.Outcomes.{HasNoPlace, IsShortFor, FillsStart, WritesRefusal}
 use Rattle.souper_c.specs.Failures.{IsFailure, IsFailureOf, outcome_of, short_outcome}

@@ -5,15 +5,15 @@ use Rattle.std.specs.Int.{from_bool}
 use Rattle.souper_graph.specs.Syntax.Spelling.{ItemType, SpellsNone}
 use Rattle.souper_ir.specs.Laws.Peeks.{some_is}
 use Rattle.souper_ir.specs.Answers.{IsStrError}
-use Rattle.souper_ir.specs.Errors.{at_end_of, kind_of, kind_of_cause, location_of, location_of_cause, offset_of, HasLocation, ShowsPlace, OnKind}
-use Rattle.souper_ir.specs.Places.{IsEnd, AtFault, IsPlace}
+use Rattle.souper_errors.specs.Errors.{at_end_of, kind_of, kind_of_cause, location_of, location_of_cause, offset_of, HasLocation, ShowsPlace, OnKind}
+use Rattle.souper_errors.specs.Places.{IsEnd, AtFault, IsPlace}
 use Rattle.souper_ir.specs.Stopping.{TextStops}
-use Rattle.souper_ir.specs.declared.parse.error.Cause.{Cause}
-use Rattle.souper_ir.specs.declared.parse.error.Cause.TheVariants.{Io, Parse as ParseCause, Memory}
-use Rattle.souper_ir.specs.declared.parse.error.ParseError.{ParseError}
-use Rattle.souper_ir.specs.declared.parse.error.ParseErrorKind.{ParseErrorKind}
-use Rattle.souper_ir.specs.declared.parse.error.ParseErrorKind.TheVariants.{Parse}
-use Rattle.souper_ir.specs.declared.parse.place.Location.{Location}
+use Rattle.souper_errors.specs.declared.error.Cause.{Cause}
+use Rattle.souper_errors.specs.declared.error.Cause.TheVariants.{Io, Parse as ParseCause, Memory}
+use Rattle.souper_errors.specs.declared.error.ParseError.{ParseError}
+use Rattle.souper_errors.specs.declared.error.ParseErrorKind.{ParseErrorKind}
+use Rattle.souper_errors.specs.declared.error.ParseErrorKind.TheVariants.{Parse}
+use Rattle.souper_errors.specs.declared.place.Location.{Location}
 use Rattle.souper_c.specs.Kinds.{type_of_number}
 use Rattle.souper_c.specs.Locations.{IsLocation, IsLocationBy, LocatesFault}
 use Rattle.souper_c.specs.declared.location.SouperLocation.{SouperLocation}
@@ -52,9 +52,11 @@ by_location number k source e l (Some found) at is_kind is stopped (status, offs
     let (fault, place) = h.is_location in
     let there : IsPlace source (found.offset + 1) found.line found.column (string_bytes found.text) = subst (λ (x : Location). IsPlace source (x.offset + 1) x.line x.column (string_bytes x.text)) same place in
     let ended : at_end_of e ≡ true → IsEnd source found.offset = λ t. subst (λ (x : Location). IsEnd source x.offset) same (rw t at fault) in
-    subst (λ (x : Option ItemType). IsSomeAnd x (λ (k : ItemType). SpellsNone k source × IsLocation source l × ((ended : Bool) × (l.at_end ≡ from_bool ended) × TextStops k source ended))) (sym is_kind)
-    (none, (rw offset (within there), (λ one. rw offset (ended (says_end (at_end_of e) (sym one ∙ at_end)))), (string_bytes found.text, rw (offset, line, column) there)),
-    (at_end_of e, at_end, stopped kind))
+    subst (λ (x : Option ItemType). IsSomeAnd x (λ (k : ItemType). SpellsNone k source × IsLocation source l × ((ended : Bool) × (l.at_end ≡ from_bool ended) × TextStops k source ended))) (sym is_kind) (
+      none,
+      (rw offset (within there), (λ one. rw offset (ended (says_end (at_end_of e) (sym one ∙ at_end)))), (string_bytes found.text, rw (offset, line, column) there)),
+      (at_end_of e, at_end, stopped kind),
+    )
 
 pub located : (number : ℕ) (k : ItemType) (source : List ℕ) (e : ParseError) (l : SouperLocation) → type_of_number number ≡ Some k → IsStrError k None source e → Stopped k source e → IsLocationBy (location_of e) e l
     → l.status ≡ 1 → LocatesFault number source l

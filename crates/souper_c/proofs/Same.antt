@@ -1,7 +1,7 @@
 -- Two sources that spell lists of one kind: the lists are pairwise the same graph if and only if `same` says so.
 use Rattle.std.proofs.Common.{◌≡◌, ℕ, List, Option, Some, None, refl, sym, ap, subst, ◌∙◌, inr, arith}
 use Rattle.std.specs.Prelude.{IsSomeAnd, ◌≤◌, length, string_bytes}
-use Rattle.souper_ir.specs.Places.{IsRefusalTextAt}
+use Rattle.souper_errors.specs.Places.{IsRefusalTextAt}
 use Rattle.std.specs.Str.{IsUtf8}
 use Rattle.souper_graph.specs.Values.{Item}
 use Rattle.souper_graph.specs.Syntax.Spelling.{ItemType, left_hand_side, right_hand_side, replacement, TextSpells, SpellsNone}

@@ -4,7 +4,7 @@ use Rattle.std.specs.Prelude.{◌⊎◌, IsSomeAnd}
 use Rattle.std.specs.Str.{IsUtf8}
 use Rattle.souper_graph.specs.Syntax.Tokens.{IsOneLine}
 use Rattle.souper_graph.specs.Syntax.Spelling.{ItemType}
-use Rattle.souper_ir.specs.Joining.{IsLines}
+use Rattle.souper_errors.specs.Places.{IsLines}
 use Rattle.souper_ir.proofs.Items.Joining.{newline_last}
 use Rattle.souper_ir.proofs.Items.Parting.{parted_twice, lines_end}
 use Rattle.souper_c.specs.Kinds.{type_of_number}

@@ -2,7 +2,7 @@
 use Rattle.std.specs.Prelude.{◌≡◌, ℕ, ◌<◌, List, ◌++◌}
 use Rattle.souper_graph.specs.Syntax.Tokens.{IsOneLine}
 use Rattle.souper_graph.specs.Syntax.Spelling.{ItemType}
-use Rattle.souper_ir.specs.Joining.{IsLines}
+use Rattle.souper_errors.specs.Places.{IsLines}
 use Rattle.souper_stream.specs.Segments.{Line, concat, AreLines, CutsAt, HasNoCutAfter, IsFirstSegment, HasBadLine}
 use Rattle.souper_c.specs.Kinds.{OfType}
 

@@ -1,9 +1,9 @@
 -- Definitions. Why a text gives no items, and the outcome that says so.
 use Rattle.std.specs.Prelude.{◌≡◌, ℕ, List, [], None, Some, length, string_bytes}
 use Rattle.std.specs.Str.{IsUtf8}
-use Rattle.souper_ir.specs.Errors.{kind_of, offset_of, line_of, column_of, shown_error}
-use Rattle.souper_ir.specs.declared.parse.ParseError.{ParseError}
-use Rattle.souper_ir.specs.declared.parse.ParseErrorKind.TheVariants.{Parse}
+use Rattle.souper_errors.specs.Errors.{kind_of, offset_of, line_of, column_of, shown_error}
+use Rattle.souper_errors.specs.declared.error.ParseError.{ParseError}
+use Rattle.souper_errors.specs.declared.error.ParseErrorKind.TheVariants.{Parse}
 use Rattle.souper_code.specs.declared.write.WriteError.{WriteError}
 use Rattle.souper_code.specs.declared.write.WriteError.TheVariants.{NoCode, NotWellFormed, OutOfMemory as StopOutOfMemory}
 use Rattle.souper_c.specs.Kinds.{type_of_number, OfType}

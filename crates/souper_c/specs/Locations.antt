@@ -2,11 +2,11 @@
 use Rattle.std.specs.Prelude.{◌≡◌, ℕ, ◌+◌, ◌≤◌, List, length, Bool, Option, None, Some}
 use Rattle.std.specs.Int.{from_bool}
 use Rattle.souper_graph.specs.Syntax.Spelling.{ItemType, SpellsNone}
-use Rattle.souper_ir.specs.Errors.{at_end_of, location_of}
-use Rattle.souper_ir.specs.Places.{IsEnd, IsPlace}
+use Rattle.souper_errors.specs.Errors.{at_end_of, location_of}
+use Rattle.souper_errors.specs.Places.{IsEnd, IsPlace}
 use Rattle.souper_ir.specs.Stopping.{TextStops}
-use Rattle.souper_ir.specs.declared.parse.ParseError.{ParseError}
-use Rattle.souper_ir.specs.declared.parse.place.Location.{Location}
+use Rattle.souper_errors.specs.declared.error.ParseError.{ParseError}
+use Rattle.souper_errors.specs.declared.place.Location.{Location}
 use Rattle.souper_c.specs.Kinds.{OfType}
 use Rattle.souper_c.specs.declared.location.SouperLocation.{SouperLocation}
 

@@ -5,7 +5,7 @@ use Rattle.std.specs.Str.{IsUtf8}
 use Rattle.souper_graph.specs.Values.{Item}
 use Rattle.souper_graph.specs.Sameness.{SameGraph}
 use Rattle.souper_graph.specs.Syntax.Spelling.{ItemType, TextSpells, SpellsNone}
-use Rattle.souper_ir.specs.Places.{IsRefusalTextAt}
+use Rattle.souper_errors.specs.Places.{IsRefusalTextAt}
 use Rattle.souper_format.specs.Formatted.{IsFormatted}
 use Rattle.souper_code.specs.Codes.{code_of_items}
 use Rattle.souper_code.specs.Writing.{IsWritten}

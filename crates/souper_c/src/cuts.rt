@@ -2,7 +2,7 @@
 ghost use Rattle.std.specs.Prelude.{◌≡◌, ◌⊎◌, ◌↔◌, None, IfOk, IfErr};
 ghost use Rattle.std.specs.Str.{IsUtf8};
 ghost use Rattle.souper_format.specs.Kinds.{item_type_of};
-ghost use Rattle.souper_ir.specs.Joining.{IsLines};
+ghost use Rattle.souper_errors.specs.Places.{IsLines};
 ghost use Rattle.souper_c.specs.Kinds.{type_of_number, IsKind};
 ghost use Rattle.souper_c.specs.Outcomes.{HasNoPlace};
 ghost use Rattle.souper_c.specs.Cuts.{OfLines, OfWholeLines, IsLastCut, CutsLast, HasFirstSegment, HasBadStart};

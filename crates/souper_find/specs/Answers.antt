@@ -4,7 +4,7 @@ use Rattle.std.specs.List.{zip}
 use Rattle.std.specs.Io.KnownBytes.{Appends}
 use Rattle.souper_graph.specs.Values.{Item}
 use Rattle.souper_graph.specs.Syntax.Spelling.{left_hand_side}
-use Rattle.souper_ir.specs.declared.parse.error.ParseError.{ParseError}
+use Rattle.souper_errors.specs.declared.error.ParseError.{ParseError}
 use Rattle.souper_stream.specs.declared.starts.Start.{Start}
 use Rattle.souper_format.specs.Streams.{Stream}
 use Rattle.souper_lookup.specs.Instance.{AreInstances}

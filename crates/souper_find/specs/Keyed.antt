@@ -4,7 +4,7 @@ use Rattle.std.specs.List.{zip}
 use Rattle.serde_json.specs.Data.{Data, number, unsigned, string, object, member, no_members}
 use Rattle.souper_graph.specs.Values.{PlainInfer, Item}
 use Rattle.souper_graph.specs.Syntax.Spelling.{replacement}
-use Rattle.souper_ir.specs.declared.parse.error.ParseError.{ParseError}
+use Rattle.souper_errors.specs.declared.error.ParseError.{ParseError}
 use Rattle.souper_stream.specs.declared.starts.Start.{Start}
 use Rattle.souper_format.specs.Streams.{Stream, IsGiven}
 use Rattle.souper_graph.specs.LeftSides.{infer_of, with_infer}

@@ -3,8 +3,8 @@ use Rattle.std.specs.Prelude.{◌≡◌, ◌⊎◌, ℕ, ◌+◌, ◌^◌, ◌<�
 use Rattle.std.specs.Io.KnownBytes.{Consumes}
 use Rattle.souper_graph.specs.Values.{Item}
 use Rattle.souper_graph.specs.Syntax.Spelling.{replacement, TextSpells}
-use Rattle.souper_ir.specs.declared.parse.error.ParseError.{ParseError}
-use Rattle.souper_ir.specs.Errors.{HasLocation, IsRefusalAt, at_end_of}
+use Rattle.souper_errors.specs.declared.error.ParseError.{ParseError}
+use Rattle.souper_errors.specs.Errors.{HasLocation, IsRefusalAt, at_end_of}
 use Rattle.souper_ir.specs.Stopping.{TextStops}
 use Rattle.souper_stream.specs.Parts.{EndsAfter}
 use Rattle.souper_stream.specs.Reading.{AreAll, NeverSpells}

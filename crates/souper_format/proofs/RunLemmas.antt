@@ -3,11 +3,11 @@ use Rattle.std.proofs.Common.{◌≡◌, ◌≤◌, ℕ, List, [], ◌∷◌, �
 use Rattle.std.specs.Str.{IsUtf8}
 use Rattle.std.specs.Io.KnownBytes.{Consumes, IsAtEnd}
 use Rattle.souper_graph.specs.Syntax.Spelling.{ItemType, SpellsNone}
-use Rattle.souper_ir.specs.Errors.{kind_of, offset_of, HasLocation, ShowsPlace, OnKind}
+use Rattle.souper_errors.specs.Errors.{kind_of, offset_of, HasLocation, ShowsPlace, OnKind}
 use Rattle.souper_ir.specs.Answers.{IsStrError}
-use Rattle.souper_ir.specs.declared.parse.ParseError.{ParseError}
-use Rattle.souper_ir.specs.declared.parse.ParseErrorKind.{ParseErrorKind}
-use Rattle.souper_ir.specs.declared.parse.ParseErrorKind.TheVariants.{Io, Parse, Memory}
+use Rattle.souper_errors.specs.declared.error.ParseError.{ParseError}
+use Rattle.souper_errors.specs.declared.error.ParseErrorKind.{ParseErrorKind}
+use Rattle.souper_errors.specs.declared.error.ParseErrorKind.TheVariants.{Io, Parse, Memory}
 use Rattle.souper_format.specs.Streams.{Stream, IsGiven, IsGivenNothing}
 use Rattle.souper_format.specs.Reading.{ReadAll}
 use Rattle.souper_format.specs.Reporting.{ReportedDisplayLine, ReportedIoError, StoppedByMemory, ErrorReported}

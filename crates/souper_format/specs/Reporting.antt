@@ -1,7 +1,7 @@
 -- Definitions. The lines that report an error.
 use Rattle.std.specs.Prelude.{◌≡◌, ℕ, List, ◌++◌, false, codes, Option, IfSome, ◌⊎◌}
-use Rattle.souper_ir.specs.Errors.{kind_of, shown_error, OnKind}
-use Rattle.souper_ir.specs.declared.parse.ParseError.{ParseError}
+use Rattle.souper_errors.specs.Errors.{kind_of, shown_error, OnKind}
+use Rattle.souper_errors.specs.declared.error.ParseError.{ParseError}
 use Rattle.souper_format.specs.Streams.{Stream, IsGiven}
 
 -- the line for out of memory

@@ -2,7 +2,7 @@
 use Rattle.std.specs.Prelude.{◌≡◌, ℕ, zero, suc, ◌≤◌, List, ◌++◌, true, false, codes, length, Option, None, IfSome, ◌⊎◌}
 use Rattle.std.specs.Str.{IsUtf8}
 use Rattle.souper_graph.specs.Syntax.Spelling.{ItemType, SpellsNone}
-use Rattle.souper_ir.specs.Places.{IsRefusalText}
+use Rattle.souper_errors.specs.Places.{IsRefusalText}
 use Rattle.souper_format.specs.Formatted.{IsFormatted}
 use Rattle.souper_format.specs.Streams.{Stream, IsGiven, IsGivenNothing}
 use Rattle.souper_format.specs.Reading.{ReadAll, ReadNoText}

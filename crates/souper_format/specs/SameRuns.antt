@@ -8,7 +8,7 @@ use Rattle.souper_graph.specs.Sameness.{SameGraph}
 use Rattle.souper_graph.specs.Syntax.Spelling.{ItemType, TextSpells, SpellsNone}
 use Rattle.souper_ir.specs.Answers.{IsStrError}
 use Rattle.souper_ir.specs.Files.{TellsFault}
-use Rattle.souper_ir.specs.declared.parse.ParseError.{ParseError}
+use Rattle.souper_errors.specs.declared.error.ParseError.{ParseError}
 use Rattle.souper_format.specs.Streams.{Stream, IsGiven, IsGivenNothing}
 use Rattle.souper_format.specs.Reporting.{ReportedOutOfMemory, ReportedIoError}
 use Rattle.souper_format.specs.Runs.{ReportedParseError, OnFmtStatus}

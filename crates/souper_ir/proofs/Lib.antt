@@ -1,4 +1,3 @@
-pub mod Shown
 pub mod Scope
 pub mod Nodes
 pub mod Items

@@ -2,4 +2,3 @@
 pub mod Names
 pub mod Growing
 pub mod Entered
-pub mod Tables

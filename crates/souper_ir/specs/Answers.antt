@@ -1,7 +1,7 @@
 -- Definitions. What a call returns for a text that it refuses.
 use Rattle.std.specs.Prelude.{◌≡◌, ℕ, ◌≤◌, List, length, Option, Some}
-use Rattle.souper_ir.specs.declared.parse.error.ParseError.{ParseError}
-use Rattle.souper_ir.specs.Errors.{kind_of, offset_of, HasLocation, ShowsPlace, OnKind}
+use Rattle.souper_errors.specs.declared.error.ParseError.{ParseError}
+use Rattle.souper_errors.specs.Errors.{kind_of, offset_of, HasLocation, ShowsPlace, OnKind}
 use Rattle.souper_graph.specs.Syntax.Spelling.{ItemType, SpellsNone}
 
 -- The error is out of memory, or the text spells no items of the type: then its offset is within the text, it has that place

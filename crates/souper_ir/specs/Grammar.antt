@@ -1,6 +1,6 @@
 -- Definitions. What it is to parse a value, whatever the value is.
 use Rattle.std.specs.Prelude.{◌≡◌, ℕ, Bool, true, false, List, [], ◌∷◌, ◌++◌, Option, Some, None, Ok, ◌⊎◌}
-use Rattle.souper_ir.specs.declared.parse.error.ParseError.{ParseError}
+use Rattle.souper_errors.specs.declared.error.ParseError.{ParseError}
 use Rattle.souper_ir.specs.Parsing.{Parsing}
 use Rattle.souper_graph.specs.Syntax.Tokens.{Lexeme}
 use Rattle.souper_graph.specs.Syntax.Spelling.{kinds, Scope}

@@ -1,7 +1,7 @@
 -- Definitions. Items that a parser takes, in sequence.
 use Rattle.std.specs.Prelude.{◌≡◌, ℕ, false, List, [], ◌++◌, None}
 use Rattle.souper_graph.specs.Values.{Item}
-use Rattle.souper_ir.specs.declared.parse.error.ParseError.{ParseError}
+use Rattle.souper_errors.specs.declared.error.ParseError.{ParseError}
 use Rattle.souper_graph.specs.Syntax.Tokens.{Lexeme}
 use Rattle.souper_graph.specs.Syntax.Spelling.{kinds, ItemType, list_spells}
 use Rattle.souper_ir.specs.Continuation.{item_continues}

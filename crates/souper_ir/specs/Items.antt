@@ -1,7 +1,7 @@
 -- Definitions. Statements in sequence, and when no item is spelled after them.
 use Rattle.std.specs.Prelude.{◌≡◌, ◌⊎◌, ℕ, Bool, true, false, List, [], ◌∷◌, ◌++◌, None}
 use Rattle.souper_graph.specs.Values.{PlainStatement}
-use Rattle.souper_ir.specs.declared.parse.error.ParseError.{ParseError}
+use Rattle.souper_errors.specs.declared.error.ParseError.{ParseError}
 use Rattle.souper_graph.specs.Syntax.Tokens.{Lexeme}
 use Rattle.souper_graph.specs.Syntax.Spelling.{kinds, Scope, statement_spells, Statements, Tail}
 use Rattle.souper_ir.specs.Continuation.{statement_continues, ending_continues}

@@ -1,13 +1,9 @@
 -- Definitions. Texts that are put one after the other.
-use Rattle.std.specs.Prelude.{◌≡◌, ◌⊎◌, ℕ, ◌+◌, List, [], ◌++◌, map, length}
+use Rattle.std.specs.Prelude.{◌≡◌, ℕ, ◌+◌, List, ◌++◌, map, length}
 use Rattle.souper_graph.specs.Values.{Item}
 use Rattle.souper_graph.specs.Syntax.Tokens.{Lexeme, IsTextOf}
 use Rattle.souper_graph.specs.Syntax.Spelling.{ItemType, TextSpells}
-use Rattle.souper_ir.specs.Places.{EndsIn}
-
--- the text is empty, or its last byte is a newline
-abbrev pub IsLines : List ℕ → Type 0
-IsLines bs = (bs ≡ []) ⊎ EndsIn bs 10
+use Rattle.souper_errors.specs.Places.{IsLines}
 
 -- tokens n bytes later
 abbrev pub moved : ℕ → List (ℕ × Lexeme) → List (ℕ × Lexeme)

@@ -6,7 +6,7 @@ use Rattle.std.specs.Cmp.Lexicographic.{slice_cmp}
 use Rattle.std.specs.Ordering.{nat_cmp}
 use Rattle.souper_graph.specs.Syntax.Optional.{◌>>=◌}
 use Rattle.souper_ir.specs.declared.parse.names.Names.{Names}
-use Rattle.souper_ir.specs.TableView.{NameEntry, or_else, last_entry}
+use Rattle.souper_names.specs.TableView.{NameEntry, or_else, last_entry}
 use Rattle.souper_graph.specs.Values.{PlainAssignment, PlainStatement, assigned}
 use Rattle.souper_graph.specs.Syntax.Spelling.{Scope, predecessors_if_block, entry_of, position_of}
 

@@ -2,11 +2,11 @@
 -- where a token is wanted.
 use Rattle.std.specs.Prelude.{◌≡◌, ℕ, ◌≤◌, ◌≢◌, Bool, true, false, List, [], ◌∷◌, Option, Some, None, Result, Ok, Err, option_map, IsSomeAnd}
 use Rattle.std.proofs.Common.{◌∙◌}
-use Rattle.souper_ir.specs.declared.parse.error.ParseErrorKind.{ParseErrorKind}
-use Rattle.souper_ir.specs.declared.parse.error.ParseErrorKind.TheVariants.{Io, Parse, Memory}
-use Rattle.souper_ir.specs.declared.parse.error.ParseError.{ParseError}
-use Rattle.souper_ir.specs.Errors.{kind_of, offset_of, at_end_of, shown_error}
-use Rattle.souper_ir.specs.Places.{IsDirectRefusalText}
+use Rattle.souper_errors.specs.declared.error.ParseErrorKind.{ParseErrorKind}
+use Rattle.souper_errors.specs.declared.error.ParseErrorKind.TheVariants.{Io, Parse, Memory}
+use Rattle.souper_errors.specs.declared.error.ParseError.{ParseError}
+use Rattle.souper_errors.specs.Errors.{kind_of, offset_of, at_end_of, shown_error}
+use Rattle.souper_errors.specs.Places.{IsDirectRefusalText}
 use Rattle.souper_graph.specs.Syntax.Tokens.{Lexeme}
 use Rattle.souper_ir.specs.Parsing.{Cause, refused, no_memory, Parsing}
 

@@ -4,10 +4,10 @@ use Rattle.souper_graph.specs.Values.{PlainStatement, PlainInfer, Item}
 use Rattle.souper_graph.specs.Syntax.Tokens.{Lexeme, AreTokensOf}
 use Rattle.souper_graph.specs.Syntax.Spelling.{kinds, infer_spells, attribute_spells, root_attribute_spells, ItemType, left_hand_side, right_hand_side, replacement}
 use Rattle.souper_lexer.specs.TokenView.{IsCut}
-use Rattle.souper_ir.specs.declared.parse.error.ParseError.{ParseError}
+use Rattle.souper_errors.specs.declared.error.ParseError.{ParseError}
 use Rattle.souper_ir.specs.declared.parse.item.Next.TheVariants.{Assignment, Pc, BlockPc}
 use Rattle.souper_ir.specs.Continuation.{infer_continues}
-use Rattle.souper_ir.specs.Errors.{at_end_of}
+use Rattle.souper_errors.specs.Errors.{at_end_of}
 use Rattle.souper_ir.specs.Parsing.{Parsing}
 use Rattle.souper_ir.specs.Reading.{Reads, cause_of, IfRefused, IsRead}
 use Rattle.souper_ir.specs.Grammar.{Took, Members, peek_at}

@@ -17,11 +17,11 @@ ghost use Rattle.souper_graph.specs.Syntax.Tokens.{Lexeme, ident, open_paren, On
 ghost use Rattle.souper_graph.specs.Syntax.Spelling.{Scope, OneList, type_spells, constant_spells, operand_spells, block_spells, phi_spells, instruction_spells, rhs_spells, attribute_spells, root_attribute_spells, assignment_spells, pc_spells, block_pc_spells, statement_spells, infer_spells, cand_spells, ItemType, left_hand_side, right_hand_side, replacement, item_spells_after, TextSpells};
 ghost use Rattle.souper_ir.specs.Continuation.{constant_continues, operand_continues, phi_continues, instruction_continues, rhs_continues, assignment_continues, pc_continues, block_pc_continues, statement_continues, infer_continues, cand_continues, item_continues};
 ghost use Rattle.souper_ir.specs.Joining.{TokensJoin, TokensPart, ItemsJoin};
-ghost use Rattle.souper_ir.specs.Places.{OnePlace};
 ghost use Rattle.souper_ir.specs.Grammar.{Members, ListGoesOn, OptionSpells, OptionGoesOn};
 ghost use Rattle.souper_ir.specs.NodeReadings.{is_name, is_int, is_mark, is_word, starts_statement};
 
 use crate::parse::{Parse, Peek};
+pub use souper_errors::laws::law_of_places;
 use souper_graph::ast::{
     Assignment, AssignmentRhs, Attribute, Block, BlockPc, Cand, Constant, Infer, Instruction,
     LeftHandSide, Operand, Pc, Phi, Replacement, RightHandSide, RootAttribute, Statement, Type,
@@ -68,11 +68,6 @@ pub fn law_of_canonical_texts()
     ensures defined { (k : ItemType) (items others : List Item) → AreWellFormed k items → TextSpells k (texts_of items) others → AllByRecursion (λ b. EachClosed b × AllNeeded b) others }
     ensures one_text { (k : ItemType) (a b : Item) → IsWellFormedOf k a → IsWellFormedOf k b → (text_of a ≡ text_of b) ↔ SameGraph a b }
     ensures renamed { (k : ItemType) (a b x y : Item) → IsWellFormedOf k a → IsWellFormedOf k b → IsRenamed a x → IsRenamed b y → (text_of x ≡ text_of y) ↔ SameUpToNames a b }
-{}
-
-/// An offset in a source has one line, one column and one line text.
-pub fn law_of_places()
-    ensures { OnePlace }
 {}
 
 /// What parsing a type promises.

@@ -1,10 +1,7 @@
 //! Parsing: from texts to items.
 
 mod attributes;
-mod error;
 mod files;
-mod hash;
-mod heads;
 mod item;
 mod last_lines;
 mod memory;
@@ -13,19 +10,15 @@ mod names;
 mod numbers;
 mod operands;
 mod parser;
-mod place;
 mod recent;
 mod rhs;
 mod sink;
 mod spare;
 mod statements;
-mod table;
 mod tokens;
 mod traits;
-mod unstyled;
 mod words;
 
-pub use error::{Before, ParseError, ParseErrorKind, WithLocation};
 pub use files::{parse_left_hand_sides_file, parse_replacements_file, parse_right_hand_sides_file};
 pub use item::{
     WholeItem, parse_into, parse_items, parse_left_hand_sides_str, parse_replacements_str,
@@ -33,6 +26,6 @@ pub use item::{
 };
 pub use memory::Memory;
 pub use parser::{Parser, Result};
-pub use place::Location;
 pub use sink::Sink;
+pub use souper_errors::{Before, Location, ParseError, ParseErrorKind, WithLocation};
 pub use traits::{Parse, Peek};

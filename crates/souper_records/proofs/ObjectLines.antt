@@ -8,7 +8,7 @@ use Rattle.json.proofs.Printed.Strings.{escape_byte_plain}
 use Rattle.serde_json.specs.Data.{Data, object, Members, no_members, member}
 use Rattle.serde_json.specs.Written.{compact_text, members_text, comma_if}
 use Rattle.souper_graph.specs.Syntax.Tokens.{IsOneLine}
-use Rattle.souper_ir.specs.Errors.{offset_of, message_of}
+use Rattle.souper_errors.specs.Errors.{offset_of, message_of}
 use Rattle.souper_records.specs.Records.{key_of}
 use Rattle.souper_records.specs.Objects.{error_column, item_object, error_line, optional_number, optional_string, refusal_object}
 

@@ -3,8 +3,8 @@ use Rattle.std.specs.Prelude.{Bool, ℕ, List, [], ◌++◌, flat_map, map, code
 use Rattle.serde_json.specs.Data.{Data, null, number, unsigned, string, object, member, no_members}
 use Rattle.souper_records.specs.Prelude.{compact_text, Start, ParseError, Stream, IsGiven}
 use Rattle.std.specs.List.{zip}
-use Rattle.souper_ir.specs.declared.parse.place.Location.{Location}
-use Rattle.souper_ir.specs.Errors.{location_of, message_of, offset_of}
+use Rattle.souper_errors.specs.declared.place.Location.{Location}
+use Rattle.souper_errors.specs.Errors.{location_of, message_of, offset_of}
 use Rattle.souper_records.specs.Records.{key_of}
 use Rattle.souper_records.specs.Uniques.{text_by}
 use Rattle.souper_records.specs.Outcomes.{InputStream, Outcome, HaveItemStarts}

@@ -4,7 +4,7 @@ use Rattle.std.specs.List.{list_any}
 use Rattle.std.specs.Io.KnownBytes.{Consumes}
 use Rattle.souper_records.specs.Prelude.{Item, ParseError, kind_of, Start, Stream, IsGiven, IsGivenNothing, at_end_of}
 use Rattle.souper_graph.specs.Syntax.Spelling.{ItemType, TextSpells, SpellsNone}
-use Rattle.souper_ir.specs.declared.parse.error.ParseErrorKind.TheVariants.{Parse}
+use Rattle.souper_errors.specs.declared.error.ParseErrorKind.TheVariants.{Parse}
 use Rattle.souper_ir.specs.Sinks.{PrefixSpells}
 use Rattle.souper_ir.specs.Stopping.{TextStops}
 use Rattle.souper_stream.specs.Segments.{Line, concat, all_lines, HasNoCut, AreParts, PartsSpell}

@@ -2,11 +2,11 @@
 use Rattle.std.specs.Prelude.{◌≡◌, ◌⊎◌, ℕ, ◌-◌, ◌<◌, Bool, true, false, not, ◌&&◌, List, ◌++◌, length, replicate, codes, decimal, bytes_eq, Option, None, Some, IfSome, string_bytes}
 use Rattle.souper_records.specs.Prelude.{ItemType, Stream, Line, concat, all_lines}
 use Rattle.souper_format.specs.Reporting.{IsLineOf, Reported}
-use Rattle.souper_ir.specs.Errors.{kind_of, located_error, message_of, location_of}
-use Rattle.souper_ir.specs.Places.{right_aligned}
-use Rattle.souper_ir.specs.declared.parse.place.Location.{Location}
-use Rattle.souper_ir.specs.declared.parse.ParseError.{ParseError}
-use Rattle.souper_ir.specs.declared.parse.ParseErrorKind.TheVariants.{Io as IoError, Parse}
+use Rattle.souper_errors.specs.Errors.{kind_of, located_error, message_of, location_of}
+use Rattle.souper_errors.specs.Places.{right_aligned}
+use Rattle.souper_errors.specs.declared.place.Location.{Location}
+use Rattle.souper_errors.specs.declared.error.ParseError.{ParseError}
+use Rattle.souper_errors.specs.declared.error.ParseErrorKind.TheVariants.{Io as IoError, Parse}
 use Rattle.souper_stream.specs.declared.faults.NotUtf8.{NotUtf8}
 use Rattle.souper_stream.specs.declared.reader.ItemReader.{ItemReader}
 use Rattle.souper_stream.specs.Parts.{HasParts, EndsAfter}

@@ -2,8 +2,8 @@
 ghost use Rattle.std.specs.Prelude.{◌≡◌, ℕ, ◌-◌, ◌<◌, ◌++◌, List, length, Option, true, false, replicate, codes, decimal, string_bytes, IfOk, OnOk};
 ghost use Rattle.souper_records.specs.Prelude.{ItemType, Line, kind_of, stream, IsGiven, has_failed};
 ghost use Rattle.souper_format.specs.Reporting.{Reported};
-ghost use Rattle.souper_ir.specs.Errors.{message_of};
-ghost use Rattle.souper_ir.specs.Places.{right_aligned};
+ghost use Rattle.souper_errors.specs.Errors.{message_of};
+ghost use Rattle.souper_errors.specs.Places.{right_aligned};
 ghost use Rattle.souper_stream.specs.Parts.{HasParts};
 ghost use Rattle.souper_records.specs.Reports.{IsErrorLine, IsNotUtf8Line, IsRefusalLine, IsShownLine, item_end_lines, says_end, ReportedMemory, ReportedReadFault, ReportedError, ReportedInput};
 

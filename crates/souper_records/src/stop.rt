@@ -1,7 +1,7 @@
 //! Why writing the output of a stream stopped.
 ghost use Rattle.std.specs.Prelude.{◌≡◌, OnOk, IfErr, string_bytes};
 ghost use Rattle.souper_records.specs.Prelude.{stream, IsGiven, has_failed};
-ghost use Rattle.souper_ir.specs.Errors.{fault_of};
+ghost use Rattle.souper_errors.specs.Errors.{fault_of};
 ghost use Rattle.souper_records.specs.Stops.{input_stop, IsNoInput, UnlessOutput};
 ghost use Rattle.souper_records.specs.declared.stop.Stop.TheVariants.{Memory};
 

@@ -10,7 +10,7 @@ use Rattle.std.proofs.lemmas.List.{same_from_push, take_more, drop-append-le, ta
 use Rattle.std.proofs.Math.Seq.{drop-append_seam, take-append-add}
 use Rattle.std.proofs.lemmas.List.Sums.{count_by-le-length}
 use Rattle.souper_stream.proofs.Prelude.{newlines-append, IsOneLine, Lexeme, spelling, Begins, Item, kinds, ItemType, list_spells, EndsIn, newlines, IsLineText, IsPlace, ParseError, Io, Parse, MemoryKind, IsLines, lines_end, kind_of, HasLocation, HasLocationAfter, IsPlacedAfter, IsRefusalAt, Before, Memory, IsStrError, kinds-append, TakesOver, TakesPrefix, StartsAt, SpellEachFrom, PrefixSpellsFrom, TakesFrom, HasStarts, starts_of}
-use Rattle.souper_ir.specs.declared.parse.error.ParseErrorKind.{ParseErrorKind}
+use Rattle.souper_errors.specs.declared.error.ParseErrorKind.{ParseErrorKind}
 use Rattle.souper_stream.specs.Reading.{AreAll, ReadsBytes}
 use Rattle.souper_stream.specs.declared.buffer.Buffer.{Buffer}
 use Rattle.souper_stream.specs.Buffering.{window, Buffers, KeepsWindow, Counts, unparsed}

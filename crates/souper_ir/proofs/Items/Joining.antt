@@ -11,7 +11,8 @@ use Rattle.souper_graph.specs.Syntax.Tokens.{Lexeme, ident, val_name, known_bits
 use Rattle.souper_graph.specs.Syntax.Spelling.{kinds, ItemType, list_spells}
 use Rattle.souper_lexer.proofs.TokenFront.{spelled_some}
 use Rattle.souper_lexer.proofs.TokenLaws.{begins_length, begins_append}
-use Rattle.souper_ir.specs.Joining.{IsLines, moved, TokensJoin, ItemsJoin}
+use Rattle.souper_errors.specs.Places.{IsLines}
+use Rattle.souper_ir.specs.Joining.{moved, TokensJoin, ItemsJoin}
 use Rattle.souper_ir.specs.Laws.Steps.{kinds-append}
 
 -- ---- no token has a newline

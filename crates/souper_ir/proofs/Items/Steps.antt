@@ -4,11 +4,11 @@ use Rattle.std.specs.Prelude.{codes}
 use Rattle.std.proofs.lemmas.List.{append-nil, append_cancel_left}
 use Rattle.souper_graph.specs.declared.ast.operands.Operand.{Operand}
 use Rattle.souper_graph.specs.Values.{PlainStatement, PlainInfer, PlainCand, inferred, resulting, replaced, candidate, Item}
-use Rattle.souper_ir.specs.declared.parse.error.ParseError.{ParseError}
+use Rattle.souper_errors.specs.declared.error.ParseError.{ParseError}
 use Rattle.souper_graph.specs.Syntax.Tokens.{Lexeme}
 use Rattle.souper_graph.specs.Syntax.Spelling.{kinds, Scope, statement_spells, infer_spells, cand_spells, result_spells, Statements, ItemType, left_hand_side, right_hand_side, replacement, Tail, tail_spells, item_spells_after}
 use Rattle.souper_ir.specs.Continuation.{statement_continues, infer_continues, cand_continues, result_continues, item_continues}
-use Rattle.souper_ir.specs.Errors.{at_end_of}
+use Rattle.souper_errors.specs.Errors.{at_end_of}
 use Rattle.souper_ir.specs.Parsing.{Parsing}
 use Rattle.souper_ir.specs.Reading.{cause_of, IfRefused, if_refused, IsRead, Fails, fails_later}
 use Rattle.souper_ir.specs.Grammar.{Free, Starts, Took, NoFront, Refusal, peek_at}

@@ -6,12 +6,12 @@ use Rattle.souper_graph.specs.declared.ast.operands.«Type».{«Type» as Ty}
 use Rattle.souper_graph.specs.Syntax.Tokens.{Lexeme, AreTokensOf, open_paren}
 use Rattle.souper_graph.specs.Syntax.Spelling.{infer_spells, attribute_spells, root_attribute_spells, ItemType}
 use Rattle.souper_lexer.specs.TokenView.{IsCut}
-use Rattle.souper_ir.specs.declared.parse.error.ParseError.{ParseError}
+use Rattle.souper_errors.specs.declared.error.ParseError.{ParseError}
 use Rattle.souper_ir.specs.declared.parse.item.Next.{Next}
 use Rattle.souper_ir.specs.declared.parse.item.Next.TheVariants.{Assignment, Pc, BlockPc}
 use Rattle.souper_ir.specs.Continuation.{infer_continues}
-use Rattle.souper_ir.specs.declared.parse.error.ParseErrorKind.TheVariants.{Parse}
-use Rattle.souper_ir.specs.Errors.{kind_of, at_end_of, IsLocated}
+use Rattle.souper_errors.specs.declared.error.ParseErrorKind.TheVariants.{Parse}
+use Rattle.souper_errors.specs.Errors.{kind_of, at_end_of, IsLocated}
 use Rattle.souper_ir.specs.Parsing.{Cause, Parsing}
 use Rattle.souper_ir.specs.Reading.{Reads, cause_of, IfRefused, if_refused, IsRead, Fails, take_at, look_in, look_at}
 use Rattle.souper_ir.specs.Grammar.{Took, peek_at}

@@ -2,14 +2,14 @@
 use Rattle.std.proofs.Common.{◌≡◌, ◌⊎◌, ℕ, ◌+◌, ◌≤◌, Bool, false, List, [], ◌∷◌, ◌++◌, length, Option, Some, None, refl, sym, ◌∙◌, ap, subst, inl, inr, arith}
 use Rattle.std.specs.Prelude.{IfSome}
 use Rattle.souper_graph.specs.Values.{Item}
-use Rattle.souper_ir.specs.declared.parse.error.ParseError.{ParseError}
-use Rattle.souper_ir.specs.declared.parse.error.ParseErrorKind.{ParseErrorKind}
-use Rattle.souper_ir.specs.declared.parse.error.ParseErrorKind.TheVariants.{Io, Parse, Memory}
-use Rattle.souper_ir.specs.declared.parse.error.Cause.{Cause as ErrorCause}
-use Rattle.souper_ir.specs.declared.parse.error.Cause.TheVariants.{Io as IoCause, Parse as ParseCause, Memory as MemoryCause}
+use Rattle.souper_errors.specs.declared.error.ParseError.{ParseError}
+use Rattle.souper_errors.specs.declared.error.ParseErrorKind.{ParseErrorKind}
+use Rattle.souper_errors.specs.declared.error.ParseErrorKind.TheVariants.{Io, Parse, Memory}
+use Rattle.souper_errors.specs.declared.error.Cause.{Cause as ErrorCause}
+use Rattle.souper_errors.specs.declared.error.Cause.TheVariants.{Io as IoCause, Parse as ParseCause, Memory as MemoryCause}
 use Rattle.souper_graph.specs.Syntax.Tokens.{Lexeme, spelling, IsLastGap, Begins, IsTextOf, AreTokensOf}
 use Rattle.souper_graph.specs.Syntax.Spelling.{kinds, ItemType, list_spells, TextSpells, SpellsNone}
-use Rattle.souper_ir.specs.Errors.{OnKind, kind_of, kind_of_cause, offset_of, offset_of_cause, HasLocation, IsRefusalAt, IsLocated}
+use Rattle.souper_errors.specs.Errors.{OnKind, kind_of, kind_of_cause, offset_of, offset_of_cause, HasLocation, IsRefusalAt, IsLocated}
 use Rattle.souper_ir.specs.Answers.{IsStrError}
 use Rattle.souper_ir.specs.Parsing.{Cause, refused, Parsing}
 use Rattle.souper_ir.specs.Reading.{cause_of, IfRefused}

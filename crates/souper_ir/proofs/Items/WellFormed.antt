@@ -19,7 +19,8 @@ use Rattle.souper_ir.specs.Parsing.{Parsing}
 use Rattle.souper_ir.specs.Laws.Steps.{kinds-append}
 use Rattle.souper_ir.proofs.Nodes.Limits.{number_fits, count_fits, width_fits}
 use Rattle.souper_ir.specs.NamesView.{Named}
-use Rattle.souper_ir.proofs.Scope.Growing.{nothing_named, named_push, named_pass, get_push, AllReach, none_reach, both_reach, one_reaches, value_reaches, block_reaches, met_kept, closed_kept}
+use Rattle.souper_names.proofs.Tables.{get_push}
+use Rattle.souper_ir.proofs.Scope.Growing.{nothing_named, named_push, named_pass, AllReach, none_reach, both_reach, one_reaches, value_reaches, block_reaches, met_kept, closed_kept}
 
 abbrev AllLexemes : List Lexeme → Type 0
 AllLexemes ts = AllByRecursion IsLexeme ts

@@ -2,7 +2,7 @@
 use Rattle.std.proofs.Common.{◌≡◌, ◌⊎◌, ℕ, Bool, true, false, List, [], ◌∷◌, None, Ok, refl, sym, ◌∙◌, ap, subst, inl, inr}
 use Rattle.std.specs.Prelude.{Result}
 use Rattle.souper_graph.specs.declared.ast.operands.Operand.{Operand}
-use Rattle.souper_ir.specs.declared.parse.error.ParseError.{ParseError}
+use Rattle.souper_errors.specs.declared.error.ParseError.{ParseError}
 use Rattle.souper_graph.specs.Values.{PlainAttribute}
 use Rattle.souper_graph.specs.Syntax.Spelling.{kinds, attribute_spells}
 use Rattle.souper_graph.specs.Syntax.Tokens.{Lexeme, val_name, int, comma, colon, equals, open_paren}

@@ -1,9 +1,9 @@
 -- How a parser fails.
 use Rattle.std.proofs.Common.{◌≡◌, ℕ, ◌≤◌, true, [], Option, Some, None, sym, ◌∙◌, ap, subst, arith}
 use Rattle.std.specs.Prelude.{IsSomeAnd}
-use Rattle.souper_ir.specs.declared.parse.error.ParseError.{ParseError}
-use Rattle.souper_ir.specs.Places.{IsDirectRefusalText}
-use Rattle.souper_ir.specs.Errors.{at_end_of, shown_error}
+use Rattle.souper_errors.specs.declared.error.ParseError.{ParseError}
+use Rattle.souper_errors.specs.Places.{IsDirectRefusalText}
+use Rattle.souper_errors.specs.Errors.{at_end_of, shown_error}
 use Rattle.souper_ir.specs.Parsing.{Cause, refused, no_memory, Parsing}
 use Rattle.souper_ir.specs.Reading.{cause_of, Fails, IfRefused}
 

@@ -3,10 +3,10 @@ use Rattle.std.proofs.Common.{◌≡◌, ◌≢◌, ℕ, ◌+◌, ◌<◌, zero,
 use Rattle.souper_graph.specs.declared.ast.instructions.Instruction.{Instruction}
 use Rattle.souper_graph.specs.declared.ast.operands.Operand.{Operand}
 use Rattle.souper_graph.specs.Syntax.Tokens.{comma}
-use Rattle.souper_ir.specs.declared.parse.error.ParseError.{ParseError}
+use Rattle.souper_errors.specs.declared.error.ParseError.{ParseError}
 use Rattle.souper_ir.specs.declared.parse.words.Opcode.{Opcode}
 use Rattle.souper_ir.specs.Words.{Shape, no_operand, one_operand, two_operands, three_operands, count_of_shape, shape_of, operand_count, instruction_by}
-use Rattle.souper_ir.specs.Errors.{at_end_of}
+use Rattle.souper_errors.specs.Errors.{at_end_of}
 use Rattle.souper_ir.specs.Parsing.{Parsing}
 use Rattle.souper_ir.specs.NodeReadings.{accept, as_mark, operand_at, next_operand_at, further_at, operands_at, instruction_of_at}
 use Rattle.souper_ir.specs.Reading.{Reads, ◌>>=◌, cause_of, IfRefused, if_refused, Fails, fails_later}

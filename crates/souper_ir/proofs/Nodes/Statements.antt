@@ -6,8 +6,8 @@ use Rattle.souper_graph.specs.declared.ast.operands.«Type».{«Type» as Ty}
 use Rattle.souper_graph.specs.declared.ast.statements.Pc.{Pc}
 use Rattle.souper_graph.specs.declared.ast.statements.BlockPc.{BlockPc}
 use Rattle.souper_graph.specs.Values.{PlainAttribute, PlainAssignment, PlainStatement, assigned, condition, block_condition}
-use Rattle.souper_ir.specs.declared.parse.error.ParseError.{ParseError}
-use Rattle.souper_ir.specs.Errors.{at_end_of}
+use Rattle.souper_errors.specs.declared.error.ParseError.{ParseError}
+use Rattle.souper_errors.specs.Errors.{at_end_of}
 use Rattle.souper_ir.specs.Parsing.{Parsing}
 use Rattle.souper_graph.specs.Syntax.Tokens.{Lexeme}
 use Rattle.souper_graph.specs.Syntax.Spelling.{kinds, attribute_spells, assignment_spells, pc_spells, block_pc_spells, statement_spells}

@@ -14,12 +14,12 @@ use Rattle.souper_ir.specs.declared.parse.parser.Failure.{Failure}
 use Rattle.souper_ir.specs.FailureView.{cause_of_failure}
 use Rattle.souper_ir.specs.NamesView.{NameMap, entry_in, entry_in_map, entry_found, AddsToMap, Adds, IsLast, AreNames, Named, defines_name, is_named, entry_in_scope}
 use Rattle.souper_ir.specs.declared.parse.names.Names.{Names}
-use Rattle.souper_ir.specs.TableView.{NameEntry, or_else, last_entry}
+use Rattle.souper_names.specs.TableView.{NameEntry, or_else, last_entry}
 use Rattle.souper_ir.specs.NodeReadings.{new_name_at}
 use Rattle.souper_ir.specs.Parsing.{Parsing}
 use Rattle.souper_ir.proofs.Scope.Names.{no_entry, entry_push, entry_pass}
 use Rattle.souper_ir.proofs.Scope.Growing.{entry_stands, named_push, named_pass}
-use Rattle.souper_ir.proofs.Scope.Tables.{adds}
+use Rattle.souper_names.proofs.Tables.{adds}
 
 pub inserted : (old new : NameMap) (key : Bor (List ℕ)) (e : NameEntry)
     → UpdatesBy (λ (x y : Bor (List ℕ)). slice_cmp nat_cmp x.now y.now) (λ (k : Bor (List ℕ)). slice_cmp nat_cmp key.now k.now) old new (Some e) → AddsToMap old new key.now e

@@ -8,8 +8,9 @@ use Rattle.souper_graph.specs.Faults.{IsAssigned, IsBlockRhs, IsBlock, IsMet, Ar
 use Rattle.souper_graph.specs.WellFormed.{predecessors_of_rhs, predecessors_of, AgreesRhs, AgreesWithBlock, Closed}
 use Rattle.souper_graph.specs.Syntax.Spelling.{Scope, predecessors_if_block, entry_from, entry_of, position_of}
 use Rattle.souper_ir.specs.Laws.Peeks.{some_is}
-use Rattle.souper_ir.specs.TableView.{NameEntry, or_else}
+use Rattle.souper_names.specs.TableView.{NameEntry, or_else}
 use Rattle.souper_ir.specs.NamesView.{Named}
+use Rattle.souper_names.proofs.Tables.{get_push}
 use Rattle.souper_ir.proofs.Scope.Names.{entry_push, entry_pass, no_entry}
 
 -- ---- names
@@ -56,16 +57,6 @@ position_stands s n i h =
 
 pub nothing_named : Named []
 nothing_named p v e = absurd cc
-
-pub get_push : {A : Type 0} (ss : List A) (s t : A) (p : ℕ) → slice_get (ss ++ s ∷ []) p ≡ Some t → (slice_get ss p ≡ Some t) ⊎ ((p ≡ length ss) × (s ≡ t))
-get_push [] s t zero e = inr (refl, some_is e)
-get_push [] s t (suc p) e = absurd cc
-get_push (x ∷ ss) s t zero e = inl e
-get_push (x ∷ ss) s t (suc p) e = deeper (get_push ss s t p e)
-  where
-    deeper : (slice_get ss p ≡ Some t) ⊎ ((p ≡ length ss) × (s ≡ t)) → (slice_get (x ∷ ss) (suc p) ≡ Some t) ⊎ ((suc p ≡ length (x ∷ ss)) × (s ≡ t))
-    deeper (inl h) = inl h
-    deeper (inr h) = inr (ap suc h.0, h.1)
 
 or_some : (o : Option NameEntry) (e : NameEntry) (d : Option NameEntry) → o ≡ Some e → or_else o d ≡ Some e
 or_some o e d h = rw h refl

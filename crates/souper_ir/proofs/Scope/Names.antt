@@ -4,7 +4,7 @@ use Rattle.std.specs.Prelude.{bytes_eq, option_map, if◌then◌else◌}
 use Rattle.souper_graph.specs.Values.{PlainAssignment, PlainStatement, assigned, condition, block_condition}
 use Rattle.souper_graph.specs.Uses.{is_condition}
 use Rattle.souper_graph.specs.Syntax.Spelling.{Scope, predecessors_if_block, entry_from}
-use Rattle.souper_ir.specs.TableView.{NameEntry, or_else}
+use Rattle.souper_names.specs.TableView.{NameEntry, or_else}
 
 found_or : (b : Bool) (k : NameEntry) (o p q : Option NameEntry) → or_else o p ≡ q → or_else (if b then Some k else o) p ≡ (if b then Some k else q)
 found_or true k o p q e = refl

@@ -1,7 +1,7 @@
 -- Lemmas. A node with attributes after it: which tokens are its two parts, and what parsing one and then the other
 -- returns.
 use Rattle.std.proofs.Common.{◌≡◌, List, [], ◌∷◌, ◌++◌, sym, ◌∙◌, ap, subst, ◌⊎◌, inl, inr}
-use Rattle.souper_ir.specs.declared.parse.error.ParseError.{ParseError}
+use Rattle.souper_errors.specs.declared.error.ParseError.{ParseError}
 use Rattle.souper_ir.specs.Parsing.{Parsing}
 use Rattle.souper_graph.specs.Syntax.Tokens.{Lexeme, open_paren}
 use Rattle.souper_graph.specs.Syntax.Spelling.{Scope}

@@ -2,8 +2,8 @@
 use Rattle.std.proofs.Common.{◌≡◌, Bool, true, false, List, [], ◌∷◌, ◌++◌, map, Option, Some, None, Result, Ok, Err, refl, sym, ◌∙◌, ap, subst}
 use Rattle.std.proofs.lemmas.List.{append_cancel_right}
 use Rattle.std.specs.Prelude.{IfOk, IfErr}
-use Rattle.souper_ir.specs.declared.parse.error.ParseError.{ParseError}
-use Rattle.souper_ir.specs.Errors.{at_end_of}
+use Rattle.souper_errors.specs.declared.error.ParseError.{ParseError}
+use Rattle.souper_errors.specs.Errors.{at_end_of}
 use Rattle.souper_ir.specs.Parsing.{Cause, no_memory, Parsing}
 use Rattle.souper_graph.specs.Syntax.Tokens.{Lexeme}
 use Rattle.souper_graph.specs.Syntax.Spelling.{kinds, Scope}

@@ -5,19 +5,19 @@ ghost use Rattle.souper_graph.specs.View.{view_attribute, view_root_attribute};
 ghost use Rattle.souper_graph.specs.Syntax.Spelling.{attribute_spells, root_attribute_spells};
 ghost use Rattle.souper_graph.specs.Syntax.Tokens.{open_paren};
 ghost use Rattle.souper_graph.specs.Syntax.Numbers.{bits_of};
-ghost use Rattle.souper_ir.specs.Errors.{widened};
+ghost use Rattle.souper_errors.specs.Errors.{widened};
 ghost use Rattle.souper_ir.specs.Reading.{Gives};
 ghost use Rattle.souper_ir.specs.NodeReadings.{bits_kind, sign_bits_kind, range_kind, accept, is_mark, int_by, ident_by, attribute_kind_of_word, attribute_kind_of, attribute_by, attribute_at, root_kind_of_word, root_attribute_by, root_attribute_at};
 ghost use Rattle.souper_ir.specs.AttributeView.{view_kind};
 ghost use Rattle.souper_ir.specs.Laws.FromReadings.{one_alone};
 ghost use Rattle.souper_ir.specs.Laws.Attributes.{attribute_complete, attribute_first, root_attribute_complete, root_attribute_first};
 
-use crate::parse::error::widen;
 use crate::parse::message::Message;
 use crate::parse::numbers::{bits, known_bits};
 use crate::parse::parser::{Parser, Read, Result};
 use crate::parse::tokens::{Mark, bit_count, integer, mark_comes, punctuation};
 use crate::parse::traits::{Parse, Peek};
+use souper_errors::widen;
 use souper_graph::ast::{Attribute, RootAttribute};
 use souper_lexer::Token;
 

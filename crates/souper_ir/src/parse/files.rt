@@ -7,11 +7,11 @@ ghost use Rattle.souper_graph.specs.View.{view_left_hand_side, view_right_hand_s
 ghost use Rattle.souper_graph.specs.Syntax.Spelling.{left_hand_side, right_hand_side, replacement};
 ghost use Rattle.souper_ir.specs.Files.{AnswersRead};
 
-use crate::parse::error::ParseError;
 use crate::parse::item::{WholeItem, parse_items};
 use crate::parse::parser::Result;
+use souper_errors::ParseError;
 use souper_graph::ast::{LeftHandSide, Replacement, RightHandSide};
-use std::alloc::Global;
+use std::alloc::{AllocError, Global};
 use std::io::ErrorKind;
 use std::rt::Files;
 use std::{fs, io};
@@ -28,7 +28,7 @@ fn answer_read<T: WholeItem + Drop>(
         Ok(source) => parse_items(alloc, source.as_str(), Some(path)),
         Err(fault) => {
             if fault.kind() == ErrorKind::OutOfMemory {
-                Err(ParseError::memory())
+                Err(ParseError::from(AllocError))
             } else {
                 Err(ParseError::from(fault))
             }

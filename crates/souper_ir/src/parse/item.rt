@@ -8,7 +8,7 @@ ghost use Rattle.souper_graph.specs.Values.{Item as PlainItem};
 ghost use Rattle.souper_graph.specs.Syntax.Tokens.{Lexeme, AreTokensOf, IsTextOf, IsLastGap, IsLexeme};
 ghost use Rattle.souper_graph.specs.Syntax.Spelling.{kinds, ItemType, left_hand_side, right_hand_side, replacement, statement_spells, item_spells_after, TextSpells};
 ghost use Rattle.souper_lexer.specs.TokenView.{IsCut};
-ghost use Rattle.souper_ir.specs.Errors.{error_of, widened, kind_of, at_end_of};
+ghost use Rattle.souper_errors.specs.Errors.{error_of, widened, kind_of, at_end_of};
 ghost use Rattle.souper_ir.specs.Continuation.{statement_continues, item_continues};
 ghost use Rattle.souper_ir.specs.Grammar.{Took, Refusal};
 ghost use Rattle.souper_ir.specs.declared.parse.item.Next.{Next};
@@ -22,7 +22,6 @@ ghost use Rattle.souper_ir.specs.Answers.{IsStrError};
 ghost use Rattle.souper_ir.specs.Sinks.{TakesOver, TakesText, TakesPrefix};
 ghost use Rattle.souper_ir.specs.Starts.{HasStarts, TakesFirst, Keeps, SpellEachFrom, PrefixSpellsFrom, TextSpellsFrom, TakesFrom, starts_kept, starts_of};
 
-use crate::parse::error::ParseErrorKind;
 use crate::parse::last_lines::{cand, infer, result};
 use crate::parse::memory::{Kept, Memory};
 use crate::parse::parser::{Parser, Read, Result};
@@ -31,6 +30,7 @@ use crate::parse::sink::Sink;
 use crate::parse::statements::{attributes, block_pc, entered_heading, pc};
 use crate::parse::tokens::word_comes;
 use crate::parse::traits::Parse;
+use souper_errors::{ParseErrorKind, locate};
 use souper_graph::ast::{
     Arena, Assignment, Item, LeftHandSide, Replacement, RightHandSide, Statement,
 };
@@ -334,7 +334,7 @@ fn whole_text<T: WholeItem, S: Sink<T>>(
 {
     match items::<T, S>(kept, parser, sink) {
         Ok(()) => Ok(()),
-        Err(error) => Err(error.locate(alloc, source, filename)),
+        Err(error) => Err(locate(error, alloc, source, filename)),
     }
 }
 

@@ -4,7 +4,7 @@ ghost use Rattle.std.specs.Prelude.{codes, map, refl, IfOk, IfErr};
 ghost use Rattle.souper_graph.specs.Values.{PlainInfer, PlainCand};
 ghost use Rattle.souper_graph.specs.View.{view_infer, view_cand, view_root_attribute};
 ghost use Rattle.souper_graph.specs.Syntax.Spelling.{infer_spells, cand_spells, root_attribute_spells};
-ghost use Rattle.souper_ir.specs.Errors.{error_of, widened};
+ghost use Rattle.souper_errors.specs.Errors.{error_of, widened};
 ghost use Rattle.souper_ir.specs.Continuation.{infer_continues, cand_continues};
 ghost use Rattle.souper_ir.specs.Reading.{Gives};
 ghost use Rattle.souper_ir.specs.Grammar.{Took, Refusal};
@@ -14,12 +14,12 @@ ghost use Rattle.souper_ir.specs.Laws.Attributed.{Row, OneMore};
 ghost use Rattle.souper_ir.specs.Laws.Statements.{infer_alone, infer_first, cand_alone};
 
 use crate::parse::attributes::root_attribute;
-use crate::parse::error::widen;
 use crate::parse::message::Message;
 use crate::parse::operands::operand;
 use crate::parse::parser::{Parser, Read, Result};
 use crate::parse::tokens::{Mark, keyword, mark_comes, punctuation, value_name, word_comes};
 use crate::parse::traits::{Parse, Peek};
+use souper_errors::widen;
 use souper_graph::ast::{Cand, Infer, Operand, RootAttribute, ValueId};
 
 // The value that an infer line names.

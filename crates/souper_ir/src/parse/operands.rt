@@ -1,7 +1,7 @@
 //! Types, constants and operands.
 
 ghost use Rattle.std.specs.Prelude.{◌≡◌, None, false, refl};
-ghost use Rattle.souper_ir.specs.Errors.{widened};
+ghost use Rattle.souper_errors.specs.Errors.{widened};
 ghost use Rattle.souper_ir.specs.Reading.{Gives};
 ghost use Rattle.souper_graph.specs.Syntax.Spelling.{type_spells, constant_spells, operand_spells};
 ghost use Rattle.souper_ir.specs.Continuation.{constant_continues, operand_continues};
@@ -9,7 +9,6 @@ ghost use Rattle.souper_ir.specs.NodeReadings.{is_int, type_at, optional_type_at
 ghost use Rattle.souper_ir.specs.Laws.FromReadings.{one_alone};
 ghost use Rattle.souper_ir.specs.Laws.Operands.{type_complete, constant_complete, constant_first, operand_complete};
 
-use crate::parse::error::widen;
 use crate::parse::message::Message;
 use crate::parse::numbers::width;
 use crate::parse::parser::{Parser, Read, Result};
@@ -17,6 +16,7 @@ use crate::parse::tokens::{
     Mark, integer, integer_comes, mark_comes, punctuation, value_name, value_name_comes,
 };
 use crate::parse::traits::{Parse, Peek};
+use souper_errors::widen;
 use souper_graph::ast::{Constant, Operand, Type};
 use souper_lexer::Token;
 

@@ -8,25 +8,26 @@ ghost use Rattle.souper_lexer.specs.TokenView.{lexeme_of, is_end, IsCut};
 ghost use Rattle.souper_graph.specs.Uses.{is_condition};
 ghost use Rattle.souper_graph.specs.Syntax.Spelling.{entry_of, position_of, predecessors_if_block};
 ghost use Rattle.souper_ir.specs.NodeReadings.{accept, block_entry, is_any, is_mark, is_name, as_mark, as_name, new_name_at};
-ghost use Rattle.souper_ir.specs.HashView.{name_hash};
+ghost use Rattle.souper_names.specs.HashView.{name_hash};
 ghost use Rattle.souper_ir.specs.NamesView.{is_named, entry_in_scope};
 ghost use Rattle.souper_ir.specs.Grammar.{Comes, peek_at};
 ghost use Rattle.souper_ir.specs.MarkView.{lexeme_of_mark};
 ghost use Rattle.souper_ir.specs.Parsing.{Cause, refused};
-ghost use Rattle.souper_ir.specs.Errors.{error_of, widened, shown_error, at_end_of};
-ghost use Rattle.souper_ir.specs.Places.{IsDirectRefusalText};
+ghost use Rattle.souper_errors.specs.Errors.{error_of, widened, shown_error, at_end_of};
+ghost use Rattle.souper_errors.specs.Places.{IsDirectRefusalText};
 ghost use Rattle.souper_ir.specs.Starts.{StartsAt, starts_kept, starts_of};
 ghost use Rattle.souper_ir.specs.Reading.{Fails, FailsForMemory, Gives, IfRefused, IsRead, cause_of, look_at, take_at};
 
-use crate::parse::error::{ParseError, ReadError};
 use crate::parse::memory::{Kept, Memory};
 use crate::parse::message::Message;
-use crate::parse::names::{Entry, Names, Slot};
+use crate::parse::names::{Names, Slot};
 use crate::parse::recent::Recent;
 use crate::parse::spare::Spare;
 use crate::parse::tokens::{Mark, byte_of};
+use souper_errors::{ParseError, ReadError};
 use souper_graph::ast::{Arena, Assignment, AssignmentRhs, BlockId, Id, Statement, ValueId};
 use souper_lexer::{Fault, FaultKind, Lexer, Token};
+use souper_names::Entry;
 use std::alloc::{AllocError, Global};
 use std::marker::Model;
 use std::{fmt, mem};
@@ -443,9 +444,9 @@ fn is_named(statements: &Arena<Statement>, value: ValueId, name: &str) -> bool
 fn in_scope(statements: &Arena<Statement>, entry: Option<Entry>, name: &str) -> Option<Entry>
     ensures { result ≡ entry_in_scope (map view_statement statements.now) entry name.now }
 {
-    let (value, predecessors) = entry?;
-    if is_named(statements, value, name) {
-        Some((value, predecessors))
+    let (position, predecessors) = entry?;
+    if is_named(statements, Id::at(position).into(), name) {
+        Some((position, predecessors))
     } else {
         None
     }
@@ -485,7 +486,7 @@ impl<'a> Parser<'a> {
             }
         }
         match self.entry(name) {
-            Some((value, _)) => Some(value),
+            Some((position, _)) => Some(Id::at(position).into()),
             None => None,
         }
     }
@@ -495,8 +496,8 @@ impl<'a> Parser<'a> {
         requires { self.now.failed ≡ None }
         ensures { result ≡ block_entry (entry_of self.now.scope name.now) }
     {
-        let (value, predecessors) = self.entry(name)?;
-        Some((Id::from(value).into(), predecessors?))
+        let (position, predecessors) = self.entry(name)?;
+        Some((Id::at(position).into(), predecessors?))
     }
 
     /// Begins the definition of a name, which has to be new: returns where it is to be entered.
@@ -515,7 +516,6 @@ impl<'a> Parser<'a> {
             self.begin_in_map(name)?;
             return Ok(slot);
         }
-        self.names.begin(name, self.statements.next_id().into());
         Ok(slot)
     }
 
@@ -527,7 +527,7 @@ impl<'a> Parser<'a> {
         requires { self.old.failed ≡ None }
         ensures { Gives (λ u. u) (widened result) (new_name_at name.now self.old) self.old self.new }
     {
-        let next = self.statements.next_id().into();
+        let next = self.statements.len();
         match self.names.put_into_map(name, next, None) {
             Ok(None) => Ok(()),
             Ok(replaced) => {
@@ -558,13 +558,13 @@ impl<'a> Parser<'a> {
         ensures err { IfErr result (λ error. FailsForMemory (error_of error) self.old self.new) }
     {
         let predecessors = predecessors_of(&assignment.value);
-        let value = match push(&mut self.statements, assignment.into()) {
-            Ok(id) => id.into(),
+        let id = match push(&mut self.statements, assignment.into()) {
+            Ok(id) => id,
             Err(_) => return Err(self.want_memory()),
         };
-        match self.names.enter(slot, name, value, predecessors) {
+        match self.names.enter(slot, name, id.index(), predecessors) {
             Ok(_) => {
-                self.recent.put(name, value);
+                self.recent.put(name, id.into());
                 Ok(())
             }
             // The names lack the definition, so the cause is set first.

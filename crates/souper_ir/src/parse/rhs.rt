@@ -3,7 +3,7 @@
 ghost use Rattle.std.specs.Prelude.{◌≡◌, None, codes, refl};
 ghost use Rattle.souper_graph.specs.Values.{PlainPhi, PlainRhs};
 ghost use Rattle.souper_graph.specs.View.{view_phi, view_rhs};
-ghost use Rattle.souper_ir.specs.Errors.{widened};
+ghost use Rattle.souper_errors.specs.Errors.{widened};
 ghost use Rattle.souper_ir.specs.Reading.{Gives};
 ghost use Rattle.souper_ir.specs.Grammar.{peek_at};
 ghost use Rattle.souper_graph.specs.Syntax.Spelling.{block_spells, phi_spells, instruction_spells, rhs_spells};
@@ -13,13 +13,13 @@ ghost use Rattle.souper_ir.specs.Words.{opcode_of};
 ghost use Rattle.souper_ir.specs.Laws.FromReadings.{one_alone};
 ghost use Rattle.souper_ir.specs.Laws.RightSides.{block_complete, block_first, phi_complete, phi_first, instruction_complete, instruction_first, rhs_complete};
 
-use crate::parse::error::widen;
 use crate::parse::message::Message;
 use crate::parse::operands::{further, next_operand, operand};
 use crate::parse::parser::{Parser, Read, Result};
 use crate::parse::tokens::{keyword, predecessor_number, token_comes, value_name, word_comes};
 use crate::parse::traits::{Parse, Peek};
 use crate::parse::words::{Opcode, RhsWord, opcode_named, rhs_word_named};
+use souper_errors::widen;
 use souper_graph::ast::{AssignmentRhs, Block, BlockId, Instruction, Phi};
 use souper_lexer::Token;
 

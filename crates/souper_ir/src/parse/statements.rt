@@ -6,18 +6,17 @@ ghost use Rattle.souper_graph.specs.declared.ast.statements.BlockPc.{BlockPc as 
 ghost use Rattle.souper_graph.specs.Values.{PlainAssignment, PlainStatement};
 ghost use Rattle.souper_graph.specs.View.{view_assignment, view_attribute, view_statement};
 ghost use Rattle.souper_graph.specs.Syntax.Spelling.{attribute_spells, assignment_spells, pc_spells, block_pc_spells, statement_spells};
-ghost use Rattle.souper_ir.specs.Errors.{error_of, widened};
+ghost use Rattle.souper_errors.specs.Errors.{error_of, widened};
 ghost use Rattle.souper_ir.specs.Continuation.{assignment_continues, pc_continues, block_pc_continues, statement_continues};
 ghost use Rattle.souper_ir.specs.Reading.{Gives};
 ghost use Rattle.souper_ir.specs.Grammar.{Took, Refusal, peek_at};
-ghost use Rattle.souper_ir.specs.HashView.{name_hash};
+ghost use Rattle.souper_names.specs.HashView.{name_hash};
 ghost use Rattle.souper_ir.specs.NodeReadings.{is_name, is_word, attribute_at, type_and_equals_at, heading_at, pc_at, block_pc_at, starts_statement};
 ghost use Rattle.souper_ir.specs.Stopping.{RowStops, Stops};
 ghost use Rattle.souper_ir.specs.Laws.Attributed.{Row, OneMore};
 ghost use Rattle.souper_ir.specs.Laws.Statements.{assignment_alone, assignment_first, pc_alone, pc_first, block_pc_alone, block_pc_first, statement_alone, statement_first};
 
 use crate::parse::attributes::attribute;
-use crate::parse::error::widen;
 use crate::parse::message::Message;
 use crate::parse::names::Slot;
 use crate::parse::operands::{operand, optional_type};
@@ -28,6 +27,7 @@ use crate::parse::tokens::{
     word_comes,
 };
 use crate::parse::traits::{Parse, Peek};
+use souper_errors::widen;
 use souper_graph::ast::{Assignment, AssignmentRhs, Attribute, BlockPc, Pc, Statement, Type};
 use souper_lexer::Token;
 

@@ -1,7 +1,7 @@
 //! Single tokens that a parser takes or looks at.
 
 ghost use Rattle.std.specs.Prelude.{◌≡◌, ◌^◌, [], false, None, Some, IsOk};
-ghost use Rattle.souper_ir.specs.Errors.{widened};
+ghost use Rattle.souper_errors.specs.Errors.{widened};
 ghost use Rattle.souper_ir.specs.Reading.{Gives};
 ghost use Rattle.souper_ir.specs.Grammar.{peek_at};
 ghost use Rattle.souper_graph.specs.Syntax.Numbers.{number_of, count_of};

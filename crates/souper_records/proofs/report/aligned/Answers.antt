@@ -1,7 +1,7 @@
 use Rattle.std.proofs.Common.{◌≡◌, List, ℕ, ◌∙◌, ap, subst, decimal}
 use Rattle.std.specs.Prelude.{IfOk, string_bytes}
 use Rattle.std.specs.Fmt.{styled_decimal}
-use Rattle.souper_ir.proofs.Shown.Lines.{padded_right}
+use Rattle.souper_errors.proofs.Shown.Lines.{padded_right}
 use Rattle.souper_records.proofs.report.aligned.Goals as goal
 
 pub returns : goal.returns

@@ -4,7 +4,7 @@ use Rattle.std.specs.Prelude.{map}
 use Rattle.souper_graph.specs.Syntax.Spelling.{position_of}
 use Rattle.souper_graph.specs.Values.{PlainAssignment, assigned}
 use Rattle.souper_graph.specs.View.{view_rhs, view_attribute}
-use Rattle.souper_ir.specs.Errors.{error_of}
+use Rattle.souper_errors.specs.Errors.{error_of}
 use Rattle.souper_ir.specs.Parsing.{Parsing}
 use Rattle.souper_ir.proofs.Nodes.Statements.{heading_refused, value_refused, attributes_refused, parts_taken, assignment_taken, assignment_refused}
 use Rattle.souper_ir.proofs.Nodes.NextStatements.{no_pc_seen, no_block_pc_seen}

@@ -1,6 +1,6 @@
 use Rattle.std.proofs.lemmas.Result.{err_from_is_err_and, on_ok_weaker}
 use Rattle.souper_graph.specs.Values.{condition}
-use Rattle.souper_ir.specs.Errors.{error_of}
+use Rattle.souper_errors.specs.Errors.{error_of}
 use Rattle.souper_ir.proofs.Nodes.Statements.{pc_taken, pc_refused}
 use Rattle.souper_ir.proofs.Nodes.NextStatements.{pc_seen}
 use Rattle.souper_ir.proofs.Items.Steps.{entered}

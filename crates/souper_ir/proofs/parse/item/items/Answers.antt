@@ -4,7 +4,7 @@ use Rattle.souper_ir.proofs.Items.Lists.{runs_on, item_shorter, all_taken, look_
 use Rattle.souper_ir.proofs.Items.Stopping.{items_look, item_stops}
 use Rattle.souper_ir.proofs.Items.Starts.{begun, keeps_none, keeps_both}
 use Rattle.std.proofs.lemmas.List.{append-nil}
-use Rattle.souper_ir.specs.Errors.{error_of}
+use Rattle.souper_errors.specs.Errors.{error_of}
 use Rattle.souper_ir.specs.Reading.{cause_of}
 use Rattle.souper_ir.proofs.parse.item.items.Goals as goal
 

@@ -1,7 +1,7 @@
 use Rattle.std.proofs.Common.{◌≡◌, ◌∙◌, ap}
 use Rattle.std.proofs.lemmas.Result.{on_ok_weaker, IfErr-weaker}
-use Rattle.souper_ir.specs.Errors.{kind_of}
-use Rattle.souper_ir.specs.declared.parse.error.ParseErrorKind.TheVariants.{Parse}
+use Rattle.souper_errors.specs.Errors.{kind_of}
+use Rattle.souper_errors.specs.declared.error.ParseErrorKind.TheVariants.{Parse}
 use Rattle.souper_ir.specs.Starts.{TextSpellsFrom, PrefixSpellsFrom, TakesFrom, HasStarts, Keeps}
 use Rattle.souper_ir.proofs.Items.Starts.{only_from, restarted}
 use Rattle.souper_ir.proofs.parse.item.parse_with_memory.Goals as goal

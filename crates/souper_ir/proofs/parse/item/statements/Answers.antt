@@ -1,6 +1,6 @@
 use Rattle.std.proofs.lemmas.Result.{err_from_is_err_and}
 use Rattle.souper_ir.specs.declared.parse.item.Next.TheVariants.{Assignment, Pc, BlockPc}
-use Rattle.souper_ir.specs.Errors.{error_of, at_end_of}
+use Rattle.souper_errors.specs.Errors.{error_of, at_end_of}
 use Rattle.souper_ir.specs.Reading.{cause_of, if_refused}
 use Rattle.souper_ir.specs.NodeReadings.{starts_statement}
 use Rattle.souper_ir.specs.Laws.Items.{statements_end, goes_on_behind, entered_shorter, peek_refused, member_refused}

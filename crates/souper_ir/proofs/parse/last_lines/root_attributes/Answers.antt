@@ -1,7 +1,7 @@
 use Rattle.std.proofs.Common.{map, refl}
 use Rattle.std.proofs.lemmas.Result.{err_from_is_err_and}
 use Rattle.souper_graph.specs.View.{view_root_attribute}
-use Rattle.souper_ir.specs.Errors.{error_of}
+use Rattle.souper_errors.specs.Errors.{error_of}
 use Rattle.souper_ir.specs.Laws.Attributes.{root_attribute_rule, root_attribute_first}
 use Rattle.souper_ir.specs.Laws.FromReadings.{alone, is_taken, is_refused}
 use Rattle.souper_graph.specs.Syntax.Spelling.{root_attribute_spells}

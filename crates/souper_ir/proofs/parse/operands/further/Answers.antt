@@ -4,7 +4,7 @@ use Rattle.souper_ir.specs.Reading.{fails_later}
 use Rattle.souper_ir.specs.Laws.FromReadings.{of_memory}
 use Rattle.souper_ir.specs.NodeReadings.{further_at}
 use Rattle.souper_ir.proofs.Nodes.Operands.{further_more, further_fails}
-use Rattle.souper_ir.specs.Errors.{error_of}
+use Rattle.souper_errors.specs.Errors.{error_of}
 use Rattle.souper_ir.proofs.parse.operands.further.Goals as goal
 
 pub loop-preserved : goal.loop-preserved

@@ -1,4 +1,4 @@
-use Rattle.souper_ir.specs.Errors.{widened}
+use Rattle.souper_errors.specs.Errors.{widened}
 use Rattle.souper_ir.specs.NodeReadings.{operand_at}
 use Rattle.souper_ir.specs.Parsing.{Parsing}
 use Rattle.souper_ir.specs.Reading.{Gives}

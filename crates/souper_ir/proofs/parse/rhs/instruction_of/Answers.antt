@@ -1,6 +1,6 @@
 use Rattle.std.proofs.Common.{[], ◌∷◌, refl, sym, ◌∙◌, arith}
 use Rattle.std.proofs.lemmas.Result.{err_from_is_err_and}
-use Rattle.souper_ir.specs.Errors.{error_of}
+use Rattle.souper_errors.specs.Errors.{error_of}
 use Rattle.souper_ir.specs.Words.{operand_count}
 use Rattle.souper_ir.proofs.Nodes.Operands.{operands_one, operands_more, instruction_of_read, takes_three, operand_fails, first_fails}
 use Rattle.souper_ir.proofs.parse.rhs.instruction_of.Goals as goal

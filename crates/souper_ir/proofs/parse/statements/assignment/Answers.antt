@@ -5,7 +5,7 @@ use Rattle.souper_graph.specs.Values.{PlainAssignment}
 use Rattle.souper_graph.specs.View.{view_rhs, view_attribute}
 use Rattle.souper_graph.specs.Syntax.Spelling.{assignment_spells}
 use Rattle.souper_ir.specs.Continuation.{assignment_continues}
-use Rattle.souper_ir.specs.Errors.{error_of}
+use Rattle.souper_errors.specs.Errors.{error_of}
 use Rattle.souper_ir.specs.Grammar.{Took}
 use Rattle.souper_ir.proofs.Nodes.Statements.{heading_refused, value_refused, attributes_refused, parts_taken}
 use Rattle.souper_ir.proofs.parse.statements.assignment.Goals as goal

@@ -2,7 +2,7 @@ use Rattle.std.proofs.Common.{List, map, refl, ap}
 use Rattle.std.proofs.lemmas.Result.{err_from_is_err_and}
 use Rattle.souper_graph.specs.declared.ast.attributes.Attribute.{Attribute}
 use Rattle.souper_graph.specs.View.{view_attribute}
-use Rattle.souper_ir.specs.Errors.{error_of}
+use Rattle.souper_errors.specs.Errors.{error_of}
 use Rattle.souper_ir.specs.Laws.Attributes.{attribute_rule, attribute_first}
 use Rattle.souper_ir.specs.Laws.FromReadings.{alone, is_taken, is_refused}
 use Rattle.souper_ir.proofs.Nodes.Ahead.{no_attributes}

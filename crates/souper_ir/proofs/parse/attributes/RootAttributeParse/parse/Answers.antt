@@ -1,7 +1,7 @@
 use Rattle.souper_graph.specs.View.{view_root_attribute}
 use Rattle.souper_ir.specs.Laws.Attributes.{root_attribute_rule}
 use Rattle.souper_ir.specs.Laws.FromReadings.{taken, refused}
-use Rattle.souper_ir.specs.Errors.{widened}
+use Rattle.souper_errors.specs.Errors.{widened}
 use Rattle.souper_ir.proofs.parse.attributes.RootAttributeParse.parse.Goals as goal
 
 pub returns-clause-ok : goal.returns-clause-ok

@@ -4,7 +4,7 @@ use Rattle.souper_graph.specs.declared.ast.items.LeftHandSide.{LeftHandSide}
 use Rattle.souper_graph.specs.View.{view_infer, view_left_hand_side}
 use Rattle.souper_graph.specs.Syntax.Spelling.{left_hand_side}
 use Rattle.souper_ir.proofs.Items.Steps.{item_taken, statements_refused, tail_refused, infer_tail, infer_tail_refused}
-use Rattle.souper_ir.specs.Errors.{error_of}
+use Rattle.souper_errors.specs.Errors.{error_of}
 use Rattle.souper_ir.specs.Stopping.{TailStops}
 use Rattle.souper_ir.proofs.Items.Stopping.{first_stops, last_stops}
 use Rattle.souper_ir.proofs.parse.item.LeftHandSideWholeItem.item.Goals as goal

@@ -6,7 +6,7 @@ use Rattle.souper_graph.specs.Syntax.Spelling.{replacement}
 use Rattle.souper_ir.specs.Laws.Statements.{result_rule}
 use Rattle.souper_ir.specs.Laws.FromReadings.{is_taken, is_refused}
 use Rattle.souper_ir.proofs.Items.Steps.{item_taken, statements_refused, tail_refused, look_refused, cand_tail, cand_tail_refused, root_refused, root_behind, middle_refused, last_refused, replaced_tail}
-use Rattle.souper_ir.specs.Errors.{error_of}
+use Rattle.souper_errors.specs.Errors.{error_of}
 use Rattle.souper_ir.specs.Stopping.{ResultStops, TailStops}
 use Rattle.souper_ir.proofs.Items.Stopping.{first_stops, last_stops, result_stops, word_stops, infer_stops, middle_stops, cand_stops}
 use Rattle.souper_ir.proofs.parse.item.ReplacementWholeItem.item.Goals as goal

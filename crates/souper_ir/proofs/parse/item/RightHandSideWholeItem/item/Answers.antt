@@ -6,7 +6,7 @@ use Rattle.souper_graph.specs.Syntax.Spelling.{right_hand_side}
 use Rattle.souper_ir.specs.Laws.Statements.{result_rule}
 use Rattle.souper_ir.specs.Laws.FromReadings.{is_taken, is_refused}
 use Rattle.souper_ir.proofs.Items.Steps.{item_taken, statements_refused, tail_refused, result_tail, result_tail_refused}
-use Rattle.souper_ir.specs.Errors.{error_of}
+use Rattle.souper_errors.specs.Errors.{error_of}
 use Rattle.souper_ir.specs.Stopping.{TailStops}
 use Rattle.souper_ir.proofs.Items.Stopping.{first_stops, last_stops, result_stops}
 use Rattle.souper_ir.proofs.parse.item.RightHandSideWholeItem.item.Goals as goal

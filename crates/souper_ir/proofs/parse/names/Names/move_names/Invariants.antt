@@ -1,6 +1,6 @@
 use Rattle.std.proofs.Common.{◌≡◌, ℕ, List, drop}
 use Rattle.souper_ir.specs.NamesView.{entry_in, entry_in_map}
-use Rattle.souper_ir.specs.TableView.{or_else, last_entry}
+use Rattle.souper_names.specs.TableView.{or_else, last_entry}
 use Rattle.souper_ir.proofs.parse.names.Names.move_names.Given as goal
 
 abbrev pub invariant-loop-index : goal.invariant-loop-index

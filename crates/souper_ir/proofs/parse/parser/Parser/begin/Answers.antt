@@ -1,9 +1,8 @@
-use Rattle.std.proofs.Common.{◌≡◌, Some, None, Ok, sym, ap, subst}
+use Rattle.std.proofs.Common.{◌≡◌, Some, None, refl, sym, subst}
 use Rattle.std.specs.Prelude.{map}
 use Rattle.souper_graph.specs.View.{view_statement}
 use Rattle.souper_graph.specs.Syntax.Spelling.{position_of}
-use Rattle.souper_ir.specs.Errors.{error_of, at_end_of}
-use Rattle.souper_ir.specs.NodeReadings.{new_name_at}
+use Rattle.souper_errors.specs.Errors.{error_of, at_end_of}
 use Rattle.souper_ir.specs.Parsing.{Parsing}
 use Rattle.souper_ir.specs.Reading.{cause_of}
 use Rattle.souper_ir.proofs.Nodes.Failing.{refused_for}
@@ -20,9 +19,8 @@ pub returns-clause-begun : goal.returns-clause-begun
 returns-clause-begun c =
     let live = live_inside c.self.inside.failed (subst (λ (p : Parsing). p.failed ≡ None) (sym c.self.view_is) c.requires) in
     let new = is_new_in_table c.self.inside.names (map view_statement c.self.inside.statements) c.args.name.now c.find-entry.result.0 (c.self.invariant.names live) (c.find-entry.ensures.table c.if-slot.false) c.find-entry.ensures.entry (sym c.if-is_some.ensures) in (
-      subst (λ (q : Parsing). new_name_at c.args.name.now c.args.self.now ≡ Ok (tt, q)) (sym c.self.view_is)
-          (begun c.args.name.now c.args.self.now (subst (λ (p : Parsing). position_of p.scope c.args.name.now ≡ None) c.self.view_is new)),
+      begun c.args.name.now c.args.self.now (subst (λ (p : Parsing). position_of p.scope c.args.name.now ≡ None) c.self.view_is new),
       c.requires,
-      subst (λ (p : Parsing). p.failed ≡ None) (sym c.self.view_is) c.requires,
-      ap (λ (p : Parsing). p.len) c.self.view_is,
+      c.requires,
+      refl,
     )

@@ -3,8 +3,8 @@ use Rattle.std.specs.Prelude.{is_some, map}
 use Rattle.std.proofs.lemmas.List.{length-map}
 use Rattle.souper_graph.specs.View.{view_statement}
 use Rattle.souper_graph.specs.Syntax.Spelling.{position_of}
-use Rattle.souper_ir.specs.Errors.{error_of, at_end_of}
-use Rattle.souper_ir.specs.TableView.{NameEntry}
+use Rattle.souper_errors.specs.Errors.{error_of, at_end_of}
+use Rattle.souper_names.specs.TableView.{NameEntry}
 use Rattle.souper_ir.specs.NodeReadings.{new_name_at}
 use Rattle.souper_ir.specs.Parsing.{Parsing}
 use Rattle.souper_ir.specs.Reading.{cause_of}
@@ -54,7 +54,7 @@ invariant_of-self c = record {
       let are = c.self.invariant.names live in
       let new = is_new c.self.inside.names (map view_statement c.self.inside.statements) c.args.name.now None are (sym (sym c.in-Ok-None.field-0-is ∙ c.in-Ok-None.ensures.replaced)) refl in
       begin_in_map c.self.inside.names c.put_into_map.new.self (map view_statement c.self.inside.statements) c.args.name.now are new c.in-Ok-None.ensures.table
-      (rw (length-map c.self.inside.statements view_statement, sym c.next_id.ensures, sym c.into-next.ensures) c.in-Ok-None.ensures.entered) c.in-Ok-None.ensures.last;
+      (rw (length-map c.self.inside.statements view_statement, sym c.len-next.ensures) c.in-Ok-None.ensures.entered) c.in-Ok-None.ensures.last;
 }
 
 pub invariant_of-self-else-is_some : goal.invariant_of-self-else-is_some
@@ -65,5 +65,5 @@ invariant_of-self-else-is_some c = record {
       let are = c.self.invariant.names live in
       let new = is_new c.self.inside.names (map view_statement c.self.inside.statements) c.args.name.now c.in-Ok.replaced are (sym c.in-Ok.ensures.replaced) (sym (c.if-is_some.ensures ∙ ap (λ (o : Option NameEntry). is_some o) c.in_scope.ensures)) in
       begin_in_map c.self.inside.names c.put_into_map.new.self (map view_statement c.self.inside.statements) c.args.name.now are new c.in-Ok.ensures.table
-      (rw (length-map c.self.inside.statements view_statement, sym c.next_id.ensures, sym c.into-next.ensures) c.in-Ok.ensures.entered) c.in-Ok.ensures.last;
+      (rw (length-map c.self.inside.statements view_statement, sym c.len-next.ensures) c.in-Ok.ensures.entered) c.in-Ok.ensures.last;
 }

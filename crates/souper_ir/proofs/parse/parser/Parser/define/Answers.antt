@@ -13,6 +13,6 @@ invariant_of-self-in-Ok-enter c = record {
       (c.self.invariant.names live)
       (rw c.requires.named (subst (λ (p : Parsing). position_of p.scope c.args.name.now ≡ None) (sym c.self.view_is) c.requires.fresh))
       (sym c.requires.named)
-      (c.into-value.ensures ∙ c.in-Ok.ensures.position ∙ sym (length-map c.self.inside.statements view_statement))
+      (c.index.ensures ∙ c.in-Ok.ensures.position ∙ sym (length-map c.self.inside.statements view_statement))
       c.predecessors_of-predecessors.ensures);
 }

@@ -4,7 +4,7 @@ use Rattle.souper_graph.specs.View.{view_statement}
 use Rattle.souper_graph.specs.Syntax.Spelling.{entry_of}
 use Rattle.souper_ir.specs.NamesView.{entry_in_scope, entry_in_map}
 use Rattle.souper_ir.specs.Parsing.{Parsing}
-use Rattle.souper_ir.specs.TableView.{NameEntry}
+use Rattle.souper_names.specs.TableView.{NameEntry}
 use Rattle.souper_ir.proofs.Scope.Entered.{found_in_table, found_in_map, live_inside}
 use Rattle.souper_ir.proofs.parse.parser.Parser.entry.Goals as goal
 

@@ -2,7 +2,7 @@ use Rattle.std.proofs.Common.{refl, ap, sym, ◌∙◌}
 use Rattle.souper_ir.specs.Parsing.{Parsing}
 use Rattle.souper_ir.specs.Reading.{cause_of}
 use Rattle.souper_ir.proofs.Nodes.Failing.{refused_fails, refused_for}
-use Rattle.souper_ir.specs.Errors.{error_of}
+use Rattle.souper_errors.specs.Errors.{error_of}
 use Rattle.souper_ir.proofs.parse.parser.Parser.fail_at.Goals as goal
 
 pub returns-in-Ok : goal.returns-in-Ok

@@ -1,6 +1,6 @@
 use Rattle.souper_ir.specs.Laws.RightSides.{instruction_rule}
 use Rattle.souper_ir.specs.Laws.FromReadings.{taken, refused}
-use Rattle.souper_ir.specs.Errors.{widened}
+use Rattle.souper_errors.specs.Errors.{widened}
 use Rattle.souper_ir.proofs.parse.rhs.InstructionParse.parse.Goals as goal
 
 pub returns-clause-ok : goal.returns-clause-ok

@@ -1,7 +1,7 @@
 use Rattle.souper_graph.specs.View.{view_phi}
 use Rattle.souper_ir.specs.Laws.RightSides.{phi_rule}
 use Rattle.souper_ir.specs.Laws.FromReadings.{taken, refused}
-use Rattle.souper_ir.specs.Errors.{widened}
+use Rattle.souper_errors.specs.Errors.{widened}
 use Rattle.souper_ir.proofs.parse.rhs.PhiParse.parse.Goals as goal
 
 pub returns-clause-ok : goal.returns-clause-ok

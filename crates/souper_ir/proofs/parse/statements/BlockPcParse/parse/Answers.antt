@@ -1,6 +1,6 @@
 use Rattle.souper_ir.specs.Laws.Statements.{block_pc_rule}
 use Rattle.souper_ir.specs.Laws.FromReadings.{taken, refused}
-use Rattle.souper_ir.specs.Errors.{widened}
+use Rattle.souper_errors.specs.Errors.{widened}
 use Rattle.souper_ir.proofs.parse.statements.BlockPcParse.parse.Goals as goal
 
 pub returns-clause-ok : goal.returns-clause-ok

@@ -4,7 +4,7 @@ use Rattle.souper_graph.specs.View.{view_assignment}
 use Rattle.souper_ir.specs.NodeReadings.{is_word}
 use Rattle.souper_ir.proofs.Nodes.Statements.{Refuses, peek_refused, pc_taken, pc_refused, passed, block_pc_taken, block_pc_refused, Takes_it, assignment_taken, assignment_refused}
 use Rattle.souper_graph.specs.Values.{block_condition}
-use Rattle.souper_ir.specs.Errors.{error_of}
+use Rattle.souper_errors.specs.Errors.{error_of}
 use Rattle.souper_ir.proofs.parse.statements.StatementParse.parse.Goals as goal
 
 pub returns-in_err-word_comes-clause-err : goal.returns-in_err-word_comes-clause-err

@@ -2,7 +2,7 @@ use Rattle.std.proofs.lemmas.Result.{err_from_is_err_and}
 use Rattle.std.proofs.Common.{map}
 use Rattle.souper_ir.proofs.Nodes.Lists.{peek_refused, member_refused, one_more, behind_peek, shorter, ends, memory_ends}
 use Rattle.souper_ir.specs.Laws.FromReadings.{of_memory}
-use Rattle.souper_ir.specs.Errors.{error_of}
+use Rattle.souper_errors.specs.Errors.{error_of}
 use Rattle.souper_ir.proofs.parse.traits.VecParse.parse.Goals as goal
 
 pub returns-in_err-peek-clause-err : goal.returns-in_err-peek-clause-err

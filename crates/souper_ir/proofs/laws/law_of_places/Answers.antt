@@ -1,5 +1,0 @@
-use Rattle.souper_ir.proofs.Shown.OnePlace.{one_place}
-use Rattle.souper_ir.proofs.laws.law_of_places.Goals as goal
-
-pub returns : goal.returns
-returns c = one_place

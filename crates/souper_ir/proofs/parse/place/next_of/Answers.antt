@@ -1,5 +1,0 @@
-use Rattle.souper_ir.proofs.Shown.After.{place_next}
-use Rattle.souper_ir.proofs.parse.place.next_of.Goals as goal
-
-pub returns-clause-place : goal.returns-clause-place
-returns-clause-place c = place_next c.requires.line c.line_of-found.ensures.place

@@ -1,0 +1,2 @@
+pub mod HashView
+pub mod TableView
