@@ -1,12 +1,12 @@
 //! Builders of left-hand sides and of replacements. Each call is made when the arena is full.
+use crate::cases::Cases;
 use crate::growing::{Call, holds, lines, name, number};
-use crate::met::{Met, strictly};
+use crate::met::Met;
 use souper_ir::ast::{
     AssignmentRhs, Item, LeftHandSide, LeftHandSideBuilder, Replacement, ReplacementBuilder,
 };
 use std::alloc::{AllocError, Global};
-use std::process::Abort;
-use std::test::Fail;
+use std::io;
 
 // The item after the call, and whether the call succeeded. The builder has a block and three conditions, which fill the arena.
 fn left_hand_side(alloc: Global, call: Call) -> Result<(LeftHandSide, bool), AllocError> {
@@ -51,82 +51,71 @@ fn replacement(alloc: Global, call: Call) -> Result<(Replacement, bool), AllocEr
 
 // The item, if it was built, has the statement of the call if that was appended.
 fn appended<I: Item + Drop>(
-    rt: &impl Abort,
     alloc: Global,
     call: Call,
     built: Result<(I, bool), AllocError>,
-) -> Result<(), Fail> {
-    let met = match built {
-        Ok((item, has_grown)) => holds(rt, alloc, item.statements(), &lines(call), has_grown)?,
-        Err(_) => Met::Unreached,
-    };
-    strictly(met)
+) -> anyhow::Result<Met> {
+    match built {
+        Ok((item, has_grown)) => holds(alloc, item.statements(), &lines(call), has_grown),
+        Err(_) => Ok(Met::Unreached),
+    }
 }
 
-fn left_hand_side_with(rt: &impl Abort, alloc: Global, call: Call) -> Result<(), Fail> {
-    appended(rt, alloc, call, left_hand_side(alloc, call))
+fn left_hand_side_with(alloc: Global, call: Call) -> anyhow::Result<Met> {
+    appended(alloc, call, left_hand_side(alloc, call))
 }
 
-fn replacement_with(rt: &impl Abort, alloc: Global, call: Call) -> Result<(), Fail> {
-    appended(rt, alloc, call, replacement(alloc, call))
+fn replacement_with(alloc: Global, call: Call) -> anyhow::Result<Met> {
+    appended(alloc, call, replacement(alloc, call))
 }
 
-#[test]
-fn putting_a_named_assignment_into_a_left_hand_side(rt: HostRuntime) -> Result<(), Fail> {
-    left_hand_side_with(&rt, rt.alloc(), Call::NamedAssignment)
+/// The cases of left-hand sides.
+pub fn left_hand_sides(cases: &mut Cases<'_>) -> io::Result<()> {
+    cases.run(
+        "putting_a_named_assignment_into_a_left_hand_side",
+        |alloc| { left_hand_side_with(alloc, Call::NamedAssignment) },
+    )?;
+    cases.run(
+        "putting_an_unnamed_assignment_into_a_left_hand_side",
+        |alloc| { left_hand_side_with(alloc, Call::UnnamedAssignment) },
+    )?;
+    cases.run("putting_a_named_block_into_a_left_hand_side", |alloc| {
+        left_hand_side_with(alloc, Call::NamedBlock)
+    })?;
+    cases.run("putting_an_unnamed_block_into_a_left_hand_side", |alloc| {
+        left_hand_side_with(alloc, Call::UnnamedBlock)
+    })?;
+    cases.run("putting_a_condition_into_a_left_hand_side", |alloc| {
+        left_hand_side_with(alloc, Call::Condition)
+    })?;
+    cases.run(
+        "putting_a_condition_on_a_predecessor_into_a_left_hand_side",
+        |alloc| { left_hand_side_with(alloc, Call::ConditionOnPredecessor) },
+    )?;
+    Ok(())
 }
 
-#[test]
-fn putting_an_unnamed_assignment_into_a_left_hand_side(rt: HostRuntime) -> Result<(), Fail> {
-    left_hand_side_with(&rt, rt.alloc(), Call::UnnamedAssignment)
-}
-
-#[test]
-fn putting_a_named_block_into_a_left_hand_side(rt: HostRuntime) -> Result<(), Fail> {
-    left_hand_side_with(&rt, rt.alloc(), Call::NamedBlock)
-}
-
-#[test]
-fn putting_an_unnamed_block_into_a_left_hand_side(rt: HostRuntime) -> Result<(), Fail> {
-    left_hand_side_with(&rt, rt.alloc(), Call::UnnamedBlock)
-}
-
-#[test]
-fn putting_a_condition_into_a_left_hand_side(rt: HostRuntime) -> Result<(), Fail> {
-    left_hand_side_with(&rt, rt.alloc(), Call::Condition)
-}
-
-#[test]
-fn putting_a_condition_on_a_predecessor_into_a_left_hand_side(rt: HostRuntime) -> Result<(), Fail> {
-    left_hand_side_with(&rt, rt.alloc(), Call::ConditionOnPredecessor)
-}
-
-#[test]
-fn putting_a_named_assignment_into_a_replacement(rt: HostRuntime) -> Result<(), Fail> {
-    replacement_with(&rt, rt.alloc(), Call::NamedAssignment)
-}
-
-#[test]
-fn putting_an_unnamed_assignment_into_a_replacement(rt: HostRuntime) -> Result<(), Fail> {
-    replacement_with(&rt, rt.alloc(), Call::UnnamedAssignment)
-}
-
-#[test]
-fn putting_a_named_block_into_a_replacement(rt: HostRuntime) -> Result<(), Fail> {
-    replacement_with(&rt, rt.alloc(), Call::NamedBlock)
-}
-
-#[test]
-fn putting_an_unnamed_block_into_a_replacement(rt: HostRuntime) -> Result<(), Fail> {
-    replacement_with(&rt, rt.alloc(), Call::UnnamedBlock)
-}
-
-#[test]
-fn putting_a_condition_into_a_replacement(rt: HostRuntime) -> Result<(), Fail> {
-    replacement_with(&rt, rt.alloc(), Call::Condition)
-}
-
-#[test]
-fn putting_a_condition_on_a_predecessor_into_a_replacement(rt: HostRuntime) -> Result<(), Fail> {
-    replacement_with(&rt, rt.alloc(), Call::ConditionOnPredecessor)
+/// The cases of replacements.
+pub fn replacements(cases: &mut Cases<'_>) -> io::Result<()> {
+    cases.run("putting_a_named_assignment_into_a_replacement", |alloc| {
+        replacement_with(alloc, Call::NamedAssignment)
+    })?;
+    cases.run(
+        "putting_an_unnamed_assignment_into_a_replacement",
+        |alloc| { replacement_with(alloc, Call::UnnamedAssignment) },
+    )?;
+    cases.run("putting_a_named_block_into_a_replacement", |alloc| {
+        replacement_with(alloc, Call::NamedBlock)
+    })?;
+    cases.run("putting_an_unnamed_block_into_a_replacement", |alloc| {
+        replacement_with(alloc, Call::UnnamedBlock)
+    })?;
+    cases.run("putting_a_condition_into_a_replacement", |alloc| {
+        replacement_with(alloc, Call::Condition)
+    })?;
+    cases.run(
+        "putting_a_condition_on_a_predecessor_into_a_replacement",
+        |alloc| { replacement_with(alloc, Call::ConditionOnPredecessor) },
+    )?;
+    Ok(())
 }

@@ -1,10 +1,12 @@
 //! Files that are read, and files that are compared. The writers are arrays, which do not allocate.
-use crate::met::{Met, completed, completed_if, equal, strictly};
+use crate::cases::Cases;
+use crate::met::{Met, completed, completed_if, equal};
 use crate::runs::{holds, wrote};
 use crate::texts::{
     ATTRIBUTES, TWO_ITEMS, are_attributes, are_two_items, is_out_of_memory, is_refusal, is_text,
     right_hand_side_text, shown,
 };
+use anyhow::{Context, Result, anyhow, bail};
 use souper_format::command::Kind;
 use souper_format::same_run::same_run;
 use souper_format::watched::Watched;
@@ -14,19 +16,17 @@ use souper_ir::parse::{
     parse_right_hand_sides_file,
 };
 use std::alloc::Global;
-use std::process::Abort;
 use std::rt::Files;
-use std::test::Fail;
 use std::{fs, io};
 
 // The error is out of memory, or a failed read.
-fn is_for_memory(rt: &impl Abort, alloc: Global, error: &ParseError) -> Result<Met, Fail> {
+fn is_for_memory(alloc: Global, error: &ParseError) -> Result<Met> {
     if error.kind() != ParseErrorKind::Io {
-        return is_out_of_memory(rt, alloc, error);
+        return is_out_of_memory(alloc, error);
     }
-    equal(rt, error.offset(), None);
+    equal(error.offset(), None)?;
     let text = shown(alloc, error)?;
-    equal(rt, text.as_str().starts_with("IO error: "), true);
+    equal(text.as_str().starts_with("IO error: "), true)?;
     Ok(Met::Refused)
 }
 
@@ -37,62 +37,47 @@ fn write<R: Files + AllocGlobal>(rt: &R, path: &str, text: &str) -> io::Result<(
 }
 
 // Reads the item with attributes.
-fn attributes<R: Files + AllocGlobal + Abort>(rt: &R, alloc: Global) -> Result<Met, Fail> {
+fn attributes<R: Files + AllocGlobal>(rt: &R, alloc: Global) -> Result<Met> {
     let Ok(()) = write(rt, "out/attributes", ATTRIBUTES) else {
         return Ok(Met::Unreached);
     };
     match parse_left_hand_sides_file(rt, alloc, "out/attributes") {
-        Ok(items) => are_attributes(rt, alloc, items.as_slice()),
-        Err(error) => is_for_memory(rt, alloc, &error),
+        Ok(items) => are_attributes(alloc, items.as_slice()),
+        Err(error) => is_for_memory(alloc, &error),
     }
 }
 
-#[test]
-fn reading_left_hand_sides(rt: HostRuntime) -> Result<(), Fail> {
-    strictly(attributes(&rt, rt.alloc())?)
-}
-
 // Reads two results.
-fn results<R: Files + AllocGlobal + Abort>(rt: &R, alloc: Global) -> Result<Met, Fail> {
+fn results<R: Files + AllocGlobal>(rt: &R, alloc: Global) -> Result<Met> {
     let Ok(()) = write(rt, "out/results", "result 1\nresult 2") else {
         return Ok(Met::Unreached);
     };
     match parse_right_hand_sides_file(rt, alloc, "out/results") {
-        Ok(items) => are_results(rt, alloc, items.as_slice()),
-        Err(error) => is_for_memory(rt, alloc, &error),
+        Ok(items) => are_results(alloc, items.as_slice()),
+        Err(error) => is_for_memory(alloc, &error),
     }
 }
 
 // A call just returned the two results.
-fn are_results(rt: &impl Abort, alloc: Global, items: &[RightHandSide]) -> Result<Met, Fail> {
+fn are_results(alloc: Global, items: &[RightHandSide]) -> Result<Met> {
     let met = completed(alloc);
     let [first, second] = items else {
-        return Err(Fail::new("not two items"));
+        bail!("not two items");
     };
-    is_text(rt, right_hand_side_text(first), "result 1")?;
-    is_text(rt, right_hand_side_text(second), "result 2")?;
+    is_text(right_hand_side_text(first), "result 1")?;
+    is_text(right_hand_side_text(second), "result 2")?;
     Ok(met)
 }
 
-#[test]
-fn reading_right_hand_sides(rt: HostRuntime) -> Result<(), Fail> {
-    strictly(results(&rt, rt.alloc())?)
-}
-
 // Reads the two items.
-fn two_items<R: Files + AllocGlobal + Abort>(rt: &R, alloc: Global) -> Result<Met, Fail> {
+fn two_items<R: Files + AllocGlobal>(rt: &R, alloc: Global) -> Result<Met> {
     let Ok(()) = write(rt, "out/two_items", TWO_ITEMS) else {
         return Ok(Met::Unreached);
     };
     match parse_replacements_file(rt, alloc, "out/two_items") {
-        Ok(items) => are_two_items(rt, alloc, items.as_slice()),
-        Err(error) => is_for_memory(rt, alloc, &error),
+        Ok(items) => are_two_items(alloc, items.as_slice()),
+        Err(error) => is_for_memory(alloc, &error),
     }
-}
-
-#[test]
-fn reading_replacements(rt: HostRuntime) -> Result<(), Fail> {
-    strictly(two_items(&rt, rt.alloc())?)
 }
 
 const REFUSED: &str = "infer %x";
@@ -101,27 +86,22 @@ const REFUSAL: &str =
     "out/refused:1:6: no value named '%x' in scope\n     |\n   1 | infer %x\n     |      ^\n";
 
 // Refuses a text, and shows the path.
-fn refusal<R: Files + AllocGlobal + Abort>(rt: &R, alloc: Global) -> Result<Met, Fail> {
+fn refusal<R: Files + AllocGlobal>(rt: &R, alloc: Global) -> Result<Met> {
     let Ok(()) = write(rt, "out/refused", REFUSED) else {
         return Ok(Met::Unreached);
     };
     match parse_left_hand_sides_file(rt, alloc, "out/refused") {
-        Ok(_) => Err(Fail::new("a name is unknown")),
-        Err(error) => is_unknown_name(rt, alloc, &error),
+        Ok(_) => Err(anyhow!("a name is unknown")),
+        Err(error) => is_unknown_name(alloc, &error),
     }
 }
 
-fn is_unknown_name(rt: &impl Abort, alloc: Global, error: &ParseError) -> Result<Met, Fail> {
+fn is_unknown_name(alloc: Global, error: &ParseError) -> Result<Met> {
     if error.kind() != ParseErrorKind::Parse {
-        return is_for_memory(rt, alloc, error);
+        return is_for_memory(alloc, error);
     }
-    let want = REFUSAL.strip_suffix("\n").ok_or("no newline")?;
-    is_refusal(rt, alloc, error, 6, want)
-}
-
-#[test]
-fn refusing_a_file(rt: HostRuntime) -> Result<(), Fail> {
-    strictly(refusal(&rt, rt.alloc())?)
+    let want = REFUSAL.strip_suffix("\n").context("no newline")?;
+    is_refusal(alloc, error, 6, want)
 }
 
 const FIRST: &str = "%b = var\n%a = var\n%c = add %a, %b\ninfer %c";
@@ -129,28 +109,28 @@ const FIRST: &str = "%b = var\n%a = var\n%c = add %a, %b\ninfer %c";
 const SECOND: &str = "%a = var\n%b = var\n%c = add %a, %b\ninfer %c";
 
 // Compares two files, which ends in this status with these bytes, or in out of memory.
-fn compare<R: Files + AllocGlobal + Abort>(
+fn compare<R: Files + AllocGlobal>(
     rt: &R,
     alloc: Global,
     (first, second): (&str, &str),
     want: u8,
     output: &[u8],
     line: &[u8],
-) -> Result<Met, Fail> {
+) -> Result<Met> {
     let mut written = [0u8; 100];
     let mut reported = [0u8; 100];
     let mut out = Watched::new(written.as_mut_slice());
     let mut err = Watched::new(reported.as_mut_slice());
     let status = same_run(rt, alloc, Kind::Lhs, first, second, &mut out, &mut err);
     let met = completed_if(alloc, status == want);
-    equal(rt, (out.failed(), err.failed()), (false, false));
+    equal((out.failed(), err.failed()), (false, false))?;
     if status == want {
-        wrote(rt, &written, output);
-        wrote(rt, &reported, line);
+        wrote(&written, output)?;
+        wrote(&reported, line)?;
     } else {
-        equal(rt, status, 3);
-        wrote(rt, &written, b"");
-        equal(rt, is_line_for_memory(&reported), true);
+        equal(status, 3)?;
+        wrote(&written, b"")?;
+        equal(is_line_for_memory(&reported), true)?;
     }
     Ok(met)
 }
@@ -161,7 +141,7 @@ fn is_line_for_memory(array: &[u8]) -> bool {
 }
 
 // Files that differ in the order of their definitions.
-fn comparison<R: Files + AllocGlobal + Abort>(rt: &R, alloc: Global) -> Result<Met, Fail> {
+fn comparison<R: Files + AllocGlobal>(rt: &R, alloc: Global) -> Result<Met> {
     let Ok(()) = write(rt, "out/first", FIRST) else {
         return Ok(Met::Unreached);
     };
@@ -171,13 +151,8 @@ fn comparison<R: Files + AllocGlobal + Abort>(rt: &R, alloc: Global) -> Result<M
     compare(rt, alloc, ("out/first", "out/second"), 0, b"same\n", b"")
 }
 
-#[test]
-fn comparing_files(rt: HostRuntime) -> Result<(), Fail> {
-    strictly(comparison(&rt, rt.alloc())?)
-}
-
 // Files of which the second is refused.
-fn refused_comparison<R: Files + AllocGlobal + Abort>(rt: &R, alloc: Global) -> Result<Met, Fail> {
+fn refused_comparison<R: Files + AllocGlobal>(rt: &R, alloc: Global) -> Result<Met> {
     let Ok(()) = write(rt, "out/first", FIRST) else {
         return Ok(Met::Unreached);
     };
@@ -194,7 +169,17 @@ fn refused_comparison<R: Files + AllocGlobal + Abort>(rt: &R, alloc: Global) -> 
     )
 }
 
-#[test]
-fn reporting_a_refused_file(rt: HostRuntime) -> Result<(), Fail> {
-    strictly(refused_comparison(&rt, rt.alloc())?)
+/// The cases of this file.
+pub fn all(cases: &mut Cases<'_>) -> io::Result<()> {
+    let rt = cases.rt;
+    cases.run("reading_left_hand_sides", |alloc| attributes(rt, alloc))?;
+    cases.run("reading_right_hand_sides", |alloc| results(rt, alloc))?;
+    cases.run("reading_replacements", |alloc| two_items(rt, alloc))?;
+    cases.run("refusing_a_file", |alloc| refusal(rt, alloc))?;
+    cases.run("comparing_files", |alloc| comparison(rt, alloc))?;
+    cases.run(
+        "reporting_a_refused_file",
+        |alloc| refused_comparison(rt, alloc),
+    )?;
+    Ok(())
 }

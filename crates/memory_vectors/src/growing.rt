@@ -2,13 +2,14 @@
 ghost use Rattle.std.specs.Prelude.{IfOk};
 ghost use Rattle.souper_graph.specs.Building.{BeginsWithPercent};
 
-use crate::met::{Met, completed_if, equal, strictly};
+use crate::cases::Cases;
+use crate::met::{Met, completed_if, equal};
 use crate::texts::is_text;
+use anyhow::{Context, Result};
 use souper_ir::ast::{Arena, Constant, Operand, Pc, Statement, Type};
 use souper_ir::stringify::{DisplayWithContext, TextError};
 use std::alloc::{AllocError, Global};
-use std::process::Abort;
-use std::test::Fail;
+use std::io;
 
 /// A constant without a type.
 pub fn number(value: i128) -> Operand {
@@ -41,17 +42,16 @@ fn line(
 /// A call just grew the arena, or did not. It has the statements with these lines, and the one of the last line if the
 /// call appended it.
 pub fn holds(
-    rt: &impl Abort,
     alloc: Global,
     statements: &Arena<Statement>,
     lines: &[&str; 5],
     has_grown: bool,
-) -> Result<Met, Fail> {
+) -> Result<Met> {
     let met = completed_if(alloc, has_grown);
-    equal(rt, statements.len(), if has_grown { 5 } else { 4 });
+    equal(statements.len(), if has_grown { 5 } else { 4 })?;
     for (id, statement) in statements.iter() {
-        let want = lines.get(id.index()).ok_or("no such line")?;
-        is_text(rt, line(alloc, statements, statement), want)?;
+        let want = lines.get(id.index()).context("no such line")?;
+        is_text(line(alloc, statements, statement), want)?;
     }
     Ok(met)
 }
@@ -115,16 +115,17 @@ fn filled(alloc: Global) -> Result<Arena<Statement>, AllocError> {
 }
 
 // Grows an arena by a statement.
-fn arena(rt: &impl Abort, alloc: Global) -> Result<Met, Fail> {
+fn arena(alloc: Global) -> Result<Met> {
     let Ok(mut statements) = filled(alloc) else {
         return Ok(Met::Unreached);
     };
     let has_grown = statements.alloc(condition(4)).is_ok();
     let lines = ["pc 0 0\n", "pc 1 1\n", "pc 2 2\n", "pc 3 3\n", "pc 4 4\n"];
-    holds(rt, alloc, &statements, &lines, has_grown)
+    holds(alloc, &statements, &lines, has_grown)
 }
 
-#[test]
-fn growing_an_arena(rt: HostRuntime) -> Result<(), Fail> {
-    strictly(arena(&rt, rt.alloc())?)
+/// The cases of this file.
+pub fn all(cases: &mut Cases<'_>) -> io::Result<()> {
+    cases.run("growing_an_arena", arena)?;
+    Ok(())
 }

@@ -1,8 +1,8 @@
-//! What became of a call while one allocation failed.
+//! What became of a call while one allocation failed, and comparisons.
+use anyhow::{Result, anyhow};
 use std::alloc::Global;
+use std::fmt;
 use std::fmt::Debug;
-use std::process::Abort;
-use std::test::Fail;
 
 /// What became of a call whose result was allowed.
 #[derive(Clone, Copy)]
@@ -15,6 +15,17 @@ pub enum Met {
     Completed,
     /// The same, and the allocation that fails is the next one after the call's.
     NoneRefused,
+}
+
+impl fmt::Display for Met {
+    fn fmt<W: fmt::Write>(&self, f: &mut fmt::Formatter<W>) -> fmt::Result {
+        f.write_str(match self {
+            Met::Unreached => "not reached",
+            Met::Refused => "refused memory",
+            Met::Completed => "completed",
+            Met::NoneRefused => "refused nothing",
+        })
+    }
 }
 
 /// The call just returned its result with ample memory.
@@ -34,16 +45,10 @@ pub fn completed_if(alloc: Global, has_completed: bool) -> Met {
     }
 }
 
-pub fn equal<T: Copy + PartialEq + Debug>(rt: &impl Abort, found: T, want: T) {
-    assert_eq!(rt; found, want);
-}
-
-/// Passes only for the result with ample memory, and reports to the script why not.
-pub fn strictly(met: Met) -> Result<(), Fail> {
-    match met {
-        Met::Completed => Ok(()),
-        Met::Unreached => Err(Fail::new("call not reached")),
-        Met::Refused => Err(Fail::new("call refused memory")),
-        Met::NoneRefused => Err(Fail::new("call refused nothing")),
+/// An error that shows both values if they are not equal.
+pub fn equal<T: Copy + PartialEq + Debug>(found: T, want: T) -> Result<()> {
+    if found == want {
+        return Ok(());
     }
+    Err(anyhow!("want {want:?}").context(format_args!("found {found:?}")))
 }

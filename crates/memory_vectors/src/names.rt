@@ -1,12 +1,13 @@
 //! Items whose names make the parser's table of names grow, or leave it.
-use crate::met::{Met, completed_if, equal, strictly};
+use crate::cases::Cases;
+use crate::met::{Met, completed_if, equal};
 use crate::parsers::stays_failed;
 use crate::texts::is_out_of_memory;
+use anyhow::Result;
 use souper_ir::ast::LeftHandSide;
 use souper_ir::parse::{Parse, Parser};
 use std::alloc::Global;
-use std::process::Abort;
-use std::test::Fail;
+use std::io;
 
 // 66 names: the table grows with the 65th.
 const MANY: &str = "\
@@ -38,26 +39,26 @@ const OF_ONE_SLOT: &str = "\
 infer %a_name_that_starts_as_q_and_that_ends_as_all_the_others";
 
 // Takes the item, which has this number of statements.
-fn item(rt: &impl Abort, alloc: Global, text: &str, statements: usize) -> Result<Met, Fail> {
+fn item(alloc: Global, text: &str, statements: usize) -> Result<Met> {
     let mut parser = Parser::new(alloc, text);
     let found = LeftHandSide::parse(&mut parser);
     let met = completed_if(alloc, found.is_ok());
     match found {
-        Ok(item) => equal(rt, item.statements.len(), statements),
+        Ok(item) => equal(item.statements.len(), statements)?,
         Err(error) => {
-            is_out_of_memory(rt, alloc, &error)?;
-            stays_failed(rt, alloc, &mut parser)?;
+            is_out_of_memory(alloc, &error)?;
+            stays_failed(alloc, &mut parser)?;
         }
     }
     Ok(met)
 }
 
-#[test]
-fn taking_many_names(rt: HostRuntime) -> Result<(), Fail> {
-    strictly(item(&rt, rt.alloc(), MANY, 66)?)
-}
-
-#[test]
-fn taking_names_of_one_slot(rt: HostRuntime) -> Result<(), Fail> {
-    strictly(item(&rt, rt.alloc(), OF_ONE_SLOT, 17)?)
+/// The cases of this file.
+pub fn all(cases: &mut Cases<'_>) -> io::Result<()> {
+    cases.run("taking_many_names", |alloc| item(alloc, MANY, 66))?;
+    cases.run(
+        "taking_names_of_one_slot",
+        |alloc| item(alloc, OF_ONE_SLOT, 17),
+    )?;
+    Ok(())
 }

@@ -1,13 +1,14 @@
 //! Texts that are read.
-use crate::met::{Met, completed, equal, strictly};
+use crate::cases::Cases;
+use crate::met::{Met, completed, equal};
+use anyhow::{Result, anyhow, bail};
 use souper_ir::ast::{LeftHandSide, Replacement, RightHandSide};
 use souper_ir::parse::{
     ParseError, ParseErrorKind, parse_left_hand_sides_str, parse_replacements_str,
 };
 use souper_ir::stringify::TextError;
 use std::alloc::Global;
-use std::process::Abort;
-use std::test::Fail;
+use std::io;
 
 /// Two items, with a condition, phis and types.
 pub const TWO_ITEMS: &str =
@@ -52,7 +53,7 @@ pub fn right_hand_side_text(item: &RightHandSide) -> Result<String, TextError> {
 }
 
 /// The text that the error shows, likewise.
-pub fn shown(alloc: Global, error: &ParseError) -> Result<String, Fail> {
+pub fn shown(alloc: Global, error: &ParseError) -> Result<String> {
     match error.to_string(alloc) {
         Ok(text) => Ok(text),
         Err(_) => Ok(error.to_string(alloc)?),
@@ -60,111 +61,98 @@ pub fn shown(alloc: Global, error: &ParseError) -> Result<String, Fail> {
 }
 
 /// There is a text, which is this one.
-pub fn is_text(rt: &impl Abort, found: Result<String, TextError>, want: &str) -> Result<(), Fail> {
+pub fn is_text(found: Result<String, TextError>, want: &str) -> Result<()> {
     let text = found?;
-    equal(rt, text.as_str(), want);
+    equal(text.as_str(), want)?;
     Ok(())
 }
 
 /// The error shows this text.
-pub fn shows(rt: &impl Abort, alloc: Global, error: &ParseError, want: &str) -> Result<(), Fail> {
+pub fn shows(alloc: Global, error: &ParseError, want: &str) -> Result<()> {
     let text = shown(alloc, error)?;
-    equal(rt, text.as_str(), want);
+    equal(text.as_str(), want)?;
     Ok(())
 }
 
 /// The error is out of memory.
-pub fn is_out_of_memory(rt: &impl Abort, alloc: Global, error: &ParseError) -> Result<Met, Fail> {
-    equal(rt, error.kind(), ParseErrorKind::Memory);
-    equal(rt, error.offset(), None);
-    shows(rt, alloc, error, "out of memory")?;
+pub fn is_out_of_memory(alloc: Global, error: &ParseError) -> Result<Met> {
+    equal(error.kind(), ParseErrorKind::Memory)?;
+    equal(error.offset(), None)?;
+    shows(alloc, error, "out of memory")?;
     Ok(Met::Refused)
 }
 
 /// A call just returned the two items.
-pub fn are_two_items(rt: &impl Abort, alloc: Global, items: &[Replacement]) -> Result<Met, Fail> {
+pub fn are_two_items(alloc: Global, items: &[Replacement]) -> Result<Met> {
     let met = completed(alloc);
     let [first, second] = items else {
-        return Err(Fail::new("not two items"));
+        bail!("not two items");
     };
-    is_text(rt, replacement_text(first), TWO_TEXTS[0])?;
-    is_text(rt, replacement_text(second), TWO_TEXTS[1])?;
+    is_text(replacement_text(first), TWO_TEXTS[0])?;
+    is_text(replacement_text(second), TWO_TEXTS[1])?;
     Ok(met)
 }
 
 /// A call just returned the item with attributes.
-pub fn is_attributes(rt: &impl Abort, alloc: Global, item: &LeftHandSide) -> Result<Met, Fail> {
+pub fn is_attributes(alloc: Global, item: &LeftHandSide) -> Result<Met> {
     let met = completed(alloc);
-    is_text(rt, left_hand_side_text(item), ATTRIBUTES_TEXT)?;
+    is_text(left_hand_side_text(item), ATTRIBUTES_TEXT)?;
     Ok(met)
 }
 
 /// A call just returned the item with attributes, and no other.
-pub fn are_attributes(rt: &impl Abort, alloc: Global, items: &[LeftHandSide]) -> Result<Met, Fail> {
+pub fn are_attributes(alloc: Global, items: &[LeftHandSide]) -> Result<Met> {
     match items {
-        [item] => is_attributes(rt, alloc, item),
-        _ => Err(Fail::new("not one item")),
+        [item] => is_attributes(alloc, item),
+        _ => Err(anyhow!("not one item")),
     }
 }
 
 /// A call just returned a refusal, which is at this offset and shows this text.
-pub fn is_refusal(
-    rt: &impl Abort,
-    alloc: Global,
-    error: &ParseError,
-    offset: usize,
-    want: &str,
-) -> Result<Met, Fail> {
+pub fn is_refusal(alloc: Global, error: &ParseError, offset: usize, want: &str) -> Result<Met> {
     let met = completed(alloc);
-    equal(rt, error.offset(), Some(offset));
-    shows(rt, alloc, error, want)?;
+    equal(error.offset(), Some(offset))?;
+    shows(alloc, error, want)?;
     Ok(met)
 }
 
 // Reads the two items.
-fn two_items(rt: &impl Abort, alloc: Global) -> Result<Met, Fail> {
+fn two_items(alloc: Global) -> Result<Met> {
     match parse_replacements_str(alloc, TWO_ITEMS, None) {
-        Ok(items) => are_two_items(rt, alloc, items.as_slice()),
-        Err(error) => is_out_of_memory(rt, alloc, &error),
+        Ok(items) => are_two_items(alloc, items.as_slice()),
+        Err(error) => is_out_of_memory(alloc, &error),
     }
-}
-
-#[test]
-fn reading_two_items(rt: HostRuntime) -> Result<(), Fail> {
-    strictly(two_items(&rt, rt.alloc())?)
 }
 
 // Reads the item with attributes.
-fn attributes(rt: &impl Abort, alloc: Global) -> Result<Met, Fail> {
+fn attributes(alloc: Global) -> Result<Met> {
     match parse_left_hand_sides_str(alloc, ATTRIBUTES, None) {
-        Ok(items) => are_attributes(rt, alloc, items.as_slice()),
-        Err(error) => is_out_of_memory(rt, alloc, &error),
+        Ok(items) => are_attributes(alloc, items.as_slice()),
+        Err(error) => is_out_of_memory(alloc, &error),
     }
-}
-
-#[test]
-fn reading_attributes(rt: HostRuntime) -> Result<(), Fail> {
-    strictly(attributes(&rt, rt.alloc())?)
 }
 
 // Refuses a text that defines a name twice.
-fn name_twice(rt: &impl Abort, alloc: Global) -> Result<Met, Fail> {
+fn name_twice(alloc: Global) -> Result<Met> {
     let source = "%x = var\n%x = var\ninfer %x";
     match parse_left_hand_sides_str(alloc, source, None) {
-        Ok(_) => Err(Fail::new("a name is defined twice")),
-        Err(error) => is_name_twice(rt, alloc, &error),
+        Ok(_) => Err(anyhow!("a name is defined twice")),
+        Err(error) => is_name_twice(alloc, &error),
     }
 }
 
-fn is_name_twice(rt: &impl Abort, alloc: Global, error: &ParseError) -> Result<Met, Fail> {
+fn is_name_twice(alloc: Global, error: &ParseError) -> Result<Met> {
     if error.kind() != ParseErrorKind::Parse {
-        return is_out_of_memory(rt, alloc, error);
+        return is_out_of_memory(alloc, error);
     }
     let want = "unknown:1:9: cannot redefine '%x'\n     |\n   1 | %x = var\n     |         ^";
-    is_refusal(rt, alloc, error, 9, want)
+    is_refusal(alloc, error, 9, want)
 }
 
-#[test]
-fn refusing_a_name_twice(rt: HostRuntime) -> Result<(), Fail> {
-    strictly(name_twice(&rt, rt.alloc())?)
+/// The cases of this file.
+pub fn all(cases: &mut Cases<'_>) -> io::Result<()> {
+    cases.run("reading_two_items", two_items)?;
+    cases.run("reading_attributes", attributes)?;
+    cases.run("refusing_a_name_twice", name_twice)?;
+    Ok(())
 }
