@@ -58,11 +58,7 @@ const CHUNK: usize = 65536;
 
 // The chunk size of the reader.
 fn min_chunk(options: ReadOptions<'_>) -> usize {
-    if options.recover {
-        1
-    } else {
-        CHUNK
-    }
+    if options.recover { 1 } else { CHUNK }
 }
 
 /// A stream that is read part by part.
