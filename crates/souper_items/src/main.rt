@@ -2,20 +2,19 @@
 #![tactic(auto)]
 
 mod differ;
-mod excerpt;
 mod hint;
 mod options;
-mod progress;
 mod rewrite;
-mod terminal;
 
 use clap::ArgMatches;
 use differ::check_diff;
-use excerpt::Style;
 use hint::hint;
-use options::{Action, Color, Task, grammar, read_task};
-use progress::{Meter, Metered};
+use options::{Action, Color, Task, read_task};
 use rewrite::rewrite;
+use souper_cli::commands::grammar;
+use souper_cli::excerpt::Style;
+use souper_cli::progress::{Meter, Metered};
+use souper_cli::terminal::Terminal;
 use souper_find::run::{fill_run, find_run, keyed_run};
 use souper_find::search::{Output, Search};
 use souper_format::command::Kind;
@@ -40,7 +39,6 @@ use std::hash::RandomState;
 use std::io::{BufRead, BufReader, ErrorKind, IsTerminal, Write};
 use std::process::ExitCode;
 use std::{env, fs, io};
-use terminal::Terminal;
 
 const STANDARD_INPUT: &str = "(standard input)";
 

@@ -1,7 +1,7 @@
 //! Files that are rewritten by their canonical texts.
 
-use crate::progress::{Meter, Metered};
 use crate::{failed, out_of_memory};
+use souper_cli::progress::{Meter, Metered};
 use souper_format::watched::Watched;
 use souper_ir::parse::{Before, WholeItem};
 use souper_records::layout::{Layout, PLAIN};

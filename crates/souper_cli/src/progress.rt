@@ -24,7 +24,7 @@ const ERASE: &str = "\x1b[K";
 
 /// Shows on a terminal how much was read of a file, and how fast.
 #[derive(Drop)]
-pub(crate) struct Meter<'a> {
+pub struct Meter<'a> {
     rt: &'a HostRuntime,
     shows: bool,
 
@@ -43,7 +43,7 @@ pub(crate) struct Meter<'a> {
 
 impl<'a> Meter<'a> {
     /// It shows reports on standard error, or nothing.
-    pub(crate) fn new(rt: &'a HostRuntime, shows: bool, is_shown: &'a Cell<bool>) -> Meter<'a> {
+    pub fn new(rt: &'a HostRuntime, shows: bool, is_shown: &'a Cell<bool>) -> Meter<'a> {
         Meter {
             rt,
             shows,
@@ -57,7 +57,7 @@ impl<'a> Meter<'a> {
     }
 
     /// Begins a file.
-    pub(crate) fn begin(&mut self, name: &'a str, len: Option<u64>) {
+    pub fn begin(&mut self, name: &'a str, len: Option<u64>) {
         if self.shows {
             self.start = Instant::now(self.rt).ok();
         }
@@ -106,7 +106,7 @@ impl<'a> Meter<'a> {
     }
 
     /// Removes the report from the screen.
-    pub(crate) fn clear(&self) {
+    pub fn clear(&self) {
         if self.is_shown.replace(false) {
             let _ = eprint!(self.rt; "{ERASE}");
         }
@@ -115,9 +115,9 @@ impl<'a> Meter<'a> {
 
 /// A reader of which a meter shows how much was read.
 #[derive(Drop)]
-pub(crate) struct Metered<'m, 'a, R> {
-    pub(crate) reader: R,
-    pub(crate) meter: &'m mut Meter<'a>,
+pub struct Metered<'m, 'a, R> {
+    pub reader: R,
+    pub meter: &'m mut Meter<'a>,
 }
 
 impl<R: Read> Read for Metered<'_, '_, R> {

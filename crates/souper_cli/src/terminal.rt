@@ -33,7 +33,7 @@ enum Part {
 
 /// A writer of lines, each of which is shown when it is whole. The line of the source that a parse error shows waits for its caret.
 #[derive(Drop)]
-pub(crate) struct Terminal<'a, W> {
+pub struct Terminal<'a, W> {
     inner: W,
     style: Style,
 
@@ -55,7 +55,7 @@ pub(crate) struct Terminal<'a, W> {
 }
 
 impl<'a, W: Write> Terminal<'a, W> {
-    pub(crate) fn new(
+    pub fn new(
         alloc: Global,
         inner: W,
         style: Style,

@@ -6,7 +6,7 @@ use unicode_width::UnicodeWidthChar;
 
 /// How lines are shown.
 #[derive(Clone, Copy, PartialEq, Eq)]
-pub(crate) enum Style {
+pub enum Style {
     /// As they are, but for what is cut from a long one.
     Bytes,
 
@@ -78,7 +78,7 @@ impl Style {
     }
 
     /// Appends a character as it is shown: one that is not seen by its number, as `<U+FEFF>`.
-    pub(crate) fn append_char(self, c: char, shown: &mut String) -> Result<(), AllocError> {
+    pub fn append_char(self, c: char, shown: &mut String) -> Result<(), AllocError> {
         let c = if self == Style::Bytes { c } else { clean(c) };
         if self == Style::Bytes || !is_unseen(c) {
             return shown.push(c);
@@ -87,7 +87,7 @@ impl Style {
     }
 
     /// Appends a line, or of a long one what is around the byte at `caret`. Returns the columns before that.
-    pub(crate) fn append_around(
+    pub fn append_around(
         self,
         line: &str,
         caret: usize,
