@@ -17,14 +17,10 @@ const READ_ERROR: &str = "souper_items: a.opt: ";
 const WRITE_ERROR: &str = "souper_items: write error: ";
 
 // A run over a reader that has at most this number of bytes per read, and then fails.
-fn fails(rt: &impl Abort, alloc: Global, most: usize) {
+fn fails(rt: &impl Abort, alloc: Global, command: Command, most: usize) {
     let source = BrokenReader::new(b"%x = var\ninfer %x\n%y = var\n", most);
     let mut reader = BufReader::with_capacity(alloc, 3, source).expect(rt, "memory");
-    let run = run_over::<LeftHandSide, BufReader<BrokenReader<'_>>>(
-        alloc,
-        Command::Each(PLAIN),
-        &mut reader,
-    );
+    let run = run_over::<LeftHandSide, BufReader<BrokenReader<'_>>>(alloc, command, &mut reader);
     did(rt, run, (2, "%x = var\ninfer %x\n\n", READ_ERROR));
 }
 
@@ -32,22 +28,17 @@ fn fails(rt: &impl Abort, alloc: Global, most: usize) {
 fn failed_read_is_reported(rt: HostRuntime) {
     // All 27 bytes at the first read, and 3 at each.
     for most in [27, 3] {
-        fails(&rt, rt.alloc(), most);
+        fails(&rt, rt.alloc(), Command::Each(PLAIN), most);
+        fails(&rt, rt.alloc(), Command::EachByLines, most);
     }
 }
 
-// The segments before a failed read are written.
-#[test]
-fn segments_are_written_before_a_failed_read(rt: HostRuntime) {
+fn writes_before(rt: &impl Abort, alloc: Global, command: Command) {
     let source = BrokenReader::new(b"%x = var\ninfer %x\n%y = var\ninfer %y\n%z = var\n", 64);
-    let mut reader = BufReader::with_capacity(rt.alloc(), 64, source).expect(&rt, "memory");
-    let run = run_over::<LeftHandSide, BufReader<BrokenReader<'_>>>(
-        rt.alloc(),
-        Command::EachGoingOn,
-        &mut reader,
-    );
+    let mut reader = BufReader::with_capacity(alloc, 64, source).expect(rt, "memory");
+    let run = run_over::<LeftHandSide, BufReader<BrokenReader<'_>>>(alloc, command, &mut reader);
     did(
-        &rt,
+        rt,
         run,
         (
             2,
@@ -55,6 +46,13 @@ fn segments_are_written_before_a_failed_read(rt: HostRuntime) {
             READ_ERROR,
         ),
     );
+}
+
+// The segments before a failed read are written.
+#[test]
+fn segments_are_written_before_a_failed_read(rt: HostRuntime) {
+    writes_before(&rt, rt.alloc(), Command::EachGoingOn);
+    writes_before(&rt, rt.alloc(), Command::EachByLines);
 }
 
 // A reader that ends once: a read after it fails.
@@ -94,6 +92,7 @@ fn end_is_read_once(rt: HostRuntime) {
         for capacity in [3, 64] {
             ends_once(&rt, rt.alloc(), Command::Each(PLAIN), text, capacity);
             ends_once(&rt, rt.alloc(), Command::EachGoingOn, text, capacity);
+            ends_once(&rt, rt.alloc(), Command::EachByLines, text, capacity);
         }
     }
 }
@@ -123,17 +122,22 @@ fn failed_report_leaves_the_status(rt: HostRuntime) {
     }
 }
 
+// A run over a text whose third line is no UTF-8.
+fn is_no_text(rt: &impl Abort, alloc: Global, command: Command, source: &[u8]) {
+    let mut reader = BufReader::with_capacity(alloc, 5, source).expect(rt, "memory");
+    let run = run_over::<LeftHandSide, BufReader<&[u8]>>(alloc, command, &mut reader);
+    let found = (run.status, text(&run.err));
+    equal(rt, found, (2, "a.opt:3: not UTF-8 at byte 18\n"));
+}
+
 #[test]
 fn bytes_that_are_no_text_are_reported(rt: HostRuntime) {
-    let source = b"%x = var\ninfer %x\n\xff".as_slice();
-    let mut reader = BufReader::new(rt.alloc(), source).expect(&rt, "memory");
-    let run = run_over::<LeftHandSide, BufReader<&[u8]>>(
-        rt.alloc(),
-        Command::Each(PLAIN),
-        &mut reader,
-    );
-    let found = (run.status, text(&run.err));
-    equal(&rt, found, (2, "a.opt:3: not UTF-8 at byte 18\n"));
+    for command in [Command::Each(PLAIN), Command::EachByLines] {
+        let last = b"%x = var\ninfer %x\n\xff".as_slice();
+        is_no_text(&rt, rt.alloc(), command, last);
+        let whole = b"%x = var\ninfer %x\n\xff\n%y = var\n".as_slice();
+        is_no_text(&rt, rt.alloc(), command, whole);
+    }
 }
 
 // A run in which one read is interrupted.
@@ -149,6 +153,7 @@ fn is_tried_again(rt: &impl Abort, alloc: Global, command: Command, capacity: us
 fn interrupted_read_is_tried_again(rt: HostRuntime) {
     for after in 0..8 {
         is_tried_again(&rt, rt.alloc(), Command::Each(PLAIN), 3, after);
+        is_tried_again(&rt, rt.alloc(), Command::EachByLines, 3, after);
     }
 }
 

@@ -2,7 +2,10 @@
 use crate::checks::{Ran, equal, text};
 use souper_format::watched::Watched;
 use souper_records::layout::{Layout, PLAIN};
-use souper_records::run::{each_going_on_run, each_run, objects_run, uniq_going_on_run, uniq_run};
+use souper_records::options::ReadOptions;
+use souper_records::run::{
+    each_going_on_run, each_run, each_run_with, objects_run, uniq_going_on_run, uniq_run,
+};
 use souper_records::seen::Seen;
 use souper_stream::StreamItem;
 use std::alloc::Global;
@@ -14,6 +17,7 @@ use std::process::Abort;
 pub(crate) enum Command {
     Each(Layout),
     EachGoingOn,
+    EachByLines,
     Uniq,
     UniqGoingOn,
     Objects { file: &'static str, rename: bool },
@@ -34,6 +38,14 @@ pub(crate) fn run_to<T: StreamItem + Drop, R: BufRead, W: Write, E: Write>(
         }
         Command::EachGoingOn => {
             each_going_on_run::<T, R, W, E>(alloc, PLAIN, reader, "a.opt", out, err)
+        }
+        Command::EachByLines => {
+            let options = ReadOptions {
+                name: "a.opt",
+                recover: false,
+                line_buffered: true,
+            };
+            each_run_with::<T, R, W, E>(alloc, PLAIN, options, reader, out, err)
         }
         Command::Uniq => {
             uniq_run::<T, R, W, E>(alloc, PLAIN, &mut seen, reader, "a.opt", out, err)
