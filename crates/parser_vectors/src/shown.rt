@@ -1,4 +1,4 @@
-//! What a parser shows of itself: the text of each state is that of a parser whose names are all in one map.
+//! What a parser shows of itself: its names are in a table or, if too many of them have one slot, all in a map.
 use crate::checks::is_text;
 use souper_ir::ast::LeftHandSide;
 use souper_ir::parse::{Parse, Parser};
@@ -13,12 +13,11 @@ true Parser { alloc: Global, lexer: Lexer { offset: 48, rest: \"\" }, ahead: Non
 [Assignment(Assignment { name: \"%a\", ty: None, value: Var, attributes: [] }), Assignment(Assignment { name: \"%b\", ty: None, \
 value: Block(Block { predecessors: 2 }), attributes: [] }), Assignment(Assignment { name: \"%c\", ty: None, value: Phi(Phi { \
 block: BlockId { index: 1 }, values: [Value(ValueId { index: 0 }), Constant(Constant { value: 1, ty: None })] }), attributes: [] \
-})] }, names: Names { entries: {\"%a\": (ValueId { index: 0 }, None), \"%b\": (ValueId { index: 1 }, Some(2)), \"%c\": (ValueId { \
-index: 2 }, None)}, last: Some((\"%c\", ValueId { index: 2 }, None)) }, recent: Recent { values: [None, None, None, None, None, \
-None, None, None, None, None, None, None, None, None, None, None, None, None, None, Some(ValueId { index: 0 }), Some(ValueId { \
-index: 1 }), Some(ValueId { index: 2 }), None, None, None, None, None, None, None, None, None, None, None, None, None, None, None, \
+})] }, names: Names { table: {\"%a\": (0, None), \"%b\": (1, Some(2)), \"%c\": (2, None)}, entries: {}, last: None }, recent: \
+Recent { values: [None, None, None, None, None, None, None, None, None, None, None, None, None, None, None, None, None, None, \
+None, Some(ValueId { index: 0 }), Some(ValueId { index: 1 }), Some(ValueId { index: 2 }), None, None, None, None, None, None, \
 None, None, None, None, None, None, None, None, None, None, None, None, None, None, None, None, None, None, None, None, None, \
-None, None, None, None, None, None] }, failed: Some(Refused(47)) }";
+None, None, None, None, None, None, None, None, None, None, None, None, None, None, None] }, failed: Some(Refused(47)) }";
 
 // Nine names that have one slot of the table, so that they are in the map.
 const OF_ONE_SLOT: &str = "\
@@ -37,27 +36,27 @@ true Parser { alloc: Global, lexer: Lexer { offset: 560, rest: \"\" }, ahead: No
 [Assignment(Assignment { name: \"%a_name_that_starts_as_a_and_that_ends_as_all_the_others\", ty: None, value: Var, attributes: [] \
 }), Assignment(Assignment { name: \"%a_name_that_starts_as_b_and_that_ends_as_all_the_others\", ty: None, value: Var, attributes: \
 [] }), Assignment(Assignment { name: \"%a_name_that_starts_as_c_and_that_ends_as_all_the_others\", ty: None, value: Block(Block { \
-predecessors: 2 }), attributes: [] }), Assignment(Assignment { name: \"%a_name_that_starts_as_d_and_that_ends_as_all_the_others\", \
-ty: None, value: Var, attributes: [] }), Assignment(Assignment { name: \
-\"%a_name_that_starts_as_e_and_that_ends_as_all_the_others\", ty: None, value: Var, attributes: [] }), Assignment(Assignment { \
-name: \"%a_name_that_starts_as_f_and_that_ends_as_all_the_others\", ty: None, value: Var, attributes: [] }), Assignment(Assignment \
-{ name: \"%a_name_that_starts_as_g_and_that_ends_as_all_the_others\", ty: None, value: Var, attributes: [] }), \
-Assignment(Assignment { name: \"%a_name_that_starts_as_h_and_that_ends_as_all_the_others\", ty: None, value: Var, attributes: [] \
-}), Assignment(Assignment { name: \"%a_name_that_starts_as_i_and_that_ends_as_all_the_others\", ty: None, value: Var, attributes: \
-[] })] }, names: Names { entries: {\"%a_name_that_starts_as_a_and_that_ends_as_all_the_others\": (ValueId { index: 0 }, None), \
-\"%a_name_that_starts_as_b_and_that_ends_as_all_the_others\": (ValueId { index: 1 }, None), \
-\"%a_name_that_starts_as_c_and_that_ends_as_all_the_others\": (ValueId { index: 2 }, Some(2)), \
-\"%a_name_that_starts_as_d_and_that_ends_as_all_the_others\": (ValueId { index: 3 }, None), \
-\"%a_name_that_starts_as_e_and_that_ends_as_all_the_others\": (ValueId { index: 4 }, None), \
-\"%a_name_that_starts_as_f_and_that_ends_as_all_the_others\": (ValueId { index: 5 }, None), \
-\"%a_name_that_starts_as_g_and_that_ends_as_all_the_others\": (ValueId { index: 6 }, None), \
-\"%a_name_that_starts_as_h_and_that_ends_as_all_the_others\": (ValueId { index: 7 }, None), \
-\"%a_name_that_starts_as_i_and_that_ends_as_all_the_others\": (ValueId { index: 8 }, None)}, last: \
-Some((\"%a_name_that_starts_as_i_and_that_ends_as_all_the_others\", ValueId { index: 8 }, None)) }, recent: Recent { values: \
-[None, None, None, None, None, None, None, None, None, None, None, None, None, None, None, None, None, None, None, None, None, \
-None, None, None, None, None, None, None, None, None, None, None, None, None, None, None, None, None, None, Some(ValueId { index: \
-8 }), None, None, None, None, None, None, None, None, None, None, None, None, None, None, None, None, None, None, None, None, \
-None, None, None, None] }, failed: Some(Refused(559)) }";
+predecessors: 2 }), attributes: [] }), Assignment(Assignment { name: \
+\"%a_name_that_starts_as_d_and_that_ends_as_all_the_others\", ty: None, value: Var, attributes: [] }), Assignment(Assignment { \
+name: \"%a_name_that_starts_as_e_and_that_ends_as_all_the_others\", ty: None, value: Var, attributes: [] }), \
+Assignment(Assignment { name: \"%a_name_that_starts_as_f_and_that_ends_as_all_the_others\", ty: None, value: Var, attributes: [] \
+}), Assignment(Assignment { name: \"%a_name_that_starts_as_g_and_that_ends_as_all_the_others\", ty: None, value: Var, attributes: \
+[] }), Assignment(Assignment { name: \"%a_name_that_starts_as_h_and_that_ends_as_all_the_others\", ty: None, value: Var, \
+attributes: [] }), Assignment(Assignment { name: \"%a_name_that_starts_as_i_and_that_ends_as_all_the_others\", ty: None, value: \
+Var, attributes: [] })] }, names: Names { table: {}, entries: {\"%a_name_that_starts_as_a_and_that_ends_as_all_the_others\": (0, \
+None), \"%a_name_that_starts_as_b_and_that_ends_as_all_the_others\": (1, None), \
+\"%a_name_that_starts_as_c_and_that_ends_as_all_the_others\": (2, Some(2)), \
+\"%a_name_that_starts_as_d_and_that_ends_as_all_the_others\": (3, None), \
+\"%a_name_that_starts_as_e_and_that_ends_as_all_the_others\": (4, None), \
+\"%a_name_that_starts_as_f_and_that_ends_as_all_the_others\": (5, None), \
+\"%a_name_that_starts_as_g_and_that_ends_as_all_the_others\": (6, None), \
+\"%a_name_that_starts_as_h_and_that_ends_as_all_the_others\": (7, None), \
+\"%a_name_that_starts_as_i_and_that_ends_as_all_the_others\": (8, None)}, last: \
+Some((\"%a_name_that_starts_as_i_and_that_ends_as_all_the_others\", 8, None)) }, recent: Recent { values: [None, None, None, \
+None, None, None, None, None, None, None, None, None, None, None, None, None, None, None, None, None, None, None, None, None, \
+None, None, None, None, None, None, None, None, None, None, None, None, None, None, None, Some(ValueId { index: 8 }), None, None, \
+None, None, None, None, None, None, None, None, None, None, None, None, None, None, None, None, None, None, None, None, None, \
+None] }, failed: Some(Refused(559)) }";
 
 // The parser of the text, whose last line is refused, shows this.
 fn shows(rt: &impl Abort, alloc: Global, source: &str, want: &str) {
@@ -68,7 +67,7 @@ fn shows(rt: &impl Abort, alloc: Global, source: &str, want: &str) {
 }
 
 #[test]
-fn names_are_shown_as_one_map(rt: HostRuntime) {
+fn names_are_shown_where_they_are(rt: HostRuntime) {
     shows(&rt, rt.alloc(), FEW, FEW_SHOWN);
     shows(&rt, rt.alloc(), OF_ONE_SLOT, OF_ONE_SLOT_SHOWN);
 }
