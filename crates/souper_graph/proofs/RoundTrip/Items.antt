@@ -1,20 +1,19 @@
--- Lemmas. An item whose statements are all closed and named apart is spelled by the tokens of its listed parts, which
+-- Lemmas. An item whose statements are all closed and named apart has its form in the tokens of its listed parts, which
 -- are sound.
-use Rattle.std.proofs.Common.{ℕ, ◌<◌, List, [], ◌∷◌, ◌++◌, length, take, drop, refl, sym, ap, ◌∙◌, subst, arith, append-nil, length-take, inl}
+use Rattle.std.proofs.Common.{◌≡◌, ℕ, ◌<◌, List, [], ◌∷◌, ◌++◌, length, take, drop, refl, sym, ap, ◌∙◌, arith, append-nil, length-take, inl}
 use Rattle.std.proofs.lemmas.List.{take-append-drop}
-use Rattle.souper_graph.specs.declared.ast.operands.Operand.{Operand}
-use Rattle.souper_graph.specs.Values.{PlainStatement, PlainInfer, Ending, inferred, resulting, replaced, candidate, Item}
+use Rattle.souper_graph.specs.Values.{PlainStatement, Ending, inferred, resulting, replaced, candidate, Item}
 use Rattle.souper_graph.specs.Uses.{Has, Use, value_use, position_of as use_position, uses_of_operand, roots_of}
 use Rattle.souper_graph.specs.WellFormed.{EachClosed}
-use Rattle.souper_graph.specs.Syntax.Tokens.{Lexeme}
-use Rattle.souper_graph.specs.Syntax.Spelling.{Scope, ItemType, left_hand_side, right_hand_side, replacement, IsEndingOf, result_spells, tail_spells, item_spells}
+use Rattle.souper_graph.specs.Syntax.Spelling.{ItemType}
 use Rattle.souper_graph.proofs.Judging.Needed.{met-inside}
-use Rattle.souper_graph.proofs.RoundTrip.Parts.{Part, newline, words_of, words_append, AreSound, sound_append}
+use Rattle.souper_graph.proofs.RoundTrip.Parts.{Part, newline, words_of, AreSound, sound_append}
 use Rattle.souper_graph.proofs.RoundTrip.Nodes.{parts_of_lines, parts_of_infer, parts_of_cand, parts_of_result, listed_parts}
 use Rattle.souper_graph.proofs.RoundTrip.Ready.{Known, AreKnown, AreReady, known_left, known_after, ready_first, ready_second}
 use Rattle.souper_graph.proofs.RoundTrip.Scopes.{known, ready}
 use Rattle.souper_graph.proofs.RoundTrip.Sound.{infer_sound, infer_then, cand_sound, result_sound, lines_then}
-use Rattle.souper_graph.proofs.RoundTrip.Spelled.{infer_spelled, cand_spelled, result_spelled, lines_spelled, ended}
+use Rattle.souper_graph.specs.Syntax.Forms.{lines, type_of, item, result}
+use Rattle.souper_graph.proofs.RoundTrip.Spelled.{in_turn, ended, infer_spelled, cand_spelled, result_spelled, lines_spelled}
 
 -- an infer line that a result follows has its value before it
 abbrev pub Leads : ℕ → Ending → Type 0
@@ -25,20 +24,6 @@ Leads lead (candidate c) = Unit {0}
 
 abbrev pub whole_item : List PlainStatement → Ending → Item
 whole_item ss e = record { statements = ss; ending = e }
-
--- an item with all its statements before its last line
-one_tail : (k : ItemType) (ss : List PlainStatement) (e : Ending) (last : List Part) → AreReady [] ss ss → tail_spells k ss ([], e) (words_of last) →
-    item_spells k (whole_item ss e) (words_of (parts_of_lines ss ss ++ last))
-one_tail k ss e last r t = record {
-  first = ss;
-  last = [];
-  head = words_of (parts_of_lines ss ss);
-  tail = words_of last;
-  statements_are = sym (append-nil ss);
-  whole = words_append (parts_of_lines ss ss) last;
-  head_spelled = lines_spelled [] ss ss r;
-  tail_spelled = t;
-}
 
 module _ (ss : List PlainStatement) (e : Ending) (ec : EachClosed (whole_item ss e)) where
   all_ready : AreReady [] ss ss
@@ -59,53 +44,28 @@ module _ (ss : List PlainStatement) (e : Ending) (ec : EachClosed (whole_item ss
       let within : use_position u < length ss = met-inside ss u (ec.roots_met u h) in
       known (whole_item ss e) ec (take lead ss) (drop lead ss) (sym (take-append-drop lead ss)) u (omega (arith, length-take lead ss)) (ec.roots_met u h)
 
-replaced_listed : (ss : List PlainStatement) (i : PlainInfer) (r : Operand) (lead : ℕ) → EachClosed (whole_item ss (replaced i r)) → i.value < lead →
-    item_spells replacement (whole_item ss (replaced i r)) (words_of (listed_parts ss (replaced i r) lead))
-replaced_listed ss i r lead ec l =
-    let rest : List Part = parts_of_lines ss (drop lead ss) ++ (parts_of_result ss r ++ newline ∷ []) in
-    let known_roots = roots_known ss (replaced i r) ec in
-    record {
-      first = take lead ss;
-      last = drop lead ss;
-      head = words_of (parts_of_lines ss (take lead ss));
-      tail = words_of (parts_of_infer ss i ++ rest);
-      statements_are = sym (take-append-drop lead ss);
-      whole = words_append (parts_of_lines ss (take lead ss)) (parts_of_infer ss i ++ rest);
-      head_spelled = lines_spelled [] ss (take lead ss) (first_ready ss (replaced i r) ec lead);
-      tail_spelled = record {
-        infer = words_of (parts_of_infer ss i);
-        middle = words_of (parts_of_lines ss (drop lead ss));
-        result = words_of (parts_of_result ss r);
-        whole = words_append (parts_of_infer ss i) rest ∙ ap (λ (ts : List Lexeme). words_of (parts_of_infer ss i) ++ ts)
-            (words_append (parts_of_lines ss (drop lead ss)) (parts_of_result ss r ++ newline ∷ []) ∙ ap (λ (ts : List Lexeme). words_of (parts_of_lines ss (drop lead ss)) ++ ts) (ended (parts_of_result ss r)));
-        infer_spelled = infer_spelled (take lead ss) ss i ec.ending_fits.0 (known_before ss (replaced i r) ec lead (value_use i.value) l (inl refl));
-        middle_spelled = lines_spelled (take lead ss) ss (drop lead ss) (last_ready ss (replaced i r) ec lead);
-        result_spelled = subst (λ (z : Scope). result_spells z r (words_of (parts_of_result ss r))) (sym (take-append-drop lead ss))
-            (result_spelled ss ss r (ec.ending_fits.1, known_after ss ss (value_use i.value) (uses_of_operand r) known_roots));
-      };
-    }
-
-listed_spelled : (k : ItemType) (ss : List PlainStatement) (e : Ending) (lead : ℕ) → EachClosed (whole_item ss e) → IsEndingOf k e → Leads lead e →
-    item_spells k (whole_item ss e) (words_of (listed_parts ss e lead))
-listed_spelled left_hand_side ss (inferred i) lead ec t l =
-    one_tail left_hand_side ss (inferred i) (parts_of_infer ss i) (all_ready ss (inferred i) ec)
-    (refl, infer_spelled ss ss i ec.ending_fits (roots_known ss (inferred i) ec (value_use i.value) (inl refl)))
-listed_spelled left_hand_side ss (resulting r) lead ec t l = absurd t
-listed_spelled left_hand_side ss (replaced i r) lead ec t l = absurd t
-listed_spelled left_hand_side ss (candidate c) lead ec t l = absurd t
-listed_spelled right_hand_side ss (inferred i) lead ec t l = absurd t
-listed_spelled right_hand_side ss (resulting r) lead ec t l =
-    one_tail right_hand_side ss (resulting r) (parts_of_result ss r) (all_ready ss (resulting r) ec)
-    (refl, result_spelled ss ss r (ec.ending_fits, known_left ss ss (uses_of_operand r) [] (roots_known ss (resulting r) ec)))
-listed_spelled right_hand_side ss (replaced i r) lead ec t l = absurd t
-listed_spelled right_hand_side ss (candidate c) lead ec t l = absurd t
-listed_spelled replacement ss (inferred i) lead ec t l = absurd t
-listed_spelled replacement ss (resulting r) lead ec t l = absurd t
-listed_spelled replacement ss (replaced i r) lead ec t l = replaced_listed ss i r lead ec l
-listed_spelled replacement ss (candidate c) lead ec t l =
+-- the lines of an item whose statements are all closed
+lines_listed : (ss : List PlainStatement) (e : Ending) (lead : ℕ) → EachClosed (whole_item ss e) → Leads lead e → lines [] ss e (words_of (listed_parts ss e lead))
+lines_listed ss (inferred i) lead ec l =
+    in_turn (parts_of_lines ss ss) (parts_of_infer ss i) (lines_spelled [] ss ss (all_ready ss (inferred i) ec))
+    (infer_spelled ss ss i ec.ending_fits (roots_known ss (inferred i) ec (value_use i.value) (inl refl)))
+lines_listed ss (resulting r) lead ec l =
+    in_turn (parts_of_lines ss ss) (parts_of_result ss r) (lines_spelled [] ss ss (all_ready ss (resulting r) ec))
+    (result_spelled ss ss r (ec.ending_fits, known_left ss ss (uses_of_operand r) [] (roots_known ss (resulting r) ec)))
+lines_listed ss (replaced i r) lead ec l =
+    let last : List Part = parts_of_result ss r ++ newline ∷ [] in (
+      take lead ss,
+      drop lead ss,
+      sym (take-append-drop lead ss),
+      in_turn (parts_of_lines ss (take lead ss)) (parts_of_infer ss i ++ (parts_of_lines ss (drop lead ss) ++ last)) (lines_spelled [] ss (take lead ss) (first_ready ss (replaced i r) ec lead))
+          (in_turn (parts_of_infer ss i) (parts_of_lines ss (drop lead ss) ++ last) (infer_spelled (take lead ss) ss i ec.ending_fits.0 (known_before ss (replaced i r) ec lead (value_use i.value) l (inl refl)))
+          (in_turn (parts_of_lines ss (drop lead ss)) last (lines_spelled (take lead ss) ss (drop lead ss) (last_ready ss (replaced i r) ec lead))
+          (ended (result ss r) (parts_of_result ss r) (result_spelled ss ss r (ec.ending_fits.1, known_after ss ss (value_use i.value) (uses_of_operand r) (roots_known ss (replaced i r) ec)))))),
+    )
+lines_listed ss (candidate c) lead ec l =
     let k : AreKnown ss ss (uses_of_operand c.lhs ++ uses_of_operand c.rhs) = known_left ss ss (uses_of_operand c.lhs ++ uses_of_operand c.rhs) [] (roots_known ss (candidate c) ec) in
-    one_tail replacement ss (candidate c) (parts_of_cand ss c) (all_ready ss (candidate c) ec)
-    (refl, cand_spelled ss ss c (ready_first ss ss c.lhs c.rhs ec.ending_fits.0 k) (ready_second ss ss c.lhs c.rhs ec.ending_fits.1 k) ec.ending_fits.2)
+    in_turn (parts_of_lines ss ss) (parts_of_cand ss c) (lines_spelled [] ss ss (all_ready ss (candidate c) ec))
+    (cand_spelled ss ss c (ready_first ss ss c.lhs c.rhs ec.ending_fits.0 k) (ready_second ss ss c.lhs c.rhs ec.ending_fits.1 k) ec.ending_fits.2)
 
 listed_sound : (ss : List PlainStatement) (e : Ending) (lead : ℕ) → EachClosed (whole_item ss e) → Leads lead e → AreSound (listed_parts ss e lead)
 listed_sound ss (inferred i) lead ec l =
@@ -124,8 +84,8 @@ listed_sound ss (candidate c) lead ec l =
     lines_then [] ss ss (parts_of_cand ss c) (all_ready ss (candidate c) ec)
     (cand_sound ss ss c (ready_first ss ss c.lhs c.rhs ec.ending_fits.0 k) (ready_second ss ss c.lhs c.rhs ec.ending_fits.1 k) ec.ending_fits.2)
 
-pub item_spelled : (k : ItemType) (a : Item) (lead : ℕ) → EachClosed a → IsEndingOf k a.ending → Leads lead a.ending → item_spells k a (words_of (listed_parts a.statements a.ending lead))
-item_spelled k a lead ec t l = listed_spelled k a.statements a.ending lead ec t l
+pub item_spelled : (k : ItemType) (a : Item) (lead : ℕ) → EachClosed a → type_of a.ending ≡ k → Leads lead a.ending → item k a (words_of (listed_parts a.statements a.ending lead))
+item_spelled k a lead ec t l = (t, lines_listed a.statements a.ending lead ec l)
 
 pub item_sound : (a : Item) (lead : ℕ) → EachClosed a → Leads lead a.ending → AreSound (listed_parts a.statements a.ending lead)
 item_sound a lead ec l = listed_sound a.statements a.ending lead ec l

@@ -17,10 +17,11 @@ use Rattle.souper_graph.proofs.Sameness.Indices.{Has-at, place-at}
 use Rattle.souper_graph.proofs.Judging.Needed.{statement_at, root-walked, well_formed_stands}
 use Rattle.souper_graph.proofs.Sameness.PrintedOrder.{printed-once}
 use Rattle.souper_graph.proofs.Sameness.Renumbered.{numbered, numbered_item, renumbered-is, needs, stood-needed, numbered-at, numbered-needed, renumbered-well, renumbered-same, renumbered-graph, unneeded-well, unneeded-graph}
+use Rattle.souper_graph.proofs.FormsAgree.Items.{ending_to, item_from}
 use Rattle.souper_graph.proofs.RoundTrip.Parts.{Part, newline, printed, placed, words_of, AreSound, text_from_parts, printed_append, placed_words, words_append}
 use Rattle.souper_graph.proofs.RoundTrip.Nodes.{listed_parts, text_of_lines, listed_text}
 use Rattle.souper_graph.proofs.RoundTrip.Texts.{listed_is}
-use Rattle.souper_graph.proofs.RoundTrip.Spelled.{ended}
+use Rattle.souper_graph.proofs.RoundTrip.Spelled.{before_newline}
 use Rattle.souper_graph.proofs.RoundTrip.Sound.{line_then}
 use Rattle.souper_graph.proofs.RoundTrip.Items.{Leads, item_spelled, item_sound}
 use Rattle.souper_graph.proofs.RoundTrip.Carried.{SameNames, statement-carried, infer-carried, cand-carried, result-carried}
@@ -125,7 +126,9 @@ module _ (a : Item) (wa : WellFormed a) where
 
   pub parts-spell : (k : ItemType) → IsEndingOf k (renumbered a).ending → item_spells k (renumbered a) (words_of canonical_parts)
   unfolding canonical_parts
-  parts-spell k t = item_spelled k (renumbered a) (lead_of a) renumbered-closed t renumbered-leads
+  parts-spell k t =
+      item_from k (renumbered a) (words_of canonical_parts)
+      (item_spelled k (renumbered a) (lead_of a) renumbered-closed (ending_to k (renumbered a).ending t) renumbered-leads)
 
 ending-kept : (k : ItemType) (f : ℕ → ℕ) (e : Ending) → IsEndingOf k e → IsEndingOf k (carried_ending f e)
 ending-kept left_hand_side f (inferred i) h = tt
@@ -165,7 +168,7 @@ list-spelled k [] h = refl
 list-spelled k (a ∷ items) h = record {
   prefix = words_of (canonical_parts a h.0.0);
   suffix = words_of (list_parts k items h.1);
-  whole = words_append (canonical_parts a h.0.0 ++ newline ∷ []) (list_parts k items h.1) ∙ ap (λ (ts : List Lexeme). ts ++ words_of (list_parts k items h.1)) (ended (canonical_parts a h.0.0));
+  whole = words_append (canonical_parts a h.0.0 ++ newline ∷ []) (list_parts k items h.1) ∙ ap (λ (ts : List Lexeme). ts ++ words_of (list_parts k items h.1)) (before_newline (canonical_parts a h.0.0));
   first = parts-spell a h.0.0 k (ending-kept k (place (printed_order a)) a.ending h.0.1);
   second = list-spelled k items h.1;
 }

@@ -1,0 +1,55 @@
+-- Lemmas. What has a form, by what forms are made of.
+use Rattle.std.proofs.Common.{◌≡◌, ℕ, List, [], ◌∷◌, ◌++◌, Option, Some, refl, sym, ◌∙◌, ap, subst, append_assoc}
+use Rattle.souper_graph.specs.Syntax.Tokens.{Lexeme}
+use Rattle.souper_graph.specs.Syntax.Forms.{Form, ◌·◌, token, one, each}
+
+infix 10 ◌⇒◌
+-- what has the form F has the form G
+abbrev pub ◌⇒◌ : Form → Form → Type 0
+F ⇒ G = (ts : List Lexeme) → F ts → G ts
+
+-- ---- one after another
+
+pub both : {F G H K : Form} → F ⇒ H → G ⇒ K → F · G ⇒ H · K
+both f g ts h = record { prefix = h.prefix; suffix = h.suffix; whole = h.whole; first = f h.prefix h.first; second = g h.suffix h.second }
+
+pub to_left : {F G H : Form} → F · G · H ⇒ (F · G) · H
+to_left ts h =
+    let k = h.second in
+    record {
+      prefix = h.prefix ++ k.prefix;
+      suffix = k.suffix;
+      whole = h.whole ∙ ap (λ (x : List Lexeme). h.prefix ++ x) k.whole ∙ sym (append_assoc h.prefix k.prefix k.suffix);
+      first = record { prefix = h.prefix; suffix = k.prefix; whole = refl; first = h.first; second = k.first };
+      second = k.second;
+    }
+
+pub to_right : {F G H : Form} → (F · G) · H ⇒ F · G · H
+to_right ts h =
+    let k = h.first in
+    record {
+      prefix = k.prefix;
+      suffix = k.suffix ++ h.suffix;
+      whole = h.whole ∙ ap (λ (x : List Lexeme). x ++ h.suffix) k.whole ∙ append_assoc k.prefix k.suffix h.suffix;
+      first = k.first;
+      second = record { prefix = k.suffix; suffix = h.suffix; whole = refl; first = k.second; second = h.second };
+    }
+
+pub each_both : {A : Type 0} {F G : A → Form} → ((x : A) → F x ⇒ G x) → (xs : List A) → each F xs ⇒ each G xs
+each_both f [] ts h = h
+each_both f (x ∷ xs) ts h = both (f x) (each_both f xs) ts h
+
+-- ---- a token, and then a form
+
+pub next : {F : Form} (t : Lexeme) (rest : List Lexeme) → F rest → (token t · F) (t ∷ rest)
+next t rest h = record { prefix = t ∷ []; suffix = rest; whole = refl; first = refl; second = h }
+
+pub next_one : {A : Type 0} {F : Form} (kind : List ℕ → Lexeme) (read : List ℕ → Option A) (v : A) (w : List ℕ) (rest : List Lexeme) → read w ≡ Some v → F rest → (one kind read v · F) (kind w ∷ rest)
+next_one kind read v w rest e h = record { prefix = kind w ∷ []; suffix = rest; whole = refl; first = (w, refl, e); second = h }
+
+-- what follows from the form, if it does where the token and the rest are known
+pub by_token : {F : Form} (G : Form) (t : Lexeme) → ((rest : List Lexeme) → F rest → G (t ∷ rest)) → token t · F ⇒ G
+by_token G t f ts h = subst G (sym (h.whole ∙ ap (λ (x : List Lexeme). x ++ h.suffix) h.first)) (f h.suffix h.second)
+
+pub by_one : {A : Type 0} {F : Form} (G : Form) (kind : List ℕ → Lexeme) (read : List ℕ → Option A) (v : A) → ((w : List ℕ) → read w ≡ Some v → (rest : List Lexeme) → F rest → G (kind w ∷ rest)) → one kind read v · F ⇒ G
+by_one G kind read v f ts h = subst G (sym (h.whole ∙ ap (λ (x : List Lexeme). x ++ h.suffix) h.first.1)) (f h.first.0 h.first.2 h.suffix h.second)
