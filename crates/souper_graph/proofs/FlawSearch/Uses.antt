@@ -20,19 +20,6 @@ pub uses_each : (P : Use → Type 0) (xs : List Operand) → AllByRecursion P (u
 uses_each P [] h = h
 uses_each P (x ∷ xs) h = (All-first P (uses_of_operand x) (uses_of_operands xs) h, uses_each P xs (All-second P (uses_of_operand x) (uses_of_operands xs) h))
 
-to_values : (ss : List PlainStatement) (xs : List Operand) → AllByRecursion (IsMet ss) (uses_of_operands xs) → AllByRecursion (IsValueMet ss) (uses_of_operands xs)
-to_values ss [] h = h
-to_values ss (Value i ∷ xs) h = (h.0, to_values ss xs h.1)
-to_values ss (Constant c ∷ xs) h = to_values ss xs h
-
-from_values : (ss : List PlainStatement) (xs : List Operand) → AllByRecursion (IsValueMet ss) (uses_of_operands xs) → AllByRecursion (IsMet ss) (uses_of_operands xs)
-from_values ss [] h = h
-from_values ss (Value i ∷ xs) h = (h.0, from_values ss xs h.1)
-from_values ss (Constant c ∷ xs) h = from_values ss xs h
-
-pub values_met : (ss : List PlainStatement) (xs : List Operand) → AllByRecursion (IsMet ss) (uses_of_operands xs) ↔ AllByRecursion (IsValueMet ss) (uses_of_operands xs)
-values_met ss xs = (to_values ss xs, from_values ss xs)
-
 -- if the use is of a block, a block is there
 abbrev pub IsBlockMet : List PlainStatement → Use → Type 0
 IsBlockMet ss (value_use i) = Unit {0}

@@ -3,11 +3,11 @@
 ghost use Rattle.std.specs.Prelude.{◌≡◌, ◌++◌};
 ghost use Rattle.std.specs.Iterator.{YieldsFirst, YieldsFirstBy, item_count};
 ghost use Rattle.souper_graph.specs.View.{view_rhs, view_statement};
-ghost use Rattle.souper_graph.specs.Uses.{value_use, uses_of_operands, uses_of_rhs, uses_of};
+ghost use Rattle.souper_graph.specs.Uses.{position_of, value_use, uses_of_operands, uses_of_rhs, uses_of};
 ghost use Rattle.souper_graph.specs.UsesView.{view_use, operands_left, block_left};
 ghost use Rattle.souper_graph.specs.Operands.{operands_seen};
 
-use crate::ast::ids::{BlockId, ValueId};
+use crate::ast::ids::{BlockId, Id, ValueId};
 use crate::ast::instructions::Operands;
 use crate::ast::operands::Operand;
 use crate::ast::statements::{AssignmentRhs, Statement};
@@ -21,6 +21,18 @@ pub enum Use {
 
     /// The block is that of a phi or of a path condition.
     Block(BlockId),
+}
+
+impl Use {
+    // The position of the statement that is used.
+    pub(crate) fn position(self) -> Id<Statement>
+        ensures { result ≡ position_of (view_use self) }
+    {
+        match self {
+            Use::Value(id) => id.into(),
+            Use::Block(id) => id.into(),
+        }
+    }
 }
 
 // The operands that are left: of an instruction or a path condition, and of a phi.

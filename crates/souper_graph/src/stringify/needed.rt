@@ -2,13 +2,14 @@
 
 ghost use Rattle.std.specs.Prelude.{◌≡◌, ◌++◌, length, map, IfOk, IfErr, OnOk};
 ghost use Rattle.souper_graph.specs.declared.stringify.errors.TextError.TheVariants.{OutOfMemory};
-ghost use Rattle.souper_graph.specs.View.{view_rhs, view_statement};
+ghost use Rattle.souper_graph.specs.View.{view_statement};
 ghost use Rattle.souper_graph.specs.PartsView.{view_parts, view_ending};
-ghost use Rattle.souper_graph.specs.Uses.{position_of, uses_of_rhs, uses_of, roots_of};
+ghost use Rattle.souper_graph.specs.Uses.{position_of, uses_of, roots_of};
+ghost use Rattle.souper_graph.specs.UsesView.{view_use};
 ghost use Rattle.souper_graph.specs.Walks.{position_of_target};
 ghost use Rattle.souper_graph.specs.FlawSearch.{AreReached, AreNeeded, marked_from};
 
-use crate::ast::{Arena, AssignmentRhs, Ending, Id, Operand, Parts, Statement};
+use crate::ast::{Arena, Ending, Id, Operand, Parts, Statement, Use};
 use crate::stringify::errors::TextError;
 use crate::stringify::marks::Marks;
 use crate::stringify::order::{Target, push_conditions, push_roots};
@@ -65,32 +66,18 @@ fn push_used(targets: &mut Vec<Target>, statement: &Statement) -> Result<(), Tex
     ensures ok { OnOk result (map position_of_target targets.new.items ≡ map position_of_target targets.old.items ++ map position_of (uses_of (view_statement statement.now))) }
     ensures err { IfErr result (λ error. error ≡ OutOfMemory) }
 {
-    match statement {
-        Statement::Assignment(assignment) => push_used_by_rhs(targets, &assignment.value),
-        Statement::Pc(pc) => push_roots(targets, &[pc.x, pc.y]),
-        Statement::BlockPc(pc) => {
-            targets.push(Target::Block(pc.block))?;
-            push_roots(targets, &[pc.x, pc.y])
-        }
+    for used in statement.uses() {
+        targets.push(target(used))?;
     }
+    Ok(())
 }
 
-fn push_used_by_rhs(targets: &mut Vec<Target>, rhs: &AssignmentRhs) -> Result<(), TextError>
-    ensures ok { OnOk result (map position_of_target targets.new.items ≡ map position_of_target targets.old.items ++ map position_of (uses_of_rhs (view_rhs rhs.now))) }
-    ensures err { IfErr result (λ error. error ≡ OutOfMemory) }
+fn target(used: Use) -> Target
+    ensures { position_of_target result ≡ position_of (view_use used) }
 {
-    match rhs {
-        AssignmentRhs::Phi(phi) => {
-            targets.push(Target::Block(phi.block))?;
-            push_roots(targets, &phi.values)
-        }
-        AssignmentRhs::Instruction(instruction) => {
-            push_roots(targets, instruction.operands().as_slice())
-        }
-        AssignmentRhs::Var
-        | AssignmentRhs::Block(_)
-        | AssignmentRhs::ReservedInst
-        | AssignmentRhs::ReservedConst => Ok(()),
+    match used {
+        Use::Value(value) => Target::Value(value),
+        Use::Block(block) => Target::Block(block),
     }
 }
 
