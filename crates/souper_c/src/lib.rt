@@ -1,71 +1,24 @@
 //! The library for callers that are not Rattle: C, C++, Rust and Python, by one static library.
 //!
 //! `embed/souper.h` declares these functions in C, and `docs/EMBEDDING.md` says how to build, link and call them. A call
-//! keeps no memory and has no state of its own. No contract has a condition on its arguments.
+//! keeps no memory and has no state of its own. No contract has a condition on its arguments. What each call does is in the
+//! crate `souper_calls`, in the function of the same name, which has the same clauses.
 #![tactic(auto)]
-
-mod answers;
-mod codes;
-mod cuts;
-mod flaw;
-mod inputs;
-mod location;
-mod outcome;
-mod records;
-#[cfg(test)]
-mod tests;
-mod texts;
 
 ghost use Rattle.std.specs.Prelude.{◌≡◌, ◌≢◌, ◌<◌, ◌≤◌, ◌⊎◌, ◌↔◌, [], None, length};
 ghost use Rattle.std.specs.Str.{IsUtf8};
 ghost use Rattle.souper_graph.specs.Syntax.Tokens.{IsLastGap};
-ghost use Rattle.souper_c.specs.Kinds.{type_of_number, IsKind, OfType};
-ghost use Rattle.souper_c.specs.Outcomes.{HasNoPlace, FillsStart, WritesTexts, WritesCode, WritesItems, IsShortItems, outcome_place, WritesRefusal, IsShort, IsShortCode, IsShortFor, IsCanonicalSource, IsNotCanonical, Refuses, BothSpell, AreSameItems, AreNotSame, RefusesInput, IsNoTextInput, SpellsSome};
+ghost use Rattle.souper_calls.specs.Kinds.{type_of_number, IsKind, OfType};
+ghost use Rattle.souper_calls.specs.Outcomes.{HasNoPlace, WritesTexts, WritesCode, WritesItems, IsShortItems, outcome_place, WritesRefusal, IsShort, IsShortCode, IsShortFor, IsCanonicalSource, IsNotCanonical, Refuses, BothSpell, AreSameItems, AreNotSame, RefusesInput, IsNoTextInput, SpellsSome};
 ghost use Rattle.souper_code.specs.Writing.{IsNoCode, IsNoCodeAt, IsCodeOfWellFormed, IsIllFormedAt};
-ghost use Rattle.souper_c.specs.Records.{RecordsTo, WritesRecordsTo};
-ghost use Rattle.souper_c.specs.Failures.{outcome_of, short_outcome, shown_of};
-ghost use Rattle.souper_c.specs.Answers.{WritesAnswerGroups, WritesRefusalOfOne, IsNoTextOfOne, IsShortFind};
-ghost use Rattle.souper_c.specs.Locations.{HasNoLocation, LocatesFault};
-ghost use Rattle.souper_c.specs.Cuts.{OfWholeLines, CutsLast, HasFirstSegment, HasBadStart};
-ghost use Rattle.souper_c.specs.FlawAnswers.{answer_without, IsFlawAnswer};
+ghost use Rattle.souper_calls.specs.Records.{RecordsTo, WritesRecordsTo};
+ghost use Rattle.souper_calls.specs.Answers.{WritesAnswerGroups, WritesRefusalOfOne, IsNoTextOfOne, IsShortFind};
+ghost use Rattle.souper_calls.specs.Locations.{HasNoLocation, LocatesFault};
+ghost use Rattle.souper_calls.specs.Cuts.{OfWholeLines, CutsLast, HasFirstSegment, HasBadStart};
+ghost use Rattle.souper_calls.specs.FlawAnswers.{answer_without, IsFlawAnswer};
 
-use crate::answers::{answers_to, store_of};
-use crate::codes::code;
-use crate::cuts::{find_first_segment, find_last_cut};
-pub use crate::flaw::SouperFlaw;
-use crate::flaw::flaw_of_code;
-use crate::inputs::{Failure, canonical_text, items, read_kind};
-pub use crate::location::SouperLocation;
-use crate::location::locate;
-pub use crate::outcome::SouperOutcome;
-use crate::outcome::{DIFFERENT, DONE, NO_FLAGS, NO_KIND, OUT_OF_MEMORY, SHORT};
-use crate::records::{layout_of, records};
-use crate::texts::{outcome_of_stop, texts_of_code};
-use souper_format::command::Kind;
-use souper_format::same::same;
-use souper_ir::ast::{LeftHandSide, Replacement, RightHandSide};
+pub use souper_calls::{SouperFlaw, SouperLocation, SouperOutcome};
 use std::alloc::Global;
-
-// Writes the bytes to the beginning of the buffer, if it has the room.
-fn write(bytes: &[u8], outcome: SouperOutcome, out: &mut [u8]) -> SouperOutcome
-    ensures written { length bytes.now ≤ length out.old → (result ≡ outcome) × FillsStart out.old out.new bytes.now }
-    ensures short { length out.old < length bytes.now → (result ≡ short_outcome (length bytes.now)) × (out.new ≡ out.old) }
-{
-    let length = bytes.len();
-    if out.len() < length {
-        return SouperOutcome::new(SHORT, length);
-    }
-    out[..length].copy_from_slice(bytes);
-    outcome
-}
-
-// Writes what the failure of the input with that index shows, as `write` does, and returns the outcome for it.
-fn write_failure(failure: &Failure, input: u32, out: &mut [u8]) -> SouperOutcome
-    ensures written { length (shown_of failure.now) ≤ length out.old → (result ≡ outcome_of failure.now input) × FillsStart out.old out.new (shown_of failure.now) }
-    ensures short { length out.old < length (shown_of failure.now) → (result ≡ short_outcome (length (shown_of failure.now))) × (out.new ≡ out.old) }
-{
-    write(failure.shown().as_bytes(), failure.outcome(input), out)
-}
 
 /// Writes the canonical text of each item that `text` spells, a newline after each, to the beginning of `out`.
 ///
@@ -99,18 +52,7 @@ pub extern "C" fn souper_format(
     ensures first { result.input ≡ 0 }
     ensures gaps { IsKind kind → IsUtf8 text.now → IsLastGap text.now → (result.status ≡ 0) × (result.length ≡ 0) }
 {
-    let failure = match canonical_text(alloc, kind, text) {
-        Ok(canonical) => {
-            let outcome = SouperOutcome::new(DONE, canonical.len());
-            return write(canonical.as_bytes(), outcome, out);
-        }
-        Err(failure) => failure,
-    };
-    let outcome = failure.outcome(0);
-    match failure {
-        Failure::Refused(refusal) => write(refusal.shown.as_bytes(), outcome, out),
-        _ => outcome,
-    }
+    souper_calls::souper_format(alloc, kind, text, out)
 }
 
 /// Writes the code of the items that `text` spells to the beginning of `out`: all of their statements, in the order of the text.
@@ -136,18 +78,7 @@ pub extern "C" fn souper_read(
     ensures first { result.input ≡ 0 }
     ensures gaps { IsKind kind → IsUtf8 text.now → IsLastGap text.now → (result.status ≡ 0) × (result.length ≡ 0) }
 {
-    let failure = match code(alloc, kind, text) {
-        Ok(code) => {
-            let outcome = SouperOutcome::new(DONE, code.len());
-            return write(&code, outcome, out);
-        }
-        Err(failure) => failure,
-    };
-    let outcome = failure.outcome(0);
-    match failure {
-        Failure::Refused(refusal) => write(refusal.shown.as_bytes(), outcome, out),
-        Failure::NoKind | Failure::NotUtf8 | Failure::OutOfMemory => outcome,
-    }
+    souper_calls::souper_read(alloc, kind, text, out)
 }
 
 /// Writes the record of each item that `text` spells to the beginning of `out`: its canonical text, and a newline after it, as [`souper_format`]
@@ -181,22 +112,7 @@ pub extern "C" fn souper_key(
     ensures first { result.input ≡ 0 }
     ensures gaps { flags < 8 → IsKind kind → IsUtf8 text.now → IsLastGap text.now → (result.status ≡ 0) × (result.length ≡ 0) }
 {
-    let layout = match layout_of(flags) {
-        Some(layout) => layout,
-        None => return SouperOutcome::new(NO_FLAGS, 0),
-    };
-    let failure = match records(alloc, kind, layout, text) {
-        Ok(records) => {
-            let outcome = SouperOutcome::new(DONE, records.len());
-            return write(records.as_bytes(), outcome, out);
-        }
-        Err(failure) => failure,
-    };
-    let outcome = failure.outcome(0);
-    match failure {
-        Failure::Refused(refusal) => write(refusal.shown.as_bytes(), outcome, out),
-        Failure::NoKind | Failure::NotUtf8 | Failure::OutOfMemory => outcome,
-    }
+    souper_calls::souper_key(alloc, kind, flags, text, out)
 }
 
 /// Writes the canonical text of each item whose code `code` is, a newline after each, to the beginning of `out`.
@@ -233,17 +149,7 @@ pub extern "C" fn souper_write(
     ensures first { (result.input ≡ 0) × (result.line ≡ 0) × (result.column ≡ 0) }
     ensures empty { IsKind kind → code.now ≡ [] → (result.status ≡ 0) × (result.length ≡ 0) }
 {
-    let kind = match read_kind(kind) {
-        Some(kind) => kind,
-        None => return SouperOutcome::new(NO_KIND, 0),
-    };
-    match texts_of_code(alloc, kind, code) {
-        Ok(text) => {
-            let outcome = SouperOutcome::new(DONE, text.len());
-            write(text.as_bytes(), outcome, out)
-        }
-        Err(error) => outcome_of_stop(error),
-    }
+    souper_calls::souper_write(alloc, kind, code, out)
 }
 
 /// Where the item whose code `code` begins with is not well formed first, and why.
@@ -260,12 +166,7 @@ pub extern "C" fn souper_flaw(alloc: Global, kind: u32, code: &[u8]) -> SouperFl
     ensures no_kind { type_of_number kind ≡ None → result ≡ answer_without 2 }
     ensures answered { IsKind kind → OfType kind (λ k. IsFlawAnswer k code.now result) }
 {
-    match read_kind(kind) {
-        Some(Kind::Lhs) => flaw_of_code::<LeftHandSide>(alloc, code),
-        Some(Kind::Rhs) => flaw_of_code::<RightHandSide>(alloc, code),
-        Some(Kind::Rep) => flaw_of_code::<Replacement>(alloc, code),
-        None => SouperFlaw::without(NO_KIND),
-    }
+    souper_calls::souper_flaw(alloc, kind, code)
 }
 
 /// Whether `text` is canonical: the canonical text of each item that it spells, a newline after each.
@@ -290,14 +191,7 @@ pub extern "C" fn souper_check(alloc: Global, kind: u32, text: &[u8]) -> SouperO
     ensures first { result.input ≡ 0 }
     ensures gaps { IsKind kind → IsUtf8 text.now → IsLastGap text.now → result.status ≢ 3 }
 {
-    match canonical_text(alloc, kind, text) {
-        Ok(canonical) => {
-            let is_canonical = canonical.as_bytes() == text;
-            let status = if is_canonical { DONE } else { DIFFERENT };
-            SouperOutcome::new(status, canonical.len())
-        }
-        Err(failure) => failure.outcome(0),
-    }
+    souper_calls::souper_check(alloc, kind, text)
 }
 
 /// Where `text` is at fault: unlike the place that an outcome has, where the token at fault begins, or where the text ends.
@@ -313,7 +207,7 @@ pub extern "C" fn souper_locate(alloc: Global, kind: u32, text: &[u8]) -> Souper
     ensures no_text { (result.status ≡ 4) ↔ (IsKind kind × ¬ (IsUtf8 text.now)) }
     ensures no_location { (result.status ≡ 1) ⊎ HasNoLocation result }
 {
-    locate(alloc, kind, text)
+    souper_calls::souper_locate(alloc, kind, text)
 }
 
 /// Whether two texts spell lists of one length, in which each item is the same graph as the one at its index in the
@@ -345,19 +239,7 @@ pub extern "C" fn souper_same(alloc: Global, kind: u32, a: &[u8], b: &[u8]) -> S
     ensures no_length { (result.status ≡ 1) ⊎ (result.length ≡ 0) }
     ensures first { (result.status ≡ 1) ⊎ (result.status ≡ 4) ⊎ (result.input ≡ 0) }
 {
-    let a = match items(alloc, kind, a) {
-        Ok(items) => items,
-        Err(failure) => return failure.outcome(0),
-    };
-    let b = match items(alloc, kind, b) {
-        Ok(items) => items,
-        Err(failure) => return failure.outcome(1),
-    };
-    match same(alloc, &a, &b) {
-        Ok(true) => SouperOutcome::new(DONE, 0),
-        Ok(false) => SouperOutcome::new(DIFFERENT, 0),
-        Err(_) => SouperOutcome::new(OUT_OF_MEMORY, 0),
-    }
+    souper_calls::souper_same(alloc, kind, a, b)
 }
 
 /// The offset of the last cut point of the whole lines that `text` begins with: up to its last newline. The bytes after that are passed
@@ -378,7 +260,7 @@ pub extern "C" fn souper_last_cut(kind: u32, text: &[u8]) -> SouperOutcome
     ensures no_place { HasNoPlace result × (result.input ≡ 0) }
     ensures no_length { (result.status ≡ 0) ⊎ (result.length ≡ 0) }
 {
-    find_last_cut(kind, text)
+    souper_calls::souper_last_cut(kind, text)
 }
 
 /// The length of the first segment of `text`: up to its first cut point or, if it has none, its end. [`souper_last_cut`] says what a cut
@@ -400,7 +282,7 @@ pub extern "C" fn souper_first_segment(kind: u32, text: &[u8]) -> SouperOutcome
     ensures no_place { HasNoPlace result × (result.input ≡ 0) }
     ensures no_length { (result.status ≡ 0) ⊎ (result.length ≡ 0) }
 {
-    find_first_segment(kind, text)
+    souper_calls::souper_first_segment(kind, text)
 }
 
 /// Writes what the replacements of `store` answer for each left-hand side that `queries` spells to the beginning of `out`.
@@ -438,15 +320,5 @@ pub extern "C" fn souper_find(
     ensures first { (result.status ≡ 1) ⊎ (result.status ≡ 4) ⊎ (result.input ≡ 0) }
     ensures gaps { IsUtf8 store.now → IsLastGap store.now → IsUtf8 queries.now → IsLastGap queries.now → (result.status ≡ 0) × (result.length ≡ 0) }
 {
-    let store = match store_of(alloc, store) {
-        Ok(store) => store,
-        Err(failure) => return write_failure(&failure, 0, out),
-    };
-    match answers_to(alloc, &store, queries) {
-        Ok(answers) => {
-            let outcome = SouperOutcome::new(DONE, answers.len());
-            write(answers.as_bytes(), outcome, out)
-        }
-        Err(failure) => write_failure(&failure, 1, out),
-    }
+    souper_calls::souper_find(alloc, store, queries, out)
 }

@@ -1,8 +1,11 @@
-//! Tests from text to text: items that are read and printed, refusals, streams, look-up, and the runs of both programs.
+//! Tests from text to text: items that are read and printed, refusals, streams, look-up, the calls from C, and the runs of
+//! both programs.
 //!
 //! The values of the tests were worked out by hand from the rules of the language.
 #![tactic(auto)]
 
+#[cfg(test)]
+mod calls;
 #[cfg(test)]
 mod cases;
 #[cfg(test)]
