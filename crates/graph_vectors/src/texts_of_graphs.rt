@@ -1,5 +1,5 @@
 //! Items that are built, mostly such as no text spells: their texts, the order of their statements, and whether they are well
-//! formed. The others are tested with the texts that spell them, in `souper_vectors`.
+//! formed. The others are tested with the texts that spell them, in `text_vectors`.
 use crate::fixtures::{
     Graph, equal, foreign_id, has_counts, is_not_displayed, is_text, item_is, number, typed,
 };

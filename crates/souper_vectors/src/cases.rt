@@ -1,90 +1,24 @@
-//! The cases of the tests: texts in one format, in the files of `cases`. A case is
-//!
-//! ```text
-//! === KIND NAME
-//! TEXT
-//! ---
-//! WANT
-//! ```
-//!
-//! KIND is the type of the items that TEXT is read as: `lhs`, `rhs` or `rep`, or `any` for each of the three. NAME says in a few
-//! words what the case shows. TEXT and WANT may have several lines, or be empty: the newline before `---`, the one before
-//! `===` and the last one of the file are not part of them. Escapes are as in a string literal: write `\u{d}` for a carriage
-//! return, `\u{9}` for a tab, and `\u{20}` for a space at the end of a line.
-//!
-//! | File | WANT |
-//! |---|---|
-//! | `formatted` | the text of each item, and a newline after each. The text of a left-hand side or a replacement ends in a newline too |
-//! | `renamed` | the text of the first item, when that is named by its printed order |
-//! | `orders` | of the first item: how many statements are printed, how many of them before an infer line, and the turns |
-//! | `refused` | what the error shows; its offset comes before NAME: `=== KIND OFFSET NAME` |
-//! | `refused_streams` | how many items are taken before the error |
-//! | `same`, `different` | a text of a list with pairwise the same graphs, or without |
-pub mod different;
-pub mod formatted;
-pub mod orders;
-pub mod refused;
-pub mod refused_streams;
-pub mod renamed;
-pub mod same;
-
-use crate::cases::formatted::FORMATTED;
+//! The texts of cases of `text_cases`, which describes their format.
 use souper_format::command::Kind;
 use std::alloc::Global;
 use std::process::Abort;
-
-const KINDS: [(&str, Kind); 3] = [("lhs", Kind::Lhs), ("rhs", Kind::Rhs), ("rep", Kind::Rep)];
-
-/// A text, and what is expected of it.
-#[derive(Clone, Copy)]
-pub struct Case<'a> {
-    /// The lines of the case, which a failure shows.
-    pub lines: &'a str,
-    pub kind: Kind,
-    pub text: &'a str,
-    pub want: &'a str,
-}
-
-// Appends the case of these lines, of each kind that its head names.
-fn push_case<'a>(rt: &impl Abort, cases: &mut Vec<Case<'a>>, lines: &'a str) {
-    let (head, parts) = lines.split_once('\n').expect(rt, lines);
-    let (word, _name) = head.split_once(' ').expect(rt, lines);
-    let (text, want) = parts.split_once("\n---\n").expect(rt, lines);
-    let count = cases.len();
-    for (name, kind) in KINDS {
-        if word == name || word == "any" {
-            let case = Case {
-                lines,
-                kind,
-                text,
-                want,
-            };
-            cases.push(case).expect(rt, lines);
-        }
-    }
-    assert!(rt; cases.len() > count, "no kind in {lines}");
-}
-
-/// The cases of a file, of which there is at least one.
-pub fn read_cases<'a>(rt: &impl Abort, alloc: Global, file: &'a str) -> Vec<Case<'a>> {
-    let mut cases = Vec::new(alloc);
-    let rest = file
-        .strip_prefix("\n=== ")
-        .expect(rt, "no case at the beginning");
-    let rest = rest.strip_suffix("\n").expect(rt, "no newline at the end");
-    for lines in rest.split("\n=== ") {
-        push_case(rt, &mut cases, lines);
-    }
-    cases
-}
+use text_cases::formatted::FORMATTED;
 
 /// The texts of the items of the kind that are formatted, each on lines of its own.
 pub fn joined_texts(rt: &impl Abort, alloc: Global, kind: Kind) -> String {
+    let name = match kind {
+        Kind::Lhs => "lhs ",
+        Kind::Rhs => "rhs ",
+        Kind::Rep => "rep ",
+    };
     let mut all = String::new(alloc);
-    for case in read_cases(rt, alloc, FORMATTED).iter() {
-        if case.kind == kind {
-            all.push_str(case.text).expect(rt, case.lines);
-            all.push('\n').expect(rt, case.lines);
+    let rest = FORMATTED.strip_prefix("\n=== ").expect(rt, "no case");
+    for lines in rest.split("\n=== ") {
+        let (head, parts) = lines.split_once('\n').expect(rt, lines);
+        let (text, _want) = parts.split_once("\n---\n").expect(rt, lines);
+        if head.starts_with(name) || head.starts_with("any ") {
+            all.push_str(text).expect(rt, lines);
+            all.push('\n').expect(rt, lines);
         }
     }
     all

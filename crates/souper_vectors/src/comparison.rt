@@ -1,4 +1,3 @@
-//! Files that are read and compared, and lists that are the same.
+//! Files that are read and compared.
 mod files;
-mod same;
 mod same_runs;

@@ -1,5 +1,4 @@
-//! Tests from text to text: items that are read and printed, refusals, streams, look-up, the calls from C, and the runs of
-//! both programs.
+//! Tests of runs: files that are read and compared, records, look-up, the functions of both programs, and the calls from C.
 //!
 //! The values of the tests were worked out by hand from the rules of the language.
 #![tactic(auto)]
@@ -13,8 +12,6 @@ mod checks;
 #[cfg(test)]
 mod comparison;
 #[cfg(test)]
-mod differences;
-#[cfg(test)]
 mod faulty;
 #[cfg(test)]
 mod lookup;
@@ -22,11 +19,3 @@ mod lookup;
 mod program;
 #[cfg(test)]
 mod records;
-#[cfg(test)]
-mod refusals;
-#[cfg(test)]
-mod sources;
-#[cfg(test)]
-mod streams;
-#[cfg(test)]
-mod texts;

@@ -1,5 +1,4 @@
 //! Texts of the three kinds that are read, and the texts of their items.
-use crate::cases::formatted::FORMATTED;
 use crate::cases::{Case, read_cases};
 use crate::checks::{equal, items};
 use crate::sources::{WORDS, applied, chain, thousand, word_and_count};
@@ -8,6 +7,7 @@ use souper_format::command::Kind;
 use souper_format::items::read_items;
 use std::alloc::Global;
 use std::process::Abort;
+use text_cases::formatted::FORMATTED;
 
 #[test]
 fn texts_are_formatted(rt: HostRuntime) {

@@ -1,7 +1,5 @@
 //! Texts that are cut off.
-use crate::cases::formatted::FORMATTED;
 use crate::cases::read_cases;
-use crate::cases::refused::REFUSED;
 use crate::checks::equal_in;
 use crate::sources::{WORDS, applied, chain, thousand, word_and_count};
 use souper_format::command::Kind;
@@ -9,6 +7,8 @@ use souper_format::items::read_items;
 use souper_ir::parse::{ParseError, ParseErrorKind, parse_left_hand_sides_str};
 use std::alloc::Global;
 use std::process::Abort;
+use text_cases::formatted::FORMATTED;
+use text_cases::refused::REFUSED;
 
 const SOURCE: &str = "%a = var\n%b = var\ninfer %b";
 

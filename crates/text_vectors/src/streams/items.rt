@@ -1,5 +1,4 @@
 //! Items of streams: the same items as in the whole texts, whatever the sizes of the reads and of the chunks.
-use crate::cases::formatted::FORMATTED;
 use crate::cases::{joined_texts, read_cases};
 use crate::checks::{equal_in, is_text, is_text_in};
 use souper_format::command::Kind;
@@ -10,6 +9,7 @@ use std::alloc::{AllocError, Global};
 use std::io;
 use std::io::{BufReader, Read};
 use std::process::Abort;
+use text_cases::formatted::FORMATTED;
 
 // The texts of the items, a line of its own after each.
 #[derive(Drop)]

@@ -1,5 +1,4 @@
 //! Refusals of texts.
-use crate::cases::refused::REFUSED;
 use crate::cases::{Case, read_cases};
 use crate::checks::{equal_in, is_text_in};
 use souper_format::command::Kind;
@@ -10,6 +9,7 @@ use souper_ir::parse::{
 };
 use std::alloc::Global;
 use std::process::Abort;
+use text_cases::refused::REFUSED;
 
 /// A text that is refused, and the error that it gives.
 #[derive(Clone, Copy)]

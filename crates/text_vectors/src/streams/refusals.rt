@@ -1,5 +1,4 @@
 //! Refusals of streams: their places are those in the whole text, and the items before them were taken.
-use crate::cases::refused_streams::REFUSED_STREAMS;
 use crate::cases::{Case, read_cases};
 use crate::checks::{equal_in, is_text_in};
 use souper_format::command::Kind;
@@ -10,6 +9,7 @@ use souper_stream::{StreamItem, read_chunks_into};
 use std::alloc::{AllocError, Global};
 use std::io::BufReader;
 use std::process::Abort;
+use text_cases::refused_streams::REFUSED_STREAMS;
 
 // How many items were taken.
 #[derive(Clone, Copy)]

@@ -1,5 +1,4 @@
 //! Printed orders of items that are read.
-use crate::cases::orders::ORDERS;
 use crate::cases::read_cases;
 use crate::checks::{equal, is_text_in, items};
 use crate::sources::chain;
@@ -9,6 +8,7 @@ use souper_format::same::same;
 use souper_ir::ast::Item;
 use std::alloc::Global;
 use std::process::Abort;
+use text_cases::orders::ORDERS;
 
 // The number of statements in printed order, those before an infer line, and the turns, of the first item of the list.
 fn counts_of_first<I: Item + Drop>(rt: &impl Abort, alloc: Global, items: &[I]) -> String {

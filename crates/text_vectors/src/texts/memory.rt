@@ -1,6 +1,4 @@
 //! Texts that are read one after the other into the memory of the items before them.
-use crate::cases::formatted::FORMATTED;
-use crate::cases::refused::REFUSED;
 use crate::cases::{Case, read_cases};
 use crate::checks::{equal_in, is_text_in};
 use souper_format::command::Kind;
@@ -8,6 +6,8 @@ use souper_ir::ast::{Arena, LeftHandSide, Replacement, RightHandSide, Statement}
 use souper_ir::parse::{Memory, Sink, WholeItem, parse_into, parse_with_memory};
 use std::alloc::{AllocError, Global};
 use std::process::Abort;
+use text_cases::formatted::FORMATTED;
+use text_cases::refused::REFUSED;
 
 // The texts of the items, which are dropped.
 #[derive(Drop)]

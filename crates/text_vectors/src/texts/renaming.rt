@@ -1,5 +1,4 @@
 //! Items that are named by their printed order.
-use crate::cases::renamed::RENAMED;
 use crate::cases::{Case, read_cases};
 use crate::checks::{equal, is_text, is_text_in, items};
 use souper_format::items::Items;
@@ -7,6 +6,7 @@ use souper_ir::ast::{Item, Statement};
 use souper_ir::parse::parse_left_hand_sides_str;
 use std::alloc::Global;
 use std::process::Abort;
+use text_cases::renamed::RENAMED;
 
 fn renamed<I: Item + Drop>(rt: &impl Abort, item: &I) -> I {
     item.renamed().expect(rt, "a renamed item")

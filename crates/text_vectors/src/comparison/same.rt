@@ -1,12 +1,12 @@
 //! Lists with pairwise the same graphs, and lists without.
-use crate::cases::different::DIFFERENT;
 use crate::cases::read_cases;
-use crate::cases::same::SAME;
 use crate::checks::{equal_in, items};
 use souper_format::command::Kind;
 use souper_format::same::same;
 use std::alloc::Global;
 use std::process::Abort;
+use text_cases::different::DIFFERENT;
+use text_cases::same::SAME;
 
 // A list of items: their kind and their text.
 type Source<'a> = (Kind, &'a str);

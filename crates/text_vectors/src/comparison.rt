@@ -1,0 +1,2 @@
+//! Lists that are the same.
+mod same;
