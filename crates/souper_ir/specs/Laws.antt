@@ -4,7 +4,8 @@ pub mod Unique
 pub mod Peeks
 pub mod Steps
 pub mod Tokens
-pub mod Combinators
+pub mod Next
+pub mod Rules
 pub mod FromReadings
 pub mod Operands
 pub mod Words

@@ -5,8 +5,9 @@ use Rattle.souper_errors.specs.declared.error.ParseError.{ParseError}
 use Rattle.souper_ir.specs.Parsing.{Parsing}
 use Rattle.souper_graph.specs.Syntax.Tokens.{Lexeme, open_paren}
 use Rattle.souper_graph.specs.Syntax.Spelling.{Scope}
+use Rattle.souper_graph.specs.Syntax.Forms.{◌·◌}
 use Rattle.souper_ir.specs.Continuation.{attributes_continue}
-use Rattle.souper_ir.specs.Grammar.{Free, Starts, Members, ListGoesOn, Took, Refusal}
+use Rattle.souper_ir.specs.Grammar.{Free, Starts, Followed, Members, ListGoesOn, Took, Refusal}
 use Rattle.souper_ir.specs.Laws.Unique.{Alone, list_alone}
 use Rattle.souper_ir.specs.NodeReadings.{is_mark}
 use Rattle.souper_ir.specs.Laws.Tokens.{is_mark_means}
@@ -46,10 +47,18 @@ module _ {X : Type 0} (spells : X → List Lexeme → Type 0) (first : (x : X) (
   attributes_over P [] ts n m = subst (Free P) (sym m) tt
   attributes_over P (x ∷ xs) ts n m = subst (Free P) (sym m.whole) (open_front P x m.prefix m.suffix m.first n)
 
+  -- the parts, when the first is continued by no opening parenthesis
+  pub attributes_split : {A : Type 0} (spells_a : Scope → A → List Lexeme → Type 0) (goes_on_a : A → Lexeme → Type 0) (s : Scope) (a : A) (xs : List X) → ¬ goes_on_a a open_paren → (ts : List Lexeme) → (spells_a s a · Row spells s xs) ts → Split spells_a goes_on_a (Row spells) s a xs ts
+  attributes_split spells_a goes_on_a s a xs n ts h = record { prefix = h.prefix; suffix = h.suffix; whole = h.whole; first = h.first; free = attributes_over (goes_on_a a) xs h.suffix n h.second; second = h.second }
+
   attributes_only : (P : Lexeme → Type 0) (xs : List X) (y rest : List Lexeme) → Members spells (λ x t. ⊥) xs y → Free P (y ++ rest) → Free (OneMore xs) rest → Free (λ t. attributes_continue (P t) xs t) rest
   attributes_only P xs y [] m f g = tt
   attributes_only P [] y (t ∷ rest) m f g = neither (λ e. g (more_if_open {V = X} [] t e)) (subst (λ (z : List Lexeme). Free P (z ++ t ∷ rest)) m f)
   attributes_only P (x ∷ xs) y (t ∷ rest) m f g = λ e. g (more_if_open (x ∷ xs) t e)
+
+-- one part, and then the other
+pub attributes_joined : {P Q : List Lexeme → Type 0} {goes_on : Lexeme → Type 0} {ts : List Lexeme} → Followed P goes_on Q ts → (P · Q) ts
+attributes_joined h = record { prefix = h.prefix; suffix = h.suffix; whole = h.whole; first = h.first; second = h.second }
 
 -- the laws of a node C that is a node A with attributes X after it
 pub record Laws {A X C : Type 0} (spells_a : Scope → A → List Lexeme → Type 0) (goes_on_a : A → Lexeme → Type 0) (spells_x : X → List Lexeme → Type 0) (a_of : C → A) (xs_of : C → List X)

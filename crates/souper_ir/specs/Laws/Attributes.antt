@@ -1,108 +1,138 @@
--- Lemmas. The rules of attributes: a value is read if and only if the tokens spell it.
-use Rattle.std.proofs.Common.{◌≡◌, ℕ, ◌^◌, ◌<◌, ◌==◌, Bool, true, false, List, [], ◌∷◌, ◌++◌, map, length, Option, Some, None, Ok, refl, sym, ◌∙◌, ap, subst, inl, inr, arith, eqb-true}
-use Rattle.std.specs.Prelude.{codes, if◌then◌else◌}
-use Rattle.souper_graph.specs.Leaves.{text_of_known_bit, text_of_bit}
+-- Lemmas. The rules of attributes: a value is read if and only if the tokens have its form.
+use Rattle.std.proofs.Common.{◌≡◌, ℕ, ◌^◌, Bool, List, [], ◌∷◌, ◌++◌, Option, Some, Ok, refl, sym, ◌∙◌, ap, subst, inl, inr}
+use Rattle.std.specs.Prelude.{ℤ, pos, codes}
 use Rattle.souper_graph.specs.Values.{PlainAttribute, known_bits as known_bits_attribute, power_of_two, negative, non_negative, non_zero, has_external_uses, sign_bits, range, PlainRootAttribute, demanded_bits, harvested_from_use}
 use Rattle.souper_graph.specs.Syntax.Tokens.{Lexeme, ident, known_bits, int, comma, equals, open_paren, close_paren, open_bracket}
-use Rattle.souper_graph.specs.Syntax.Numbers.{number_of, count_of, bit_of, known_bit_of, all_of, listed, bits_of, known_bits_of}
+use Rattle.souper_graph.specs.Syntax.Numbers.{number_of, count_of, bits_of, known_bits_of}
 use Rattle.souper_graph.specs.Syntax.Spelling.{Scope, Joined, attribute_spells, root_attribute_spells, attributes_spell, root_attributes_spell}
-use Rattle.souper_graph.specs.Syntax.Optional.{◌>>=◌ as ◌>>?◌}
+use Rattle.souper_graph.specs.Syntax.Forms.{Form, ◌·◌, nothing, token, word, one, enclosed, attribute, root_attribute}
+use Rattle.souper_graph.proofs.FormsAgree.Parts.{next}
+use Rattle.souper_graph.proofs.FormsAgree.Attributes.{attribute_to, attribute_from, root_attribute_to, root_attribute_from}
+use Rattle.souper_ir.specs.Parsing.{Parsing}
 use Rattle.souper_ir.specs.Reading.{◌>>=◌}
 use Rattle.souper_ir.specs.declared.parse.attributes.RootKind.{RootKind}
 use Rattle.souper_ir.specs.declared.parse.attributes.RootKind.TheVariants.{DemandedBits, HarvestedFromUse}
-use Rattle.souper_ir.specs.Grammar.{Free, Starts, Followed, Members, LastGoesOn, ListGoesOn}
+use Rattle.souper_ir.specs.Grammar.{Free, NextStops, Starts, Followed, Members, LastGoesOn, ListGoesOn}
 use Rattle.souper_ir.specs.NodeReadings.{accept, as_mark, is_mark, ident_by, AttributeKind, plain_kind, bits_kind, sign_bits_kind, range_kind, attribute_kind_of_word, attribute_kind_of, attribute_by, attribute_at, root_kind_of_word, root_attribute_by, root_attribute_at}
 use Rattle.souper_ir.specs.Laws.Unique.{never}
 use Rattle.souper_ir.specs.Laws.Peeks.{some_is}
-use Rattle.souper_ir.specs.Laws.Steps.{bind_some}
+use Rattle.souper_ir.specs.Laws.Steps.{Takes-then, At, bind_ok, state_then}
 use Rattle.souper_ir.specs.Laws.Tokens.{is_mark_means, by_word, ident_means}
-use Rattle.souper_ir.specs.Laws.Combinators.{Ends, Form, ReadingOf, Rule, Ruled, ruled, Node, From, respelled, both, and_then, done, found, given, one, mark, next, after, next_word, number}
-use Rattle.souper_ir.specs.Laws.FromReadings.{Complete}
+use Rattle.souper_ir.specs.Laws.Next.{accepted, accepts}
+use Rattle.souper_ir.specs.Laws.Rules.{FormOf, ReadingOf, Rule, Any, Never, reread, regrouped, reformed, given, done, mark, int_read, first, after, last, with_nothing, node}
+use Rattle.souper_ir.specs.Laws.FromReadings.{Complete, completes}
 
--- ---- bit lists
+-- ---- between parentheses
 
-module _ {A : Type 0} (one : ℕ → Option A) (text : A → ℕ) (one_is : (b : A) → one (text b) ≡ Some b) (one_means : (c : ℕ) (b : A) → one c ≡ Some b → c ≡ text b) where
-  all_is : (bs : List A) → all_of one (map text bs) ≡ Some bs
-  all_is [] = refl
-  all_is (b ∷ bs) = rw (one_is b, all_is bs) refl
+enclosed_rule : {K V : Type 0} {F : FormOf V} (kind_of : Lexeme → Option K) (f : K → ReadingOf V) → Rule Any F Never (λ p. accept kind_of p >>= λ k. f k.0 k.1)
+    → Rule Any (λ s v. enclosed (F s v)) Never (λ p. accept (as_mark open_paren) p >>= λ o. (accept kind_of o.1 >>= λ k. (f k.0 k.1 >>= λ a. (accept (as_mark close_paren) a.1 >>= λ c. Ok (a.0, c.1)))))
+enclosed_rule {K} {V} {F} kind_of f m =
+    after (mark open_paren refl) (
+    reread (λ q. accept kind_of q >>= λ k. (f k.0 k.1 >>= λ a. (accept (as_mark close_paren) a.1 >>= λ c. Ok (a.0, c.1))))
+    (λ q. regrouped (accept kind_of q) (λ k. f k.0 k.1) (λ a. accept (as_mark close_paren) a.1 >>= λ c. Ok (a.0, c.1)))
+    (first (λ a. a) m (λ a. last (λ (u : Unit {0}). a) (λ u i. (tt, refl)) (λ v i. (tt, tt, i.1)) (mark close_paren refl))))
 
-  all_means : (s : List ℕ) (bs : List A) → all_of one s ≡ Some bs → s ≡ map text bs
-  all_means [] bs e = let same : ◌≡◌ {A = List A} [] bs = some_is e in ap (map text) same
-  all_means (c ∷ cs) bs e =
-      let b = bind_some (one c) (λ b. all_of one cs >>? λ ds. Some (b ∷ ds)) bs e in
-      let more = bind_some (all_of one cs) (λ ds. Some (b.0 ∷ ds)) bs b.2 in
-      let same : ◌≡◌ {A = List A} (b.0 ∷ more.0) bs = some_is more.2 in
-      ap (λ (x : ℕ). x ∷ cs) (one_means c b.0 b.1) ∙ ap (λ (x : List ℕ). text b.0 ∷ x) (all_means cs more.0 more.1) ∙ ap (map text) same
+-- a token of a table, and then what it begins
+tabled : {K V : Type 0} {Is : K → V → Type 0} {F : K → FormOf V} {H : FormOf V} {f : K → ReadingOf V} (kind_of : Lexeme → Option K)
+    → ((s : Scope) (v : V) (k : K) (t : Lexeme) (ts : List Lexeme) → kind_of t ≡ Some k → Is k v → F k s v ts → H s v (t ∷ ts))
+    → ((s : Scope) (v : V) (ts : List Lexeme) → H s v ts → (k : K) × Is k v × (t : Lexeme) × (kind_of t ≡ Some k) × (token t · F k s v) ts)
+    → ((k : K) → Rule (Is k) (F k) Never (f k)) → Rule Any H Never (λ p. accept kind_of p >>= λ k. f k.0 k.1)
+tabled {K} {V} {Is} {F} {H} {f} kind_of to from n = record {
+  sound = λ p q v live e.
+      let x = bind_ok (accept kind_of p) (λ k. f k.0 k.1) (v, q) e in
+      let t = accepted kind_of p x.0.1 x.0.0 x.1 in
+      let k = (n x.0.0).sound x.0.1 q v (ap (λ (z : Parsing). z.failed) t.2.state ∙ live) x.2 in
+      record {
+        used = t.0 ∷ k.used;
+        taken = Takes-then p x.0.1 q (t.0 ∷ []) k.used t.2 k.taken;
+        is = tt;
+        formed = to p.scope v x.0.0 t.0 k.used t.1 k.is (subst (λ (z : Parsing). F x.0.0 z.scope v k.used) t.2.state k.formed);
+        free = k.free;
+      };
+  complete = λ p v front rest at i h st.
+      let (k, is, t, e, j) = from p.scope v front h in
+      let ahead : At p (t ∷ (j.suffix ++ rest)) = subst (At p) (ap (λ (x : List Lexeme). x ++ rest) (j.whole ∙ ap (λ (x : List Lexeme). x ++ j.suffix) j.first)) at in
+      let m = accepts kind_of p t k (j.suffix ++ rest) ahead e in
+      let r = (n k).complete m.0 v j.suffix rest m.2 is (subst (λ (z : Parsing). F k z.scope v j.suffix) (sym m.3) j.second) (subst (λ (z : Parsing). NextStops (λ t. ⊥) z.faulty rest) (sym m.3) st) in
+      record { next = r.next; is_read = rw (m.1, r.is_read) (refl {a = Ok (v, r.next)}); ahead = r.ahead; state = state_then p m.0 r.next m.3 r.state };
+}
 
-  listed_is : (bs : List A) → 0 < length bs → listed bs ≡ Some bs
-  listed_is [] h = absurd (omega arith)
-  listed_is (b ∷ bs) h = refl
+-- ---- attributes
 
-  listed_means : (bs cs : List A) → listed bs ≡ Some cs → (bs ≡ cs) × (0 < length cs)
-  listed_means [] cs e = absurd cc
-  listed_means (b ∷ bs) cs e =
-      let same : ◌≡◌ {A = List A} (b ∷ bs) cs = some_is e in
-      let long : 0 < length (b ∷ bs) = omega arith in
-      (same, subst (λ (x : List A). 0 < length x) same long)
+-- what an attribute has between parentheses
+abbrev inside : PlainAttribute → Form
+inside (known_bits_attribute bits) = one known_bits known_bits_of bits
+inside power_of_two = word (codes "powerOfTwo")
+inside negative = word (codes "negative")
+inside non_negative = word (codes "nonNegative")
+inside non_zero = word (codes "nonZero")
+inside has_external_uses = word (codes "hasExternalUses")
+inside (sign_bits n) = word (codes "signBits") · token equals · one int (count_of (2 ^ 8)) n
+inside (range low high) = word (codes "range") · token equals · token open_bracket · one int number_of low · token comma · one int number_of high · token close_paren
 
-  pub entries_is : (bs : List A) → 0 < length bs → (all_of one (map text bs) >>? listed) ≡ Some bs
-  entries_is bs h = rw (all_is bs) (listed_is bs h)
+inside_to : (x : PlainAttribute) (ts : List Lexeme) → enclosed (inside x) ts → attribute x ts
+inside_to (known_bits_attribute bits) ts h = h
+inside_to power_of_two ts h = h
+inside_to negative ts h = h
+inside_to non_negative ts h = h
+inside_to non_zero ts h = h
+inside_to has_external_uses ts h = h
+inside_to (sign_bits n) ts h = h
+inside_to (range low high) ts h = h
 
-  pub entries_means : (s : List ℕ) (bs : List A) → (all_of one s >>? listed) ≡ Some bs → (s ≡ map text bs) × (0 < length bs)
-  entries_means s bs e =
-      let all = bind_some (all_of one s) listed bs e in
-      let some = listed_means all.0 bs all.2 in
-      (all_means s all.0 all.1 ∙ ap (map text) some.0, some.1)
+inside_from : (x : PlainAttribute) (ts : List Lexeme) → attribute x ts → enclosed (inside x) ts
+inside_from (known_bits_attribute bits) ts h = h
+inside_from power_of_two ts h = h
+inside_from negative ts h = h
+inside_from non_negative ts h = h
+inside_from non_zero ts h = h
+inside_from has_external_uses ts h = h
+inside_from (sign_bits n) ts h = h
+inside_from (range low high) ts h = h
 
-bit_is : (b : Bool) → bit_of (text_of_bit b) ≡ Some b
-bit_is false = refl
-bit_is true = refl
+-- the attribute is of the kind
+abbrev OfKind : AttributeKind → PlainAttribute → Type 0
+OfKind (plain_kind a) x = x ≡ a
+OfKind (bits_kind w) x = (bits : List (Option Bool)) × (x ≡ known_bits_attribute bits) × (known_bits_of w ≡ Some bits)
+OfKind sign_bits_kind x = (n : ℕ) × (x ≡ sign_bits n)
+OfKind range_kind x = (low : ℤ) × (high : ℤ) × (x ≡ range low high)
 
-bit_by : (x y : Bool) (c : ℕ) (b : Bool) → (x ≡ true → c ≡ 48) → (y ≡ true → c ≡ 49) → (if x then Some false else (if y then Some true else None)) ≡ Some b → c ≡ text_of_bit b
-bit_by true y c b f g e = let same : false ≡ b = some_is e in f refl ∙ ap text_of_bit same
-bit_by false true c b f g e = let same : true ≡ b = some_is e in g refl ∙ ap text_of_bit same
-bit_by false false c b f g e = absurd cc
+abbrev sign_bits_in : PlainAttribute → ℕ
+sign_bits_in (sign_bits n) = n
+sign_bits_in _ = 0
 
-bit_means : (c : ℕ) (b : Bool) → bit_of c ≡ Some b → c ≡ text_of_bit b
-bit_means c b e = bit_by (c == 48) (c == 49) c b (eqb-true c 48) (eqb-true c 49) e
+abbrev low_in : PlainAttribute → ℤ
+low_in (range low high) = low
+low_in _ = pos 0
 
-known_bit_is : (b : Option Bool) → known_bit_of (text_of_known_bit b) ≡ Some b
-known_bit_is None = refl
-known_bit_is (Some false) = refl
-known_bit_is (Some true) = refl
+abbrev high_in : PlainAttribute → ℤ
+high_in (range low high) = high
+high_in _ = pos 0
 
-as_known : (b : Bool) → text_of_bit b ≡ text_of_known_bit (Some b)
-as_known false = refl
-as_known true = refl
+-- what comes after the token of the kind
+abbrev rest_of : AttributeKind → PlainAttribute → Form
+rest_of (plain_kind a) x = nothing
+rest_of (bits_kind w) x = nothing
+rest_of sign_bits_kind x = token equals · one int (count_of (2 ^ 8)) (sign_bits_in x)
+rest_of range_kind x = token equals · token open_bracket · one int number_of (low_in x) · token comma · one int number_of (high_in x) · token close_paren
 
-known_bit_by : (x : Bool) (c : ℕ) (b : Option Bool) → (x ≡ true → c ≡ 120) → (if x then Some None else (bit_of c >>? λ k. Some (Some k))) ≡ Some b → c ≡ text_of_known_bit b
-known_bit_by true c b f e = let same : ◌≡◌ {A = Option Bool} None b = some_is e in f refl ∙ ap text_of_known_bit same
-known_bit_by false c b f e =
-    let k = bind_some (bit_of c) (λ k. Some (Some k)) b e in
-    let same : ◌≡◌ {A = Option Bool} (Some k.0) b = some_is k.2 in
-    bit_means c k.0 k.1 ∙ as_known k.0 ∙ ap text_of_known_bit same
-
-known_bit_means : (c : ℕ) (b : Option Bool) → known_bit_of c ≡ Some b → c ≡ text_of_known_bit b
-known_bit_means c b e = known_bit_by (c == 120) c b (eqb-true c 120) e
-
--- a pattern's entries, and the pattern of entries
-pub bits_is : (bits : List Bool) → 0 < length bits → bits_of (map text_of_bit bits) ≡ Some bits
-bits_is = entries_is bit_of text_of_bit bit_is bit_means
-
-pub bits_means : (s : List ℕ) (bits : List Bool) → bits_of s ≡ Some bits → (s ≡ map text_of_bit bits) × (0 < length bits)
-bits_means = entries_means bit_of text_of_bit bit_is bit_means
-
-pub known_bits_is : (bits : List (Option Bool)) → 0 < length bits → known_bits_of (map text_of_known_bit bits) ≡ Some bits
-known_bits_is = entries_is known_bit_of text_of_known_bit known_bit_is known_bit_means
-
-pub known_bits_means : (s : List ℕ) (bits : List (Option Bool)) → known_bits_of s ≡ Some bits → (s ≡ map text_of_known_bit bits) × (0 < length bits)
-known_bits_means = entries_means known_bit_of text_of_known_bit known_bit_is known_bit_means
-
--- ---- kinds
+attribute_by_rule : (k : AttributeKind) → Rule (OfKind k) (λ s. rest_of k) Never (attribute_by k)
+attribute_by_rule (plain_kind a) = done a refl (λ x i. i)
+attribute_by_rule (bits_kind w) =
+    given (known_bits_of w) (λ x i. (i.0, i.2)) (λ bits e. done (known_bits_attribute bits) (bits, refl, e) (λ x i. i.1 ∙ ap known_bits_attribute (some_is (sym i.2 ∙ e))))
+attribute_by_rule sign_bits_kind = after (mark equals refl) (last sign_bits (λ n i. (n, refl)) (λ x i. (i.0, tt, i.1)) (int_read (count_of (2 ^ 8))))
+attribute_by_rule range_kind =
+    after (mark equals refl) (after (mark open_bracket refl) (
+    first low_in (int_read number_of) (λ low. after (mark comma refl) (
+    first high_in (int_read number_of) (λ high.
+    last (λ (u : Unit {0}). range low high) (λ u i. ((((low, high, refl), refl), refl))) (λ x i. (tt, tt, same_range x low high i.0.0 i.0.1 i.1)) (mark close_paren refl))))))
+  where
+    same_range : (x : PlainAttribute) (low high : ℤ) → OfKind range_kind x → low_in x ≡ low → high_in x ≡ high → x ≡ range low high
+    same_range x low high i e f = i.2 ∙ ap (λ (z : ℤ). range z i.1) (sym (ap low_in i.2) ∙ e) ∙ ap (range low) (sym (ap high_in i.2) ∙ f)
 
 -- the token begins an attribute of the kind
 abbrev KindIs : AttributeKind → Lexeme → Type 0
-KindIs (plain_kind a) t = attribute_spells a (open_paren ∷ t ∷ close_paren ∷ [])
+KindIs (plain_kind a) t = inside a (t ∷ [])
 KindIs (bits_kind s) t = t ≡ known_bits s
 KindIs sign_bits_kind t = t ≡ ident (codes "signBits")
 KindIs range_kind t = t ≡ ident (codes "range")
@@ -122,95 +152,67 @@ kind_means (known_bits s) k e = let same : ◌≡◌ {A = AttributeKind} (bits_k
 kind_means (ident w) k e = word_kind_means w k e
 kind_means _ k e = absurd cc
 
--- ---- between parentheses
+begun : (x : PlainAttribute) (k : AttributeKind) (t : Lexeme) (ts : List Lexeme) → KindIs k t → OfKind k x → rest_of k x ts → inside x (t ∷ ts)
+begun x (plain_kind a) t ts is i h = rw (i, h) is
+begun x (bits_kind w) t ts is i h = rw (i.1, h, is) (w, refl, i.2)
+begun x sign_bits_kind t ts is i h = rw (i.1, is) (next (ident (codes "signBits")) ts (subst (λ (z : PlainAttribute). rest_of sign_bits_kind z ts) i.1 h))
+begun x range_kind t ts is i h = rw (i.2, is) (next (ident (codes "range")) ts (subst (λ (z : PlainAttribute). rest_of range_kind z ts) i.2 h))
 
--- a token that begins something, and the rest of that
-pub record Enclosed {K V : Type 0} (kind_of : Lexeme → Option K) (G : K → Form V) (ends : Ends) (s : Scope) (v : V) (ts rest : List Lexeme) : Type 0 where
-  pub token : Lexeme
-  pub kind : K
-  pub body : List Lexeme
-  pub whole : ts ≡ open_paren ∷ token ∷ (body ++ close_paren ∷ [])
-  pub is : kind_of token ≡ Some kind
-  pub inner : G kind ends s v body (close_paren ∷ rest)
+apart : (x : PlainAttribute) (ts : List Lexeme) → inside x ts → (k : AttributeKind) × OfKind k x × (t : Lexeme) × (attribute_kind_of t ≡ Some k) × (token t · rest_of k x) ts
+apart (known_bits_attribute bits) ts h = (bits_kind h.0, (bits, refl, h.2), known_bits h.0, refl, with_nothing (token (known_bits h.0)) ts h.1)
+apart power_of_two ts h = (plain_kind power_of_two, refl, ident (codes "powerOfTwo"), refl, with_nothing (word (codes "powerOfTwo")) ts h)
+apart negative ts h = (plain_kind negative, refl, ident (codes "negative"), refl, with_nothing (word (codes "negative")) ts h)
+apart non_negative ts h = (plain_kind non_negative, refl, ident (codes "nonNegative"), refl, with_nothing (word (codes "nonNegative")) ts h)
+apart non_zero ts h = (plain_kind non_zero, refl, ident (codes "nonZero"), refl, with_nothing (word (codes "nonZero")) ts h)
+apart has_external_uses ts h = (plain_kind has_external_uses, refl, ident (codes "hasExternalUses"), refl, with_nothing (word (codes "hasExternalUses")) ts h)
+apart (sign_bits n) ts h = (sign_bits_kind, (n, refl), ident (codes "signBits"), refl, h)
+apart (range low high) ts h = (range_kind, (low, high, refl), ident (codes "range"), refl, h)
 
-enclosed : {K V : Type 0} {G : K → Form V} {f : K → ReadingOf V} (kind_of : Lexeme → Option K) → ((k : K) → Rule (G k) (f k))
-    → Rule (Enclosed kind_of G) (λ p. accept (as_mark open_paren) p >>= λ o. (accept kind_of o.1 >>= λ k. (f k.0 k.1 >>= λ a. (accept (as_mark close_paren) a.1 >>= λ c. Ok (a.0, c.1)))))
-enclosed {G = G} kind_of n = respelled (after (mark open_paren refl) (and_then (one kind_of) (λ k. and_then (n k) (λ a. after (mark close_paren refl) (done a)))))
-    (λ s v ts rest h.
-    let k = h.after in
-    let b = k.second in
-    let end : b.suffix ≡ close_paren ∷ [] = b.second.whole ∙ ap (λ (z : List Lexeme). close_paren ∷ z) b.second.after.1 in
-    record {
-      token = k.first.0;
-      kind = k.value;
-      body = b.prefix;
-      whole = rw (h.whole, k.whole, k.first.1, b.whole, end) refl;
-      is = k.first.2;
-      inner = rw b.second.after.0 (subst (λ (z : List Lexeme). G k.value Free s b.value b.prefix (z ++ rest)) end b.first);
-    })
-    (λ faulty s v ts rest h.
-    let tail : List Lexeme = h.body ++ close_paren ∷ [] in
-    rw h.whole (next (both h.kind (h.token ∷ []) tail (h.token, refl, h.is) (both v h.body (close_paren ∷ []) h.inner (next (refl, refl))))))
+inside_rule : Rule Any (λ s. inside) Never (λ p. accept attribute_kind_of p >>= λ k. attribute_by k.0 k.1)
+inside_rule = tabled {Is = OfKind} {F = λ k s. rest_of k} attribute_kind_of (λ s x k t ts e i h. begun x k t ts (kind_means t k e) i h) (λ s. apart) attribute_by_rule
 
--- ---- attributes
-
--- what comes after the token that begins an attribute
-abbrev attribute_by_rule : (k : AttributeKind) → Ruled (attribute_by k)
-attribute_by_rule (plain_kind a) = ruled (done a)
-attribute_by_rule (bits_kind t) = ruled (given (λ s. known_bits_of t) (λ bits. done (known_bits_attribute bits)))
-attribute_by_rule sign_bits_kind = ruled (after (mark equals refl) (number (count_of (2 ^ 8)) (λ n. done (sign_bits n))))
-attribute_by_rule range_kind =
-    ruled (after (mark equals refl) (after (mark open_bracket refl) (number number_of (λ low. after (mark comma refl) (number number_of (λ high. after (mark close_paren refl) (done (range low high))))))))
-
-attribute_is : (k : AttributeKind) (t : Lexeme) (s : Scope) (a : PlainAttribute) (ts rest : List Lexeme) → KindIs k t → (attribute_by_rule k).form Free s a ts rest → attribute_spells a (open_paren ∷ t ∷ (ts ++ close_paren ∷ []))
-attribute_is (plain_kind b) t s a ts rest is h = rw (h.0, h.1) is
-attribute_is (bits_kind w) t s a ts rest is h =
-    let m = known_bits_means w h.value h.is in
-    rw (h.after.0, h.after.1) (ap (λ (z : Lexeme). open_paren ∷ z ∷ close_paren ∷ []) (is ∙ ap known_bits m.0), m.1)
-attribute_is sign_bits_kind t s a ts rest is h =
-    let n = h.after in
-    rw n.after.0 (n.word, rw (is, h.whole, n.whole, n.after.1) refl, n.means)
-attribute_is range_kind t s a ts rest is h =
-    let o = h.after in
-    let low = o.after in
-    let c = low.after in
-    let high = c.after in
-    let k = high.after in
-    rw k.after.0 (record { low_word = low.word; high_word = high.word; whole = rw (is, h.whole, o.whole, low.whole, c.whole, high.whole, k.whole, k.after.1) refl; low_is = low.means; high_is = high.means })
-
--- what a token of this kind begins
-opened : {K V : Type 0} {kind_of : Lexeme → Option K} {G : K → Form V} {ends : Ends} {s : Scope} {v : V} {rest : List Lexeme} (t : Lexeme) (k : K) (ts : List Lexeme)
-    → kind_of t ≡ Some k → G k ends s v ts (close_paren ∷ rest) → Enclosed kind_of G ends s v (open_paren ∷ t ∷ (ts ++ close_paren ∷ [])) rest
-opened t k ts e h = record { token = t; kind = k; body = ts; whole = refl; is = e; inner = h }
-
-attribute_from : From (Node (λ s. attribute_spells) (λ a t. ⊥)) (Enclosed attribute_kind_of (λ k. (attribute_by_rule k).form))
-attribute_from faulty s power_of_two ts rest h = rw h.0 (opened (ident (codes "powerOfTwo")) (plain_kind power_of_two) [] refl (refl, refl))
-attribute_from faulty s negative ts rest h = rw h.0 (opened (ident (codes "negative")) (plain_kind negative) [] refl (refl, refl))
-attribute_from faulty s non_negative ts rest h = rw h.0 (opened (ident (codes "nonNegative")) (plain_kind non_negative) [] refl (refl, refl))
-attribute_from faulty s non_zero ts rest h = rw h.0 (opened (ident (codes "nonZero")) (plain_kind non_zero) [] refl (refl, refl))
-attribute_from faulty s has_external_uses ts rest h = rw h.0 (opened (ident (codes "hasExternalUses")) (plain_kind has_external_uses) [] refl (refl, refl))
-attribute_from faulty s (known_bits_attribute bits) ts rest h =
-    let w : List ℕ = map text_of_known_bit bits in
-    rw h.0.0 (opened (known_bits w) (bits_kind w) [] refl (found (known_bits_is bits h.0.1) (refl, refl)))
-attribute_from faulty s (sign_bits n) ts rest h = rw h.0.1 (opened (ident (codes "signBits")) sign_bits_kind (equals ∷ int h.0.0 ∷ []) refl (next (next_word h.0.0 h.0.2 (refl, refl))))
-attribute_from faulty s (range low high) ts rest h =
-    let k = h.0 in
-    rw k.whole (opened (ident (codes "range")) range_kind (equals ∷ open_bracket ∷ int k.low_word ∷ comma ∷ int k.high_word ∷ close_paren ∷ []) refl
-    (next (next (next_word k.low_word k.low_is (next (next_word k.high_word k.high_is (next (refl, refl))))))))
-
-pub attribute_rule : Rule (Node (λ s. attribute_spells) (λ a t. ⊥)) attribute_at
+pub attribute_form_rule : Rule Any (λ s. attribute) Never attribute_at
 unfolding attribute_at
-attribute_rule = respelled (enclosed attribute_kind_of (λ k. (attribute_by_rule k).rule))
-    (λ s a ts rest h. (rw h.whole (attribute_is h.kind h.token s a h.body (close_paren ∷ rest) (kind_means h.token h.kind h.is) h.inner), never rest))
-    attribute_from
+attribute_form_rule = reformed (λ s x ts i h. inside_to x ts h) (λ s x ts i h. inside_from x ts h) (enclosed_rule attribute_kind_of attribute_by inside_rule)
+
+pub attribute_rule : Rule Any (λ s. attribute_spells) (λ a t. ⊥) attribute_at
+attribute_rule = node attribute_form_rule (λ s. attribute_from) (λ s. attribute_to)
 
 pub attribute_complete : Complete (λ s. attribute_spells) (λ a t. ⊥) attribute_at
-attribute_complete = attribute_rule.complete
+attribute_complete = completes attribute_rule
 
 pub attribute_first : (s : Scope) (a : PlainAttribute) (ts : List Lexeme) → attribute_spells a ts → Starts (is_mark open_paren) ts
-attribute_first s a ts h = let k = attribute_from false s a ts [] (h, refl) in rw k.whole refl
+attribute_first s a ts h = let k = inside_from a ts (attribute_to a ts h) in rw (k.whole, k.first) refl
 
 -- ---- root attributes
+
+abbrev root_inside : PlainRootAttribute → Form
+root_inside (demanded_bits bits) = word (codes "demandedBits") · token equals · one int bits_of bits
+root_inside harvested_from_use = word (codes "harvestedFromUse")
+
+root_inside_to : (x : PlainRootAttribute) (ts : List Lexeme) → enclosed (root_inside x) ts → root_attribute x ts
+root_inside_to (demanded_bits bits) ts h = h
+root_inside_to harvested_from_use ts h = h
+
+root_inside_from : (x : PlainRootAttribute) (ts : List Lexeme) → root_attribute x ts → enclosed (root_inside x) ts
+root_inside_from (demanded_bits bits) ts h = h
+root_inside_from harvested_from_use ts h = h
+
+abbrev OfRootKind : RootKind → PlainRootAttribute → Type 0
+OfRootKind DemandedBits x = (bits : List Bool) × (x ≡ demanded_bits bits)
+OfRootKind HarvestedFromUse x = x ≡ harvested_from_use
+
+abbrev bits_in : PlainRootAttribute → List Bool
+bits_in (demanded_bits bits) = bits
+bits_in harvested_from_use = []
+
+abbrev root_rest_of : RootKind → PlainRootAttribute → Form
+root_rest_of DemandedBits x = token equals · one int bits_of (bits_in x)
+root_rest_of HarvestedFromUse x = nothing
+
+root_attribute_by_rule : (k : RootKind) → Rule (OfRootKind k) (λ s. root_rest_of k) Never (root_attribute_by k)
+root_attribute_by_rule HarvestedFromUse = done harvested_from_use refl (λ x i. i)
+root_attribute_by_rule DemandedBits = after (mark equals refl) (last demanded_bits (λ bits i. (bits, refl)) (λ x i. (i.0, tt, i.1)) (int_read bits_of))
 
 -- the token begins a root attribute of the kind
 abbrev RootKindIs : RootKind → Lexeme → Type 0
@@ -227,35 +229,30 @@ root_kind_means t k e =
     let w = ident_means root_kind_of_word t k e in
     subst (λ (x : Lexeme). RootKindIs k x) (sym w.1) (root_word_means w.0 k w.2)
 
--- what comes after the word of a root attribute
-abbrev root_attribute_by_rule : (k : RootKind) → Ruled (root_attribute_by k)
-root_attribute_by_rule HarvestedFromUse = ruled (done harvested_from_use)
-root_attribute_by_rule DemandedBits = ruled (after (mark equals refl) (number bits_of (λ bits. done (demanded_bits bits))))
+root_begun : (x : PlainRootAttribute) (k : RootKind) (t : Lexeme) (ts : List Lexeme) → RootKindIs k t → OfRootKind k x → root_rest_of k x ts → root_inside x (t ∷ ts)
+root_begun x DemandedBits t ts is i h = rw (i.1, is) (next (ident (codes "demandedBits")) ts (subst (λ (z : PlainRootAttribute). root_rest_of DemandedBits z ts) i.1 h))
+root_begun x HarvestedFromUse t ts is i h = rw (i, is, h) refl
 
-root_attribute_is : (k : RootKind) (t : Lexeme) (s : Scope) (a : PlainRootAttribute) (ts rest : List Lexeme) → RootKindIs k t → (root_attribute_by_rule k).form Free s a ts rest → root_attribute_spells a (open_paren ∷ t ∷ (ts ++ close_paren ∷ []))
-root_attribute_is HarvestedFromUse t s a ts rest is h = rw (h.0, h.1, is) refl
-root_attribute_is DemandedBits t s a ts rest is h =
-    let n = h.after in
-    let m = bits_means n.word n.value n.means in
-    rw n.after.0 (rw (is, h.whole, n.whole, n.after.1, m.0) refl, m.1)
+root_apart : (x : PlainRootAttribute) (ts : List Lexeme) → root_inside x ts → (k : RootKind) × OfRootKind k x × (t : Lexeme) × (ident_by root_kind_of_word t ≡ Some k) × (token t · root_rest_of k x) ts
+root_apart (demanded_bits bits) ts h = (DemandedBits, (bits, refl), ident (codes "demandedBits"), refl, h)
+root_apart harvested_from_use ts h = (HarvestedFromUse, refl, ident (codes "harvestedFromUse"), refl, with_nothing (word (codes "harvestedFromUse")) ts h)
 
-root_attribute_from : From (Node (λ s. root_attribute_spells) (λ a t. ⊥)) (Enclosed (ident_by root_kind_of_word) (λ k. (root_attribute_by_rule k).form))
-root_attribute_from faulty s harvested_from_use ts rest h = rw h.0 (opened (ident (codes "harvestedFromUse")) HarvestedFromUse [] refl (refl, refl))
-root_attribute_from faulty s (demanded_bits bits) ts rest h =
-    let w : List ℕ = map text_of_bit bits in
-    rw h.0.0 (opened (ident (codes "demandedBits")) DemandedBits (equals ∷ int w ∷ []) refl (next (next_word w (bits_is bits h.0.1) (refl, refl))))
+root_inside_rule : Rule Any (λ s. root_inside) Never (λ p. accept (ident_by root_kind_of_word) p >>= λ k. root_attribute_by k.0 k.1)
+root_inside_rule =
+    tabled {Is = OfRootKind} {F = λ k s. root_rest_of k} (ident_by root_kind_of_word) (λ s x k t ts e i h. root_begun x k t ts (root_kind_means t k e) i h) (λ s. root_apart) root_attribute_by_rule
 
-pub root_attribute_rule : Rule (Node (λ s. root_attribute_spells) (λ a t. ⊥)) root_attribute_at
+pub root_attribute_form_rule : Rule Any (λ s. root_attribute) Never root_attribute_at
 unfolding root_attribute_at
-root_attribute_rule = respelled (enclosed (ident_by root_kind_of_word) (λ k. (root_attribute_by_rule k).rule))
-    (λ s a ts rest h. (rw h.whole (root_attribute_is h.kind h.token s a h.body (close_paren ∷ rest) (root_kind_means h.token h.kind h.is) h.inner), never rest))
-    root_attribute_from
+root_attribute_form_rule = reformed (λ s x ts i h. root_inside_to x ts h) (λ s x ts i h. root_inside_from x ts h) (enclosed_rule (ident_by root_kind_of_word) root_attribute_by root_inside_rule)
+
+pub root_attribute_rule : Rule Any (λ s. root_attribute_spells) (λ a t. ⊥) root_attribute_at
+root_attribute_rule = node root_attribute_form_rule (λ s. root_attribute_from) (λ s. root_attribute_to)
 
 pub root_attribute_complete : Complete (λ s. root_attribute_spells) (λ a t. ⊥) root_attribute_at
-root_attribute_complete = root_attribute_rule.complete
+root_attribute_complete = completes root_attribute_rule
 
 pub root_attribute_first : (s : Scope) (a : PlainRootAttribute) (ts : List Lexeme) → root_attribute_spells a ts → Starts (is_mark open_paren) ts
-root_attribute_first s a ts h = let k = root_attribute_from false s a ts [] (h, refl) in rw k.whole refl
+root_attribute_first s a ts h = let k = root_inside_from a ts (root_attribute_to a ts h) in rw (k.whole, k.first) refl
 
 -- ---- lists of them
 

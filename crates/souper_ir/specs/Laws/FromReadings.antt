@@ -12,7 +12,7 @@ use Rattle.souper_ir.specs.Grammar.{Free, NextStops, Took, NoFront, Refusal}
 use Rattle.souper_ir.specs.Laws.Peeks.{ok_is}
 use Rattle.souper_ir.specs.Laws.Steps.{At}
 use Rattle.souper_ir.specs.Laws.Unique.{Alone}
-use Rattle.souper_ir.specs.Laws.Combinators.{ReadingOf, ReadsValue, Rule, Node}
+use Rattle.souper_ir.specs.Laws.Rules.{ReadingOf, ReadsValue, Rule, Any}
 
 module _ {Y : Type 0} (spells : Scope → Y → List Lexeme → Type 0) (continues : Y → Lexeme → Type 0) (read : ReadingOf Y) where
   -- a value that is spelled so, and not continued, is read
@@ -46,18 +46,21 @@ module _ {Y : Type 0} (spells : Scope → Y → List Lexeme → Type 0) (continu
       let rest : c ≡ d = sym j.ahead.kinds_are ∙ ap (λ (x : Y × Parsing). kinds x.1.tokens) same ∙ k.ahead.kinds_are in
       (append_cancel_right a b c (e ∙ ap (λ (x : List Lexeme). b ++ x) (sym rest)), ap (λ (x : Y × Parsing). x.0) same)
 
-module _ {Y : Type 0} {spells : Scope → Y → List Lexeme → Type 0} {continues : Y → Lexeme → Type 0} {read : ReadingOf Y} (rule : Rule (Node spells continues) read) where
+module _ {Y : Type 0} {spells : Scope → Y → List Lexeme → Type 0} {continues : Y → Lexeme → Type 0} {read : ReadingOf Y} (rule : Rule Any spells continues read) where
+  pub completes : Complete spells continues read
+  completes p y front rest at h = rule.complete p y front rest at tt h.0 h.1
+
   pub alone : Alone spells continues
-  alone = one_alone spells continues read rule.complete
+  alone = one_alone spells continues read completes
 
   pub is_refused : (e : ParseError) (p q : Parsing) → IfRefused (cause_of e) (read p ≡ Err (at_end_of e)) × Fails e p q → Refusal spells continues e p q
-  is_refused e p q h = record { failed = h.1; nothing = none_if spells continues read rule.complete p (at_end_of e) (cause_of e) h.0 }
+  is_refused e p q h = record { failed = h.1; nothing = none_if spells continues read completes p (at_end_of e) (cause_of e) h.0 }
 
   module _ {X : Type 0} (view : X → Y) where
     pub is_taken : (x : X) (p q : Parsing) → IsRead (read p) (view x) p q → Took spells continues (λ s. s) (view x) p q
     is_taken x p q h =
         let k = rule.sound p q (view x) h.1 h.0 in
-        record { used = k.1.places; parts = k.1.parts; spelled = rw k.1.kinds_are k.2.0; free = k.2.1; live = h.1; state = k.1.state }
+        record { used = k.taken.places; parts = k.taken.parts; spelled = rw k.taken.kinds_are k.formed; free = k.free; live = h.1; state = k.taken.state }
 
     pub taken : (r : Result X ParseError) (p q : Parsing) → Gives view r (read p) p q → IfOk r (λ x. Took spells continues (λ s. s) (view x) p q)
     taken (Ok x) p q h = is_taken x p q h

@@ -1,7 +1,7 @@
--- Lemmas. The rules of statements and last lines: a value is read if and only if the tokens spell it, and at most
--- one prefix spells one.
-use Rattle.std.proofs.Common.{◌≡◌, ℕ, ◌^◌, ◌<◌, Bool, true, false, List, [], ◌∷◌, ◌++◌, Option, Some, None, refl, sym, ◌∙◌, ap, subst, append_assoc, ◌⊎◌, inl, inr}
-use Rattle.std.specs.Prelude.{codes, nat_lt, if◌then◌else◌}
+-- Lemmas. The rules of statements and last lines: a value is read if and only if the tokens have its form, and at most
+-- one prefix has one.
+use Rattle.std.proofs.Common.{◌≡◌, ℕ, ◌^◌, ◌<◌, Bool, true, false, List, [], ◌∷◌, ◌++◌, Option, Some, None, Ok, Err, refl, sym, ◌∙◌, ap, subst, ◌⊎◌, inl, inr}
+use Rattle.std.specs.Prelude.{codes, nat_lt, is_some, if◌then◌else◌}
 use Rattle.std.proofs.lemmas.Bool.Decides.{Decides-ltb}
 use Rattle.souper_graph.specs.declared.ast.operands.«Type».{«Type» as Ty}
 use Rattle.souper_graph.specs.declared.ast.operands.Operand.{Operand}
@@ -9,101 +9,96 @@ use Rattle.souper_graph.specs.declared.ast.operands.Operand.TheVariants.{Value, 
 use Rattle.souper_graph.specs.declared.ast.statements.Pc.{Pc}
 use Rattle.souper_graph.specs.declared.ast.statements.BlockPc.{BlockPc}
 use Rattle.souper_graph.specs.Instructions.{operands_of}
-use Rattle.souper_graph.specs.Values.{PlainRhs, var, block, phi, reserved_inst, reserved_const, instruction, PlainAssignment, PlainStatement, assigned, condition, block_condition, PlainInfer, PlainCand}
-use Rattle.souper_graph.specs.Syntax.Tokens.{Lexeme, ident, val_name, int, comma, colon, equals, open_paren}
+use Rattle.souper_graph.specs.Values.{PlainAttribute, PlainRootAttribute, PlainRhs, var, block, phi, reserved_inst, reserved_const, instruction, PlainAssignment, PlainStatement, assigned, condition, block_condition, PlainInfer, PlainCand}
+use Rattle.souper_graph.specs.Syntax.Tokens.{Lexeme, ident, val_name, comma, colon, equals, open_paren}
 use Rattle.souper_graph.specs.Syntax.Numbers.{count_of}
-use Rattle.souper_graph.specs.Syntax.Spelling.{Scope, position_of, optional_type_spells, operand_spells, rhs_spells, attribute_spells, root_attribute_spells, assignment_spells, pc_spells, block_pc_spells, statement_spells, infer_spells, IsOptionalComma, cand_spells, result_spells}
+use Rattle.souper_graph.specs.Syntax.Spelling.{Scope, position_of, attribute_spells, root_attribute_spells, assignment_spells, pc_spells, block_pc_spells, statement_spells, infer_spells, cand_spells, result_spells}
+use Rattle.souper_graph.specs.Syntax.Forms.{Form, ◌·◌, token, word, perhaps, optional, each, of_type, value, operand, rhs, attribute, root_attribute, new_name, statement, result}
+use Rattle.souper_graph.proofs.FormsAgree.Parts.{◌⇒◌, both, to_left, to_right}
+use Rattle.souper_graph.proofs.FormsAgree.Attributes.{attributes_to, attributes_from, root_attributes_to, root_attributes_from}
+use Rattle.souper_graph.proofs.FormsAgree.Statements.{assignment_to, assignment_from, pc_to, pc_from, block_pc_to, block_pc_from, infer_to, infer_from, cand_to, cand_from, result_to, result_from}
+use Rattle.souper_ir.specs.Parsing.{Parsing}
+use Rattle.souper_ir.specs.Reading.{Reads, ◌>>=◌, looked_up}
 use Rattle.souper_ir.specs.Continuation.{optional_type_continues, operand_continues, operands_continue, rhs_continues, attributes_continue, assignment_continues, pc_continues, block_pc_continues, statement_continues, infer_continues, cand_continues, result_continues}
-use Rattle.souper_ir.specs.Grammar.{Free, NextStops, Starts}
-use Rattle.souper_ir.specs.NodeReadings.{is_name, is_mark, is_word, Definition, fresh, type_and_equals_at, heading_at, definition_at, starts_statement, pc_at, predecessor_below, block_pc_at, root_at, comma_by, optional_comma_at, pair_at, result_at}
-use Rattle.souper_ir.specs.Laws.Unique.{Alone, never}
+use Rattle.souper_ir.specs.Grammar.{NextStops, Starts, peek_at}
+use Rattle.souper_ir.specs.NodeReadings.{accept, as_name, is_name, as_mark, is_mark, is_word, Definition, fresh, type_and_equals_at, heading_at, definition_at, starts_statement, pc_at, predecessor_below, block_pc_at, root_at, comma_by, optional_comma_at, operand_at, pair_at, result_at}
+use Rattle.souper_ir.specs.Laws.Unique.{Alone}
 use Rattle.souper_ir.specs.Laws.Peeks.{some_is}
 use Rattle.souper_ir.specs.Laws.Tokens.{is_word_means, word_is}
-use Rattle.souper_ir.specs.Laws.Combinators.{Ends, Rule, Ruled, ruled, Node, respelled, both, and_then, done, found, given, made, last, mark, word, next, after, next_word, number, next_name, named, Choice, choice}
+use Rattle.souper_ir.specs.Laws.Rules.{ReadingOf, Rule, Any, Never, reread, reformed, given, mark, keyword, int_read, found_at, name_at, name_read, by_name, some, parts, second_ends, joined, first, after, last, optional_rule, node}
 use Rattle.souper_ir.specs.Laws.FromReadings.{alone}
-use Rattle.souper_ir.specs.Laws.Operands.{optional_type_stops, optional_type_rule, operand_rule, operand_stops, operand_over, pair}
-use Rattle.souper_ir.specs.Laws.RightSides.{block_named, rhs_rule}
+use Rattle.souper_ir.specs.Laws.Operands.{optional_type_stops, optional_type_rule, operand_form_rule, operand_stops, operand_over}
+use Rattle.souper_ir.specs.Laws.RightSides.{name_first, rhs_form_rule}
 use Rattle.souper_ir.specs.Laws.Attributes.{attribute_rule, attribute_first, root_attribute_rule, root_attribute_first, attributes_members, root_attributes_members}
+use Rattle.souper_ir.specs.Laws.Attributed.{Row, attributes_split, attributes_joined, Laws, laws}
 use Rattle.souper_ir.specs.Laws.Sequence.{Split}
-use Rattle.souper_ir.specs.Laws.Attributed.{Row, attributes_over, Laws, laws}
 
 -- ---- an assignment up to its attributes
 
-pub record definition_spells (s : Scope) (d : Definition) (ts : List Lexeme) : Type 0 where
-  pub ty : List Lexeme
-  pub rhs : List Lexeme
-  pub whole : ts ≡ val_name d.name ∷ (ty ++ equals ∷ rhs)
-  pub name_is_new : position_of s d.name ≡ None
-  pub ty_spelled : optional_type_spells d.ty ty
-  pub rhs_spelled : rhs_spells s d.value rhs
+-- a name that is not in scope
+abbrev fresh_name : Scope → List ℕ → Option (List ℕ)
+fresh_name s n = if is_some (position_of s n) then None else Some n
+
+fresh_means : (o : Option ℕ) (n m : List ℕ) → ◌≡◌ {A = Option (List ℕ)} (if is_some o then None else Some n) (Some m) → (o ≡ None) × (n ≡ m)
+fresh_means None n m e = (refl, some_is e)
+fresh_means (Some i) n m e = absurd cc
+
+fresh_is : (o : Option ℕ) (n : List ℕ) → o ≡ None → ◌≡◌ {A = Option (List ℕ)} (if is_some o then None else Some n) (Some n)
+fresh_is o n e = rw e refl
+
+new_name_rule : Rule Any new_name Never (name_at fresh_name)
+new_name_rule = reformed
+    (λ s n ts i h. let m = fresh_means (position_of s h.0) h.0 n h.2 in (rw (h.1, m.1) refl, subst (λ z. position_of s z ≡ None) m.1 m.0))
+    (λ s n ts i h. (n, h.0, fresh_is (position_of s n) n h.1))
+    (name_read fresh_name)
+
+-- readings in sequence, grouped otherwise
+by_new_name : {V : Type 0} (k : List ℕ → ReadingOf V) (p : Parsing) → (accept as_name p >>= λ n. looked_up (fresh (position_of n.1.scope n.0)) >>= λ f. k n.0 n.1) ≡ (name_at fresh_name p >>= λ x. k x.0 x.1)
+by_new_name {V} k p = named (accept as_name p)
+  where
+    found : (o : Option ℕ) (n : List ℕ) (q : Parsing) → ◌≡◌ {A = Reads V} (looked_up (fresh o) >>= λ f. k n q) (found_at (if is_some o then None else Some n) q >>= λ x. k x.0 x.1)
+    found (Some i) n q = refl
+    found None n q = refl
+
+    named : (m : Reads (List ℕ)) → ◌≡◌ {A = Reads V} (m >>= λ n. looked_up (fresh (position_of n.1.scope n.0)) >>= λ f. k n.0 n.1) ((m >>= λ n. found_at (fresh_name n.1.scope n.0) n.1) >>= λ x. k x.0 x.1)
+    named (Ok n) = found (position_of n.1.scope n.0) n.0 n.1
+    named (Err b) = refl
+
+typed_rule : Rule Any (λ s o. optional of_type o · token equals) Never type_and_equals_at
+unfolding type_and_equals_at
+typed_rule =
+    joined (λ o. o) (λ faulty s o t b rest i h st. rw h (optional_type_stops t equals (λ e. cc))) optional_type_rule (λ t.
+    last (λ (u : Unit {0}). t) (λ u i. (tt, refl)) (λ o i. (tt, tt, i.1)) (mark equals refl))
+
+heading_rule : Rule Any (λ s (v : List ℕ × Option Ty). new_name s v.0 · optional of_type v.1 · token equals) Never heading_at
+unfolding heading_at
+heading_rule = reread heading_at (by_new_name (λ n p. type_and_equals_at p >>= λ t. Ok ((n, t.0), t.1)))
+    (first (λ v. v.0) new_name_rule (λ n.
+    last (λ t. (n, t)) (λ t i. (tt, refl)) (λ v i. (v.1, tt, ap (λ (z : List ℕ). (z, v.1)) i.1)) typed_rule))
+
+abbrev pub definition : Scope → Definition → Form
+definition s d = (new_name s d.name · optional of_type d.ty · token equals) · rhs s d.value
 
 abbrev pub definition_continues : Definition → Lexeme → Type 0
 definition_continues d t = rhs_continues d.value t
 
-fresh_means : (o : Option ℕ) (u : Unit {0}) → fresh o ≡ Some u → o ≡ None
-fresh_means None u e = refl
-fresh_means (Some i) u e = absurd cc
-
-fresh_is : (o : Option ℕ) → o ≡ None → fresh o ≡ Some tt
-fresh_is o e = rw e refl
-
--- a new name, a type, and the equals sign
-record Heading (ends : Ends) (s : Scope) (v : List ℕ × Option Ty) (ts rest : List Lexeme) : Type 0 where
-  ty : List Lexeme
-  whole : ts ≡ val_name v.0 ∷ (ty ++ equals ∷ [])
-  name_is_new : position_of s v.0 ≡ None
-  ty_spelled : optional_type_spells v.1 ty
-
--- a type and the equals sign
-record Typed (ends : Ends) (s : Scope) (v : Option Ty) (ts rest : List Lexeme) : Type 0 where
-  ty : List Lexeme
-  whole : ts ≡ ty ++ equals ∷ []
-  ty_spelled : optional_type_spells v ty
-
-typed_rule : Rule Typed type_and_equals_at
-unfolding type_and_equals_at
-typed_rule = respelled (and_then optional_type_rule (λ t. after (mark equals refl) (done t)))
-    (λ s v ts rest h. let k = h.second in rw k.after.0 (record { ty = h.prefix; whole = rw (h.whole, k.whole, k.after.1) refl; ty_spelled = h.first.0 }))
-    (λ faulty s v ts rest h. rw h.whole (both v h.ty (equals ∷ []) (h.ty_spelled, optional_type_stops v equals (λ e. cc)) (next (refl, refl))))
-
-heading_rule : Rule Heading heading_at
-unfolding heading_at
-heading_rule = respelled (named (λ n. given (λ s. fresh (position_of s n)) (λ f. last typed_rule (λ t. (n, t)))))
-    (λ s v ts rest h.
-    let l = h.after.after in
-    rw l.is (record { ty = l.last.ty; whole = rw (h.whole, l.last.whole) refl; name_is_new = fresh_means (position_of s h.name) tt h.after.is; ty_spelled = l.last.ty_spelled }))
-    (λ faulty s v ts rest h. rw h.whole (next_name v.0 (found (fresh_is (position_of s v.0) h.name_is_new) (made v.1 (record { ty = h.ty; whole = refl; ty_spelled = h.ty_spelled })))))
-
-pub definition_rule : Rule (Node definition_spells definition_continues) definition_at
+pub definition_rule : Rule Any definition definition_continues definition_at
 unfolding definition_at
-definition_rule = respelled (and_then heading_rule (λ h. last rhs_rule (λ r. record { name = h.0; ty = h.1; value = r })))
-    (λ s d ts rest h.
-    let k = h.first in
-    rw h.second.is (
-      record {
-        ty = k.ty;
-        rhs = h.suffix;
-        whole = rw (h.whole, k.whole) (simp append_assoc);
-        name_is_new = k.name_is_new;
-        ty_spelled = k.ty_spelled;
-        rhs_spelled = h.second.last.0;
-      },
-      h.second.last.1,
-    ))
-    (λ faulty s d ts rest h.
-    let k = h.0 in
-    let front : List Lexeme = val_name d.name ∷ (k.ty ++ equals ∷ []) in
-    let parts : ts ≡ front ++ k.rhs = rw k.whole (simp append_assoc) in
-    let heading : Heading (λ goes_on. NextStops goes_on faulty) s (d.name, d.ty) front (k.rhs ++ rest) = record { ty = k.ty; whole = refl; name_is_new = k.name_is_new; ty_spelled = k.ty_spelled } in
-    rw parts (both (d.name, d.ty) front k.rhs heading (made d.value (k.rhs_spelled, h.1))))
+definition_rule =
+    first (λ d. (d.name, d.ty)) heading_rule (λ h.
+    last (λ r. record { name = h.0; ty = h.1; value = r }) (λ r i. (tt, refl)) (λ d i. (d.value, tt, ap (λ (z : List ℕ × Option Ty). record { name = z.0; ty = z.1; value = d.value }) i.1)) rhs_form_rule)
 
 -- ---- path conditions
 
-pub pc_rule : Rule (Node pc_spells pc_continues) pc_at
+pc_form_rule : Rule Any (λ s p. statement s (condition p)) pc_continues pc_at
 unfolding pc_at
-pc_rule = respelled (after (word (codes "pc")) (pair (λ x y. record { x = x; y = y })))
-    (λ s v ts rest h. rw h.after.is ((h.more, h.whole, h.after.spelled), h.after.free))
-    (λ faulty s v ts rest h. rw h.0.1 (next (record { x = v.x; y = v.y; is = refl; spelled = h.0.2; free = h.1 })))
+pc_form_rule =
+    after (keyword (codes "pc")) (
+    joined (λ p. p.x) (λ faulty s p x b rest i h st. rw (← i) (operand_over p.x p.y s faulty b rest h)) operand_form_rule (λ x.
+    last (λ y. record { x = x; y = y }) (λ y o. (tt, refl)) (λ p i. (p.y, tt, rw (← i.1) refl)) operand_form_rule))
+
+pub pc_rule : Rule Any pc_spells pc_continues pc_at
+pc_rule = node pc_form_rule pc_from pc_to
 
 pub pc_alone : Alone pc_spells pc_continues
 pc_alone = alone pc_rule
@@ -123,40 +118,25 @@ below_means count n m e =
 below_is : (count n : ℕ) → n < count → predecessor_below count n ≡ Some n
 below_is count n h = rw ((Decides-ltb n count).1 h) refl
 
-pub block_pc_rule : Rule (Node block_pc_spells block_pc_continues) block_pc_at
+made_again : (p : BlockPc) (b n : ℕ) (x : Operand) → p.block ≡ b → p.predecessor ≡ n → p.x ≡ x → p ≡ record { block = b; predecessor = n; x = x; y = p.y }
+made_again p b n x e f g = rw (← e, ← f, ← g) refl
+
+block_pc_form_rule : Rule Any (λ s p. statement s (block_condition p)) block_pc_continues block_pc_at
 unfolding block_pc_at
-block_pc_rule = respelled
-    (after (word (codes "blockpc")) (block_named (λ b. number (count_of (2 ^ 32)) (λ n. given (λ s. predecessor_below b.1 n) (λ w. pair (λ x y. record { block = b.0; predecessor = w; x = x; y = y }))))))
-    (λ s v ts rest h.
-    let b = h.after in
-    let n = b.after in
-    let w = n.after in
-    let below = below_means b.block.1 n.value w.value w.is in
-    rw w.after.is (
-      record {
-        name = b.name;
-        number = n.word;
-        predecessors = b.block.1;
-        rest = n.more;
-        whole = rw (h.whole, b.whole, n.whole) refl;
-        block_is = b.is;
-        number_is = n.means ∙ ap Some below.1;
-        within = subst (λ (z : ℕ). z < b.block.1) below.1 below.0;
-        operands_spelled = w.after.spelled;
-      },
-      w.after.free,
-    ))
-    (λ faulty s v ts rest h.
-    let k = h.0 in
-    rw k.whole (next (record {
-      name = k.name;
-      block = (v.block, k.predecessors);
-      more = int k.number ∷ k.rest;
-      whole = refl;
-      is = k.block_is;
-      after = next_word k.number k.number_is
-          (found (below_is k.predecessors v.predecessor k.within) (record { x = v.x; y = v.y; is = refl; spelled = k.operands_spelled; free = h.1 }));
-    })))
+block_pc_form_rule =
+    after (keyword (codes "blockpc")) (
+    name_first (λ p. p.block) (λ p n. p.predecessor < n) (λ b.
+    first (λ p. p.predecessor) (int_read (count_of (2 ^ 32))) (λ n.
+    given (predecessor_below b.1 n) (λ p i. (n, below_is b.1 n (subst (λ z. z < b.1) i.1 i.0.1.1))) (λ w e.
+    let m = below_means b.1 n w e in
+    joined (λ p. p.x) (λ faulty s p x c rest i h st. rw (← i) (operand_over p.x p.y s faulty c rest h)) operand_form_rule (λ x.
+    last (λ y. record { block = b.0; predecessor = w; x = x; y = y })
+    (λ y o. (((tt, (refl, subst (λ z. z < b.1) m.1 m.0)), sym m.1), refl))
+    (λ p i. (p.y, tt, made_again p b.0 w x i.0.0.1.0 (i.0.1 ∙ m.1) i.1))
+    operand_form_rule)))))
+
+pub block_pc_rule : Rule Any block_pc_spells block_pc_continues block_pc_at
+block_pc_rule = node block_pc_form_rule block_pc_from block_pc_to
 
 pub block_pc_alone : Alone block_pc_spells block_pc_continues
 block_pc_alone = alone block_pc_rule
@@ -166,89 +146,108 @@ block_pc_first s v ts h = rw h.whole (word_is (codes "blockpc"))
 
 -- ---- the infer line up to its attributes
 
-abbrev pub root_spells : Scope → ℕ → List Lexeme → Type 0
-root_spells s i ts = (n : List ℕ) × (ts ≡ ident (codes "infer") ∷ val_name n ∷ []) × (position_of s n ≡ Some i)
+abbrev pub root : Scope → ℕ → Form
+root s i = word (codes "infer") · value s i
 
-pub root_rule : Rule (Node root_spells (λ i t. ⊥)) root_at
+pub root_rule : Rule Any root Never root_at
 unfolding root_at
-root_rule = respelled (after (word (codes "infer")) (named (λ n. given (λ s. position_of s n) (λ i. done i))))
-    (λ s v ts rest h.
-    let n = h.after in
-    rw n.after.after.0 ((n.name, rw (h.whole, n.whole, n.after.after.1) refl, n.after.is), never rest))
-    (λ faulty s v ts rest h. rw h.0.1 (next (next_name h.0.0 (found h.0.2 (refl, refl)))))
+root_rule = after (keyword (codes "infer")) (name_read position_of)
 
 -- ---- the cand line up to its attributes
 
-pub record pair_line_spells (s : Scope) (v : Operand × Operand) (ts : List Lexeme) : Type 0 where
-  pub lhs : List Lexeme
-  pub between : List Lexeme
-  pub rhs : List Lexeme
-  pub whole : ts ≡ ident (codes "cand") ∷ (lhs ++ (between ++ rhs))
-  pub lhs_spelled : operand_spells s v.0 lhs
-  pub comma_or_none : IsOptionalComma between
-  pub rhs_spelled : operand_spells s v.1 rhs
+abbrev Pair : Type 0
+Pair = Operand × Operand
+
+abbrev pub pair_line : Scope → Operand × Operand → Form
+pair_line s v = word (codes "cand") · operand s v.0 · perhaps (token comma) · operand s v.1
 
 abbrev pub pair_line_continues : Operand × Operand → Lexeme → Type 0
 pair_line_continues v t = operand_continues v.1 t
 
-abbrev comma_by_rule : (b : Bool) → Ruled (comma_by b)
-comma_by_rule false = ruled (done tt)
-comma_by_rule true = ruled (mark comma refl)
+-- a comma or none
+abbrev comma_if : Scope → Option (Unit {0}) → Form
+comma_if s o = optional (λ u. token comma) o
 
-optional_comma_rule : Rule (Choice (is_mark comma) (λ b. (comma_by_rule b).form)) optional_comma_at
+abbrev comma_continues : Option (Unit {0}) → Lexeme → Type 0
+comma_continues None t = is_mark comma t ≡ true
+comma_continues (Some u) t = ⊥
+
+abbrev some_of : Reads (Unit {0}) → Reads (Option (Unit {0}))
+some_of m = m >>= λ c. Ok (Some c.0, c.1)
+
+abbrev some_comma_by : Bool → Parsing → Reads (Option (Unit {0}))
+some_comma_by false p = Ok (None, p)
+some_comma_by true p = some_of (accept (as_mark comma) p)
+
+abbrev some_comma_at : Parsing → Reads (Option (Unit {0}))
+some_comma_at p = peek_at (is_mark comma) p >>= λ b. some_comma_by b.0 b.1
+
+-- whether a comma was read does not matter
+by_comma : {V : Type 0} (k : ReadingOf V) (p : Parsing) → ◌≡◌ {A = Reads V} (optional_comma_at p >>= λ c. k c.1) (some_comma_at p >>= λ c. k c.1)
 unfolding optional_comma_at
-optional_comma_rule = choice (is_mark comma) comma_by_rule
+by_comma {V} k p = peeked (peek_at (is_mark comma) p)
+  where
+    taken : (m : Reads (Unit {0})) → ◌≡◌ {A = Reads V} (m >>= λ c. k c.1) (some_of m >>= λ c. k c.1)
+    taken (Ok c) = refl
+    taken (Err b) = refl
 
-comma_is : (b : Bool) (ends : Ends) (s : Scope) (u : Unit {0}) (ts rest : List Lexeme) → (comma_by_rule b).form ends s u ts rest → IsOptionalComma ts
-comma_is false ends s u ts rest h = inl h.1
-comma_is true ends s u ts rest h = inr h
+    seen : (b : Bool) (q : Parsing) → ◌≡◌ {A = Reads V} (comma_by b q >>= λ c. k c.1) (some_comma_by b q >>= λ c. k c.1)
+    seen false q = refl
+    seen true q = taken (accept (as_mark comma) q)
 
-comma_seen : (faulty : Bool) (s : Scope) (ts rest : List Lexeme) → NextStops (λ t. is_mark comma t ≡ true) faulty rest → IsOptionalComma ts → Choice (is_mark comma) (λ b. (comma_by_rule b).form) (λ goes_on. NextStops goes_on faulty) s tt ts rest
-comma_seen faulty s ts rest st (inl h) = record { branch = false; seen = rw h st; chosen = (refl, h) }
-comma_seen faulty s ts rest st (inr h) = record { branch = true; seen = rw h refl; chosen = h }
+    peeked : (m : Reads Bool) → ◌≡◌ {A = Reads V} ((m >>= λ b. comma_by b.0 b.1) >>= λ c. k c.1) ((m >>= λ b. some_comma_by b.0 b.1) >>= λ c. k c.1)
+    peeked (Ok b) = seen b.0 b.1
+    peeked (Err b) = refl
 
--- an operand begins with a name or a number
-operand_no_comma : (s : Scope) (y : Operand) (faulty : Bool) (back rest : List Lexeme) → operand_spells s y back → NextStops (λ t. is_mark comma t ≡ true) faulty (back ++ rest)
-operand_no_comma s (Value i) faulty back rest h = rw h.1 (λ e. cc)
-operand_no_comma s (constant_variant c) faulty back rest h = rw h.whole (λ e. cc)
+comma_made : (o : Option (Unit {0})) → is_some o ≡ true → (u : Unit {0}) × Any u × (o ≡ Some u)
+comma_made (Some u) e = (u, tt, refl)
+comma_made None e = absurd cc
 
--- neither the comma nor the second operand continues the first
-comma_over : (s : Scope) (x y : Operand) (faulty : Bool) (between back rest : List Lexeme) → IsOptionalComma between → operand_spells s y back → NextStops (operand_continues x) faulty ((between ++ back) ++ rest)
-comma_over s x y faulty between back rest (inl h) sp = rw h (operand_over s x y faulty back rest sp)
-comma_over s x y faulty between back rest (inr h) sp = rw h (operand_stops x comma (λ e. cc))
+comma_rule : Rule Any comma_if comma_continues some_comma_at
+comma_rule = optional_rule some_comma_by (is_mark comma) comma_continues (λ t e. e) (λ t e. e) (λ s u ts h. rw h refl) (λ p. refl) (last Some (λ u i. refl) comma_made (mark comma refl))
 
-pub pair_line_rule : Rule (Node pair_line_spells pair_line_continues) pair_at
+-- neither a comma nor an operand continues an operand, and an operand begins with no comma
+comma_over : (faulty : Bool) (s : Scope) (v : Pair) (x : Operand) (b rest : List Lexeme) → v.0 ≡ x → (some {A = Option (Unit {0})} Any (comma_if s) · operand s v.1) b → NextStops (operand_continues v.1) faulty rest → NextStops (operand_continues x) faulty (b ++ rest)
+comma_over faulty s v x b rest i h st = over h.first.0 h.first.2
+  where
+    over : (o : Option (Unit {0})) → comma_if s o h.prefix → NextStops (operand_continues x) faulty (b ++ rest)
+    over None e = rw (h.whole, e) (operand_over x v.1 s faulty h.suffix rest h.second)
+    over (Some u) e = rw (h.whole, e) (operand_stops x comma (λ e. cc))
+
+operand_no_comma : (faulty : Bool) (s : Scope) (v : Pair) (o : Option (Unit {0})) (b rest : List Lexeme) → Any o → operand s v.1 b → NextStops (operand_continues v.1) faulty rest → NextStops (comma_continues o) faulty (b ++ rest)
+operand_no_comma faulty s v o b rest i h st = other v.1 h o
+  where
+    other : (y : Operand) → operand s y b → (o : Option (Unit {0})) → NextStops (comma_continues o) faulty (b ++ rest)
+    other (Value n) k None = rw k.1 (λ e. cc)
+    other (Value n) k (Some u) = rw k.1 (λ e. e)
+    other (constant_variant c) k None = rw (k.whole, k.first.1) (λ e. cc)
+    other (constant_variant c) k (Some u) = rw (k.whole, k.first.1) (λ e. e)
+
+some_pair_rule : Rule Any (λ s (v : Pair). word (codes "cand") · operand s v.0 · some {A = Option (Unit {0})} Any (comma_if s) · operand s v.1) pair_line_continues pair_at
 unfolding pair_at
-pair_line_rule = respelled (after (word (codes "cand")) (and_then operand_rule (λ x. and_then optional_comma_rule (λ c. last operand_rule (λ y. (x, y))))))
-    (λ s v ts rest h.
-    let x = h.after in
-    let c = x.second in
-    let y = c.second in
-    rw y.is (
-      record {
-        lhs = x.prefix;
-        between = c.prefix;
-        rhs = c.suffix;
-        whole = rw (h.whole, x.whole, c.whole) refl;
-        lhs_spelled = x.first.0;
-        comma_or_none = comma_is c.first.branch Free s c.value c.prefix (c.suffix ++ rest) c.first.chosen;
-        rhs_spelled = y.last.0;
-      },
-      y.last.1,
-    ))
-    (λ faulty s v ts rest h.
-    let k = h.0 in
-    let comma_read = comma_seen faulty s k.between (k.rhs ++ rest) (operand_no_comma s v.1 faulty k.rhs rest k.rhs_spelled) k.comma_or_none in
-    let over = comma_over s v.0 v.1 faulty k.between k.rhs rest k.comma_or_none k.rhs_spelled in
-    rw k.whole (next (both v.0 k.lhs (k.between ++ k.rhs) (k.lhs_spelled, over) (both tt k.between k.rhs comma_read (made v.1 (k.rhs_spelled, h.1))))))
+some_pair_rule =
+    after (keyword (codes "cand")) (
+    joined (λ v. v.0) comma_over operand_form_rule (λ x.
+    reread _ (by_comma (λ p. operand_at p >>= λ y. Ok ((x, y.0), y.1)))
+    (parts (λ v o. Any o) (λ s (v : Pair). operand s v.1) comma_continues (λ v. operand_continues v.1) (λ v. operand_continues v.1) operand_no_comma (second_ends _ _ _ _) (λ v a i h. tt) comma_rule (λ o i.
+    last (λ y. (x, y)) (λ y i. (((tt, refl)), tt)) (λ v i. (v.1, tt, ap (λ (z : Operand). (z, v.1)) i.0.1)) operand_form_rule))))
+
+comma_to : (s : Scope) → some {A = Option (Unit {0})} Any (comma_if s) ⇒ perhaps (token comma)
+comma_to s ts (None, i, h) = inl h
+comma_to s ts (Some u, i, h) = inr h
+
+comma_from : (s : Scope) → perhaps (token comma) ⇒ some {A = Option (Unit {0})} Any (comma_if s)
+comma_from s ts (inl h) = (None, tt, h)
+comma_from s ts (inr h) = (Some tt, tt, h)
+
+pub pair_line_rule : Rule Any pair_line pair_line_continues pair_at
+pair_line_rule = node some_pair_rule (λ s v. both (λ ts h. h) (both (λ ts h. h) (both (comma_to s) (λ ts h. h)))) (λ s v. both (λ ts h. h) (both (λ ts h. h) (both (comma_from s) (λ ts h. h))))
 
 -- ---- the result line
 
-pub result_rule : Rule (Node result_spells result_continues) result_at
+pub result_rule : Rule Any result_spells result_continues result_at
 unfolding result_at
-result_rule = respelled (after (word (codes "result")) operand_rule)
-    (λ s v ts rest h. ((h.more, h.whole, h.after.0), h.after.1))
-    (λ faulty s v ts rest h. rw h.0.1 (next (h.0.2, h.1)))
+result_rule = node (after (keyword (codes "result")) operand_form_rule) result_from result_to
 
 pub result_alone : Alone result_spells result_continues
 result_alone = alone result_rule
@@ -327,95 +326,81 @@ cand_ends c t b = λ h. begins_no_more t b (attributes_more (operand_continues c
 abbrev pub definition_of : PlainAssignment → Definition
 definition_of a = record { name = a.name; ty = a.ty; value = a.value }
 
-pub assignment_parts : (s : Scope) (a : PlainAssignment) (ts : List Lexeme) → assignment_spells s a ts → Split definition_spells definition_continues (Row attribute_spells) s (definition_of a) a.attributes ts
-assignment_parts s a ts h =
-    let members : Row attribute_spells s a.attributes h.attributes = (attributes_members a.attributes h.attributes).0 h.attributes_spelled in
-    record {
-      prefix = val_name a.name ∷ (h.ty ++ equals ∷ h.rhs);
-      suffix = h.attributes;
-      whole = rw h.whole (simp append_assoc);
-      first = record { ty = h.ty; rhs = h.rhs; whole = refl; name_is_new = h.name_is_new; ty_spelled = h.ty_spelled; rhs_spelled = h.rhs_spelled };
-      free = attributes_over attribute_spells (attribute_first s) (rhs_continues a.value) a.attributes h.attributes (no_colon (rhs_continues a.value) (rhs_more a.value)) members;
-      second = members;
-    }
+-- the parts of a line, grouped with its attributes apart
+definition_apart : {A B C R X : Form} → A · B · C · R · X ⇒ ((A · B · C) · R) · X
+definition_apart {A} {B} {C} {R} {X} ts h =
+    let k : (A · (B · C) · R · X) ts = both {F = A} {H = A} (λ ts h. h) to_left ts h in
+    let l : ((A · B · C) · R · X) ts = to_left ts k in
+    to_left ts l
 
-pub parts_assignment : (s : Scope) (a : PlainAssignment) (ts : List Lexeme) → Split definition_spells definition_continues (Row attribute_spells) s (definition_of a) a.attributes ts → assignment_spells s a ts
-parts_assignment s a ts h =
-    let d = h.first in
-    record {
-      ty = d.ty;
-      rhs = d.rhs;
-      attributes = h.suffix;
-      whole = rw (h.whole, d.whole) (simp append_assoc);
-      name_is_new = d.name_is_new;
-      ty_spelled = d.ty_spelled;
-      rhs_spelled = d.rhs_spelled;
-      attributes_spelled = (attributes_members a.attributes h.suffix).1 h.second;
-    }
+apart_definition : {A B C R X : Form} → ((A · B · C) · R) · X ⇒ A · B · C · R · X
+apart_definition {A} {B} {C} {R} {X} ts h =
+    let k : ((A · B · C) · R · X) ts = to_right ts h in
+    let l : (A · (B · C) · R · X) ts = to_right ts k in
+    both {F = A} {H = A} (λ ts h. h) to_right ts l
 
-pub assignment_laws : Laws definition_spells definition_continues attribute_spells definition_of (λ (a : PlainAssignment). a.attributes) assignment_spells assignment_continues
+pair_apart : {A B C R X : Form} → A · B · C · R · X ⇒ (A · B · C · R) · X
+pair_apart {A} {B} {C} {R} {X} ts h =
+    let k : (A · B · (C · R) · X) ts = both {F = A} {H = A} (λ ts h. h) (both {F = B} {H = B} (λ ts h. h) to_left) ts h in
+    let l : (A · (B · C · R) · X) ts = both {F = A} {H = A} (λ ts h. h) to_left ts k in
+    to_left ts l
+
+apart_pair : {A B C R X : Form} → (A · B · C · R) · X ⇒ A · B · C · R · X
+apart_pair {A} {B} {C} {R} {X} ts h =
+    let k : (A · (B · C · R) · X) ts = to_right ts h in
+    let l : (A · B · (C · R) · X) ts = both {F = A} {H = A} (λ ts h. h) to_right ts k in
+    both {F = A} {H = A} (λ ts h. h) (both {F = B} {H = B} (λ ts h. h) to_right) ts l
+
+-- attributes by their form
+attribute_rows : (s : Scope) (xs : List PlainAttribute) → each attribute xs ⇒ Row attribute_spells s xs
+attribute_rows s xs ts h = (attributes_members xs ts).0 (attributes_from xs ts h)
+
+rows_attribute : (s : Scope) (xs : List PlainAttribute) → Row attribute_spells s xs ⇒ each attribute xs
+rows_attribute s xs ts h = attributes_to xs ts ((attributes_members xs ts).1 h)
+
+root_attribute_rows : (s : Scope) (xs : List PlainRootAttribute) → each root_attribute xs ⇒ Row root_attribute_spells s xs
+root_attribute_rows s xs ts h = (root_attributes_members xs ts).0 (root_attributes_from xs ts h)
+
+rows_root_attribute : (s : Scope) (xs : List PlainRootAttribute) → Row root_attribute_spells s xs ⇒ each root_attribute xs
+rows_root_attribute s xs ts h = root_attributes_to xs ts ((root_attributes_members xs ts).1 h)
+
+pub assignment_parts : (s : Scope) (a : PlainAssignment) (ts : List Lexeme) → assignment_spells s a ts → Split definition definition_continues (Row attribute_spells) s (definition_of a) a.attributes ts
+assignment_parts s a ts h = attributes_split attribute_spells (attribute_first s) definition definition_continues s (definition_of a) a.attributes (no_colon (rhs_continues a.value) (rhs_more a.value)) ts
+    (both (λ ts h. h) (attribute_rows s a.attributes) ts (definition_apart ts (assignment_to s a ts h)))
+
+pub parts_assignment : (s : Scope) (a : PlainAssignment) (ts : List Lexeme) → Split definition definition_continues (Row attribute_spells) s (definition_of a) a.attributes ts → assignment_spells s a ts
+parts_assignment s a ts h = assignment_from s a ts (apart_definition ts (both (λ ts h. h) (rows_attribute s a.attributes) ts (attributes_joined h)))
+
+pub assignment_laws : Laws definition definition_continues attribute_spells definition_of (λ (a : PlainAssignment). a.attributes) assignment_spells assignment_continues
 assignment_laws =
-    laws definition_spells definition_continues attribute_spells definition_of (λ (a : PlainAssignment). a.attributes) (alone definition_rule) (alone attribute_rule) (attribute_first []) assignment_spells assignment_parts parts_assignment
+    laws definition definition_continues attribute_spells definition_of (λ (a : PlainAssignment). a.attributes) (alone definition_rule) (alone attribute_rule) (attribute_first []) assignment_spells assignment_parts parts_assignment
     (λ d xs. record { name = d.name; ty = d.ty; value = d.value; attributes = xs }) (λ a. refl)
 
-pub infer_parts : (s : Scope) (i : PlainInfer) (ts : List Lexeme) → infer_spells s i ts → Split root_spells (λ (r : ℕ) t. ⊥) (Row root_attribute_spells) s i.value i.attributes ts
-infer_parts s i ts h = record {
-  prefix = ident (codes "infer") ∷ val_name h.name ∷ [];
-  suffix = h.attributes;
-  whole = h.whole;
-  first = (h.name, refl, h.value_is);
-  free = never h.attributes;
-  second = (root_attributes_members i.attributes h.attributes).0 h.attributes_spelled;
-}
+pub infer_parts : (s : Scope) (i : PlainInfer) (ts : List Lexeme) → infer_spells s i ts → Split root (λ (r : ℕ) t. ⊥) (Row root_attribute_spells) s i.value i.attributes ts
+infer_parts s i ts h = attributes_split root_attribute_spells (root_attribute_first s) root (λ r t. ⊥) s i.value i.attributes (λ x. x) ts (both (λ ts h. h) (root_attribute_rows s i.attributes) ts (to_left ts (infer_to s i ts h)))
 
-pub parts_infer : (s : Scope) (i : PlainInfer) (ts : List Lexeme) → Split root_spells (λ (r : ℕ) t. ⊥) (Row root_attribute_spells) s i.value i.attributes ts → infer_spells s i ts
-parts_infer s i ts h = record {
-  name = h.first.0;
-  attributes = h.suffix;
-  whole = rw (h.whole, h.first.1) refl;
-  value_is = h.first.2;
-  attributes_spelled = (root_attributes_members i.attributes h.suffix).1 h.second;
-}
+pub parts_infer : (s : Scope) (i : PlainInfer) (ts : List Lexeme) → Split root (λ (r : ℕ) t. ⊥) (Row root_attribute_spells) s i.value i.attributes ts → infer_spells s i ts
+parts_infer s i ts h = infer_from s i ts (to_right ts (both (λ ts h. h) (rows_root_attribute s i.attributes) ts (attributes_joined h)))
 
-pub infer_laws : Laws root_spells (λ (r : ℕ) t. ⊥) root_attribute_spells (λ (i : PlainInfer). i.value) (λ (i : PlainInfer). i.attributes) infer_spells infer_continues
+pub infer_laws : Laws root (λ (r : ℕ) t. ⊥) root_attribute_spells (λ (i : PlainInfer). i.value) (λ (i : PlainInfer). i.attributes) infer_spells infer_continues
 infer_laws =
-    laws root_spells (λ (r : ℕ) t. ⊥) root_attribute_spells (λ (i : PlainInfer). i.value) (λ (i : PlainInfer). i.attributes) (alone root_rule) (alone root_attribute_rule) (root_attribute_first []) infer_spells infer_parts parts_infer
+    laws root (λ (r : ℕ) t. ⊥) root_attribute_spells (λ (i : PlainInfer). i.value) (λ (i : PlainInfer). i.attributes) (alone root_rule) (alone root_attribute_rule) (root_attribute_first []) infer_spells infer_parts parts_infer
     (λ r xs. record { value = r; attributes = xs }) (λ i. refl)
 
 -- the two operands of a cand line
 abbrev pub pair_of : PlainCand → Operand × Operand
 pair_of c = (c.lhs, c.rhs)
 
-pub cand_parts : (s : Scope) (c : PlainCand) (ts : List Lexeme) → cand_spells s c ts → Split pair_line_spells pair_line_continues (Row root_attribute_spells) s (pair_of c) c.attributes ts
-cand_parts s c ts h =
-    let members : Row root_attribute_spells s c.attributes h.attributes = (root_attributes_members c.attributes h.attributes).0 h.attributes_spelled in
-    record {
-      prefix = ident (codes "cand") ∷ (h.lhs ++ (h.between ++ h.rhs));
-      suffix = h.attributes;
-      whole = rw h.whole (simp append_assoc);
-      first = record { lhs = h.lhs; between = h.between; rhs = h.rhs; whole = refl; lhs_spelled = h.lhs_spelled; comma_or_none = h.comma_or_none; rhs_spelled = h.rhs_spelled };
-      free = attributes_over root_attribute_spells (root_attribute_first s) (operand_continues c.rhs) c.attributes h.attributes (no_colon (operand_continues c.rhs) (operand_more c.rhs)) members;
-      second = members;
-    }
+pub cand_parts : (s : Scope) (c : PlainCand) (ts : List Lexeme) → cand_spells s c ts → Split pair_line pair_line_continues (Row root_attribute_spells) s (pair_of c) c.attributes ts
+cand_parts s c ts h = attributes_split root_attribute_spells (root_attribute_first s) pair_line pair_line_continues s (pair_of c) c.attributes (no_colon (operand_continues c.rhs) (operand_more c.rhs)) ts
+    (both (λ ts h. h) (root_attribute_rows s c.attributes) ts (pair_apart ts (cand_to s c ts h)))
 
-pub parts_cand : (s : Scope) (c : PlainCand) (ts : List Lexeme) → Split pair_line_spells pair_line_continues (Row root_attribute_spells) s (pair_of c) c.attributes ts → cand_spells s c ts
-parts_cand s c ts h =
-    let k = h.first in
-    record {
-      lhs = k.lhs;
-      between = k.between;
-      rhs = k.rhs;
-      attributes = h.suffix;
-      whole = rw (h.whole, k.whole) (simp append_assoc);
-      lhs_spelled = k.lhs_spelled;
-      comma_or_none = k.comma_or_none;
-      rhs_spelled = k.rhs_spelled;
-      attributes_spelled = (root_attributes_members c.attributes h.suffix).1 h.second;
-    }
+pub parts_cand : (s : Scope) (c : PlainCand) (ts : List Lexeme) → Split pair_line pair_line_continues (Row root_attribute_spells) s (pair_of c) c.attributes ts → cand_spells s c ts
+parts_cand s c ts h = cand_from s c ts (apart_pair ts (both (λ ts h. h) (rows_root_attribute s c.attributes) ts (attributes_joined h)))
 
-pub cand_laws : Laws pair_line_spells pair_line_continues root_attribute_spells pair_of (λ (c : PlainCand). c.attributes) cand_spells cand_continues
+pub cand_laws : Laws pair_line pair_line_continues root_attribute_spells pair_of (λ (c : PlainCand). c.attributes) cand_spells cand_continues
 cand_laws =
-    laws pair_line_spells pair_line_continues root_attribute_spells pair_of (λ (c : PlainCand). c.attributes) (alone pair_line_rule) (alone root_attribute_rule) (root_attribute_first []) cand_spells cand_parts parts_cand
+    laws pair_line pair_line_continues root_attribute_spells pair_of (λ (c : PlainCand). c.attributes) (alone pair_line_rule) (alone root_attribute_rule) (root_attribute_first []) cand_spells cand_parts parts_cand
     (λ o xs. record { lhs = o.0; rhs = o.1; attributes = xs }) (λ c. refl)
 
 pub assignment_alone : Alone assignment_spells assignment_continues
