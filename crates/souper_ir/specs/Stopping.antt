@@ -2,7 +2,8 @@
 use Rattle.std.specs.Prelude.{◌≡◌, ◌⊎◌, ℕ, Bool, true, false, List, [], ◌++◌, None, Ok, Err, codes}
 use Rattle.souper_graph.specs.Values.{PlainStatement, PlainInfer, Item}
 use Rattle.souper_graph.specs.Syntax.Tokens.{Lexeme, AreTokensOf}
-use Rattle.souper_graph.specs.Syntax.Spelling.{kinds, infer_spells, attribute_spells, root_attribute_spells, ItemType, left_hand_side, right_hand_side, replacement}
+use Rattle.souper_graph.specs.Syntax.Spelling.{kinds, infer_spells, ItemType, left_hand_side, right_hand_side, replacement}
+use Rattle.souper_graph.specs.Syntax.Forms.{attribute as attribute_form, root_attribute as root_attribute_form}
 use Rattle.souper_lexer.specs.TokenView.{IsCut}
 use Rattle.souper_errors.specs.declared.error.ParseError.{ParseError}
 use Rattle.souper_ir.specs.declared.parse.item.Next.TheVariants.{Assignment, Pc, BlockPc}
@@ -34,7 +35,7 @@ LineStops {A} node spells read ended p = (node p ≡ Err ended) ⊎ ((a : A) × 
 
 -- a statement, by its first token
 abbrev pub StatementStops : Bool → Parsing → Type 0
-StatementStops ended p = (NextIs Assignment p × LineStops definition_at attribute_spells attribute_at ended p)
+StatementStops ended p = (NextIs Assignment p × LineStops definition_at attribute_form attribute_at ended p)
     ⊎ ((NextIs Pc p × (pc_at p ≡ Err ended)) ⊎ (NextIs BlockPc p × (block_pc_at p ≡ Err ended)))
 
 -- statements, and then one whose reading stops
@@ -56,10 +57,10 @@ abbrev pub EitherStops : (Bool → Parsing → Type 0) → Bool → Parsing → 
 EitherStops line ended p = StatementsStop ended p ⊎ LastLineStops line ended p
 
 abbrev pub InferStops : Bool → Parsing → Type 0
-InferStops ended p = LineStops root_at root_attribute_spells root_attribute_at ended p
+InferStops ended p = LineStops root_at root_attribute_form root_attribute_at ended p
 
 abbrev pub CandStops : Bool → Parsing → Type 0
-CandStops ended p = LineStops pair_at root_attribute_spells root_attribute_at ended p
+CandStops ended p = LineStops pair_at root_attribute_form root_attribute_at ended p
 
 abbrev pub ResultStops : Bool → Parsing → Type 0
 ResultStops ended p = result_at p ≡ Err ended

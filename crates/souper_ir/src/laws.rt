@@ -7,14 +7,15 @@ ghost use Rattle.std.specs.Prelude.{◌≡◌, ◌↔◌, ℕ, true, List, [], O
 ghost use Rattle.std.specs.List.{AllByRecursion};
 ghost use Rattle.souper_graph.specs.WellFormed.{EachClosed};
 ghost use Rattle.souper_graph.specs.Instructions.{word_of};
-ghost use Rattle.souper_graph.specs.Values.{PlainAttribute, PlainRootAttribute, PlainPhi, PlainRhs, PlainAssignment, PlainStatement, PlainInfer, PlainCand, Item};
+ghost use Rattle.souper_graph.specs.Values.{PlainAttribute, PlainRootAttribute, PlainPhi, PlainRhs, block, phi, PlainAssignment, PlainStatement, PlainInfer, PlainCand, Item};
 ghost use Rattle.souper_graph.specs.View.{view_attribute, view_root_attribute, view_phi, view_rhs, view_assignment, view_statement, view_infer, view_cand, view_left_hand_side, view_right_hand_side, view_replacement};
 ghost use Rattle.souper_graph.specs.Text.{text_of, texts_of};
 ghost use Rattle.souper_graph.specs.Sameness.{renumbered, SameGraph};
 ghost use Rattle.souper_graph.specs.Renaming.{SameUpToNames, IsRenamed};
 ghost use Rattle.souper_graph.specs.CanonicalText.{IsWellFormedOf, AreWellFormed, AllNeeded};
 ghost use Rattle.souper_graph.specs.Syntax.Tokens.{Lexeme, ident, open_paren, OneReading, IsWhiteSpaceListed, EachInText, GapEndsToken, FrontsJoin};
-ghost use Rattle.souper_graph.specs.Syntax.Spelling.{Scope, OneList, type_spells, constant_spells, operand_spells, block_spells, phi_spells, instruction_spells, rhs_spells, attribute_spells, root_attribute_spells, assignment_spells, pc_spells, block_pc_spells, statement_spells, infer_spells, cand_spells, ItemType, left_hand_side, right_hand_side, replacement, item_spells_after, TextSpells};
+ghost use Rattle.souper_graph.specs.Syntax.Spelling.{Scope, OneList, constant_spells, instruction_spells, assignment_spells, pc_spells, block_pc_spells, statement_spells, infer_spells, cand_spells, ItemType, left_hand_side, right_hand_side, replacement, item_spells_after, TextSpells};
+ghost use Rattle.souper_graph.specs.Syntax.Forms.{type as type_form, operand, rhs, attribute, root_attribute};
 ghost use Rattle.souper_ir.specs.Continuation.{constant_continues, operand_continues, phi_continues, instruction_continues, rhs_continues, assignment_continues, pc_continues, block_pc_continues, statement_continues, infer_continues, cand_continues, item_continues};
 ghost use Rattle.souper_ir.specs.Joining.{TokensJoin, TokensPart, ItemsJoin};
 ghost use Rattle.souper_ir.specs.Grammar.{Members, ListGoesOn, OptionSpells, OptionGoesOn};
@@ -73,7 +74,7 @@ pub fn law_of_canonical_texts()
 /// What parsing a type promises.
 pub fn law_of_type()
     ensures view { (v : _) → ⟦<Type as Parse>⟧.view v ≡ v }
-    ensures spells { (s : Scope) (v : _) (ts : List Lexeme) → ⟦<Type as Parse>⟧.spells s v ts ↔ type_spells v ts }
+    ensures spells { (s : Scope) (v : _) (ts : List Lexeme) → ⟦<Type as Parse>⟧.spells s v ts ↔ type_form v ts }
     ensures continues { (v : _) (t : Lexeme) → ⟦<Type as Parse>⟧.continues v t ↔ ⊥ }
     ensures leaves { (s : Scope) → ⟦<Type as Parse>⟧.leaves s ≡ s }
 {}
@@ -90,7 +91,7 @@ pub fn law_of_constant()
 /// What parsing an operand promises.
 pub fn law_of_operand()
     ensures view { (v : _) → ⟦<Operand as Parse>⟧.view v ≡ v }
-    ensures spells { (s : Scope) (v : _) (ts : List Lexeme) → ⟦<Operand as Parse>⟧.spells s v ts ↔ operand_spells s v ts }
+    ensures spells { (s : Scope) (v : _) (ts : List Lexeme) → ⟦<Operand as Parse>⟧.spells s v ts ↔ operand s v ts }
     ensures continues { (v : _) (t : Lexeme) → ⟦<Operand as Parse>⟧.continues v t ↔ operand_continues v t }
     ensures leaves { (s : Scope) → ⟦<Operand as Parse>⟧.leaves s ≡ s }
 {}
@@ -98,7 +99,7 @@ pub fn law_of_operand()
 /// What parsing a block promises.
 pub fn law_of_block()
     ensures view { (v : _) → ⟦<Block as Parse>⟧.view v ≡ v }
-    ensures spells { (s : Scope) (v : _) (ts : List Lexeme) → ⟦<Block as Parse>⟧.spells s v ts ↔ block_spells v ts }
+    ensures spells { (s : Scope) (v : _) (ts : List Lexeme) → ⟦<Block as Parse>⟧.spells s v ts ↔ rhs s (block v) ts }
     ensures continues { (v : _) (t : Lexeme) → ⟦<Block as Parse>⟧.continues v t ↔ ⊥ }
     ensures leaves { (s : Scope) → ⟦<Block as Parse>⟧.leaves s ≡ s }
     ensures starts { (t : Lexeme) → ⟦<Block as Peek>⟧.starts t ≡ is_word (codes "block") t }
@@ -107,7 +108,7 @@ pub fn law_of_block()
 /// What parsing a phi promises.
 pub fn law_of_phi()
     ensures view { (v : _) → ⟦<Phi as Parse>⟧.view v ≡ view_phi v }
-    ensures spells { (s : Scope) (v : PlainPhi) (ts : List Lexeme) → ⟦<Phi as Parse>⟧.spells s v ts ↔ phi_spells s v ts }
+    ensures spells { (s : Scope) (v : PlainPhi) (ts : List Lexeme) → ⟦<Phi as Parse>⟧.spells s v ts ↔ rhs s (phi v) ts }
     ensures continues { (v : PlainPhi) (t : Lexeme) → ⟦<Phi as Parse>⟧.continues v t ↔ phi_continues v t }
     ensures leaves { (s : Scope) → ⟦<Phi as Parse>⟧.leaves s ≡ s }
     ensures starts { (t : Lexeme) → ⟦<Phi as Peek>⟧.starts t ≡ is_word (codes "phi") t }
@@ -125,7 +126,7 @@ pub fn law_of_instruction()
 /// What parsing a right side promises.
 pub fn law_of_rhs()
     ensures view { (v : _) → ⟦<AssignmentRhs as Parse>⟧.view v ≡ view_rhs v }
-    ensures spells { (s : Scope) (v : PlainRhs) (ts : List Lexeme) → ⟦<AssignmentRhs as Parse>⟧.spells s v ts ↔ rhs_spells s v ts }
+    ensures spells { (s : Scope) (v : PlainRhs) (ts : List Lexeme) → ⟦<AssignmentRhs as Parse>⟧.spells s v ts ↔ rhs s v ts }
     ensures continues { (v : PlainRhs) (t : Lexeme) → ⟦<AssignmentRhs as Parse>⟧.continues v t ↔ rhs_continues v t }
     ensures leaves { (s : Scope) → ⟦<AssignmentRhs as Parse>⟧.leaves s ≡ s }
 {}
@@ -133,7 +134,7 @@ pub fn law_of_rhs()
 /// What parsing an attribute promises.
 pub fn law_of_attribute()
     ensures view { (v : _) → ⟦<Attribute as Parse>⟧.view v ≡ view_attribute v }
-    ensures spells { (s : Scope) (v : PlainAttribute) (ts : List Lexeme) → ⟦<Attribute as Parse>⟧.spells s v ts ↔ attribute_spells v ts }
+    ensures spells { (s : Scope) (v : PlainAttribute) (ts : List Lexeme) → ⟦<Attribute as Parse>⟧.spells s v ts ↔ attribute v ts }
     ensures continues { (v : PlainAttribute) (t : Lexeme) → ⟦<Attribute as Parse>⟧.continues v t ↔ ⊥ }
     ensures leaves { (s : Scope) → ⟦<Attribute as Parse>⟧.leaves s ≡ s }
     ensures starts { (t : Lexeme) → ⟦<Attribute as Peek>⟧.starts t ≡ is_mark open_paren t }
@@ -142,7 +143,7 @@ pub fn law_of_attribute()
 /// What parsing an attribute of a root promises.
 pub fn law_of_root_attribute()
     ensures view { (v : _) → ⟦<RootAttribute as Parse>⟧.view v ≡ view_root_attribute v }
-    ensures spells { (s : Scope) (v : PlainRootAttribute) (ts : List Lexeme) → ⟦<RootAttribute as Parse>⟧.spells s v ts ↔ root_attribute_spells v ts }
+    ensures spells { (s : Scope) (v : PlainRootAttribute) (ts : List Lexeme) → ⟦<RootAttribute as Parse>⟧.spells s v ts ↔ root_attribute v ts }
     ensures continues { (v : PlainRootAttribute) (t : Lexeme) → ⟦<RootAttribute as Parse>⟧.continues v t ↔ ⊥ }
     ensures leaves { (s : Scope) → ⟦<RootAttribute as Parse>⟧.leaves s ≡ s }
     ensures starts { (t : Lexeme) → ⟦<RootAttribute as Peek>⟧.starts t ≡ is_mark open_paren t }

@@ -4,7 +4,8 @@ use Rattle.std.specs.Prelude.{codes, Option, Some}
 use Rattle.souper_graph.specs.Values.{PlainStatement, PlainInfer, PlainAttribute, PlainRootAttribute, Item}
 use Rattle.souper_graph.specs.declared.ast.operands.«Type».{«Type» as Ty}
 use Rattle.souper_graph.specs.Syntax.Tokens.{Lexeme, AreTokensOf, open_paren}
-use Rattle.souper_graph.specs.Syntax.Spelling.{infer_spells, attribute_spells, root_attribute_spells, ItemType}
+use Rattle.souper_graph.specs.Syntax.Spelling.{infer_spells, ItemType}
+use Rattle.souper_graph.specs.Syntax.Forms.{attribute as attribute_form, root_attribute as root_attribute_form}
 use Rattle.souper_lexer.specs.TokenView.{IsCut}
 use Rattle.souper_errors.specs.declared.error.ParseError.{ParseError}
 use Rattle.souper_ir.specs.declared.parse.item.Next.{Next}
@@ -73,13 +74,13 @@ module _ {X : Type 0} (spells : X → List Lexeme → Type 0) (read : Parsing �
       let same = (peeked (is_mark open_paren) q m true seen.0).0 in
       if_refused (cause_of e) (λ bad live. row xs (at_end_of e) p q so (subst (λ (x : Parsing). read x ≡ Err (at_end_of e)) same bad)) h.0
 
-pub attributes_look : (xs : List PlainAttribute) (e : ParseError) (p q r : Parsing) → SoFar (λ s. attribute_spells) (λ x t. ⊥) xs p q → IfRefused (cause_of e) (peek_at (is_mark open_paren) q ≡ Err (at_end_of e)) × Fails e q r
-    → Stops (RowStops attribute_spells attribute_at) e p
-attributes_look = look_stops attribute_spells attribute_at no_attribute
+pub attributes_look : (xs : List PlainAttribute) (e : ParseError) (p q r : Parsing) → SoFar (λ s. attribute_form) (λ x t. ⊥) xs p q → IfRefused (cause_of e) (peek_at (is_mark open_paren) q ≡ Err (at_end_of e)) × Fails e q r
+    → Stops (RowStops attribute_form attribute_at) e p
+attributes_look = look_stops attribute_form attribute_at no_attribute
 
-pub root_attributes_look : (xs : List PlainRootAttribute) (e : ParseError) (p q r : Parsing) → SoFar (λ s. root_attribute_spells) (λ x t. ⊥) xs p q → IfRefused (cause_of e) (peek_at (is_mark open_paren) q ≡ Err (at_end_of e)) × Fails e q r
-    → Stops (RowStops root_attribute_spells root_attribute_at) e p
-root_attributes_look = look_stops root_attribute_spells root_attribute_at no_root_attribute
+pub root_attributes_look : (xs : List PlainRootAttribute) (e : ParseError) (p q r : Parsing) → SoFar (λ s. root_attribute_form) (λ x t. ⊥) xs p q → IfRefused (cause_of e) (peek_at (is_mark open_paren) q ≡ Err (at_end_of e)) × Fails e q r
+    → Stops (RowStops root_attribute_form root_attribute_at) e p
+root_attributes_look = look_stops root_attribute_form root_attribute_at no_root_attribute
 
 -- ---- lines
 
@@ -93,7 +94,7 @@ module _ {A X : Type 0} (node : Parsing → Reads A) (spells : X → List Lexeme
 -- ---- statements
 
 abbrev Definitions : Bool → Parsing → Type 0
-Definitions ended p = LineStops definition_at attribute_spells attribute_at ended p
+Definitions ended p = LineStops definition_at attribute_form attribute_at ended p
 
 assigned_stops : (e : ParseError) (p : Parsing) → NextIs Assignment p → Stops Definitions e p → Stops StatementStops e p
 assigned_stops e p next h = if_refused (cause_of e) (λ bad live. inl (next, bad live)) h
@@ -104,8 +105,8 @@ heading_stops e p q next h = assigned_stops e p next (if_refused (cause_of e) (�
 pub value_stops : (e : ParseError) (x : List ℕ × Option Ty) (p k q : Parsing) → NextIs Assignment p → IsRead (heading_at p) x p k → IfRefused (cause_of e) (rhs_at k ≡ Err (at_end_of e)) × Fails e k q → Stops StatementStops e p
 value_stops e x p k q next is h = assigned_stops e p next (if_refused (cause_of e) (λ bad live. inl (unread_value (at_end_of e) p k x is.0 bad)) h.0)
 
-pub attributes_stop : (e : ParseError) (d : Definition) (p k q : Parsing) → NextIs Assignment p → IsRead (heading_at p) (d.name, d.ty) p k → IsRead (rhs_at k) d.value k q → Stops (RowStops attribute_spells attribute_at) e q → Stops StatementStops e p
-attributes_stop e d p k q next h v bad = assigned_stops e p next (behind_stops definition_at attribute_spells attribute_at d e p q (definition_read p k q d h v) bad)
+pub attributes_stop : (e : ParseError) (d : Definition) (p k q : Parsing) → NextIs Assignment p → IsRead (heading_at p) (d.name, d.ty) p k → IsRead (rhs_at k) d.value k q → Stops (RowStops attribute_form attribute_at) e q → Stops StatementStops e p
+attributes_stop e d p k q next h v bad = assigned_stops e p next (behind_stops definition_at attribute_form attribute_at d e p q (definition_read p k q d h v) bad)
 
 pub pc_stops : (e : ParseError) (p q : Parsing) → NextIs Pc p → IfRefused (cause_of e) (pc_at p ≡ Err (at_end_of e)) × Fails e p q → Stops StatementStops e p
 pc_stops e p q next h = if_refused (cause_of e) (λ bad live. inr (inl (next, bad))) h.0

@@ -4,7 +4,8 @@ use Rattle.std.specs.Prelude.{Result}
 use Rattle.souper_graph.specs.declared.ast.operands.Operand.{Operand}
 use Rattle.souper_errors.specs.declared.error.ParseError.{ParseError}
 use Rattle.souper_graph.specs.Values.{PlainAttribute}
-use Rattle.souper_graph.specs.Syntax.Spelling.{kinds, attribute_spells}
+use Rattle.souper_graph.specs.Syntax.Spelling.{kinds}
+use Rattle.souper_graph.specs.Syntax.Forms.{attribute as attribute_form}
 use Rattle.souper_graph.specs.Syntax.Tokens.{Lexeme, val_name, int, comma, colon, equals, open_paren}
 use Rattle.souper_ir.specs.declared.parse.item.Next.TheVariants.{Assignment}
 use Rattle.souper_ir.specs.Grammar.{Comes, Free, Took, peek_at}
@@ -71,11 +72,11 @@ no_paren faulty (t ∷ ts) h = refuted
     refuted (inl e) = let clash : true ≡ false = sym e ∙ h in cc
     refuted (inr x) = x
 
-pub no_attributes : (xs : List PlainAttribute) (p : Parsing) → xs ≡ [] → Comes IsName p → Took (Row attribute_spells) OneMore (λ s. s) xs p p
+pub no_attributes : (xs : List PlainAttribute) (p : Parsing) → xs ≡ [] → Comes IsName p → Took (Row attribute_form) OneMore (λ s. s) xs p p
 no_attributes xs p none c =
     let other : is_mark open_paren c.0 ≡ false = ap (is_mark open_paren) c.2.1 in
     let s = peeked (is_mark open_paren) p p false ((tested (is_mark open_paren) c.0 p c.1).0 ∙ ap (λ (b : Bool). Ok (b, p)) other) in
-    subst (λ (ys : List PlainAttribute). Took (Row attribute_spells) OneMore (λ s. s) ys p p) (sym none)
+    subst (λ (ys : List PlainAttribute). Took (Row attribute_form) OneMore (λ s. s) ys p p) (sym none)
     (record { used = []; parts = refl; spelled = refl; free = no_paren p.faulty p.tokens s.2; live = s.1; state = refl })
 
 pub assignment_next : (p : Parsing) → Comes IsName p → IsRead (next_at p) Assignment p p

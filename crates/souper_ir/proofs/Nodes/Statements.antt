@@ -10,7 +10,8 @@ use Rattle.souper_errors.specs.declared.error.ParseError.{ParseError}
 use Rattle.souper_errors.specs.Errors.{at_end_of}
 use Rattle.souper_ir.specs.Parsing.{Parsing}
 use Rattle.souper_graph.specs.Syntax.Tokens.{Lexeme}
-use Rattle.souper_graph.specs.Syntax.Spelling.{kinds, attribute_spells, assignment_spells, pc_spells, block_pc_spells, statement_spells}
+use Rattle.souper_graph.specs.Syntax.Spelling.{kinds, assignment_spells, pc_spells, block_pc_spells, statement_spells}
+use Rattle.souper_graph.specs.Syntax.Forms.{attribute as attribute_form}
 use Rattle.souper_ir.specs.Continuation.{assignment_continues, pc_continues, block_pc_continues, statement_continues}
 use Rattle.souper_ir.specs.Reading.{cause_of, IfRefused, if_refused, Fails, fails_later, IsRead}
 use Rattle.souper_ir.specs.Grammar.{NextStops, Starts, Took, NoFront, Refusal, peek_at}
@@ -76,7 +77,7 @@ block_pc_refused e p q r h k =
 -- ---- an assignment from its parts
 
 abbrev Attributes : List PlainAttribute → Parsing → Parsing → Type 0
-Attributes xs q r = Took (Row attribute_spells) OneMore (λ s. s) xs q r
+Attributes xs q r = Took (Row attribute_form) OneMore (λ s. s) xs q r
 
 pub definition_read : (p k q : Parsing) (d : Definition) → IsRead (heading_at p) (d.name, d.ty) p k → IsRead (rhs_at k) d.value k q → IsRead (definition_at p) d p q
 unfolding definition_at
@@ -105,7 +106,7 @@ heading_refused e p q h = refused_definition e p q (if_refused (cause_of e) (unr
 pub value_refused : (e : ParseError) (x : List ℕ × Option Ty) (p k q : Parsing) → IsRead (heading_at p) x p k → IfRefused (cause_of e) (rhs_at k ≡ Err (at_end_of e)) × Fails e k q → Refusal assignment_spells assignment_continues e p q
 value_refused e x p k q h f = refused_definition e p q (if_refused (cause_of e) (unread_value (at_end_of e) p k x h.0) f.0) (fails_later e p k q (h.2 ∙ sym h.1) h.3 f.1)
 
-pub attributes_refused : (e : ParseError) (d : Definition) (p k q r : Parsing) → IsRead (heading_at p) (d.name, d.ty) p k → IsRead (rhs_at k) d.value k q → Refusal (Row attribute_spells) OneMore e q r
+pub attributes_refused : (e : ParseError) (d : Definition) (p k q r : Parsing) → IsRead (heading_at p) (d.name, d.ty) p k → IsRead (rhs_at k) d.value k q → Refusal (Row attribute_form) OneMore e q r
     → Refusal assignment_spells assignment_continues e p r
 attributes_refused e d p k q r h v f =
     assignment_laws.refused_behind d e p q r (is_taken definition_rule (λ (x : Definition). x) d p q (definition_read p k q d h v)) f

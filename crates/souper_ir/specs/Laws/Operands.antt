@@ -1,5 +1,5 @@
 -- Lemmas. The rules of types, constants and operands: a value is read if and only if the tokens have its form.
-use Rattle.std.proofs.Common.{◌≡◌, ℕ, suc, zero, Bool, true, false, List, [], ◌∷◌, ◌++◌, length, Option, Some, None, Ok, refl, sym, ◌∙◌, ap, subst}
+use Rattle.std.proofs.Common.{◌≡◌, ℕ, suc, zero, Bool, true, false, List, [], ◌∷◌, ◌++◌, length, Option, Some, None, Ok, refl, ◌∙◌, ap, subst}
 use Rattle.std.specs.Prelude.{is_some}
 use Rattle.souper_graph.specs.declared.ast.operands.«Type».{«Type» as Ty}
 use Rattle.souper_graph.specs.declared.ast.operands.Constant.{Constant}
@@ -7,14 +7,13 @@ use Rattle.souper_graph.specs.declared.ast.operands.Operand.{Operand}
 use Rattle.souper_graph.specs.declared.ast.operands.Operand.TheVariants.{Value, Constant as constant_variant}
 use Rattle.souper_graph.specs.Syntax.Tokens.{Lexeme, val_name, int, comma, colon}
 use Rattle.souper_graph.specs.Syntax.Numbers.{number_of, width_of}
-use Rattle.souper_graph.specs.Syntax.Spelling.{Scope, position_of, type_spells, constant_spells, operand_spells}
+use Rattle.souper_graph.specs.Syntax.Spelling.{Scope, position_of, constant_spells}
 use Rattle.souper_graph.specs.Syntax.Forms.{◌·◌, token, optional, type, of_type, constant, operand, further, operands}
-use Rattle.souper_graph.proofs.FormsAgree.Operands.{constant_to, constant_from, operand_to, operand_from}
-use Rattle.souper_ir.specs.Parsing.{Parsing}
+use Rattle.souper_graph.proofs.FormsAgree.Operands.{constant_to, constant_from}
 use Rattle.souper_ir.specs.Reading.{◌>>=◌}
 use Rattle.souper_ir.specs.Continuation.{optional_type_continues, constant_continues, operand_continues, operands_continue}
 use Rattle.souper_ir.specs.Grammar.{Free, NextStops, Starts}
-use Rattle.souper_ir.specs.NodeReadings.{accept, is_name, as_mark, is_mark, is_int, ident_by, type_of_word, type_at, optional_type_by, optional_type_at, constant_at, operand_by, operand_at, next_operand_at, further_at, operands_at}
+use Rattle.souper_ir.specs.NodeReadings.{accept, is_name, as_mark, is_mark, is_int, type_of_word, type_at, optional_type_by, optional_type_at, constant_at, operand_by, operand_at, next_operand_at, further_at, operands_at}
 use Rattle.souper_ir.specs.Laws.Peeks.{some_is}
 use Rattle.souper_ir.specs.Laws.Steps.{bind_some}
 use Rattle.souper_ir.specs.Laws.Tokens.{is_mark_means}
@@ -33,8 +32,11 @@ type_of_word_means w t e =
 type_of_word_is : (w : List ℕ) (t : Ty) → width_of w ≡ Some t.width → type_of_word w ≡ Some t
 type_of_word_is w t e = rw e refl
 
-pub type_form_rule : Rule Any (λ s. type) Never type_at
-type_form_rule = reformed (λ s t ts i h. (h.0, h.1, type_of_word_means h.0 t h.2)) (λ s t ts i h. (h.0, h.1, type_of_word_is h.0 t h.2)) (ident_read type_of_word)
+pub type_rule : Rule Any (λ s. type) Never type_at
+type_rule = reformed (λ s t ts i h. (h.0, h.1, type_of_word_means h.0 t h.2)) (λ s t ts i h. (h.0, h.1, type_of_word_is h.0 t h.2)) (ident_read type_of_word)
+
+pub type_complete : Complete (λ s. type) Never type_at
+type_complete = completes type_rule
 
 -- ---- a type after a colon
 
@@ -50,7 +52,7 @@ some_made (Some t) e = (t, tt, refl)
 some_made None e = absurd cc
 
 some_type_rule : Rule (λ o. is_some o ≡ true) (λ s. optional of_type) optional_type_continues (optional_type_by true)
-some_type_rule = reread (optional_type_by true) (λ p. regrouped (accept (as_mark colon) p) (λ c. type_at c.1) (λ t. Ok (Some t.0, t.1))) (last Some (λ t i. refl) some_made (after (mark colon refl) type_form_rule))
+some_type_rule = reread (optional_type_by true) (λ p. regrouped (accept (as_mark colon) p) (λ c. type_at c.1) (λ t. Ok (Some t.0, t.1))) (last Some (λ t i. refl) some_made (after (mark colon refl) type_rule))
 
 pub optional_type_rule : Rule Any (λ s. optional of_type) optional_type_continues optional_type_at
 unfolding optional_type_at
@@ -89,9 +91,12 @@ operand_shows : (s : Scope) (x : Operand) (ts : List Lexeme) → operand s x ts 
 operand_shows s (Value i) ts h = rw h.1 refl
 operand_shows s (constant_variant c) ts h = rw (h.whole, h.first.1) refl
 
-pub operand_form_rule : Rule Any operand operand_continues operand_at
+pub operand_rule : Rule Any operand operand_continues operand_at
 unfolding operand_at
-operand_form_rule = either_rule is_name is_value operand_shows operand_by_rule
+operand_rule = either_rule is_name is_value operand_shows operand_by_rule
+
+pub operand_complete : Complete operand operand_continues operand_at
+operand_complete = completes operand_rule
 
 -- a constant without a type stops at a token that is no `:`, and every other operand stops anyway
 pub operand_stops : (x : Operand) (t : Lexeme) → ¬ (t ≡ colon) → ¬ operand_continues x t
@@ -120,7 +125,7 @@ later_continues x (y ∷ ys) t h = h
 
 next_operand_rule : Rule Any (λ s x. token comma · operand s x) operand_continues next_operand_at
 unfolding next_operand_at
-next_operand_rule = after (mark comma refl) operand_form_rule
+next_operand_rule = after (mark comma refl) operand_rule
 
 pub further_rule : (n : ℕ) → Rule (λ xs. length xs ≡ n) further operands_continue (further_at n)
 unfolding next_operand_at
@@ -130,24 +135,12 @@ further_rule (suc n) = reread (further_at (suc n)) (λ p. regrouped (accept (as_
 
 pub operands_rule : (n : ℕ) → Rule (λ xs. length xs ≡ n) operands operands_continue (operands_at n)
 operands_rule zero = none operands operands_continue (λ t h. h) (λ s ts h. h) (λ s ts h. h)
-operands_rule (suc n) = more operands further operands_continue (λ s x xs ts h. h) (λ s x xs ts h. h) further_over later_continues further_free operand_form_rule n (further_rule n)
+operands_rule (suc n) = more operands further operands_continue (λ s x xs ts h. h) (λ s x xs ts h. h) further_over later_continues further_free operand_rule n (further_rule n)
 
--- ---- the rules of the spellings
-
-pub type_rule : Rule Any (λ s. type_spells) (λ t u. ⊥) type_at
-type_rule = node type_form_rule (λ s t ts h. h) (λ s t ts h. h)
-
-pub type_complete : Complete (λ s. type_spells) (λ t u. ⊥) type_at
-type_complete = completes type_rule
+-- ---- the rule of the spelling of constants
 
 pub constant_rule : Rule Any (λ s. constant_spells) constant_continues constant_at
 constant_rule = node constant_form_rule (λ s. constant_from) (λ s. constant_to)
 
 pub constant_complete : Complete (λ s. constant_spells) constant_continues constant_at
 constant_complete = completes constant_rule
-
-pub operand_rule : Rule Any operand_spells operand_continues operand_at
-operand_rule = node operand_form_rule operand_from operand_to
-
-pub operand_complete : Complete operand_spells operand_continues operand_at
-operand_complete = completes operand_rule

@@ -1,5 +1,5 @@
 -- Lemmas. The rules of right sides: a value is read if and only if the tokens have its form.
-use Rattle.std.proofs.Common.{◌≡◌, ℕ, ◌^◌, Bool, true, false, List, [], ◌∷◌, ◌++◌, length, Option, Some, None, Err, refl, sym, ◌∙◌, ap, subst}
+use Rattle.std.proofs.Common.{◌≡◌, ℕ, ◌^◌, Bool, true, false, List, ◌++◌, length, Option, Some, None, refl, sym, ◌∙◌, ap, subst}
 use Rattle.std.specs.Prelude.{codes, is_some, ◌↔◌}
 use Rattle.souper_graph.specs.declared.ast.operands.Operand.{Operand}
 use Rattle.souper_graph.specs.declared.ast.instructions.Instruction.{Instruction}
@@ -8,10 +8,10 @@ use Rattle.souper_graph.specs.Instructions.{word_of as instruction_word, operand
 use Rattle.souper_graph.specs.Values.{PlainPhi, PlainRhs, var, block, phi, reserved_inst, reserved_const, instruction}
 use Rattle.souper_graph.specs.Syntax.Tokens.{Lexeme, ident, val_name}
 use Rattle.souper_graph.specs.Syntax.Numbers.{count_of}
-use Rattle.souper_graph.specs.Syntax.Spelling.{Scope, entry_of, block_spells, phi_spells, instruction_spells, rhs_spells}
-use Rattle.souper_graph.specs.Syntax.Forms.{Form, ◌·◌, nothing, word, one, block_name, count, further, operands, rhs}
+use Rattle.souper_graph.specs.Syntax.Spelling.{Scope, entry_of, instruction_spells}
+use Rattle.souper_graph.specs.Syntax.Forms.{◌·◌, nothing, word, one, block_name, count, further, operands, rhs}
 use Rattle.souper_graph.specs.Syntax.Optional.{◌>>=◌ as ◌>>?◌}
-use Rattle.souper_graph.proofs.FormsAgree.RightSides.{block_to, block_from, phi_to, phi_from, instruction_to, instruction_from, rhs_to as spelled_to, rhs_from as spelled_from}
+use Rattle.souper_graph.proofs.FormsAgree.RightSides.{instruction_to, instruction_from}
 use Rattle.souper_ir.specs.Reading.{◌>>=◌}
 use Rattle.souper_ir.specs.declared.parse.words.Opcode.{Opcode}
 use Rattle.souper_ir.specs.declared.parse.words.RhsWord.{RhsWord}
@@ -19,7 +19,7 @@ use Rattle.souper_ir.specs.declared.parse.words.RhsWord.TheVariants.{Var as begi
 use Rattle.souper_ir.specs.Words.{opcode_of, operand_count, instruction_by, rhs_keyword_of, instruction_or, rhs_word_of}
 use Rattle.souper_ir.specs.Continuation.{operands_continue, phi_continues, instruction_continues, rhs_continues}
 use Rattle.souper_ir.specs.Grammar.{Free, NextStops, Starts}
-use Rattle.souper_ir.specs.NodeReadings.{is_word, is_any, ident_by, block_after_word_at, block_node_at, block_entry, block_name_at, phi_after_word_at, phi_at, instruction_of_at, instruction_at, starts_instruction, rhs_word_by, rhs_word_at, rhs_by, rhs_at}
+use Rattle.souper_ir.specs.NodeReadings.{is_word, is_any, block_after_word_at, block_node_at, block_entry, block_name_at, phi_after_word_at, phi_at, instruction_of_at, instruction_at, starts_instruction, rhs_word_by, rhs_word_at, rhs_by, rhs_at}
 use Rattle.souper_ir.specs.Laws.Peeks.{some_is}
 use Rattle.souper_ir.specs.Laws.Words.{opcode_is, opcode_makes, opcode_names}
 use Rattle.souper_ir.specs.Laws.Tokens.{word_is, by_word}
@@ -33,18 +33,15 @@ block_after_rule : Rule Any (λ s b. count b.predecessors) Never block_after_wor
 unfolding block_after_word_at
 block_after_rule = last (λ n. record { predecessors = n }) (λ n i. tt) (λ b i. (b.predecessors, tt, refl)) (int_read (count_of (2 ^ 32)))
 
-block_form_rule : Rule Any (λ s b. rhs s (block b)) Never block_node_at
+pub block_rule : Rule Any (λ s b. rhs s (block b)) Never block_node_at
 unfolding block_node_at
-block_form_rule = after (keyword (codes "block")) block_after_rule
+block_rule = after (keyword (codes "block")) block_after_rule
 
-pub block_rule : Rule Any (λ s. block_spells) (λ b t. ⊥) block_node_at
-block_rule = node block_form_rule block_from block_to
-
-pub block_complete : Complete (λ s. block_spells) (λ b t. ⊥) block_node_at
+pub block_complete : Complete (λ s b. rhs s (block b)) Never block_node_at
 block_complete = completes block_rule
 
-pub block_first : (s : Scope) (b : Block) (ts : List Lexeme) → block_spells b ts → Starts (is_word (codes "block")) ts
-block_first s b ts h = rw h.1 (word_is (codes "block"))
+pub block_first : (s : Scope) (b : Block) (ts : List Lexeme) → rhs s (block b) ts → Starts (is_word (codes "block")) ts
+block_first s b ts h = rw (h.whole, h.first) (word_is (codes "block"))
 
 -- ---- names of blocks
 
@@ -89,18 +86,15 @@ phi_after_rule =
     name_first (λ p. p.block) (λ p n. n ≡ length p.values) (λ b.
     last (λ xs. record { block = b.0; values = xs }) (λ xs e. (tt, (refl, sym e))) (λ p i. (p.values, sym i.1.1, rw (← i.1.0) refl)) (further_rule b.1))
 
-phi_form_rule : Rule Any (λ s p. rhs s (phi p)) phi_continues phi_at
+pub phi_rule : Rule Any (λ s p. rhs s (phi p)) phi_continues phi_at
 unfolding phi_at
-phi_form_rule = after (keyword (codes "phi")) phi_after_rule
+phi_rule = after (keyword (codes "phi")) phi_after_rule
 
-pub phi_rule : Rule Any phi_spells phi_continues phi_at
-phi_rule = node phi_form_rule phi_from phi_to
-
-pub phi_complete : Complete phi_spells phi_continues phi_at
+pub phi_complete : Complete (λ s p. rhs s (phi p)) phi_continues phi_at
 phi_complete = completes phi_rule
 
-pub phi_first : (s : Scope) (v : PlainPhi) (ts : List Lexeme) → phi_spells s v ts → Starts (is_word (codes "phi")) ts
-phi_first s v ts h = rw h.whole (word_is (codes "phi"))
+pub phi_first : (s : Scope) (v : PlainPhi) (ts : List Lexeme) → rhs s (phi v) ts → Starts (is_word (codes "phi")) ts
+phi_first s v ts h = rw (h.whole, h.first) (word_is (codes "phi"))
 
 -- ---- instructions
 
@@ -290,12 +284,9 @@ rhs_by_rule (begins_instruction o) w b = last instruction (λ i e. (tt, ap begin
     made (instruction i) h = let e = h.1 in (i, (tt, cc), refl)
     made _ h = let e = h.1 in absurd cc
 
-pub rhs_form_rule : Rule Any rhs rhs_continues rhs_at
+pub rhs_rule : Rule Any rhs rhs_continues rhs_at
 unfolding rhs_at
-rhs_form_rule = reformed (λ s v ts i h. rhs_to s v ts h) (λ s v ts i h. rhs_from s v ts h) (worded rhs_word_of wording kind kind_is (λ w v e. kind_begins v w (begins w (kind v) e)) rhs_word_rule (λ k w e. rhs_by_rule k w (begins w k e)))
+rhs_rule = reformed (λ s v ts i h. rhs_to s v ts h) (λ s v ts i h. rhs_from s v ts h) (worded rhs_word_of wording kind kind_is (λ w v e. kind_begins v w (begins w (kind v) e)) rhs_word_rule (λ k w e. rhs_by_rule k w (begins w k e)))
 
-pub rhs_rule : Rule Any rhs_spells rhs_continues rhs_at
-rhs_rule = node rhs_form_rule spelled_from spelled_to
-
-pub rhs_complete : Complete rhs_spells rhs_continues rhs_at
+pub rhs_complete : Complete rhs rhs_continues rhs_at
 rhs_complete = completes rhs_rule

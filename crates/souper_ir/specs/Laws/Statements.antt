@@ -9,13 +9,12 @@ use Rattle.souper_graph.specs.declared.ast.operands.Operand.TheVariants.{Value, 
 use Rattle.souper_graph.specs.declared.ast.statements.Pc.{Pc}
 use Rattle.souper_graph.specs.declared.ast.statements.BlockPc.{BlockPc}
 use Rattle.souper_graph.specs.Instructions.{operands_of}
-use Rattle.souper_graph.specs.Values.{PlainAttribute, PlainRootAttribute, PlainRhs, var, block, phi, reserved_inst, reserved_const, instruction, PlainAssignment, PlainStatement, assigned, condition, block_condition, PlainInfer, PlainCand}
+use Rattle.souper_graph.specs.Values.{PlainRhs, var, block, phi, reserved_inst, reserved_const, instruction, PlainAssignment, PlainStatement, assigned, condition, block_condition, PlainInfer, PlainCand}
 use Rattle.souper_graph.specs.Syntax.Tokens.{Lexeme, ident, val_name, comma, colon, equals, open_paren}
 use Rattle.souper_graph.specs.Syntax.Numbers.{count_of}
-use Rattle.souper_graph.specs.Syntax.Spelling.{Scope, position_of, attribute_spells, root_attribute_spells, assignment_spells, pc_spells, block_pc_spells, statement_spells, infer_spells, cand_spells, result_spells}
-use Rattle.souper_graph.specs.Syntax.Forms.{Form, ◌·◌, token, word, perhaps, optional, each, of_type, value, operand, rhs, attribute, root_attribute, new_name, statement, result}
+use Rattle.souper_graph.specs.Syntax.Spelling.{Scope, position_of, assignment_spells, pc_spells, block_pc_spells, statement_spells, infer_spells, cand_spells, result_spells}
+use Rattle.souper_graph.specs.Syntax.Forms.{Form, ◌·◌, token, word, perhaps, optional, of_type, value, operand, rhs, attribute, root_attribute, new_name, statement}
 use Rattle.souper_graph.proofs.FormsAgree.Parts.{◌⇒◌, both, to_left, to_right}
-use Rattle.souper_graph.proofs.FormsAgree.Attributes.{attributes_to, attributes_from, root_attributes_to, root_attributes_from}
 use Rattle.souper_graph.proofs.FormsAgree.Statements.{assignment_to, assignment_from, pc_to, pc_from, block_pc_to, block_pc_from, infer_to, infer_from, cand_to, cand_from, result_to, result_from}
 use Rattle.souper_ir.specs.Parsing.{Parsing}
 use Rattle.souper_ir.specs.Reading.{Reads, ◌>>=◌, looked_up}
@@ -25,11 +24,11 @@ use Rattle.souper_ir.specs.NodeReadings.{accept, as_name, is_name, as_mark, is_m
 use Rattle.souper_ir.specs.Laws.Unique.{Alone}
 use Rattle.souper_ir.specs.Laws.Peeks.{some_is}
 use Rattle.souper_ir.specs.Laws.Tokens.{is_word_means, word_is}
-use Rattle.souper_ir.specs.Laws.Rules.{ReadingOf, Rule, Any, Never, reread, reformed, given, mark, keyword, int_read, found_at, name_at, name_read, by_name, some, parts, second_ends, joined, first, after, last, optional_rule, node}
+use Rattle.souper_ir.specs.Laws.Rules.{ReadingOf, Rule, Any, Never, reread, reformed, given, mark, keyword, int_read, found_at, name_at, name_read, some, parts, second_ends, joined, first, after, last, optional_rule, node}
 use Rattle.souper_ir.specs.Laws.FromReadings.{alone}
-use Rattle.souper_ir.specs.Laws.Operands.{optional_type_stops, optional_type_rule, operand_form_rule, operand_stops, operand_over}
-use Rattle.souper_ir.specs.Laws.RightSides.{name_first, rhs_form_rule}
-use Rattle.souper_ir.specs.Laws.Attributes.{attribute_rule, attribute_first, root_attribute_rule, root_attribute_first, attributes_members, root_attributes_members}
+use Rattle.souper_ir.specs.Laws.Operands.{optional_type_stops, optional_type_rule, operand_rule, operand_stops, operand_over}
+use Rattle.souper_ir.specs.Laws.RightSides.{name_first, rhs_rule}
+use Rattle.souper_ir.specs.Laws.Attributes.{attribute_rule, attribute_first, root_attribute_rule, root_attribute_first, each_members, members_each}
 use Rattle.souper_ir.specs.Laws.Attributed.{Row, attributes_split, attributes_joined, Laws, laws}
 use Rattle.souper_ir.specs.Laws.Sequence.{Split}
 
@@ -86,7 +85,7 @@ pub definition_rule : Rule Any definition definition_continues definition_at
 unfolding definition_at
 definition_rule =
     first (λ d. (d.name, d.ty)) heading_rule (λ h.
-    last (λ r. record { name = h.0; ty = h.1; value = r }) (λ r i. (tt, refl)) (λ d i. (d.value, tt, ap (λ (z : List ℕ × Option Ty). record { name = z.0; ty = z.1; value = d.value }) i.1)) rhs_form_rule)
+    last (λ r. record { name = h.0; ty = h.1; value = r }) (λ r i. (tt, refl)) (λ d i. (d.value, tt, ap (λ (z : List ℕ × Option Ty). record { name = z.0; ty = z.1; value = d.value }) i.1)) rhs_rule)
 
 -- ---- path conditions
 
@@ -94,8 +93,8 @@ pc_form_rule : Rule Any (λ s p. statement s (condition p)) pc_continues pc_at
 unfolding pc_at
 pc_form_rule =
     after (keyword (codes "pc")) (
-    joined (λ p. p.x) (λ faulty s p x b rest i h st. rw (← i) (operand_over p.x p.y s faulty b rest h)) operand_form_rule (λ x.
-    last (λ y. record { x = x; y = y }) (λ y o. (tt, refl)) (λ p i. (p.y, tt, rw (← i.1) refl)) operand_form_rule))
+    joined (λ p. p.x) (λ faulty s p x b rest i h st. rw (← i) (operand_over p.x p.y s faulty b rest h)) operand_rule (λ x.
+    last (λ y. record { x = x; y = y }) (λ y o. (tt, refl)) (λ p i. (p.y, tt, rw (← i.1) refl)) operand_rule))
 
 pub pc_rule : Rule Any pc_spells pc_continues pc_at
 pc_rule = node pc_form_rule pc_from pc_to
@@ -129,11 +128,11 @@ block_pc_form_rule =
     first (λ p. p.predecessor) (int_read (count_of (2 ^ 32))) (λ n.
     given (predecessor_below b.1 n) (λ p i. (n, below_is b.1 n (subst (λ z. z < b.1) i.1 i.0.1.1))) (λ w e.
     let m = below_means b.1 n w e in
-    joined (λ p. p.x) (λ faulty s p x c rest i h st. rw (← i) (operand_over p.x p.y s faulty c rest h)) operand_form_rule (λ x.
+    joined (λ p. p.x) (λ faulty s p x c rest i h st. rw (← i) (operand_over p.x p.y s faulty c rest h)) operand_rule (λ x.
     last (λ y. record { block = b.0; predecessor = w; x = x; y = y })
     (λ y o. (((tt, (refl, subst (λ z. z < b.1) m.1 m.0)), sym m.1), refl))
     (λ p i. (p.y, tt, made_again p b.0 w x i.0.0.1.0 (i.0.1 ∙ m.1) i.1))
-    operand_form_rule)))))
+    operand_rule)))))
 
 pub block_pc_rule : Rule Any block_pc_spells block_pc_continues block_pc_at
 block_pc_rule = node block_pc_form_rule block_pc_from block_pc_to
@@ -227,10 +226,10 @@ some_pair_rule : Rule Any (λ s (v : Pair). word (codes "cand") · operand s v.0
 unfolding pair_at
 some_pair_rule =
     after (keyword (codes "cand")) (
-    joined (λ v. v.0) comma_over operand_form_rule (λ x.
+    joined (λ v. v.0) comma_over operand_rule (λ x.
     reread _ (by_comma (λ p. operand_at p >>= λ y. Ok ((x, y.0), y.1)))
     (parts (λ v o. Any o) (λ s (v : Pair). operand s v.1) comma_continues (λ v. operand_continues v.1) (λ v. operand_continues v.1) operand_no_comma (second_ends _ _ _ _) (λ v a i h. tt) comma_rule (λ o i.
-    last (λ y. (x, y)) (λ y i. (((tt, refl)), tt)) (λ v i. (v.1, tt, ap (λ (z : Operand). (z, v.1)) i.0.1)) operand_form_rule))))
+    last (λ y. (x, y)) (λ y i. (((tt, refl)), tt)) (λ v i. (v.1, tt, ap (λ (z : Operand). (z, v.1)) i.0.1)) operand_rule))))
 
 comma_to : (s : Scope) → some {A = Option (Unit {0})} Any (comma_if s) ⇒ perhaps (token comma)
 comma_to s ts (None, i, h) = inl h
@@ -247,7 +246,7 @@ pair_line_rule = node some_pair_rule (λ s v. both (λ ts h. h) (both (λ ts h. 
 
 pub result_rule : Rule Any result_spells result_continues result_at
 unfolding result_at
-result_rule = node (after (keyword (codes "result")) operand_form_rule) result_from result_to
+result_rule = node (after (keyword (codes "result")) operand_rule) result_from result_to
 
 pub result_alone : Alone result_spells result_continues
 result_alone = alone result_rule
@@ -351,56 +350,43 @@ apart_pair {A} {B} {C} {R} {X} ts h =
     let l : (A · B · (C · R) · X) ts = both {F = A} {H = A} (λ ts h. h) to_right ts k in
     both {F = A} {H = A} (λ ts h. h) (both {F = B} {H = B} (λ ts h. h) to_right) ts l
 
--- attributes by their form
-attribute_rows : (s : Scope) (xs : List PlainAttribute) → each attribute xs ⇒ Row attribute_spells s xs
-attribute_rows s xs ts h = (attributes_members xs ts).0 (attributes_from xs ts h)
+pub assignment_parts : (s : Scope) (a : PlainAssignment) (ts : List Lexeme) → assignment_spells s a ts → Split definition definition_continues (Row attribute) s (definition_of a) a.attributes ts
+assignment_parts s a ts h = attributes_split attribute (attribute_first s) definition definition_continues s (definition_of a) a.attributes (no_colon (rhs_continues a.value) (rhs_more a.value)) ts
+    (both (λ ts h. h) (each_members attribute a.attributes) ts (definition_apart ts (assignment_to s a ts h)))
 
-rows_attribute : (s : Scope) (xs : List PlainAttribute) → Row attribute_spells s xs ⇒ each attribute xs
-rows_attribute s xs ts h = attributes_to xs ts ((attributes_members xs ts).1 h)
+pub parts_assignment : (s : Scope) (a : PlainAssignment) (ts : List Lexeme) → Split definition definition_continues (Row attribute) s (definition_of a) a.attributes ts → assignment_spells s a ts
+parts_assignment s a ts h = assignment_from s a ts (apart_definition ts (both (λ ts h. h) (members_each attribute a.attributes) ts (attributes_joined h)))
 
-root_attribute_rows : (s : Scope) (xs : List PlainRootAttribute) → each root_attribute xs ⇒ Row root_attribute_spells s xs
-root_attribute_rows s xs ts h = (root_attributes_members xs ts).0 (root_attributes_from xs ts h)
-
-rows_root_attribute : (s : Scope) (xs : List PlainRootAttribute) → Row root_attribute_spells s xs ⇒ each root_attribute xs
-rows_root_attribute s xs ts h = root_attributes_to xs ts ((root_attributes_members xs ts).1 h)
-
-pub assignment_parts : (s : Scope) (a : PlainAssignment) (ts : List Lexeme) → assignment_spells s a ts → Split definition definition_continues (Row attribute_spells) s (definition_of a) a.attributes ts
-assignment_parts s a ts h = attributes_split attribute_spells (attribute_first s) definition definition_continues s (definition_of a) a.attributes (no_colon (rhs_continues a.value) (rhs_more a.value)) ts
-    (both (λ ts h. h) (attribute_rows s a.attributes) ts (definition_apart ts (assignment_to s a ts h)))
-
-pub parts_assignment : (s : Scope) (a : PlainAssignment) (ts : List Lexeme) → Split definition definition_continues (Row attribute_spells) s (definition_of a) a.attributes ts → assignment_spells s a ts
-parts_assignment s a ts h = assignment_from s a ts (apart_definition ts (both (λ ts h. h) (rows_attribute s a.attributes) ts (attributes_joined h)))
-
-pub assignment_laws : Laws definition definition_continues attribute_spells definition_of (λ (a : PlainAssignment). a.attributes) assignment_spells assignment_continues
+pub assignment_laws : Laws definition definition_continues attribute definition_of (λ (a : PlainAssignment). a.attributes) assignment_spells assignment_continues
 assignment_laws =
-    laws definition definition_continues attribute_spells definition_of (λ (a : PlainAssignment). a.attributes) (alone definition_rule) (alone attribute_rule) (attribute_first []) assignment_spells assignment_parts parts_assignment
+    laws definition definition_continues attribute definition_of (λ (a : PlainAssignment). a.attributes) (alone definition_rule) (alone attribute_rule) (attribute_first []) assignment_spells assignment_parts parts_assignment
     (λ d xs. record { name = d.name; ty = d.ty; value = d.value; attributes = xs }) (λ a. refl)
 
-pub infer_parts : (s : Scope) (i : PlainInfer) (ts : List Lexeme) → infer_spells s i ts → Split root (λ (r : ℕ) t. ⊥) (Row root_attribute_spells) s i.value i.attributes ts
-infer_parts s i ts h = attributes_split root_attribute_spells (root_attribute_first s) root (λ r t. ⊥) s i.value i.attributes (λ x. x) ts (both (λ ts h. h) (root_attribute_rows s i.attributes) ts (to_left ts (infer_to s i ts h)))
+pub infer_parts : (s : Scope) (i : PlainInfer) (ts : List Lexeme) → infer_spells s i ts → Split root (λ (r : ℕ) t. ⊥) (Row root_attribute) s i.value i.attributes ts
+infer_parts s i ts h = attributes_split root_attribute (root_attribute_first s) root (λ r t. ⊥) s i.value i.attributes (λ x. x) ts (both (λ ts h. h) (each_members root_attribute i.attributes) ts (to_left ts (infer_to s i ts h)))
 
-pub parts_infer : (s : Scope) (i : PlainInfer) (ts : List Lexeme) → Split root (λ (r : ℕ) t. ⊥) (Row root_attribute_spells) s i.value i.attributes ts → infer_spells s i ts
-parts_infer s i ts h = infer_from s i ts (to_right ts (both (λ ts h. h) (rows_root_attribute s i.attributes) ts (attributes_joined h)))
+pub parts_infer : (s : Scope) (i : PlainInfer) (ts : List Lexeme) → Split root (λ (r : ℕ) t. ⊥) (Row root_attribute) s i.value i.attributes ts → infer_spells s i ts
+parts_infer s i ts h = infer_from s i ts (to_right ts (both (λ ts h. h) (members_each root_attribute i.attributes) ts (attributes_joined h)))
 
-pub infer_laws : Laws root (λ (r : ℕ) t. ⊥) root_attribute_spells (λ (i : PlainInfer). i.value) (λ (i : PlainInfer). i.attributes) infer_spells infer_continues
+pub infer_laws : Laws root (λ (r : ℕ) t. ⊥) root_attribute (λ (i : PlainInfer). i.value) (λ (i : PlainInfer). i.attributes) infer_spells infer_continues
 infer_laws =
-    laws root (λ (r : ℕ) t. ⊥) root_attribute_spells (λ (i : PlainInfer). i.value) (λ (i : PlainInfer). i.attributes) (alone root_rule) (alone root_attribute_rule) (root_attribute_first []) infer_spells infer_parts parts_infer
+    laws root (λ (r : ℕ) t. ⊥) root_attribute (λ (i : PlainInfer). i.value) (λ (i : PlainInfer). i.attributes) (alone root_rule) (alone root_attribute_rule) (root_attribute_first []) infer_spells infer_parts parts_infer
     (λ r xs. record { value = r; attributes = xs }) (λ i. refl)
 
 -- the two operands of a cand line
 abbrev pub pair_of : PlainCand → Operand × Operand
 pair_of c = (c.lhs, c.rhs)
 
-pub cand_parts : (s : Scope) (c : PlainCand) (ts : List Lexeme) → cand_spells s c ts → Split pair_line pair_line_continues (Row root_attribute_spells) s (pair_of c) c.attributes ts
-cand_parts s c ts h = attributes_split root_attribute_spells (root_attribute_first s) pair_line pair_line_continues s (pair_of c) c.attributes (no_colon (operand_continues c.rhs) (operand_more c.rhs)) ts
-    (both (λ ts h. h) (root_attribute_rows s c.attributes) ts (pair_apart ts (cand_to s c ts h)))
+pub cand_parts : (s : Scope) (c : PlainCand) (ts : List Lexeme) → cand_spells s c ts → Split pair_line pair_line_continues (Row root_attribute) s (pair_of c) c.attributes ts
+cand_parts s c ts h = attributes_split root_attribute (root_attribute_first s) pair_line pair_line_continues s (pair_of c) c.attributes (no_colon (operand_continues c.rhs) (operand_more c.rhs)) ts
+    (both (λ ts h. h) (each_members root_attribute c.attributes) ts (pair_apart ts (cand_to s c ts h)))
 
-pub parts_cand : (s : Scope) (c : PlainCand) (ts : List Lexeme) → Split pair_line pair_line_continues (Row root_attribute_spells) s (pair_of c) c.attributes ts → cand_spells s c ts
-parts_cand s c ts h = cand_from s c ts (apart_pair ts (both (λ ts h. h) (rows_root_attribute s c.attributes) ts (attributes_joined h)))
+pub parts_cand : (s : Scope) (c : PlainCand) (ts : List Lexeme) → Split pair_line pair_line_continues (Row root_attribute) s (pair_of c) c.attributes ts → cand_spells s c ts
+parts_cand s c ts h = cand_from s c ts (apart_pair ts (both (λ ts h. h) (members_each root_attribute c.attributes) ts (attributes_joined h)))
 
-pub cand_laws : Laws pair_line pair_line_continues root_attribute_spells pair_of (λ (c : PlainCand). c.attributes) cand_spells cand_continues
+pub cand_laws : Laws pair_line pair_line_continues root_attribute pair_of (λ (c : PlainCand). c.attributes) cand_spells cand_continues
 cand_laws =
-    laws pair_line pair_line_continues root_attribute_spells pair_of (λ (c : PlainCand). c.attributes) (alone pair_line_rule) (alone root_attribute_rule) (root_attribute_first []) cand_spells cand_parts parts_cand
+    laws pair_line pair_line_continues root_attribute pair_of (λ (c : PlainCand). c.attributes) (alone pair_line_rule) (alone root_attribute_rule) (root_attribute_first []) cand_spells cand_parts parts_cand
     (λ o xs. record { lhs = o.0; rhs = o.1; attributes = xs }) (λ c. refl)
 
 pub assignment_alone : Alone assignment_spells assignment_continues

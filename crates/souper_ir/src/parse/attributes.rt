@@ -2,7 +2,7 @@
 ghost use Rattle.std.specs.Prelude.{◌≡◌, None, option_map, refl};
 ghost use Rattle.souper_graph.specs.Values.{PlainAttribute, PlainRootAttribute};
 ghost use Rattle.souper_graph.specs.View.{view_attribute, view_root_attribute};
-ghost use Rattle.souper_graph.specs.Syntax.Spelling.{attribute_spells, root_attribute_spells};
+ghost use Rattle.souper_graph.specs.Syntax.Forms.{attribute as attribute_form, root_attribute as root_attribute_form};
 ghost use Rattle.souper_graph.specs.Syntax.Tokens.{open_paren};
 ghost use Rattle.souper_graph.specs.Syntax.Numbers.{bits_of};
 ghost use Rattle.souper_errors.specs.Errors.{widened};
@@ -204,11 +204,11 @@ impl Parse for Attribute {
 
     ghost view = { view_attribute };
 
-    ghost spells = { λ s. attribute_spells };
+    ghost spells = { λ s. attribute_form };
 
     ghost continues = { λ a t. ⊥ };
 
-    ghost alone = { one_alone (λ s. attribute_spells) (λ a t. ⊥) attribute_at attribute_complete };
+    ghost alone = { one_alone (λ s. attribute_form) (λ a t. ⊥) attribute_at attribute_complete };
 
     fn parse<'a>(parser: &mut Parser<'a>) -> Result<Self> {
         widen(attribute(parser))
@@ -233,11 +233,11 @@ impl Parse for RootAttribute {
 
     ghost view = { view_root_attribute };
 
-    ghost spells = { λ s. root_attribute_spells };
+    ghost spells = { λ s. root_attribute_form };
 
     ghost continues = { λ a t. ⊥ };
 
-    ghost alone = { one_alone (λ s. root_attribute_spells) (λ a t. ⊥) root_attribute_at root_attribute_complete };
+    ghost alone = { one_alone (λ s. root_attribute_form) (λ a t. ⊥) root_attribute_at root_attribute_complete };
 
     fn parse<'a>(parser: &mut Parser<'a>) -> Result<Self> {
         widen(root_attribute(parser))

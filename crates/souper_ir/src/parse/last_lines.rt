@@ -3,7 +3,8 @@
 ghost use Rattle.std.specs.Prelude.{codes, map, refl, IfOk, IfErr};
 ghost use Rattle.souper_graph.specs.Values.{PlainInfer, PlainCand};
 ghost use Rattle.souper_graph.specs.View.{view_infer, view_cand, view_root_attribute};
-ghost use Rattle.souper_graph.specs.Syntax.Spelling.{infer_spells, cand_spells, root_attribute_spells};
+ghost use Rattle.souper_graph.specs.Syntax.Spelling.{infer_spells, cand_spells};
+ghost use Rattle.souper_graph.specs.Syntax.Forms.{root_attribute as root_attribute_form};
 ghost use Rattle.souper_errors.specs.Errors.{error_of, widened};
 ghost use Rattle.souper_ir.specs.Continuation.{infer_continues, cand_continues};
 ghost use Rattle.souper_ir.specs.Reading.{Gives};
@@ -37,9 +38,9 @@ fn root(parser: &mut Parser<'_>) -> Read<ValueId>
 
 // The attributes of a last line.
 fn root_attributes(parser: &mut Parser<'_>) -> Read<Vec<RootAttribute>>
-    ensures ok { IfOk result (λ xs. Took (Row root_attribute_spells) OneMore (λ s. s) (map view_root_attribute xs.items) parser.old parser.new) }
-    ensures err { IfErr result (λ e. Refusal (Row root_attribute_spells) OneMore (error_of e) parser.old parser.new) }
-    ensures stops { IfErr result (λ e. Stops (RowStops root_attribute_spells root_attribute_at) (error_of e) parser.old) }
+    ensures ok { IfOk result (λ xs. Took (Row root_attribute_form) OneMore (λ s. s) (map view_root_attribute xs.items) parser.old parser.new) }
+    ensures err { IfErr result (λ e. Refusal (Row root_attribute_form) OneMore (error_of e) parser.old parser.new) }
+    ensures stops { IfErr result (λ e. Stops (RowStops root_attribute_form root_attribute_at) (error_of e) parser.old) }
 {
     let mut attributes = Vec::new(parser.alloc());
     while mark_comes(parser, Mark::OpenParen)? {

@@ -3,7 +3,8 @@
 ghost use Rattle.std.specs.Prelude.{◌≡◌, None, false, refl};
 ghost use Rattle.souper_errors.specs.Errors.{widened};
 ghost use Rattle.souper_ir.specs.Reading.{Gives};
-ghost use Rattle.souper_graph.specs.Syntax.Spelling.{type_spells, constant_spells, operand_spells};
+ghost use Rattle.souper_graph.specs.Syntax.Spelling.{constant_spells};
+ghost use Rattle.souper_graph.specs.Syntax.Forms.{type as type_form, operand as operand_form};
 ghost use Rattle.souper_ir.specs.Continuation.{constant_continues, operand_continues};
 ghost use Rattle.souper_ir.specs.NodeReadings.{is_int, type_at, optional_type_at, constant_at, named_operand_at, operand_by, operand_at, next_operand_at, further_at};
 ghost use Rattle.souper_ir.specs.Laws.FromReadings.{one_alone};
@@ -131,11 +132,11 @@ impl Parse for Type {
 
     ghost view = { λ t. t };
 
-    ghost spells = { λ s. type_spells };
+    ghost spells = { λ s. type_form };
 
     ghost continues = { λ t u. ⊥ };
 
-    ghost alone = { one_alone (λ s. type_spells) (λ t u. ⊥) type_at type_complete };
+    ghost alone = { one_alone (λ s. type_form) (λ t u. ⊥) type_at type_complete };
 
     fn parse<'a>(parser: &mut Parser<'a>) -> Result<Self> {
         widen(type_alone(parser))
@@ -176,11 +177,11 @@ impl Parse for Operand {
 
     ghost view = { λ x. x };
 
-    ghost spells = { operand_spells };
+    ghost spells = { operand_form };
 
     ghost continues = { operand_continues };
 
-    ghost alone = { one_alone operand_spells operand_continues operand_at operand_complete };
+    ghost alone = { one_alone operand_form operand_continues operand_at operand_complete };
 
     fn parse<'a>(parser: &mut Parser<'a>) -> Result<Self> {
         widen(operand(parser))

@@ -1,12 +1,13 @@
 //! Right sides: blocks, phis and instructions.
 
 ghost use Rattle.std.specs.Prelude.{◌≡◌, None, codes, refl};
-ghost use Rattle.souper_graph.specs.Values.{PlainPhi, PlainRhs};
+ghost use Rattle.souper_graph.specs.Values.{PlainPhi, PlainRhs, block as block_value, phi as phi_value};
 ghost use Rattle.souper_graph.specs.View.{view_phi, view_rhs};
 ghost use Rattle.souper_errors.specs.Errors.{widened};
 ghost use Rattle.souper_ir.specs.Reading.{Gives};
 ghost use Rattle.souper_ir.specs.Grammar.{peek_at};
-ghost use Rattle.souper_graph.specs.Syntax.Spelling.{block_spells, phi_spells, instruction_spells, rhs_spells};
+ghost use Rattle.souper_graph.specs.Syntax.Spelling.{instruction_spells};
+ghost use Rattle.souper_graph.specs.Syntax.Forms.{rhs as rhs_form};
 ghost use Rattle.souper_ir.specs.Continuation.{phi_continues, instruction_continues, rhs_continues};
 ghost use Rattle.souper_ir.specs.NodeReadings.{accept, ident_by, is_word, starts_instruction, block_after_word_at, block_node_at, block_name_at, phi_after_word_at, phi_at, instruction_at, instruction_of_at, rhs_word_at, rhs_at};
 ghost use Rattle.souper_ir.specs.Words.{opcode_of};
@@ -159,11 +160,11 @@ impl Parse for Block {
 
     ghost view = { λ b. b };
 
-    ghost spells = { λ s. block_spells };
+    ghost spells = { λ s b. rhs_form s (block_value b) };
 
     ghost continues = { λ b t. ⊥ };
 
-    ghost alone = { one_alone (λ s. block_spells) (λ b t. ⊥) block_node_at block_complete };
+    ghost alone = { one_alone (λ s b. rhs_form s (block_value b)) (λ b t. ⊥) block_node_at block_complete };
 
     fn parse<'a>(parser: &mut Parser<'a>) -> Result<Self> {
         widen(block(parser))
@@ -188,11 +189,11 @@ impl Parse for Phi {
 
     ghost view = { view_phi };
 
-    ghost spells = { phi_spells };
+    ghost spells = { λ s p. rhs_form s (phi_value p) };
 
     ghost continues = { phi_continues };
 
-    ghost alone = { one_alone phi_spells phi_continues phi_at phi_complete };
+    ghost alone = { one_alone (λ s p. rhs_form s (phi_value p)) phi_continues phi_at phi_complete };
 
     fn parse<'a>(parser: &mut Parser<'a>) -> Result<Self> {
         widen(phi(parser))
@@ -248,11 +249,11 @@ impl Parse for AssignmentRhs {
 
     ghost view = { view_rhs };
 
-    ghost spells = { rhs_spells };
+    ghost spells = { rhs_form };
 
     ghost continues = { rhs_continues };
 
-    ghost alone = { one_alone rhs_spells rhs_continues rhs_at rhs_complete };
+    ghost alone = { one_alone rhs_form rhs_continues rhs_at rhs_complete };
 
     fn parse<'a>(parser: &mut Parser<'a>) -> Result<Self> {
         widen(rhs(parser))

@@ -5,7 +5,8 @@ ghost use Rattle.souper_graph.specs.declared.ast.statements.Pc.{Pc as pc_value};
 ghost use Rattle.souper_graph.specs.declared.ast.statements.BlockPc.{BlockPc as block_pc_value};
 ghost use Rattle.souper_graph.specs.Values.{PlainAssignment, PlainStatement};
 ghost use Rattle.souper_graph.specs.View.{view_assignment, view_attribute, view_statement};
-ghost use Rattle.souper_graph.specs.Syntax.Spelling.{attribute_spells, assignment_spells, pc_spells, block_pc_spells, statement_spells};
+ghost use Rattle.souper_graph.specs.Syntax.Spelling.{assignment_spells, pc_spells, block_pc_spells, statement_spells};
+ghost use Rattle.souper_graph.specs.Syntax.Forms.{attribute as attribute_form};
 ghost use Rattle.souper_errors.specs.Errors.{error_of, widened};
 ghost use Rattle.souper_ir.specs.Continuation.{assignment_continues, pc_continues, block_pc_continues, statement_continues};
 ghost use Rattle.souper_ir.specs.Reading.{Gives};
@@ -73,9 +74,9 @@ pub(crate) fn entered_heading<'a>(parser: &mut Parser<'a>) -> Read<(&'a str, Slo
 /// The attributes of an assignment.
 #[inline(always)]
 pub(crate) fn attributes(parser: &mut Parser<'_>) -> Read<Vec<Attribute>>
-    ensures ok { IfOk result (λ xs. Took (Row attribute_spells) OneMore (λ s. s) (map view_attribute xs.items) parser.old parser.new) }
-    ensures err { IfErr result (λ e. Refusal (Row attribute_spells) OneMore (error_of e) parser.old parser.new) }
-    ensures stops { IfErr result (λ e. Stops (RowStops attribute_spells attribute_at) (error_of e) parser.old) }
+    ensures ok { IfOk result (λ xs. Took (Row attribute_form) OneMore (λ s. s) (map view_attribute xs.items) parser.old parser.new) }
+    ensures err { IfErr result (λ e. Refusal (Row attribute_form) OneMore (error_of e) parser.old parser.new) }
+    ensures stops { IfErr result (λ e. Stops (RowStops attribute_form attribute_at) (error_of e) parser.old) }
 {
     let mut attributes = Vec::new(parser.alloc());
     if parser.name_on_next_line() {

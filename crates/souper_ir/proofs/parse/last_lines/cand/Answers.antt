@@ -5,7 +5,7 @@ use Rattle.souper_graph.specs.View.{view_root_attribute}
 use Rattle.souper_ir.specs.Laws.FromReadings.{is_taken, is_refused}
 use Rattle.souper_ir.specs.Laws.Statements.{pair_line_rule, cand_laws}
 use Rattle.souper_errors.specs.Errors.{error_of}
-use Rattle.souper_graph.specs.Syntax.Spelling.{root_attribute_spells}
+use Rattle.souper_graph.specs.Syntax.Forms.{root_attribute as root_attribute_form}
 use Rattle.souper_ir.specs.NodeReadings.{pair_at, root_attribute_at}
 use Rattle.souper_ir.proofs.Items.Stopping.{node_stops, behind_stops}
 use Rattle.souper_ir.proofs.parse.last_lines.cand.Goals as goal
@@ -30,9 +30,9 @@ returns-clause-ok c =
 pub returns-in_err-lhs-clause-stops : goal.returns-in_err-lhs-clause-stops
 returns-in_err-lhs-clause-stops c =
     let r = err_from_is_err_and c.from_residual.result c.from_residual.ensures.1 in
-    rw (r.1, r.2) (node_stops pair_at root_attribute_spells root_attribute_at (error_of c.in_err-lhs.field-0.0) c.args.parser.now c.pair.new.parser c.in_err-lhs.ensures)
+    rw (r.1, r.2) (node_stops pair_at root_attribute_form root_attribute_at (error_of c.in_err-lhs.field-0.0) c.args.parser.now c.pair.new.parser c.in_err-lhs.ensures)
 
 pub returns-in_err-attributes-clause-stops : goal.returns-in_err-attributes-clause-stops
 returns-in_err-attributes-clause-stops c =
     let r = err_from_is_err_and c.from_residual-in_err-attributes.result c.from_residual-in_err-attributes.ensures.1 in
-    rw (r.1, r.2) (behind_stops pair_at root_attribute_spells root_attribute_at (c.in_ok-lhs.lhs, c.in_ok-lhs.rhs) (error_of c.in_err-attributes.field-0.0) c.args.parser.now c.pair.new.parser c.in_ok-lhs.ensures c.in_err-attributes.ensures.stops)
+    rw (r.1, r.2) (behind_stops pair_at root_attribute_form root_attribute_at (c.in_ok-lhs.lhs, c.in_ok-lhs.rhs) (error_of c.in_err-attributes.field-0.0) c.args.parser.now c.pair.new.parser c.in_ok-lhs.ensures c.in_err-attributes.ensures.stops)

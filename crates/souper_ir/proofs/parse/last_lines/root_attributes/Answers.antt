@@ -4,7 +4,7 @@ use Rattle.souper_graph.specs.View.{view_root_attribute}
 use Rattle.souper_errors.specs.Errors.{error_of}
 use Rattle.souper_ir.specs.Laws.Attributes.{root_attribute_rule, root_attribute_first}
 use Rattle.souper_ir.specs.Laws.FromReadings.{alone, is_taken, is_refused}
-use Rattle.souper_graph.specs.Syntax.Spelling.{root_attribute_spells}
+use Rattle.souper_graph.specs.Syntax.Forms.{root_attribute as root_attribute_form}
 use Rattle.souper_ir.specs.NodeReadings.{root_attribute_at}
 use Rattle.souper_ir.proofs.Items.Stopping.{root_attributes_look, member_stops}
 use Rattle.souper_ir.proofs.Nodes.Lists.{peek_refused, member_refused, one_more, behind_peek, shorter, ends}
@@ -46,5 +46,5 @@ returns-in_err-mark_comes-clause-stops c =
 pub returns-in_err-value-clause-stops : goal.returns-in_err-value-clause-stops
 returns-in_err-value-clause-stops c =
     let p = err_from_is_err_and c.from_residual-in_err-value.result c.from_residual-in_err-value.ensures.1 in
-    rw (p.1, p.2) (member_stops root_attribute_spells root_attribute_at (map view_root_attribute c.loop-attributes.attributes.items) (error_of c.in_err-value.field-0.0) c.args.parser.now c.loop-attributes.parser c.mark_comes.new.parser c.root_attribute.new.parser c.loop-attributes.invariant
+    rw (p.1, p.2) (member_stops root_attribute_form root_attribute_at (map view_root_attribute c.loop-attributes.attributes.items) (error_of c.in_err-value.field-0.0) c.args.parser.now c.loop-attributes.parser c.mark_comes.new.parser c.root_attribute.new.parser c.loop-attributes.invariant
     (rw c.if-branch.true at c.in_ok-mark_comes.ensures) c.in_err-value.ensures)
