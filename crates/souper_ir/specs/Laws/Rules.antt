@@ -1,10 +1,10 @@
 -- Lemmas. The rules of what forms are made of: what reads a form, from what reads its parts.
-use Rattle.std.proofs.Common.{◌≡◌, ℕ, suc, arith, length, Bool, true, false, List, [], ◌∷◌, ◌++◌, Option, Some, None, Result, Ok, Err, refl, sym, ◌∙◌, ap, subst, append_assoc}
+use Rattle.std.proofs.Common.{◌≡◌, ℕ, suc, arith, length, Bool, true, false, List, [], ◌∷◌, ◌++◌, Option, Some, None, Result, Ok, Err, refl, sym, ◌∙◌, ap, subst, append_assoc, inl, inr}
 use Rattle.std.proofs.lemmas.List.{append-nil}
 use Rattle.std.specs.Prelude.{is_some}
 use Rattle.souper_graph.specs.Syntax.Tokens.{Lexeme, ident, val_name, int}
 use Rattle.souper_graph.specs.Syntax.Spelling.{kinds, Scope}
-use Rattle.souper_graph.specs.Syntax.Forms.{Form, ◌·◌, nothing, token, word, one, optional}
+use Rattle.souper_graph.specs.Syntax.Forms.{Form, ◌·◌, nothing, token, word, one, perhaps, optional}
 use Rattle.souper_ir.specs.Parsing.{Parsing}
 use Rattle.souper_ir.specs.Reading.{Reads, ◌>>=◌, looked_up}
 use Rattle.souper_ir.specs.Grammar.{Free, NextStops, Starts, peek_at}
@@ -324,6 +324,43 @@ module _ {A : Type 0} {F : FormOf A} (f : Bool → ReadingOf (Option A)) (starts
         chosen b.0.0 p q o live look.2 (subst (λ (x : Parsing). f b.0.0 x ≡ Ok (o, q)) look.0 b.2);
     complete = λ p o front rest at i h st. choose p o front rest at h st;
   }
+
+-- T if a token starts it, and then G
+module _ {V : Type 0} {Is : V → Type 0} {T : Form} {G : FormOf V} {d : V → Lexeme → Type 0} (f : Bool → ReadingOf (Unit {0})) (k : ReadingOf V) (starts : Lexeme → Bool) (begins : (ts : List Lexeme) → T ts → Starts starts ts) (without : (p : Parsing) → f false p ≡ Ok (tt, p))
+    (over : (faulty : Bool) (s : Scope) (v : V) (b rest : List Lexeme) → G s v b → NextStops (λ t. starts t ≡ true) faulty (b ++ rest)) (m : Rule Any (λ s u. T) Never (f true)) (n : Rule Is G d k) where
+  abbrev Side : Bool → FormOf V
+  Side true s v = T · G s v
+  Side false s v = G s v
+
+  side_rule : (b : Bool) → Rule Is (Side b) d (λ p. f b p >>= λ u. k u.1)
+  side_rule true = after m n
+  side_rule false = reread (λ p. f false p >>= λ u. k u.1) (λ p. ap (λ (r : Reads (Unit {0})). r >>= λ u. k u.1) (without p)) n
+
+  side_to : (b : Bool) (s : Scope) (v : V) (ts : List Lexeme) → Side b s v ts → (perhaps T · G s v) ts
+  side_to true s v ts h = record { prefix = h.prefix; suffix = h.suffix; whole = h.whole; first = inr h.first; second = h.second }
+  side_to false s v ts h = record { prefix = []; suffix = ts; whole = refl; first = inl refl; second = h }
+
+  side_of : (p : Parsing) (v : V) (front rest : List Lexeme) → At p (front ++ rest) → (h : (perhaps T · G p.scope v) front) → perhaps T h.prefix → (b : Bool) × (peek_at starts p ≡ Ok (b, p)) × Side b p.scope v front
+  side_of p v front rest at h (inl e) =
+      let whole : front ≡ h.suffix = h.whole ∙ ap (λ (x : List Lexeme). x ++ h.suffix) e in
+      let g : G p.scope v front = subst (G p.scope v) (sym whole) h.second in
+      (false, sees_none starts p (front ++ rest) at (over p.faulty p.scope v front rest g), g)
+  side_of p v front rest at h (inr t) =
+      let seen : Starts starts front = subst (Starts starts) (sym h.whole) (starts_longer starts h.prefix h.suffix (begins h.prefix t)) in
+      (true, sees starts p (front ++ rest) at (starts_longer starts front rest seen), record { prefix = h.prefix; suffix = h.suffix; whole = h.whole; first = t; second = h.second })
+
+  pub perhaps_rule : Rule Is (λ s v. perhaps T · G s v) d (λ p. (peek_at starts p >>= λ b. f b.0 b.1) >>= λ u. k u.1)
+  perhaps_rule = reread (λ p. (peek_at starts p >>= λ b. f b.0 b.1) >>= λ u. k u.1) (λ p. sym (regrouped (peek_at starts p) (λ b. f b.0 b.1) (λ u. k u.1))) (record {
+    sound = λ p q v live e.
+        let b = bind_ok (peek_at starts p) (λ b. f b.0 b.1 >>= λ u. k u.1) (v, q) e in
+        let look = peeked starts p b.0.1 b.0.0 b.1 in
+        let r = (side_rule b.0.0).sound p q v live (subst (λ (x : Parsing). (f b.0.0 x >>= λ u. k u.1) ≡ Ok (v, q)) look.0 b.2) in
+        record { used = r.used; taken = r.taken; is = r.is; formed = side_to b.0.0 p.scope v r.used r.formed; free = r.free };
+    complete = λ p v front rest at i h st.
+        let (b, seen, g) = side_of p v front rest at h h.first in
+        let r = (side_rule b).complete p v front rest at i g st in
+        record { next = r.next; is_read = rw (seen, r.is_read) refl; ahead = r.ahead; state = r.state };
+  })
 
 -- one of two, which begin differently
 module _ {V : Type 0} {F : FormOf V} {c : V → Lexeme → Type 0} {f : Bool → ReadingOf V} (starts : Lexeme → Bool) (side : V → Bool)

@@ -19,12 +19,12 @@ use Rattle.souper_graph.proofs.FormsAgree.Statements.{assignment_to, assignment_
 use Rattle.souper_ir.specs.Parsing.{Parsing}
 use Rattle.souper_ir.specs.Reading.{Reads, ◌>>=◌, looked_up}
 use Rattle.souper_ir.specs.Continuation.{optional_type_continues, operand_continues, operands_continue, rhs_continues, attributes_continue, assignment_continues, pc_continues, block_pc_continues, statement_continues, infer_continues, cand_continues, result_continues}
-use Rattle.souper_ir.specs.Grammar.{NextStops, Starts, peek_at}
-use Rattle.souper_ir.specs.NodeReadings.{accept, as_name, is_name, as_mark, is_mark, is_word, Definition, fresh, type_and_equals_at, heading_at, definition_at, starts_statement, pc_at, predecessor_below, block_pc_at, root_at, comma_by, optional_comma_at, operand_at, pair_at, result_at}
+use Rattle.souper_ir.specs.Grammar.{NextStops, Starts}
+use Rattle.souper_ir.specs.NodeReadings.{accept, as_name, is_name, is_mark, is_word, Definition, fresh, type_and_equals_at, heading_at, definition_at, starts_statement, pc_at, predecessor_below, block_pc_at, root_at, comma_by, optional_comma_at, operand_at, pair_at, result_at}
 use Rattle.souper_ir.specs.Laws.Unique.{Alone}
 use Rattle.souper_ir.specs.Laws.Peeks.{some_is}
 use Rattle.souper_ir.specs.Laws.Tokens.{is_word_means, word_is}
-use Rattle.souper_ir.specs.Laws.Rules.{ReadingOf, Rule, Any, Never, reread, reformed, given, mark, keyword, int_read, found_at, name_at, name_read, some, parts, second_ends, joined, first, after, last, optional_rule, node}
+use Rattle.souper_ir.specs.Laws.Rules.{ReadingOf, Rule, Any, Never, reread, reformed, given, mark, keyword, int_read, found_at, name_at, name_read, joined, first, after, last, perhaps_rule, node}
 use Rattle.souper_ir.specs.Laws.FromReadings.{alone}
 use Rattle.souper_ir.specs.Laws.Operands.{optional_type_stops, optional_type_rule, operand_rule, operand_stops, operand_over}
 use Rattle.souper_ir.specs.Laws.RightSides.{name_first, rhs_rule}
@@ -154,93 +154,29 @@ root_rule = after (keyword (codes "infer")) (name_read position_of)
 
 -- ---- the cand line up to its attributes
 
-abbrev Pair : Type 0
-Pair = Operand × Operand
-
 abbrev pub pair_line : Scope → Operand × Operand → Form
 pair_line s v = word (codes "cand") · operand s v.0 · perhaps (token comma) · operand s v.1
 
 abbrev pub pair_line_continues : Operand × Operand → Lexeme → Type 0
 pair_line_continues v t = operand_continues v.1 t
 
--- a comma or none
-abbrev comma_if : Scope → Option (Unit {0}) → Form
-comma_if s o = optional (λ u. token comma) o
+-- an operand begins with no comma
+operand_no_comma : (y : Operand) (s : Scope) (faulty : Bool) (back rest : List Lexeme) → operand s y back → NextStops (λ t. is_mark comma t ≡ true) faulty (back ++ rest)
+operand_no_comma (Value i) s faulty back rest h = rw h.1 (λ e. cc)
+operand_no_comma (constant_variant c) s faulty back rest h = rw (h.whole, h.first.1) (λ e. cc)
 
-abbrev comma_continues : Option (Unit {0}) → Lexeme → Type 0
-comma_continues None t = is_mark comma t ≡ true
-comma_continues (Some u) t = ⊥
-
-abbrev some_of : Reads (Unit {0}) → Reads (Option (Unit {0}))
-some_of m = m >>= λ c. Ok (Some c.0, c.1)
-
-abbrev some_comma_by : Bool → Parsing → Reads (Option (Unit {0}))
-some_comma_by false p = Ok (None, p)
-some_comma_by true p = some_of (accept (as_mark comma) p)
-
-abbrev some_comma_at : Parsing → Reads (Option (Unit {0}))
-some_comma_at p = peek_at (is_mark comma) p >>= λ b. some_comma_by b.0 b.1
-
--- whether a comma was read does not matter
-by_comma : {V : Type 0} (k : ReadingOf V) (p : Parsing) → ◌≡◌ {A = Reads V} (optional_comma_at p >>= λ c. k c.1) (some_comma_at p >>= λ c. k c.1)
-unfolding optional_comma_at
-by_comma {V} k p = peeked (peek_at (is_mark comma) p)
-  where
-    taken : (m : Reads (Unit {0})) → ◌≡◌ {A = Reads V} (m >>= λ c. k c.1) (some_of m >>= λ c. k c.1)
-    taken (Ok c) = refl
-    taken (Err b) = refl
-
-    seen : (b : Bool) (q : Parsing) → ◌≡◌ {A = Reads V} (comma_by b q >>= λ c. k c.1) (some_comma_by b q >>= λ c. k c.1)
-    seen false q = refl
-    seen true q = taken (accept (as_mark comma) q)
-
-    peeked : (m : Reads Bool) → ◌≡◌ {A = Reads V} ((m >>= λ b. comma_by b.0 b.1) >>= λ c. k c.1) ((m >>= λ b. some_comma_by b.0 b.1) >>= λ c. k c.1)
-    peeked (Ok b) = seen b.0 b.1
-    peeked (Err b) = refl
-
-comma_made : (o : Option (Unit {0})) → is_some o ≡ true → (u : Unit {0}) × Any u × (o ≡ Some u)
-comma_made (Some u) e = (u, tt, refl)
-comma_made None e = absurd cc
-
-comma_rule : Rule Any comma_if comma_continues some_comma_at
-comma_rule = optional_rule some_comma_by (is_mark comma) comma_continues (λ t e. e) (λ t e. e) (λ s u ts h. rw h refl) (λ p. refl) (last Some (λ u i. refl) comma_made (mark comma refl))
-
--- neither a comma nor an operand continues an operand, and an operand begins with no comma
-comma_over : (faulty : Bool) (s : Scope) (v : Pair) (x : Operand) (b rest : List Lexeme) → v.0 ≡ x → (some {A = Option (Unit {0})} Any (comma_if s) · operand s v.1) b → NextStops (operand_continues v.1) faulty rest → NextStops (operand_continues x) faulty (b ++ rest)
-comma_over faulty s v x b rest i h st = over h.first.0 h.first.2
-  where
-    over : (o : Option (Unit {0})) → comma_if s o h.prefix → NextStops (operand_continues x) faulty (b ++ rest)
-    over None e = rw (h.whole, e) (operand_over x v.1 s faulty h.suffix rest h.second)
-    over (Some u) e = rw (h.whole, e) (operand_stops x comma (λ e. cc))
-
-operand_no_comma : (faulty : Bool) (s : Scope) (v : Pair) (o : Option (Unit {0})) (b rest : List Lexeme) → Any o → operand s v.1 b → NextStops (operand_continues v.1) faulty rest → NextStops (comma_continues o) faulty (b ++ rest)
-operand_no_comma faulty s v o b rest i h st = other v.1 h o
-  where
-    other : (y : Operand) → operand s y b → (o : Option (Unit {0})) → NextStops (comma_continues o) faulty (b ++ rest)
-    other (Value n) k None = rw k.1 (λ e. cc)
-    other (Value n) k (Some u) = rw k.1 (λ e. e)
-    other (constant_variant c) k None = rw (k.whole, k.first.1) (λ e. cc)
-    other (constant_variant c) k (Some u) = rw (k.whole, k.first.1) (λ e. e)
-
-some_pair_rule : Rule Any (λ s (v : Pair). word (codes "cand") · operand s v.0 · some {A = Option (Unit {0})} Any (comma_if s) · operand s v.1) pair_line_continues pair_at
-unfolding pair_at
-some_pair_rule =
-    after (keyword (codes "cand")) (
-    joined (λ v. v.0) comma_over operand_rule (λ x.
-    reread _ (by_comma (λ p. operand_at p >>= λ y. Ok ((x, y.0), y.1)))
-    (parts (λ v o. Any o) (λ s (v : Pair). operand s v.1) comma_continues (λ v. operand_continues v.1) (λ v. operand_continues v.1) operand_no_comma (second_ends _ _ _ _) (λ v a i h. tt) comma_rule (λ o i.
-    last (λ y. (x, y)) (λ y i. (((tt, refl)), tt)) (λ v i. (v.1, tt, ap (λ (z : Operand). (z, v.1)) i.0.1)) operand_rule))))
-
-comma_to : (s : Scope) → some {A = Option (Unit {0})} Any (comma_if s) ⇒ perhaps (token comma)
-comma_to s ts (None, i, h) = inl h
-comma_to s ts (Some u, i, h) = inr h
-
-comma_from : (s : Scope) → perhaps (token comma) ⇒ some {A = Option (Unit {0})} Any (comma_if s)
-comma_from s ts (inl h) = (None, tt, h)
-comma_from s ts (inr h) = (Some tt, tt, h)
+-- neither the comma nor the second operand continues the first
+comma_over : (x y : Operand) (s : Scope) (faulty : Bool) (back rest : List Lexeme) (h : (perhaps (token comma) · operand s y) back) → perhaps (token comma) h.prefix → NextStops (operand_continues x) faulty (back ++ rest)
+comma_over x y s faulty back rest h (inl e) = rw (h.whole, e) (operand_over x y s faulty h.suffix rest h.second)
+comma_over x y s faulty back rest h (inr e) = rw (h.whole, e) (operand_stops x comma (λ e. cc))
 
 pub pair_line_rule : Rule Any pair_line pair_line_continues pair_at
-pair_line_rule = node some_pair_rule (λ s v. both (λ ts h. h) (both (λ ts h. h) (both (comma_to s) (λ ts h. h)))) (λ s v. both (λ ts h. h) (both (λ ts h. h) (both (comma_from s) (λ ts h. h))))
+unfolding pair_at optional_comma_at
+pair_line_rule =
+    after (keyword (codes "cand")) (
+    joined (λ v. v.0) (λ faulty s v x b rest i h st. comma_over x v.1 s faulty b rest h h.first) operand_rule (λ x.
+    perhaps_rule comma_by (λ p. operand_at p >>= λ y. Ok ((x, y.0), y.1)) (is_mark comma) (λ ts h. rw h refl) (λ p. refl) (λ faulty s v b rest h. operand_no_comma v.1 s faulty b rest h) (mark comma refl)
+    (last (λ y. (x, y)) (λ y i. (tt, refl)) (λ v i. (v.1, tt, ap (λ (z : Operand). (z, v.1)) i.1)) operand_rule)))
 
 -- ---- the result line
 
