@@ -8,6 +8,7 @@ import copy
 import ctypes
 import doctest
 import hashlib
+import importlib.util
 import inspect
 import io
 import itertools
@@ -31,7 +32,7 @@ from unittest import mock
 
 import souper
 from souper import Assignment, BlockPc, Builder, Constant, Infer, Instruction, Item, Kind, Op
-from souper import Pc, Phi, Value, Var, _library
+from souper import Pc, Phi, Value, Var, _library, draw
 
 HERE = Path(__file__).resolve().parent
 ROOT = HERE.parent.parent
@@ -1437,9 +1438,86 @@ class Pages(unittest.TestCase):
             if isinstance(public, type) or callable(public):
                 self.assertEqual((public.__module__, public.__qualname__), ("souper", name))
 
+    def test_the_types_are_declared(self) -> None:
+        self.assertEqual((HERE / "souper/py.typed").read_bytes(), b"")
+
     def test_the_version_is_the_crate_s(self) -> None:
         manifest = (ROOT / "embed/rust/Cargo.toml").read_text()
         self.assertEqual(re.findall(r'^version = "(.*)"$', manifest, re.MULTILINE), [souper.__version__])
+
+
+class RecordedGraph:
+    """What is asked of a ``MultiDiGraph`` of networkx."""
+
+    def __init__(self) -> None:
+        self.nodes: list[tuple[int, dict[str, object]]] = []
+        self.edges: list[tuple[int, int, int]] = []
+
+    def add_node(self, node: int, **attributes: object) -> None:
+        self.nodes.append((node, attributes))
+
+    def add_edge(self, start: int, end: int, operand: int) -> None:
+        self.edges.append((start, end, operand))
+
+
+class Graphs(unittest.TestCase):
+    """Pictures and graphs of one item."""
+
+    TEXT = (
+        "%u = var %b = block 2 %x = var %p = phi %b, 1, %x pc %p 1 blockpc %b 1 %x 5 "
+        "%y = add %p, %x infer %y"
+    )
+
+    def test_a_picture_of_an_item(self) -> None:
+        for record in VALID:
+            items = souper.read(record.kind, record.text)
+            for item in items:
+                text = souper.write(record.kind, [item])
+                self.assertEqual(draw.dot(item), draw.dot(record.kind, text), record)
+        any_dot: Any = draw.dot
+        self.assertRaisesRegex(TypeError, "beside an item", any_dot, items[0], "")
+        self.assertRaises(TypeError, any_dot, "lhs")
+        self.assertRaises(souper.NotWellFormed, draw.dot, Item((), Infer(Value(0))))
+
+    def test_what_jupyter_shows(self) -> None:
+        [item] = souper.read("lhs", self.TEXT)
+        with mock.patch.object(draw, "_drawn", lambda graph: f"<svg>{graph}</svg>"):
+            self.assertEqual(item._repr_svg_(), f"<svg>{draw.dot(item)}</svg>")
+            self.assertIsNone(Item((), Infer(Value(0)))._repr_svg_())
+            self.assertIsNone(Item((), Infer(Value(-1)))._repr_svg_())
+        with mock.patch.object(draw.shutil, "which", lambda name: None):
+            self.assertIsNone(item._repr_svg_())
+
+    def test_a_graph_of_networkx(self) -> None:
+        [item] = souper.read("lhs", self.TEXT)
+        module = mock.Mock(MultiDiGraph=RecordedGraph)
+        with mock.patch.dict(sys.modules, {"networkx": module}):
+            graph = item.to_networkx()
+        lines = [line for line in str(item).split("\n") if line]
+        marks = ["block", "input", "phi", "instruction", "pc", "blockpc", "last"]
+        nodes = [(node, attributes["text"], attributes["mark"]) for node, attributes in graph.nodes]
+        self.assertEqual(nodes, list(zip(range(7), lines, marks)))
+        self.assertEqual([node for node, it in graph.nodes if it["root"]], [3])
+        named = {line.split(" ")[0]: node for node, line in enumerate(lines)}
+        b, x, p, y = (named[name] for name in ("%b", "%x", "%p", "%y"))
+        wanted = {(b, p, 0), (x, p, 2), (p, y, 1), (x, y, 2), (p, 4, 1), (b, 5, 0), (x, 5, 1), (y, 6, 1)}
+        self.assertEqual((set(graph.edges), len(graph.edges)), (wanted, 8))
+        with mock.patch.dict(sys.modules, {"networkx": None}):
+            self.assertRaises(ImportError, item.to_networkx)
+
+    @unittest.skipUnless(importlib.util.find_spec("networkx"), "networkx is missing")
+    def test_networkx_itself(self) -> None:
+        for record in VALID:
+            for item in souper.read(record.kind, record.text):
+                graph = item.to_networkx()
+                lines = [line for line in str(item).split("\n") if line]
+                # The last lines come last. A text may have an infer line before other statements.
+                texts = [graph.nodes[node]["text"] for node in range(len(graph))]
+                self.assertEqual(sorted(texts), sorted(lines), record)
+                uses = sum(len(s.uses) for s in souper.canonical(record.kind, item).statements)
+                last = [n for n in graph if graph.nodes[n]["mark"] == "last"]
+                self.assertEqual(graph.number_of_edges() - sum(graph.in_degree(n) for n in last), uses)
+                self.assertTrue(all(start < end for start, end in graph.edges()), record)
 
 
 class Programs(unittest.TestCase):
@@ -1477,5 +1555,7 @@ class Programs(unittest.TestCase):
 if __name__ == "__main__":
     result = unittest.main(exit=False).result
     wrong = len({test.id() for test, _ in [*result.failures, *result.errors]})
-    print(f"Python: {result.testsRun - wrong} passed, {wrong} failed")
+    for why in sorted({why for _, why in result.skipped}):
+        print(f"missing: {why}")
+    print(f"Python: {result.testsRun - wrong - len(result.skipped)} passed, {wrong} failed")
     sys.exit(wrong != 0)
