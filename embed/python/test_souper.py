@@ -599,6 +599,8 @@ class Values(unittest.TestCase):
         for error in (souper.Refused("", 0, 1, 1), souper.NotUtf8(0, 1), souper.NotWellFormed(0), souper.NoCode(0, 0)):
             for field in vars(error):
                 self.assertRegex(str(type(error).__doc__), rf"\n    {field}: ")
+        for name in (*Kind.__members__, "arity", "number"):
+            self.assertRegex(f"{Kind.__doc__}{Op.__doc__}", rf"\n    {name}: ")
 
     def test_the_values_of_each_form(self) -> None:
         [item] = souper.read("lhs", FORMS[Kind.LHS])
@@ -920,6 +922,13 @@ class Damaged(unittest.TestCase):
             for at in range(len(code)):
                 self.judge(kind, code[:at] + code[at + 1 :])
                 self.judge(kind, code[:at] + b"\0" + code[at:])
+
+    def test_the_cause_of_no_code(self) -> None:
+        code = souper.encode("lhs", souper.read("lhs", "%x = var infer %x"))
+        for damaged, cause in ((code.replace(b"%x", b"%\xff"), UnicodeDecodeError), (code[1:], type(None))):
+            with self.assertRaises(souper.NoCode) as raised:
+                souper.decode("lhs", damaged)
+            self.assertIs(type(raised.exception.__cause__), cause)
 
     def test_other_kinds(self) -> None:
         for kind, code in self.codes():

@@ -15,14 +15,18 @@ from ._checks import check_int, check_range, check_type, documented
 
 
 class Kind(enum.Enum):
-    """The kind of the items of a text. Calls also take its value: ``'lhs'`` for ``Kind.LHS``."""
+    """The kind of the items of a text. Calls also take its value: ``'lhs'`` for ``Kind.LHS``.
+
+    Its members:
+
+    LHS: left-hand sides, each ended by ``infer``.
+    RHS: right-hand sides, each ended by ``result``.
+    REP: replacements, each ended by ``cand``, or by ``infer`` and ``result``.
+    """
 
     LHS = "lhs"
-    """Left-hand sides, each ended by ``infer``."""
     RHS = "rhs"
-    """Right-hand sides, each ended by ``result``."""
     REP = "rep"
-    """Replacements, each ended by ``cand``, or by ``infer`` and ``result``."""
 
     @classmethod
     def _missing_(cls, value: object) -> Kind:
@@ -30,12 +34,16 @@ class Kind(enum.Enum):
 
 
 class Op(enum.Enum):
-    """An instruction. Its value is its word: ``Op('add')`` is ``Op.ADD``."""
+    """An instruction. Its value is its word: ``Op('add')`` is ``Op.ADD``.
+
+    Its fields:
+
+    arity: the number of operands.
+    number: the number of the instruction in the code.
+    """
 
     number: int
-    """The number of the instruction in the code."""
     arity: int
-    """The number of operands."""
 
     # With the defaults, a call with a word alone has the right type.
     def __new__(cls, word: str, number: int = 0, arity: int = 0) -> Op:
