@@ -17,12 +17,15 @@ import pickle
 import pydoc
 import random
 import re
+import shutil
 import subprocess
 import sys
+import tempfile
 import threading
 import time
 import tracemalloc
 import unittest
+import venv
 from collections.abc import Callable, Iterator, Sequence
 from dataclasses import FrozenInstanceError, dataclass, replace
 from functools import partial
@@ -1527,6 +1530,62 @@ class Graphs(unittest.TestCase):
                 last = [n for n in graph if graph.nodes[n]["mark"] == "last"]
                 self.assertEqual(graph.number_of_edges() - sum(graph.in_degree(n) for n in last), uses)
                 self.assertTrue(all(start < end for start, end in graph.edges()), record)
+
+
+@unittest.skipUnless(shutil.which("mypy"), "mypy is missing")
+class Types(unittest.TestCase):
+    """What ``mypy --strict`` finds in a program that uses the installed package."""
+
+    PROGRAM = """
+        import souper
+        import souper.draw
+        reader = souper.Reader("lhs", refused=lambda refusal: print(refusal.message))
+        for part in (b"", bytearray(b""), memoryview(b"")):
+            reader.push(part)
+        reader.push("text")  # error: arg-type
+        next(reader)  # error: arg-type, call-overload
+        for item in reader:
+            item.ending.value  # error: union-attr
+            item.ending = item.ending  # error: misc
+            if isinstance(item.ending, souper.Infer):
+                print(item.ending.value.position)
+        b = souper.Builder()
+        x = b.inst("add", b.var("x", 8), 1)
+        b.inst(souper.Op.ADD, "x", 1)  # error: arg-type
+        b.pc(x, None)  # error: arg-type
+        b.var(width="8")  # error: arg-type
+        texts: list[str] = [str(b.infer(x)), souper.write("lhs", [b.infer(x)]), souper.__version__]
+        souper.read("lhs", 5)  # error: arg-type
+        flaw: souper.Flaw = souper.NotWellFormed(0).flaw  # error: assignment
+        print(souper.draw.dot(b.infer(x)), souper.draw.svg("lhs", ""), souper.decode("lhs", bytearray()))
+        souper.draw.dot("lhs")  # error: call-overload, arg-type
+        souper.formats("lhs", "")  # error: attr-defined
+    """
+
+    def mypy(self, *arguments: str | Path, cwd: Path) -> subprocess.CompletedProcess[str]:
+        command = ["mypy", "--strict", "--no-incremental", "--cache-dir", os.devnull, *map(str, arguments)]
+        return subprocess.run(
+            command, cwd=cwd, env={**os.environ, "PYTHONPATH": ""}, capture_output=True, text=True, check=False
+        )
+
+    def test_a_program(self) -> None:
+        lines = [line[8:] for line in self.PROGRAM.splitlines()]
+        with tempfile.TemporaryDirectory() as folder:
+            venv.create(f"{folder}/venv", symlinks=True)
+            [packages] = Path(folder).glob("venv/lib/python3*/site-packages")
+            (packages / "souper").symlink_to(HERE / "souper")
+            (Path(folder) / "program.py").write_text("\n".join(lines))
+            found = self.mypy("--python-executable", "venv/bin/python", "program.py", cwd=Path(folder))
+        rows = re.findall(r"^program\.py:(\d+): error: .*\[(.*)\]$", found.stdout, re.MULTILINE)
+        self.assertEqual(len(rows), found.stdout.count(": error: "), found.stdout)
+        wanted = {str(n): line.partition("# error: ")[2] for n, line in enumerate(lines, 1) if "# error: " in line}
+        self.assertEqual(sorted(wanted), sorted({number for number, _ in rows}), found.stdout)
+        for number, code in rows:
+            self.assertIn(code, wanted[number].split(", "), found.stdout)
+
+    def test_the_package(self) -> None:
+        found = self.mypy("souper", cwd=HERE)
+        self.assertEqual((found.returncode, found.stderr), (0, ""), found.stdout)
 
 
 class Programs(unittest.TestCase):

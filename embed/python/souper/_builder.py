@@ -90,6 +90,7 @@ class _Built(Value):
     """A value as a builder returns it, equal to the `Value` that items have. A copy has no mark."""
 
     __slots__ = ("mark",)
+    mark: int
 
     def __init__(self, position: int, mark: int) -> None:
         super().__init__(position)
@@ -191,7 +192,7 @@ class Builder:
         attributes: Iterable[Attribute] = (),
     ) -> Value:
         """Defines an instruction. `op` may be its word."""
-        op = Op(op)
+        op = op if isinstance(op, Op) else Op(op)
         check_arity(op, len(operands))
         rhs = Instruction(op, tuple(map(self._operand, operands)))
         return self._define(rhs, name, width, attributes)

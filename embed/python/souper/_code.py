@@ -280,7 +280,7 @@ class _Reader:
         return item
 
 
-def decode(kind: Kind | str, code: bytes) -> list[Item]:
+def decode(kind: Kind | str, code: bytes | bytearray | memoryview) -> list[Item]:
     """The items whose code the bytes are, as `encode` and ``souper_read`` of C write it.
 
     `NoCode` if the bytes are the code of no list of items of the kind. A length in the code that is
@@ -298,7 +298,7 @@ def decode(kind: Kind | str, code: bytes) -> list[Item]:
     check_type("code", code, "bytes", bytes, bytearray, memoryview)
     reader = _Reader(bytes(code))
     items: list[Item] = []
-    while reader.at < len(code):
+    while reader.at < len(reader.code):
         start = reader.at
         try:
             items.append(reader.item(kind))

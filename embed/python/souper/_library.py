@@ -106,7 +106,7 @@ def _load() -> ctypes.CDLL:
 
 def first_segment(kind: Kind, text: bytes, start: int) -> Outcome:
     """What ``souper_first_segment`` finds from a byte of a text on, which is not copied."""
-    first = ctypes.cast(text, ctypes.c_void_p).value or 0
+    first = ctypes.cast(ctypes.c_char_p(text), ctypes.c_void_p).value or 0
     rest = ctypes.c_char_p(first + start)
     found: Outcome = LIBRARY.souper_first_segment(NUMBERS[kind], rest, len(text) - start)
     return found

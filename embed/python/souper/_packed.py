@@ -274,18 +274,17 @@ class _Unpacker:
     def item(self) -> Item:
         head = self.number()
         statements = tuple([self.statement() for _ in range(head >> 3)])
-        first = self.operand()
-        second = self.operand() if head & 2 else None
+        operands = [self.operand() for _ in range(2 if head & 2 else 1)]
         attributes = self.each(self.root_attribute) if head & 4 else ()
-        match head & 3, first, second:
-            case 0, Value(), _:
-                return Item(statements, Infer(first, attributes))
-            case 1, _, _:
-                return Item(statements, Result(first))
-            case 2, Value(), Value() | Constant():
-                return Item(statements, Replace(Infer(first, attributes), second))
-            case 3, _, Value() | Constant():
-                return Item(statements, Cand(first, second, attributes))
+        match head & 3, operands:
+            case 0, [Value() as value]:
+                return Item(statements, Infer(value, attributes))
+            case 1, [operand]:
+                return Item(statements, Result(operand))
+            case 2, [Value() as value, operand]:
+                return Item(statements, Replace(Infer(value, attributes), operand))
+            case 3, [lhs, rhs]:
+                return Item(statements, Cand(lhs, rhs, attributes))
         raise ValueError("the bytes are no item")
 
 

@@ -69,10 +69,17 @@ def dot(kind: Item | Kind | str, text: str | bytes | None = None) -> str:
       s0 -> s1;
     }
     """
-    if isinstance(kind, Item):
+    return _dot(kind, text)
+
+
+def _dot(source: Item | Kind | str, text: str | bytes | None) -> str:
+    if isinstance(source, Item):
         check_type("text, beside an item,", text, "None", type(None))
-        kind, text = kind.kind, write(kind.kind, [kind])
-    drawn = pictures(kind, text)  # type: ignore[arg-type]
+        drawn = pictures(source.kind, write(source.kind, [source]))
+    elif text is None:
+        raise TypeError("a picture is of an item, or of a kind and a text")
+    else:
+        drawn = pictures(source, text)
     if len(drawn) == 1:
         body = "".join(f"  {line}\n" for line in _lines(drawn[0], ""))
     else:
@@ -89,7 +96,7 @@ def svg(kind: Item | Kind | str, text: str | bytes | None = None) -> str:
 
     The errors of `dot`, and `DotFailed` if the program ``dot`` does not draw.
     """
-    return _drawn(dot(kind, text))  # type: ignore[arg-type]
+    return _drawn(_dot(kind, text))
 
 
 def _drawn(graph: str) -> str:
