@@ -79,7 +79,7 @@ impl Refusal {
     /// assert_eq!(refusal.message(), "no value named '%y' in scope");
     /// ```
     pub fn message(&self) -> &str {
-        self.parts().0
+        self.parts().map_or(&self.shown, |(message, _)| message)
     }
 
     /// How many bytes were read.
@@ -121,25 +121,21 @@ impl Refusal {
         self.input
     }
 
-    // The message, and the line of the text.
-    fn parts(&self) -> (&str, &str) {
+    // The message, and the line of the text, of the four lines.
+    fn parts(&self) -> Option<(&str, &str)> {
         // From the end: the caret, the line, the bar, and the message, which begins with the place.
         let mut lines = self.shown.rsplitn(4, '\n');
-        let line = lines
-            .by_ref()
-            .nth(1)
-            .and_then(|line| line.split_once(" | "));
-        let message = lines.nth(1).and_then(|message| message.split_once(": "));
-        let (Some((_, text)), Some((_, message))) = (line, message) else {
-            unreachable!("a refusal has four lines")
-        };
-        (message, text)
+        let (_, text) = lines.by_ref().nth(1)?.split_once(" | ")?;
+        let (_, message) = lines.nth(1)?.split_once(": ")?;
+        Some((message, text))
     }
 
     // Gives the refusal of a segment its place and its location in the stream.
     pub(crate) fn place(&mut self, before: &Before) {
         let last_line = String::from_utf8_lossy(&before.last_line);
-        let (message, text) = self.parts();
+        let Some((message, text)) = self.parts() else {
+            unreachable!("a refusal has four lines")
+        };
         let (message, mut text) = (message.to_string(), text.to_string());
         if self.offset == 0 && before.bytes > 0 {
             // The byte before is the newline of the line before.

@@ -22,7 +22,7 @@
 //! *segment*. An invalid segment is an [`Error::Refused`], which gives no items, and reading resumes after it. In memory are the bytes
 //! since the last cut, which is an unfinished segment, the part that came last, and the items of the segments that were cut last.
 use crate::canonical::{Before, Refusal};
-use crate::code::{self, Item};
+use crate::code::{self, Item, NoCode};
 use crate::{canonical, raw};
 use std::io::{self, BufRead};
 use std::{fmt, str, vec};
@@ -48,6 +48,8 @@ pub enum Error {
     Ended,
     /// The library, a newer one, returned a status that this crate does not know. The stream cannot be read on.
     UnknownStatus(u32),
+    /// The library, a newer one, wrote a code that this crate does not know. The stream cannot be read on.
+    NoCode(NoCode),
 }
 
 impl fmt::Display for Error {
@@ -59,16 +61,18 @@ impl fmt::Display for Error {
             Error::OutOfMemory => f.write_str("out of memory"),
             Error::Ended => f.write_str("the stream has ended"),
             Error::UnknownStatus(status) => canonical::show_status(*status, f),
+            Error::NoCode(error) => error.fmt(f),
         }
     }
 }
 
-/// The source is the [`Refusal`] or the `io::Error`.
+/// The source is the [`Refusal`], the `io::Error` or the [`NoCode`].
 impl std::error::Error for Error {
     fn source(&self) -> Option<&(dyn std::error::Error + 'static)> {
         match self {
             Error::Refused(refusal) => Some(refusal),
             Error::Io(error) => Some(error),
+            Error::NoCode(error) => Some(error),
             Error::NotUtf8 { .. } | Error::OutOfMemory | Error::Ended | Error::UnknownStatus(_) => {
                 None
             }
@@ -85,6 +89,12 @@ impl From<Refusal> for Error {
 impl From<io::Error> for Error {
     fn from(error: io::Error) -> Self {
         Error::Io(error)
+    }
+}
+
+impl From<NoCode> for Error {
+    fn from(error: NoCode) -> Self {
+        Error::NoCode(error)
     }
 }
 
@@ -361,7 +371,7 @@ impl<T: Item> Reader<T> {
         let bytes = &self.buffer[self.start..][..len];
         let text = str::from_utf8(bytes).map_err(|_| self.not_utf8(bytes))?;
         let code = code::read(T::KIND, text)?;
-        let items = code::decode(&code).expect("the library writes codes");
+        let items = code::decode(&code)?;
         self.pass(len, items);
         Ok(())
     }
