@@ -8,19 +8,25 @@ import copy
 import ctypes
 import doctest
 import hashlib
+import importlib.util
+import inspect
 import io
 import itertools
 import os
 import pickle
+import pydoc
 import random
 import re
+import shutil
 import subprocess
 import sys
+import tempfile
 import threading
 import time
 import tracemalloc
 import unittest
-from collections.abc import Callable, Iterator
+import venv
+from collections.abc import Callable, Iterator, Sequence
 from dataclasses import FrozenInstanceError, dataclass, replace
 from functools import partial
 from pathlib import Path
@@ -29,7 +35,7 @@ from unittest import mock
 
 import souper
 from souper import Assignment, BlockPc, Builder, Constant, Infer, Instruction, Item, Kind, Op
-from souper import Pc, Phi, Value, Var, _library
+from souper import Pc, Phi, Value, Var, _library, draw
 
 HERE = Path(__file__).resolve().parent
 ROOT = HERE.parent.parent
@@ -319,7 +325,9 @@ class Streams(unittest.TestCase):
             at += length
         return found
 
-    def found(self, kind: Kind, parts: list[bytes], **options: bool) -> list[object]:
+    def found(
+        self, kind: Kind, parts: Sequence[bytes | bytearray | memoryview], **options: bool
+    ) -> list[object]:
         found: list[object] = []
         reader = souper.Reader(kind, refused=lambda r: found.append(self.told(r)), **options)
         for part in parts:
@@ -389,22 +397,67 @@ class Streams(unittest.TestCase):
     def test_reading_on(self) -> None:
         reader = souper.Reader("rhs", by_segments=True)
         reader.push(b"; first\nresult 1\nresult\nresult 2\nres")
-        self.assertEqual(next(reader).ending, souper.Result(Constant(1)))
+        self.assertEqual(reader.next(), Item((), souper.Result(Constant(1))))
         self.assertEqual((reader.offset, reader.line), (8, 2))
         with self.assertRaises(souper.Refused) as raised:
-            next(reader)
+            reader.next()
         self.assertEqual((raised.exception.location, raised.exception.at_end), ((23, 3, 7), True))
         self.assertEqual((reader.offset, reader.line), (17, 3))
-        self.assertIsNone(next(reader, None))
+        self.assertIsNone(reader.next())
         reader.push(b"ult 3")
-        self.assertIsNone(next(reader, None))
+        self.assertIsNone(reader.next())
         reader.push(b"\n")
-        self.assertEqual([item.ending.operand for item in reader], [Constant(2)])
+        self.assertEqual([item.ending for item in reader], [souper.Result(Constant(2))])
         reader.finish()
-        self.assertEqual([item.ending.operand for item in reader], [Constant(3)])
+        self.assertEqual([item.ending for item in reader], [souper.Result(Constant(3))])
         self.assertEqual((reader.offset, reader.line), (33, 5))
-        self.assertRaises(ValueError, reader.push, b"result 4")
-        self.assertIsNone(next(reader, None))
+        self.assertRaisesRegex(ValueError, "^the stream has ended$", reader.push, b"result 4")
+        self.assertIsNone(reader.next())
+
+    def test_a_loop_that_has_ended_stays_at_its_end(self) -> None:
+        reader = souper.Reader("rhs", refused=lambda refusal: None)
+        reader.push(b"result 1\nresult 2\nres")
+        loop = iter(reader)
+        self.assertIs(iter(loop), loop)
+        self.assertEqual([item.ending for item in loop], [souper.Result(Constant(1))])
+        reader.push(b"ult 3\n")
+        self.assertEqual(list(loop), [])
+        self.assertEqual([item.ending for item in reader], [souper.Result(Constant(2))])
+        reader.finish()
+        self.assertEqual((next(loop, None), len(list(reader)), list(loop)), (None, 1, []))
+
+    def test_an_iterator_after_a_refusal(self) -> None:
+        reader = souper.Reader("rhs")
+        reader.push(b"result 1\nresult\nresult 2\nresult 3\n")
+        loop = iter(reader)
+        self.assertEqual(next(loop).ending, souper.Result(Constant(1)))
+        self.assertRaises(souper.Refused, next, loop)
+        self.assertEqual([item.ending for item in loop], [souper.Result(Constant(2))])
+
+    def test_time_is_linear(self) -> None:
+        """A large part with a bad item, and one that is read by segments: four times the items."""
+        item = b"%x:i8 = var\n%y = add %x, 1\npc %y 1\ninfer %y\n"
+        for text, options in ((b"infer\n" + 2000 * item, {}), (2000 * item, {"by_segments": True})):
+            times = [self.seconds(n * text, **options) for n in (1, 4, 1, 4)]
+            self.assertLess(min(times[1::2]), 8 * min(times[::2]) + 0.1, options)
+
+    def seconds(self, text: bytes, **options: bool) -> float:
+        """The time of the thread that reading the text takes."""
+        start = time.thread_time()
+        self.found(Kind.LHS, [text], **options)
+        return time.thread_time() - start
+
+    def test_statuses(self) -> None:
+        for status, said in ((9, r"unknown\(9\)"), (10, r"unknown\(10\)")):
+            for name in ("souper_last_cut", "souper_first_segment"):
+                outcome = _library.Outcome(status=status)
+                library = mock.Mock(wraps=LIBRARY, **{f"{name}.side_effect": [outcome]})
+                reader = souper.Reader("rhs", by_segments=True)
+                reader.push(b"result 1\nresult 2\n")
+                with mock.patch.object(_library, "LIBRARY", library):
+                    self.assertRaisesRegex(RuntimeError, f"the status {said}", reader.next)
+                self.assertIsNone(reader.next())
+                self.assertRaises(ValueError, reader.push, b"")
 
     def test_bytes_that_are_not_utf8(self) -> None:
         text = "result 1\nresult 2\n; é ".encode() + b"\xe2\x82\nresult 3\nresult 4\n"
@@ -417,7 +470,8 @@ class Streams(unittest.TestCase):
                     found.extend(reader)
             self.assertEqual((raised.exception.offset, raised.exception.line), (23, 3))
             self.assertEqual(str(raised.exception), "line 3: not UTF-8 at byte 23")
-            self.assertIsNone(next(reader, None))
+            self.assertIsInstance(raised.exception.__cause__, UnicodeDecodeError)
+            self.assertIsNone(reader.next())
             self.assertLessEqual(len(found), 1)
         self.assertIsInstance(pickle.loads(pickle.dumps(raised.exception)), UnicodeError)
 
@@ -427,7 +481,8 @@ class Streams(unittest.TestCase):
             self.assertRaises(TypeError, souper.Reader("rhs").push, part)
         for kind in ("", None, 0):
             self.assertRaises(ValueError, souper.Reader, kind)
-        self.assertEqual(len(self.found(Kind.RHS, [bytearray(b"result 1\n"), memoryview(b"result 2")])), 2)  # type: ignore[list-item]
+        found = self.found(Kind.RHS, [bytearray(b"result 1\n"), memoryview(b"result 2")])
+        self.assertEqual(len(found), 2)
 
     def test_a_pipe_gives_items_as_they_come(self) -> None:
         read, write = os.pipe()
@@ -500,8 +555,55 @@ class Values(unittest.TestCase):
     def test_values_are_immutable_and_hashable(self) -> None:
         [item] = souper.read("lhs", FORMS[Kind.LHS])
         self.assertEqual(len({item, souper.read("lhs", FORMS[Kind.LHS])[0]}), 1)
-        self.assertEqual(pickle.loads(pickle.dumps(item)), item)
         self.assertRaises(FrozenInstanceError, setattr, item, "ending", Infer(Value(0)))
+
+    def test_pickles(self) -> None:
+        statements = tuple(s for kind in FORMS for i in souper.read(kind, FORMS[kind]) for s in i.statements)
+        kept: list[object] = [*statements, Constant(1), Value(3), Op.ADD, Kind.LHS]
+        kept += [souper.FlawReason("unknown(10)"), souper.Location(1, 2, 3)]
+        for value in kept:
+            self.assertEqual(pickle.loads(pickle.dumps(value)), value)
+        none: Any = None
+        items = [
+            item for record in VALID for item in souper.read(record.kind, record.text)
+        ]
+        items += [item for kind, text in FORMS.items() for item in souper.read(kind, text)]
+        # Items that are not well formed, and items that have no code.
+        items += [Item((Assignment("", 0, Phi(Value(2**64 - 1), ())),), Infer(Value(5)))]
+        items += [Item((Assignment("%x", 65536, Var()),), none), Item((), Infer(Value(-1)))]
+        for protocol in range(pickle.HIGHEST_PROTOCOL + 1):
+            self.assertEqual(pickle.loads(pickle.dumps(items, protocol)), items)
+        for item in items:
+            self.assertEqual(pickle.loads(pickle.dumps(item)), item)
+            self.assertIs(copy.deepcopy(item), item)
+
+    def test_pickles_are_no_larger_than_the_text(self) -> None:
+        texts = ["%x = var\ninfer %x\n", "%x:i8 = var\n%y = add %x, 1\npc %y 1\ninfer %y\n"]
+        texts += [record.text.decode() for record in VALID if record.kind is Kind.LHS]
+        for text in texts:
+            whole = "\n".join([text] * 100)
+            items = souper.read("lhs", whole)
+            self.assertLessEqual(len(pickle.dumps(items)), max(len(whole), 100), text)
+
+    def test_an_item_is_shown_as_its_text(self) -> None:
+        for record in VALID:
+            for item in souper.read(record.kind, record.text):
+                self.assertEqual(f"{item}\n", souper.write(record.kind, [item]), record)
+        self.assertEqual(repr(Item((), souper.Result(Constant(1))))[:5], "Item(")
+        self.assertRaises(souper.NotWellFormed, str, Item((), Infer(Value(0))))
+
+    def test_help_shows_the_fields(self) -> None:
+        for name in souper.__all__:
+            public = getattr(souper, name)
+            for field in getattr(public, "__dataclass_fields__", getattr(public, "_fields", ())):
+                shown = inspect.getdoc(getattr(public, field))
+                self.assertTrue(shown and "Alias for" not in shown, f"{name}.{field}")
+                self.assertIn(str(shown).split("\n")[0], pydoc.plain(pydoc.render_doc(public)))
+        for error in (souper.Refused("", 0, 1, 1), souper.NotUtf8(0, 1), souper.NotWellFormed(0), souper.NoCode(0, 0)):
+            for field in vars(error):
+                self.assertRegex(str(type(error).__doc__), rf"\n    {field}: ")
+        for name in (*Kind.__members__, "arity", "number"):
+            self.assertRegex(f"{Kind.__doc__}{Op.__doc__}", rf"\n    {name}: ")
 
     def test_the_values_of_each_form(self) -> None:
         [item] = souper.read("lhs", FORMS[Kind.LHS])
@@ -563,6 +665,65 @@ class Values(unittest.TestCase):
         self.assertRaises(ValueError, souper.write, "rep", [item])
         bits = (souper.DemandedBits("01x"),)
         self.assertRaises(ValueError, souper.encode, "lhs", [Item((), Infer(Value(0), bits))])
+
+    def test_what_has_no_code_is_named(self) -> None:
+        none: Any = None
+        x = Assignment("%x", 8, Var())
+        least, greatest = -(2**127), 2**127 - 1
+
+        def y(rhs: souper.Rhs, *attributes: souper.Attribute) -> Item:
+            return Item((x, Assignment("%y", None, rhs, attributes)), Infer(Value(0)))
+
+        def ended(ending: souper.Ending) -> Item:
+            return Item((x,), ending)
+
+        add = Instruction(Op.ADD, (Value(0), Constant(1)))
+        block = partial(BlockPc, Value(0), x=Value(0), y=Value(0))
+        for error, said, item in (
+            (ValueError, "statement 1 (%y): width 65536 is not in 0 to 65535", y(replace(add, operands=(Constant(1, 65536), Value(0))))),
+            (ValueError, "statement 1 (%y): add has 2 operands, not 1", y(Instruction(Op.ADD, (Value(0),)))),
+            (ValueError, "statement 1 (%y): freeze has 1 operand, not 0", y(Instruction(Op.FREEZE, ()))),
+            (TypeError, "statement 1 (%y): op is an Op, not str", y(Instruction(none or "add", ()))),
+            (TypeError, "statement 1 (%y): operands is a tuple, not NoneType", y(Instruction(Op.ADD, none))),
+            (TypeError, "statement 1 (%y): an operand is a Value or a Constant, not int", y(Instruction(Op.FREEZE, (none or 5,)))),
+            (TypeError, "statement 1 (%y): value is None, which is no right side", y(none)),
+            (ValueError, f"statement 1 (%y): a constant {greatest + 1} is not in {least} to {greatest}", y(Instruction(Op.FREEZE, (Constant(greatest + 1),)))),
+            (ValueError, "statement 1 (%y): predecessors 4294967296 is not in 0 to 4294967295", y(souper.Block(2**32))),
+            (TypeError, "statement 1 (%y): block is a Value, not NoneType", y(Phi(none, ()))),
+            (TypeError, "statement 1 (%y): values is a tuple, not NoneType", y(Phi(Value(0), none))),
+            (ValueError, "statement 1 (%y): position -1 is not in 0 to 18446744073709551615", y(Phi(Value(-1), ()))),
+            (TypeError, "statement 1 (%y): position is an int, not str", y(Phi(Value(none or "0"), ()))),
+            (ValueError, "statement 1 (%y): '012' has a character other than 0 1 x", y(add, souper.KnownBits("012"))),
+            (TypeError, "statement 1 (%y): bits is a str, not int", y(add, souper.KnownBits(none or 1))),
+            (ValueError, "statement 1 (%y): count 256 is not in 0 to 255", y(add, souper.SignBits(256))),
+            (ValueError, f"statement 1 (%y): low {least - 1} is not in {least} to {greatest}", y(add, souper.Range(least - 1, 0))),
+            (TypeError, "statement 1 (%y): attributes has None, which is no attribute", y(add, none)),
+            (TypeError, "statement 0: name is a str, not int", Item((replace(x, name=none or 5),), Infer(Value(0)))),
+            (TypeError, "statement 0 (%x): attributes is a tuple, not NoneType", Item((replace(x, attributes=none),), Infer(Value(0)))),
+            (ValueError, "statement 1: predecessor -1 is not in 0 to 4294967295", Item((x, block(-1)), Infer(Value(0)))),
+            (TypeError, "statement 1: None is no statement", Item((x, none), Infer(Value(0)))),
+            (TypeError, "statements is a tuple, not NoneType", Item(none, Infer(Value(0)))),
+            (TypeError, "infer line: value is a Value, not NoneType", ended(Infer(none))),
+            (TypeError, "infer line: value is a Value, not Constant", ended(Infer(none or Constant(1)))),
+            (TypeError, "infer line: attributes has 1, which is none of the last lines", ended(Infer(Value(0), (none or 1,)))),
+            (ValueError, "infer line: '01x' has a character other than 0 1", ended(Infer(Value(0), (souper.DemandedBits("01x"),)))),
+            (ValueError, "result line: width -1 is not in 0 to 65535", ended(souper.Result(Constant(1, -1)))),
+            (TypeError, "infer line: infer is an Infer, not NoneType", ended(souper.Replace(none, Value(0)))),
+            (TypeError, "result line: an operand is a Value or a Constant, not NoneType", ended(souper.Replace(Infer(Value(0)), none))),
+            (TypeError, "cand line: an operand is a Value or a Constant, not NoneType", ended(souper.Cand(Value(0), none))),
+            (TypeError, "ending is None, which is no last line", ended(none)),
+        ):
+            with self.subTest(said), self.assertRaises(error) as raised:
+                souper.write(item.kind, [souper.read(item.kind, FORMS[item.kind])[0], item])
+            self.assertEqual(str(raised.exception), f"item 1 has no code: {said}")
+            self.assertIsNone(raised.exception.__cause__)
+        with self.assertRaises(ValueError) as raised:
+            souper.write("lhs", [Item((replace(x, name="%\ud800"),), Infer(Value(0)))])
+        self.assertEqual(str(raised.exception), r"item 0 has no code: statement 0 (%\ud800): the name is not UTF-8")
+        self.assertIsInstance(raised.exception.__cause__, UnicodeEncodeError)
+        with self.assertRaises(ValueError) as raised:
+            souper.write("rhs", [ended(souper.Result(Value(0))), ended(Infer(Value(0)))])
+        self.assertEqual(str(raised.exception), "item 1 has no code: it is of the kind lhs, not rhs")
 
     def test_what_is_no_value(self) -> None:
         none: Any = None
@@ -765,6 +926,13 @@ class Damaged(unittest.TestCase):
                 self.judge(kind, code[:at] + code[at + 1 :])
                 self.judge(kind, code[:at] + b"\0" + code[at:])
 
+    def test_the_cause_of_no_code(self) -> None:
+        code = souper.encode("lhs", souper.read("lhs", "%x = var infer %x"))
+        for damaged, cause in ((code.replace(b"%x", b"%\xff"), UnicodeDecodeError), (code[1:], type(None))):
+            with self.assertRaises(souper.NoCode) as raised:
+                souper.decode("lhs", damaged)
+            self.assertIs(type(raised.exception.__cause__), cause)
+
     def test_other_kinds(self) -> None:
         for kind, code in self.codes():
             for other in Kind:
@@ -907,8 +1075,37 @@ class Building(unittest.TestCase):
             ("bits is an int, not bytes", lambda: Constant.from_bits(any_value or b"x", 8)),
         ):
             with self.subTest(said):
-                self.assertRaisesRegex(TypeError, f"^{said}", call)
+                self.assertRaisesRegex(TypeError, rf"^((statement 1|infer line): )?{said}", call)
         self.assertEqual(len(b.infer(x).statements), 1)
+
+    def test_what_is_refused_is_named(self) -> None:
+        b = Builder()
+        x, block = b.var("x"), b.block(2)
+        wrong: list[tuple[str, Callable[[], object]]] = [
+            ("statement 2 (%y): a width 65536 is not in 1 to 65535", lambda: b.var("y", 65536)),
+            ("statement 2 (%y): add has 2 operands, not 1", lambda: b.inst("add", x, name="%y")),
+            ("statement 2: 'plus' is no instruction", lambda: b.inst("plus", x)),
+            ("statement 2 (%x): '%x' is defined already", lambda: b.reserved_inst("x")),
+            ("statement 2 (%a b): '%a b' is not a name: ", lambda: b.reserved_const("a b")),
+            (r"statement 2 (%\ud800): '%\ud800' is not a name: ", lambda: b.var("\ud800")),
+            ("statement 2: '2' is not one or more of 0 1 x", lambda: b.var(attributes=[souper.KnownBits("2")])),
+            ("statement 2 (%y): a number of predecessors -1 is not in 0 to ", lambda: b.block(-1, "y")),
+            ("statement 2 (%y): the block has 2 predecessors, not 1", lambda: b.phi(block, 1, name="y")),
+            ("statement 2: Value(position=7) is not a value of this builder", lambda: b.pc(x, Value(7))),
+            ("statement 2: the block has no predecessor 2", lambda: b.block_pc(block, 2, x, 1)),
+            ("infer line: Value(position=7) is not a value of this builder", lambda: b.infer(Value(7))),
+            ("infer line: '' is not one or more of 0 1", lambda: b.replace(x, 1, souper.DemandedBits(""))),
+            ("result line: a width 0 is not in 1 to 65535", lambda: b.replace(x, Constant(1, 0))),
+            ("result line: a width 0 is not in 1 to 65535", lambda: b.result(Constant(1, 0))),
+            ("cand line: Value(position=7) is not a value of this builder", lambda: b.cand(x, Value(7))),
+        ]
+        for said, call in wrong:
+            with self.subTest(said), self.assertRaises(ValueError) as raised:
+                call()
+            self.assertEqual(str(raised.exception)[: len(said)], said)
+        self.assertEqual(len(b.result(0).statements), 2)
+        any_builder: Any = b
+        self.assertRaisesRegex(TypeError, "^Builder.var.. got an unexpected", any_builder.var, size=5)
 
     def test_what_is_refused(self) -> None:
         b = Builder()
@@ -1064,6 +1261,7 @@ class Arguments(unittest.TestCase):
 
     def test_kinds(self) -> None:
         kinds: list[Any] = ["LHS", "", "lhs ", 0, None]
+        self.assertRaisesRegex(ValueError, "^a kind is lhs, rhs or rep, not 'LHS'$", souper.read, "LHS", "")
         for kind in kinds:
             self.assertRaises(ValueError, souper.format, kind, "")
             self.assertRaises(ValueError, souper.read, kind, "")
@@ -1112,6 +1310,34 @@ class Arguments(unittest.TestCase):
         item = souper.read("lhs", f"%{name} = var {uses} infer %{name[299:]}")
         self.assertEqual(len(souper.write("lhs", item).splitlines()), 302)
 
+    def test_the_message_alone(self) -> None:
+        for record in REFUSED:
+            with self.assertRaises(souper.Refused) as raised:
+                souper.format(record.kind, record.text)
+            refusal = raised.exception
+            place = f"unknown:{refusal.line}:{refusal.column}: {refusal.message}\n     |\n"
+            self.assertTrue(refusal.shown.startswith(place), record)
+
+    def test_flaws_of_a_newer_library(self) -> None:
+        item = Item((Assignment("", None, Var()),), Infer(Value(0)))
+        for location, reason, position, shown in (
+            (1, 3, 0, "statement 0: a width is 0"),
+            (1, 10, 0, "statement 0: unknown(10)"),
+            (1, 0, 7, "statement 7: unknown(0)"),
+            (4, 2**32 - 1, 0, "cand line: unknown(4294967295)"),
+            (5, 3, 0, "unknown(5): a width is 0"),
+            (0, 11, 9, "unknown(0): unknown(11)"),
+        ):
+            found = _library.FlawNumbers(NOT_WELL_FORMED, location, reason, position)
+            library = mock.Mock(wraps=LIBRARY, **{"souper_flaw.side_effect": [found]})
+            with mock.patch.object(_library, "LIBRARY", library):
+                with self.assertRaises(souper.NotWellFormed) as raised:
+                    souper.write("lhs", [item])
+            self.assertEqual(str(raised.exception), f"item 0 is not well formed: {shown}")
+            self.assertEqual(pickle.loads(pickle.dumps(raised.exception)).flaw, raised.exception.flaw)
+        self.assertEqual(len(souper.FlawReason), 9)
+        self.assertRaises(ValueError, souper.FlawReason, "unknown")
+
     def test_exceptions_are_pickled(self) -> None:
         flaw = souper.Flaw(0, souper.FlawReason.ZERO_WIDTH, "%x")
         errors: list[Exception] = [souper.NotWellFormed(3), souper.NotWellFormed(3, flaw)]
@@ -1148,12 +1374,19 @@ class Arguments(unittest.TestCase):
     def test_statuses(self) -> None:
         calls = [*each_call(Kind.LHS, b""), partial(souper.write, Kind.LHS, [])]
         calls.append(partial(souper.find, "", ""))
-        for status, error in ((3, MemoryError), (9, RuntimeError), (4, RuntimeError)):
+        unknown = r"^the library returned the status unknown\(%s\)$"
+        for status, error, said in (
+            (3, MemoryError, ""),
+            (9, RuntimeError, unknown % 9),
+            (10, RuntimeError, unknown % 10),
+            (2**32 - 1, RuntimeError, unknown % 4294967295),
+            (4, RuntimeError, unknown % 4),
+        ):
             outcome = _library.Outcome(status=status)
             library = mock.Mock(**{f"{name}.return_value": outcome for name in _library.SIGNATURES})
             with mock.patch.object(_library, "LIBRARY", library):
                 for call in calls:
-                    self.assertRaises(error, call)
+                    self.assertRaisesRegex(error, said, call)
 
     def test_out_of_memory_when_a_refusal_is_shown(self) -> None:
         refused, none = _library.Outcome(status=1, length=4), _library.Outcome(status=3)
@@ -1217,6 +1450,143 @@ class Pages(unittest.TestCase):
             if isinstance(public, type) or callable(public):
                 self.assertEqual((public.__module__, public.__qualname__), ("souper", name))
 
+    def test_the_types_are_declared(self) -> None:
+        self.assertEqual((HERE / "souper/py.typed").read_bytes(), b"")
+
+    def test_the_version_is_the_crate_s(self) -> None:
+        manifest = (ROOT / "embed/rust/Cargo.toml").read_text()
+        self.assertEqual(re.findall(r'^version = "(.*)"$', manifest, re.MULTILINE), [souper.__version__])
+
+
+class RecordedGraph:
+    """What is asked of a ``MultiDiGraph`` of networkx."""
+
+    def __init__(self) -> None:
+        self.nodes: list[tuple[int, dict[str, object]]] = []
+        self.edges: list[tuple[int, int, int]] = []
+
+    def add_node(self, node: int, **attributes: object) -> None:
+        self.nodes.append((node, attributes))
+
+    def add_edge(self, start: int, end: int, operand: int) -> None:
+        self.edges.append((start, end, operand))
+
+
+class Graphs(unittest.TestCase):
+    """Pictures and graphs of one item."""
+
+    TEXT = (
+        "%u = var %b = block 2 %x = var %p = phi %b, 1, %x pc %p 1 blockpc %b 1 %x 5 "
+        "%y = add %p, %x infer %y"
+    )
+
+    def test_a_picture_of_an_item(self) -> None:
+        for record in VALID:
+            items = souper.read(record.kind, record.text)
+            for item in items:
+                text = souper.write(record.kind, [item])
+                self.assertEqual(draw.dot(item), draw.dot(record.kind, text), record)
+        any_dot: Any = draw.dot
+        self.assertRaisesRegex(TypeError, "beside an item", any_dot, items[0], "")
+        self.assertRaises(TypeError, any_dot, "lhs")
+        self.assertRaises(souper.NotWellFormed, draw.dot, Item((), Infer(Value(0))))
+
+    def test_what_jupyter_shows(self) -> None:
+        [item] = souper.read("lhs", self.TEXT)
+        with mock.patch.object(draw, "_drawn", lambda graph: f"<svg>{graph}</svg>"):
+            self.assertEqual(item._repr_svg_(), f"<svg>{draw.dot(item)}</svg>")
+            self.assertIsNone(Item((), Infer(Value(0)))._repr_svg_())
+            self.assertIsNone(Item((), Infer(Value(-1)))._repr_svg_())
+        with mock.patch.object(draw.shutil, "which", lambda name: None):
+            self.assertIsNone(item._repr_svg_())
+
+    def test_a_graph_of_networkx(self) -> None:
+        [item] = souper.read("lhs", self.TEXT)
+        module = mock.Mock(MultiDiGraph=RecordedGraph)
+        with mock.patch.dict(sys.modules, {"networkx": module}):
+            graph = item.to_networkx()
+        lines = [line for line in str(item).split("\n") if line]
+        marks = ["block", "input", "phi", "instruction", "pc", "blockpc", "last"]
+        nodes = [(node, attributes["text"], attributes["mark"]) for node, attributes in graph.nodes]
+        self.assertEqual(nodes, list(zip(range(7), lines, marks)))
+        self.assertEqual([node for node, it in graph.nodes if it["root"]], [3])
+        named = {line.split(" ")[0]: node for node, line in enumerate(lines)}
+        b, x, p, y = (named[name] for name in ("%b", "%x", "%p", "%y"))
+        wanted = {(b, p, 0), (x, p, 2), (p, y, 1), (x, y, 2), (p, 4, 1), (b, 5, 0), (x, 5, 1), (y, 6, 1)}
+        self.assertEqual((set(graph.edges), len(graph.edges)), (wanted, 8))
+        with mock.patch.dict(sys.modules, {"networkx": None}):
+            self.assertRaises(ImportError, item.to_networkx)
+
+    @unittest.skipUnless(importlib.util.find_spec("networkx"), "networkx is missing")
+    def test_networkx_itself(self) -> None:
+        for record in VALID:
+            for item in souper.read(record.kind, record.text):
+                graph = item.to_networkx()
+                lines = [line for line in str(item).split("\n") if line]
+                # The last lines come last. A text may have an infer line before other statements.
+                texts = [graph.nodes[node]["text"] for node in range(len(graph))]
+                self.assertEqual(sorted(texts), sorted(lines), record)
+                uses = sum(len(s.uses) for s in souper.canonical(record.kind, item).statements)
+                last = [n for n in graph if graph.nodes[n]["mark"] == "last"]
+                self.assertEqual(graph.number_of_edges() - sum(graph.in_degree(n) for n in last), uses)
+                self.assertTrue(all(start < end for start, end in graph.edges()), record)
+
+
+@unittest.skipUnless(shutil.which("mypy"), "mypy is missing")
+class Types(unittest.TestCase):
+    """What ``mypy --strict`` finds in a program that uses the installed package."""
+
+    PROGRAM = """
+        import souper
+        import souper.draw
+        reader = souper.Reader("lhs", refused=lambda refusal: print(refusal.message))
+        for part in (b"", bytearray(b""), memoryview(b"")):
+            reader.push(part)
+        reader.push("text")  # error: arg-type
+        next(reader)  # error: arg-type, call-overload
+        for item in reader:
+            item.ending.value  # error: union-attr
+            item.ending = item.ending  # error: misc
+            if isinstance(item.ending, souper.Infer):
+                print(item.ending.value.position)
+        b = souper.Builder()
+        x = b.inst("add", b.var("x", 8), 1)
+        b.inst(souper.Op.ADD, "x", 1)  # error: arg-type
+        b.pc(x, None)  # error: arg-type
+        b.var(width="8")  # error: arg-type
+        texts: list[str] = [str(b.infer(x)), souper.write("lhs", [b.infer(x)]), souper.__version__]
+        souper.read("lhs", 5)  # error: arg-type
+        flaw: souper.Flaw = souper.NotWellFormed(0).flaw  # error: assignment
+        print(souper.draw.dot(b.infer(x)), souper.draw.svg("lhs", ""), souper.decode("lhs", bytearray()))
+        souper.draw.dot("lhs")  # error: call-overload, arg-type
+        souper.formats("lhs", "")  # error: attr-defined
+    """
+
+    def mypy(self, *arguments: str | Path, cwd: Path) -> subprocess.CompletedProcess[str]:
+        command = ["mypy", "--strict", "--no-incremental", "--cache-dir", os.devnull, *map(str, arguments)]
+        return subprocess.run(
+            command, cwd=cwd, env={**os.environ, "PYTHONPATH": ""}, capture_output=True, text=True, check=False
+        )
+
+    def test_a_program(self) -> None:
+        lines = [line[8:] for line in self.PROGRAM.splitlines()]
+        with tempfile.TemporaryDirectory() as folder:
+            venv.create(f"{folder}/venv", symlinks=True)
+            [packages] = Path(folder).glob("venv/lib/python3*/site-packages")
+            (packages / "souper").symlink_to(HERE / "souper")
+            (Path(folder) / "program.py").write_text("\n".join(lines))
+            found = self.mypy("--python-executable", "venv/bin/python", "program.py", cwd=Path(folder))
+        rows = re.findall(r"^program\.py:(\d+): error: .*\[(.*)\]$", found.stdout, re.MULTILINE)
+        self.assertEqual(len(rows), found.stdout.count(": error: "), found.stdout)
+        wanted = {str(n): line.partition("# error: ")[2] for n, line in enumerate(lines, 1) if "# error: " in line}
+        self.assertEqual(sorted(wanted), sorted({number for number, _ in rows}), found.stdout)
+        for number, code in rows:
+            self.assertIn(code, wanted[number].split(", "), found.stdout)
+
+    def test_the_package(self) -> None:
+        found = self.mypy("souper", cwd=HERE)
+        self.assertEqual((found.returncode, found.stderr), (0, ""), found.stdout)
+
 
 class Programs(unittest.TestCase):
     """The package in other processes."""
@@ -1253,5 +1623,7 @@ class Programs(unittest.TestCase):
 if __name__ == "__main__":
     result = unittest.main(exit=False).result
     wrong = len({test.id() for test, _ in [*result.failures, *result.errors]})
-    print(f"Python: {result.testsRun - wrong} passed, {wrong} failed")
+    for why in sorted({why for _, why in result.skipped}):
+        print(f"missing: {why}")
+    print(f"Python: {result.testsRun - wrong - len(result.skipped)} passed, {wrong} failed")
     sys.exit(wrong != 0)

@@ -33,7 +33,7 @@ WANTED = {
     *(f"lib/pkgconfig/{name}.pc" for name in ("souper", "souper-static")),
     *(f"lib/cmake/souper/{name}.cmake" for name in ("souper-config", "souper-config-version")),
     "include/souper.h", "include/souper.hpp",
-    *(f"python/souper/{name}" for name in ("__init__.py", "page.py", "page.html", "draw.py", "libsouper_c.so")),
+    *(f"python/souper/{name}" for name in ("__init__.py", "py.typed", "page.py", "page.html", "draw.py", "libsouper_c.so")),
     *(f"rust/souper-ir-proved/{name}" for name in ("Cargo.toml", "build.rs", "src/lib.rs", "libsouper_c.a")),
     *(f"share/doc/sefgrun/{name}" for name in ("README.md", "CHANGELOG.md", "NOTICE", "COMMIT", "docs/INSTALL.md", "docs/CLI.md")),
     *(f"share/doc/sefgrun/examples/{name}" for name in ("first.souper", "format.c", "stream.c", "keys.cpp", "heap.c", "CMakeLists.txt")),
@@ -138,6 +138,7 @@ def versions(tarball, debian, wheel, crate):
         ("CMake", r'^set\(PACKAGE_VERSION "(.*)"\)$', (tarball / "lib/cmake/souper/souper-config-version.cmake").read_text()),
         ("METADATA", r"^Version: (.*)$", metadata),
         ("Cargo.toml", r'^version = "(.*)"$', manifest),
+        ("souper.__version__", r'^__version__ = "(.*)"$', (tarball / "python/souper/__init__.py").read_text()),
         ("souper_fmt.1", r'"Sefgrun (.*?)"', page(tarball, "souper_fmt")),
         ("souper_items.1", r'"Sefgrun (.*?)"', page(tarball, "souper_items")),
     ]

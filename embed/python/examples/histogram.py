@@ -25,8 +25,7 @@ def texts(kind: str, paths: Iterable[Path]) -> Counter[str]:
             records = souper.records(kind, path.read_bytes(), rename=True)
         except souper.Refused as refusal:
             _, line, column = refusal.location or (0, refusal.line, refusal.column)
-            message = refusal.shown.partition("\n")[0].partition(": ")[2]
-            sys.exit(f"{path}:{line}:{column}: {message}")
+            sys.exit(f"{path}:{line}:{column}: {refusal.message}")
         found.update(record.text for record in records)
     return found
 

@@ -56,7 +56,8 @@ one by one, and a `Reader` those of what is pushed to it part by part.
 
 **Errors.** `Refused`, with its `Location`, if a text is invalid, `UnicodeError` if it is not UTF-8,
 `NotWellFormed`, with the item's first `Flaw`, if an item has no canonical text, `NoCode` if bytes
-are the code of no items; these are `ValueError`. `MemoryError` if an allocation fails.
+are the code of no items; these are `ValueError`. `MemoryError` if an allocation fails. What only a
+newer library knows is ``unknown(N)``: a reason of a flaw, or a status, which is a `RuntimeError`.
 
 **Threads.** There is no state, and values are immutable. Calls may run at once on any threads, and
 while the library works, other threads of Python run. A `Builder` is for one thread at a time.
@@ -169,6 +170,8 @@ __all__ = [
     "stream",
     "write",
 ]
+
+__version__ = "1.0.0"
 
 # Messages, pickles and help name the package, not the module of it.
 for _public in map(globals().get, __all__):

@@ -2,12 +2,16 @@
 
 from __future__ import annotations
 
+import functools
+import inspect
 import itertools
 import re
-from collections.abc import Iterable
+from collections.abc import Callable, Iterable
+from typing import Concatenate, ParamSpec, TypeVar
 
 from ._checks import check_int, check_range, check_type
-from ._code import DEMANDED_BITS, FLAGS, KNOWN_BITS
+from ._code import DEMANDED_BITS, FLAGS, KNOWN_BITS, check_arity
+from ._errors import place
 from ._values import (
     Assignment,
     Attribute,
@@ -43,6 +47,39 @@ _NAME = re.compile(r"%[0-9A-Za-z_.]+")
 _LOWEST, _GREATEST = -(2**127), 2**127 - 1
 
 
+_P = ParamSpec("_P")
+_T = TypeVar("_T")
+_Method = Callable[Concatenate["Builder", _P], _T]
+
+
+def _at(line: str | None = None) -> Callable[[_Method[_P, _T]], _Method[_P, _T]]:
+    """A method whose errors begin with the last line, or with the statement that it would add."""
+
+    def placed(method: _Method[_P, _T]) -> _Method[_P, _T]:
+        parameters = inspect.signature(method)
+
+        @functools.wraps(method)
+        def call(self: Builder, /, *args: _P.args, **named: _P.kwargs) -> _T:
+            position = len(self._statements)
+            try:
+                return method(self, *args, **named)
+            except (TypeError, ValueError) as error:
+                try:
+                    name = parameters.bind(self, *args, **named).arguments.get("name")
+                except TypeError:
+                    # The arguments are not those of the method.
+                    raise error from None
+                if isinstance(name, str):
+                    name = "%" + name.removeprefix("%")
+                told = TypeError if isinstance(error, TypeError) else ValueError
+                where = place(position if line is None else line, name)
+                raise told(f"{where}: {error}") from error.__cause__
+
+        return call
+
+    return placed
+
+
 def _check_bits(bits: str, alphabet: str) -> None:
     check_type("bits", bits, "a str", str)
     if not bits or not set(bits) <= set(alphabet):
@@ -53,6 +90,7 @@ class _Built(Value):
     """A value as a builder returns it, equal to the `Value` that items have. A copy has no mark."""
 
     __slots__ = ("mark",)
+    mark: int
 
     def __init__(self, position: int, mark: int) -> None:
         super().__init__(position)
@@ -80,8 +118,8 @@ class Builder:
     An operand is a `Value` of this builder, a `Constant`, or an `int`: a constant without a type.
     A name may be without its ``%``. The default is ``%`` and the position, or the next number that
     is free. `ValueError` if an argument would make the item not well formed, or a value is another
-    builder's. A builder may begin with the statements of an item, which it does not test; their
-    values stay.
+    builder's; the message begins with the statement or the line. A builder may begin with the
+    statements of an item, which it does not test; their values stay.
 
     >>> b = Builder()
     >>> block = b.block(2)
@@ -110,6 +148,7 @@ class Builder:
         self._next = 0
         self._mark = next(_MARKS)
 
+    @_at()
     def var(
         self,
         name: str | None = None,
@@ -120,12 +159,14 @@ class Builder:
         """Defines an input."""
         return self._define(Var(), name, width, attributes)
 
+    @_at()
     def block(self, predecessors: int, name: str | None = None) -> Value:
         """Defines a block with a number of predecessors."""
         check_int("predecessors", predecessors)
         check_range("a number of predecessors", predecessors, 0, 2**32 - 1)
         return self._define(Block(predecessors), name, None, ())
 
+    @_at()
     def phi(
         self,
         block: Value,
@@ -141,6 +182,7 @@ class Builder:
         rhs = Phi(self._plain(block), tuple(map(self._operand, values)))
         return self._define(rhs, name, width, attributes)
 
+    @_at()
     def inst(
         self,
         op: Op | str,
@@ -150,12 +192,12 @@ class Builder:
         attributes: Iterable[Attribute] = (),
     ) -> Value:
         """Defines an instruction. `op` may be its word."""
-        op = Op(op)
-        if len(operands) != op.arity:
-            raise ValueError(f"{op.value} has {op.arity} operands, not {len(operands)}")
+        op = op if isinstance(op, Op) else Op(op)
+        check_arity(op, len(operands))
         rhs = Instruction(op, tuple(map(self._operand, operands)))
         return self._define(rhs, name, width, attributes)
 
+    @_at()
     def reserved_inst(
         self,
         name: str | None = None,
@@ -166,6 +208,7 @@ class Builder:
         """Defines a place for an instruction."""
         return self._define(ReservedInst(), name, width, attributes)
 
+    @_at()
     def reserved_const(
         self,
         name: str | None = None,
@@ -176,10 +219,12 @@ class Builder:
         """Defines a place for a constant."""
         return self._define(ReservedConst(), name, width, attributes)
 
+    @_at()
     def pc(self, x: Operand | int, y: Operand | int) -> None:
         """Adds a path condition: the operands are equal."""
         self._statements.append(Pc(self._operand(x), self._operand(y)))
 
+    @_at()
     def block_pc(self, block: Value, predecessor: int, x: Operand | int, y: Operand | int) -> None:
         """Adds a path condition on a predecessor of a block, which is given by its index from 0."""
         check_int("predecessor", predecessor)
@@ -194,12 +239,13 @@ class Builder:
 
     def result(self, operand: Operand | int) -> Item:
         """A right-hand side."""
-        return self._item(Result(self._operand(operand)))
+        return self._item(Result(self._result(operand)))
 
     def replace(self, value: Value, result: Operand | int, *attributes: RootAttribute) -> Item:
         """A replacement of a value by an operand, printed with ``infer`` and ``result``."""
-        return self._item(Replace(self._infer(value, attributes), self._operand(result)))
+        return self._item(Replace(self._infer(value, attributes), self._result(result)))
 
+    @_at("cand")
     def cand(self, lhs: Operand | int, rhs: Operand | int, *attributes: RootAttribute) -> Item:
         """A replacement of an operand by another, printed with ``cand``."""
         self._check_root_attributes(attributes)
@@ -208,10 +254,15 @@ class Builder:
     def _item(self, ending: Ending) -> Item:
         return Item(tuple(self._statements), ending)
 
+    @_at("infer")
     def _infer(self, value: Value, attributes: tuple[RootAttribute, ...]) -> Infer:
         plain = self._plain(value)
         self._check_root_attributes(attributes)
         return Infer(plain, attributes)
+
+    @_at("result")
+    def _result(self, operand: Operand | int) -> Operand:
+        return self._operand(operand)
 
     def _define(
         self, rhs: Rhs, name: str | None, width: int | None, attributes: Iterable[Attribute]

@@ -7,7 +7,7 @@ from collections.abc import Iterable
 from typing import Any, NamedTuple
 
 from . import _library
-from ._checks import check_type
+from ._checks import check_type, documented
 from ._code import decode, encode
 from ._errors import Flaw, FlawReason, Location, NotWellFormed, Refused
 from ._library import DIFFERENT, DONE, NOT_UTF8, NOT_WELL_FORMED, OUT_OF_MEMORY, REFUSED, SHORT
@@ -60,7 +60,7 @@ def _failure(kind: Kind, outcome: Outcome, data: bytes, shown: bytes) -> Excepti
             data.decode()
         except UnicodeDecodeError as error:
             return error
-    return RuntimeError(f"the library returned status {outcome.status}")
+    return RuntimeError(f"the library returned the status {_library.unknown(outcome.status)}")
 
 
 def _answer(kind: Kind, outcome: Outcome, data: bytes) -> bool:
@@ -97,19 +97,24 @@ def read(kind: Kind | str, text: str | bytes) -> list[Item]:
     return decode(kind, out)
 
 
-_LINES = ("infer", "result", "cand")
-_REASONS = tuple(FlawReason)
+# By their numbers.
+_LINES = {2: "infer", 3: "result", 4: "cand"}
+_REASONS = dict(enumerate(FlawReason, 1))
 
 
 def _flaw(kind: Kind, code: bytes, item: Item) -> Flaw | None:
-    """The first flaw of an item, with whose code the bytes begin."""
+    """The first flaw of an item, with whose code the bytes begin. `None` if memory ran out."""
     found = _library.LIBRARY.souper_flaw(NUMBERS[kind], code, len(code))
-    if found.status != NOT_WELL_FORMED:
+    if found.status == OUT_OF_MEMORY:
         return None
-    reason = _REASONS[found.reason - 1]
-    if found.location > 1:
-        return Flaw(_LINES[found.location - 2], reason)
-    statement = item.statements[found.position]
+    if found.status != NOT_WELL_FORMED:
+        raise _failure(kind, Outcome(status=found.status), code, b"")
+    unknown = _library.unknown
+    reason = _REASONS.get(found.reason) or FlawReason(unknown(found.reason))
+    if found.location != 1:
+        return Flaw(_LINES.get(found.location) or unknown(found.location), reason)
+    statements = item.statements
+    statement = statements[found.position] if found.position < len(statements) else None
     name = statement.name if isinstance(statement, Assignment) else None
     return Flaw(found.position, reason, name)
 
@@ -117,7 +122,8 @@ def _flaw(kind: Kind, code: bytes, item: Item) -> Flaw | None:
 def write(kind: Kind | str, items: Iterable[Item]) -> str:
     """The canonical text of each item, a newline after each.
 
-    `NotWellFormed` if an item is not well formed, and `ValueError` as `encode` raises it.
+    `NotWellFormed` if an item is not well formed; `ValueError` and `TypeError` as `encode` raises
+    them.
 
     >>> write("rhs", [Item((), Result(Constant(1, 8)))])
     'result 1:i8\\n'
@@ -133,7 +139,8 @@ def write(kind: Kind | str, items: Iterable[Item]) -> str:
     outcome, out = _written(_library.LIBRARY.souper_write, (NUMBERS[kind],), code, len(code) + 256)
     if outcome.status == NOT_WELL_FORMED:
         index, begin = outcome.length, outcome.offset
-        raise NotWellFormed(index, _flaw(kind, code[begin:], items[index]))
+        flaw = _flaw(kind, code[begin:], items[index]) if index < len(items) else None
+        raise NotWellFormed(index, flaw)
     if outcome.status != DONE:
         raise _failure(kind, outcome, code, out)
     return out.decode()
@@ -226,13 +233,15 @@ def find(store: str | bytes, queries: str | bytes) -> list[list[str]]:
     return [[text + "\n" for text in group.split("\n\n")[:-1]] for group in groups]
 
 
+@documented(
+    key="The SHA-256 of the text, in 64 hexadecimal digits.",
+    text="The canonical text, without the newline that `format` writes after it.",
+)
 class Record(NamedTuple):
     """The key and the text of an item."""
 
     key: str
-    """The SHA-256 of the text, in 64 hexadecimal digits."""
     text: str
-    """The canonical text, without the newline that `format` writes after it."""
 
 
 def records(kind: Kind | str, text: str | bytes, *, rename: bool = False) -> list[Record]:

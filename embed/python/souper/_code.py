@@ -9,8 +9,8 @@ import struct
 from collections.abc import Callable, Iterable
 from typing import TypeVar
 
-from ._checks import check_type
-from ._errors import NoCode
+from ._checks import check_int, check_range, check_type
+from ._errors import NoCode, place
 from ._values import (
     Assignment,
     Attribute,
@@ -280,7 +280,7 @@ class _Reader:
         return item
 
 
-def decode(kind: Kind | str, code: bytes) -> list[Item]:
+def decode(kind: Kind | str, code: bytes | bytearray | memoryview) -> list[Item]:
     """The items whose code the bytes are, as `encode` and ``souper_read`` of C write it.
 
     `NoCode` if the bytes are the code of no list of items of the kind. A length in the code that is
@@ -298,188 +298,249 @@ def decode(kind: Kind | str, code: bytes) -> list[Item]:
     check_type("code", code, "bytes", bytes, bytearray, memoryview)
     reader = _Reader(bytes(code))
     items: list[Item] = []
-    while reader.at < len(code):
+    while reader.at < len(reader.code):
         start = reader.at
         try:
             items.append(reader.item(kind))
-        except (_Damaged, IndexError, UnicodeDecodeError, struct.error):
+        except UnicodeDecodeError as error:
+            raise NoCode(len(items), start) from error
+        except (_Damaged, IndexError, struct.error):
             raise NoCode(len(items), start) from None
     return items
 
 
 class _Writer:
-    """The bytes of a code so far."""
+    """The bytes of a code so far.
 
-    __slots__ = ("code",)
+    What has no code is a `TypeError` or a `ValueError`, about the statement or the line at `place`.
+    """
+
+    __slots__ = ("code", "place")
 
     def __init__(self) -> None:
         self.code = bytearray()
+        self.place: int | str | None = None
 
-    def integer(self, number: int, length: int, signed: bool = False) -> None:
+    def integer(self, what: str, number: int, length: int, signed: bool = False) -> None:
         try:
             self.code += number.to_bytes(length, "little", signed=signed)
-        except OverflowError:
-            raise ValueError(f"{number} does not fit into {length} bytes") from None
+        except (AttributeError, OverflowError):
+            check_int(what, number)
+            half = 1 << (8 * length - 1)
+            check_range(what, number, -half if signed else 0, half - 1 if signed else 2 * half - 1)
+            raise
 
-    def byte(self, number: int) -> None:
-        self.integer(number, 1)
+    def tag(self, number: int) -> None:
+        self.code.append(number)
 
     def size(self, number: int) -> None:
-        self.integer(number, 8)
+        self.code += number.to_bytes(8, "little")
 
-    def number(self, number: int) -> None:
-        self.integer(number, 16, signed=True)
+    def number(self, what: str, number: int) -> None:
+        self.integer(what, number, 16, signed=True)
 
     def width(self, width: int | None) -> None:
-        self.byte(0 if width is None else 1)
+        self.tag(0 if width is None else 1)
         if width is not None:
-            self.integer(width, 2)
+            self.integer("width", width, 2)
 
-    def sequence(self, write: Callable[[_T], None], elements: tuple[_T, ...]) -> None:
-        self.size(len(elements))
+    def sequence(self, what: str, write: Callable[[_T], None], elements: tuple[_T, ...]) -> None:
+        try:
+            self.size(len(elements))
+        except TypeError:
+            check_type(what, elements, "a tuple", tuple)
+            raise
         for element in elements:
             write(element)
 
     def bits(self, bits: str, alphabet: str) -> None:
+        check_type("bits", bits, "a str", str)
         if not set(bits) <= set(alphabet):
             raise ValueError(f"{bits!r} has a character other than {' '.join(alphabet)}")
         self.size(len(bits))
         self.code += bytes(map(alphabet.index, bits))
 
+    def value(self, what: str, value: Value) -> None:
+        check_type(what, value, "a Value", Value)
+        self.integer("position", value.position, 8)
+
     def operand(self, operand: Operand) -> None:
         match operand:
             case Value(position):
-                self.byte(0)
-                self.size(position)
+                self.tag(0)
+                self.integer("position", position, 8)
             case Constant(value, width):
-                self.byte(1)
-                self.number(value)
+                self.tag(1)
+                self.number("a constant", value)
                 self.width(width)
             case _:
-                raise TypeError(f"not an operand: {operand!r}")
+                check_type("an operand", operand, "a Value or a Constant", Value, Constant)
 
     def instruction(self, op: Op, operands: tuple[Operand, ...]) -> None:
-        if len(operands) != op.arity:
-            raise ValueError(f"{op.value} has {op.arity} operands, not {len(operands)}")
-        self.byte(op.number)
-        self.sequence(self.operand, operands)
+        check_type("op", op, "an Op", Op)
+        check_type("operands", operands, "a tuple", tuple, list)
+        check_arity(op, len(operands))
+        self.tag(op.number)
+        self.sequence("operands", self.operand, operands)
 
     def rhs(self, rhs: Rhs) -> None:
         match rhs:
             case Var():
-                self.byte(0)
+                self.tag(0)
             case Block(predecessors):
-                self.byte(1)
-                self.integer(predecessors, 4)
+                self.tag(1)
+                self.integer("predecessors", predecessors, 4)
             case Phi(block, values):
-                self.byte(2)
-                self.size(block.position)
-                self.sequence(self.operand, values)
+                self.tag(2)
+                self.value("block", block)
+                self.sequence("values", self.operand, values)
             case ReservedInst():
-                self.byte(3)
+                self.tag(3)
             case ReservedConst():
-                self.byte(4)
+                self.tag(4)
             case Instruction(op, operands):
-                self.byte(5)
+                self.tag(5)
                 self.instruction(op, operands)
             case _:
-                raise TypeError(f"not a right side: {rhs!r}")
+                raise TypeError(f"value is {rhs!r}, which is no right side")
 
     def attribute(self, attribute: Attribute) -> None:
         match attribute:
             case KnownBits(bits):
-                self.byte(0)
+                self.tag(0)
                 self.bits(bits, KNOWN_BITS)
             case SignBits(count):
-                self.byte(6)
-                self.byte(count)
+                self.tag(6)
+                self.integer("count", count, 1)
             case Range(low, high):
-                self.byte(7)
-                self.number(low)
-                self.number(high)
+                self.tag(7)
+                self.number("low", low)
+                self.number("high", high)
             case flag if flag in FLAGS:
-                self.byte(FLAGS.index(flag) + 1)
+                self.tag(FLAGS.index(flag) + 1)
             case _:
-                raise TypeError(f"not an attribute: {attribute!r}")
+                raise TypeError(f"attributes has {attribute!r}, which is no attribute")
 
     def root_attribute(self, attribute: RootAttribute) -> None:
         match attribute:
             case DemandedBits(bits):
-                self.byte(0)
+                self.tag(0)
                 self.bits(bits, DEMANDED_BITS)
             case HarvestedFromUse():
-                self.byte(1)
+                self.tag(1)
             case _:
-                raise TypeError(f"not an attribute of the last lines: {attribute!r}")
+                raise TypeError(f"attributes has {attribute!r}, which is none of the last lines")
 
     def name(self, name: str) -> None:
-        encoded = name.encode()
+        check_type("name", name, "a str", str)
+        try:
+            encoded = name.encode()
+        except UnicodeEncodeError as error:
+            raise ValueError("the name is not UTF-8") from error
         self.size(len(encoded))
         self.code += encoded
 
     def statement(self, statement: Statement) -> None:
         match statement:
             case Assignment(name, width, value, attributes):
-                self.byte(0)
+                self.tag(0)
                 self.name(name)
                 self.width(width)
                 self.rhs(value)
-                self.sequence(self.attribute, attributes)
+                self.sequence("attributes", self.attribute, attributes)
             case Pc(x, y):
-                self.byte(1)
+                self.tag(1)
                 self.operand(x)
                 self.operand(y)
             case BlockPc(block, predecessor, x, y):
-                self.byte(2)
-                self.size(block.position)
-                self.integer(predecessor, 4)
+                self.tag(2)
+                self.value("block", block)
+                self.integer("predecessor", predecessor, 4)
                 self.operand(x)
                 self.operand(y)
             case _:
-                raise TypeError(f"not a statement: {statement!r}")
+                raise TypeError(f"{statement!r} is no statement")
 
     def infer(self, infer: Infer) -> None:
-        self.size(infer.value.position)
-        self.sequence(self.root_attribute, infer.attributes)
+        self.place = "infer"
+        check_type("infer", infer, "an Infer", Infer)
+        self.value("value", infer.value)
+        self.sequence("attributes", self.root_attribute, infer.attributes)
 
     def ending(self, ending: Ending) -> None:
         match ending:
             case Infer():
-                self.byte(0)
+                self.tag(0)
                 self.infer(ending)
             case Result(operand):
-                self.byte(1)
+                self.place = "result"
+                self.tag(1)
                 self.operand(operand)
             case Replace(infer, result):
-                self.byte(2)
+                self.tag(2)
                 self.infer(infer)
+                self.place = "result"
                 self.operand(result)
             case Cand(lhs, rhs, attributes):
-                self.byte(3)
+                self.place = "cand"
+                self.tag(3)
                 self.operand(lhs)
                 self.operand(rhs)
-                self.sequence(self.root_attribute, attributes)
+                self.sequence("attributes", self.root_attribute, attributes)
             case _:
-                raise TypeError(f"not the end of an item: {ending!r}")
+                self.place = None
+                raise TypeError(f"ending is {ending!r}, which is no last line")
 
-    def item(self, item: Item) -> None:
-        self.sequence(self.statement, item.statements)
+    def item(self, kind: Kind, item: Item) -> None:
+        self.place = None
+        statements = item.statements
+        check_type("statements", statements, "a tuple", tuple, list)
+        self.size(len(statements))
+        for self.place, statement in enumerate(statements):
+            self.statement(statement)
         self.ending(item.ending)
+        if item.kind is not kind:
+            self.place = None
+            raise ValueError(f"it is of the kind {item.kind.value}, not {kind.value}")
+
+    def told(self, error: Exception, index: int, item: Item) -> Exception:
+        """The error of an item at an index, which says where it is."""
+        where = ""
+        if isinstance(self.place, int):
+            where = place(self.place, getattr(item.statements[self.place], "name", None)) + ": "
+        elif self.place is not None:
+            where = place(self.place) + ": "
+        told = TypeError if isinstance(error, TypeError) else ValueError
+        return told(f"item {index} has no code: {where}{error}")
+
+
+def check_arity(op: Op, count: int) -> None:
+    if count != op.arity:
+        operands = "operand" if op.arity == 1 else "operands"
+        raise ValueError(f"{op.value} has {op.arity} {operands}, not {count}")
 
 
 def encode(kind: Kind | str, items: Iterable[Item]) -> bytes:
     """The code of items of the kind, with all their statements, as ``souper_write`` of C takes it.
 
     The items need not be well formed. `ValueError` if one has no code: it is of another kind, a
-    number does not fit into its bytes, an instruction has too many or too few operands, or a list
-    of bits has another character.
+    number does not fit into its bytes, an instruction has too many or too few operands, a list of
+    bits has another character, or a name is not UTF-8. `TypeError` if a part is of another type.
+    The message names the item, and the statement or the line, as that of `NotWellFormed` does:
+
+    >>> wide = Item((Assignment("%x", 65536, Var()),), Infer(Value(0)))
+    >>> encode("lhs", [wide])
+    Traceback (most recent call last):
+        ...
+    ValueError: item 0 has no code: statement 0 (%x): width 65536 is not in 0 to 65535
     """
     kind = Kind(kind)
     check_type("items", items, "an iterable of items", Iterable)
     writer = _Writer()
     for index, item in enumerate(items):
         check_type(f"items[{index}]", item, "an Item", Item)
-        writer.item(item)
-        if item.kind is not kind:
-            raise ValueError(f"item {index} is of the kind {item.kind.value}, not {kind.value}")
+        try:
+            writer.item(kind, item)
+        except (TypeError, ValueError) as error:
+            raise writer.told(error, index, item) from error.__cause__
     return bytes(writer.code)

@@ -2,11 +2,19 @@
 
 from __future__ import annotations
 
+import re
 from dataclasses import dataclass
 from enum import Enum
 from typing import NamedTuple
 
+from ._checks import documented
 
+
+@documented(
+    offset="In bytes, from the first byte of the text.",
+    line="From 1.",
+    column="In bytes and from 1.",
+)
 class Location(NamedTuple):
     """Where a text is at fault.
 
@@ -15,17 +23,25 @@ class Location(NamedTuple):
     """
 
     offset: int
-    """In bytes, from the first byte of the text."""
     line: int
-    """From 1."""
     column: int
-    """In bytes and from 1."""
 
 
 class Refused(ValueError):
     """A text spells no list of items of the kind.
 
-    `str` of it is `shown`, and `args` are `shown`, `offset`, `line`, `column` and `input`.
+    Its fields:
+
+    shown: why and where, in four lines without a newline at the end; `str` of it.
+    message: why, alone.
+    location: where the text is at fault; `None` if memory ran out for it.
+    at_end: whether the text ended where more is wanted; `False` without a location.
+    input: which text of the call was refused: 0 the first, 1 the second.
+    offset: the number of bytes before the error.
+    line: the line of the last of these bytes, or of the first byte if there is none; from 1.
+    column: the column of that byte, in bytes and from 1.
+
+    `args` are `shown`, `offset`, `line`, `column` and `input`.
     """
 
     def __init__(
@@ -40,40 +56,46 @@ class Refused(ValueError):
     ) -> None:
         super().__init__(shown, offset, line, column, input)
         self.shown = shown
-        """Why and where, in four lines without a newline at the end."""
         self.offset = offset
-        """The number of bytes before the error."""
         self.line = line
-        """The line of the last of these bytes, or of the first byte if there is none; from 1."""
         self.column = column
-        """The column of that byte, in bytes and from 1."""
         self.input = input
-        """Which text of the call was refused: 0 the first, 1 the second."""
         self.location = location
-        """Where the text is at fault; `None` if memory ran out for it."""
         self.at_end = at_end
-        """Whether the text ended where more is wanted; `False` without a location."""
+
+    @property
+    def message(self) -> str:
+        """Why, alone: the first line of `shown` without the place."""
+        return self.shown.rsplit("\n", 3)[0].partition(": ")[2]
 
     def __str__(self) -> str:
         return self.shown
 
 
 class NotUtf8(UnicodeError):
-    """Bytes of a stream are not UTF-8."""
+    """Bytes of a stream are not UTF-8. Its cause is the `UnicodeDecodeError`.
+
+    Its fields:
+
+    offset: where the first byte is that is in no character.
+    line: its line, from 1.
+    """
 
     def __init__(self, offset: int, line: int) -> None:
         super().__init__(offset, line)
         self.offset = offset
-        """Where the first byte is that is in no character."""
         self.line = line
-        """Its line, from 1."""
 
     def __str__(self) -> str:
         return f"line {self.line}: not UTF-8 at byte {self.offset}"
 
 
 class FlawReason(Enum):
-    """Why an item is not well formed, in the order in which the reasons are looked for."""
+    """Why an item is not well formed, in the order in which the reasons are looked for.
+
+    A reason that only a newer library has is ``FlawReason.UNKNOWN``, with its number in its value:
+    ``unknown(10)``.
+    """
 
     INVALID_NAME = "the name is not % and letters, digits, _ or ."
     EMPTY_BITS = "a list of bits is empty"
@@ -85,8 +107,37 @@ class FlawReason(Enum):
     PREDECESSOR_OUT_OF_RANGE = "its block has no such predecessor"
     DUPLICATE_NAME = "an assignment before it has the same name"
 
+    @classmethod
+    def _missing_(cls, value: object) -> FlawReason | None:
+        if not isinstance(value, str) or not _UNKNOWN.fullmatch(value):
+            return None
+        reason = object.__new__(cls)
+        reason._name_, reason._value_ = "UNKNOWN", value
+        # One object for each number. If two threads make it, the first stays.
+        found: FlawReason = cls._value2member_map_.setdefault(value, reason)  # type: ignore[assignment]
+        return found
 
-@dataclass(frozen=True)
+
+_UNKNOWN = re.compile(r"unknown\(\d+\)")
+
+
+def place(location: int | str, name: object = None) -> str:
+    """The words for a statement, by its position, or for a last line, by its word."""
+    if isinstance(location, str):
+        return location if _UNKNOWN.fullmatch(location) else f"{location} line"
+    if not isinstance(name, str) or not name:
+        return f"statement {location}"
+    # Of a name that is not UTF-8, what can be printed.
+    return f"statement {location} ({name.encode(errors='backslashreplace').decode()})"
+
+
+@documented(
+    location='The position of a statement; "infer", "result" or "cand" for that line; or what a newer '
+    'library calls by a number, such as "unknown(5)".',
+    reason="Which condition of a well-formed item fails.",
+    name="The name of the statement, if it is an assignment.",
+)
+@dataclass(frozen=True, slots=True)
 class Flaw:
     """The first flaw of an item: of its needed statements in their order, then of its last lines.
 
@@ -94,16 +145,11 @@ class Flaw:
     """
 
     location: int | str
-    """The position of a statement, or "infer", "result" or "cand" for that line."""
     reason: FlawReason
     name: str | None = None
-    """The name of the statement, if it is an assignment."""
 
     def __str__(self) -> str:
-        if isinstance(self.location, str):
-            return f"{self.location} line: {self.reason.value}"
-        name = f" ({self.name})" if self.name else ""
-        return f"statement {self.location}{name}: {self.reason.value}"
+        return f"{place(self.location, self.name)}: {self.reason.value}"
 
 
 class NotWellFormed(ValueError):
@@ -113,14 +159,17 @@ class NotWellFormed(ValueError):
     assignments; the needed assignments have distinct names of the characters that a name may have;
     numbers are in range and lists of bits are not empty; a phi uses a block and has a value for
     each of its predecessors, and a block's path condition has the index of one of them.
+
+    Its fields:
+
+    index: the number of items before the item.
+    flaw: its first `Flaw`; `None` if memory ran out for it.
     """
 
     def __init__(self, index: int, flaw: Flaw | None = None) -> None:
         super().__init__(index, flaw)
         self.index = index
-        """The number of items before the item."""
         self.flaw = flaw
-        """The first flaw of the item."""
 
     def __str__(self) -> str:
         why = f": {self.flaw}" if self.flaw else ""
@@ -128,14 +177,18 @@ class NotWellFormed(ValueError):
 
 
 class NoCode(ValueError):
-    """Bytes are the code of no list of items of the kind."""
+    """Bytes are the code of no list of items of the kind.
+
+    Its fields:
+
+    index: the number of items that were read before.
+    offset: the number of bytes before the place where the code of an item is missing.
+    """
 
     def __init__(self, index: int, offset: int) -> None:
         super().__init__(index, offset)
         self.index = index
-        """The number of items that were read before."""
         self.offset = offset
-        """The number of bytes before the place where the code of an item is missing."""
 
     def __str__(self) -> str:
         return f"no code of an item at byte {self.offset}, after {self.index} items"

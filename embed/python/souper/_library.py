@@ -104,5 +104,18 @@ def _load() -> ctypes.CDLL:
     return library
 
 
+def first_segment(kind: Kind, text: bytes, start: int) -> Outcome:
+    """What ``souper_first_segment`` finds from a byte of a text on, which is not copied."""
+    first = ctypes.cast(ctypes.c_char_p(text), ctypes.c_void_p).value or 0
+    rest = ctypes.c_char_p(first + start)
+    found: Outcome = LIBRARY.souper_first_segment(NUMBERS[kind], rest, len(text) - start)
+    return found
+
+
+def unknown(number: int) -> str:
+    """What a newer library calls by a number."""
+    return f"unknown({number})"
+
+
 LIBRARY = _load()
 NUMBERS = {Kind.LHS: 0, Kind.RHS: 1, Kind.REP: 2}

@@ -3,9 +3,10 @@
 from __future__ import annotations
 
 import enum
+import importlib
 from collections.abc import Iterable, Iterator
 from dataclasses import dataclass
-from typing import TypeAlias
+from typing import Any, TypeAlias
 
 from ._calls import records, read
 from ._values import Assignment, Block, BlockPc, Cand, Ending, Infer, Item, Kind, Operand, Pc, Phi
@@ -58,6 +59,18 @@ def pictures(kind: Kind | str, text: str | bytes) -> list[Picture]:
     texts = [record.text for record in records(kind, text)]
     items = read(kind, "\n".join(texts))
     return [_picture(item, canonical) for item, canonical in zip(items, texts, strict=True)]
+
+
+def networkx(item: Item) -> Any:
+    """The picture of an item as a graph of networkx. `Item.to_networkx` says more."""
+    graph = importlib.import_module("networkx").MultiDiGraph()
+    [picture] = pictures(item.kind, str(item))
+    for position, box in enumerate(picture):
+        graph.add_node(position, text=box.text, mark=box.mark.value, root=box.is_root)
+        for use in box.uses:
+            operand = 0 if use.label == "block" else int(use.label or 1)
+            graph.add_edge(use.position, position, operand=operand)
+    return graph
 
 
 def _picture(item: Item, canonical: str) -> Picture:

@@ -4,13 +4,13 @@ from __future__ import annotations
 
 import re
 from collections.abc import Callable, Iterator
-from typing import BinaryIO
+from typing import BinaryIO, NoReturn
 
 from . import _library
 from ._calls import read
 from ._checks import check_type
 from ._errors import Location, NotUtf8, Refused
-from ._library import DONE, NUMBERS
+from ._library import DONE, NOT_UTF8, NUMBERS, Outcome
 from ._values import Item, Kind
 
 _STEP = 65536
@@ -20,15 +20,16 @@ _STEP = 65536
 class Reader:
     """Reads the items of a stream that is pushed part by part, such as what a socket gives.
 
-    It is an iterator that ends when more of the stream is wanted, and resumes after the next
-    `push`. The stream is cut where an item ends and a line of the next begins, as the tokens of the
-    lines show it. Between two cuts is a *segment*. An item is there when the first line of the next
-    is whole, or after `finish`. In memory are what was pushed since the last cut, which is an
-    unfinished segment, and the items of the segments that were cut last.
+    `next` gives an item, or `None` if more of the stream is wanted. ``for item in reader`` takes the
+    items that are there; after the next `push` another loop takes more. The stream is cut where an
+    item ends and a line of the next begins, as the tokens of the lines show it. Between two cuts is
+    a *segment*. An item is there when the first line of the next is whole, or after `finish`. In
+    memory are what was pushed since the last cut, which is an unfinished segment, and the items of
+    the segments that were cut last.
 
     An invalid segment gives no items. It raises `Refused`, with its place and `Location` in the
     stream, and the next call of `next` reads on after it. With `refused` that function is called
-    with the exception instead, and the iterator resumes. At bytes that are not UTF-8 it raises
+    with the exception instead, and reading resumes. At bytes that are not UTF-8 it raises
     `NotUtf8`, after the segments before them, and is at its end.
 
     With `by_segments` each segment is read by itself: `offset` and `line` are then those of the
@@ -58,22 +59,34 @@ class Reader:
         self._buffer = bytearray()
         self._whole = 0  # the bytes up to the last newline
         self._goal = 1  # a cut is looked for when so many bytes are there
-        self._rejected = 0  # the bytes of a chunk that are read segment by segment
+        self._chunk = b""  # which is read segment by segment
+        self._at = 0  # the bytes of it that were read
         self._is_finished = False
-        self._bytes = 0  # before the buffer, in the stream
+        self._bytes = 0  # before what is not read yet, in the stream
         self._lines = 0
         self._last_line = b""
         self._items: Iterator[Item] = iter(())
-        self.offset = 0
-        """Where the part begins that the last item came from, or that was refused: its first byte
-        that is not in white space nor in a comment. A part is one segment or more."""
-        self.line = 1
-        """The line of that byte."""
+        self._offset = 0
+        self._line = 1
 
-    def push(self, part: bytes) -> None:
+    @property
+    def offset(self) -> int:
+        """Where the part begins that the last item came from, or that was refused.
+
+        That is its first byte that is not in white space nor in a comment. A part is one segment or
+        more.
+        """
+        return self._offset
+
+    @property
+    def line(self) -> int:
+        """The line of the byte at `offset`, from 1."""
+        return self._line
+
+    def push(self, part: bytes | bytearray | memoryview) -> None:
         """Takes the next bytes of the stream, which may be cut anywhere.
 
-        `ValueError` after `finish`.
+        `ValueError` after `finish`, and where the stream cannot be read on.
         """
         check_type("a part", part, "bytes", bytes, bytearray, memoryview)
         if self._is_finished:
@@ -88,14 +101,15 @@ class Reader:
         """Says that nothing comes after what was pushed."""
         self._is_finished = True
 
-    def __iter__(self) -> Reader:
-        return self
+    def __iter__(self) -> Iterator[Item]:
+        return _Ready(self)
 
-    def __next__(self) -> Item:
+    def next(self) -> Item | None:
+        """The next item; `None` if more of the stream is wanted, or after the end."""
         while (item := next(self._items, None)) is None:
             try:
                 if not self._read_part():
-                    raise StopIteration
+                    return None
             except Refused as refusal:
                 if self._refused is None:
                     raise
@@ -110,76 +124,89 @@ class Reader:
             return 0
         lines = bytes(memoryview(self._buffer)[: self._whole])
         cut = _library.LIBRARY.souper_last_cut(NUMBERS[self._kind], lines, len(lines))
-        if cut.status != DONE:
+        if cut.status == NOT_UTF8:
             return self._whole
+        self._check(cut)
         more = self._whole // 8 if self._whole > _STEP else 0
         self._goal = self._whole + 1 + more
         return int(cut.length)
 
     def _read_part(self) -> bool:
         """Reads the next part, if there is one."""
-        if not self._rejected:
+        if self._at == len(self._chunk):
             length = self._next_chunk()
             if not length:
                 return False
-            if not self._by_segments and self._reads_chunk(length):
+            self._chunk = bytes(memoryview(self._buffer)[:length])
+            self._at = 0
+            del self._buffer[:length]
+            self._whole = max(self._whole - length, 0)
+            self._goal = self._whole + 1
+            if not self._by_segments and self._reads_chunk():
                 return True
-            self._rejected = length
-        rest = bytes(memoryview(self._buffer)[: self._rejected])
-        segment = _library.LIBRARY.souper_first_segment(NUMBERS[self._kind], rest, len(rest))
-        if segment.status != DONE:
-            raise self._fail(rest)
-        left = self._rejected - segment.length
-        text = rest[: segment.length]
+        segment = _library.first_segment(self._kind, self._chunk, self._at)
+        if segment.status == NOT_UTF8:
+            self._fail(self._chunk[self._at :])
+        self._check(segment)
+        text = self._chunk[self._at : self._at + segment.length]
         try:
             items = read(self._kind, text)
         except Refused as refusal:
             placed = self._placed(refusal)
             self._pass(text, [])
-            self._rejected = left
             raise placed from None
         self._pass(text, items)
-        self._rejected = left
         return True
 
-    def _reads_chunk(self, length: int) -> bool:
-        text = bytes(memoryview(self._buffer)[:length])
+    def _reads_chunk(self) -> bool:
+        """Reads the whole chunk, if all is valid."""
         try:
-            items = read(self._kind, text)
+            items = read(self._kind, self._chunk)
         except (Refused, UnicodeDecodeError):
             return False
-        self._pass(text, items)
+        self._pass(self._chunk, items)
         return True
 
     def _pass(self, text: bytes, items: list[Item]) -> None:
+        """Passes over the next bytes of the chunk, which gave the items."""
         empty = text[: _gap(text)]
-        self.offset = self._bytes + len(empty)
-        self.line = self._lines + empty.count(b"\n") + 1
+        self._offset = self._bytes + len(empty)
+        self._line = self._lines + empty.count(b"\n") + 1
         self._bytes += len(text)
         self._lines += text.count(b"\n")
         self._last_line = text[text.rfind(b"\n", 0, len(text) - 1) + 1 :]
         self._items = iter(items)
-        del self._buffer[: len(text)]
-        self._whole = max(self._whole - len(text), 0)
-        self._goal = self._whole + 1
+        self._at += len(text)
+        if self._at == len(self._chunk):
+            self._chunk, self._at = b"", 0
 
-    def _fail(self, text: bytes) -> Exception:
-        """Ends the stream at bytes that are not UTF-8."""
+    def _end(self) -> None:
+        """Nothing more is read."""
         self._is_finished = True
         self._buffer = bytearray()
-        self._rejected = 0
+        self._chunk, self._at = b"", 0
+
+    def _fail(self, text: bytes) -> NoReturn:
+        """Ends the stream at bytes that are not UTF-8."""
+        self._end()
         try:
             text.decode()
         except UnicodeDecodeError as error:
             lines = text.count(b"\n", 0, error.start)
-            return NotUtf8(self._bytes + error.start, self._lines + lines + 1)
-        return RuntimeError("the library found no segment")
+            raise NotUtf8(self._bytes + error.start, self._lines + lines + 1) from error
+        raise RuntimeError("the library says that UTF-8 is none")
+
+    def _check(self, outcome: Outcome) -> None:
+        """Ends the stream if the library, a newer one, returned a status that is not known."""
+        if outcome.status != DONE:
+            self._end()
+            status = _library.unknown(outcome.status)
+            raise RuntimeError(f"the library returned the status {status}")
 
     def _placed(self, refusal: Refused) -> Refused:
         """The refusal of a segment, with its place and its location in the stream."""
-        head, _, line, _ = refusal.shown.rsplit("\n", 3)
-        message = head.partition(": ")[2]
-        text = line.partition(" | ")[2]
+        message = refusal.message
+        text = refusal.shown.rsplit("\n", 2)[1].partition(" | ")[2]
         number, column = refusal.line + self._lines, refusal.column
         if refusal.offset == 0 and self._bytes:
             # The byte before is the newline of the line before.
@@ -192,6 +219,20 @@ class Reader:
         shown = f"unknown:{number}:{column}: {message}\n     |\n{number:>4} | {text}\n     | {mark}"
         offset = refusal.offset + self._bytes
         return Refused(shown, offset, number, column, refusal.input, at, refusal.at_end)
+
+
+class _Ready(Iterator[Item]):
+    """The items of a reader until more of the stream is wanted. From then on it is at its end."""
+
+    def __init__(self, reader: Reader) -> None:
+        self._reader: Reader | None = reader
+
+    def __next__(self) -> Item:
+        item = self._reader.next() if self._reader is not None else None
+        if item is None:
+            self._reader = None
+            raise StopIteration
+        return item
 
 
 def _gap(text: bytes) -> int:

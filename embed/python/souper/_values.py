@@ -1,7 +1,7 @@
 """The values that items are made of.
 
 They are immutable and hashable, with tuples for sequences. A width is in bits, from 1 to 65535, and
-None if the text has no type.
+None if the text has no type. What `help` shows of the fields is in `documented`.
 """
 
 from __future__ import annotations
@@ -9,29 +9,41 @@ from __future__ import annotations
 import enum
 from collections.abc import Callable, Iterable
 from dataclasses import dataclass, replace
-from typing import TypeAlias
+from typing import Any, TypeAlias
 
-from ._checks import check_int, check_range, check_type
+from ._checks import check_int, check_range, check_type, documented
 
 
 class Kind(enum.Enum):
-    """The kind of the items of a text. Calls also take its value: ``'lhs'`` for ``Kind.LHS``."""
+    """The kind of the items of a text. Calls also take its value: ``'lhs'`` for ``Kind.LHS``.
+
+    Its members:
+
+    LHS: left-hand sides, each ended by ``infer``.
+    RHS: right-hand sides, each ended by ``result``.
+    REP: replacements, each ended by ``cand``, or by ``infer`` and ``result``.
+    """
 
     LHS = "lhs"
-    """Left-hand sides, each ended by ``infer``."""
     RHS = "rhs"
-    """Right-hand sides, each ended by ``result``."""
     REP = "rep"
-    """Replacements, each ended by ``cand``, or by ``infer`` and ``result``."""
+
+    @classmethod
+    def _missing_(cls, value: object) -> Kind:
+        raise ValueError(f"a kind is lhs, rhs or rep, not {value!r}")
 
 
 class Op(enum.Enum):
-    """An instruction. Its value is its word: ``Op('add')`` is ``Op.ADD``."""
+    """An instruction. Its value is its word: ``Op('add')`` is ``Op.ADD``.
+
+    Its fields:
+
+    arity: the number of operands.
+    number: the number of the instruction in the code.
+    """
 
     number: int
-    """The number of the instruction in the code."""
     arity: int
-    """The number of operands."""
 
     # With the defaults, a call with a word alone has the right type.
     def __new__(cls, word: str, number: int = 0, arity: int = 0) -> Op:
@@ -40,6 +52,10 @@ class Op(enum.Enum):
         op.number = number
         op.arity = arity
         return op
+
+    @classmethod
+    def _missing_(cls, value: object) -> Op:
+        raise ValueError(f"{value!r} is no instruction")
 
     ADD = "add", 0, 2
     ADD_NSW = "addnsw", 1, 2
@@ -102,20 +118,20 @@ class Op(enum.Enum):
     FREEZE = "freeze", 58, 1
 
 
+@documented(position="The index of the assignment among the item's statements, from 0.")
 @dataclass(frozen=True, slots=True)
 class Value:
     """The value of an assignment of the item."""
 
     position: int
-    """The index of the assignment among the item's statements, from 0."""
 
 
+@documented(value="A signed number of 128 bits.", width="In bits, from 1; `None` without a type.")
 @dataclass(frozen=True, slots=True)
 class Constant:
     """A constant, ``1`` or ``1:i8``."""
 
     value: int
-    """A signed number of 128 bits."""
     width: int | None = None
 
     def __post_init__(self) -> None:
@@ -163,12 +179,12 @@ def _replacing(of: Value, by: Operand | int) -> Callable[[Operand], Operand]:
     return lambda operand: new if operand == of else operand
 
 
+@documented(bits="A character for each bit: ``0``, ``1``, or ``x`` for a bit that is not known.")
 @dataclass(frozen=True, slots=True)
 class KnownBits:
     """``(knownBits=0xx1)``: the bits that are known."""
 
     bits: str
-    """A character for each bit: ``0``, ``1``, or ``x`` for a bit that is not known."""
 
 
 @dataclass(frozen=True, slots=True)
@@ -196,14 +212,15 @@ class HasExternalUses:
     """``(hasExternalUses)``."""
 
 
+@documented(count="0 to 255.")
 @dataclass(frozen=True, slots=True)
 class SignBits:
     """``(signBits=2)``."""
 
     count: int
-    """0 to 255."""
 
 
+@documented(low="The least number.", high="The number after the greatest.")
 @dataclass(frozen=True, slots=True)
 class Range:
     """``(range=[0,10))``, without its end. Both are signed numbers of 128 bits."""
@@ -218,12 +235,12 @@ Attribute: TypeAlias = (
 """An attribute of an assignment."""
 
 
+@documented(bits="A character for each bit, ``0`` or ``1``.")
 @dataclass(frozen=True, slots=True)
 class DemandedBits:
     """``(demandedBits=0011)``: the bits that are wanted."""
 
     bits: str
-    """A character for each bit, ``0`` or ``1``."""
 
 
 @dataclass(frozen=True, slots=True)
@@ -240,14 +257,15 @@ class Var:
     """``var``: an input."""
 
 
+@documented(predecessors="The number of predecessors, 0 to 2**32 - 1.")
 @dataclass(frozen=True, slots=True)
 class Block:
     """``block 2``: a basic block."""
 
     predecessors: int
-    """The number of predecessors, 0 to 2**32 - 1."""
 
 
+@documented(block="The value of a `Block`.", values="An operand for each predecessor of the block.")
 @dataclass(frozen=True, slots=True)
 class Phi:
     """``phi %b, %x, %y``: an operand for each predecessor of the block."""
@@ -266,6 +284,7 @@ class ReservedConst:
     """``reservedconst``: a place for a constant that is not known."""
 
 
+@documented(op="The instruction.", operands="As many as ``op.arity``.")
 @dataclass(frozen=True, slots=True)
 class Instruction:
     """``add %x, 1``: an instruction and its operands."""
@@ -278,12 +297,17 @@ Rhs: TypeAlias = Var | Block | Phi | ReservedInst | ReservedConst | Instruction
 """The right side of an assignment."""
 
 
+@documented(
+    name="With its ``%``.",
+    width="In bits, from 1 to 65535; `None` without a type.",
+    value="The right side.",
+    attributes="In the order of the text.",
+)
 @dataclass(frozen=True, slots=True)
 class Assignment:
     """``%x:i8 = add %y, 1 (nonZero)``."""
 
     name: str
-    """With its ``%``."""
     width: int | None
     value: Rhs
     attributes: tuple[Attribute, ...] = ()
@@ -317,6 +341,7 @@ class Assignment:
         return self.map_operands(_replacing(of, by))
 
 
+@documented(x="An operand.", y="The operand that is equal to it.")
 @dataclass(frozen=True, slots=True)
 class Pc:
     """``pc %x 1``, a path condition: the operands are equal."""
@@ -343,13 +368,18 @@ class Pc:
         return self.map_operands(_replacing(of, by))
 
 
+@documented(
+    block="The value of a `Block`.",
+    predecessor="The index of the predecessor, from 0.",
+    x="An operand.",
+    y="The operand that is equal to it.",
+)
 @dataclass(frozen=True, slots=True)
 class BlockPc:
     """``blockpc %b 0 %x 1``: the operands are equal if the block is entered by a predecessor."""
 
     block: Value
     predecessor: int
-    """The index of the predecessor, from 0."""
     x: Operand
     y: Operand
 
@@ -376,6 +406,7 @@ Statement: TypeAlias = Assignment | Pc | BlockPc
 """A statement of an item."""
 
 
+@documented(value="The root.", attributes="In the order of the text.")
 @dataclass(frozen=True, slots=True)
 class Infer:
     """``infer %x``, the end of a left-hand side."""
@@ -384,6 +415,7 @@ class Infer:
     attributes: tuple[RootAttribute, ...] = ()
 
 
+@documented(operand="The root.")
 @dataclass(frozen=True, slots=True)
 class Result:
     """``result %x``, the end of a right-hand side."""
@@ -391,6 +423,7 @@ class Result:
     operand: Operand
 
 
+@documented(infer="The replaced value.", result="What takes its place.")
 @dataclass(frozen=True, slots=True)
 class Replace:
     """``infer %x`` and ``result %y``, the end of a replacement."""
@@ -399,6 +432,11 @@ class Replace:
     result: Operand
 
 
+@documented(
+    lhs="The replaced operand.",
+    rhs="What takes its place.",
+    attributes="In the order of the text.",
+)
 @dataclass(frozen=True, slots=True)
 class Cand:
     """``cand %x %y``, the end of a replacement: `lhs` may be replaced by `rhs`."""
@@ -432,12 +470,61 @@ def _mapped_ending(ending: Ending, f: Callable[[Operand], Operand]) -> Ending:
             return replace(ending, lhs=f(lhs), rhs=f(rhs))
 
 
+@documented(statements="In the order of the text.", ending="The last lines.")
 @dataclass(frozen=True, slots=True)
 class Item:
-    """A left-hand side, a right-hand side or a replacement."""
+    """A left-hand side, a right-hand side or a replacement.
+
+    `str` of it is the canonical text, without the newline that `write` writes after it; if it has
+    none, `NotWellFormed` or another error of `write`. Jupyter shows its graph, if ``dot`` is there.
+    """
 
     statements: tuple[Statement, ...]
     ending: Ending
+
+    def __str__(self) -> str:
+        from ._calls import write
+
+        return write(self.kind, [self])[:-1]
+
+    def __reduce__(self) -> tuple[object, ...]:
+        from ._code import encode
+        from ._packed import packed, unpacked
+
+        try:
+            encode(self.kind, [self])
+        except (TypeError, ValueError):
+            # It has parts that `packed` does not take.
+            return Item, (self.statements, self.ending)
+        return unpacked, (packed(self),)
+
+    def __copy__(self) -> Item:
+        return self
+
+    def __deepcopy__(self, memo: object) -> Item:
+        return self
+
+    def _repr_svg_(self) -> str | None:
+        """The graph in SVG, as `souper.draw.svg` makes it; `None` if that is an error."""
+        from . import draw
+
+        try:
+            return draw.svg(self)
+        except (TypeError, ValueError, draw.DotFailed):
+            return None
+
+    def to_networkx(self) -> Any:
+        """The graph of the canonical text, a ``MultiDiGraph`` of the package networkx.
+
+        A node is the position of a needed statement in printed order, and after these of a last
+        line. It has the attributes ``text``, the line; ``mark``, such as ``instruction``; and
+        ``root``, whether a last line has it as its operand. An edge leads from a statement to each
+        use of it, with the ``operand``: its number from 1, or 0 for the block of a phi or of a path
+        condition. `ImportError` without networkx, `NotWellFormed` without a canonical text.
+        """
+        from ._pictures import networkx
+
+        return networkx(self)
 
     @property
     def kind(self) -> Kind:

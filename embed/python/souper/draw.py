@@ -16,11 +16,14 @@ import shutil
 import subprocess
 import sys
 from collections.abc import Iterator
+from typing import overload
 
 from . import _programs
+from ._calls import write
+from ._checks import check_type
 from ._errors import Refused
 from ._pictures import Mark, Picture, pictures
-from ._values import Kind
+from ._values import Item, Kind
 
 __all__ = ["DotFailed", "dot", "svg"]
 
@@ -48,10 +51,15 @@ class DotFailed(OSError):
     """The program ``dot`` is not there, or failed."""
 
 
-def dot(kind: Kind | str, text: str | bytes) -> str:
-    """The graphs of the items that a text spells, in DOT.
+@overload
+def dot(kind: Item) -> str: ...
+@overload
+def dot(kind: Kind | str, text: str | bytes) -> str: ...
+def dot(kind: Item | Kind | str, text: str | bytes | None = None) -> str:
+    """The graphs of the items that a text spells, or of one item, in DOT: ``dot(item)``.
 
-    `Refused` if the text spells no list of items of the kind.
+    `Refused` if the text spells no list of items of the kind, `NotWellFormed` if the item has no
+    canonical text.
 
     >>> print(dot("lhs", "%x = var infer %x"), end="")  # doctest: +ELLIPSIS
     digraph souper {
@@ -61,7 +69,17 @@ def dot(kind: Kind | str, text: str | bytes) -> str:
       s0 -> s1;
     }
     """
-    drawn = pictures(kind, text)
+    return _dot(kind, text)
+
+
+def _dot(source: Item | Kind | str, text: str | bytes | None) -> str:
+    if isinstance(source, Item):
+        check_type("text, beside an item,", text, "None", type(None))
+        drawn = pictures(source.kind, write(source.kind, [source]))
+    elif text is None:
+        raise TypeError("a picture is of an item, or of a kind and a text")
+    else:
+        drawn = pictures(source, text)
     if len(drawn) == 1:
         body = "".join(f"  {line}\n" for line in _lines(drawn[0], ""))
     else:
@@ -69,12 +87,16 @@ def dot(kind: Kind | str, text: str | bytes) -> str:
     return f"{_HEAD}{body}}}\n"
 
 
-def svg(kind: Kind | str, text: str | bytes) -> str:
-    """The graphs of the items that a text spells, in SVG, as the program ``dot`` draws `dot`.
+@overload
+def svg(kind: Item) -> str: ...
+@overload
+def svg(kind: Kind | str, text: str | bytes) -> str: ...
+def svg(kind: Item | Kind | str, text: str | bytes | None = None) -> str:
+    """The graphs that `dot` takes, in SVG, as the program ``dot`` draws them.
 
-    `Refused` if the text spells no list of items of the kind, `DotFailed` if ``dot`` does not draw.
+    The errors of `dot`, and `DotFailed` if the program ``dot`` does not draw.
     """
-    return _drawn(dot(kind, text))
+    return _drawn(_dot(kind, text))
 
 
 def _drawn(graph: str) -> str:

@@ -93,12 +93,11 @@ def _box(box: Box) -> Json:
 
 def _error(refusal: Refused, text: str) -> Json:
     """A parse error. Positions in the text are in the units of the page's script, UTF-16."""
-    head = refusal.shown.rsplit("\n", 3)[0]
     at = refusal.location or Location(refusal.offset, refusal.line, refusal.column)
     *_, line = text.split("\n", at.line)[: at.line]
     before = text.encode()[: at.offset].decode(errors="ignore")
     return {
-        "message": head.removeprefix(f"unknown:{refusal.line}:{refusal.column}: "),
+        "message": refusal.message,
         "line": at.line,
         "column": at.column,
         "source": line.removesuffix("\r"),

@@ -70,6 +70,18 @@ impl Refusal {
         &self.shown
     }
 
+    /// The message alone: the first line of [`Refusal::shown`] without the place.
+    ///
+    /// ```
+    /// use souper_ir::canonical::{format, Error, Kind};
+    ///
+    /// let Err(Error::Refused(refusal)) = format(Kind::Lhs, "infer %y") else { panic!("%y is unknown") };
+    /// assert_eq!(refusal.message(), "no value named '%y' in scope");
+    /// ```
+    pub fn message(&self) -> &str {
+        self.parts().map_or(&self.shown, |(message, _)| message)
+    }
+
     /// How many bytes were read.
     pub fn offset(&self) -> usize {
         self.offset
@@ -109,24 +121,27 @@ impl Refusal {
         self.input
     }
 
+    // The message, and the line of the text, of the four lines.
+    fn parts(&self) -> Option<(&str, &str)> {
+        // From the end: the caret, the line, the bar, and the message, which begins with the place.
+        let mut lines = self.shown.rsplitn(4, '\n');
+        let (_, text) = lines.by_ref().nth(1)?.split_once(" | ")?;
+        let (_, message) = lines.nth(1)?.split_once(": ")?;
+        Some((message, text))
+    }
+
     // Gives the refusal of a segment its place and its location in the stream.
     pub(crate) fn place(&mut self, before: &Before) {
         let last_line = String::from_utf8_lossy(&before.last_line);
-        // From the end: the caret, the line, the bar, and the message, which begins with the place.
-        let mut lines = self.shown.rsplitn(4, '\n');
-        let line = lines
-            .by_ref()
-            .nth(1)
-            .and_then(|line| line.split_once(" | "));
-        let message = lines.nth(1).and_then(|message| message.split_once(": "));
-        let (Some((_, mut text)), Some((_, message))) = (line, message) else {
+        let Some((message, text)) = self.parts() else {
             unreachable!("a refusal has four lines")
         };
+        let (message, mut text) = (message.to_string(), text.to_string());
         if self.offset == 0 && before.bytes > 0 {
             // The byte before is the newline of the line before.
             (self.line, self.column) = (before.lines, before.last_line.len());
             let whole = last_line.strip_suffix('\n').unwrap_or(&last_line);
-            text = whole.strip_suffix('\r').unwrap_or(whole);
+            text = whole.strip_suffix('\r').unwrap_or(whole).to_string();
         } else {
             self.line += before.lines;
         }
@@ -162,11 +177,29 @@ impl std::error::Error for Refusal {}
 
 /// Why a call gives no answer.
 #[derive(Clone, Debug, PartialEq, Eq)]
+#[non_exhaustive]
 pub enum Error {
     /// A text spells no list of items of the kind.
     Refused(Refusal),
     /// Memory ran out.
     OutOfMemory,
+    /// The library, a newer one, returned a status that this crate does not know.
+    UnknownStatus(u32),
+}
+
+impl Error {
+    // Why a call with that status has no answer, where no text is refused.
+    pub(crate) fn of_status(status: u32) -> Self {
+        match status {
+            raw::OUT_OF_MEMORY => Error::OutOfMemory,
+            _ => Error::UnknownStatus(status),
+        }
+    }
+}
+
+// What each type of error says of such a status.
+pub(crate) fn show_status(status: u32, f: &mut fmt::Formatter<'_>) -> fmt::Result {
+    write!(f, "the library returned the status unknown({status})")
 }
 
 impl fmt::Display for Error {
@@ -174,11 +207,26 @@ impl fmt::Display for Error {
         match self {
             Error::Refused(refusal) => refusal.fmt(f),
             Error::OutOfMemory => f.write_str("out of memory"),
+            Error::UnknownStatus(status) => show_status(*status, f),
         }
     }
 }
 
-impl std::error::Error for Error {}
+/// The source is the [`Refusal`].
+impl std::error::Error for Error {
+    fn source(&self) -> Option<&(dyn std::error::Error + 'static)> {
+        match self {
+            Error::Refused(refusal) => Some(refusal),
+            Error::OutOfMemory | Error::UnknownStatus(_) => None,
+        }
+    }
+}
+
+impl From<Refusal> for Error {
+    fn from(refusal: Refusal) -> Self {
+        Error::Refused(refusal)
+    }
+}
 
 /// The canonical text of each item that the text spells, a newline after each.
 ///
@@ -258,7 +306,7 @@ pub fn find(store: &str, queries: &str) -> Result<Vec<Vec<String>>, Error> {
         (raw::DONE, _) => Ok(groups(&string(out))),
         (raw::REFUSED, 0) => Err(refused(Kind::Rep, store, &outcome, string(out))),
         (raw::REFUSED, _) => Err(refused(Kind::Lhs, queries, &outcome, string(out))),
-        _ => Err(Error::OutOfMemory),
+        (status, _) => Err(Error::of_status(status)),
     }
 }
 
@@ -285,7 +333,7 @@ pub(crate) fn written(
     match outcome.status {
         raw::DONE => Ok(out),
         raw::REFUSED => Err(refused(kind, text, &outcome, string(out))),
-        _ => Err(Error::OutOfMemory),
+        status => Err(Error::of_status(status)),
     }
 }
 
@@ -299,10 +347,10 @@ fn answer(kind: Kind, outcome: &Outcome, text: &str) -> Result<bool, Error> {
             let input = text.as_bytes();
             match raw::call(Call::Format, kind, input, outcome.length, &mut shown).status {
                 raw::REFUSED => Err(refused(kind, text, outcome, string(shown))),
-                _ => Err(Error::OutOfMemory),
+                status => Err(Error::of_status(status)),
             }
         }
-        _ => Err(Error::OutOfMemory),
+        status => Err(Error::of_status(status)),
     }
 }
 

@@ -16,6 +16,7 @@
 //! ```
 mod decoder;
 mod encoder;
+mod errors;
 mod flaw;
 
 use crate::ast::{Arena, LeftHandSide, Operand, Replacement, RightHandSide, Statement, ValueId};
@@ -23,8 +24,8 @@ use crate::canonical::{self, Kind};
 use crate::raw::{self, Call};
 use decoder::{Decode, Decoder};
 use encoder::Encode;
+pub use errors::{Error, NoCode};
 pub use flaw::{Flaw, FlawLocation, FlawReason};
-use std::fmt;
 
 /// A type of item: [`LeftHandSide`], [`RightHandSide`] or [`Replacement`].
 pub trait Item: Decode + Encode {
@@ -78,7 +79,7 @@ pub trait Item: Decode + Encode {
     ///
     /// ```
     /// use souper_ir::ast::LeftHandSide;
-    /// use souper_ir::code::{Error, Item};
+    /// use souper_ir::code::Item;
     /// use souper_ir::parse::parse_left_hand_sides_str;
     /// use std::io::Write;
     ///
@@ -91,14 +92,14 @@ pub trait Item: Decode + Encode {
     /// print(&item, &mut out)?;
     /// assert_eq!(out, b"%x = var\ninfer %x\n");
     /// item.statements = Default::default();
-    /// assert_eq!(item.to_text(), Err(Error::NotWellFormed { index: 0 }));
-    /// assert!(print(&item, &mut out).is_err());
+    /// let error = print(&item, &mut out).unwrap_err();
+    /// assert_eq!(error.to_string(), "item 0 is not well formed: infer line: an operand is no assignment");
     /// # Ok::<(), Box<dyn std::error::Error>>(())
     /// ```
     ///
     /// # Errors
     ///
-    /// [`Error::NotWellFormed`], of which [`Item::flaw`] says why, or [`Error::OutOfMemory`].
+    /// [`Error::NotWellFormed`], with the flaw, or [`Error::OutOfMemory`].
     fn to_text(&self) -> Result<String, Error> {
         let mut code = Vec::new();
         self.encode(&mut code);
@@ -129,12 +130,7 @@ pub trait Item: Decode + Encode {
     fn flaw(&self) -> Result<Option<Flaw>, Error> {
         let mut code = Vec::new();
         self.encode(&mut code);
-        let found = raw::flaw(Self::KIND, &code);
-        match found.status {
-            raw::DONE => Ok(None),
-            raw::NOT_WELL_FORMED => Ok(Flaw::new(found, self.statements())),
-            _ => Err(Error::OutOfMemory),
-        }
+        Ok(Flaw::of_code(Self::KIND, &code)?)
     }
 }
 
@@ -188,53 +184,6 @@ impl Item for Replacement {
     }
 }
 
-/// The bytes are the code of no list of such items.
-#[derive(Clone, Copy, Debug, PartialEq, Eq)]
-pub struct NoCode {
-    offset: usize,
-}
-
-impl NoCode {
-    /// Where the first item begins that is none, in bytes.
-    pub fn offset(&self) -> usize {
-        self.offset
-    }
-}
-
-impl fmt::Display for NoCode {
-    fn fmt(&self, f: &mut fmt::Formatter<'_>) -> fmt::Result {
-        write!(f, "no item begins at byte {} of the code", self.offset)
-    }
-}
-
-impl std::error::Error for NoCode {}
-
-/// Why a code gives no text.
-#[derive(Clone, Copy, Debug, PartialEq, Eq)]
-pub enum Error {
-    /// It is the code of no list of items of the kind.
-    NoCode(NoCode),
-    /// An item is not [well formed](crate::ast). [`Item::flaw`] says where it is not, and why.
-    NotWellFormed {
-        /// The index of the item, from 0.
-        index: usize,
-    },
-    /// Memory ran out.
-    OutOfMemory,
-}
-
-impl fmt::Display for Error {
-    fn fmt(&self, f: &mut fmt::Formatter<'_>) -> fmt::Result {
-        match self {
-            Error::NoCode(error) => error.fmt(f),
-            Error::NotWellFormed { index } => write!(f, "item {index} is not well formed"),
-            Error::OutOfMemory => f.write_str("out of memory"),
-        }
-    }
-}
-
-impl std::error::Error for Error {}
-
 /// The code of the items that the text spells, with all their statements.
 ///
 /// # Errors
@@ -249,7 +198,7 @@ pub fn read(kind: Kind, text: &str) -> Result<Vec<u8>, canonical::Error> {
 ///
 /// # Errors
 ///
-/// If the bytes are no code of items of the kind, if an item is not well formed, or if memory runs out.
+/// If the bytes are no code of items of the kind, if an item is not well formed, with its first flaw, or if memory runs out.
 pub fn write(kind: Kind, code: &[u8]) -> Result<String, Error> {
     let mut text = Vec::new();
     write_to(kind, code, &mut text)?;
@@ -261,13 +210,15 @@ pub(crate) fn write_to(kind: Kind, code: &[u8], text: &mut Vec<u8>) -> Result<()
     let outcome = raw::call(Call::Write, kind, code, code.len() + 64, text);
     match outcome.status {
         raw::DONE => Ok(()),
-        raw::NO_CODE => Err(Error::NoCode(NoCode {
-            offset: outcome.offset,
-        })),
-        raw::NOT_WELL_FORMED => Err(Error::NotWellFormed {
-            index: outcome.length,
-        }),
-        _ => Err(Error::OutOfMemory),
+        raw::NO_CODE => Err(NoCode::new(outcome.offset).into()),
+        raw::NOT_WELL_FORMED => {
+            let item = code.get(outcome.offset..).unwrap_or_default();
+            Err(Error::NotWellFormed {
+                index: outcome.length,
+                flaw: Flaw::of_code(kind, item)?,
+            })
+        }
+        status => Err(canonical::Error::of_status(status).into()),
     }
 }
 
@@ -284,7 +235,7 @@ pub fn decode<T: Item>(code: &[u8]) -> Result<Vec<T>, NoCode> {
     let mut items = Vec::new();
     while !decoder.is_at_end() {
         let offset = decoder.offset();
-        items.push(T::decode(&mut decoder).ok_or(NoCode { offset })?);
+        items.push(T::decode(&mut decoder).ok_or(NoCode::new(offset))?);
     }
     Ok(items)
 }

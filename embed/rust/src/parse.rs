@@ -34,8 +34,9 @@
 //! ```
 use crate::ast::{LeftHandSide, Replacement, RightHandSide};
 use crate::canonical::{self, Location, Refusal};
-use crate::code::{self, Item};
+use crate::code::{self, Item, NoCode};
 use std::path::{Path, PathBuf};
+use std::str::FromStr;
 use std::{fmt, io};
 
 /// Why a text or a file gives no items.
@@ -49,9 +50,12 @@ pub struct ParseError {
 enum Reason {
     Refused(Refusal, Option<PathBuf>),
     Io(io::Error),
-    OutOfMemory,
-    // The library wrote a damaged code. No item begins at that byte.
-    NoCode(usize),
+    // The library has no answer, for another reason.
+    Failed(canonical::Error),
+    // The library wrote a code that is damaged, or of a newer form.
+    NoCode(NoCode),
+    // One item is wanted, and the text spells so many.
+    Count(usize),
 }
 
 impl ParseError {
@@ -85,8 +89,9 @@ impl fmt::Display for ParseError {
             }
             Reason::Refused(refusal, None) => f.write_str(refusal.shown()),
             Reason::Io(error) => write!(f, "IO error: {error}"),
-            Reason::OutOfMemory => f.write_str("out of memory"),
-            Reason::NoCode(offset) => write!(f, "no item begins at byte {offset} of the code"),
+            Reason::Failed(error) => error.fmt(f),
+            Reason::NoCode(error) => error.fmt(f),
+            Reason::Count(count) => write!(f, "the text spells {count} items, not one"),
         }
     }
 }
@@ -97,11 +102,42 @@ impl fmt::Debug for ParseError {
     }
 }
 
-impl std::error::Error for ParseError {}
+/// The source is the [`Refusal`], the `io::Error` or the [`NoCode`].
+impl std::error::Error for ParseError {
+    fn source(&self) -> Option<&(dyn std::error::Error + 'static)> {
+        match &*self.reason {
+            Reason::Refused(refusal, _) => Some(refusal),
+            Reason::Io(error) => Some(error),
+            Reason::NoCode(error) => Some(error),
+            Reason::Failed(_) | Reason::Count(_) => None,
+        }
+    }
+}
 
 impl From<io::Error> for ParseError {
     fn from(error: io::Error) -> Self {
         Reason::Io(error).into()
+    }
+}
+
+impl From<Refusal> for ParseError {
+    fn from(refusal: Refusal) -> Self {
+        Reason::Refused(refusal, None).into()
+    }
+}
+
+impl From<canonical::Error> for ParseError {
+    fn from(error: canonical::Error) -> Self {
+        match error {
+            canonical::Error::Refused(refusal) => refusal.into(),
+            error => Reason::Failed(error).into(),
+        }
+    }
+}
+
+impl From<NoCode> for ParseError {
+    fn from(error: NoCode) -> Self {
+        Reason::NoCode(error).into()
     }
 }
 
@@ -179,9 +215,38 @@ pub fn parse_right_hand_sides_file(path: &Path) -> Result<Vec<RightHandSide>> {
 fn items<T: Item>(source: &str, filename: Option<&Path>) -> Result<Vec<T>> {
     let code = code::read(T::KIND, source).map_err(|error| match error {
         canonical::Error::Refused(refusal) => {
-            Reason::Refused(refusal, filename.map(Path::to_path_buf))
+            Reason::Refused(refusal, filename.map(Path::to_path_buf)).into()
         }
-        canonical::Error::OutOfMemory => Reason::OutOfMemory,
+        error => ParseError::from(error),
     })?;
-    code::decode(&code).map_err(|error| Reason::NoCode(error.offset()).into())
+    Ok(code::decode(&code)?)
 }
+
+fn one<T: Item>(text: &str) -> Result<T> {
+    let mut items = items(text, None)?;
+    match (items.pop(), items.len()) {
+        (Some(item), 0) => Ok(item),
+        (last, others) => Err(Reason::Count(others + usize::from(last.is_some())).into()),
+    }
+}
+
+macro_rules! from_str {
+    ($item:ident) => {
+        /// The one item that the text spells.
+        ///
+        /// # Errors
+        ///
+        /// As for the functions of [`parse`](crate::parse), and if the text spells another number of items.
+        impl FromStr for $item {
+            type Err = ParseError;
+
+            fn from_str(text: &str) -> Result<Self> {
+                one(text)
+            }
+        }
+    };
+}
+
+from_str!(LeftHandSide);
+from_str!(RightHandSide);
+from_str!(Replacement);

@@ -8,6 +8,7 @@ mod heap;
 pub(crate) const DONE: u32 = 0;
 pub(crate) const REFUSED: u32 = 1;
 pub(crate) const OUT_OF_MEMORY: u32 = 3;
+pub(crate) const NOT_UTF8: u32 = 4;
 pub(crate) const SHORT: u32 = 5;
 pub(crate) const DIFFERENT: u32 = 6;
 pub(crate) const NO_CODE: u32 = 7;

@@ -22,13 +22,14 @@
 //! *segment*. An invalid segment is an [`Error::Refused`], which gives no items, and reading resumes after it. In memory are the bytes
 //! since the last cut, which is an unfinished segment, the part that came last, and the items of the segments that were cut last.
 use crate::canonical::{Before, Refusal};
-use crate::code::{self, Item};
+use crate::code::{self, Item, NoCode};
 use crate::{canonical, raw};
 use std::io::{self, BufRead};
 use std::{fmt, str, vec};
 
-/// Why a stream gives no item at a place.
+/// Why a stream gives no item at a place, or takes no more bytes.
 #[derive(Debug)]
+#[non_exhaustive]
 pub enum Error {
     /// A segment spells no list of items. Its place and its location are those in the stream. The next call reads on after it.
     Refused(Refusal),
@@ -43,6 +44,12 @@ pub enum Error {
     Io(io::Error),
     /// Memory ran out. The stream cannot be read on.
     OutOfMemory,
+    /// Bytes were pushed to a [`Reader`] after [`finish`](Reader::finish), or where the stream cannot be read on.
+    Ended,
+    /// The library, a newer one, returned a status that this crate does not know. The stream cannot be read on.
+    UnknownStatus(u32),
+    /// The library, a newer one, wrote a code that this crate does not know. The stream cannot be read on.
+    NoCode(NoCode),
 }
 
 impl fmt::Display for Error {
@@ -52,11 +59,54 @@ impl fmt::Display for Error {
             Error::NotUtf8 { offset, line } => write!(f, "line {line}: not UTF-8 at byte {offset}"),
             Error::Io(error) => write!(f, "IO error: {error}"),
             Error::OutOfMemory => f.write_str("out of memory"),
+            Error::Ended => f.write_str("the stream has ended"),
+            Error::UnknownStatus(status) => canonical::show_status(*status, f),
+            Error::NoCode(error) => error.fmt(f),
         }
     }
 }
 
-impl std::error::Error for Error {}
+/// The source is the [`Refusal`], the `io::Error` or the [`NoCode`].
+impl std::error::Error for Error {
+    fn source(&self) -> Option<&(dyn std::error::Error + 'static)> {
+        match self {
+            Error::Refused(refusal) => Some(refusal),
+            Error::Io(error) => Some(error),
+            Error::NoCode(error) => Some(error),
+            Error::NotUtf8 { .. } | Error::OutOfMemory | Error::Ended | Error::UnknownStatus(_) => {
+                None
+            }
+        }
+    }
+}
+
+impl From<Refusal> for Error {
+    fn from(refusal: Refusal) -> Self {
+        Error::Refused(refusal)
+    }
+}
+
+impl From<io::Error> for Error {
+    fn from(error: io::Error) -> Self {
+        Error::Io(error)
+    }
+}
+
+impl From<NoCode> for Error {
+    fn from(error: NoCode) -> Self {
+        Error::NoCode(error)
+    }
+}
+
+impl From<canonical::Error> for Error {
+    fn from(error: canonical::Error) -> Self {
+        match error {
+            canonical::Error::Refused(refusal) => Error::Refused(refusal),
+            canonical::Error::OutOfMemory => Error::OutOfMemory,
+            canonical::Error::UnknownStatus(status) => Error::UnknownStatus(status),
+        }
+    }
+}
 
 /// The items of the stream that `source` gives.
 pub fn items<T: Item, R: BufRead>(source: R) -> Items<T, R> {
@@ -91,7 +141,7 @@ impl<T: Item, R: BufRead> Iterator for Items<T, R> {
             }
             let len = match self.source.fill_buf() {
                 Ok(part) => {
-                    self.reader.push(part);
+                    self.reader.append(part);
                     part.len()
                 }
                 Err(error) if error.kind() == io::ErrorKind::Interrupted => continue,
@@ -120,13 +170,14 @@ const STEP: usize = 65536;
 /// use souper_ir::stream::Reader;
 ///
 /// let mut reader = Reader::<RightHandSide>::new();
-/// reader.push(b"result 1\nres");
+/// reader.push(b"result 1\nres")?;
 /// assert!(reader.next().is_none());
-/// reader.push(b"ult 2\n");
+/// reader.push(b"ult 2\n")?;
 /// assert!(reader.next().is_some_and(|item| item.is_ok()));
 /// assert!(reader.next().is_none());
 /// reader.finish();
 /// assert!(reader.next().is_some_and(|item| item.is_ok()));
+/// # Ok::<(), souper_ir::stream::Error>(())
 /// ```
 pub struct Reader<T> {
     by_segments: bool,
@@ -188,12 +239,20 @@ impl<T> Reader<T> {
         }
     }
 
-    /// The next bytes of the stream, cut anywhere. After [`finish`](Reader::finish), and where the stream cannot be read on, they are
-    /// not taken.
-    pub fn push(&mut self, part: &[u8]) {
+    /// Takes the next bytes of the stream, cut anywhere.
+    ///
+    /// # Errors
+    ///
+    /// [`Error::Ended`] after [`finish`](Reader::finish), and where the stream cannot be read on.
+    pub fn push(&mut self, part: &[u8]) -> Result<(), Error> {
         if self.ended {
-            return;
+            return Err(Error::Ended);
         }
+        self.append(part);
+        Ok(())
+    }
+
+    fn append(&mut self, part: &[u8]) {
         if self.start > 0 && self.start >= self.buffer.len() - self.start {
             self.buffer.drain(..self.start);
             self.start = 0;
@@ -252,28 +311,29 @@ impl<T: Item> Iterator for Reader<T> {
 
 impl<T: Item> Reader<T> {
     // The length of the next chunk, which is cut at its end; 0 if there is none yet.
-    fn next_chunk(&mut self) -> usize {
+    fn next_chunk(&mut self) -> Result<usize, Error> {
         let unread = &self.buffer[self.start..];
         if self.ended {
-            return unread.len();
+            return Ok(unread.len());
         }
         if self.whole < self.goal {
-            return 0;
+            return Ok(0);
         }
         let cut = raw::last_cut(T::KIND, &unread[..self.whole]);
         let more = if self.whole > STEP { self.whole / 8 } else { 0 };
         match cut.status {
             raw::DONE if cut.length == 0 => self.goal = self.whole + 1 + more,
-            raw::DONE => return cut.length,
-            _ => return self.whole,
+            raw::DONE => return Ok(cut.length),
+            raw::NOT_UTF8 => return Ok(self.whole),
+            status => return Err(canonical::Error::of_status(status).into()),
         }
-        0
+        Ok(0)
     }
 
     // Reads the next part, if there is one.
     fn read_part(&mut self) -> Result<bool, Error> {
         if self.rejected == 0 {
-            let len = self.next_chunk();
+            let len = self.next_chunk()?;
             if len == 0 {
                 return Ok(false);
             }
@@ -288,8 +348,10 @@ impl<T: Item> Reader<T> {
         }
         let rest = &self.buffer[self.start..][..self.rejected];
         let segment = raw::first_segment(T::KIND, rest);
-        if segment.status != raw::DONE {
-            return Err(self.not_utf8(rest));
+        match segment.status {
+            raw::DONE => {}
+            raw::NOT_UTF8 => return Err(self.not_utf8(rest)),
+            status => return Err(canonical::Error::of_status(status).into()),
         }
         let left = self.rejected - segment.length;
         let read = self.read_text(segment.length);
@@ -308,11 +370,8 @@ impl<T: Item> Reader<T> {
     fn read_text(&mut self, len: usize) -> Result<(), Error> {
         let bytes = &self.buffer[self.start..][..len];
         let text = str::from_utf8(bytes).map_err(|_| self.not_utf8(bytes))?;
-        let code = code::read(T::KIND, text).map_err(|error| match error {
-            canonical::Error::Refused(refusal) => Error::Refused(refusal),
-            canonical::Error::OutOfMemory => Error::OutOfMemory,
-        })?;
-        let items = code::decode(&code).expect("the library writes codes");
+        let code = code::read(T::KIND, text)?;
+        let items = code::decode(&code)?;
         self.pass(len, items);
         Ok(())
     }

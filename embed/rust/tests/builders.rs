@@ -172,6 +172,12 @@ fn the_first_flaw_is_told() {
     assert_eq!(flaw.name.as_deref(), Some("%x"));
     let shown = "statement 2 (%x): an assignment before it has the same name";
     assert_eq!(flaw.to_string(), shown);
+    let error = lhs.clone().finish(again, []).to_text().unwrap_err();
+    assert_eq!(
+        error.to_string(),
+        format!("item 0 is not well formed: {shown}")
+    );
+    assert!(matches!(&error, code::Error::NotWellFormed { flaw: Some(it), .. } if *it == flaw));
     assert_eq!(lhs.finish(x, []).flaw(), Ok(None));
 }
 
@@ -187,10 +193,10 @@ fn an_id_of_another_builder_is_not_printed() {
     let needed = one.clone().finish(z, []);
     is_not_printed(&needed);
     let code = code::encode(&[needed]);
-    assert_eq!(
+    assert!(matches!(
         code::write(souper_ir::canonical::Kind::Lhs, &code),
-        Err(code::Error::NotWellFormed { index: 0 })
-    );
+        Err(code::Error::NotWellFormed { index: 0, .. })
+    ));
     is_not_printed(&one.clone().finish(y, []));
     assert_eq!(one.finish(x, []).to_string(), "%x = var\ninfer %x\n");
 }
@@ -241,9 +247,17 @@ fn constants_by_their_bits() {
 }
 
 #[test]
-#[should_panic(expected = "a name begins with %")]
+#[should_panic(expected = "statement 1 (y): a name begins with %")]
 fn a_name_without_a_percent_sign_panics() {
-    var(&mut LeftHandSideBuilder::default(), "x");
+    let mut lhs = LeftHandSideBuilder::default();
+    var(&mut lhs, "%x");
+    var(&mut lhs, "y");
+}
+
+#[test]
+#[should_panic(expected = "a width 129 is not in 1 to 128")]
+fn bits_of_a_greater_width_panic() {
+    Constant::from_bits(0, Type { width: 129 });
 }
 
 #[test]

@@ -1,10 +1,14 @@
 //! Errors of the functions of `parse`, and where texts are at fault.
-use souper_ir::canonical::{check, format, key, same, Error, Kind, Location, Record};
-use souper_ir::code;
+mod common;
+
+use common::records;
+use souper_ir::ast::LeftHandSide;
+use souper_ir::canonical::{check, format, key, same, Error, Kind, Location, Record, Refusal};
 use souper_ir::parse::{
     parse_left_hand_sides_file, parse_left_hand_sides_str, parse_replacements_file,
     parse_replacements_str, parse_right_hand_sides_file, parse_right_hand_sides_str, ParseError,
 };
+use souper_ir::{code, stream};
 use std::path::{Path, PathBuf};
 
 // A file of these bytes, which is removed after the test.
@@ -157,10 +161,80 @@ fn a_file_that_is_not_utf8_is_an_io_error() {
 }
 
 #[test]
+fn the_message_is_the_first_line_without_the_place() {
+    for record in records().iter().filter(|record| record.is_refused) {
+        let Err(Error::Refused(refusal)) = format(record.kind, &record.text) else {
+            panic!("it is refused")
+        };
+        let place = format!("unknown:{}:{}: ", refusal.line(), refusal.column());
+        let first = record.answer.rsplitn(4, '\n').last().unwrap();
+        assert_eq!(format!("{place}{}", refusal.message()), first);
+    }
+}
+
+// The error has this source.
+fn has_source<T>(error: &dyn std::error::Error) -> &T
+where
+    T: std::error::Error + 'static,
+{
+    let source = error.source().expect("it has a source");
+    source.downcast_ref().expect("it is of that type")
+}
+
+#[test]
+fn errors_have_their_sources() {
+    let error = parse_replacements_file(Path::new("/no/such/file")).unwrap_err();
+    let source: &std::io::Error = has_source(&error);
+    assert_eq!(source.kind(), std::io::ErrorKind::NotFound);
+    let error = parse_error(Kind::Lhs, "infer %x");
+    assert_eq!(has_source::<Refusal>(&error), error.refusal().unwrap());
+    let error = format(Kind::Lhs, "infer %x").unwrap_err();
+    assert_eq!(has_source::<Refusal>(&error).column(), 6);
+    let no_code = code::decode::<LeftHandSide>(&[0]).unwrap_err();
+    let error = code::write(Kind::Lhs, &[0]).unwrap_err();
+    assert_eq!(has_source::<code::NoCode>(&error), &no_code);
+    assert!(std::error::Error::source(&Error::OutOfMemory).is_none());
+}
+
+#[test]
+fn errors_become_each_other() {
+    let refused = || format(Kind::Lhs, "infer %x").unwrap_err();
+    let shown = refused().to_string();
+    let Error::Refused(refusal) = refused() else {
+        panic!("it is refused")
+    };
+    assert_eq!(Error::from(refusal.clone()), refused());
+    let parse = ParseError::from(refused());
+    assert_eq!(
+        (parse.refusal(), parse.to_string()),
+        (Some(&refusal), shown.clone())
+    );
+    assert_eq!(ParseError::from(refusal.clone()).refusal(), Some(&refusal));
+    assert_eq!(stream::Error::from(refused()).to_string(), shown);
+    assert!(
+        matches!(stream::Error::from(refusal.clone()), stream::Error::Refused(it) if it == refusal)
+    );
+    assert_eq!(code::Error::from(refused()), code::Error::Refused(refusal));
+    let no_code = code::decode::<LeftHandSide>(&[0]).unwrap_err();
+    assert_eq!(code::Error::from(no_code), code::Error::NoCode(no_code));
+    assert_eq!(ParseError::from(no_code).to_string(), no_code.to_string());
+    let io = || std::io::Error::other("no more");
+    assert_eq!(
+        stream::Error::from(io()).to_string(),
+        ParseError::from(io()).to_string()
+    );
+    let memory = ParseError::from(Error::OutOfMemory);
+    assert_eq!(memory.to_string(), "out of memory");
+    assert!(memory.refusal().is_none());
+}
+
+#[test]
 fn errors_cross_threads() {
     fn crosses<T: std::error::Error + Send + Sync + 'static>() {}
     crosses::<ParseError>();
-    crosses::<souper_ir::canonical::Error>();
-    crosses::<souper_ir::code::Error>();
-    crosses::<souper_ir::code::NoCode>();
+    crosses::<Error>();
+    crosses::<code::Error>();
+    crosses::<code::NoCode>();
+    crosses::<code::Flaw>();
+    crosses::<stream::Error>();
 }

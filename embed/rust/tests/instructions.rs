@@ -1,5 +1,5 @@
 //! Each instruction by its word: the variant, the order of its operands, and the text.
-use souper_ir::ast::{AssignmentRhs, Statement};
+use souper_ir::ast::{AssignmentRhs, Operand, Statement};
 use souper_ir::parse::parse_left_hand_sides_str;
 
 const WORDS: [&str; 4] = [
@@ -35,6 +35,15 @@ fn is_its_variant(word: &str, operands: usize) {
     assert_eq!(variant.to_lowercase(), word.replace('.', ""));
     let expected = format!(" {{ {} }}", fields.join(", "));
     assert_eq!(rest, if operands == 0 { "" } else { &expected });
+    assert_eq!(instruction.word(), word);
+    let values: Vec<_> = instruction
+        .operands()
+        .map(|operand| match operand {
+            Operand::Constant(constant) => constant.value,
+            Operand::Value(_) => panic!("it is a constant"),
+        })
+        .collect();
+    assert_eq!(values, &[1, 2, 3][..operands]);
 }
 
 #[test]

@@ -34,16 +34,23 @@ fn event<T: Item>(next: Result<T, Error>) -> Event {
     }
 }
 
+// Pushes to a reader that may be at the end, after bytes that are not UTF-8.
+fn push<T>(reader: &mut Reader<T>, part: &[u8]) {
+    if let Err(error) = reader.push(part) {
+        assert!(matches!(error, Error::Ended));
+    }
+}
+
 // What comes of a text that is cut before each of these bytes.
 fn in_parts<T: Item>(mut reader: Reader<T>, text: &[u8], cuts: &[usize]) -> Vec<Event> {
     let mut found = Vec::new();
     let mut at = 0;
     for cut in cuts {
-        reader.push(&text[at..*cut]);
+        push(&mut reader, &text[at..*cut]);
         at = *cut;
         found.extend(reader.by_ref().map(event));
     }
-    reader.push(&text[at..]);
+    push(&mut reader, &text[at..]);
     reader.finish();
     found.extend(reader.map(event));
     found
@@ -223,7 +230,9 @@ fn refusals_are_those_of_the_whole_text() {
 #[test]
 fn reading_on() {
     let mut reader = Reader::<RightHandSide>::by_segments();
-    reader.push(b"; first\nresult 1\nresult\nresult 2\nres");
+    reader
+        .push(b"; first\nresult 1\nresult\nresult 2\nres")
+        .unwrap();
     assert!(matches!(reader.next(), Some(Ok(_))));
     assert_eq!((reader.offset(), reader.line()), (8, 2));
     let Some(Err(Error::Refused(refusal))) = reader.next() else {
@@ -235,14 +244,21 @@ fn reading_on() {
     );
     assert!(refusal.is_at_end() && (reader.offset(), reader.line()) == (17, 3));
     assert!(reader.next().is_none());
-    reader.push(b"ult 3\n");
+    reader.push(b"ult 3\n").unwrap();
     assert!(matches!(reader.next(), Some(Ok(_))));
     assert!(reader.next().is_none());
     reader.finish();
     assert!(matches!(reader.next(), Some(Ok(_))));
     assert_eq!((reader.offset(), reader.line()), (33, 5));
-    reader.push(b"result 4");
+    has_ended(&mut reader);
     assert!(reader.next().is_none());
+}
+
+// What is pushed is an error.
+fn has_ended<T>(reader: &mut Reader<T>) {
+    let error = reader.push(b"result 4").unwrap_err();
+    assert!(matches!(error, Error::Ended));
+    assert_eq!(error.to_string(), "the stream has ended");
 }
 
 #[test]
@@ -255,6 +271,10 @@ fn bytes_that_are_not_utf8() {
             [Event::Item("result 1".into()), Event::NotUtf8(23, 3)]
         );
     }
+    let mut reader = Reader::<RightHandSide>::new();
+    reader.push(text).unwrap();
+    assert_eq!(reader.by_ref().count(), 2);
+    has_ended(&mut reader);
     let mut found = items::<RightHandSide, _>(&text[..]);
     assert_eq!(found.by_ref().count(), 2);
     assert!(found.next().is_none());
@@ -287,5 +307,7 @@ fn a_read_that_fails() {
         panic!("a read failed")
     };
     assert_eq!(error.to_string(), "IO error: no more");
+    let source = std::error::Error::source(&error).and_then(|it| it.downcast_ref::<io::Error>());
+    assert_eq!(source.map(io::Error::kind), Some(io::ErrorKind::Other));
     assert!(found.next().is_none() && found.next().is_none());
 }

@@ -2,14 +2,21 @@
 mod common;
 
 use common::{records, Record};
-use souper_ir::ast::{LeftHandSide, Replacement, RightHandSide};
+use souper_ir::ast::{
+    Constant, Instruction, LeftHandSide, LeftHandSideBuilder, Operand, Replacement, RightHandSide,
+    Statement, Type, ValueId,
+};
 use souper_ir::canonical::{format, Kind};
 use souper_ir::code::{self, Item};
 use souper_ir::parse::{
-    parse_left_hand_sides_str, parse_replacements_str, parse_right_hand_sides_str, Result,
+    parse_left_hand_sides_str, parse_replacements_str, parse_right_hand_sides_str, ParseError,
+    Result,
 };
-use std::fmt::Display;
+use std::collections::HashSet;
+use std::fmt::{Debug, Display};
+use std::hash::{DefaultHasher, Hash, Hasher};
 use std::path::Path;
+use std::str::FromStr;
 
 fn printed<T: Display>(items: Result<Vec<T>>) -> std::result::Result<String, String> {
     let print = |items: Vec<T>| items.iter().map(|item| format!("{item}\n")).collect();
@@ -115,4 +122,125 @@ fn a_text_may_be_longer_than_the_first_buffer() {
     let items = parse_left_hand_sides_str(&text, None).unwrap();
     assert!(text.len() > code::encode(&items).len() + 64);
     assert_eq!(items[0].to_string(), text);
+}
+
+fn hash(value: &impl Hash) -> u64 {
+    let mut hasher = DefaultHasher::new();
+    value.hash(&mut hasher);
+    hasher.finish()
+}
+
+// Items that are read twice are equal. Each canonical text of one item gives that item.
+fn is_equal_again<T>(record: &Record)
+where
+    T: Item + Clone + Debug + Display + Eq + Hash + FromStr<Err = ParseError>,
+{
+    let read = || code::decode::<T>(&code::read(T::KIND, &record.text).unwrap()).unwrap();
+    let (items, again) = (read(), read());
+    assert_eq!(items, again);
+    assert_eq!(items, items.clone());
+    for (item, other) in items.iter().zip(&again) {
+        assert_eq!(hash(item), hash(other));
+        let canonical: T = item.to_string().parse().unwrap();
+        assert_eq!(canonical.to_string(), item.to_string());
+        let parsed = canonical.to_string().parse::<T>();
+        assert_eq!(parsed.as_ref().ok(), Some(&canonical));
+    }
+    // Statements of one arena, and of its clones.
+    for (item, copy) in items.iter().zip(items.clone()) {
+        let statements = item.statements().iter().zip(copy.statements().iter());
+        for ((id, one), (_, other)) in statements {
+            assert_eq!((one, hash(one)), (other, hash(other)));
+            assert_eq!(one, &copy.statements()[id]);
+        }
+    }
+}
+
+#[test]
+fn items_are_equal_by_value() {
+    for record in records().iter().filter(|record| !record.is_refused) {
+        match record.kind {
+            Kind::Lhs => is_equal_again::<LeftHandSide>(record),
+            Kind::Rhs => is_equal_again::<RightHandSide>(record),
+            Kind::Rep => is_equal_again::<Replacement>(record),
+        }
+    }
+    let items = parse_left_hand_sides_str(
+        "%x = var infer %x  %y = var infer %y  %x = var %z = var infer %x  %x:i8 = var infer %x
+         %x = var infer %x (harvestedFromUse)  %x = var infer %x",
+        None,
+    );
+    let items = items.unwrap();
+    assert_eq!(items[0], items[5]);
+    assert_eq!(items.iter().collect::<HashSet<_>>().len(), 5);
+}
+
+#[test]
+fn values_are_equal_by_value() {
+    let ty = Type { width: 8 };
+    let constant = |value, r#type| Constant { value, r#type };
+    assert_eq!(constant(1, Some(ty)), Constant::from_bits(1, ty));
+    assert_ne!(constant(1, Some(ty)), constant(1, None));
+    let add = |value| Instruction::Add {
+        a: constant(value, None).into(),
+        b: constant(2, None).into(),
+    };
+    assert_eq!((add(1), hash(&add(1))), (add(1), hash(&add(1))));
+    assert_ne!(add(1), add(2));
+    // Values of two builders differ.
+    let id = || LeftHandSideBuilder::default().assignment(None, None, add(1), vec![]);
+    let x = id();
+    assert_eq!(Operand::Value(x), x.into());
+    assert_ne!(Operand::Value(x), id().into());
+}
+
+#[test]
+fn a_text_of_another_number_of_items_is_no_item() {
+    for (text, shown) in [
+        ("", "the text spells 0 items, not one"),
+        ("; no item", "the text spells 0 items, not one"),
+        ("result 1 result 2", "the text spells 2 items, not one"),
+        (
+            "result 1\nresult 2\nresult 3",
+            "the text spells 3 items, not one",
+        ),
+    ] {
+        let error = text.parse::<RightHandSide>().unwrap_err();
+        assert_eq!(error.to_string(), shown);
+        assert!(error.refusal().is_none());
+    }
+    let error = "infer %x".parse::<LeftHandSide>().unwrap_err();
+    assert_eq!(error.refusal().unwrap().column(), 6);
+}
+
+fn name(item: &LeftHandSide, value: ValueId) -> String {
+    match &item.statements[value.into()] {
+        Statement::Assignment(assignment) => assignment.name.clone(),
+        _ => panic!("it is an assignment"),
+    }
+}
+
+#[test]
+fn operands_of_statements() {
+    let text = "%x = var  %b = block 2  %p = phi %b, %x, 1:i8  blockpc %b 1 %x 5  pc %p 3
+        %s = select %x, 2, %p  infer %s";
+    let item: LeftHandSide = text.parse().unwrap();
+    let shown = |statement: &Statement| -> Vec<String> {
+        let operands = statement.operands().map(|operand| match operand {
+            Operand::Value(value) => name(&item, value),
+            Operand::Constant(constant) => constant.to_string(),
+        });
+        operands.collect()
+    };
+    let found: Vec<Vec<String>> = item.statements.iter().map(|(_, it)| shown(it)).collect();
+    let none = || vec![];
+    let wanted = [
+        none(),
+        none(),
+        vec!["%x", "1:i8"],
+        vec!["%x", "5"],
+        vec!["%p", "3"],
+        vec!["%x", "2", "%p"],
+    ];
+    assert_eq!(found, wanted);
 }

@@ -2,7 +2,7 @@
 use std::fmt::{self, Write};
 
 /// A fact about the value of an assignment.
-#[derive(Clone, Debug)]
+#[derive(Clone, Debug, PartialEq, Eq, Hash)]
 pub enum Attribute {
     /// `knownBits`: for each bit, in the order of the text, whether it is set, or `None` if that is not known.
     KnownBits(Vec<Option<bool>>),
@@ -48,7 +48,7 @@ impl fmt::Display for Attribute {
 }
 
 /// A fact about the root of an item.
-#[derive(Clone, Debug)]
+#[derive(Clone, Debug, PartialEq, Eq, Hash)]
 pub enum RootAttribute {
     /// `demandedBits`: for each bit, in the order of the text, whether it is used.
     DemandedBits(Vec<bool>),

@@ -89,7 +89,11 @@ macro_rules! statement_methods {
                 }
                 None => self.names.make(self.statements.len()),
             };
-            assert!(name.starts_with('%'), "a name begins with %");
+            assert!(
+                name.starts_with('%'),
+                "statement {} ({name}): a name begins with %",
+                self.statements.len()
+            );
             let value = value.into();
             let statement = Assignment {
                 name,

@@ -1,13 +1,13 @@
 //! The instructions, with their numbers in the code.
 use super::Operand;
 
-// The enum, each instruction from its number and operands, and back.
+// The enum, each instruction from its number and operands, and back, and its word.
 macro_rules! instructions {
-    ($($(#[$doc:meta])* $name:ident $(($($operand:ident),+))? = $number:literal,)+) => {
+    ($($(#[$doc:meta])* $name:ident $(($($operand:ident),+))? = $number:literal $word:literal,)+) => {
         /// An instruction with its operands `a`, `b` and `c`, from left to right.
         ///
         /// Each variant has its word in the text.
-        #[derive(Copy, Clone, Debug)]
+        #[derive(Copy, Clone, Debug, PartialEq, Eq, Hash)]
         #[allow(missing_docs)]
         pub enum Instruction {
             $($(#[$doc])* $name $({ $($operand: Operand),+ })?,)+
@@ -37,8 +37,26 @@ macro_rules! instructions {
                 }
             }
 
-            // The operands, from left to right.
-            pub(super) fn operands(&self) -> [Option<Operand>; 3] {
+            /// The word of the text, such as `add` or `sadd.with.overflow`.
+            ///
+            /// ```
+            /// use souper_ir::ast::Instruction;
+            ///
+            /// assert_eq!(Instruction::Hole.word(), "hole");
+            /// ```
+            pub fn word(&self) -> &'static str {
+                match self {
+                    $(Instruction::$name { .. } => $word,)+
+                }
+            }
+
+            /// The operands, from left to right.
+            pub fn operands(&self) -> impl DoubleEndedIterator<Item = Operand> {
+                self.up_to_three().into_iter().flatten()
+            }
+
+            // The operands, from left to right, and then none.
+            pub(super) fn up_to_three(&self) -> [Option<Operand>; 3] {
                 let mut all = [None; 3];
                 self.with_code(|_, operands| {
                     for (place, operand) in all.iter_mut().zip(operands) {
@@ -60,121 +78,121 @@ macro_rules! instructions {
 
 instructions! {
     /// `add`: the sum.
-    Add(a, b) = 0,
+    Add(a, b) = 0 "add",
     /// `addnsw`: the sum; undefined if it overflows as signed numbers.
-    AddNsw(a, b) = 1,
+    AddNsw(a, b) = 1 "addnsw",
     /// `addnuw`: the sum; undefined if it overflows as unsigned numbers.
-    AddNuw(a, b) = 2,
+    AddNuw(a, b) = 2 "addnuw",
     /// `addnw`: the sum; undefined if it overflows either way.
-    AddNw(a, b) = 3,
+    AddNw(a, b) = 3 "addnw",
     /// `sub`: the difference.
-    Sub(a, b) = 4,
+    Sub(a, b) = 4 "sub",
     /// `subnsw`: the difference; undefined if it overflows as signed numbers.
-    SubNsw(a, b) = 5,
+    SubNsw(a, b) = 5 "subnsw",
     /// `subnuw`: the difference; undefined if it overflows as unsigned numbers.
-    SubNuw(a, b) = 6,
+    SubNuw(a, b) = 6 "subnuw",
     /// `subnw`: the difference; undefined if it overflows either way.
-    SubNw(a, b) = 7,
+    SubNw(a, b) = 7 "subnw",
     /// `mul`: the product.
-    Mul(a, b) = 8,
+    Mul(a, b) = 8 "mul",
     /// `mulnsw`: the product; undefined if it overflows as signed numbers.
-    MulNsw(a, b) = 9,
+    MulNsw(a, b) = 9 "mulnsw",
     /// `mulnuw`: the product; undefined if it overflows as unsigned numbers.
-    MulNuw(a, b) = 10,
+    MulNuw(a, b) = 10 "mulnuw",
     /// `mulnw`: the product; undefined if it overflows either way.
-    MulNw(a, b) = 11,
+    MulNw(a, b) = 11 "mulnw",
     /// `udiv`: the quotient of unsigned numbers.
-    Udiv(a, b) = 12,
+    Udiv(a, b) = 12 "udiv",
     /// `sdiv`: the quotient of signed numbers.
-    Sdiv(a, b) = 13,
+    Sdiv(a, b) = 13 "sdiv",
     /// `udivexact`: the quotient of unsigned numbers; undefined if there is a remainder.
-    UdivExact(a, b) = 14,
+    UdivExact(a, b) = 14 "udivexact",
     /// `sdivexact`: the quotient of signed numbers; undefined if there is a remainder.
-    SdivExact(a, b) = 15,
+    SdivExact(a, b) = 15 "sdivexact",
     /// `urem`: the remainder of unsigned numbers.
-    Urem(a, b) = 16,
+    Urem(a, b) = 16 "urem",
     /// `srem`: the remainder of signed numbers.
-    Srem(a, b) = 17,
+    Srem(a, b) = 17 "srem",
     /// `and`: bitwise and.
-    And(a, b) = 18,
+    And(a, b) = 18 "and",
     /// `or`: bitwise or.
-    Or(a, b) = 19,
+    Or(a, b) = 19 "or",
     /// `xor`: bitwise exclusive or.
-    Xor(a, b) = 20,
+    Xor(a, b) = 20 "xor",
     /// `shl`: `a` shifted left by `b` bits; undefined if `b` is not below the width.
-    Shl(a, b) = 21,
+    Shl(a, b) = 21 "shl",
     /// `shlnsw`: as `shl`; undefined also if it overflows as a signed number.
-    ShlNsw(a, b) = 22,
+    ShlNsw(a, b) = 22 "shlnsw",
     /// `shlnuw`: as `shl`; undefined also if it overflows as an unsigned number.
-    ShlNuw(a, b) = 23,
+    ShlNuw(a, b) = 23 "shlnuw",
     /// `shlnw`: as `shl`; undefined also if it overflows either way.
-    ShlNw(a, b) = 24,
+    ShlNw(a, b) = 24 "shlnw",
     /// `lshr`: `a` shifted right by `b` bits, zeros shifted in; undefined if `b` is not below the width.
-    Lshr(a, b) = 25,
+    Lshr(a, b) = 25 "lshr",
     /// `lshrexact`: as `lshr`; undefined also if a set bit is shifted out.
-    LshrExact(a, b) = 26,
+    LshrExact(a, b) = 26 "lshrexact",
     /// `ashr`: `a` shifted right by `b` bits, its sign shifted in; undefined if `b` is not below the width.
-    Ashr(a, b) = 27,
+    Ashr(a, b) = 27 "ashr",
     /// `ashrexact`: as `ashr`; undefined also if a set bit is shifted out.
-    AshrExact(a, b) = 28,
+    AshrExact(a, b) = 28 "ashrexact",
     /// `select`: `b` if `a` is 1, else `c`.
-    Select(a, b, c) = 29,
+    Select(a, b, c) = 29 "select",
     /// `zext`: `a` in a wider type, as an unsigned number.
-    Zext(a) = 30,
+    Zext(a) = 30 "zext",
     /// `sext`: `a` in a wider type, as a signed number.
-    Sext(a) = 31,
+    Sext(a) = 31 "sext",
     /// `trunc`: the lower bits of `a`, in a narrower type.
-    Trunc(a) = 32,
+    Trunc(a) = 32 "trunc",
     /// `eq`: whether `a` equals `b`.
-    Eq(a, b) = 33,
+    Eq(a, b) = 33 "eq",
     /// `ne`: whether `a` differs from `b`.
-    Ne(a, b) = 34,
+    Ne(a, b) = 34 "ne",
     /// `ult`: whether `a` is below `b`, as unsigned numbers.
-    Ult(a, b) = 35,
+    Ult(a, b) = 35 "ult",
     /// `slt`: whether `a` is below `b`, as signed numbers.
-    Slt(a, b) = 36,
+    Slt(a, b) = 36 "slt",
     /// `ule`: whether `a` is not above `b`, as unsigned numbers.
-    Ule(a, b) = 37,
+    Ule(a, b) = 37 "ule",
     /// `sle`: whether `a` is not above `b`, as signed numbers.
-    Sle(a, b) = 38,
+    Sle(a, b) = 38 "sle",
     /// `ctpop`: the number of set bits.
-    Ctpop(a) = 39,
+    Ctpop(a) = 39 "ctpop",
     /// `bswap`: the bytes in reverse order.
-    Bswap(a) = 40,
+    Bswap(a) = 40 "bswap",
     /// `bitreverse`: the bits in reverse order.
-    BitReverse(a) = 41,
+    BitReverse(a) = 41 "bitreverse",
     /// `cttz`: the number of zeros below the lowest set bit.
-    Cttz(a) = 42,
+    Cttz(a) = 42 "cttz",
     /// `ctlz`: the number of zeros above the highest set bit.
-    Ctlz(a) = 43,
+    Ctlz(a) = 43 "ctlz",
     /// `fshl`: the upper half of `a` and `b`, one after the other, shifted left by `c` bits.
-    Fshl(a, b, c) = 44,
+    Fshl(a, b, c) = 44 "fshl",
     /// `fshr`: the lower half of `a` and `b`, one after the other, shifted right by `c` bits.
-    Fshr(a, b, c) = 45,
+    Fshr(a, b, c) = 45 "fshr",
     /// `sadd.with.overflow`: the sum, and whether it overflows as signed numbers.
-    SaddWithOverflow(a, b) = 46,
+    SaddWithOverflow(a, b) = 46 "sadd.with.overflow",
     /// `uadd.with.overflow`: the sum, and whether it overflows as unsigned numbers.
-    UaddWithOverflow(a, b) = 47,
+    UaddWithOverflow(a, b) = 47 "uadd.with.overflow",
     /// `ssub.with.overflow`: the difference, and whether it overflows as signed numbers.
-    SsubWithOverflow(a, b) = 48,
+    SsubWithOverflow(a, b) = 48 "ssub.with.overflow",
     /// `usub.with.overflow`: the difference, and whether it overflows as unsigned numbers.
-    UsubWithOverflow(a, b) = 49,
+    UsubWithOverflow(a, b) = 49 "usub.with.overflow",
     /// `smul.with.overflow`: the product, and whether it overflows as signed numbers.
-    SmulWithOverflow(a, b) = 50,
+    SmulWithOverflow(a, b) = 50 "smul.with.overflow",
     /// `umul.with.overflow`: the product, and whether it overflows as unsigned numbers.
-    UmulWithOverflow(a, b) = 51,
+    UmulWithOverflow(a, b) = 51 "umul.with.overflow",
     /// `sadd.sat`: the sum of signed numbers, or the nearest number of the type.
-    SaddSat(a, b) = 52,
+    SaddSat(a, b) = 52 "sadd.sat",
     /// `uadd.sat`: the sum of unsigned numbers, or the nearest number of the type.
-    UaddSat(a, b) = 53,
+    UaddSat(a, b) = 53 "uadd.sat",
     /// `ssub.sat`: the difference of signed numbers, or the nearest number of the type.
-    SsubSat(a, b) = 54,
+    SsubSat(a, b) = 54 "ssub.sat",
     /// `usub.sat`: the difference of unsigned numbers, or the nearest number of the type.
-    UsubSat(a, b) = 55,
+    UsubSat(a, b) = 55 "usub.sat",
     /// `extractvalue`: component `b` of `a`: of a result with overflow, 0 the number and 1 the overflow.
-    ExtractValue(a, b) = 56,
+    ExtractValue(a, b) = 56 "extractvalue",
     /// `hole`: an unknown instruction or value.
-    Hole = 57,
+    Hole = 57 "hole",
     /// `freeze`: `a`, or any one number if `a` is undefined or poison.
-    Freeze(a) = 58,
+    Freeze(a) = 58 "freeze",
 }

@@ -1,5 +1,8 @@
 //! The three types of items, and their last lines.
 use super::{assignment, Arena, Assignment, Operand, RootAttribute, Statement, ValueId};
+use crate::code;
+use std::hash::{Hash, Hasher};
+use std::slice;
 
 /// A left-hand side and a right-hand side for it.
 #[derive(Clone, Debug)]
@@ -35,7 +38,7 @@ impl Replacement {
 }
 
 /// The line `cand`.
-#[derive(Clone, Debug)]
+#[derive(Clone, Debug, PartialEq, Eq, Hash)]
 pub struct Cand {
     /// The replaced operand.
     pub lhs: Operand,
@@ -55,7 +58,7 @@ pub struct LeftHandSide {
 }
 
 /// The line `infer`.
-#[derive(Clone, Debug)]
+#[derive(Clone, Debug, PartialEq, Eq, Hash)]
 pub struct Infer {
     /// The value that is to be replaced.
     pub value: ValueId,
@@ -71,3 +74,29 @@ pub struct RightHandSide {
     /// The operand of the line `result`.
     pub result: Operand,
 }
+
+// Equality of items: that of their codes, in which a value is the position of its statement.
+macro_rules! equal_by_code {
+    ($item:ident) => {
+        /// Two items are equal if their statements and their last lines are, one by one. Ids count by their positions, so that
+        /// texts that are read twice give equal items; ids of other items are all alike. Names and the order of the statements
+        /// count, needed or not. Two items are the same graph if their canonical texts are equal.
+        impl PartialEq for $item {
+            fn eq(&self, other: &Self) -> bool {
+                code::encode(slice::from_ref(self)) == code::encode(slice::from_ref(other))
+            }
+        }
+
+        impl Eq for $item {}
+
+        impl Hash for $item {
+            fn hash<H: Hasher>(&self, state: &mut H) {
+                code::encode(slice::from_ref(self)).hash(state);
+            }
+        }
+    };
+}
+
+equal_by_code!(LeftHandSide);
+equal_by_code!(RightHandSide);
+equal_by_code!(Replacement);

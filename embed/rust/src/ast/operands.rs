@@ -36,7 +36,7 @@ impl From<BlockId> for Id<Statement> {
 }
 
 /// An operand of an instruction, a phi, a path condition or a last line.
-#[derive(Copy, Clone, Debug)]
+#[derive(Copy, Clone, Debug, PartialEq, Eq, Hash)]
 pub enum Operand {
     /// The value of an earlier assignment.
     Value(ValueId),
@@ -57,7 +57,7 @@ impl From<Constant> for Operand {
 }
 
 /// A number, with or without a type.
-#[derive(Copy, Clone, Debug)]
+#[derive(Copy, Clone, Debug, PartialEq, Eq, Hash)]
 pub struct Constant {
     /// The number.
     pub value: i128,
@@ -81,8 +81,12 @@ impl Constant {
     ///
     /// If the type has other bits.
     pub fn from_bits(bits: u128, r#type: Type) -> Constant {
-        assert!((1..=128).contains(&r#type.width), "1 to 128 bits");
-        let above = 128 - u32::from(r#type.width);
+        let width = r#type.width;
+        assert!(
+            (1..=128).contains(&width),
+            "a width {width} is not in 1 to 128"
+        );
+        let above = 128 - u32::from(width);
         Constant {
             value: ((bits << above) as i128) >> above,
             r#type: Some(r#type),
@@ -102,7 +106,7 @@ impl fmt::Display for Constant {
 }
 
 /// An integer type.
-#[derive(Copy, Clone, Debug)]
+#[derive(Copy, Clone, Debug, PartialEq, Eq, Hash)]
 pub struct Type {
     /// The number of bits, from 1.
     pub width: u16,

@@ -3,7 +3,7 @@ use super::{Attribute, BlockId, Instruction, Operand, Type};
 use std::fmt;
 
 /// A line of an item before its last lines.
-#[derive(Clone, Debug)]
+#[derive(Clone, Debug, PartialEq, Eq, Hash)]
 pub enum Statement {
     /// An assignment.
     Assignment(Assignment),
@@ -32,7 +32,7 @@ impl From<BlockPc> for Statement {
 }
 
 /// Gives a name to a value.
-#[derive(Clone, Debug)]
+#[derive(Clone, Debug, PartialEq, Eq, Hash)]
 pub struct Assignment {
     /// The name, with its `%`.
     pub name: String,
@@ -45,7 +45,7 @@ pub struct Assignment {
 }
 
 /// The right side of an assignment.
-#[derive(Clone, Debug)]
+#[derive(Clone, Debug, PartialEq, Eq, Hash)]
 pub enum AssignmentRhs {
     /// `var`: an input.
     Var,
@@ -80,14 +80,14 @@ impl From<Instruction> for AssignmentRhs {
 }
 
 /// An input and the facts about it. As in the original, nothing else has this type.
-#[derive(Clone, Debug)]
+#[derive(Clone, Debug, PartialEq, Eq, Hash)]
 pub struct Var {
     /// Facts about the input.
     pub attributes: Vec<Attribute>,
 }
 
 /// A basic block.
-#[derive(Clone, Debug)]
+#[derive(Clone, Debug, PartialEq, Eq, Hash)]
 pub struct Block {
     /// The number of ways into the block.
     pub predecessors: u32,
@@ -111,7 +111,7 @@ impl fmt::Display for Block {
 /// ```
 ///
 /// `%a` is 1 if and only if `%b` is 3.
-#[derive(Clone, Debug)]
+#[derive(Clone, Debug, PartialEq, Eq, Hash)]
 pub struct Phi {
     /// The block.
     pub block: BlockId,
@@ -120,7 +120,7 @@ pub struct Phi {
 }
 
 /// A path condition: the item is for inputs with which `x` equals `y`.
-#[derive(Clone, Debug)]
+#[derive(Clone, Debug, PartialEq, Eq, Hash)]
 pub struct Pc {
     /// What equals `y`.
     pub x: Operand,
@@ -129,7 +129,7 @@ pub struct Pc {
 }
 
 /// A block path condition: if control comes to the block from a predecessor, `x` equals `y`.
-#[derive(Clone, Debug)]
+#[derive(Clone, Debug, PartialEq, Eq, Hash)]
 pub struct BlockPc {
     /// The block.
     pub block: BlockId,

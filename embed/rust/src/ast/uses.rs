@@ -1,8 +1,8 @@
-//! What a statement uses: values as operands, and blocks.
+//! What a statement uses: values as operands, and blocks; and its operands.
 use super::{Assignment, AssignmentRhs, BlockId, BlockPc, Operand, Pc, Statement, ValueId};
 
 /// A use of a statement by another one: of its value, or of its block.
-#[derive(Copy, Clone, Debug, PartialEq, Eq)]
+#[derive(Copy, Clone, Debug, PartialEq, Eq, Hash)]
 pub enum Use {
     /// The value is an operand.
     Value(ValueId),
@@ -40,12 +40,18 @@ impl Statement {
         block.map(Use::Block).into_iter().chain(values)
     }
 
+    /// The operands, from left to right: values and constants. The block of a phi or of a path condition is none.
+    pub fn operands(&self) -> impl Iterator<Item = Operand> + '_ {
+        let (_, few, many) = self.parts();
+        few.into_iter().flatten().chain(many.iter().copied())
+    }
+
     // The block, and the operands: of an instruction or a path condition, and of a phi.
     fn parts(&self) -> (Option<BlockId>, [Option<Operand>; 3], &[Operand]) {
         match self {
             Statement::Assignment(Assignment { value, .. }) => match value {
                 AssignmentRhs::Phi(phi) => (Some(phi.block), [None; 3], &phi.values),
-                AssignmentRhs::Instruction(instruction) => (None, instruction.operands(), &[]),
+                AssignmentRhs::Instruction(instruction) => (None, instruction.up_to_three(), &[]),
                 AssignmentRhs::Var
                 | AssignmentRhs::Block(_)
                 | AssignmentRhs::ReservedInst

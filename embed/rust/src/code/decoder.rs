@@ -23,6 +23,8 @@ pub struct Decoder<'a> {
     length: usize,
     rest: &'a [u8],
     statements: Arena<Statement>,
+    // Whether an operand may have any position.
+    any_position: bool,
 }
 
 impl<'a> Decoder<'a> {
@@ -31,6 +33,18 @@ impl<'a> Decoder<'a> {
             length: code.len(),
             rest: code,
             statements: Arena::new(),
+            any_position: false,
+        }
+    }
+
+    // The name of the statement at a position of the item that the code begins with, which need not be well formed.
+    pub(super) fn name_at(code: &'a [u8], position: usize) -> Option<String> {
+        let mut decoder = Decoder::new(code);
+        decoder.any_position = true;
+        decoder.statements()?;
+        match decoder.statements.at(position)?.1 {
+            Statement::Assignment(assignment) => Some(assignment.name.clone()),
+            _ => None,
         }
     }
 
@@ -103,19 +117,21 @@ impl<'a> Decoder<'a> {
 
     fn value(&mut self) -> Option<ValueId> {
         let position = self.size()?;
-        match self.statements.at(position)? {
-            (id, Statement::Assignment(_)) => Some(ValueId(id)),
+        match self.statements.at(position) {
+            Some((id, Statement::Assignment(_))) => Some(ValueId(id)),
+            _ if self.any_position => Some(ValueId(self.statements.id(position))),
             _ => None,
         }
     }
 
     fn block(&mut self) -> Option<BlockId> {
         let value = self.value()?;
-        match self.statements.get(value.into())? {
-            Statement::Assignment(Assignment {
+        match self.statements.get(value.into()) {
+            Some(Statement::Assignment(Assignment {
                 value: AssignmentRhs::Block(_),
                 ..
-            }) => Some(BlockId(value)),
+            })) => Some(BlockId(value)),
+            _ if self.any_position => Some(BlockId(value)),
             _ => None,
         }
     }

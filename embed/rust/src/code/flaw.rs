@@ -1,10 +1,12 @@
 //! Why an item is not well formed.
-use crate::ast::{Arena, Statement};
+use super::decoder::Decoder;
+use crate::canonical::{self, Kind};
 use crate::raw;
 use std::fmt;
 
 /// The first flaw of an item: of the statements that it needs, in their order, and then of its last lines.
-#[derive(Clone, Debug, PartialEq, Eq)]
+#[derive(Clone, Debug, PartialEq, Eq, Hash)]
+#[non_exhaustive]
 pub struct Flaw {
     /// Where the item is not well formed.
     pub location: FlawLocation,
@@ -15,7 +17,8 @@ pub struct Flaw {
 }
 
 /// A statement or a last line of an item.
-#[derive(Clone, Copy, Debug, PartialEq, Eq)]
+#[derive(Clone, Copy, Debug, PartialEq, Eq, Hash)]
+#[non_exhaustive]
 pub enum FlawLocation {
     /// The statement at this position, from 0.
     Statement(usize),
@@ -25,10 +28,13 @@ pub enum FlawLocation {
     Result,
     /// The cand line.
     Cand,
+    /// What a newer library calls by this number.
+    Unknown(u32),
 }
 
 /// Which condition of a [well-formed](crate::ast) item fails.
-#[derive(Clone, Copy, Debug, PartialEq, Eq)]
+#[derive(Clone, Copy, Debug, PartialEq, Eq, Hash)]
+#[non_exhaustive]
 pub enum FlawReason {
     /// The name is not `%` and letters, digits, `_` or `.`.
     InvalidName,
@@ -48,17 +54,29 @@ pub enum FlawReason {
     PredecessorOutOfRange,
     /// An assignment before it that the item needs has the same name.
     DuplicateName,
+    /// What a newer library calls by this number.
+    Unknown(u32),
 }
 
 impl Flaw {
-    // The flaw with these numbers of `souper.h`, of an item with these statements.
-    pub(crate) fn new(found: raw::Flaw, statements: &Arena<Statement>) -> Option<Self> {
+    // The first flaw of the item that the code begins with; `None` if it is well formed.
+    pub(super) fn of_code(kind: Kind, code: &[u8]) -> Result<Option<Self>, canonical::Error> {
+        let found = raw::flaw(kind, code);
+        match found.status {
+            raw::DONE => Ok(None),
+            raw::NOT_WELL_FORMED => Ok(Some(Flaw::new(found, code))),
+            status => Err(canonical::Error::of_status(status)),
+        }
+    }
+
+    // The flaw with these numbers of `souper.h`, of the item that the code begins with.
+    fn new(found: raw::Flaw, code: &[u8]) -> Self {
         let location = match found.location {
             1 => FlawLocation::Statement(found.position),
             2 => FlawLocation::Infer,
             3 => FlawLocation::Result,
             4 => FlawLocation::Cand,
-            _ => return None,
+            number => FlawLocation::Unknown(number),
         };
         let reason = match found.reason {
             1 => FlawReason::InvalidName,
@@ -70,21 +88,17 @@ impl Flaw {
             7 => FlawReason::ValueCount,
             8 => FlawReason::PredecessorOutOfRange,
             9 => FlawReason::DuplicateName,
-            _ => return None,
+            number => FlawReason::Unknown(number),
         };
-        let statement = match location {
-            FlawLocation::Statement(position) => statements.iter().nth(position),
+        let name = match location {
+            FlawLocation::Statement(position) => Decoder::name_at(code, position),
             _ => None,
         };
-        let name = match statement {
-            Some((_, Statement::Assignment(assignment))) => Some(assignment.name.clone()),
-            _ => None,
-        };
-        Some(Flaw {
+        Flaw {
             location,
             reason,
             name,
-        })
+        }
     }
 }
 
@@ -100,6 +114,7 @@ impl fmt::Display for FlawReason {
             FlawReason::ValueCount => "it has not one value per predecessor of its block",
             FlawReason::PredecessorOutOfRange => "its block has no such predecessor",
             FlawReason::DuplicateName => "an assignment before it has the same name",
+            FlawReason::Unknown(number) => return write!(f, "unknown({number})"),
         })
     }
 }
@@ -114,9 +129,49 @@ impl fmt::Display for Flaw {
             (FlawLocation::Infer, _) => f.write_str("infer line")?,
             (FlawLocation::Result, _) => f.write_str("result line")?,
             (FlawLocation::Cand, _) => f.write_str("cand line")?,
+            (FlawLocation::Unknown(number), _) => write!(f, "unknown({number})")?,
         }
         write!(f, ": {}", self.reason)
     }
 }
 
 impl std::error::Error for Flaw {}
+
+#[cfg(test)]
+mod tests {
+    use super::*;
+
+    fn shown(location: u32, reason: u32, position: usize) -> String {
+        let code = super::super::read(Kind::Lhs, "%x = var  pc %x 1  infer %x").unwrap();
+        let found = raw::Flaw {
+            status: raw::NOT_WELL_FORMED,
+            location,
+            reason,
+            position,
+        };
+        Flaw::new(found, &code).to_string()
+    }
+
+    #[test]
+    fn numbers_that_are_not_known_are_shown() {
+        assert_eq!(shown(1, 3, 0), "statement 0 (%x): a width is 0");
+        assert_eq!(shown(1, 10, 1), "statement 1: unknown(10)");
+        assert_eq!(shown(1, 0, 7), "statement 7: unknown(0)");
+        assert_eq!(shown(5, 3, 0), "unknown(5): a width is 0");
+        assert_eq!(
+            shown(u32::MAX, u32::MAX, 0),
+            "unknown(4294967295): unknown(4294967295)"
+        );
+    }
+
+    #[test]
+    fn statuses_that_are_not_known_are_errors() {
+        let error = canonical::Error::of_status(10);
+        assert_eq!(error, canonical::Error::UnknownStatus(10));
+        let shown = "the library returned the status unknown(10)";
+        assert_eq!(error.to_string(), shown);
+        assert_eq!(super::super::Error::from(error.clone()).to_string(), shown);
+        assert_eq!(crate::stream::Error::from(error.clone()).to_string(), shown);
+        assert_eq!(crate::parse::ParseError::from(error).to_string(), shown);
+    }
+}
