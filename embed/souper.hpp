@@ -1365,10 +1365,13 @@ public:
     std::size_t left() const noexcept { return rest.size(); }
 
     item get_item(kind k) {
-        at = flaw();
+        at.location = flaw_location::at_statement;
+        at.position = 0;
         item i{list<statement>(least_statement, &decoder::get_statement), {}};
+        at.location = flaw_location::at_infer;
+        at.position = 0;
         i.last = get_last();
-        at = flaw{last_location(i)};
+        at.location = last_location(i);
         if (good && kind_of(i) != k) {
             fail(flaw_reason::other_kind, other_kind_text(kind_of(i), k));
         }
@@ -1557,7 +1560,6 @@ private:
     infer get_infer() { return infer{get_id(), root_attributes()}; }
 
     last_lines get_last() {
-        at = flaw{flaw_location::at_infer};
         switch (byte(std::variant_size_v<last_lines>)) {
         case 0:
             return get_infer();
