@@ -290,12 +290,12 @@ void loops() {
     all();
     from.push("result\nresult 1\nresult 2\nresult %x\nres");
     all();
-    expect(found == strings{"1: unexpected EOF", "result 1\n", "result 2\n", "4: no value named '%x' in scope"}, "a loop", nullptr);
+    expect(found == strings{"1: unexpected EOF", "result 1\n", "result 2\n"}, "a loop", nullptr);
     from.push("ult 3");
     from.finish();
     all();
     all();
-    expect(found.size() == 5 && found.back() == "result 3\n", "another loop", nullptr);
+    expect(found.size() == 5 && found[3] == "4: no value named '%x' in scope" && found[4] == "result 3\n", "another loop", nullptr);
     reader again(kind::rhs);
     again.push("result 1\nresult 2\nresult 3");
     again.finish();
