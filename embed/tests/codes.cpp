@@ -227,7 +227,8 @@ void change_assignment(generator &random, souper::assignment &a, std::size_t sta
     } else if (auto *block = std::get_if<souper::block>(&a.value)) {
         block->predecessors = static_cast<std::uint32_t>(below(random, 4));
     } else {
-        a.name = below(random, 2) == 0 ? "%x" : "%" + std::to_string(below(random, 9)) + static_cast<char>(random());
+        // A name that is not UTF-8 has no code; `change_bytes` makes such ones.
+        a.name = below(random, 2) == 0 ? "%x" : "%" + std::to_string(below(random, 9)) + static_cast<char>(below(random, 128));
     }
 }
 

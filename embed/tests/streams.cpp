@@ -264,8 +264,8 @@ void ends() {
     after_the_end(finished);
     reader damaged(kind::rhs);
     std::optional<souper::item> one;
-    damaged.push("result 1\n\xff\n");
-    expect(damaged.next() && !damaged.try_next(one, e) && e.what == status::not_utf8 && e.message == "line 2: not UTF-8 at byte 9",
+    damaged.push("result 1\nresult 2\n\xff\n");
+    expect(damaged.next() && !damaged.try_next(one, e) && e.what == status::not_utf8 && e.message == "line 3: not UTF-8 at byte 18",
            "no UTF-8", nullptr);
     after_the_end(damaged);
     expect(!damaged.try_next(one, e) && e.what == status::not_utf8, "the same again", nullptr);
@@ -295,7 +295,7 @@ void loops() {
     from.finish();
     all();
     all();
-    expect(found.size() == 5 && found[3] == "4: no value named '%x' in scope" && found[4] == "result 3\n", "another loop", nullptr);
+    expect(found.size() == 5 && found[3] == "4: unknown value '%x'" && found[4] == "result 3\n", "another loop", nullptr);
     reader again(kind::rhs);
     again.push("result 1\nresult 2\nresult 3");
     again.finish();
