@@ -2113,8 +2113,8 @@ inline std::string encode(const std::vector<item> &items) {
     return detail::output<std::string>([&](std::string &out, error &e) { return try_encode(items, out, e); });
 }
 
-/// The items whose code this is. It reads nothing outside the code, and allocates at most a constant times its length. That the
-/// items are well formed, it does not test.
+/// The items whose code this is. It reads nothing outside the code, and allocates at most a constant times its length, and the text of
+/// an error. That the items are well formed, it does not test.
 inline std::vector<item> decode(kind k, std::string_view code) {
     return detail::output<std::vector<item>>([&](std::vector<item> &out, error &e) { return try_decode(k, code, out, e); });
 }

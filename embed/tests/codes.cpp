@@ -133,7 +133,8 @@ bool has_allocations() {
     return allocated > before;
 }
 
-// The decoder allocates at most this many bytes for each byte of a code: an attribute of one byte is a value of 48.
+// The decoder allocates at most this many bytes for each byte of a code, where an attribute of one byte is a value of 48, and as many for
+// the text of an error.
 constexpr std::size_t most = 200;
 
 void memory(const sample &from, std::string_view code) {
@@ -144,7 +145,7 @@ void memory(const sample &from, std::string_view code) {
     souper::error e;
     const std::size_t before = allocated;
     static_cast<void>(souper::try_decode(from.of, code, items, e));
-    expect(allocated - before <= most * code.size(), "the memory of the decoder", nullptr);
+    expect(allocated - before <= most * (code.size() + 1), "the memory of the decoder", nullptr);
 }
 
 // Lists of the shortest elements, whose values are the longest compared with their codes.
