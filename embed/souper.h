@@ -25,6 +25,9 @@
 #include <stddef.h>
 #include <stdint.h>
 
+/* The version of this header, and of what is packed with it. The library has no call that says its own. */
+#define SOUPER_VERSION "1.0.0"
+
 #if defined(__GNUC__)
 #define SOUPER_CALL __attribute__((nonnull, warn_unused_result))
 #else
@@ -32,7 +35,10 @@
 #endif
 
 #ifdef __cplusplus
+#define SOUPER_INLINE inline
 extern "C" {
+#else
+#define SOUPER_INLINE static inline
 #endif
 
 /* Kinds. */
@@ -198,7 +204,63 @@ SOUPER_CALL SouperOutcome souper_last_cut(uint32_t kind, const uint8_t *text, si
  * after it, is not UTF-8. NO_KIND. No memory is allocated. */
 SOUPER_CALL SouperOutcome souper_first_segment(uint32_t kind, const uint8_t *text, size_t text_length);
 
+/* What a status says, in a few words. These texts are the header's own: of a number that it does not have, as a library of a later
+ * version may return it, they are "unknown". */
+SOUPER_INLINE const char *souper_status_text(uint32_t status) {
+    switch (status) {
+    case SOUPER_DONE:
+        return "done";
+    case SOUPER_REFUSED:
+        return "refused";
+    case SOUPER_NO_KIND:
+        return "no such kind";
+    case SOUPER_OUT_OF_MEMORY:
+        return "out of memory";
+    case SOUPER_NOT_UTF8:
+        return "not UTF-8";
+    case SOUPER_SHORT:
+        return "the buffer is too short";
+    case SOUPER_DIFFERENT:
+        return "different";
+    case SOUPER_NO_CODE:
+        return "no code of items";
+    case SOUPER_NOT_WELL_FORMED:
+        return "not well formed";
+    case SOUPER_NO_FLAGS:
+        return "no such flag";
+    default:
+        return "unknown";
+    }
+}
+
+/* The same of the reason of a flaw. */
+SOUPER_INLINE const char *souper_reason_text(uint32_t reason) {
+    switch (reason) {
+    case SOUPER_INVALID_NAME:
+        return "the name is not % and letters, digits, _ or .";
+    case SOUPER_EMPTY_BITS:
+        return "a list of bits is empty";
+    case SOUPER_ZERO_WIDTH:
+        return "a width is 0";
+    case SOUPER_USE_BEFORE_DEFINITION:
+        return "it uses what is not a statement before it";
+    case SOUPER_NOT_AN_ASSIGNMENT:
+        return "an operand is no assignment";
+    case SOUPER_NOT_A_BLOCK:
+        return "what it uses as a block is none";
+    case SOUPER_VALUE_COUNT:
+        return "it has not one value per predecessor of its block";
+    case SOUPER_PREDECESSOR_OUT_OF_RANGE:
+        return "its block has no such predecessor";
+    case SOUPER_DUPLICATE_NAME:
+        return "an assignment before it has the same name";
+    default:
+        return "unknown";
+    }
+}
+
 #undef SOUPER_CALL
+#undef SOUPER_INLINE
 
 #ifdef __cplusplus
 }

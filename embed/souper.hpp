@@ -7,7 +7,8 @@
 //
 //   - `read`, `write`, `format`, .. throw, and exist only where exceptions are on. A refused text is thrown as `souper::refused`,
 //     bytes that are not UTF-8 as `souper::not_utf8`, an item that is not well formed as `souper::not_well_formed`, a damaged
-//     code as `souper::bad_code`, a kind or flag that is none as `std::invalid_argument`, and out of memory as `std::bad_alloc`;
+//     code as `souper::bad_code`, a kind or flag that is none as `std::invalid_argument`, out of memory as `std::bad_alloc`, and a
+//     status that these headers do not know, as of a library of a later version, as `std::runtime_error`;
 //   - `try_read`, `try_write`, `try_format`, .. are noexcept. They return whether they are done, and else say why in a
 //     `souper::error`. Where exceptions are off (-fno-exceptions; RTTI may be off too), an allocation of the standard library
 //     that fails ends the program, as elsewhere in such code.
@@ -22,9 +23,11 @@
 #include <cstring>
 #include <exception>
 #include <functional>
+#include <iterator>
 #include <memory>
 #include <new>
 #include <optional>
+#include <ostream>
 #include <stdexcept>
 #include <string>
 #include <string_view>
@@ -100,13 +103,53 @@ static_assert(__BYTE_ORDER__ == __ORDER_LITTLE_ENDIAN__, "the archive is for x86
 
 namespace souper {
 
+/// The version of these headers.
+inline constexpr std::string_view version = SOUPER_VERSION;
+
+// A library of a later version may return numbers that these headers have no names for. As a value of an enumeration such a number
+// stays what it is, and its text is `unknown(N)`.
+
+namespace detail {
+
+inline std::string unknown(std::uint64_t number) { return "unknown(" + std::to_string(number) + ")"; }
+
+} // namespace detail
+
 /// What a text is read as.
 enum class kind : std::uint32_t { lhs = SOUPER_LHS, rhs = SOUPER_RHS, rep = SOUPER_REP };
+
+/// The word of a kind: `lhs`, `rhs` or `rep`; empty if it is none of the three.
+constexpr std::string_view word(kind k) noexcept {
+    switch (k) {
+    case kind::lhs:
+        return "lhs";
+    case kind::rhs:
+        return "rhs";
+    case kind::rep:
+        return "rep";
+    }
+    return {};
+}
+
+/// The kind of a word, if it is one of the three.
+inline std::optional<kind> kind_named(std::string_view text) noexcept {
+    for (const kind k : {kind::lhs, kind::rhs, kind::rep}) {
+        if (word(k) == text) {
+            return k;
+        }
+    }
+    return std::nullopt;
+}
+
+inline std::string to_string(kind k) { return word(k).empty() ? detail::unknown(static_cast<std::uint32_t>(k)) : std::string(word(k)); }
+
+inline std::ostream &operator<<(std::ostream &out, kind k) { return out << to_string(k); }
 
 // ----------------------------------------------------------------
 // Items
 //
-// An item is plain data: a list of statements, and the last lines. Each value is compared by `==`.
+// An item is plain data: a list of statements, and the last lines. Values are compared by `==`; operands, statements and items have
+// a `std::hash`.
 
 __extension__ typedef __int128 int128;
 
@@ -162,6 +205,12 @@ constexpr std::string_view word(op operation) noexcept {
     return {};
 }
 
+inline std::string to_string(op operation) {
+    return word(operation).empty() ? detail::unknown(static_cast<std::uint8_t>(operation)) : std::string(word(operation));
+}
+
+inline std::ostream &operator<<(std::ostream &out, op operation) { return out << to_string(operation); }
+
 /// How many operands an operation has, 0 to 3.
 constexpr std::size_t operand_count(op operation) noexcept {
     switch (operation) {
@@ -189,6 +238,7 @@ inline std::optional<op> op_named(std::string_view text) noexcept {
 /// An input.
 struct var {
     friend bool operator==(var, var) noexcept { return true; }
+    friend bool operator!=(var, var) noexcept { return false; }
 };
 
 /// A block, with its number of predecessors.
@@ -196,34 +246,39 @@ struct block {
     std::uint32_t predecessors;
 
     friend bool operator==(block a, block b) noexcept { return a.predecessors == b.predecessors; }
+    friend bool operator!=(block a, block b) noexcept { return !(a == b); }
 };
 
 /// A choice by a block: a value for each of its predecessors.
 struct phi {
     id block;
-    std::vector<operand> values;
+    std::vector<operand> values = {};
 
     friend bool operator==(const phi &a, const phi &b) noexcept { return a.block == b.block && a.values == b.values; }
+    friend bool operator!=(const phi &a, const phi &b) noexcept { return !(a == b); }
 };
 
 /// An instruction that Souper keeps for itself.
 struct reservedinst {
     friend bool operator==(reservedinst, reservedinst) noexcept { return true; }
+    friend bool operator!=(reservedinst, reservedinst) noexcept { return false; }
 };
 
 /// A constant that Souper keeps for itself.
 struct reservedconst {
     friend bool operator==(reservedconst, reservedconst) noexcept { return true; }
+    friend bool operator!=(reservedconst, reservedconst) noexcept { return false; }
 };
 
 /// An operation and its operands, `operand_count` of them.
 struct instruction {
     op operation;
-    std::vector<operand> operands;
+    std::vector<operand> operands = {};
 
     friend bool operator==(const instruction &a, const instruction &b) noexcept {
         return a.operation == b.operation && a.operands == b.operands;
     }
+    friend bool operator!=(const instruction &a, const instruction &b) noexcept { return !(a == b); }
 };
 
 /// What an assignment assigns.
@@ -236,26 +291,32 @@ struct known_bits {
     std::string bits;
 
     friend bool operator==(const known_bits &a, const known_bits &b) noexcept { return a.bits == b.bits; }
+    friend bool operator!=(const known_bits &a, const known_bits &b) noexcept { return !(a == b); }
 };
 
 struct power_of_two {
     friend bool operator==(power_of_two, power_of_two) noexcept { return true; }
+    friend bool operator!=(power_of_two, power_of_two) noexcept { return false; }
 };
 
 struct negative {
     friend bool operator==(negative, negative) noexcept { return true; }
+    friend bool operator!=(negative, negative) noexcept { return false; }
 };
 
 struct non_negative {
     friend bool operator==(non_negative, non_negative) noexcept { return true; }
+    friend bool operator!=(non_negative, non_negative) noexcept { return false; }
 };
 
 struct non_zero {
     friend bool operator==(non_zero, non_zero) noexcept { return true; }
+    friend bool operator!=(non_zero, non_zero) noexcept { return false; }
 };
 
 struct has_external_uses {
     friend bool operator==(has_external_uses, has_external_uses) noexcept { return true; }
+    friend bool operator!=(has_external_uses, has_external_uses) noexcept { return false; }
 };
 
 /// The number of sign bits of a value.
@@ -263,6 +324,7 @@ struct sign_bits {
     std::uint8_t count;
 
     friend bool operator==(sign_bits a, sign_bits b) noexcept { return a.count == b.count; }
+    friend bool operator!=(sign_bits a, sign_bits b) noexcept { return !(a == b); }
 };
 
 /// Bounds of a value: `(range=[low,high))`.
@@ -270,6 +332,7 @@ struct range {
     int128 low, high;
 
     friend bool operator==(const range &a, const range &b) noexcept { return a.low == b.low && a.high == b.high; }
+    friend bool operator!=(const range &a, const range &b) noexcept { return !(a == b); }
 };
 
 /// An attribute of an assignment.
@@ -280,13 +343,14 @@ using attribute = std::variant<known_bits, power_of_two, negative, non_negative,
 /// `name = value`. The name begins with its `%`; the width is in bits, 1 to 65535, or none.
 struct assignment {
     std::string name;
-    std::optional<std::uint32_t> width;
-    right_side value;
-    std::vector<attribute> attributes;
+    std::optional<std::uint32_t> width = std::nullopt;
+    right_side value = var{};
+    std::vector<attribute> attributes = {};
 
     friend bool operator==(const assignment &a, const assignment &b) noexcept {
         return a.name == b.name && a.width == b.width && a.value == b.value && a.attributes == b.attributes;
     }
+    friend bool operator!=(const assignment &a, const assignment &b) noexcept { return !(a == b); }
 };
 
 /// A path condition: x is y.
@@ -294,6 +358,7 @@ struct pc {
     operand x, y;
 
     friend bool operator==(const pc &a, const pc &b) noexcept { return a.x == b.x && a.y == b.y; }
+    friend bool operator!=(const pc &a, const pc &b) noexcept { return !(a == b); }
 };
 
 /// A path condition on a predecessor of a block, by its index from 0: x is y.
@@ -305,6 +370,7 @@ struct blockpc {
     friend bool operator==(const blockpc &a, const blockpc &b) noexcept {
         return a.block == b.block && a.predecessor == b.predecessor && a.x == b.x && a.y == b.y;
     }
+    friend bool operator!=(const blockpc &a, const blockpc &b) noexcept { return !(a == b); }
 };
 
 /// A statement of an item.
@@ -317,10 +383,12 @@ struct demanded_bits {
     std::string bits;
 
     friend bool operator==(const demanded_bits &a, const demanded_bits &b) noexcept { return a.bits == b.bits; }
+    friend bool operator!=(const demanded_bits &a, const demanded_bits &b) noexcept { return !(a == b); }
 };
 
 struct harvested_from_use {
     friend bool operator==(harvested_from_use, harvested_from_use) noexcept { return true; }
+    friend bool operator!=(harvested_from_use, harvested_from_use) noexcept { return false; }
 };
 
 /// An attribute of the last lines.
@@ -329,9 +397,10 @@ using root_attribute = std::variant<demanded_bits, harvested_from_use>;
 /// `infer value`: the last line of a left-hand side.
 struct infer {
     id value;
-    std::vector<root_attribute> attributes;
+    std::vector<root_attribute> attributes = {};
 
     friend bool operator==(const infer &a, const infer &b) noexcept { return a.value == b.value && a.attributes == b.attributes; }
+    friend bool operator!=(const infer &a, const infer &b) noexcept { return !(a == b); }
 };
 
 /// `result value`: the last line of a right-hand side.
@@ -339,6 +408,7 @@ struct result {
     operand value;
 
     friend bool operator==(const result &a, const result &b) noexcept { return a.value == b.value; }
+    friend bool operator!=(const result &a, const result &b) noexcept { return !(a == b); }
 };
 
 /// `infer replaced.value` and `result by.value`: the last lines of a replacement.
@@ -349,16 +419,18 @@ struct infer_result {
     friend bool operator==(const infer_result &a, const infer_result &b) noexcept {
         return a.replaced == b.replaced && a.by == b.by;
     }
+    friend bool operator!=(const infer_result &a, const infer_result &b) noexcept { return !(a == b); }
 };
 
 /// `cand replaced by`: the last line of a replacement.
 struct cand {
     operand replaced, by;
-    std::vector<root_attribute> attributes;
+    std::vector<root_attribute> attributes = {};
 
     friend bool operator==(const cand &a, const cand &b) noexcept {
         return a.replaced == b.replaced && a.by == b.by && a.attributes == b.attributes;
     }
+    friend bool operator!=(const cand &a, const cand &b) noexcept { return !(a == b); }
 };
 
 /// The last lines of an item.
@@ -376,6 +448,7 @@ struct item {
     }
 
     friend bool operator==(const item &a, const item &b) noexcept { return a.statements == b.statements && a.last == b.last; }
+    friend bool operator!=(const item &a, const item &b) noexcept { return !(a == b); }
 };
 
 /// What the last lines make the item.
@@ -490,6 +563,14 @@ namespace detail {
 
 inline std::string of_width(const std::optional<std::uint32_t> &bits) { return bits ? ":i" + std::to_string(*bits) : std::string(); }
 
+} // namespace detail
+
+inline std::string to_string(const constant &number) { return decimal(number.value) + detail::of_width(number.width); }
+
+inline std::ostream &operator<<(std::ostream &out, const constant &number) { return out << to_string(number); }
+
+namespace detail {
+
 // The text of a statement of a list.
 class printer {
 public:
@@ -520,7 +601,7 @@ private:
 
     std::string text(const operand &o) const {
         if (const auto *number = std::get_if<constant>(&o)) {
-            return decimal(number->value) + of_width(number->width);
+            return to_string(*number);
         }
         return name(std::get<id>(o));
     }
@@ -538,7 +619,7 @@ private:
             return list("phi " + name(choice->block), ", ", choice->values);
         }
         if (const auto *computed = std::get_if<instruction>(&value)) {
-            return list(std::string(word(computed->operation)), " ", computed->operands);
+            return list(to_string(computed->operation), " ", computed->operands);
         }
         if (const auto *of_block = std::get_if<block>(&value)) {
             return "block " + std::to_string(of_block->predecessors);
@@ -573,6 +654,262 @@ private:
 inline std::string statement_text(const std::vector<statement> &statements, id which) {
     return which.position < statements.size() ? detail::printer(statements).line(statements[which.position]) : std::string();
 }
+
+// ----------------------------------------------------------------
+// Errors
+
+namespace detail {
+
+// The length of the character that the bytes begin with; 0 if they begin with none.
+inline std::size_t character(std::string_view text) noexcept {
+    const auto at = [text](std::size_t i) -> unsigned { return i < text.size() ? static_cast<unsigned char>(text[i]) : 0U; };
+    const auto follows = [at](std::size_t i) { return (at(i) & 0xc0U) == 0x80U; };
+    const unsigned first = at(0), second = at(1);
+    if (first < 0x80) {
+        return text.empty() ? 0 : 1;
+    }
+    if (first >= 0xc2 && first < 0xe0) {
+        return follows(1) ? 2 : 0;
+    }
+    if (first >= 0xe0 && first < 0xf0) {
+        return second >= (first == 0xe0 ? 0xa0U : 0x80U) && second < (first == 0xed ? 0xa0U : 0xc0U) && follows(2) ? 3 : 0;
+    }
+    if (first >= 0xf0 && first < 0xf5) {
+        return second >= (first == 0xf0 ? 0x90U : 0x80U) && second < (first == 0xf4 ? 0x90U : 0xc0U) && follows(2) && follows(3) ? 4 : 0;
+    }
+    return 0;
+}
+
+// The text, with `\xff` and the like for each byte that is in no character.
+inline std::string escaped(std::string_view text) {
+    std::string all;
+    while (!text.empty()) {
+        const std::size_t length = character(text);
+        if (length > 0) {
+            all.append(text.substr(0, length));
+        } else {
+            const auto byte = static_cast<unsigned char>(text.front());
+            all.append("\\x").append(1, "0123456789abcdef"[byte >> 4U]).append(1, "0123456789abcdef"[byte & 15U]);
+        }
+        text.remove_prefix(length > 0 ? length : 1);
+    }
+    return all;
+}
+
+inline bool is_utf8(std::string_view text) noexcept {
+    for (std::size_t length = 1; !text.empty() && length > 0; text.remove_prefix(length)) {
+        length = character(text);
+    }
+    return text.empty();
+}
+
+} // namespace detail
+
+/// Why a call is not done; the names are those of souper.h.
+enum class status : std::uint32_t {
+    done = SOUPER_DONE,
+    refused = SOUPER_REFUSED,
+    no_kind = SOUPER_NO_KIND,
+    out_of_memory = SOUPER_OUT_OF_MEMORY,
+    not_utf8 = SOUPER_NOT_UTF8,
+    no_code = SOUPER_NO_CODE,
+    not_well_formed = SOUPER_NOT_WELL_FORMED,
+    no_flags = SOUPER_NO_FLAGS,
+    stream_ended = 1000 ///< of a `reader`: `finish` came before, or bytes that are not UTF-8
+};
+
+inline std::string to_string(status s) {
+    const auto number = static_cast<std::uint32_t>(s);
+    const std::string_view text = s == status::stream_ended ? "the stream has ended" : souper_status_text(number);
+    return text == "unknown" ? detail::unknown(number) : std::string(text);
+}
+
+inline std::ostream &operator<<(std::ostream &out, status s) { return out << to_string(s); }
+
+/// A statement or a last line of an item.
+enum class flaw_location : std::uint32_t {
+    at_statement = SOUPER_AT_STATEMENT,
+    at_infer = SOUPER_AT_INFER,
+    at_result = SOUPER_AT_RESULT,
+    at_cand = SOUPER_AT_CAND
+};
+
+inline std::string to_string(flaw_location at) {
+    switch (at) {
+    case flaw_location::at_statement:
+        return "statement";
+    case flaw_location::at_infer:
+        return "infer line";
+    case flaw_location::at_result:
+        return "result line";
+    case flaw_location::at_cand:
+        return "cand line";
+    }
+    return detail::unknown(static_cast<std::uint32_t>(at));
+}
+
+inline std::ostream &operator<<(std::ostream &out, flaw_location at) { return out << to_string(at); }
+
+/// Why an item is not well formed, in the order in which the reasons are looked for at one statement or line.
+enum class flaw_reason : std::uint32_t {
+    invalid_name = SOUPER_INVALID_NAME,                      ///< the name is not % and letters, digits, _ or .
+    empty_bits = SOUPER_EMPTY_BITS,                          ///< a list of bits is empty
+    zero_width = SOUPER_ZERO_WIDTH,                          ///< a width is 0
+    use_before_definition = SOUPER_USE_BEFORE_DEFINITION,    ///< an operand or the block is not a statement before this one
+    not_an_assignment = SOUPER_NOT_AN_ASSIGNMENT,            ///< an operand is no assignment
+    not_a_block = SOUPER_NOT_A_BLOCK,                        ///< what is used as a block is none
+    value_count = SOUPER_VALUE_COUNT,                        ///< a phi has not one value per predecessor of its block
+    predecessor_out_of_range = SOUPER_PREDECESSOR_OUT_OF_RANGE, ///< the block of a condition has no such predecessor
+    duplicate_name = SOUPER_DUPLICATE_NAME,                  ///< a needed assignment before it has the same name
+
+    // What has no code. The library does not see such an item, and needed or not, a statement is looked at.
+    name_not_utf8 = 1000, ///< the name is not UTF-8
+    wide,                 ///< a width is over 65535
+    no_bit,               ///< a bit is none
+    no_operation,         ///< an operation is none of the 59
+    operand_count,        ///< an instruction has another number of operands than its operation
+    other_kind,           ///< the last lines are those of another kind
+    no_value              ///< a variant has no value, as after an exception
+};
+
+inline std::string to_string(flaw_reason why) {
+    switch (why) {
+    case flaw_reason::name_not_utf8:
+        return "the name is not UTF-8";
+    case flaw_reason::wide:
+        return "a width is over 65535";
+    case flaw_reason::no_bit:
+        return "a bit is none";
+    case flaw_reason::no_operation:
+        return "the operation is none";
+    case flaw_reason::operand_count:
+        return "it has another number of operands";
+    case flaw_reason::other_kind:
+        return "the item is of another kind";
+    case flaw_reason::no_value:
+        return "a variant has no value";
+    default:
+        const std::string_view text = souper_reason_text(static_cast<std::uint32_t>(why));
+        return text == "unknown" ? detail::unknown(static_cast<std::uint32_t>(why)) : std::string(text);
+    }
+}
+
+inline std::ostream &operator<<(std::ostream &out, flaw_reason why) { return out << to_string(why); }
+
+/// The first flaw of an item: of its needed statements in their order, and then of its last lines.
+struct flaw {
+    flaw_location location = flaw_location::at_statement;
+    flaw_reason reason = flaw_reason::invalid_name;
+    std::size_t position = 0; ///< at_statement: its position, from 0; else 0
+    std::string name = {};    ///< at_statement: the name, if it is an assignment; else empty
+    std::string text = {};    ///< the reason with its numbers, as `add has 2 operands, not 3`; empty if it has none
+
+    /// Where and why, as `not_well_formed` shows it after the item. Bytes of the name that are not UTF-8 are `\xff` and the like.
+    std::string shown() const {
+        std::string all = to_string(location);
+        if (location == flaw_location::at_statement) {
+            all += " " + std::to_string(position);
+        }
+        if (!name.empty()) {
+            all += " (" + detail::escaped(name) + ")";
+        }
+        return all + ": " + (text.empty() ? to_string(reason) : text);
+    }
+};
+
+inline std::string to_string(const flaw &f) { return f.shown(); }
+
+inline std::ostream &operator<<(std::ostream &out, const flaw &f) { return out << f.shown(); }
+
+/// Where a text is at fault: where the token at fault begins or, if the text ended where more is wanted, where it ends, without the
+/// white space at its end.
+struct location {
+    std::size_t offset; ///< in bytes, from the first byte of the text
+    std::size_t line;   ///< from 1
+    std::size_t column; ///< in bytes and from 1
+
+    friend bool operator==(const location &a, const location &b) noexcept {
+        return a.offset == b.offset && a.line == b.line && a.column == b.column;
+    }
+    friend bool operator!=(const location &a, const location &b) noexcept { return !(a == b); }
+};
+
+/// What a `try_` call reports. What is not named for the status is 0, false or empty.
+struct error {
+    status what = status::done;
+    unsigned input = 0;     ///< refused, not_utf8: which text of the call, 0 the first, 1 the second
+    std::size_t index = 0;  ///< no_code, not_well_formed: which item, from 0
+    std::size_t offset = 0; ///< refused: how many bytes were read; no_code, not_well_formed: where the code of the item begins;
+                            ///< not_utf8 of a stream: where the first byte is that is in no character
+    std::size_t line = 0;   ///< refused: the line of the last of these bytes, or of the first byte if there is none; not_utf8 of a
+                            ///< stream: the line of that byte; from 1
+    std::size_t column = 0; ///< refused: its column, in bytes and from 1
+    std::string shown = {}; ///< refused: why and where, in four lines without a newline at the end
+    std::optional<flaw> why = {}; ///< not_well_formed: the first flaw of the item, if it could be asked for; no_code: the flaw, if the
+                                  ///< bytes have a value that is none
+    std::optional<souper::location> location = {}; ///< refused: where the text is at fault; none if memory ran out for it
+    bool at_end = false; ///< refused: whether the text ended where more is wanted; false without a location
+    std::string message = {}; ///< refused: what `shown` says, without the place and the line; else what the exception says; empty if
+                              ///< memory ran out
+};
+
+/// What the exception says.
+inline std::string to_string(const error &e) {
+    return e.what == status::refused ? e.shown : e.message.empty() ? to_string(e.what) : e.message;
+}
+
+inline std::ostream &operator<<(std::ostream &out, const error &e) { return out << to_string(e); }
+
+namespace detail {
+
+// What a refusal says: from the first `: ` to the three lines that show the place.
+inline std::string_view message_of(std::string_view shown) noexcept {
+    std::size_t end = shown.size();
+    for (int line = 0; line < 3 && end != std::string_view::npos; line++) {
+        end = end > 0 ? shown.rfind('\n', end - 1) : std::string_view::npos;
+    }
+    const std::string_view first = shown.substr(0, end);
+    const std::size_t place = first.find(": ");
+    return place == std::string_view::npos ? first : first.substr(place + 2);
+}
+
+inline std::string not_utf8_text(std::size_t offset, std::size_t line) {
+    return line > 0 ? "line " + std::to_string(line) + ": not UTF-8 at byte " + std::to_string(offset) : "the text is not UTF-8";
+}
+
+inline std::string not_well_formed_text(std::size_t index, const std::optional<flaw> &why) {
+    return "item " + std::to_string(index) + " is not well formed" + (why ? ": " + why->shown() : "");
+}
+
+inline std::string bad_code_text(std::size_t offset, const std::optional<flaw> &why) {
+    return "at byte " + std::to_string(offset) + " is the code of no item" + (why ? ": " + why->shown() : "");
+}
+
+inline std::string message_of(const error &e) {
+    switch (e.what) {
+    case status::refused:
+        return std::string(message_of(e.shown));
+    case status::not_utf8:
+        return not_utf8_text(e.offset, e.line);
+    case status::no_kind:
+        return "the kind is none";
+    case status::no_flags:
+        return "a flag is none";
+    case status::no_code:
+        return bad_code_text(e.offset, e.why);
+    case status::not_well_formed:
+        return not_well_formed_text(e.index, e.why);
+    case status::stream_ended:
+        return to_string(e.what);
+    case status::out_of_memory:
+        return {};
+    case status::done:
+        break;
+    }
+    return "the library returned the status " + to_string(e.what);
+}
+
+} // namespace detail
 
 // ----------------------------------------------------------------
 // Building
@@ -623,7 +960,8 @@ public:
         std::string chosen = name.empty() ? "%" + std::to_string(number) : with_percent(name);
 #if defined(__cpp_exceptions)
         if (!is_new(chosen)) {
-            throw std::invalid_argument("the name " + chosen + " is taken");
+            throw std::invalid_argument(
+                flaw{flaw_location::at_statement, flaw_reason::duplicate_name, statements.size(), chosen}.shown());
         }
 #endif
         if (name.empty()) {
@@ -754,97 +1092,7 @@ private:
 } // namespace with_exceptions, or without
 
 // ----------------------------------------------------------------
-// Errors
-
-/// Why a call is not done; the names are those of souper.h.
-enum class status : std::uint32_t {
-    done = SOUPER_DONE,
-    refused = SOUPER_REFUSED,
-    no_kind = SOUPER_NO_KIND,
-    out_of_memory = SOUPER_OUT_OF_MEMORY,
-    not_utf8 = SOUPER_NOT_UTF8,
-    no_code = SOUPER_NO_CODE,
-    not_well_formed = SOUPER_NOT_WELL_FORMED,
-    no_flags = SOUPER_NO_FLAGS
-};
-
-/// A statement or a last line of an item.
-enum class flaw_location : std::uint32_t {
-    at_statement = SOUPER_AT_STATEMENT,
-    at_infer = SOUPER_AT_INFER,
-    at_result = SOUPER_AT_RESULT,
-    at_cand = SOUPER_AT_CAND
-};
-
-/// Why an item is not well formed, in the order in which the reasons are looked for at one statement or line.
-enum class flaw_reason : std::uint32_t {
-    invalid_name = SOUPER_INVALID_NAME,                      ///< the name is not % and letters, digits, _ or .
-    empty_bits = SOUPER_EMPTY_BITS,                          ///< a list of bits is empty
-    zero_width = SOUPER_ZERO_WIDTH,                          ///< a width is 0
-    use_before_definition = SOUPER_USE_BEFORE_DEFINITION,    ///< an operand or the block is not a statement before this one
-    not_an_assignment = SOUPER_NOT_AN_ASSIGNMENT,            ///< an operand is no assignment
-    not_a_block = SOUPER_NOT_A_BLOCK,                        ///< what is used as a block is none
-    value_count = SOUPER_VALUE_COUNT,                        ///< a phi has not one value per predecessor of its block
-    predecessor_out_of_range = SOUPER_PREDECESSOR_OUT_OF_RANGE, ///< the block of a condition has no such predecessor
-    duplicate_name = SOUPER_DUPLICATE_NAME                   ///< a needed assignment before it has the same name
-};
-
-/// The first flaw of an item: of its needed statements in their order, and then of its last lines.
-struct flaw {
-    flaw_location location = flaw_location::at_statement;
-    flaw_reason reason = flaw_reason::invalid_name;
-    std::size_t position = 0; ///< at_statement: its position, from 0; else 0
-    std::string name = {};    ///< at_statement: the name, if it is an assignment; else empty
-
-    /// Where and why, as `not_well_formed` shows it after the item.
-    std::string shown() const {
-        static constexpr const char *lines[] = {"infer line", "result line", "cand line"};
-        static constexpr const char *reasons[] = {"the name is not % and letters, digits, _ or .",
-                                                  "a list of bits is empty",
-                                                  "a width is 0",
-                                                  "it uses what is not a statement before it",
-                                                  "an operand is no assignment",
-                                                  "what it uses as a block is none",
-                                                  "it has not one value per predecessor of its block",
-                                                  "its block has no such predecessor",
-                                                  "an assignment before it has the same name"};
-        std::string text = location == flaw_location::at_statement ? "statement " + std::to_string(position)
-                                                                : lines[static_cast<std::uint32_t>(location) - SOUPER_AT_INFER];
-        if (!name.empty()) {
-            text += " (" + name + ")";
-        }
-        return text + ": " + reasons[static_cast<std::uint32_t>(reason) - SOUPER_INVALID_NAME];
-    }
-};
-
-/// Where a text is at fault: where the token at fault begins or, if the text ended where more is wanted, where it ends, without the
-/// white space at its end.
-struct location {
-    std::size_t offset; ///< in bytes, from the first byte of the text
-    std::size_t line;   ///< from 1
-    std::size_t column; ///< in bytes and from 1
-
-    friend bool operator==(const location &a, const location &b) noexcept {
-        return a.offset == b.offset && a.line == b.line && a.column == b.column;
-    }
-    friend bool operator!=(const location &a, const location &b) noexcept { return !(a == b); }
-};
-
-/// What a `try_` call reports. What is not named for the status is 0, false or empty.
-struct error {
-    status what = status::done;
-    unsigned input = 0;     ///< refused, not_utf8: which text of the call, 0 the first, 1 the second
-    std::size_t index = 0;  ///< no_code, not_well_formed: which item, from 0
-    std::size_t offset = 0; ///< refused: how many bytes were read; no_code, not_well_formed: where the code of the item begins;
-                            ///< not_utf8 of a stream: where the first byte is that is in no character
-    std::size_t line = 0;   ///< refused: the line of the last of these bytes, or of the first byte if there is none; not_utf8 of a
-                            ///< stream: the line of that byte; from 1
-    std::size_t column = 0; ///< refused: its column, in bytes and from 1
-    std::string shown = {}; ///< refused: why and where, in four lines without a newline at the end
-    std::optional<flaw> why = {}; ///< not_well_formed: the first flaw of the item; none if the item has no code
-    std::optional<souper::location> location = {}; ///< refused: where the text is at fault; none if memory ran out for it
-    bool at_end = false; ///< refused: whether the text ended where more is wanted; false without a location
-};
+// Records
 
 /// What `records` returns of an item.
 struct record {
@@ -869,16 +1117,39 @@ constexpr flags operator|(flags a, flags b) noexcept {
 
 namespace detail {
 
-// Appends the code of items.
-class encoder {
-public:
-    explicit encoder(std::string &code) noexcept : out(code) {}
+// The line whose kind is that of the item.
+inline flaw_location last_location(const item &i) noexcept {
+    return std::holds_alternative<result>(i.last) ? flaw_location::at_result
+           : std::holds_alternative<cand>(i.last) ? flaw_location::at_cand
+                                                  : flaw_location::at_infer;
+}
 
-    // Whether each value so far has a code.
-    bool fits = true;
+inline std::string no_operation_text(op operation) { return to_string(operation) + " is no operation"; }
+
+inline std::string operand_count_text(const instruction &i) {
+    const std::size_t wanted = operand_count(i.operation);
+    return to_string(i.operation) + " has " + std::to_string(wanted) + (wanted == 1 ? " operand, not " : " operands, not ") +
+           std::to_string(i.operands.size());
+}
+
+inline std::string other_kind_text(kind is, kind wanted) { return "the item is of the kind " + to_string(is) + ", not " + to_string(wanted); }
+
+// Appends the code of items, or of their parts.
+template <typename Out> class encoder {
+public:
+    explicit encoder(Out &code) noexcept : out(code) {}
+
+    // Where and why the first value is that has no code; `describe` adds its texts.
+    std::optional<flaw> why;
 
     void put(const item &i) {
-        list(i.statements);
+        size(i.statements.size());
+        at.location = flaw_location::at_statement;
+        for (at.position = 0; at.position < i.statements.size(); at.position++) {
+            put(i.statements[at.position]);
+        }
+        at.location = last_location(i);
+        at.position = 0;
         byte(i.last.index());
         if (const auto *lhs = std::get_if<infer>(&i.last)) {
             put(*lhs);
@@ -886,6 +1157,7 @@ public:
             put(rhs->value);
         } else if (const auto *both = std::get_if<infer_result>(&i.last)) {
             put(both->replaced);
+            at.location = flaw_location::at_result;
             put(both->by.value);
         } else if (const auto *pair = std::get_if<cand>(&i.last)) {
             put(pair->replaced);
@@ -894,16 +1166,64 @@ public:
         }
     }
 
+    void put(const statement &s) {
+        byte(s.index());
+        if (const auto *assigned = std::get_if<assignment>(&s)) {
+            put(*assigned);
+        } else if (const auto *condition = std::get_if<pc>(&s)) {
+            put(*condition);
+        } else if (const auto *on_block = std::get_if<blockpc>(&s)) {
+            put(*on_block);
+        }
+    }
+
+    void put(const assignment &assigned) {
+        size(assigned.name.size());
+        out.append(assigned.name.data(), assigned.name.size());
+        if (!is_utf8(assigned.name)) {
+            fail(flaw_reason::name_not_utf8);
+        }
+        width(assigned.width);
+        put(assigned.value);
+        list(assigned.attributes);
+    }
+
+    void put(const pc &condition) {
+        put(condition.x);
+        put(condition.y);
+    }
+
+    void put(const blockpc &on_block) {
+        size(on_block.block.position);
+        plain(on_block.predecessor);
+        put(on_block.x);
+        put(on_block.y);
+    }
+
+    void put(const constant &number) {
+        plain(number.value);
+        width(number.width);
+    }
+
 private:
+    void fail(flaw_reason reason) {
+        if (!why) {
+            why = at;
+            why->reason = reason;
+        }
+    }
+
     template <typename T> void plain(T value) {
         char bytes[sizeof value];
         std::memcpy(bytes, &value, sizeof value);
         out.append(bytes, sizeof value);
     }
 
-    // The index of a variant, a bit or an operation.
+    // The index of a variant.
     void byte(std::size_t value) {
-        fits = fits && value <= UINT8_MAX;
+        if (value > UINT8_MAX) {
+            fail(flaw_reason::no_value);
+        }
         plain(static_cast<std::uint8_t>(value));
     }
 
@@ -919,14 +1239,20 @@ private:
     void bits(const std::string &text, std::string_view digits) {
         size(text.size());
         for (const char digit : text) {
-            byte(digits.find(digit));
+            const std::size_t bit = digits.find(digit);
+            if (bit == std::string_view::npos) {
+                fail(flaw_reason::no_bit);
+            }
+            plain(static_cast<std::uint8_t>(bit));
         }
     }
 
     void width(const std::optional<std::uint32_t> &bits_wide) {
         byte(bits_wide.has_value());
         if (bits_wide) {
-            fits = fits && *bits_wide <= UINT16_MAX;
+            if (*bits_wide > UINT16_MAX) {
+                fail(flaw_reason::wide);
+            }
             plain(static_cast<std::uint16_t>(*bits_wide));
         }
     }
@@ -936,8 +1262,7 @@ private:
         if (const auto *used = std::get_if<id>(&o)) {
             size(used->position);
         } else if (const auto *number = std::get_if<constant>(&o)) {
-            plain(number->value);
-            width(number->width);
+            put(*number);
         }
     }
 
@@ -968,27 +1293,13 @@ private:
             size(choice->block.position);
             list(choice->values);
         } else if (const auto *computed = std::get_if<instruction>(&value)) {
+            if (word(computed->operation).empty()) {
+                fail(flaw_reason::no_operation);
+            } else if (computed->operands.size() != operand_count(computed->operation)) {
+                fail(flaw_reason::operand_count);
+            }
             plain(computed->operation);
             list(computed->operands);
-        }
-    }
-
-    void put(const statement &s) {
-        byte(s.index());
-        if (const auto *assigned = std::get_if<assignment>(&s)) {
-            size(assigned->name.size());
-            out += assigned->name;
-            width(assigned->width);
-            put(assigned->value);
-            list(assigned->attributes);
-        } else if (const auto *condition = std::get_if<pc>(&s)) {
-            put(condition->x);
-            put(condition->y);
-        } else if (const auto *on_block = std::get_if<blockpc>(&s)) {
-            size(on_block->block.position);
-            plain(on_block->predecessor);
-            put(on_block->x);
-            put(on_block->y);
         }
     }
 
@@ -997,8 +1308,48 @@ private:
         list(i.attributes);
     }
 
-    std::string &out;
+    Out &out;
+
+    // The place of what is coded.
+    flaw at = {};
 };
+
+// Adds the name and the text to the flaw of an item that has no code, or not one of the kind.
+inline void describe(flaw &f, const item &i, std::optional<kind> wanted) {
+    const assignment *assigned = f.location == flaw_location::at_statement ? i.at(id{f.position}) : nullptr;
+    const instruction *computed = assigned != nullptr ? std::get_if<instruction>(&assigned->value) : nullptr;
+    if (assigned != nullptr) {
+        f.name = assigned->name;
+    }
+    if (f.reason == flaw_reason::no_operation && computed != nullptr) {
+        f.text = no_operation_text(computed->operation);
+    } else if (f.reason == flaw_reason::operand_count && computed != nullptr) {
+        f.text = operand_count_text(*computed);
+    } else if (f.reason == flaw_reason::no_bit) {
+        f.text = assigned != nullptr ? "a bit is not 0, 1 or x" : "a bit is not 0 or 1";
+    } else if (f.reason == flaw_reason::other_kind && wanted) {
+        f.text = other_kind_text(kind_of(i), *wanted);
+    }
+}
+
+// Takes a code, and keeps its hash alone: FNV-1a of 64 bits.
+class hash_sink {
+public:
+    std::uint64_t hash = 0xcbf29ce484222325U;
+
+    void append(const char *bytes, std::size_t count) noexcept {
+        for (std::size_t i = 0; i < count; i++) {
+            hash = (hash ^ static_cast<unsigned char>(bytes[i])) * 0x100000001b3U;
+        }
+    }
+};
+
+// Equal values have equal codes.
+template <typename T> std::size_t hash_of(const T &value) noexcept {
+    hash_sink sink;
+    encoder<hash_sink>(sink).put(value);
+    return sink.hash;
+}
 
 // Reads items from the front of a code. Past a byte that no code has there, or past the end, `good` is false and the values that
 // are read mean nothing. A list is not longer than the bytes that are left allow, so memory is bounded by the length of the code.
@@ -1008,13 +1359,21 @@ public:
 
     bool good = true;
 
+    // Where and why a value is none. Nothing if bytes are missing, or a variant has another number.
+    std::optional<flaw> why;
+
     std::size_t left() const noexcept { return rest.size(); }
 
     item get_item(kind k) {
+        at.location = flaw_location::at_statement;
+        at.position = 0;
         item i{list<statement>(least_statement, &decoder::get_statement), {}};
+        at.location = flaw_location::at_infer;
+        at.position = 0;
         i.last = get_last();
-        if (kind_of(i) != k) {
-            fail();
+        at.location = last_location(i);
+        if (good && kind_of(i) != k) {
+            fail(flaw_reason::other_kind, other_kind_text(kind_of(i), k));
         }
         return i;
     }
@@ -1026,6 +1385,13 @@ private:
     void fail() noexcept {
         good = false;
         rest = {};
+    }
+
+    void fail(flaw_reason reason, std::string text = {}) {
+        why = at;
+        why->reason = reason;
+        why->text = std::move(text);
+        fail();
     }
 
     template <typename T> T plain() noexcept {
@@ -1074,12 +1440,20 @@ private:
         return bytes;
     }
 
+    std::string name() {
+        std::string all = text();
+        if (good && !is_utf8(all)) {
+            fail(flaw_reason::name_not_utf8);
+        }
+        return all;
+    }
+
     std::string bits(std::string_view digits) {
         std::string all = text();
         for (char &bit : all) {
             const auto value = static_cast<unsigned char>(bit);
             if (value >= digits.size()) {
-                fail();
+                fail(flaw_reason::no_bit);
                 return all;
             }
             bit = digits[value];
@@ -1135,10 +1509,13 @@ private:
     std::vector<root_attribute> root_attributes() { return list<root_attribute>(least_attribute, &decoder::get_root_attribute); }
 
     instruction get_instruction() {
-        constexpr std::size_t operations = static_cast<std::size_t>(op::freeze) + 1;
-        instruction computed{static_cast<op>(byte(operations)), operands()};
-        if (good && computed.operands.size() != operand_count(computed.operation)) {
-            fail();
+        const auto operation = static_cast<op>(plain<std::uint8_t>());
+        if (good && word(operation).empty()) {
+            fail(flaw_reason::no_operation, no_operation_text(operation));
+        }
+        instruction computed{operation, operands()};
+        if (good && computed.operands.size() != operand_count(operation)) {
+            fail(flaw_reason::operand_count, operand_count_text(computed));
         }
         return computed;
     }
@@ -1165,10 +1542,15 @@ private:
     statement get_statement() {
         const auto which = byte(std::variant_size_v<statement>);
         if (which == 0) {
-            assignment assigned{text(), width(), get_right_side(), {}};
+            assignment assigned{name(), width(), get_right_side(), {}};
             assigned.attributes = list<attribute>(least_attribute, &decoder::get_attribute);
+            if (why) {
+                why->name = assigned.name;
+            }
+            at.position++;
             return assigned;
         }
+        at.position++;
         if (which == 1) {
             return pc{get_operand(), get_operand()};
         }
@@ -1186,22 +1568,31 @@ private:
         case 2:
             return infer_result{get_infer(), {get_operand()}};
         default:
+            at.location = flaw_location::at_cand;
             return cand{get_operand(), get_operand(), root_attributes()};
         }
     }
 
     std::string_view rest;
+
+    // The place of what is read.
+    flaw at = {};
 };
 
-// The code of items; false with `index` if one of their values has none.
-inline bool encode(const item *items, std::size_t count, std::string &code, error &e) {
-    encoder to(code);
+// The code of items, which are to be of the kind, if one is given. (Of a kind that is none the library says so.)
+inline bool encode(std::optional<kind> wanted, const item *items, std::size_t count, std::string &code, error &e) {
+    encoder<std::string> to(code);
     for (std::size_t i = 0; i < count; i++) {
         e.offset = code.size();
         to.put(items[i]);
-        if (!to.fits) {
+        if (!to.why && wanted && !word(*wanted).empty() && kind_of(items[i]) != *wanted) {
+            to.why = flaw{last_location(items[i]), flaw_reason::other_kind};
+        }
+        if (to.why) {
+            describe(*to.why, items[i], wanted);
             e.what = status::not_well_formed;
             e.index = i;
+            e.why = std::move(to.why);
             return false;
         }
     }
@@ -1222,6 +1613,7 @@ inline bool decode(kind k, std::string_view code, std::vector<item> &items, erro
             e.what = status::no_code;
             e.index = items.size() - 1;
             e.offset = begin;
+            e.why = std::move(from.why);
             return false;
         }
     }
@@ -1318,7 +1710,7 @@ inline std::optional<flaw> flaw_of(kind k, std::string_view code, const item &on
 
 inline bool write(kind k, const item *items, std::size_t count, std::string &out, error &e) {
     std::string code;
-    if (!encode(items, count, code, e)) {
+    if (!encode(k, items, count, code, e)) {
         return false;
     }
     if (collect(out, code.size() + 256, e, [k, &code](std::uint8_t *to, std::size_t room) {
@@ -1326,10 +1718,10 @@ inline bool write(kind k, const item *items, std::size_t count, std::string &out
         })) {
         return true;
     }
-    if (e.what == status::not_well_formed) {
+    if (e.what == status::not_well_formed && e.index < count && e.offset <= code.size()) {
         e.why = flaw_of(k, std::string_view(code).substr(e.offset), items[e.index]);
     }
-    // What has no code has a name that is not UTF-8, another number of operands, or last lines of another kind.
+    // A library of another version may have other codes.
     e.what = e.what == status::no_code ? status::not_well_formed : e.what;
     return false;
 }
@@ -1432,6 +1824,9 @@ template <typename Output, typename Call> bool made(Output &out, error &e, Call 
     Output fresh{};
     e = error();
     const bool done = call(fresh, e);
+    if (!done) {
+        e.message = message_of(e);
+    }
     out = done ? std::move(fresh) : Output{};
     return done;
 }
@@ -1487,6 +1882,11 @@ inline namespace SOUPER_FORM {
     return detail::guarded(text, e, [&](auto &o, error &why) { return detail::write(k, &one, 1, o, why); });
 }
 
+/// The same of the item's own kind.
+[[nodiscard]] inline bool try_write(const item &one, std::string &text, error &e) noexcept {
+    return try_write(kind_of(one), one, text, e);
+}
+
 /// See `canonical`.
 [[nodiscard]] inline bool try_canonical(kind k, const std::vector<item> &items, std::vector<item> &out, error &e) noexcept {
     return detail::guarded(out, e, [&](auto &o, error &why) { return detail::canonical(k, items.data(), items.size(), o, why); });
@@ -1510,12 +1910,25 @@ inline namespace SOUPER_FORM {
 
 /// See `encode`.
 [[nodiscard]] inline bool try_encode(const std::vector<item> &items, std::string &code, error &e) noexcept {
-    return detail::guarded(code, e, [&](auto &o, error &why) { return detail::encode(items.data(), items.size(), o, why); });
+    return detail::guarded(code, e,
+                           [&](auto &o, error &why) { return detail::encode(std::nullopt, items.data(), items.size(), o, why); });
 }
 
 /// See `decode`.
 [[nodiscard]] inline bool try_decode(kind k, std::string_view code, std::vector<item> &items, error &e) noexcept {
     return detail::guarded(items, e, [&](auto &o, error &why) { return detail::decode(k, code, o, why); });
+}
+
+/// What `write` returns. If it is not done, nothing is printed, and the stream fails.
+inline std::ostream &operator<<(std::ostream &out, const item &one) {
+    std::string text;
+    error e;
+    if (try_write(one, text, e)) {
+        out << text;
+    } else {
+        out.setstate(std::ios_base::failbit);
+    }
+    return out;
 }
 
 } // namespace SOUPER_FORM
@@ -1535,6 +1948,9 @@ public:
     /// What `what()` shows, also after a byte 0.
     const std::string &shown() const noexcept { return *text; }
 
+    /// What it shows, without the place and the line.
+    std::string message() const { return std::string(detail::message_of(*text)); }
+
     std::size_t offset; ///< how many bytes were read
     std::size_t line;   ///< the line of the last of these, or of the first byte if there is none; from 1
     std::size_t column; ///< its column, in bytes and from 1
@@ -1549,11 +1965,10 @@ private:
 /// A text is not UTF-8.
 class not_utf8 : public std::invalid_argument {
 public:
-    explicit not_utf8(unsigned which) : std::invalid_argument("the text is not UTF-8"), input(which) {}
+    explicit not_utf8(unsigned which) : std::invalid_argument(detail::not_utf8_text(0, 0)), input(which) {}
 
     not_utf8(std::size_t where, std::size_t on_line)
-        : std::invalid_argument("line " + std::to_string(on_line) + ": not UTF-8 at byte " + std::to_string(where)), offset(where),
-          line(on_line) {}
+        : std::invalid_argument(detail::not_utf8_text(where, on_line)), offset(where), line(on_line) {}
 
     unsigned input = 0;     ///< which text of the call: 0 the first, 1 the second
     std::size_t offset = 0; ///< of a stream: where the first byte is that is in no character
@@ -1564,21 +1979,23 @@ public:
 class not_well_formed : public std::invalid_argument {
 public:
     explicit not_well_formed(std::size_t which, std::optional<flaw> reason = std::nullopt)
-        : std::invalid_argument("item " + std::to_string(which) + " is not well formed" + (reason ? ": " + reason->shown() : "")),
-          index(which), why(reason ? std::make_shared<const flaw>(*reason) : nullptr) {}
+        : std::invalid_argument(detail::not_well_formed_text(which, reason)), index(which),
+          why(reason ? std::make_shared<const flaw>(*reason) : nullptr) {}
 
     std::size_t index;               ///< which item, from 0
-    std::shared_ptr<const flaw> why; ///< its first flaw; null if a value of the item has no code
+    std::shared_ptr<const flaw> why; ///< its first flaw; null if memory ran out for it
 };
 
 /// Bytes are the code of no list of items of the kind.
 class bad_code : public std::runtime_error {
 public:
-    bad_code(std::size_t which, std::size_t begin)
-        : std::runtime_error("at byte " + std::to_string(begin) + " is the code of no item"), index(which), offset(begin) {}
+    bad_code(std::size_t which, std::size_t begin, std::optional<flaw> reason = std::nullopt)
+        : std::runtime_error(detail::bad_code_text(begin, reason)), index(which), offset(begin),
+          why(reason ? std::make_shared<const flaw>(*reason) : nullptr) {}
 
-    std::size_t index;  ///< how many items come before
-    std::size_t offset; ///< where the bytes begin that are the code of no item
+    std::size_t index;               ///< how many items come before
+    std::size_t offset;              ///< where the bytes begin that are the code of no item
+    std::shared_ptr<const flaw> why; ///< which value is none; null if bytes are missing, or mean nothing
 };
 
 namespace detail {
@@ -1591,18 +2008,20 @@ namespace detail {
     case status::not_utf8:
         throw e.line > 0 ? not_utf8(e.offset, e.line) : not_utf8(e.input);
     case status::no_kind:
-        throw std::invalid_argument("the kind is none");
     case status::no_flags:
-        throw std::invalid_argument("a flag is none");
+        throw std::invalid_argument(e.message);
     case status::no_code:
-        throw bad_code(e.index, e.offset);
+        throw bad_code(e.index, e.offset, e.why);
     case status::not_well_formed:
         throw not_well_formed(e.index, e.why);
-    case status::done:
+    case status::stream_ended:
+        throw std::logic_error(e.message);
     case status::out_of_memory:
+        throw std::bad_alloc();
+    case status::done:
         break;
     }
-    throw std::bad_alloc();
+    throw std::runtime_error(e.message);
 }
 
 // The output of a call.
@@ -1650,6 +2069,9 @@ inline std::string write(kind k, const item &one) {
     return detail::output<std::string>([&](std::string &out, error &e) { return try_write(k, one, out, e); });
 }
 
+/// The same of the item's own kind.
+inline std::string write(const item &one) { return write(kind_of(one), one); }
+
 /// The items of the canonical texts of items. The statements of each are the needed ones in printed order, uses before their
 /// users, so a loop over `statements` is a walk of the graph in that order.
 inline std::vector<item> canonical(kind k, const std::vector<item> &items) {
@@ -1685,14 +2107,14 @@ inline std::vector<std::vector<std::string>> find(std::string_view store, std::s
         [&](std::vector<std::vector<std::string>> &out, error &e) { return try_find(store, queries, out, e); });
 }
 
-/// The code of items, which `decode` and souper_write read. Throws `not_well_formed` if an item has a value without a code: a
-/// width of more than 65535, or a bit that is none.
+/// The code of items, which `decode` and souper_write read. Throws `not_well_formed` if an item has a value without a code: the reasons
+/// are those of `flaw_reason` from 1000 on.
 inline std::string encode(const std::vector<item> &items) {
     return detail::output<std::string>([&](std::string &out, error &e) { return try_encode(items, out, e); });
 }
 
-/// The items whose code this is. It reads nothing outside the code, and allocates at most a constant times its length. That the
-/// items are well formed, it does not test.
+/// The items whose code this is. It reads nothing outside the code, and allocates at most a constant times its length, and the text of
+/// an error. That the items are well formed, it does not test.
 inline std::vector<item> decode(kind k, std::string_view code) {
     return detail::output<std::vector<item>>([&](std::vector<item> &out, error &e) { return try_decode(k, code, out, e); });
 }
@@ -1710,26 +2132,6 @@ inline std::size_t newlines(std::string_view text) noexcept {
         count += byte == '\n';
     }
     return count;
-}
-
-// The length of the character that the bytes begin with; 0 if they begin with none.
-inline std::size_t character(std::string_view text) noexcept {
-    const auto at = [text](std::size_t i) -> unsigned { return i < text.size() ? static_cast<unsigned char>(text[i]) : 0U; };
-    const auto follows = [at](std::size_t i) { return (at(i) & 0xc0U) == 0x80U; };
-    const unsigned first = at(0), second = at(1);
-    if (first < 0x80) {
-        return text.empty() ? 0 : 1;
-    }
-    if (first >= 0xc2 && first < 0xe0) {
-        return follows(1) ? 2 : 0;
-    }
-    if (first >= 0xe0 && first < 0xf0) {
-        return second >= (first == 0xe0 ? 0xa0U : 0x80U) && second < (first == 0xed ? 0xa0U : 0xc0U) && follows(2) ? 3 : 0;
-    }
-    if (first >= 0xf0 && first < 0xf5) {
-        return second >= (first == 0xf0 ? 0x90U : 0x80U) && second < (first == 0xf4 ? 0x90U : 0xc0U) && follows(2) && follows(3) ? 4 : 0;
-    }
-    return 0;
 }
 
 // The length of the white space and the comments that the text begins with. (Of white space that is not ASCII it knows nothing.)
@@ -1760,10 +2162,10 @@ inline std::string shown(std::string_view message, std::size_t line, std::size_t
 // Gives the refusal of a segment its place and its location in the stream.
 inline void place(error &e, const before &b) {
     const std::string_view all = e.shown;
-    const std::size_t head = all.find(": ") + 2;
-    const std::size_t marks = all.rfind('\n'), line = all.rfind('\n', marks - 1), bar = all.rfind('\n', line - 1);
+    const std::size_t marks = all.rfind('\n'), line = all.rfind('\n', marks - 1);
     std::string_view text = all.substr(line + 1, marks - line - 1);
-    text.remove_prefix(text.find(" | ") + 3);
+    const std::size_t bar = text.find(" | ");
+    text.remove_prefix(bar == std::string_view::npos ? text.size() : bar + 3);
     if (e.offset == 0 && b.bytes > 0) {
         // The byte before is the newline of the line before.
         e.line = b.lines;
@@ -1773,7 +2175,7 @@ inline void place(error &e, const before &b) {
     } else {
         e.line += b.lines;
     }
-    e.shown = shown(all.substr(head, bar - head), e.line, e.column, text);
+    e.shown = shown(message_of(all), e.line, e.column, text);
     e.offset += b.bytes;
     if (e.location) {
         e.location->offset += b.bytes;
@@ -1796,24 +2198,29 @@ public:
     /// It takes more time.
     explicit reader(kind of, bool by_segments = false) noexcept : items_of(of), each_segment(by_segments) {}
 
-    /// The next bytes of the stream, cut anywhere. After `finish` this is a `std::logic_error`; without exceptions they are not taken.
+    /// The next bytes of the stream, cut anywhere. After `finish`, and after bytes that are not UTF-8, this is a `std::logic_error`;
+    /// without exceptions the bytes are then not taken, which `try_push` reports.
     void push(std::string_view part) {
-        if (ended) {
-#if defined(__cpp_exceptions)
-            throw std::logic_error("the stream has ended");
-#else
+        if (!ended) {
+            append(part);
             return;
+        }
+#if defined(__cpp_exceptions)
+        throw std::logic_error(to_string(status::stream_ended));
 #endif
-        }
-        if (start > 0 && start >= buffer.size() - start) {
-            buffer.erase(0, start);
-            start = 0;
-        }
-        buffer.append(part);
-        const std::size_t newline = part.rfind('\n');
-        if (newline != std::string_view::npos) {
-            whole = buffer.size() - start - (part.size() - newline - 1);
-        }
+    }
+
+    /// See `push`.
+    [[nodiscard]] bool try_push(std::string_view part, error &e) noexcept {
+        bool taken = false;
+        return detail::guarded(taken, e, [this, part](bool &, error &why) {
+            if (ended) {
+                why.what = status::stream_ended;
+                return false;
+            }
+            append(part);
+            return true;
+        });
     }
 
     /// Nothing comes after what was pushed.
@@ -1841,7 +2248,55 @@ public:
     /// The line of that byte, from 1.
     std::size_t line() const noexcept { return part_line; }
 
+#if defined(__cpp_exceptions)
+    /// What `begin` returns: it reads on when it is incremented.
+    class iterator {
+    public:
+        using iterator_category = std::input_iterator_tag;
+        using value_type = item;
+        using difference_type = std::ptrdiff_t;
+        using pointer = item *;
+        using reference = item &;
+
+        iterator() = default;
+        explicit iterator(reader &source) : from(&source) { ++*this; }
+
+        item &operator*() const noexcept { return *from->current; }
+        item *operator->() const noexcept { return &*from->current; }
+
+        iterator &operator++() {
+            from->current = from->next();
+            from = from->current ? from : nullptr;
+            return *this;
+        }
+        void operator++(int) { ++*this; }
+
+        friend bool operator==(const iterator &a, const iterator &b) noexcept { return a.from == b.from; }
+        friend bool operator!=(const iterator &a, const iterator &b) noexcept { return !(a == b); }
+
+    private:
+        reader *from = nullptr; // null at the end
+    };
+
+    /// `for (souper::item &one : from)` takes the items that `next` returns, and ends when it returns none. It throws what `next`
+    /// throws. Another loop, after the next `push` or after an exception, takes the items that follow.
+    iterator begin() { return iterator(*this); }
+    iterator end() noexcept { return {}; }
+#endif
+
 private:
+    void append(std::string_view part) {
+        if (start > 0 && start >= buffer.size() - start) {
+            buffer.erase(0, start);
+            start = 0;
+        }
+        buffer.append(part);
+        const std::size_t newline = part.rfind('\n');
+        if (newline != std::string_view::npos) {
+            whole = buffer.size() - start - (part.size() - newline - 1);
+        }
+    }
+
     std::string_view unread() const noexcept { return std::string_view(buffer).substr(start); }
 
     bool take(std::optional<item> &out, error &e) {
@@ -1901,7 +2356,10 @@ private:
         const SouperOutcome segment = souper_first_segment(static_cast<std::uint32_t>(items_of), detail::bytes(rest), rest.size());
         if (segment.status != SOUPER_DONE) {
             detail::report(segment, e);
-            locate_bytes(rest, e);
+            if (e.what == status::not_utf8) {
+                locate_bytes(rest, e);
+                ended = true;
+            }
             return false;
         }
         const std::size_t left = rejected - segment.length;
@@ -1968,6 +2426,7 @@ private:
     std::size_t part_line = 1;
     std::vector<item> items; // of the last part
     std::size_t index = 0;
+    std::optional<item> current; // of an iterator
 };
 
 } // namespace SOUPER_FORM
@@ -1978,5 +2437,17 @@ private:
 template <> struct std::hash<souper::id> {
     std::size_t operator()(souper::id of) const noexcept { return std::hash<std::size_t>()(of.position); }
 };
+
+// With these `souper::operand` and `souper::statement` have one too, being variants.
+#define SOUPER_X(type) \
+    template <> struct std::hash<souper::type> { \
+        std::size_t operator()(const souper::type &of) const noexcept { return souper::detail::hash_of(of); } \
+    };
+SOUPER_X(constant)
+SOUPER_X(assignment)
+SOUPER_X(pc)
+SOUPER_X(blockpc)
+SOUPER_X(item)
+#undef SOUPER_X
 
 #endif

@@ -247,10 +247,10 @@ private:
     static void print(const Instruction &instruction, const souper::item &lhs) {
         std::string text;
         souper::error error;
-        if (souper::try_write(souper::kind::lhs, lhs, text, error)) {
+        if (souper::try_write(lhs, text, error)) {
             llvm::outs() << ";" << instruction << "\n" << text;
         } else {
-            llvm::errs() << "no left-hand side of" << instruction << ": status " << static_cast<unsigned>(error.what) << "\n";
+            llvm::errs() << "no left-hand side of" << instruction << ": " << souper::to_string(error) << "\n";
         }
     }
 };

@@ -80,7 +80,7 @@ int main(int argc, char **argv) {
         status = 1;
         break;
     default:
-        fprintf(stderr, "%s: %s\n", argv[2], outcome.status == SOUPER_NOT_UTF8 ? "not UTF-8" : "out of memory");
+        fprintf(stderr, "%s: %s\n", argv[2], souper_status_text(outcome.status));
     }
     free(out);
     free(text);

@@ -8,12 +8,6 @@
 #include <string>
 #include <vector>
 
-// What the first line of a refusal says after its place, which is that of the byte before the fault.
-static std::string message(const souper::refused &refusal) {
-    const std::string first = refusal.shown().substr(0, refusal.shown().find('\n'));
-    return first.substr(first.find(": ") + 2);
-}
-
 int main(int argc, char **argv) {
     std::map<std::string, std::vector<std::string>> files_of;
     int status = 0;
@@ -29,7 +23,7 @@ int main(int argc, char **argv) {
             files_of[souper::format(souper::kind::lhs, text)].push_back(argv[i]);
         } catch (const souper::refused &refusal) {
             const auto at = refusal.location.value_or(souper::location{refusal.offset, refusal.line, refusal.column});
-            std::cerr << argv[i] << ":" << at.line << ":" << at.column << ": " << message(refusal) << "\n";
+            std::cerr << argv[i] << ":" << at.line << ":" << at.column << ": " << refusal.message() << "\n";
             status = 1;
         } catch (const souper::not_utf8 &error) {
             std::cerr << argv[i] << ": " << error.what() << "\n";

@@ -55,7 +55,7 @@ static int read_segments(uint32_t kind, const uint8_t *text, size_t length, size
             fprintf(stderr, "%zu:%zu: refused\n", *line + at.line, at.column);
             status = 1;
         } else if (done != SOUPER_DONE) {
-            fprintf(stderr, "after line %zu: %s\n", *line, done == SOUPER_NOT_UTF8 ? "not UTF-8" : "out of memory");
+            fprintf(stderr, "after line %zu: %s\n", *line, souper_status_text(done));
             return 3;
         }
         *line += count_lines(text, segment.length);

@@ -338,6 +338,20 @@ static void numbers(void) {
     }
 }
 
+/* The texts of the numbers that the header has are distinct; every other number is unknown. */
+static void texts(const char *(*text_of)(uint32_t), uint32_t first, uint32_t last) {
+    static const uint32_t none[] = {10, 11, 1000, 0x80000000u, UINT32_MAX};
+    for (uint32_t number = first; number <= last; number++) {
+        expect(strcmp(text_of(number), "unknown") != 0, "a text", NULL);
+        for (uint32_t other = first; other < number; other++) {
+            expect(strcmp(text_of(number), text_of(other)) != 0, "another text", NULL);
+        }
+    }
+    for (size_t i = 0; i < sizeof none / sizeof *none; i++) {
+        expect(strcmp(text_of(none[i]), "unknown") == 0, "a number without a text", NULL);
+    }
+}
+
 int main(int argc, char **argv) {
     size_t count;
     Record *records = read_records(argc == 2 ? argv[1] : "", &count);
@@ -360,6 +374,10 @@ int main(int argc, char **argv) {
     locations();
     found();
     numbers();
+    texts(souper_status_text, SOUPER_DONE, SOUPER_NO_FLAGS);
+    texts(souper_reason_text, SOUPER_INVALID_NAME, SOUPER_DUPLICATE_NAME);
+    expect(strcmp(souper_status_text(SOUPER_NOT_UTF8), "not UTF-8") == 0, "the text of a status", NULL);
+    expect(strcmp(souper_reason_text(0), "unknown") == 0, "a reason of 0", NULL);
     free_records(records);
     return summary("C: the stored answers, every length of the buffer, the questions, codes, records and answers");
 }

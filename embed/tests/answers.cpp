@@ -18,7 +18,9 @@ template <typename Call> bool is_refused(Call call, std::string_view shown, unsi
         return false;
     } catch (const souper::refused &refusal) {
         const std::string head = "unknown:" + std::to_string(refusal.line) + ":" + std::to_string(refusal.column) + ": ";
-        return refusal.shown() == shown && refusal.what() == shown.substr(0, shown.find('\0')) && refusal.input == input
+        const std::string message = refusal.message();
+        return !message.empty() && shown.substr(head.size(), message.size()) == message && shown[head.size() + message.size()] == '\n'
+            && refusal.shown() == shown && refusal.what() == shown.substr(0, shown.find('\0')) && refusal.input == input
             && refusal.offset + 1 >= refusal.column && shown.substr(0, head.size()) == head && refusal.location
             && (refusal.at_end || refusal.location->offset == refusal.offset);
     }
@@ -57,6 +59,11 @@ void bytes() {
     const souper::kind kind = souper::kind::rep;
     expect(souper::format(kind, {}).empty(), "a view without bytes", nullptr);
     expect(souper::check(kind, {}) && souper::same(kind, {}, {}), "questions of a view without bytes", nullptr);
+    const std::string_view null(nullptr, 0);
+    expect(souper::format(kind, null).empty() && souper::check(kind, null) && souper::same(kind, null, "") && souper::read(kind, null).empty()
+               && souper::key(kind, null).empty() && souper::records(kind, null).empty() && souper::find(null, null).empty()
+               && souper::find(null, "%x = var infer %x").size() == 1 && souper::decode(kind, null).empty(),
+           "null and length 0", nullptr);
     expect(is_not_utf8([&] { return souper::format(kind, "\xff"); }, 0), "no text, format", nullptr);
     expect(is_not_utf8([&] { return souper::check(kind, "\xff"); }, 0), "no text, check", nullptr);
     expect(is_not_utf8([&] { return souper::same(kind, "", "\xff"); }, 1), "no text, same", nullptr);
@@ -148,8 +155,8 @@ void wrong_kind() {
     try {
         souper::format(static_cast<souper::kind>(7), "");
         expect(false, "the exception of a kind that is none", nullptr);
-    } catch (const std::invalid_argument &) {
-        expect(true, "the exception of a kind that is none", nullptr);
+    } catch (const std::invalid_argument &error) {
+        expect(error.what() == std::string("the kind is none"), "the exception of a kind that is none", nullptr);
     }
 }
 

@@ -133,7 +133,8 @@ bool has_allocations() {
     return allocated > before;
 }
 
-// The decoder allocates at most this many bytes for each byte of a code: an attribute of one byte is a value of 48.
+// The decoder allocates at most this many bytes for each byte of a code, where an attribute of one byte is a value of 48, and as many for
+// the text of an error.
 constexpr std::size_t most = 200;
 
 void memory(const sample &from, std::string_view code) {
@@ -144,7 +145,7 @@ void memory(const sample &from, std::string_view code) {
     souper::error e;
     const std::size_t before = allocated;
     static_cast<void>(souper::try_decode(from.of, code, items, e));
-    expect(allocated - before <= most * code.size(), "the memory of the decoder", nullptr);
+    expect(allocated - before <= most * (code.size() + 1), "the memory of the decoder", nullptr);
 }
 
 // Lists of the shortest elements, whose values are the longest compared with their codes.
@@ -227,7 +228,8 @@ void change_assignment(generator &random, souper::assignment &a, std::size_t sta
     } else if (auto *block = std::get_if<souper::block>(&a.value)) {
         block->predecessors = static_cast<std::uint32_t>(below(random, 4));
     } else {
-        a.name = below(random, 2) == 0 ? "%x" : "%" + std::to_string(below(random, 9)) + static_cast<char>(random());
+        // A name that is not UTF-8 has no code; `change_bytes` makes such ones.
+        a.name = below(random, 2) == 0 ? "%x" : "%" + std::to_string(below(random, 9)) + static_cast<char>(below(random, 128));
     }
 }
 

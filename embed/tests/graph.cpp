@@ -9,6 +9,7 @@ extern "C" {
 #include <fstream>
 #include <sstream>
 #include <string>
+#include <unordered_set>
 
 namespace {
 
@@ -84,9 +85,11 @@ void acceptance(const Record &record, kind k, std::string_view text, std::string
     const std::string code = code_of(k, text);
     const auto items = souper::read(k, text);
     expect(souper::encode(items) == code, "the code of its values", &record);
-    expect(souper::decode(k, code) == items, "the values of its code", &record);
-    for (const item &i : items) {
-        expect(souper::kind_of(i) == k && uses_lie_before(i), "an item", &record);
+    const auto decoded = souper::decode(k, code);
+    expect(decoded == items && !(decoded != items), "the values of its code", &record);
+    for (std::size_t i = 0; i < items.size(); i++) {
+        expect(souper::kind_of(items[i]) == k && uses_lie_before(items[i]), "an item", &record);
+        expect(std::hash<item>()(items[i]) == std::hash<item>()(decoded.at(i)), "its hash", &record);
     }
     expect(souper::write(k, items) == answer, "the text of its values", &record);
     const auto canonical = souper::canonical(k, items);
@@ -120,7 +123,13 @@ void refusal(const Record &record, kind k, std::string_view text, std::string_vi
 // Items that are built, and their texts.
 
 void prints(const char *what, const item &i, const std::string &text) {
-    expect(souper::write(souper::kind_of(i), i) == text + "\n", what, nullptr);
+    expect(souper::write(souper::kind_of(i), i) == text + "\n" && souper::write(i) == text + "\n", what, nullptr);
+}
+
+template <typename T> std::string shown(const T &value) {
+    std::ostringstream out;
+    out << value;
+    return out.str();
 }
 
 void built_lhs() {
@@ -160,7 +169,7 @@ void built_names() {
         more.var("%x");
         expect(false, "a name that is taken", nullptr);
     } catch (const std::invalid_argument &error) {
-        expect(error.what() == std::string("the name %x is taken"), "a name that is taken", nullptr);
+        expect(error.what() == std::string("statement 3 (%x): an assignment before it has the same name"), "a name that is taken", nullptr);
     }
     prints("a builder over an item", more.infer(more.inst(op::add, {id{1}, y}, "z", 8)),
            "%2 = var\n%x = add %2, 1\n%3 = var\n%z:i8 = add %x, %3\ninfer %z\n");
@@ -203,6 +212,70 @@ void values() {
                !souper::op_named("frieze") && !souper::op_named(""),
            "words", nullptr);
     expect(souper::statement_text(souper::read(kind::lhs, "pc 1 1 %x = var infer %x")[0].statements, id{2}).empty(), "no statement", nullptr);
+}
+
+// Values differ as they compare; a hash is that of the value.
+void differences() {
+    const auto items =
+        souper::read(kind::rep, "%x:i8 = var (nonZero) cand %x 1 (harvestedFromUse) %x:i8 = var (negative) infer %x result 1");
+    const item &a = items[0], &b = items[1];
+    expect(a != b && !(a != items[0]) && a.statements[0] != b.statements[0] && a.last != b.last, "items that differ", nullptr);
+    expect(a.at(id{0})->attributes[0] != b.at(id{0})->attributes[0] && a.at(id{0})->value == b.at(id{0})->value,
+           "attributes that differ", nullptr);
+    expect(souper::operand(id{1}) != souper::operand(constant{1})
+               && souper::right_side(souper::block{1}) != souper::right_side(souper::block{2})
+               && souper::root_attribute(souper::demanded_bits{"0"}) != souper::root_attribute(souper::demanded_bits{"1"}),
+           "other values that differ", nullptr);
+    const std::unordered_set<item> set(items.begin(), items.end());
+    expect(set.size() == 2 && set.count(a) == 1, "a set of items", nullptr);
+    const std::unordered_set<souper::operand> operands{id{1}, constant{1}, constant{1, 8}, constant{-1}, id{1}, constant{1, 8}};
+    expect(operands.size() == 4 && operands.count(constant{1, 9}) == 0, "a set of operands", nullptr);
+    std::unordered_set<std::size_t> hashes;
+    for (int number = 0; number < 1000; number++) {
+        hashes.insert(std::hash<souper::operand>()(constant{number, 8}));
+        hashes.insert(std::hash<souper::statement>()(souper::pc{constant{number}, constant{1}}));
+    }
+    expect(hashes.size() > 1990, "hashes that differ", nullptr);
+}
+
+// Values without what may be left out; a warning is an error here.
+void short_values() {
+    const item lhs{{souper::assignment{"%x"}, souper::assignment{"%y", 8}}, souper::infer{id{0}}};
+    expect(lhs == souper::read(kind::lhs, "%x = var %y:i8 = var infer %x")[0], "a short left-hand side", nullptr);
+    const item rep{{souper::assignment{"%h", {}, souper::instruction{op::hole}}, souper::assignment{"%b", {}, souper::block{0}}},
+                   souper::cand{id{0}, id{0}}};
+    expect(rep == souper::read(kind::rep, "%h = hole %b = block 0 cand %h %h")[0], "a short replacement", nullptr);
+}
+
+void words() {
+    for (const kind k : {kind::lhs, kind::rhs, kind::rep}) {
+        expect(souper::kind_named(souper::word(k)) == k && shown(k) == souper::word(k), "the word of a kind", nullptr);
+    }
+    const auto none = static_cast<kind>(3);
+    expect(!souper::kind_named("LHS") && !souper::kind_named("") && souper::word(none).empty() && shown(none) == "unknown(3)",
+           "no kind", nullptr);
+    expect(shown(op::sadd_with_overflow) == "sadd.with.overflow" && shown(static_cast<op>(59)) == "unknown(59)", "operations", nullptr);
+    expect(shown(constant{-1, 8}) == "-1:i8" && shown(constant{5}) == "5", "constants", nullptr);
+    expect(shown(souper::status::not_utf8) == "not UTF-8" && shown(static_cast<souper::status>(10)) == "unknown(10)",
+           "statuses", nullptr);
+    expect(shown(souper::flaw_location::at_cand) == "cand line" && shown(souper::flaw_reason::zero_width) == "a width is 0",
+           "parts of flaws", nullptr);
+    const souper::flaw no_bit{souper::flaw_location::at_infer, souper::flaw_reason::no_bit};
+    expect(shown(no_bit) == "infer line: a bit is none" && souper::to_string(no_bit) == no_bit.shown(), "flaws", nullptr);
+    const souper::assignment of_no_operation{"%x", {}, souper::instruction{static_cast<op>(59), {constant{1}}}};
+    expect(souper::statement_text({of_no_operation}, id{0}) == "%x = unknown(59) 1", "a statement of no operation", nullptr);
+    const item one = souper::read(kind::lhs, "%x = var infer %x")[0];
+    expect(shown(one) == souper::write(one), "an item", nullptr);
+    std::ostringstream out;
+    out << item{{}, souper::infer{id{0}}};
+    expect(out.fail() && out.str().empty(), "an item that is not well formed", nullptr);
+    souper::error e;
+    std::string text;
+    expect(!souper::try_format(kind::lhs, "infer", text, e) && shown(e) == e.shown, "a refusal", nullptr);
+    expect(!souper::try_format(none, "infer", text, e) && shown(e) == "the kind is none", "another error", nullptr);
+    e.what = souper::status::out_of_memory;
+    e.message.clear();
+    expect(shown(e) == "out of memory" && souper::version == SOUPER_VERSION, "no memory", nullptr);
 }
 
 void built_replacements() {
@@ -378,11 +451,82 @@ void flaws() {
                      souper::infer{id{2}, {}}};
     shows("a name twice", twice, ": statement 2 (%x): an assignment before it has the same name");
     shows("no statement", item{{}, souper::infer{id{0}, {}}}, ": infer line: an operand is no assignment");
-    shows("no code", item{{souper::assignment{"%x", 65536, var, {}}}, souper::infer{id{0}, {}}}, "");
 }
 
 item lhs_of(souper::assignment assigned) {
     return item{{std::move(assigned)}, souper::infer{id{0}, {}}};
+}
+
+// An item that has no code: what `write` and `encode` say of it as the second one.
+void no_code(const item &bad, souper::flaw_reason reason, const std::string &shown) {
+    const item lhs = souper::read(kind::lhs, "%x = var infer %x")[0], rhs{{}, souper::result{constant{1}}};
+    const item &good = souper::kind_of(bad) == kind::lhs ? lhs : rhs;
+    souper::error e;
+    std::string out;
+    const std::string wanted = "item 1 is not well formed: " + shown;
+    expect(!souper::try_write(souper::kind_of(good), {good, bad, bad}, out, e) && e.index == 1 && e.message == wanted,
+           shown.c_str(), nullptr);
+    expect(e.why && e.why->reason == reason && e.why->shown() == shown, "its reason", nullptr);
+    if (reason != souper::flaw_reason::other_kind) {
+        try {
+            souper::encode({good, bad});
+            expect(false, "the exception of encode", nullptr);
+        } catch (const souper::not_well_formed &error) {
+            expect(error.what() == wanted && error.why && error.why->reason == reason, "the exception of encode", nullptr);
+        }
+    }
+}
+
+void without_codes() {
+    using souper::flaw_reason;
+    const souper::var var;
+    const auto computed = [](op operation, std::vector<souper::operand> operands) {
+        return lhs_of({"%x", {}, souper::instruction{operation, std::move(operands)}});
+    };
+    no_code(lhs_of({"%x", 65536}), flaw_reason::wide, "statement 0 (%x): a width is over 65535");
+    no_code(lhs_of({"%x", 8, var, {souper::known_bits{"012"}}}), flaw_reason::no_bit, "statement 0 (%x): a bit is not 0, 1 or x");
+    no_code(lhs_of({"%\xc3\xa9\xff"}), flaw_reason::name_not_utf8, "statement 0 (%\xc3\xa9\\xff): the name is not UTF-8");
+    no_code(computed(static_cast<op>(59), {}), flaw_reason::no_operation, "statement 0 (%x): unknown(59) is no operation");
+    no_code(computed(op::add, {constant{1}}), flaw_reason::operand_count, "statement 0 (%x): add has 2 operands, not 1");
+    no_code(computed(op::freeze, {constant{1}, constant{1}}), flaw_reason::operand_count, "statement 0 (%x): freeze has 1 operand, not 2");
+    no_code(computed(op::freeze, {constant{1, 65536}}), flaw_reason::wide, "statement 0 (%x): a width is over 65535");
+    no_code(item{{souper::assignment{"%x"}, souper::pc{id{0}, constant{1, 70000}}}, souper::infer{id{0}}}, flaw_reason::wide,
+            "statement 1: a width is over 65535");
+    no_code(item{{souper::assignment{"%x"}}, souper::infer{id{0}, {souper::demanded_bits{"0x"}}}}, flaw_reason::no_bit,
+            "infer line: a bit is not 0 or 1");
+    no_code(item{{}, souper::result{constant{1, 65536}}}, flaw_reason::wide, "result line: a width is over 65535");
+    no_code(item{{}, souper::infer_result{{id{0}}, {constant{1, 65536}}}}, flaw_reason::wide, "result line: a width is over 65535");
+    no_code(item{{}, souper::cand{constant{1}, constant{1, 65536}}}, flaw_reason::wide, "cand line: a width is over 65535");
+    no_code(item{{}, souper::cand{constant{1}, constant{1}}}, flaw_reason::other_kind, "cand line: the item is of the kind rep, not rhs");
+    no_code(item{{}, souper::infer_result{{id{0}}, {id{0}}}}, flaw_reason::other_kind, "infer line: the item is of the kind rep, not rhs");
+}
+
+// Codes with a byte that is none there: what `decode` says.
+void damaged(std::size_t at, unsigned byte, const std::string &shown) {
+    std::string code = souper::encode(souper::read(kind::lhs, "%h = hole infer %h (demandedBits=1)"));
+    code[at] = static_cast<char>(byte);
+    try {
+        souper::decode(kind::lhs, code);
+        expect(false, shown.c_str(), nullptr);
+    } catch (const souper::bad_code &error) {
+        expect(error.what() == "at byte 0 is the code of no item" + shown && (error.why == nullptr) == shown.empty(),
+               shown.c_str(), nullptr);
+    }
+}
+
+void damaged_codes() {
+    damaged(18, 0xff, ": statement 0 (%\\xff): the name is not UTF-8");
+    damaged(21, 59, ": statement 0 (%h): unknown(59) is no operation");
+    damaged(21, 0, ": statement 0 (%h): add has 2 operands, not 0");
+    damaged(8, 3, "");
+    damaged(0, 2, "");
+    const std::string code = souper::encode(souper::read(kind::lhs, "%h = hole infer %h (demandedBits=1)"));
+    damaged(code.size() - 1, 2, ": infer line: a bit is none");
+    souper::error e;
+    std::vector<item> items;
+    expect(!souper::try_decode(kind::rep, code, items, e) && e.why
+               && e.message == "at byte 0 is the code of no item: infer line: the item is of the kind lhs, not rep",
+           "the code of another kind", nullptr);
 }
 
 void ill_formed_values() {
@@ -498,6 +642,9 @@ int main(int argc, char **argv) {
     built_names();
     built_by_width();
     values();
+    differences();
+    short_values();
+    words();
     built_replacements();
     built_attributes();
     operations();
@@ -507,6 +654,8 @@ int main(int argc, char **argv) {
     operands();
     a_pass();
     ill_formed_values();
+    without_codes();
+    damaged_codes();
     flaws();
     ill_formed_graphs();
     numbers();

@@ -34,20 +34,6 @@ inline const char *decodes(souper::kind k, std::string_view code) {
                                                                                          : "the error of a code that is none";
 }
 
-// Names are UTF-8, which the decoder of souper.hpp does not test.
-inline bool has_names(const std::vector<souper::item> &items) {
-    for (const auto &i : items) {
-        for (const auto &s : i.statements) {
-            const auto *assigned = std::get_if<souper::assignment>(&s);
-            if (assigned != nullptr
-                && souper_check(SOUPER_LHS, bytes(assigned->name), assigned->name.size()).status == SOUPER_NOT_UTF8) {
-                return false;
-            }
-        }
-    }
-    return true;
-}
-
 inline SouperOutcome write(souper::kind k, const std::string &code, std::string &text) {
     SouperOutcome outcome;
     text.assign(code.size(), '\xaa');
@@ -77,11 +63,9 @@ inline const char *writes(souper::kind k, const std::string &code) {
         return decoded ? nullptr : "that what is written is decoded";
     case SOUPER_NO_CODE:
         if (decoded) {
-            return has_names(items) ? "that what is decoded has a code" : nullptr;
+            return "that what is decoded has a code";
         }
-        return outcome.length < e.index || (outcome.length == e.index && outcome.offset == e.offset)
-            ? nullptr
-            : "the place of a code that is none";
+        return outcome.length == e.index && outcome.offset == e.offset ? nullptr : "the place of a code that is none";
     case SOUPER_NOT_WELL_FORMED:
         return decoded && outcome.length < items.size() && outcome.offset < code.size()
             ? nullptr

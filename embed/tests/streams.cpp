@@ -58,12 +58,14 @@ strings in_parts(kind k, std::string_view text, const std::vector<std::size_t> &
     reader from(k, by_segments);
     strings found;
     std::size_t at = 0;
+    souper::error e;
     for (const std::size_t cut : cuts) {
-        from.push(text.substr(at, cut - at));
+        // After bytes that are not UTF-8 no more are taken.
+        static_cast<void>(from.try_push(text.substr(at, cut - at), e));
         at = cut;
         take(k, from, found);
     }
-    from.push(text.substr(at));
+    static_cast<void>(from.try_push(text.substr(at), e));
     from.finish();
     take(k, from, found);
     return found;
@@ -238,6 +240,72 @@ void no_text() {
     }
 }
 
+// A part after the end, in both forms.
+void after_the_end(reader &from) {
+    souper::error e;
+    expect(!from.try_push("more", e) && e.what == status::stream_ended && e.message == "the stream has ended",
+           "a part after the end", nullptr);
+    try {
+        from.push("more");
+        expect(false, "an exception after the end", nullptr);
+    } catch (const std::logic_error &error) {
+        expect(error.what() == std::string("the stream has ended"), "an exception after the end", nullptr);
+    }
+}
+
+void ends() {
+    reader finished(kind::rhs);
+    souper::error e;
+    expect(finished.try_push("result 1", e) && e.what == status::done, "a part before the end", nullptr);
+    finished.push({nullptr, 0});
+    finished.finish();
+    after_the_end(finished);
+    expect(finished.next() && !finished.next(), "what came before the end", nullptr);
+    after_the_end(finished);
+    reader damaged(kind::rhs);
+    std::optional<souper::item> one;
+    damaged.push("result 1\nresult 2\n\xff\n");
+    expect(damaged.next() && !damaged.try_next(one, e) && e.what == status::not_utf8 && e.message == "line 3: not UTF-8 at byte 18",
+           "no UTF-8", nullptr);
+    after_the_end(damaged);
+    expect(!damaged.try_next(one, e) && e.what == status::not_utf8, "the same again", nullptr);
+}
+
+// A loop takes the items that are there, and another one those that follow.
+void loops() {
+    reader from(kind::rhs);
+    strings found;
+    const auto all = [&] {
+        for (;;) {
+            try {
+                for (souper::item &one : from) {
+                    found.push_back(souper::write(std::move(one)));
+                }
+                return;
+            } catch (const souper::refused &refusal) {
+                found.push_back(std::to_string(from.line()) + ": " + refusal.message());
+            }
+        }
+    };
+    all();
+    from.push("result\nresult 1\nresult 2\nresult %x\nres");
+    all();
+    expect(found == strings{"1: unexpected EOF", "result 1\n", "result 2\n"}, "a loop", nullptr);
+    from.push("ult 3");
+    from.finish();
+    all();
+    all();
+    expect(found.size() == 5 && found[3] == "4: unknown value '%x'" && found[4] == "result 3\n", "another loop", nullptr);
+    reader again(kind::rhs);
+    again.push("result 1\nresult 2\nresult 3");
+    again.finish();
+    std::size_t count = 0;
+    for (auto at = again.begin(); at != again.end(); at++) {
+        count += at->statements.empty();
+    }
+    expect(count == 3, "its iterators", nullptr);
+}
+
 // The form with exceptions, and where the last part began.
 void next() {
     reader from(kind::lhs, true);
@@ -260,12 +328,6 @@ void next() {
         expect(refusal.location && refusal.location->line == 10, "the rest is refused with the last item", nullptr);
     }
     expect(!from.next() && !from.next(), "the end", nullptr);
-    try {
-        from.push("more");
-        expect(false, "an exception after the end", nullptr);
-    } catch (const std::logic_error &) {
-        expect(true, "an exception after the end", nullptr);
-    }
     reader none(static_cast<kind>(3));
     none.push("\n");
     souper::error e;
@@ -335,6 +397,8 @@ int main(int argc, char **argv) {
     fault_first();
     no_text();
     next();
+    ends();
+    loops();
     answers(records, stored);
     free_records(records);
     return summary("C++: streams");

@@ -21,7 +21,7 @@ const char *const canonical = "%x:i8 = var\n%y = add %x, 1\ninfer %y\n\n";
 
 bool is_none(const error &e) {
     return e.what == status::done && e.input == 0 && e.index == 0 && e.offset == 0 && e.line == 0 && e.column == 0
-        && e.shown.empty() && !e.why && !e.location && !e.at_end;
+        && e.shown.empty() && !e.why && !e.location && !e.at_end && e.message.empty();
 }
 
 void done() {
@@ -38,6 +38,7 @@ void done() {
     expect(souper::try_read(kind::lhs, text, items, e) && is_none(e) && items.size() == 1, "read", nullptr);
     expect(souper::try_write(kind::lhs, items, out, e) && is_none(e) && out == canonical, "write", nullptr);
     expect(souper::try_write(kind::lhs, items[0], out, e) && is_none(e) && out == canonical, "write, one", nullptr);
+    expect(souper::try_write(items[0], out, e) && is_none(e) && out == canonical, "write, one of its kind", nullptr);
     expect(souper::try_encode(items, code, e) && is_none(e), "encode", nullptr);
     expect(souper::try_decode(kind::lhs, code, again, e) && is_none(e) && again == items, "decode", nullptr);
     expect(souper::try_canonical(kind::lhs, items, items, e) && is_none(e) && items[0].statements.size() == 2,
@@ -64,11 +65,12 @@ void refused() {
     expect(wanted.offset > 0 && wanted.line == 2 && wanted.column > 0
                && wanted.shown.find("unknown value '%z'") != std::string::npos,
            "what a refusal shows", nullptr);
+    expect(wanted.message == "unknown value '%z'" && souper::to_string(wanted) == wanted.shown, "its message", nullptr);
     expect(wanted.location == souper::location{12, 2, 4} && !wanted.at_end, "its location", nullptr);
     const auto is_wanted = [&wanted](const error &got, unsigned input) {
         return got.what == wanted.what && got.input == input && got.index == 0 && got.offset == wanted.offset
             && got.line == wanted.line && got.column == wanted.column && got.shown == wanted.shown
-            && got.location == wanted.location && got.at_end == wanted.at_end;
+            && got.location == wanted.location && got.at_end == wanted.at_end && got.message == wanted.message;
     };
     expect(!souper::try_check(kind::lhs, bad, yes, e) && is_wanted(e, 0) && !yes, "check, refused", nullptr);
     expect(!souper::try_same(kind::lhs, bad, "", yes, e) && is_wanted(e, 0), "same, refused first", nullptr);
@@ -107,6 +109,7 @@ void other_errors() {
     items.push_back(b.infer(b.var("x")));
     items.push_back(b.infer(b.var("x", 70000)));
     expect(!souper::try_encode(items, out, e) && e.what == status::not_well_formed && e.index == 1, "encode, no code", nullptr);
+    expect(e.message == "item 1 is not well formed: statement 0 (%x): a width is over 65535", "what it says", nullptr);
     expect(!souper::try_write(kind::lhs, items, out, e) && e.what == status::not_well_formed && e.index == 1, "write, no code",
            nullptr);
     items[1] = b.infer(b.var("x y"));
@@ -131,9 +134,13 @@ void streams() {
                "bytes that are not UTF-8", nullptr);
     }
     souper::reader ended(kind::rhs);
+    expect(ended.try_push("result 1", e) && is_none(e), "a push", nullptr);
     ended.finish();
-    ended.push("result 1");
-    expect(ended.try_next(one, e) && is_none(e) && !one, "a push after the end", nullptr);
+    ended.push("0");
+    expect(!ended.try_push("0", e) && e.what == status::stream_ended && e.message == "the stream has ended",
+           "a push after the end", nullptr);
+    expect(ended.try_next(one, e) && is_none(e) && one == item{{}, souper::result{souper::constant{1}}}, "the last item", nullptr);
+    expect(ended.try_next(one, e) && is_none(e) && !one, "the end", nullptr);
 }
 
 } // namespace

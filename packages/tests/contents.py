@@ -133,6 +133,7 @@ def versions(tarball, debian, wheel, crate):
     metadata, manifest = one(wheel, "*.dist-info/METADATA").read_text(), (crate / "Cargo.toml").read_text()
     said = [
         ("souper_items", r"^souper_items (\S+)$", printed(tarball / "bin/souper_items", "--version")),
+        ("souper.h", r'^#define SOUPER_VERSION "(.*)"$', (tarball / "include/souper.h").read_text()),
         ("souper.pc", r"^Version: (.*)$", (tarball / "lib/pkgconfig/souper.pc").read_text()),
         ("souper-static.pc", r"^Version: (.*)$", (tarball / "lib/pkgconfig/souper-static.pc").read_text()),
         ("CMake", r'^set\(PACKAGE_VERSION "(.*)"\)$', (tarball / "lib/cmake/souper/souper-config-version.cmake").read_text()),
