@@ -78,7 +78,7 @@ def printed(*words):
 
 def names(dist):
     listed = set(re.findall(r"^\| `([^`]+)`", INSTALL.partition("| In `dist/` |")[2].partition("\n\n")[0], re.MULTILINE))
-    made = {f"{path.name}/" if path.is_dir() else path.name for path in dist.iterdir()} - {"SHA256SUMS", "roots", "roots.log"}
+    made = {f"{path.name}/" if path.is_dir() else path.name for path in dist.iterdir()} - {"SHA256SUMS", "roots/", "roots.log"}
     if not shutil.which("dpkg-deb"):
         print("missing: dpkg-deb, so the package of Debian is left out")
         listed = {name for name in listed if not name.endswith(".deb")}
