@@ -3,7 +3,7 @@ use Rattle.std.proofs.Common.{◌≡◌, ℕ, List, [], ◌∷◌, ◌++◌, sub
 use Rattle.std.specs.Prelude.{Result, Ok, Err, IfOk}
 use Rattle.souper_graph.specs.Values.{Item}
 use Rattle.souper_graph.specs.Sameness.{renumbered}
-use Rattle.souper_graph.specs.CanonicalText.{ReadsBack}
+use Rattle.souper_graph.specs.ItemText.{ReadsBack}
 use Rattle.souper_graph.specs.Syntax.Spelling.{ItemType, TextSpells, OneList}
 
 pub composed : {T E : Type 0} (view : T → List Item) (k : ItemType) (a : Item) (text source : List ℕ) (r : Result T E) → OneList → source ≡ text ++ 10 ∷ [] → ReadsBack k a text

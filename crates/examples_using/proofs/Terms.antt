@@ -2,7 +2,8 @@
 use Rattle.std.proofs.Common.{◌≡◌, ℕ, List, [], ◌∷◌, ◌++◌, map, refl, ap, sym, ◌∙◌, subst}
 use Rattle.souper_graph.specs.declared.ast.operands.Constant.{Constant}
 use Rattle.souper_graph.specs.declared.ast.instructions.Instruction.{Instruction}
-use Rattle.souper_graph.specs.Syntax.Tokens.{Lexeme, AreTokensOf}
+use Rattle.souper_graph.specs.Syntax.Tokens.{Lexeme}
+use Rattle.souper_graph.specs.Syntax.TokenLaws.{AreTokensOf}
 use Rattle.souper_graph.specs.Syntax.Spelling.{kinds, Scope, constant_spells, instruction_spells}
 use Rattle.souper_ir.specs.Continuation.{constant_continues, instruction_continues}
 use Rattle.souper_ir.specs.Grammar.{Members, Took}

@@ -1,7 +1,8 @@
 -- Definitions. A term and the numbers after it.
 use Rattle.std.specs.Prelude.{ℕ, Bool, List, [], ◌++◌}
 use Rattle.souper_graph.specs.declared.ast.operands.Constant.{Constant}
-use Rattle.souper_graph.specs.Syntax.Tokens.{Lexeme, AreTokensOf}
+use Rattle.souper_graph.specs.Syntax.Tokens.{Lexeme}
+use Rattle.souper_graph.specs.Syntax.TokenLaws.{AreTokensOf}
 use Rattle.souper_graph.specs.Syntax.Spelling.{kinds, constant_spells, instruction_spells}
 use Rattle.souper_ir.specs.Continuation.{constant_continues}
 use Rattle.souper_ir.specs.Grammar.{Members}

@@ -7,7 +7,7 @@ use Rattle.std.proofs.lemmas.Slice.Eq.{bytes_eq-Decides}
 use Rattle.souper_graph.specs.Values.{Item}
 use Rattle.souper_graph.specs.Text.{text_of, text_with_newline, texts_of}
 use Rattle.souper_graph.specs.Sameness.{renumbered, SameGraph}
-use Rattle.souper_graph.specs.CanonicalText.{IsWellFormedOf, AreWellFormed}
+use Rattle.souper_graph.specs.ItemText.{IsWellFormedOf, AreWellFormed}
 use Rattle.souper_graph.specs.Syntax.Spelling.{ItemType, TextSpells}
 use Rattle.souper_graph.proofs.RoundTrip.ReadBack.{texts-read-back, text-again}
 use Rattle.souper_ir.proofs.Items.Lists.{text_alone}

@@ -9,7 +9,7 @@ use Rattle.souper_graph.specs.declared.stringify.order.Target.TheVariants.{Condi
 use Rattle.souper_graph.specs.Values.{PlainStatement, assigned, condition, block_condition}
 use Rattle.souper_graph.specs.View.{view_statement}
 use Rattle.souper_graph.specs.Uses.{Has, is_condition, conditions_from}
-use Rattle.souper_graph.specs.Faults.{IsAssigned}
+use Rattle.souper_graph.specs.WellFormed.{IsAssigned}
 
 same_some : (x y : PlainStatement) → Some x ≡ Some y → x ≡ y
 same_some x y e = cc

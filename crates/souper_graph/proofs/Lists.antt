@@ -2,7 +2,8 @@
 use Rattle.std.proofs.Common.{◌≡◌, ℕ, ◌+◌, ◌++◌, ◌⊎◌, inl, inr, length, map, List, [], ◌∷◌, refl, sym, ap, subst, arith}
 use Rattle.souper_graph.specs.Values.{PlainStatement}
 use Rattle.souper_graph.specs.Uses.{Has, used_at}
-use Rattle.souper_graph.specs.Order.{Distinct, cost}
+use Rattle.souper_graph.specs.Order.{Distinct}
+use Rattle.souper_graph.specs.PrintOrder.{cost}
 
 pub Has-left : {A : Type 0} (xs ys : List A) (i : A) → Has xs i → Has (xs ++ ys) i
 Has-left [] ys i h = absurd h

@@ -10,10 +10,9 @@ use Rattle.souper_graph.specs.declared.ast.statements.AssignmentRhs.TheVariants.
 use Rattle.souper_graph.specs.declared.ast.statements.Statement.{Statement}
 use Rattle.souper_graph.specs.declared.ast.statements.Statement.TheVariants.{Assignment as assignment_variant, Pc as pc_variant, BlockPc as block_pc_variant}
 use Rattle.souper_graph.specs.View.{view_rhs, view_statement}
-use Rattle.souper_graph.specs.Faults.{IsAssigned, IsBlock, IsBlockRhs}
 use Rattle.souper_graph.specs.Judging.{assigned_name, assigned_name_at}
 use Rattle.souper_graph.specs.Lookup.{assignment_of, block_of, block_of_rhs, assignment_at, block_at}
-use Rattle.souper_graph.specs.WellFormed.{predecessors_of_rhs, predecessors_of, predecessors_at}
+use Rattle.souper_graph.specs.WellFormed.{predecessors_of_rhs, predecessors_of, predecessors_at, IsAssigned, IsBlock, IsBlockRhs}
 
 assigned_here : (o : Option Statement) → IsTrue (is_some (o >>= assignment_of)) ↔ IsAssigned (option_map view_statement o)
 assigned_here None = ((λ h. absurd cc), (λ h. absurd h))

@@ -1,25 +1,10 @@
--- Definitions. What the laws of canonical texts speak of: items of one type, items in another arena order, the lines of
--- a text.
+-- Definitions. What the laws of canonical texts speak of: items in another arena order, the lines of a text.
 use Rattle.std.specs.Prelude.{◌≡◌, ◌⊎◌, ℕ, ◌<◌, List, [], ◌∷◌, ◌++◌, flat_map, length, codes, Some, slice_get}
 use Rattle.std.specs.List.{AllByRecursion}
 use Rattle.souper_graph.specs.Values.{PlainStatement, assigned, condition, block_condition, Item}
-use Rattle.souper_graph.specs.Uses.{Has, conditions, NeededIn}
+use Rattle.souper_graph.specs.Uses.{Has, conditions}
 use Rattle.souper_graph.specs.Text.{text_of_statement, text_of}
-use Rattle.souper_graph.specs.WellFormed.{WellFormed}
-use Rattle.souper_graph.specs.Sameness.{carried, carried_ending, renumbered}
-use Rattle.souper_graph.specs.Syntax.Spelling.{ItemType, IsEndingOf, TextSpells}
-
--- a well-formed item of the type
-abbrev pub IsWellFormedOf : ItemType → Item → Type 0
-IsWellFormedOf k a = WellFormed a × IsEndingOf k a.ending
-
--- well-formed items of one type
-abbrev pub AreWellFormed : ItemType → List Item → Type 0
-AreWellFormed k items = AllByRecursion (IsWellFormedOf k) items
-
--- each statement is needed
-abbrev pub AllNeeded : Item → Type 0
-AllNeeded a = (p : ℕ) → p < length a.statements → NeededIn a p
+use Rattle.souper_graph.specs.Sameness.{carried, carried_ending}
 
 -- the same statements in another order, each position in them moved along; path conditions keep their order
 pub record IsRearranged (a b : Item) : Type 0 where
@@ -58,7 +43,3 @@ pub record HasConditionLines (a : Item) : Type 0 where
   pub whole : text_of a ≡ flat_map (λ l. l) lines ++ rest
   pub each_line : AllByRecursion IsLine lines
   pub conditions_among : IsSublist (condition_lines a.statements a.statements) lines
-
--- the text of the item, with a newline after it, spells the item renumbered
-abbrev pub ReadsBack : ItemType → Item → List ℕ → Type 0
-ReadsBack k a text = TextSpells k (text ++ codes "\n") (renumbered a ∷ [])

@@ -1,39 +1,10 @@
 -- Definitions. Bad ids: those that name nothing that they may name, and the errors for them.
-use Rattle.std.specs.Prelude.{ℕ, ◌<◌, ◌≤◌, ◌⊎◌, ◌++◌, length, List, Option, Some, None, slice_get, codes, decimal}
+use Rattle.std.specs.Prelude.{ℕ, ◌<◌, ◌≤◌, ◌⊎◌, ◌++◌, length, List, slice_get, codes, decimal}
 use Rattle.souper_graph.specs.declared.stringify.errors.TextError.{TextError}
 use Rattle.souper_graph.specs.declared.stringify.errors.TextError.TheVariants.{OutOfRange, NotAnAssignment, NotABlock, OutOfMemory}
-use Rattle.souper_graph.specs.Values.{PlainRhs, var, block, phi, reserved_inst, reserved_const, instruction, PlainStatement, assigned, condition, block_condition, Item}
+use Rattle.souper_graph.specs.Values.{PlainStatement, Item}
 use Rattle.souper_graph.specs.Uses.{Has, Use, value_use, block_use, uses_at, roots_of, NeededIn}
-
--- it is an assignment
-abbrev pub IsAssigned : Option PlainStatement → Type 0
-IsAssigned None = ⊥
-IsAssigned (Some (assigned a)) = Unit {0}
-IsAssigned (Some (condition p)) = ⊥
-IsAssigned (Some (block_condition p)) = ⊥
-
-abbrev pub IsBlockRhs : PlainRhs → Type 0
-IsBlockRhs var = ⊥
-IsBlockRhs (block b) = Unit {0}
-IsBlockRhs (phi p) = ⊥
-IsBlockRhs reserved_inst = ⊥
-IsBlockRhs reserved_const = ⊥
-IsBlockRhs (instruction i) = ⊥
-
--- it is the assignment of a block
-abbrev pub IsBlock : Option PlainStatement → Type 0
-IsBlock None = ⊥
-IsBlock (Some (assigned a)) = IsBlockRhs a.value
-IsBlock (Some (condition p)) = ⊥
-IsBlock (Some (block_condition p)) = ⊥
-
--- the statement at the position is of the kind that the use asks for
-abbrev pub IsMet : List PlainStatement → Use → Type 0
-IsMet ss (value_use i) = IsAssigned (slice_get ss i)
-IsMet ss (block_use i) = IsBlock (slice_get ss i)
-
-abbrev pub AreMet : List PlainStatement → List Use → Type 0
-AreMet ss us = (u : Use) → Has us u → IsMet ss u
+use Rattle.souper_graph.specs.WellFormed.{IsAssigned, IsBlock, IsMet}
 
 -- the error is a bad id among the uses that Used holds of, in the variant for its fault, or is out of memory
 abbrev pub IsFault : List PlainStatement → (Use → Type 0) → TextError → Type 0

@@ -12,8 +12,7 @@ use Rattle.souper_graph.specs.declared.ast.flaws.FlawReason.TheVariants.{Invalid
 use Rattle.souper_graph.specs.Values.{PlainRootAttribute, PlainRhs, var, block, phi, reserved_inst, reserved_const, instruction, PlainStatement, assigned, condition, block_condition, Ending, inferred, resulting, replaced, candidate, Item}
 use Rattle.souper_graph.specs.Names.{IsName}
 use Rattle.souper_graph.specs.Uses.{Use, value_use, block_use, position_of, uses_of, uses_of_operands, NeededIn}
-use Rattle.souper_graph.specs.Faults.{IsAssigned, IsBlock, IsMet}
-use Rattle.souper_graph.specs.WellFormed.{FitsOptionalType, FitsOperand, FitsAttribute, FitsRootAttribute, FitsRhs, predecessors_at, AgreesRhs}
+use Rattle.souper_graph.specs.WellFormed.{FitsOptionalType, FitsOperand, FitsAttribute, FitsRootAttribute, FitsRhs, predecessors_at, AgreesRhs, IsAssigned, IsBlock, IsMet}
 use Rattle.souper_graph.specs.Judging.{assigned_name_at}
 
 abbrev pub HasValidName : PlainStatement → Type 0

@@ -3,8 +3,7 @@ use Rattle.std.specs.Prelude.{ℕ, ◌<◌, List, Option, Some, None, slice_get}
 use Rattle.std.specs.List.{AllByRecursion}
 use Rattle.souper_graph.specs.Values.{PlainStatement, assigned, condition, block_condition}
 use Rattle.souper_graph.specs.Uses.{Has, Use, position_of, uses_of}
-use Rattle.souper_graph.specs.Faults.{IsMet}
-use Rattle.souper_graph.specs.WellFormed.{FitsStatement, AgreesWithBlock, AreNamedApart}
+use Rattle.souper_graph.specs.WellFormed.{FitsStatement, AgreesWithBlock, AreNamedApart, IsMet}
 
 -- the use is of a position below the limit, and what it asks for is there
 abbrev pub IsMetBelow : List PlainStatement → ℕ → Use → Type 0

@@ -9,12 +9,12 @@ pub mod Uses
 pub mod UsesView
 pub mod Lookup
 pub mod Order
-pub mod PrintOrder
 pub mod Leaves
 pub mod Text
-pub mod Shown
-pub mod Faults
 pub mod WellFormed
+pub mod Faults
+pub mod PrintOrder
+pub mod Unneeded
 pub mod Sameness
 pub mod Renaming
 pub mod LeftSides
@@ -23,6 +23,7 @@ pub mod Replacing
 pub mod Syntax
 pub mod CanonicalText
 pub mod ItemText
+pub mod Shown
 pub mod Endings
 pub mod Building
 pub mod TakenNames

@@ -1,5 +1,5 @@
--- Definitions. The printed order of an item, by full unfoldings, and what it costs to find it.
-use Rattle.std.specs.Prelude.{◌≡◌, ℕ, zero, suc, ◌+◌, ◌-◌, ◌^◌, min, ◌++◌, not, nat_lt, nat_eq, Bool, true, ◌&&◌, List, [], ◌∷◌, flat_map, filter, length}
+-- Definitions. The printed order of an item, by full unfoldings.
+use Rattle.std.specs.Prelude.{◌≡◌, ℕ, zero, suc, ◌++◌, not, nat_lt, nat_eq, List, [], ◌∷◌, flat_map, filter, length}
 use Rattle.souper_graph.specs.Values.{PlainStatement, Item}
 use Rattle.souper_graph.specs.Uses.{Has, used_at, first_walks, walks_of}
 
@@ -24,20 +24,6 @@ order_of_walks ss walks = firsts (flat_map (unfolding_of ss) walks)
 abbrev pub printed_order : Item → List ℕ
 printed_order a = order_of_walks a.statements (walks_of a)
 
--- each of the positions is below i
-abbrev pub are_below : ℕ → List ℕ → Bool
-are_below i [] = true
-are_below i (u ∷ us) = nat_lt u i && are_below i us
-
--- each of these statements uses positions below it alone
-abbrev pub use_below : List PlainStatement → List ℕ → Bool
-use_below ss [] = true
-use_below ss (i ∷ is) = are_below i (used_at ss i) && use_below ss is
-
--- Each needed statement uses positions below it alone. If the statements of the printed order do, it has all needed ones.
-abbrev pub uses_below : Item → Bool
-uses_below a = use_below a.statements (printed_order a)
-
 -- the number of statements before the infer line; in an item without a result line after it, of all
 abbrev pub lead_of : Item → ℕ
 lead_of a = length (order_of_walks a.statements (first_walks a))
@@ -50,13 +36,3 @@ Distinct (x ∷ xs) = (¬ Has xs x) × Distinct xs
 -- all uses of each statement of the list occur before it
 abbrev pub EachAfterItsUses : List PlainStatement → List ℕ → Type 0
 EachAfterItsUses ss ids = (front back : List ℕ) (i u : ℕ) → ids ≡ front ++ i ∷ back → Has (used_at ss i) u → Has front u
-
--- for each of these statements 1, and the length of its list of uses
-abbrev pub cost : List PlainStatement → List ℕ → ℕ
-cost ss [] = 0
-cost ss (i ∷ is) = 1 + length (used_at ss i) + cost ss is
-
--- how often the work stack is popped: once per walk, and the cost of the needed statements, but at most what a `u128`
--- holds
-abbrev pub turns_of : Item → List ℕ → ℕ
-turns_of a ids = min (2 ^ 128 - 1) (length (walks_of a) + cost a.statements ids)

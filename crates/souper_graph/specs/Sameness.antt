@@ -3,7 +3,7 @@ use Rattle.std.specs.Prelude.{◌≡◌, ◌↔◌, ℕ, suc, ◌<◌, List, [],
 use Rattle.souper_graph.specs.declared.ast.operands.Operand.{Operand}
 use Rattle.souper_graph.specs.declared.ast.operands.Operand.TheVariants.{Value, Constant}
 use Rattle.souper_graph.specs.Instructions.{instruction_map}
-use Rattle.souper_graph.specs.Values.{PlainRhs, var, block, phi, reserved_inst, reserved_const, instruction, PlainStatement, assigned, condition, block_condition, PlainInfer, PlainCand, Ending, inferred, resulting, replaced, candidate, Item}
+use Rattle.souper_graph.specs.Values.{PlainRhs, phi, instruction, PlainStatement, assigned, condition, block_condition, PlainInfer, PlainCand, Ending, inferred, resulting, replaced, candidate, Item}
 use Rattle.souper_graph.specs.Uses.{Has, conditions, NeededIn}
 use Rattle.souper_graph.specs.Order.{printed_order, Distinct, EachAfterItsUses}
 
@@ -13,12 +13,9 @@ carried_operand f (Value i) = Value (f i)
 carried_operand f (Constant c) = Constant c
 
 abbrev pub carried_rhs : (ℕ → ℕ) → PlainRhs → PlainRhs
-carried_rhs f var = var
-carried_rhs f (block b) = block b
 carried_rhs f (phi p) = phi (record { block = f p.block; values = map (carried_operand f) p.values })
-carried_rhs f reserved_inst = reserved_inst
-carried_rhs f reserved_const = reserved_const
 carried_rhs f (instruction i) = instruction (instruction_map (carried_operand f) i)
+carried_rhs f r = r
 
 abbrev pub carried : (ℕ → ℕ) → PlainStatement → PlainStatement
 carried f (assigned a) = assigned (record a { value = carried_rhs f a.value })
@@ -66,12 +63,6 @@ renumbered a = record {
   statements = taken a.statements (printed_order a);
   ending = carried_ending (place (printed_order a)) a.ending;
 }
-
--- b has the roots, the path conditions and the needed statements of a at their positions, and any others
-pub record SameNeeded (a b : Item) : Type 0 where
-  pub same_ending : b.ending ≡ a.ending
-  pub same_conditions : conditions b ≡ conditions a
-  pub same_statements : (i : ℕ) → NeededIn a i → slice_get b.statements i ≡ slice_get a.statements i
 
 -- the positions are the needed ones, each once and after all its uses, and path conditions keep their order
 pub record OrdersNeeded (a : Item) (ids : List ℕ) : Type 0 where

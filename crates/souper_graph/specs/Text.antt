@@ -1,5 +1,5 @@
 -- Definitions. The canonical text of an item: the lines of its needed statements in printed order, with its last lines.
-use Rattle.std.specs.Prelude.{◌≡◌, ℕ, ◌≤◌, ◌↔◌, List, [], ◌∷◌, ◌++◌, length, flat_map, take, drop, codes, decimal, Option, Some, None, if◌then◌else◌, slice_get}
+use Rattle.std.specs.Prelude.{ℕ, List, [], ◌∷◌, ◌++◌, flat_map, take, drop, codes, decimal, Option, Some, None, slice_get}
 use Rattle.souper_graph.specs.declared.ast.operands.Operand.{Operand}
 use Rattle.souper_graph.specs.declared.ast.operands.Operand.TheVariants.{Value, Constant}
 use Rattle.souper_graph.specs.declared.ast.instructions.Instruction.{Instruction}
@@ -8,14 +8,11 @@ use Rattle.souper_graph.specs.declared.ast.statements.BlockPc.{BlockPc}
 use Rattle.souper_graph.specs.Instructions.{word_of, operands_of}
 use Rattle.souper_graph.specs.Leaves.{text_of_optional_type, text_of_constant, text_of_block, text_of_attributes, text_of_root_attributes}
 use Rattle.souper_graph.specs.Values.{PlainPhi, PlainRhs, var, block, phi, reserved_inst, reserved_const, instruction, PlainAssignment, PlainStatement, assigned, condition, block_condition, PlainInfer, PlainCand, Ending, inferred, resulting, replaced, candidate, Item}
-use Rattle.souper_graph.specs.Uses.{Has, NeededIn}
-use Rattle.souper_graph.specs.Order.{Distinct, printed_order, lead_of, uses_below}
+use Rattle.souper_graph.specs.Order.{printed_order, lead_of}
 
 abbrev pub name_of : Option PlainStatement → List ℕ
-name_of None = []
 name_of (Some (assigned a)) = a.name
-name_of (Some (condition p)) = []
-name_of (Some (block_condition p)) = []
+name_of o = []
 
 -- the name of the assignment at a position; empty if there is none
 abbrev pub name_at : List PlainStatement → ℕ → List ℕ
@@ -100,16 +97,3 @@ text_with_newline a = text_of a ++ codes "\n"
 -- the canonical texts of items, a newline after each
 abbrev pub texts_of : List Item → List ℕ
 texts_of items = flat_map text_with_newline items
-
--- the canonical text, if each needed statement uses positions below it alone
-abbrev pub shown_text : Item → Option (List ℕ)
-shown_text a = if uses_below a then Some (text_of a) else None
-
--- the text has the line of each needed statement once, in some order, and the last lines
-pub record IsLinesOf (a : Item) (text : List ℕ) : Type 0 where
-  pub ids : List ℕ
-  pub lead : ℕ
-  pub needed : (i : ℕ) → Has ids i ↔ NeededIn a i
-  pub once : Distinct ids
-  pub lead_within : lead ≤ length ids
-  pub text_is : text ≡ text_in_order a.statements a.ending ids lead

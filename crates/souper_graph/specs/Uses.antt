@@ -3,7 +3,7 @@ use Rattle.std.specs.Prelude.{◌≡◌, ℕ, suc, ◌<◌, ◌⊎◌, Bool, tru
 use Rattle.souper_graph.specs.declared.ast.operands.Operand.{Operand}
 use Rattle.souper_graph.specs.declared.ast.operands.Operand.TheVariants.{Value, Constant}
 use Rattle.souper_graph.specs.Instructions.{operands_of}
-use Rattle.souper_graph.specs.Values.{PlainRhs, var, block, phi, reserved_inst, reserved_const, instruction, PlainStatement, assigned, condition, block_condition, Ending, inferred, resulting, replaced, candidate, Item}
+use Rattle.souper_graph.specs.Values.{PlainRhs, phi, instruction, PlainStatement, assigned, condition, block_condition, Ending, inferred, resulting, replaced, candidate, Item}
 
 -- the list has the element
 abbrev pub Has : {A : Type 0} → List A → A → Type 0
@@ -28,12 +28,9 @@ abbrev pub uses_of_operands : List Operand → List Use
 uses_of_operands xs = flat_map uses_of_operand xs
 
 abbrev pub uses_of_rhs : PlainRhs → List Use
-uses_of_rhs var = []
-uses_of_rhs (block b) = []
 uses_of_rhs (phi p) = block_use p.block ∷ uses_of_operands p.values
-uses_of_rhs reserved_inst = []
-uses_of_rhs reserved_const = []
 uses_of_rhs (instruction i) = uses_of_operands (operands_of i)
+uses_of_rhs r = []
 
 -- the uses of a statement, in order, repeats kept
 abbrev pub uses_of : PlainStatement → List Use
@@ -56,8 +53,7 @@ used_at ss i = map position_of (uses_at ss i)
 -- the statement is a path condition
 abbrev pub is_condition : PlainStatement → Bool
 is_condition (assigned a) = false
-is_condition (condition p) = true
-is_condition (block_condition p) = true
+is_condition s = true
 
 -- the positions of the path conditions, ascending, if the first statement is at k
 abbrev pub conditions_from : ℕ → List PlainStatement → List ℕ
@@ -66,13 +62,6 @@ conditions_from k (s ∷ ss) = if is_condition s then k ∷ conditions_from (suc
 
 abbrev pub conditions : Item → List ℕ
 conditions a = conditions_from 0 a.statements
-
--- the operands of the last lines, in the order of the text
-abbrev pub root_operands : Ending → List Operand
-root_operands (inferred i) = Value i.value ∷ []
-root_operands (resulting r) = r ∷ []
-root_operands (replaced i r) = Value i.value ∷ r ∷ []
-root_operands (candidate c) = c.lhs ∷ c.rhs ∷ []
 
 -- the roots that are walked before the path conditions
 abbrev pub first_roots : Ending → List Use
@@ -83,10 +72,8 @@ first_roots (candidate c) = uses_of_operand c.lhs ++ uses_of_operand c.rhs
 
 -- the roots that are walked after them
 abbrev pub last_roots : Ending → List Use
-last_roots (inferred i) = []
-last_roots (resulting r) = []
 last_roots (replaced i r) = uses_of_operand r
-last_roots (candidate c) = []
+last_roots e = []
 
 abbrev pub roots_of : Ending → List Use
 roots_of e = first_roots e ++ last_roots e

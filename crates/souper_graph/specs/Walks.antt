@@ -6,7 +6,7 @@ use Rattle.souper_graph.specs.declared.stringify.order.Target.{Target}
 use Rattle.souper_graph.specs.declared.stringify.order.Target.TheVariants.{Value, Block, Condition}
 use Rattle.souper_graph.specs.Values.{PlainStatement, Item}
 use Rattle.souper_graph.specs.Uses.{Use, value_use, block_use, conditions, first_roots, last_roots}
-use Rattle.souper_graph.specs.Faults.{IsAssigned, IsBlock}
+use Rattle.souper_graph.specs.WellFormed.{IsAssigned, IsBlock}
 
 abbrev pub position_of_target : Target → ℕ
 position_of_target (Value i) = i

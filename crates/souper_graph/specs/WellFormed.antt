@@ -6,11 +6,32 @@ use Rattle.souper_graph.specs.declared.ast.operands.«Type».{«Type» as Ty}
 use Rattle.souper_graph.specs.declared.ast.operands.Constant.{Constant}
 use Rattle.souper_graph.specs.declared.ast.operands.Operand.{Operand}
 use Rattle.souper_graph.specs.declared.ast.operands.Operand.TheVariants.{Value, Constant as constant_variant}
-use Rattle.souper_graph.specs.Values.{PlainAttribute, known_bits, power_of_two, negative, non_negative, non_zero, has_external_uses, sign_bits, range, PlainRootAttribute, demanded_bits, harvested_from_use, PlainRhs, var, block, phi, reserved_inst, reserved_const, instruction, PlainAssignment, PlainStatement, assigned, condition, block_condition, PlainInfer, PlainCand, Ending, inferred, resulting, replaced, candidate, Item}
+use Rattle.souper_graph.specs.Values.{PlainAttribute, known_bits, sign_bits, range, PlainRootAttribute, demanded_bits, harvested_from_use, PlainRhs, block, phi, instruction, PlainAssignment, PlainStatement, assigned, condition, block_condition, PlainInfer, PlainCand, Ending, inferred, resulting, replaced, candidate, Item}
 use Rattle.souper_graph.specs.Instructions.{operands_of}
 use Rattle.souper_graph.specs.Names.{IsName}
-use Rattle.souper_graph.specs.Uses.{Has, Use, position_of, uses_of, roots_of, NeededIn}
-use Rattle.souper_graph.specs.Faults.{AreMet}
+use Rattle.souper_graph.specs.Uses.{Has, Use, value_use, block_use, position_of, uses_of, roots_of, NeededIn}
+
+-- it is an assignment
+abbrev pub IsAssigned : Option PlainStatement → Type 0
+IsAssigned (Some (assigned a)) = Unit {0}
+IsAssigned o = ⊥
+
+abbrev pub IsBlockRhs : PlainRhs → Type 0
+IsBlockRhs (block b) = Unit {0}
+IsBlockRhs r = ⊥
+
+-- it is the assignment of a block
+abbrev pub IsBlock : Option PlainStatement → Type 0
+IsBlock (Some (assigned a)) = IsBlockRhs a.value
+IsBlock o = ⊥
+
+-- the statement at the position is of the kind that the use asks for
+abbrev pub IsMet : List PlainStatement → Use → Type 0
+IsMet ss (value_use i) = IsAssigned (slice_get ss i)
+IsMet ss (block_use i) = IsBlock (slice_get ss i)
+
+abbrev pub AreMet : List PlainStatement → List Use → Type 0
+AreMet ss us = (u : Use) → Has us u → IsMet ss u
 
 -- a width of 1 to 65535 bits
 abbrev pub FitsType : Ty → Type 0
@@ -30,25 +51,19 @@ FitsOperand (constant_variant c) = FitsConstant c
 -- bit lists are not empty, and numbers are within their limits
 abbrev pub FitsAttribute : PlainAttribute → Type 0
 FitsAttribute (known_bits bits) = 0 < length bits
-FitsAttribute power_of_two = Unit {0}
-FitsAttribute negative = Unit {0}
-FitsAttribute non_negative = Unit {0}
-FitsAttribute non_zero = Unit {0}
-FitsAttribute has_external_uses = Unit {0}
 FitsAttribute (sign_bits n) = n < 2 ^ 8
 FitsAttribute (range low high) = FitsSigned w128 low × FitsSigned w128 high
+FitsAttribute x = Unit {0}
 
 abbrev pub FitsRootAttribute : PlainRootAttribute → Type 0
 FitsRootAttribute (demanded_bits bits) = 0 < length bits
 FitsRootAttribute harvested_from_use = Unit {0}
 
 abbrev pub FitsRhs : PlainRhs → Type 0
-FitsRhs var = Unit {0}
 FitsRhs (block b) = b.predecessors < 2 ^ 32
 FitsRhs (phi p) = AllByRecursion FitsOperand p.values
-FitsRhs reserved_inst = Unit {0}
-FitsRhs reserved_const = Unit {0}
 FitsRhs (instruction i) = AllByRecursion FitsOperand (operands_of i)
+FitsRhs r = Unit {0}
 
 -- an assignment is valid by itself
 pub record FitsAssignment (a : PlainAssignment) : Type 0 where
@@ -64,30 +79,20 @@ FitsStatement (condition p) = FitsOperand p.x × FitsOperand p.y
 FitsStatement (block_condition p) = (p.predecessor < 2 ^ 32) × FitsOperand p.x × FitsOperand p.y
 
 abbrev pub predecessors_of_rhs : PlainRhs → ℕ
-predecessors_of_rhs var = 0
 predecessors_of_rhs (block b) = b.predecessors
-predecessors_of_rhs (phi p) = 0
-predecessors_of_rhs reserved_inst = 0
-predecessors_of_rhs reserved_const = 0
-predecessors_of_rhs (instruction i) = 0
+predecessors_of_rhs r = 0
 
 abbrev pub predecessors_of : Option PlainStatement → ℕ
-predecessors_of None = 0
 predecessors_of (Some (assigned a)) = predecessors_of_rhs a.value
-predecessors_of (Some (condition p)) = 0
-predecessors_of (Some (block_condition p)) = 0
+predecessors_of o = 0
 
 -- the number of predecessors of the block at a position; 0 if there is none
 abbrev pub predecessors_at : List PlainStatement → ℕ → ℕ
 predecessors_at ss i = predecessors_of (slice_get ss i)
 
 abbrev pub AgreesRhs : List PlainStatement → PlainRhs → Type 0
-AgreesRhs ss var = Unit {0}
-AgreesRhs ss (block b) = Unit {0}
 AgreesRhs ss (phi p) = length p.values ≡ predecessors_at ss p.block
-AgreesRhs ss reserved_inst = Unit {0}
-AgreesRhs ss reserved_const = Unit {0}
-AgreesRhs ss (instruction i) = Unit {0}
+AgreesRhs ss r = Unit {0}
 
 -- a phi has one value per predecessor of its block, and a condition on a predecessor of a block names one of them
 abbrev pub AgreesWithBlock : List PlainStatement → PlainStatement → Type 0
@@ -124,10 +129,3 @@ pub record WellFormed (a : Item) : Type 0 where
   pub ending_fits : FitsEnding a.ending
   pub closed : (p : ℕ) (s : PlainStatement) → NeededIn a p → slice_get a.statements p ≡ Some s → Closed a.statements p s
   pub named_apart : AreNamedApart a.statements (NeededIn a)
-
--- every statement, needed or not, is closed, and all names are distinct
-pub record EachClosed (a : Item) : Type 0 where
-  pub roots_met : AreMet a.statements (roots_of a.ending)
-  pub ending_fits : FitsEnding a.ending
-  pub closed : (p : ℕ) (s : PlainStatement) → slice_get a.statements p ≡ Some s → Closed a.statements p s
-  pub named_apart : (p q : ℕ) (v w : PlainAssignment) → slice_get a.statements p ≡ Some (assigned v) → slice_get a.statements q ≡ Some (assigned w) → v.name ≡ w.name → p ≡ q

@@ -3,17 +3,20 @@
 ghost use Rattle.std.specs.Prelude.{◌≡◌, ◌↔◌, ◌≤◌, ◌^◌, ℕ, IsTrue, List, length, map, take, Some, slice_get};
 ghost use Rattle.souper_graph.specs.declared.ast.operands.Operand.{Operand};
 ghost use Rattle.souper_graph.specs.Values.{PlainInfer, PlainCand, Ending, replaced, candidate, condition, block_condition, Item as PlainItem};
-ghost use Rattle.souper_graph.specs.WellFormed.{WellFormed, EachClosed};
+ghost use Rattle.souper_graph.specs.WellFormed.{WellFormed};
+ghost use Rattle.souper_graph.specs.Unneeded.{EachClosed, AllNeeded, SameNeeded};
 ghost use Rattle.souper_graph.specs.Text.{text_of, texts_of};
-ghost use Rattle.souper_graph.specs.CanonicalText.{AreWellFormed, AllNeeded, IsRearranged, HasConditionLines};
+ghost use Rattle.souper_graph.specs.CanonicalText.{IsRearranged, HasConditionLines};
+ghost use Rattle.souper_graph.specs.ItemText.{AreWellFormed};
 ghost use Rattle.souper_graph.specs.Syntax.Tokens.{Lexeme};
 ghost use Rattle.souper_graph.specs.Syntax.Spelling.{Scope, ItemType, left_hand_side, right_hand_side, replacement, IsEndingOf, item_spells_after, list_spells, TextSpells};
 ghost use Rattle.souper_graph.specs.Syntax.Forms.{items, item_after};
 ghost use Rattle.souper_graph.specs.View.{view_left_hand_side, view_right_hand_side, view_replacement};
 ghost use Rattle.souper_graph.specs.Uses.{NeededIn, UsesBelow};
 ghost use Rattle.souper_graph.specs.Faults.{HasBadId};
-ghost use Rattle.souper_graph.specs.Order.{printed_order, lead_of, uses_below};
-ghost use Rattle.souper_graph.specs.Sameness.{OrdersNeeded, SameGraph, SameNeeded, renumbered};
+ghost use Rattle.souper_graph.specs.Order.{printed_order, lead_of};
+ghost use Rattle.souper_graph.specs.PrintOrder.{uses_below};
+ghost use Rattle.souper_graph.specs.Sameness.{OrdersNeeded, SameGraph, renumbered};
 ghost use Rattle.souper_graph.specs.Renaming.{SameUpToNames, renamed};
 ghost use Rattle.souper_graph.specs.LeftSides.{infer_of, with_infer, by_result, ended_by, IsLeftOf, IsByResult, BeginsWith};
 

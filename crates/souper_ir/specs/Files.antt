@@ -6,7 +6,8 @@ use Rattle.std.specs.declared.alloc.Global.{Global}
 use Rattle.std.specs.declared.io.Error.{Error}
 use Rattle.std.specs.declared.io.ErrorKind.TheVariants.{OutOfMemory}
 use Rattle.souper_graph.specs.Values.{Item}
-use Rattle.souper_graph.specs.WellFormed.{WellFormed, EachClosed}
+use Rattle.souper_graph.specs.WellFormed.{WellFormed}
+use Rattle.souper_graph.specs.Unneeded.{EachClosed}
 use Rattle.souper_errors.specs.declared.error.ParseError.{ParseError}
 use Rattle.souper_errors.specs.declared.error.ParseErrorKind.TheVariants.{Parse}
 use Rattle.souper_ir.specs.Answers.{IsStrError}

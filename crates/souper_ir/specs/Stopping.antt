@@ -1,7 +1,8 @@
 -- Definitions. Where the reading of a text stops that is refused, and whether the text ended there.
 use Rattle.std.specs.Prelude.{◌≡◌, ◌⊎◌, ℕ, Bool, true, false, List, [], ◌++◌, None, Ok, Err, codes}
 use Rattle.souper_graph.specs.Values.{PlainStatement, PlainInfer, Item}
-use Rattle.souper_graph.specs.Syntax.Tokens.{Lexeme, AreTokensOf}
+use Rattle.souper_graph.specs.Syntax.Tokens.{Lexeme}
+use Rattle.souper_graph.specs.Syntax.TokenLaws.{AreTokensOf}
 use Rattle.souper_graph.specs.Syntax.Spelling.{kinds, infer_spells, ItemType, left_hand_side, right_hand_side, replacement}
 use Rattle.souper_graph.specs.Syntax.Forms.{attribute as attribute_form, root_attribute as root_attribute_form}
 use Rattle.souper_lexer.specs.TokenView.{IsCut}

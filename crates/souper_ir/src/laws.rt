@@ -5,15 +5,16 @@
 
 ghost use Rattle.std.specs.Prelude.{◌≡◌, ◌↔◌, ℕ, true, List, [], Option, map, option_map, codes};
 ghost use Rattle.std.specs.List.{AllByRecursion};
-ghost use Rattle.souper_graph.specs.WellFormed.{EachClosed};
+ghost use Rattle.souper_graph.specs.Unneeded.{EachClosed, AllNeeded};
 ghost use Rattle.souper_graph.specs.Instructions.{word_of};
 ghost use Rattle.souper_graph.specs.Values.{PlainAttribute, PlainRootAttribute, PlainPhi, PlainRhs, block, phi, PlainAssignment, PlainStatement, PlainInfer, PlainCand, Item};
 ghost use Rattle.souper_graph.specs.View.{view_attribute, view_root_attribute, view_phi, view_rhs, view_assignment, view_statement, view_infer, view_cand, view_left_hand_side, view_right_hand_side, view_replacement};
 ghost use Rattle.souper_graph.specs.Text.{text_of, texts_of};
 ghost use Rattle.souper_graph.specs.Sameness.{renumbered, SameGraph};
 ghost use Rattle.souper_graph.specs.Renaming.{SameUpToNames, IsRenamed};
-ghost use Rattle.souper_graph.specs.CanonicalText.{IsWellFormedOf, AreWellFormed, AllNeeded};
-ghost use Rattle.souper_graph.specs.Syntax.Tokens.{Lexeme, ident, open_paren, OneReading, IsWhiteSpaceListed, EachInText, GapEndsToken, FrontsJoin};
+ghost use Rattle.souper_graph.specs.ItemText.{IsWellFormedOf, AreWellFormed};
+ghost use Rattle.souper_graph.specs.Syntax.Tokens.{Lexeme, ident, open_paren};
+ghost use Rattle.souper_graph.specs.Syntax.TokenLaws.{OneReading, IsWhiteSpaceListed, EachInText, GapEndsToken, FrontsJoin};
 ghost use Rattle.souper_graph.specs.Syntax.Spelling.{Scope, OneList, constant_spells, instruction_spells, assignment_spells, pc_spells, block_pc_spells, statement_spells, infer_spells, cand_spells, ItemType, left_hand_side, right_hand_side, replacement, item_spells_after, TextSpells};
 ghost use Rattle.souper_graph.specs.Syntax.Forms.{type as type_form, operand, rhs, attribute, root_attribute};
 ghost use Rattle.souper_ir.specs.Continuation.{constant_continues, operand_continues, phi_continues, instruction_continues, rhs_continues, assignment_continues, pc_continues, block_pc_continues, statement_continues, infer_continues, cand_continues, item_continues};

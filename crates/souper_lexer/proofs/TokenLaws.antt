@@ -3,7 +3,8 @@ use Rattle.std.proofs.Common.{◌≡◌, ℕ, zero, suc, ◌+◌, ◌-◌, ◌<�
 use Rattle.std.specs.List.{AllByRecursion}
 use Rattle.std.proofs.lemmas.List.{take_at, drop_at}
 use Rattle.std.proofs.lemmas.Bool.{false≢true}
-use Rattle.souper_graph.specs.Syntax.Tokens.{StandsAt, Lexeme, spelling, Begins, IsLastGap, IsTextOf, AreTokensOf, OneReading}
+use Rattle.souper_graph.specs.Syntax.Tokens.{Lexeme, spelling, Begins, IsLastGap, IsTextOf}
+use Rattle.souper_graph.specs.Syntax.TokenLaws.{StandsAt, AreTokensOf, OneReading}
 use Rattle.souper_lexer.specs.TokenReading.{Front, ends, faulty, found, next_of, gap_len, Lexed, before, lexed_within, lexed_of}
 use Rattle.souper_lexer.proofs.TokenSteps.{found_shorter, within_ends, within_faulty, within_found, lexed_ends, lexed_found}
 use Rattle.souper_lexer.proofs.TokenComplete.{next_found, next_gap, next_ends, next_cut}

@@ -4,7 +4,7 @@ use Rattle.std.specs.Prelude.{Contains, nat_lt}
 use Rattle.std.specs.Char.{is_whitespace}
 use Rattle.std.proofs.lemmas.List.Folds.{list_all_at}
 use borrow.Author.Tests.{ltb-true}
-use Rattle.souper_graph.specs.Syntax.Tokens.{white_space}
+use Rattle.souper_graph.specs.Syntax.TokenLaws.{white_space}
 
 -- the element at k from the one at index a on
 tabs : (k d : ℕ) → k < 5 → get_or white_space k d ≡ 9 + k

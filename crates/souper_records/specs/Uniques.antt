@@ -5,7 +5,7 @@ use Rattle.std.specs.Io.KnownBytes.{Appends}
 use Rattle.souper_records.specs.Prelude.{Item, text_of, WellFormed, ItemType, Stream, IsGiven}
 use Rattle.souper_graph.specs.Sameness.{SameGraph}
 use Rattle.souper_graph.specs.Renaming.{SameUpToNames}
-use Rattle.souper_graph.specs.CanonicalText.{IsWellFormedOf}
+use Rattle.souper_graph.specs.ItemText.{IsWellFormedOf}
 use Rattle.souper_records.specs.declared.layout.Layout.{Layout}
 use Rattle.souper_records.specs.declared.layout.Summary.{Summary}
 use Rattle.souper_records.specs.declared.seen.Seen.{Seen}

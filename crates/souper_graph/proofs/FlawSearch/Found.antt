@@ -10,8 +10,7 @@ use Rattle.souper_graph.specs.declared.ast.flaws.FlawLocation.TheVariants.{State
 use Rattle.souper_graph.specs.declared.ast.flaws.FlawReason.{FlawReason}
 use Rattle.souper_graph.specs.Values.{PlainStatement, assigned, Item}
 use Rattle.souper_graph.specs.Uses.{Has, NeededIn, roots_of}
-use Rattle.souper_graph.specs.Faults.{IsMet}
-use Rattle.souper_graph.specs.WellFormed.{WellFormed}
+use Rattle.souper_graph.specs.WellFormed.{WellFormed, IsMet}
 use Rattle.souper_graph.specs.Judging.{assigned_name_at, MayStand, MayStandAt, AllStand}
 use Rattle.souper_graph.specs.Flaws.{IsNamedAnew, StatementMeets, MeetsAt, reasons, IsFirstFailing, IsBefore, IsChecked, IsFirstFlaw}
 use Rattle.souper_graph.specs.FlawSearch.{AreNeeded, IsFlawAmong, LinesStand, IsFlawOfLines}

@@ -5,8 +5,7 @@ use Rattle.souper_graph.specs.declared.ast.flaws.FlawReason.{FlawReason}
 use Rattle.souper_graph.specs.declared.ast.flaws.FlawReason.TheVariants.{InvalidName, EmptyBits, ZeroWidth, UseBeforeDefinition, NotAnAssignment, NotABlock, ValueCount, PredecessorOutOfRange, DuplicateName}
 use Rattle.souper_graph.specs.Values.{PlainStatement, assigned, condition, block_condition, Ending, inferred, resulting, replaced, candidate}
 use Rattle.souper_graph.specs.Uses.{Use, uses_of_operand, uses_of, roots_of}
-use Rattle.souper_graph.specs.Faults.{IsMet}
-use Rattle.souper_graph.specs.WellFormed.{FitsStatement, AgreesWithBlock, FitsEnding}
+use Rattle.souper_graph.specs.WellFormed.{FitsStatement, AgreesWithBlock, FitsEnding, IsMet}
 use Rattle.souper_graph.specs.Judging.{assigned_name, MayStand}
 use Rattle.souper_graph.specs.Flaws.{HasValidName, HasValidBits, HasValidWidths, HasValueCount, HasPredecessor, IsNamedAnew, StatementMeets, reasons_alone, reasons, IsFirstFailing}
 use Rattle.souper_graph.specs.FlawSearch.{StatementMeetsAlone, LinesStand}

@@ -7,7 +7,7 @@ use Rattle.souper_graph.specs.declared.ast.operands.Operand.TheVariants.{Value, 
 use Rattle.souper_graph.specs.Values.{PlainRhs, var, block, phi, reserved_inst, reserved_const, instruction, PlainStatement, assigned, condition, block_condition}
 use Rattle.souper_graph.specs.Instructions.{operands_of}
 use Rattle.souper_graph.specs.Uses.{Use, value_use, block_use, uses_of_operand, uses_of_operands, uses_of_rhs, uses_of}
-use Rattle.souper_graph.specs.Faults.{IsBlock, IsMet}
+use Rattle.souper_graph.specs.WellFormed.{IsBlock, IsMet}
 use Rattle.souper_graph.specs.Judging.{AreMetBelow}
 use Rattle.souper_graph.specs.Flaws.{IsEarlier, IsValueMet, HasBlockRhs, HasBlock}
 use Rattle.souper_graph.proofs.Judging.Closed.{All-both, All-first, All-second}

@@ -7,8 +7,8 @@ use Rattle.souper_graph.specs.declared.stringify.errors.TextError.{TextError}
 use Rattle.souper_graph.specs.declared.stringify.errors.TextError.TheVariants.{OutOfRange, NotAnAssignment, NotABlock, OutOfMemory}
 use Rattle.souper_graph.specs.Values.{PlainStatement, Item}
 use Rattle.souper_graph.specs.Uses.{Has, Use, value_use, block_use, uses_of, uses_of_optional, NeededIn}
-use Rattle.souper_graph.specs.Faults.{IsAssigned, IsBlock, IsMet, AreMet, NamedIn, IsFaultOf}
-use Rattle.souper_graph.specs.WellFormed.{Closed, WellFormed}
+use Rattle.souper_graph.specs.Faults.{NamedIn, IsFaultOf}
+use Rattle.souper_graph.specs.WellFormed.{Closed, WellFormed, IsAssigned, IsBlock, IsMet, AreMet}
 use Rattle.souper_graph.specs.Judging.{IsMetBelow, AreMetBelow, MayStand, MayStandAt}
 
 -- a property of each image holds of the image of the element at i

@@ -4,11 +4,13 @@ use Rattle.std.specs.Prelude.{◌&&◌, Result, Some, None, if◌then◌else◌}
 use Rattle.std.specs.Fmt.{WritesOnOk, DisplaysOnOk, WritesStyledOnOk, DisplaysStyledOnOk}
 use Rattle.std.specs.declared.fmt.Error.{Error}
 use Rattle.std.specs.declared.fmt.Formatter.{Formatter}
-use Rattle.souper_graph.specs.Text.{text_of, shown_text}
+use Rattle.souper_graph.specs.Text.{text_of}
+use Rattle.souper_graph.specs.Shown.{shown_text}
 use Rattle.std.proofs.lemmas.Bool.{cases_lt}
 use Rattle.souper_graph.specs.Values.{PlainStatement, Item}
 use Rattle.souper_graph.specs.Uses.{Has, used_at, walks_of, Needed, walked, used, UsesBelow}
-use Rattle.souper_graph.specs.Order.{order_of_walks, printed_order, are_below, use_below, uses_below}
+use Rattle.souper_graph.specs.Order.{order_of_walks, printed_order}
+use Rattle.souper_graph.specs.PrintOrder.{are_below, use_below, uses_below}
 use Rattle.souper_graph.proofs.Lists.{Has-here, Has-later, Has-head}
 use Rattle.souper_graph.proofs.Sameness.PrintedOrder.{printed-needed, printed-closed, walks-printed}
 

@@ -4,8 +4,8 @@ use Rattle.std.specs.List.{slice_get}
 use Rattle.std.proofs.lemmas.Option.{slice_get_within}
 use Rattle.souper_graph.specs.Values.{var, PlainStatement, assigned, condition, block_condition, Item}
 use Rattle.souper_graph.specs.Uses.{Has, Use, value_use, block_use, position_of, uses_of, uses_of_optional, uses_at, used_at, is_condition, conditions_from, conditions, first_roots, last_roots, roots_of, first_walks, walks_of, walked, used, NeededIn, UsesBelow}
-use Rattle.souper_graph.specs.Faults.{IsAssigned, IsBlock, IsMet, HasBadId}
-use Rattle.souper_graph.specs.WellFormed.{WellFormed}
+use Rattle.souper_graph.specs.Faults.{HasBadId}
+use Rattle.souper_graph.specs.WellFormed.{WellFormed, IsAssigned, IsBlock, IsMet}
 use Rattle.souper_graph.proofs.Lists.{Has-left, Has-right, Has-cases, Has-none, Has-head, Has-map, Has-mapped}
 
 -- the statement at the position, if there is one, else an input variable without a name

@@ -16,10 +16,11 @@ use Rattle.souper_graph.specs.declared.stringify.order.Entry.TheVariants.{Trace,
 use Rattle.souper_graph.specs.Values.{PlainStatement, Item}
 use Rattle.souper_graph.specs.View.{view_statement}
 use Rattle.souper_graph.specs.Uses.{Has, Use, value_use, block_use, position_of, uses_of, uses_of_optional, uses_at, used_at, Needed, walked, used, conditions, first_roots, last_roots, roots_of, first_walks, walks_of, NeededIn}
-use Rattle.souper_graph.specs.Order.{Distinct, EachAfterItsUses, cost, order_of_walks}
-use Rattle.souper_graph.specs.Faults.{IsMet, NamedIn, HasBadId, IsFaultOf}
+use Rattle.souper_graph.specs.Order.{Distinct, EachAfterItsUses, order_of_walks}
+use Rattle.souper_graph.specs.Faults.{NamedIn, HasBadId, IsFaultOf}
+use Rattle.souper_graph.specs.WellFormed.{IsMet}
 use Rattle.souper_graph.specs.Walks.{position_of_target, target_of, IsMetTarget, IsFaultAt, first_targets, targets_of, IsWalkedBy}
-use Rattle.souper_graph.specs.PrintOrder.{IsPrintOrder}
+use Rattle.souper_graph.specs.PrintOrder.{IsPrintOrder, cost}
 use Rattle.souper_graph.proofs.Lists.{Has-left, Has-right, Has-cases, Has-none, Has-here, Has-map, Has-mapped}
 use Rattle.souper_graph.proofs.Conditions.{conditions-inside}
 use Rattle.souper_graph.proofs.Order.Runs.{Below, work, work-set}

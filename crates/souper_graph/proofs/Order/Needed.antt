@@ -5,7 +5,8 @@ use Rattle.std.proofs.lemmas.List.{length-map, get_or-replicate, get_or_past}
 use Rattle.std.proofs.lemmas.Bool.{cases_lt, cases_eq}
 use Rattle.souper_graph.specs.Values.{PlainStatement}
 use Rattle.souper_graph.specs.Uses.{Has, used_at, Needed, walked, used}
-use Rattle.souper_graph.specs.Order.{Distinct, cost}
+use Rattle.souper_graph.specs.Order.{Distinct}
+use Rattle.souper_graph.specs.PrintOrder.{cost}
 use Rattle.souper_graph.proofs.Order.Runs.{Step, trace, finish, Reached, start, walk, dropped, entered, finished}
 use Rattle.souper_graph.proofs.Lists.{Has-left, Has-right, Has-cases, Has-none, Has-here, Has-later, Has-head, Has-insert, Has-inserted, Distinct-insert, cost-insert}
 

@@ -4,7 +4,7 @@ use Rattle.std.proofs.Common.{◌≡◌, ℕ, ◌<◌, List, [], ◌∷◌, ◌+
 use Rattle.std.proofs.lemmas.List.{take-append-drop}
 use Rattle.souper_graph.specs.Values.{PlainStatement, Ending, inferred, resulting, replaced, candidate, Item}
 use Rattle.souper_graph.specs.Uses.{Has, Use, value_use, position_of as use_position, uses_of_operand, roots_of}
-use Rattle.souper_graph.specs.WellFormed.{EachClosed}
+use Rattle.souper_graph.specs.Unneeded.{EachClosed}
 use Rattle.souper_graph.specs.Syntax.Spelling.{ItemType}
 use Rattle.souper_graph.proofs.Judging.Needed.{met-inside}
 use Rattle.souper_graph.proofs.RoundTrip.Parts.{Part, newline, words_of, AreSound, sound_append}

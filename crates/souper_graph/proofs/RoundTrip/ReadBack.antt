@@ -7,9 +7,10 @@ use Rattle.souper_graph.specs.Values.{PlainStatement, assigned, condition, block
 use Rattle.souper_graph.specs.Uses.{Has, value_use, position_of, uses_of_operand, first_roots, roots_of, walks_of, NeededIn}
 use Rattle.souper_graph.specs.Order.{printed_order, lead_of}
 use Rattle.souper_graph.specs.Text.{name_of, name_at, text_of_statement, line_of, line_at, lines_of, text_in_order, text_of, texts_of}
-use Rattle.souper_graph.specs.WellFormed.{WellFormed, EachClosed}
-use Rattle.souper_graph.specs.Sameness.{carried, carried_ending, place, renumbered, SameGraph, SameNeeded}
-use Rattle.souper_graph.specs.CanonicalText.{IsWellFormedOf, AreWellFormed, AllNeeded, ReadsBack}
+use Rattle.souper_graph.specs.WellFormed.{WellFormed}
+use Rattle.souper_graph.specs.Unneeded.{EachClosed, SameNeeded, AllNeeded}
+use Rattle.souper_graph.specs.Sameness.{carried, carried_ending, place, renumbered, SameGraph}
+use Rattle.souper_graph.specs.ItemText.{IsWellFormedOf, AreWellFormed, ReadsBack}
 use Rattle.souper_graph.specs.Syntax.Tokens.{Lexeme, IsTextOf}
 use Rattle.souper_graph.specs.Syntax.Spelling.{ItemType, left_hand_side, right_hand_side, replacement, IsEndingOf, item_spells, list_spells, TextSpells}
 use Rattle.souper_graph.proofs.Lists.{Has-left, Has-right, Has-here, Has-later}

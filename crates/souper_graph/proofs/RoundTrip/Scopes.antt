@@ -8,8 +8,8 @@ use Rattle.souper_graph.specs.Values.{PlainRhs, var, block, phi, reserved_inst, 
 use Rattle.souper_graph.specs.Names.{IsName}
 use Rattle.souper_graph.specs.Uses.{Use, value_use, block_use, position_of as use_position}
 use Rattle.souper_graph.specs.Text.{name_of, name_at}
-use Rattle.souper_graph.specs.Faults.{IsAssigned, IsBlockRhs, IsBlock, IsMet}
-use Rattle.souper_graph.specs.WellFormed.{predecessors_of_rhs, predecessors_of, predecessors_at, EachClosed}
+use Rattle.souper_graph.specs.WellFormed.{predecessors_of_rhs, predecessors_of, predecessors_at, IsAssigned, IsBlockRhs, IsBlock, IsMet}
+use Rattle.souper_graph.specs.Unneeded.{EachClosed}
 use Rattle.souper_graph.specs.Syntax.Spelling.{Scope, predecessors_if_block, entry_from, entry_of, position_of}
 use Rattle.souper_graph.proofs.RoundTrip.Ready.{Known, IsFresh, AreReady}
 

@@ -7,8 +7,7 @@ use Rattle.souper_graph.specs.declared.ast.operands.Operand.TheVariants.{Value, 
 use Rattle.souper_graph.specs.Values.{PlainRhs, var, block, phi, reserved_inst, reserved_const, instruction, PlainAssignment, PlainStatement, assigned, condition, block_condition, Ending, inferred, resulting, replaced, candidate}
 use Rattle.souper_graph.specs.Instructions.{operands_of}
 use Rattle.souper_graph.specs.Uses.{Has, Use, value_use, block_use, position_of, uses_of_operand, uses_of_operands, uses_of_rhs, uses_of, is_condition, first_roots, last_roots, roots_of}
-use Rattle.souper_graph.specs.Faults.{IsAssigned, IsBlock}
-use Rattle.souper_graph.specs.WellFormed.{FitsOperand, FitsRhs, FitsStatement, FitsEnding, predecessors_of, predecessors_at, AgreesRhs, AgreesWithBlock}
+use Rattle.souper_graph.specs.WellFormed.{FitsOperand, FitsRhs, FitsStatement, FitsEnding, predecessors_of, predecessors_at, AgreesRhs, AgreesWithBlock, IsAssigned, IsBlock}
 use Rattle.souper_graph.specs.Sameness.{carried_operand, carried_rhs, carried, carried_ending}
 use Rattle.souper_graph.proofs.Lists.{Has-left, Has-right, Has-none, Has-here, Has-later, Has-head}
 use Rattle.souper_graph.proofs.Sameness.InstructionMaps.{operands-map, instruction-twice, instruction-itself, instruction-same}

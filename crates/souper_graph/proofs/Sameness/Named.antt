@@ -6,8 +6,7 @@ use Rattle.std.proofs.lemmas.Bool.{lt-ltb}
 use Rattle.souper_graph.specs.Values.{PlainStatement, PlainAssignment, assigned, condition, block_condition, Item}
 use Rattle.souper_graph.specs.Names.{IsName}
 use Rattle.souper_graph.specs.Uses.{Has, Use, position_of, conditions, roots_of, NeededIn}
-use Rattle.souper_graph.specs.Faults.{IsMet}
-use Rattle.souper_graph.specs.WellFormed.{FitsStatement, FitsEnding, AgreesWithBlock, Closed, WellFormed}
+use Rattle.souper_graph.specs.WellFormed.{FitsStatement, FitsEnding, AgreesWithBlock, Closed, WellFormed, IsMet}
 use Rattle.souper_graph.specs.Text.{name_of, name_at}
 use Rattle.souper_graph.specs.Sameness.{carried, carried_ending, SameGraph, place}
 use Rattle.souper_graph.specs.Renaming.{with_name, nameless, SameUpToNames, named_at, named_from, named_by, with_statements}

@@ -6,8 +6,7 @@ use Rattle.std.proofs.lemmas.Option.{slice_get-map}
 use Rattle.souper_graph.specs.Values.{PlainStatement, assigned, condition, block_condition, Item}
 use Rattle.souper_graph.specs.Uses.{Has, Use, value_use, block_use, position_of, uses_of, uses_of_optional, used_at, is_condition, conditions_from, conditions, walks_of, Needed, walked, used, NeededIn}
 use Rattle.souper_graph.specs.Order.{unfold_to, firsts, order_of_walks, printed_order}
-use Rattle.souper_graph.specs.Faults.{IsAssigned, IsBlock, IsMet}
-use Rattle.souper_graph.specs.WellFormed.{predecessors_of, predecessors_at}
+use Rattle.souper_graph.specs.WellFormed.{predecessors_of, predecessors_at, IsAssigned, IsBlock, IsMet}
 use Rattle.souper_graph.specs.Sameness.{carried}
 use Rattle.souper_graph.specs.Renaming.{with_name, nameless, SameUpToNames, with_statements}
 use Rattle.souper_graph.proofs.Judging.Needed.{stood, statement_at, first_of, last_of}

@@ -5,9 +5,9 @@ use Rattle.std.proofs.lemmas.List.{map-append, length-map, length_push, get_or-m
 use Rattle.souper_graph.specs.Values.{PlainStatement, Ending, Item}
 use Rattle.souper_graph.specs.Uses.{Has, Use, value_use, block_use, position_of, uses_of, uses_of_optional, uses_at, used_at, is_condition, conditions_from, conditions, first_roots, last_roots, roots_of, walks_of, walked, used, NeededIn, UsesBelow}
 use Rattle.souper_graph.specs.Order.{unfold_to, unfolding_of, order_of_walks, printed_order, Distinct, EachAfterItsUses}
-use Rattle.souper_graph.specs.Faults.{IsAssigned, IsBlock, IsMet}
-use Rattle.souper_graph.specs.WellFormed.{FitsEnding, predecessors_of, predecessors_at, Closed, WellFormed}
-use Rattle.souper_graph.specs.Sameness.{carried, carried_ending, carried_optional, SameGraph, place, renumbered, SameNeeded, OrdersNeeded}
+use Rattle.souper_graph.specs.WellFormed.{FitsEnding, predecessors_of, predecessors_at, Closed, WellFormed, IsAssigned, IsBlock, IsMet}
+use Rattle.souper_graph.specs.Sameness.{carried, carried_ending, carried_optional, SameGraph, place, renumbered, OrdersNeeded}
+use Rattle.souper_graph.specs.Unneeded.{SameNeeded}
 use Rattle.souper_graph.proofs.Order.Firsts.{with_new, printed-is}
 use Rattle.souper_graph.proofs.Lists.{Has-right, Has-none, Has-here, Has-later, Has-head, Has-map, Has-mapped}
 use Rattle.souper_graph.proofs.Order.Sorted.{below-all, lower, apart}

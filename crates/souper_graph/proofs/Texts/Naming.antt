@@ -7,7 +7,8 @@ use Rattle.souper_graph.specs.declared.stringify.errors.TextError.{TextError}
 use Rattle.souper_graph.specs.declared.stringify.errors.TextError.TheVariants.{OutOfRange, NotAnAssignment, NotABlock, OutOfMemory}
 use Rattle.souper_graph.specs.Values.{PlainStatement, Item}
 use Rattle.souper_graph.specs.Uses.{Has, Use, value_use, block_use, uses_at, roots_of, NeededIn}
-use Rattle.souper_graph.specs.Faults.{AreMet, IsFaultAmong, NamedIn, IsFaultOf}
+use Rattle.souper_graph.specs.Faults.{IsFaultAmong, NamedIn, IsFaultOf}
+use Rattle.souper_graph.specs.WellFormed.{AreMet}
 use Rattle.souper_graph.proofs.Lists.{Has-left, Has-right, Has-cases}
 
 pub AreMet-append : (ss : List PlainStatement) (us vs : List Use) → AreMet ss us → AreMet ss vs → AreMet ss (us ++ vs)

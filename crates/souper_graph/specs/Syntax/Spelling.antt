@@ -24,19 +24,14 @@ Scope = List PlainStatement
 
 -- a block's number of predecessors; none for any other right side
 abbrev pub predecessors_if_block : PlainRhs → Option ℕ
-predecessors_if_block var = None
 predecessors_if_block (block b) = Some b.predecessors
-predecessors_if_block (phi p) = None
-predecessors_if_block reserved_inst = None
-predecessors_if_block reserved_const = None
-predecessors_if_block (instruction i) = None
+predecessors_if_block r = None
 
 -- the position of the assignment of a name, and the number of predecessors of its block, if the first statement is at k
 abbrev pub entry_from : ℕ → Scope → List ℕ → Option (ℕ × Option ℕ)
 entry_from k [] n = None
 entry_from k (assigned a ∷ ss) n = if bytes_eq a.name n then Some (k, predecessors_if_block a.value) else entry_from (suc k) ss n
-entry_from k (condition p ∷ ss) n = entry_from (suc k) ss n
-entry_from k (block_condition p ∷ ss) n = entry_from (suc k) ss n
+entry_from k (s ∷ ss) n = entry_from (suc k) ss n
 
 abbrev pub entry_of : Scope → List ℕ → Option (ℕ × Option ℕ)
 entry_of s n = entry_from 0 s n
@@ -223,17 +218,10 @@ pub data ItemType : Type 0 where
 -- the last lines belong to an item of the type
 abbrev pub IsEndingOf : ItemType → Ending → Type 0
 IsEndingOf left_hand_side (inferred i) = Unit {0}
-IsEndingOf left_hand_side (resulting r) = ⊥
-IsEndingOf left_hand_side (replaced i r) = ⊥
-IsEndingOf left_hand_side (candidate c) = ⊥
-IsEndingOf right_hand_side (inferred i) = ⊥
 IsEndingOf right_hand_side (resulting r) = Unit {0}
-IsEndingOf right_hand_side (replaced i r) = ⊥
-IsEndingOf right_hand_side (candidate c) = ⊥
-IsEndingOf replacement (inferred i) = ⊥
-IsEndingOf replacement (resulting r) = ⊥
 IsEndingOf replacement (replaced i r) = Unit {0}
 IsEndingOf replacement (candidate c) = Unit {0}
+IsEndingOf k e = ⊥
 
 -- further statements, and what an item has besides its statements
 abbrev pub Tail : Type 0

@@ -7,8 +7,7 @@ ghost use Rattle.souper_graph.specs.declared.ast.statements.Statement.TheVariant
 ghost use Rattle.souper_graph.specs.declared.ast.taken_names.TakenNames.{TakenNames as Taken};
 ghost use Rattle.souper_graph.specs.Values.{block, condition, block_condition};
 ghost use Rattle.souper_graph.specs.View.{view_attribute, view_rhs, view_statement};
-ghost use Rattle.souper_graph.specs.Faults.{IsAssigned, IsBlock};
-ghost use Rattle.souper_graph.specs.WellFormed.{predecessors_at};
+ghost use Rattle.souper_graph.specs.WellFormed.{predecessors_at, IsAssigned, IsBlock};
 ghost use Rattle.souper_graph.specs.Building.{BeginsWithPercent, IsFirstFree, chosen_name, added_assignment, Appends, statements_of};
 ghost use Rattle.souper_graph.specs.TakenNames.{Knows};
 

@@ -7,13 +7,13 @@ ghost use Rattle.souper_graph.specs.View.{view_statement, view_left_hand_side, v
 ghost use Rattle.std.specs.Borrow.{sem};
 ghost use Rattle.souper_graph.specs.declared.ast.statements.Statement.{Statement as StatementNode};
 ghost use Rattle.souper_graph.specs.Lending.{LendsStatements};
-ghost use Rattle.souper_graph.specs.PartsView.{view_parts};
+ghost use Rattle.souper_graph.specs.PartsView.{view_parts, root_operands};
 ghost use Rattle.souper_graph.specs.StatementsPut.{left_hand_side_of, right_hand_side_of, replacement_of, replacement_puts};
-ghost use Rattle.souper_graph.specs.Uses.{root_operands};
 ghost use Rattle.souper_graph.specs.Faults.{IsFaultOf};
 ghost use Rattle.souper_graph.specs.PrintOrder.{IsPrintOrder, IsEmptyOrder};
 ghost use Rattle.souper_graph.specs.Text.{text_of};
-ghost use Rattle.souper_graph.specs.ItemText.{IsItemText, AppendsItemText};
+ghost use Rattle.souper_graph.specs.ItemText.{IsItemText};
+ghost use Rattle.souper_graph.specs.Shown.{AppendsItemText};
 ghost use Rattle.souper_graph.specs.Renaming.{IsRenamed, with_statements};
 ghost use Rattle.souper_graph.specs.Replacing.{with_uses_replaced};
 ghost use Rattle.souper_graph.specs.WellFormed.{WellFormed};

@@ -3,7 +3,7 @@
 ghost use Rattle.std.specs.Prelude.{◌≡◌, Some, map, slice_get, option_copied};
 ghost use Rattle.souper_graph.specs.declared.ast.statements.Statement.TheVariants.{Assignment as assignment_variant};
 ghost use Rattle.souper_graph.specs.View.{view_statement};
-ghost use Rattle.souper_graph.specs.Faults.{IsAssigned};
+ghost use Rattle.souper_graph.specs.WellFormed.{IsAssigned};
 ghost use Rattle.souper_graph.specs.Building.{statements_of};
 ghost use Rattle.souper_graph.specs.Lookup.{assignment_of, block_of, assignment_at, block_at};
 

@@ -2,8 +2,7 @@
 
 ghost use Rattle.std.specs.Prelude.{◌≡◌};
 ghost use Rattle.souper_graph.specs.View.{view_left_hand_side, view_right_hand_side, view_replacement};
-ghost use Rattle.souper_graph.specs.PartsView.{view_parts};
-ghost use Rattle.souper_graph.specs.Uses.{root_operands};
+ghost use Rattle.souper_graph.specs.PartsView.{view_parts, root_operands};
 
 use crate::ast::arenas::Arena;
 use crate::ast::items::{Cand, Infer, LeftHandSide, Replacement, RightHandSide};

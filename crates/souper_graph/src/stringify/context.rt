@@ -5,7 +5,8 @@ ghost use Rattle.std.specs.String.{string_bytes};
 ghost use Rattle.souper_graph.specs.Values.{PlainStatement};
 ghost use Rattle.souper_graph.specs.View.{view_statement};
 ghost use Rattle.souper_graph.specs.Uses.{Use};
-ghost use Rattle.souper_graph.specs.Faults.{AreMet, IsFaultAmong};
+ghost use Rattle.souper_graph.specs.Faults.{IsFaultAmong};
+ghost use Rattle.souper_graph.specs.WellFormed.{AreMet};
 
 use crate::ast::{Arena, Statement};
 use crate::stringify::errors::TextError;

@@ -7,7 +7,8 @@ ghost use Rattle.souper_graph.specs.View.{view_statement, view_infer};
 ghost use Rattle.souper_graph.specs.PartsView.{view_parts};
 ghost use Rattle.souper_graph.specs.Uses.{uses_of_operand, uses_at, roots_of};
 ghost use Rattle.souper_graph.specs.Text.{text_of_result, line_at, lines_of, text_in_order};
-ghost use Rattle.souper_graph.specs.Faults.{AreMet, IsFaultAmong};
+ghost use Rattle.souper_graph.specs.Faults.{IsFaultAmong};
+ghost use Rattle.souper_graph.specs.WellFormed.{AreMet};
 
 use crate::ast::{Arena, Ending, Id, Infer, Operand, Parts, Statement};
 use crate::stringify::context::DisplayWithContext;

@@ -4,7 +4,8 @@ ghost use Rattle.std.specs.Prelude.{◌≡◌, ◌∷◌, [], map, OnOk, IfOk, I
 ghost use Rattle.souper_graph.specs.View.{view_statement};
 ghost use Rattle.souper_graph.specs.Uses.{value_use, block_use};
 ghost use Rattle.souper_graph.specs.Text.{name_at};
-ghost use Rattle.souper_graph.specs.Faults.{IsMet, IsFaultAmong};
+ghost use Rattle.souper_graph.specs.Faults.{IsFaultAmong};
+ghost use Rattle.souper_graph.specs.WellFormed.{IsMet};
 
 use crate::ast::{Arena, AssignmentRhs, BlockId, Id, Statement, ValueId};
 use crate::stringify::errors::TextError;

@@ -7,7 +7,8 @@ ghost use Rattle.souper_graph.specs.View.{view_phi, view_rhs, view_assignment, v
 ghost use Rattle.souper_graph.specs.Instructions.{operands_of};
 ghost use Rattle.souper_graph.specs.Uses.{Use, value_use, block_use, uses_of_operand, uses_of_operands, uses_of_rhs, uses_of};
 ghost use Rattle.souper_graph.specs.Text.{name_at, text_of_operand, text_of_further, text_of_instruction, text_of_phi, text_of_rhs, text_of_assignment, text_of_pc, text_of_block_pc, text_of_statement, text_of_infer, text_of_cand};
-ghost use Rattle.souper_graph.specs.Faults.{AreMet, IsFaultAmong};
+ghost use Rattle.souper_graph.specs.Faults.{IsFaultAmong};
+ghost use Rattle.souper_graph.specs.WellFormed.{AreMet};
 
 use crate::ast::{
     Arena, Assignment, AssignmentRhs, BlockId, BlockPc, Cand, Infer, Instruction, Operand,

@@ -9,7 +9,8 @@ ghost use Rattle.souper_graph.specs.View.{view_rhs, view_statement, view_left_ha
 ghost use Rattle.souper_graph.specs.PartsView.{view_parts};
 ghost use Rattle.souper_graph.specs.Instructions.{operands_of};
 ghost use Rattle.souper_graph.specs.Uses.{uses_of_operand, uses_of_operands, uses_of_rhs, uses_of, conditions_from, first_roots, last_roots};
-ghost use Rattle.souper_graph.specs.Faults.{IsAssigned, IsBlock, IsFaultOf};
+ghost use Rattle.souper_graph.specs.Faults.{IsFaultOf};
+ghost use Rattle.souper_graph.specs.WellFormed.{IsAssigned, IsBlock};
 ghost use Rattle.souper_graph.specs.Walks.{position_of_target, target_of, IsMetTarget, IsFaultAt, IsWalkedBy};
 ghost use Rattle.souper_graph.specs.PrintOrder.{IsPrintOrder};
 

@@ -2,14 +2,14 @@
 
 ghost use Rattle.std.specs.Prelude.{◌≡◌, ◌≤◌, ◌++◌, [], length, flat_map, IfOk, IfErr, OnOk, OnErr};
 ghost use Rattle.std.specs.Fmt.{DisplaysOnOk, DisplaysStyledOnOk};
-ghost use Rattle.souper_graph.specs.Shown.{ShowsLines};
+ghost use Rattle.souper_graph.specs.Shown.{ShowsLines, shown_text, AppendsItemText};
 ghost use Rattle.std.specs.String.{string_bytes};
 ghost use Rattle.souper_graph.specs.Values.{Item};
 ghost use Rattle.souper_graph.specs.View.{view_left_hand_side, view_right_hand_side, view_replacement};
 ghost use Rattle.souper_graph.specs.PartsView.{view_parts};
 ghost use Rattle.souper_graph.specs.Uses.{uses_at, roots_of};
-ghost use Rattle.souper_graph.specs.Text.{text_in_order, shown_text};
-ghost use Rattle.souper_graph.specs.ItemText.{IsItemText, AppendsItemText};
+ghost use Rattle.souper_graph.specs.Text.{text_in_order};
+ghost use Rattle.souper_graph.specs.ItemText.{IsItemText};
 ghost use Rattle.souper_graph.specs.Syntax.Spelling.{ItemType, left_hand_side, right_hand_side, replacement, IsEndingOf};
 ghost use Rattle.souper_graph.specs.Faults.{IsFaultAmong, HasBadId, IsFaultOf};
 
@@ -157,7 +157,7 @@ impl Replacement {
 /// Writes the bytes of `to_text`, or returns `fmt::Error` if that or the writer fails.
 impl fmt::Display for LeftHandSide {
     ghost use Rattle.souper_graph.specs.View.{view_left_hand_side};
-    ghost use Rattle.souper_graph.specs.Text.{shown_text};
+    ghost use Rattle.souper_graph.specs.Shown.{shown_text};
 
     ghost output = { λ item. shown_text (view_left_hand_side item) };
 
@@ -179,7 +179,7 @@ impl fmt::Display for LeftHandSide {
 /// Writes the bytes of `to_text`, or returns `fmt::Error` if that or the writer fails.
 impl fmt::Display for RightHandSide {
     ghost use Rattle.souper_graph.specs.View.{view_right_hand_side};
-    ghost use Rattle.souper_graph.specs.Text.{shown_text};
+    ghost use Rattle.souper_graph.specs.Shown.{shown_text};
 
     ghost output = { λ item. shown_text (view_right_hand_side item) };
 
@@ -201,7 +201,7 @@ impl fmt::Display for RightHandSide {
 /// Writes the bytes of `to_text`, or returns `fmt::Error` if that or the writer fails.
 impl fmt::Display for Replacement {
     ghost use Rattle.souper_graph.specs.View.{view_replacement};
-    ghost use Rattle.souper_graph.specs.Text.{shown_text};
+    ghost use Rattle.souper_graph.specs.Shown.{shown_text};
 
     ghost output = { λ item. shown_text (view_replacement item) };
 

@@ -2,11 +2,12 @@
 use Rattle.std.proofs.Common.{◌≡◌, ℕ, List, [], ◌∷◌, ◌++◌, map, sym, ap, ◌∙◌, subst}
 use Rattle.std.specs.List.{AllByRecursion}
 use Rattle.souper_graph.specs.Values.{PlainStatement, Ending, inferred, resulting, replaced, candidate, Item}
-use Rattle.souper_graph.specs.WellFormed.{WellFormed, EachClosed}
+use Rattle.souper_graph.specs.WellFormed.{WellFormed}
+use Rattle.souper_graph.specs.Unneeded.{EachClosed, AllNeeded}
 use Rattle.souper_graph.specs.Text.{text_of, texts_of}
 use Rattle.souper_graph.specs.Sameness.{renumbered, SameGraph}
 use Rattle.souper_graph.specs.Renaming.{SameUpToNames, renamed, IsRenamed}
-use Rattle.souper_graph.specs.CanonicalText.{IsWellFormedOf, AreWellFormed, AllNeeded}
+use Rattle.souper_graph.specs.ItemText.{IsWellFormedOf, AreWellFormed}
 use Rattle.souper_graph.specs.Syntax.Tokens.{Lexeme}
 use Rattle.souper_graph.specs.Syntax.Spelling.{kinds, Scope, ItemType, left_hand_side, right_hand_side, replacement, IsEndingOf, tail_spells, item_spells, list_spells, TextSpells}
 use Rattle.souper_graph.proofs.RoundTrip.ReadBack.{renumbered-closed, renumbered-needed, texts-read-back, same-graph-text}

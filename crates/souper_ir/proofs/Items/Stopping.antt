@@ -3,7 +3,8 @@ use Rattle.std.proofs.Common.{◌≡◌, ℕ, Bool, true, false, List, [], ◌�
 use Rattle.std.specs.Prelude.{codes, Option, Some}
 use Rattle.souper_graph.specs.Values.{PlainStatement, PlainInfer, PlainAttribute, PlainRootAttribute, Item}
 use Rattle.souper_graph.specs.declared.ast.operands.«Type».{«Type» as Ty}
-use Rattle.souper_graph.specs.Syntax.Tokens.{Lexeme, AreTokensOf, open_paren}
+use Rattle.souper_graph.specs.Syntax.Tokens.{Lexeme, open_paren}
+use Rattle.souper_graph.specs.Syntax.TokenLaws.{AreTokensOf}
 use Rattle.souper_graph.specs.Syntax.Spelling.{infer_spells, ItemType}
 use Rattle.souper_graph.specs.Syntax.Forms.{attribute as attribute_form, root_attribute as root_attribute_form}
 use Rattle.souper_lexer.specs.TokenView.{IsCut}

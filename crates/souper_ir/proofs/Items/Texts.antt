@@ -7,7 +7,8 @@ use Rattle.souper_errors.specs.declared.error.ParseErrorKind.{ParseErrorKind}
 use Rattle.souper_errors.specs.declared.error.ParseErrorKind.TheVariants.{Io, Parse, Memory}
 use Rattle.souper_errors.specs.declared.error.Cause.{Cause as ErrorCause}
 use Rattle.souper_errors.specs.declared.error.Cause.TheVariants.{Io as IoCause, Parse as ParseCause, Memory as MemoryCause}
-use Rattle.souper_graph.specs.Syntax.Tokens.{Lexeme, spelling, IsLastGap, Begins, IsTextOf, AreTokensOf}
+use Rattle.souper_graph.specs.Syntax.Tokens.{Lexeme, spelling, IsLastGap, Begins, IsTextOf}
+use Rattle.souper_graph.specs.Syntax.TokenLaws.{AreTokensOf}
 use Rattle.souper_graph.specs.Syntax.Spelling.{kinds, ItemType, list_spells, TextSpells, SpellsNone}
 use Rattle.souper_errors.specs.Errors.{OnKind, kind_of, kind_of_cause, offset_of, offset_of_cause, HasLocation, IsRefusalAt, IsLocated}
 use Rattle.souper_ir.specs.Answers.{IsStrError}

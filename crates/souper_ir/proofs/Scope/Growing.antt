@@ -4,8 +4,7 @@ use Rattle.std.specs.Prelude.{bytes_eq, option_map, slice_get, if◌then◌else�
 use Rattle.std.proofs.lemmas.Slice.Eq.{bytes_eq-Decides}
 use Rattle.souper_graph.specs.Values.{PlainRhs, var, block, phi, reserved_inst, reserved_const, instruction, PlainAssignment, PlainStatement, assigned, condition, block_condition}
 use Rattle.souper_graph.specs.Uses.{Has, Use, value_use, block_use, position_of as position_used, is_condition, uses_of_rhs, uses_of}
-use Rattle.souper_graph.specs.Faults.{IsAssigned, IsBlockRhs, IsBlock, IsMet, AreMet}
-use Rattle.souper_graph.specs.WellFormed.{predecessors_of_rhs, predecessors_of, AgreesRhs, AgreesWithBlock, Closed}
+use Rattle.souper_graph.specs.WellFormed.{predecessors_of_rhs, predecessors_of, AgreesRhs, AgreesWithBlock, Closed, IsAssigned, IsBlockRhs, IsBlock, IsMet, AreMet}
 use Rattle.souper_graph.specs.Syntax.Spelling.{Scope, predecessors_if_block, entry_from, entry_of, position_of}
 use Rattle.souper_ir.specs.Laws.Peeks.{some_is}
 use Rattle.souper_names.specs.TableView.{NameEntry, or_else}

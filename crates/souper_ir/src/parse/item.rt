@@ -3,9 +3,11 @@
 ghost use Rattle.std.specs.Prelude.{◌≡◌, ℕ, List, length, map, false, None, IfOk, OnOk, IfErr, IsOkAnd, option_copied, is_some, []};
 ghost use Rattle.std.specs.List.{AllByRecursion};
 ghost use Rattle.souper_graph.specs.View.{view_left_hand_side, view_right_hand_side, view_replacement};
-ghost use Rattle.souper_graph.specs.WellFormed.{WellFormed, EachClosed};
+ghost use Rattle.souper_graph.specs.WellFormed.{WellFormed};
+ghost use Rattle.souper_graph.specs.Unneeded.{EachClosed};
 ghost use Rattle.souper_graph.specs.Values.{Item as PlainItem};
-ghost use Rattle.souper_graph.specs.Syntax.Tokens.{Lexeme, AreTokensOf, IsTextOf, IsLastGap, IsLexeme};
+ghost use Rattle.souper_graph.specs.Syntax.Tokens.{Lexeme, IsTextOf, IsLastGap, IsLexeme};
+ghost use Rattle.souper_graph.specs.Syntax.TokenLaws.{AreTokensOf};
 ghost use Rattle.souper_graph.specs.Syntax.Spelling.{kinds, ItemType, left_hand_side, right_hand_side, replacement, statement_spells, item_spells_after, TextSpells};
 ghost use Rattle.souper_lexer.specs.TokenView.{IsCut};
 ghost use Rattle.souper_errors.specs.Errors.{error_of, widened, kind_of, at_end_of};

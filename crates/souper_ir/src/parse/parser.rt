@@ -3,7 +3,8 @@ ghost use Rattle.std.specs.Prelude.{◌≡◌, ◌≤◌, ◌++◌, ◌∷◌, [
 ghost use Rattle.std.specs.String.{string_bytes};
 ghost use Rattle.souper_graph.specs.View.{view_statement, view_assignment, view_rhs};
 ghost use Rattle.souper_graph.specs.Values.{assigned};
-ghost use Rattle.souper_graph.specs.Syntax.Tokens.{Lexeme, ident, val_name, int, comma, AreTokensOf, IsTextOf};
+ghost use Rattle.souper_graph.specs.Syntax.Tokens.{Lexeme, ident, val_name, int, comma, IsTextOf};
+ghost use Rattle.souper_graph.specs.Syntax.TokenLaws.{AreTokensOf};
 ghost use Rattle.souper_lexer.specs.TokenView.{lexeme_of, is_end, IsCut};
 ghost use Rattle.souper_graph.specs.Uses.{is_condition};
 ghost use Rattle.souper_graph.specs.Syntax.Spelling.{entry_of, position_of, predecessors_if_block};

@@ -4,8 +4,7 @@ ghost use Rattle.std.specs.Prelude.{◌≡◌, ◌↔◌, map, slice_get, IsTrue
 ghost use Rattle.std.specs.List.{AllByRecursion};
 ghost use Rattle.souper_graph.specs.View.{view_statement};
 ghost use Rattle.souper_graph.specs.Uses.{uses_of_operand, uses_of_operands, uses_of};
-ghost use Rattle.souper_graph.specs.Faults.{IsAssigned, IsBlock, IsMet};
-ghost use Rattle.souper_graph.specs.WellFormed.{predecessors_at};
+ghost use Rattle.souper_graph.specs.WellFormed.{predecessors_at, IsAssigned, IsBlock, IsMet};
 ghost use Rattle.souper_graph.specs.Flaws.{IsEarlier, IsValueMet};
 
 use crate::ast::arenas::Arena;

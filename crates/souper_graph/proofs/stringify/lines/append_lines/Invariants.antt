@@ -4,7 +4,7 @@ use Rattle.std.specs.String.{string_bytes}
 use Rattle.souper_graph.specs.View.{view_statement}
 use Rattle.souper_graph.specs.Uses.{uses_at}
 use Rattle.souper_graph.specs.Text.{lines_of}
-use Rattle.souper_graph.specs.Faults.{AreMet}
+use Rattle.souper_graph.specs.WellFormed.{AreMet}
 use Rattle.souper_graph.proofs.stringify.lines.append_lines.Given as goal
 
 -- the lines so far are written, and what they use resolves

@@ -3,7 +3,7 @@ use Rattle.std.specs.String.{string_bytes}
 use Rattle.souper_graph.specs.View.{view_statement}
 use Rattle.souper_graph.specs.Uses.{uses_of_operands}
 use Rattle.souper_graph.specs.Text.{text_of_further}
-use Rattle.souper_graph.specs.Faults.{AreMet}
+use Rattle.souper_graph.specs.WellFormed.{AreMet}
 use Rattle.souper_graph.proofs.stringify.nodes.append_further.Given as goal
 
 -- the operands so far are written, and what they use resolves

@@ -2,7 +2,7 @@ use Rattle.std.proofs.Common.{take, map}
 use Rattle.std.specs.List.{AllByRecursion}
 use Rattle.souper_graph.specs.View.{view_statement}
 use Rattle.souper_graph.specs.Uses.{uses_of_operand}
-use Rattle.souper_graph.specs.Faults.{IsMet}
+use Rattle.souper_graph.specs.WellFormed.{IsMet}
 use Rattle.souper_graph.proofs.ast.well_formed.uses.operands_are_assigned.Given as goal
 
 -- the operands so far are constants or name assignments
