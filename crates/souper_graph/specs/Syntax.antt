@@ -3,4 +3,3 @@ pub mod Optional
 pub mod Tokens
 pub mod Numbers
 pub mod Spelling
-pub mod Forms
